@@ -1,0 +1,9 @@
+pub mod Sums
+pub mod Puts
+pub mod Accepted
+pub mod Words
+pub mod Touched
+pub mod Checksums
+pub mod Kept
+pub mod Names
+pub mod SameLemmas
