@@ -2,8 +2,13 @@ pub mod Sums
 pub mod Puts
 pub mod Accepted
 pub mod Words
-pub mod Touched
-pub mod Checksums
+pub mod Windows
+pub mod Bytes
+pub mod Places
 pub mod Kept
+pub mod Reread
+pub mod Only
 pub mod Names
 pub mod SameLemmas
+pub mod Routes
+pub mod Configs

@@ -1,27 +1,44 @@
+//! The plain values that every layer of the gateway speaks of.
 ghost use Rattle.std.specs.Prelude.{◌≡◌, false};
+ghost use Rattle.packet.specs.Numbers.{proto_number};
 
-/// A transport protocol.
+/// A transport protocol: TCP (RFC 9293) or UDP (RFC 768).
 #[derive(Clone, Copy, Debug, PartialEq, Eq, PartialOrd, Ord, Drop)]
 pub enum Proto {
     Tcp,
     Udp,
 }
 
+impl Proto {
+    /// The number of the protocol in the header of a packet (RFC 791, section 3.1): 6 or 17.
+    pub fn number(self) -> u8
+        ensures { result ≡ proto_number self }
+    {
+        match self {
+            Proto::Tcp => 6,
+            Proto::Udp => 17,
+        }
+    }
+}
+
 /// The side of the gateway that a packet comes from or leaves on.
 #[derive(Clone, Copy, Debug, PartialEq, Eq, Drop)]
 pub enum Iface {
+    /// The side of the inside hosts.
     Lan,
+    /// The side of everyone else.
     Wan,
 }
 
-/// An address and a port.
+/// An address and a port, both as numbers: 192.0.2.1 is `0xc0000201`.
 #[derive(Clone, Copy, Debug, PartialEq, Eq, PartialOrd, Ord, Drop)]
 pub struct Endpoint {
     pub addr: u32,
     pub port: u16,
 }
 
-/// The control bits of a TCP segment; all are clear for UDP.
+/// The control bits of a TCP segment that the gateway looks at (RFC 9293, section 3.1); all are
+/// clear for UDP.
 #[derive(Clone, Copy, Debug, PartialEq, Eq, Drop)]
 pub struct Flags {
     pub fin: bool,
@@ -44,7 +61,10 @@ impl Flags {
     }
 }
 
-/// An address whose last `32 - len` bits are 0, and that stands for those with the same first bits.
+/// The addresses whose first `len` bits are those of `addr` (RFC 4632, section 3.1).
+///
+/// As a value it may be anything: that `len` is at most 32, and that the bits behind the first
+/// `len` of `addr` are 0, is tested by `Bounds::new`.
 #[derive(Clone, Copy, Debug, PartialEq, Eq, Drop)]
 pub struct Prefix {
     pub addr: u32,

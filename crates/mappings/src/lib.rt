@@ -1,0 +1,14 @@
+//! The mappings: which outside endpoint stands for which inside endpoint.
+//!
+//! Each session that is translated holds the pair of its inside and outside endpoint. A pair is a
+//! mapping while it is held, so it lives from the first to the last of its sessions. Of each protocol
+//! the mappings are one-to-one: an inside endpoint has one outside endpoint, whatever the remote
+//! (RFC 4787, REQ-1), and an outside endpoint stands for one inside endpoint.
+//!
+//! - `map`: the pairs that are held, and the look-ups by either endpoint
+//! - `specs/Map`: how often a pair is held, as contracts see it
+#![tactic(auto)]
+
+pub mod map;
+#[cfg(test)]
+mod tests;

@@ -1,0 +1,74 @@
+ghost use Rattle.std.specs.Prelude.{◌≡◌, ◌+◌, ◌<◌, IfOk};
+ghost use Rattle.mappings.specs.declared.map.Pair.{Pair as Mapping};
+ghost use Rattle.mappings.specs.Map.{times, one_at, KeepsOneToOne};
+
+use crate::map::{Map, Pair};
+use packet::endpoint::{Endpoint, Proto};
+use std::alloc::AllocError;
+use std::process::Abort;
+use std::test::*;
+
+const INSIDE: Endpoint = Endpoint {
+    addr: 0xc0a8_0102,
+    port: 5000,
+};
+
+const OUTSIDE: Endpoint = Endpoint {
+    addr: 0xcb00_7101,
+    port: 5002,
+};
+
+// Holds the pair. A refusal of memory must change nothing, and the pair be held at the second try.
+fn hold(rt: &impl Abort, map: &mut Map, pair: Pair) -> Result<(), AllocError>
+    requires one_to_one { KeepsOneToOne map.old pair }
+    requires few { times map.old pair < 65536 }
+    ensures { IfOk result (λ _. (p : Mapping) → times map.new p ≡ times map.old p + one_at p pair) }
+{
+    let before = map.outside_of(pair.proto, pair.inside);
+    if map.hold(pair).is_err() {
+        let after = map.outside_of(pair.proto, pair.inside);
+        assert_eq!(rt; before, after);
+        map.hold(pair)?;
+    }
+    Ok(())
+}
+
+#[test]
+fn pair_goes_with_its_last_hold(rt: HostRuntime) -> Result<(), AllocError> {
+    let mut map = Map::new(rt.alloc());
+    let udp = Pair {
+        proto: Proto::Udp,
+        inside: INSIDE,
+        outside: OUTSIDE,
+    };
+    hold(&rt, &mut map, udp)?;
+    map.is_one_to_one();
+    hold(&rt, &mut map, udp)?;
+    assert_eq!(rt; map.outside_of(Proto::Udp, INSIDE), Some(OUTSIDE));
+    assert_eq!(rt; map.inside_of(Proto::Udp, OUTSIDE), Some(INSIDE));
+    assert_eq!(rt; map.outside_of(Proto::Tcp, INSIDE), None);
+    assert_eq!(rt; map.inside_of(Proto::Tcp, OUTSIDE), None);
+    assert_eq!(rt; map.outside_of(Proto::Udp, OUTSIDE), None);
+    map.release(udp);
+    assert_eq!(rt; map.outside_of(Proto::Udp, INSIDE), Some(OUTSIDE));
+    map.release(udp);
+    assert_eq!(rt; map.outside_of(Proto::Udp, INSIDE), None);
+    assert_eq!(rt; map.inside_of(Proto::Udp, OUTSIDE), None);
+    Ok(())
+}
+
+#[test]
+fn reserved_pair_is_held(rt: HostRuntime) -> Result<(), AllocError> {
+    let mut map = Map::new(rt.alloc());
+    if map.reserve().is_err() {
+        map.reserve()?;
+    }
+    let tcp = Pair {
+        proto: Proto::Tcp,
+        inside: INSIDE,
+        outside: OUTSIDE,
+    };
+    hold(&rt, &mut map, tcp)?;
+    assert_eq!(rt; map.inside_of(Proto::Tcp, OUTSIDE), Some(INSIDE));
+    Ok(())
+}
