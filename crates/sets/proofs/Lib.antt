@@ -1,0 +1,4 @@
+pub mod Blocks
+pub mod Keys
+pub mod Sorted
+pub mod Unions

@@ -1,0 +1,102 @@
+ghost use Rattle.std.specs.Prelude.{◌≤◌};
+
+use crate::parts::{are_same, meet, size_of_prefix};
+use packet::endpoint::Prefix;
+
+/// What a packet has where a match looks: a number in host byte order, or the bytes of an interface name.
+#[derive(Clone, Copy, Debug, PartialEq, Eq, Drop)]
+pub enum Value<'a> {
+    Number(u32),
+    Name(&'a [u8]),
+}
+
+/// The numbers from `low` to `high`, both included.
+#[derive(Clone, Copy, Debug, PartialEq, Eq, Drop)]
+pub struct Range {
+    pub low: u32,
+    pub high: u32,
+    pub ghost rises: { low ≤ high },
+}
+
+/// A part of a set: a range of numbers, or one interface name.
+#[derive(Debug, PartialEq, Eq, Drop)]
+pub enum Element {
+    Numbers(Range),
+    Name(Vec<u8>),
+}
+
+/// A key of a verdict map, and where it leads.
+#[derive(Debug, PartialEq, Eq, Drop)]
+pub struct Pair<V> {
+    pub key: Element,
+    pub verdict: V,
+}
+
+impl Range {
+    ghost use Rattle.std.specs.Prelude.{◌≡◌, ◌↔◌, ◌^◌, IsTrue, ℕ};
+    ghost use Rattle.packet.specs.Config.{covers};
+    ghost use Rattle.sets.specs.Members.{IsWithin};
+
+    /// One number alone.
+    pub fn one(number: u32) -> Range
+        ensures { (n : ℕ) → IsWithin n result ↔ (n ≡ number) }
+    {
+        Range {
+            low: number,
+            high: number,
+        }
+    }
+
+    /// The numbers from `low` to `high`.
+    pub fn new(low: u32, high: u32) -> Range
+        requires { low ≤ high }
+        ensures low { result.low ≡ low }
+        ensures high { result.high ≡ high }
+    {
+        Range { low, high }
+    }
+
+    /// The addresses that have the prefix; the bits of its address behind its length count as zero, and a
+    /// length above 32 is taken as 32.
+    pub fn of_prefix(prefix: Prefix) -> Range
+        ensures { (addr : ℕ) → IsWithin addr result ↔ IsTrue (covers addr prefix) }
+    {
+        let size = size_of_prefix(prefix);
+        let low = prefix.addr as u64 / size * size;
+        Range {
+            low: low as u32,
+            high: (low + (size - 1)) as u32,
+        }
+    }
+}
+
+impl Element {
+    ghost use Rattle.std.specs.Prelude.{◌↔◌, IsTrue};
+    ghost use Rattle.sets.specs.Members.{fact_of, IsIn, Share};
+
+    #[tactic(auto, unfolding(crate::specs::Members::fact_of, crate::specs::Members::IsIn))]
+    /// Whether the value lies in the element. Names are compared by their bytes.
+    pub fn holds(&self, value: Value<'_>) -> bool
+        ensures { IsTrue result ↔ IsIn (fact_of value.entry) self.now }
+    {
+        match (value, self) {
+            (Value::Number(number), Element::Numbers(range)) => {
+                range.low <= number && number <= range.high
+            }
+            (Value::Name(name), Element::Name(own)) => name == own.as_slice(),
+            _ => false,
+        }
+    }
+
+    /// Whether some value lies in both.
+    pub fn shares_with(&self, other: &Element) -> bool
+        ensures { IsTrue result ↔ Share self.now other.now }
+    {
+        match (self, other) {
+            (Element::Numbers(range), Element::Numbers(later)) => meet(*range, *later),
+            (Element::Name(name), Element::Name(later)) => are_same(name, later),
+            (Element::Numbers(_), Element::Name(_)) => false,
+            (Element::Name(_), Element::Numbers(_)) => false,
+        }
+    }
+}

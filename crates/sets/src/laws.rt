@@ -1,0 +1,21 @@
+ghost use Rattle.sets.specs.Laws.{NoneHoldNothing, UnionHoldsBoth, AdjoiningIsJoined, RangesShare};
+
+/// The union of no elements holds nothing.
+pub fn none_hold_nothing()
+    ensures { NoneHoldNothing }
+{}
+
+/// The union of two lists of elements holds what either holds, so neither order nor repetition matters.
+pub fn union_holds_both()
+    ensures { UnionHoldsBoth }
+{}
+
+/// A range and the one that begins right behind it hold together what the joined range holds.
+pub fn adjoining_is_joined()
+    ensures { AdjoiningIsJoined }
+{}
+
+/// Two ranges share a number exactly where neither ends before the other begins.
+pub fn ranges_share()
+    ensures { RangesShare }
+{}

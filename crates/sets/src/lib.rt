@@ -1,0 +1,26 @@
+//! Sets of values, and maps from values to verdicts: what the sides of a ruleset's matches are made of.
+//!
+//! A value is a number (an address, a port, a protocol, a connection state) or an interface name. An
+//! element stands for a range of numbers or for one name, a set for the union of its elements, and a
+//! verdict map leads each of its keys, of which no two share a value, to a verdict.
+//!
+//! - `element`: values, ranges, prefixes as ranges, and elements; `parts`: what these are tested by.
+//! - `set`: `Set`, a union of elements.
+//! - `vmap`: `Vmap`, keys with their verdicts.
+//! - `fault`: why a set or a map can't be made.
+//! - `laws`: what follows for unions and keys.
+#![tactic(auto)]
+
+pub mod element;
+pub mod fault;
+pub mod laws;
+mod parts;
+pub mod set;
+#[cfg(test)]
+mod tests;
+pub mod vmap;
+
+pub use element::{Element, Pair, Range, Value};
+pub use fault::SetFault;
+pub use set::{LIMIT, Set};
+pub use vmap::Vmap;
