@@ -1,0 +1,4 @@
+pub mod Laws
+pub mod Life
+pub mod Listing
+pub mod Table

@@ -1,0 +1,17 @@
+ghost use Rattle.sessions.specs.Laws.{ListingIsTheSet, MappingsAreOneToOne, RestartedIsNew};
+
+/// The sessions of a table, as a set, have one list that rises strictly: the one that `list` gives.
+pub fn listing_is_the_set()
+    ensures { ListingIsTheSet }
+{}
+
+/// An inside endpoint has one outside endpoint, and an outside endpoint one inside endpoint, among the
+/// translated sessions of a table and for each protocol.
+pub fn mappings_are_one_to_one()
+    ensures { MappingsAreOneToOne }
+{}
+
+/// In a session that was begun anew, a packet of the side that began it is new.
+pub fn restarted_is_new()
+    ensures { RestartedIsNew }
+{}

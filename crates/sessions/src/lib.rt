@@ -1,0 +1,20 @@
+//! The sessions of a gateway: the flows that it knows, how long each lives, and the table that
+//! holds them.
+//!
+//! - `session`: what a session is, and what may happen to it
+//! - `life`: what its packets have shown, its phase, and how long it may be idle
+//! - `table`: the sessions that are held, each in a slot that stays until the session ends
+//! - `laws`: what the definitions promise, as functions without a body
+#![tactic(auto)]
+
+mod laws;
+mod life;
+mod session;
+mod table;
+#[cfg(test)]
+mod tests;
+
+pub use laws::{listing_is_the_set, mappings_are_one_to_one, restarted_is_new};
+pub use life::{Phase, is_new, is_syn_alone};
+pub use session::{Change, Opener, Session};
+pub use table::{AddFault, Slot, Table};

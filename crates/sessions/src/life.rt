@@ -1,0 +1,150 @@
+ghost use Rattle.std.specs.Prelude.{◌≡◌, ◌↔◌, ◌≤◌, IsTrue, not};
+ghost use Rattle.sessions.specs.Life.{IsAlive, IsSeen, IsTimeout, ack_bit, bit_if, fin_bit, has as has_bit, is_acknowledged, is_closing, is_new as is_new_of, is_syn_alone as is_syn_alone_of, phase_of, reply_bit, reset_bit, restarts as restarts_of, same_side, shown as shown_of, shown_flags, timeout_in, timeout_of};
+
+use crate::{Opener, Session};
+use packet::endpoint::{Flags, Proto};
+
+/// How far a TCP session has come.
+#[derive(Clone, Copy, Debug, PartialEq, Eq, Drop)]
+pub enum Phase {
+    /// Not yet acknowledged from both sides.
+    Partial,
+    /// Acknowledged from both sides.
+    Established,
+    /// Ended by a FIN from each side, or by a RST.
+    Closing,
+}
+
+const REPLY: u8 = 1;
+
+const RESET: u8 = 32;
+
+impl Session {
+    /// How far the session has come; that of a UDP session means nothing.
+    pub fn phase(&self) -> Phase
+        ensures { result ≡ phase_of self.now.seen }
+    {
+        if is_closing(self.seen) {
+            return Phase::Closing;
+        }
+        if is_acknowledged(self.seen) {
+            return Phase::Established;
+        }
+        Phase::Partial
+    }
+
+    /// How many seconds may pass without a packet: 300 for UDP (RFC 4787 REQ-5), 7440 for TCP that is
+    /// established and 240 for TCP that isn't yet, or is closing (RFC 5382 REQ-5).
+    pub fn timeout(&self) -> u64
+        ensures value { result ≡ timeout_of self.now }
+        ensures known { IsTimeout result }
+    {
+        match self.proto {
+            Proto::Udp => 300,
+            Proto::Tcp => match self.phase() {
+                Phase::Established => 7440,
+                Phase::Partial => 240,
+                Phase::Closing => 240,
+            },
+        }
+    }
+
+    /// Whether the session is alive at this second; before its last packet it is.
+    pub fn is_alive(&self, now: u64) -> bool
+        ensures { IsTrue result ↔ IsAlive now self.now }
+    {
+        now.saturating_sub(self.last) < self.timeout()
+    }
+
+    /// The bits of `seen` that a packet of the session shows, by the side that sent it.
+    pub fn shown(&self, sender: Opener, flags: Flags) -> u8
+        ensures value { result ≡ shown_of self.now.proto self.now.opener sender flags }
+        ensures fits { IsSeen self.now.proto result }
+    {
+        let reply = bit_if(self.opener != sender, REPLY);
+        match self.proto {
+            Proto::Udp => reply,
+            Proto::Tcp => reply + shown_by_flags(sender, flags),
+        }
+    }
+
+    /// Whether a packet with these control bits begins the session anew: a SYN alone where it is
+    /// closing.
+    pub fn restarts(&self, flags: Flags) -> bool
+        ensures { result ≡ restarts_of self.now flags }
+    {
+        is_syn_alone(flags) && is_closing(self.seen)
+    }
+}
+
+/// Whether the state of a packet from this side is new: it has no session, or goes in the opener's
+/// direction of one that has had no reply. Otherwise its state is established.
+pub fn is_new(session: Option<Session>, sender: Opener) -> bool
+    ensures { result ≡ is_new_of session sender }
+{
+    match session {
+        None => true,
+        Some(session) => session.opener == sender && !has(session.seen, REPLY),
+    }
+}
+
+/// Whether SYN is set, and ACK, FIN and RST are clear.
+pub fn is_syn_alone(flags: Flags) -> bool
+    ensures { result ≡ is_syn_alone_of flags }
+{
+    flags.syn && !flags.ack && !flags.fin && !flags.rst
+}
+
+fn has(seen: u8, bit: u8) -> bool
+    ensures { result ≡ has_bit seen bit }
+{
+    seen & bit == bit
+}
+
+#[tactic(auto, unfolding(crate::specs::Life::is_closing))]
+fn is_closing(seen: u8) -> bool
+    ensures { result ≡ is_closing seen }
+{
+    has(seen, RESET) || (has(seen, fin(Opener::Inside)) && has(seen, fin(Opener::Remote)))
+}
+
+#[tactic(auto, unfolding(crate::specs::Life::is_acknowledged))]
+fn is_acknowledged(seen: u8) -> bool
+    ensures { result ≡ is_acknowledged seen }
+{
+    has(seen, ack(Opener::Inside)) && has(seen, ack(Opener::Remote))
+}
+
+fn ack(sender: Opener) -> u8
+    ensures value { result ≡ ack_bit sender }
+    ensures few { result ≤ 4 }
+{
+    match sender {
+        Opener::Inside => 2,
+        Opener::Remote => 4,
+    }
+}
+
+fn fin(sender: Opener) -> u8
+    ensures value { result ≡ fin_bit sender }
+    ensures few { result ≤ 16 }
+{
+    match sender {
+        Opener::Inside => 8,
+        Opener::Remote => 16,
+    }
+}
+
+fn bit_if(mark: bool, bit: u8) -> u8
+    ensures value { result ≡ bit_if mark bit }
+    ensures few { result ≤ bit }
+{
+    if mark { bit } else { 0 }
+}
+
+fn shown_by_flags(sender: Opener, flags: Flags) -> u8
+    ensures value { result ≡ shown_flags Proto.Tcp sender flags }
+    ensures few { result ≤ 52 }
+{
+    bit_if(flags.ack, ack(sender)) + bit_if(flags.fin, fin(sender)) + bit_if(flags.rst, RESET)
+}

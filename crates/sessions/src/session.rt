@@ -1,0 +1,103 @@
+ghost use Rattle.std.specs.Prelude.{◌≡◌, ◌≢◌, ◌⊎◌, ◌↔◌, IsTrue};
+ghost use Rattle.sessions.specs.Listing.{key, number, order};
+ghost use Rattle.sessions.specs.Table.{Clash, HasInside, HasOutside};
+
+use crate::table::Slot;
+use packet::endpoint::{Endpoint, Proto};
+use std::cmp::Ordering;
+
+/// A side of the gateway, as the one that began a session.
+#[derive(Clone, Copy, Debug, PartialEq, Eq, Drop)]
+pub enum Opener {
+    Inside,
+    Remote,
+}
+
+/// One flow through the gateway.
+///
+/// It is translated where `outside` differs from `inside`.
+#[derive(Clone, Copy, Debug, PartialEq, Eq, Drop)]
+pub struct Session {
+    pub proto: Proto,
+    /// The endpoint behind the gateway.
+    pub inside: Endpoint,
+    /// What `inside` is called on the other side.
+    pub outside: Endpoint,
+    pub remote: Endpoint,
+    pub opener: Opener,
+    /// What packets have shown since the session began or was begun anew, as a sum of bits: 1 a
+    /// reply, 2 an ACK from inside, 4 an ACK from the remote side, 8 a FIN from inside, 16 a FIN
+    /// from the remote side, 32 a RST. UDP has bit 1 alone.
+    pub seen: u8,
+    /// The second of the last packet that passed.
+    pub last: u64,
+}
+
+/// What happens to a session.
+#[derive(Clone, Copy, Debug, PartialEq, Eq, Drop)]
+pub enum Change {
+    Begin(Session),
+    /// A packet passed, which showed these bits.
+    Seen(Slot, u8),
+    /// A SYN alone from this side begins a closing session anew.
+    Restart(Slot, Opener),
+    End(Slot),
+}
+
+/// Whether the two sessions can't both be held.
+pub fn clash(new: &Session, held: &Session) -> bool
+    ensures { IsTrue result ↔ Clash new.now held.now }
+{
+    if new.proto != held.proto {
+        return false;
+    }
+    let same_inside = new.inside == held.inside;
+    let same_outside = new.outside == held.outside;
+    if new.remote == held.remote && (same_inside || same_outside) {
+        return true;
+    }
+    let both_translated = new.inside != new.outside && held.inside != held.outside;
+    both_translated && same_inside != same_outside
+}
+
+pub fn has_inside(session: &Session, proto: Proto, inside: Endpoint, remote: Endpoint) -> bool
+    ensures { IsTrue result ↔ HasInside proto inside remote session.now }
+{
+    session.proto == proto && session.inside == inside && session.remote == remote
+}
+
+pub fn has_outside(session: &Session, proto: Proto, outside: Endpoint, remote: Endpoint) -> bool
+    ensures { IsTrue result ↔ HasOutside proto outside remote session.now }
+{
+    session.proto == proto && session.outside == outside && session.remote == remote
+}
+
+// The IP protocol number.
+fn number(proto: Proto) -> u32
+    ensures { result ≡ number proto }
+{
+    match proto {
+        Proto::Tcp => 6,
+        Proto::Udp => 17,
+    }
+}
+
+// What the order of sessions goes by, in turn.
+fn flow_key(session: &Session) -> [u32; 5]
+    ensures { result ≡ key session.now }
+{
+    [
+        number(session.proto),
+        session.inside.addr,
+        session.inside.port as u32,
+        session.remote.addr,
+        session.remote.port as u32,
+    ]
+}
+
+/// The order of sessions: protocol number, inside, remote.
+pub fn order(a: &Session, b: &Session) -> Ordering
+    ensures { result ≡ order a.now b.now }
+{
+    flow_key(a).cmp(&flow_key(b))
+}
