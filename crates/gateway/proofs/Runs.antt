@@ -1,0 +1,99 @@
+-- Runs of steps, one behind the other.
+use Rattle.std.proofs.Common.{◌≡◌, ℕ, suc, ◌+◌, ◌≤◌, List, [], ◌∷◌, ◌++◌, length, vec_len, vec_capacity, Vec, Global, refl, sym, ap, ◌∙◌, subst, arith, append_assoc, length-append}
+use Rattle.std.proofs.lemmas.List.{append-nil}
+use Rattle.packet.specs.Config.{Config}
+use Rattle.gateway.specs.declared.event.Event.{Event}
+use Rattle.gateway.specs.declared.event.Answer.{Answer}
+use Rattle.gateway.specs.declared.event.Given.{Given}
+use Rattle.gateway.specs.Machine.{State, step, after, answers, numbered}
+use Rattle.gateway.specs.Standing.{Standing, Took, TookAll, TookFirst, handed}
+
+pub after-append : (config : Config) (s : State) (es fs : List Event) → after config s (es ++ fs) ≡ after config (after config s es) fs
+after-append config s [] fs = refl
+after-append config s (e ∷ es) fs = after-append config (step config s e).0 es fs
+
+pub answers-append : (config : Config) (s : State) (es fs : List Event) → answers config s (es ++ fs) ≡ answers config s es ++ answers config (after config s es) fs
+answers-append config s [] fs = refl
+answers-append config s (e ∷ es) fs = ap (λ (xs : List Answer). (step config s e).1 ∷ xs) (answers-append config (step config s e).0 es fs)
+
+pub length-answers : (config : Config) (s : State) (es : List Event) → length (answers config s es) ≡ length es
+length-answers config s [] = refl
+length-answers config s (e ∷ es) = ap suc (length-answers config (step config s e).0 es)
+
+pub numbered-append : (last : ℕ) (xs ys : List Answer) → numbered last (xs ++ ys) ≡ numbered last xs ++ numbered (last + length xs) ys
+numbered-append last [] ys = ap (λ n. numbered n ys) (omega arith)
+numbered-append last (x ∷ xs) ys =
+    let e : last + 1 + length xs ≡ last + suc (length xs) = omega arith in
+    ap (λ (zs : List (ℕ × Answer)). (last + 1, x) ∷ zs) (numbered-append (last + 1) xs ys ∙ ap (λ n. numbered (last + 1) xs ++ numbered n ys) e)
+
+-- the numbered answer to one more event
+one_more : (config : Config) (s : State) (last : ℕ) (es : List Event) (e : Event)
+    → numbered last (answers config s (es ++ e ∷ [])) ≡ numbered last (answers config s es) ++ (last + length es + 1, (step config (after config s es) e).1) ∷ []
+one_more config s last es e =
+    let one = (step config (after config s es) e).1 in
+    ap (numbered last) (answers-append config s es (e ∷ [])) ∙ numbered-append last (answers config s es) (one ∷ [])
+    ∙ ap (λ n. numbered last (answers config s es) ++ (last + n + 1, one) ∷ []) (length-answers config s es)
+
+pub took_none : (old : Standing) → TookAll old old [] []
+took_none old = record { config = refl; state = refl; last = omega arith; order = sym (append-nil old.held) }
+
+pub took_more : (first now new : Standing) (es : List Event) (e : Event) (out : List (ℕ × Answer)) (given : Given) → TookAll first now es out → Took now new e given
+    → TookAll first new (es ++ e ∷ []) (out ++ handed given)
+took_more first now new es e out given all one =
+    let same : step now.config now.state e ≡ step first.config (after first.config first.state es) e =
+    ap (λ c. step c now.state e) all.config ∙ ap (λ s. step first.config s e) all.state in
+    let number : now.last + 1 ≡ first.last + length es + 1 = omega (arith, all.last) in
+    let count : new.last ≡ first.last + length (es ++ e ∷ []) = omega (arith, one.last, all.last, length-append es (e ∷ [])) in
+    let answer : (now.last + 1, (step now.config now.state e).1) ≡ (first.last + length es + 1, (step first.config (after first.config first.state es) e).1) =
+    ap (λ n. (n, (step now.config now.state e).1)) number ∙ ap (λ (p : State × Answer). (first.last + length es + 1, p.1)) same in
+    record {
+      config = one.config ∙ all.config;
+      state = one.state ∙ ap (λ (p : State × Answer). p.0) same ∙ sym (after-append first.config first.state es (e ∷ []));
+      last = count;
+      order =
+          append_assoc out (handed given) new.held ∙ ap (λ (zs : List (ℕ × Answer)). out ++ zs) one.order
+          ∙ sym (append_assoc out now.held ((now.last + 1, (step now.config now.state e).1) ∷ []))
+          ∙ ap (λ (zs : List (ℕ × Answer)). zs ++ (now.last + 1, (step now.config now.state e).1) ∷ []) all.order
+          ∙ append_assoc first.held (numbered first.last (answers first.config first.state es)) ((now.last + 1, (step now.config now.state e).1) ∷ [])
+          ∙ ap (λ a. first.held ++ (numbered first.last (answers first.config first.state es) ++ a ∷ [])) answer
+          ∙ ap (λ (zs : List (ℕ × Answer)). first.held ++ zs) (sym (one_more first.config first.state first.last es e));
+    }
+
+-- a run has come as far as the events in front
+pub record Running (first now : Standing) (events front back : List Event) (out : Vec (ℕ × Answer) Global) : Type 0 where
+  pub split : events ≡ front ++ back
+  pub took : TookAll first now front out.items
+  pub none : now.held ≡ []
+  pub room : vec_len out + length back ≤ vec_capacity out
+
+pub began : (first : Standing) (events back : List Event) (out : Vec (ℕ × Answer) Global) → back ≡ events → out.items ≡ [] → first.held ≡ [] → vec_len out + length back ≤ vec_capacity out
+    → Running first first events [] back out
+began first events back out split empty none room = record {
+  split = sym split;
+  took = subst (TookAll first first []) (sym empty) (took_none first);
+  none = none;
+  room = room;
+}
+
+pub went_on : (first now new : Standing) (events front back rest : List Event) (event : Event) (given : Given) (out out' : Vec (ℕ × Answer) Global)
+    → Running first now events front back out → back ≡ event ∷ rest → Took now new event given → new.held ≡ [] → out'.items ≡ out.items ++ handed given
+    → vec_len out' ≤ vec_len out + 1 → vec_capacity out ≤ vec_capacity out' → Running first new events (front ++ event ∷ []) rest out'
+went_on first now new events front back rest event given out out' run next took none items len capacity = record {
+  split = run.split ∙ ap (λ (es : List Event). front ++ es) next ∙ sym (append_assoc front (event ∷ []) rest);
+  took = subst (TookAll first new (front ++ event ∷ [])) (sym items) (took_more first now new front event out.items given run.took took);
+  none = none;
+  room = omega (arith, run.room, len, capacity, ap length next);
+}
+
+pub ended : (first now : Standing) (events front back : List Event) (out : Vec (ℕ × Answer) Global) → Running first now events front back out → back ≡ [] → TookAll first now events out.items
+ended first now events front back out run end =
+    subst (λ (es : List Event). TookAll first now es out.items) (sym (run.split ∙ ap (λ (es : List Event). front ++ es) end ∙ append-nil front)) run.took
+
+pub stopped : (first now new : Standing) (events front back : List Event) (out : Vec (ℕ × Answer) Global) → Running first now events front back out → new ≡ now
+    → TookFirst first new events out.items
+stopped first now new events front back out run same = record {
+  front = front;
+  back = back;
+  split = run.split;
+  took = subst (λ s. TookAll first s front out.items) (sym same) run.took;
+}

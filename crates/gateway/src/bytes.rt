@@ -1,0 +1,42 @@
+//! Bytes that contracts see as a list.
+ghost use Rattle.std.specs.Prelude.{◌≡◌, ◌^◌, ◌<◌, length};
+
+use std::marker::Model;
+
+/// A packet or a text of fewer than 2^31 bytes, seen as the list of them.
+#[derive(Drop)]
+pub struct Bytes {
+    bytes: Vec<u8>,
+}
+
+impl Model for Bytes {
+    ghost use Rattle.std.specs.Prelude.{List, ℕ, ◌<◌, ◌^◌, length};
+
+    ghost Value = { List ℕ };
+
+    ghost view = { λ a. a.bytes.items };
+
+    ghost invariant = { λ a. length a.bytes.items < 2 ^ 31 };
+}
+
+impl Bytes {
+    pub fn of(bytes: Vec<u8>) -> Bytes
+        requires { length bytes.items < 2 ^ 31 }
+        ensures { result ≡ bytes.items }
+    {
+        Bytes { bytes }
+    }
+
+    pub fn as_slice(&self) -> &[u8]
+        ensures value { result.now ≡ self.now }
+        ensures small { length self.now < 2 ^ 31 }
+    {
+        self.bytes.as_slice()
+    }
+
+    pub fn into_vec(self) -> Vec<u8>
+        ensures { result.items ≡ self }
+    {
+        self.bytes
+    }
+}

@@ -1,0 +1,143 @@
+-- Laws of what has been answered.
+use Rattle.std.proofs.Common.{◌≡◌, ℕ, suc, ◌+◌, List, [], ◌∷◌, ◌++◌, length, take, drop, refl, sym, ap, ◌∙◌, arith, append_assoc, length-append, subst}
+use Rattle.std.specs.List.{flat_map}
+use Rattle.std.proofs.lemmas.List.{append-nil, take-append-drop}
+use Rattle.std.proofs.lemmas.List.Concat.{flat_map-append}
+use Rattle.packet.specs.Config.{Config}
+use Rattle.gateway.specs.declared.event.Event.{Event}
+use Rattle.gateway.specs.declared.event.Answer.{Answer}
+use Rattle.gateway.specs.declared.event.Given.{Given}
+use Rattle.gateway.specs.Machine.{State, step, after, answers, numbered}
+use Rattle.gateway.specs.Standing.{Standing, Took, handed}
+use Rattle.socket_edge.specs.Answering.{frame, replies, due, Progress, Begun}
+
+pub after-append : (config : Config) (s : State) (es fs : List Event) → after config s (es ++ fs) ≡ after config (after config s es) fs
+after-append config s [] fs = refl
+after-append config s (e ∷ es) fs = after-append config (step config s e).0 es fs
+
+pub answers-append : (config : Config) (s : State) (es fs : List Event) → answers config s (es ++ fs) ≡ answers config s es ++ answers config (after config s es) fs
+answers-append config s [] fs = refl
+answers-append config s (e ∷ es) fs = ap (λ (xs : List Answer). (step config s e).1 ∷ xs) (answers-append config (step config s e).0 es fs)
+
+pub length-answers : (config : Config) (s : State) (es : List Event) → length (answers config s es) ≡ length es
+length-answers config s [] = refl
+length-answers config s (e ∷ es) = ap suc (length-answers config (step config s e).0 es)
+
+pub numbered-append : (last : ℕ) (xs ys : List Answer) → numbered last (xs ++ ys) ≡ numbered last xs ++ numbered (last + length xs) ys
+numbered-append last [] ys = ap (λ n. numbered n ys) (omega arith)
+numbered-append last (x ∷ xs) ys =
+    let e : last + 1 + length xs ≡ last + suc (length xs) = omega arith in
+    ap (λ (zs : List (ℕ × Answer)). (last + 1, x) ∷ zs) (numbered-append (last + 1) xs ys ∙ ap (λ n. numbered (last + 1) xs ++ numbered n ys) e)
+
+-- the answers to the first events, and then those to the others
+replies-append : (old middle : Standing) (es fs : List Event) → middle.config ≡ old.config → middle.state ≡ after old.config old.state es → middle.last ≡ old.last + length es
+    → replies old (es ++ fs) ≡ replies old es ++ replies middle fs
+unfolding replies
+replies-append old middle es fs c s l =
+    let t : answers old.config (after old.config old.state es) fs ≡ answers middle.config middle.state fs = rw (s, c) refl in
+    let a : answers old.config old.state (es ++ fs) ≡ answers old.config old.state es ++ answers middle.config middle.state fs =
+    answers-append old.config old.state es fs ∙ ap (λ (xs : List Answer). answers old.config old.state es ++ xs) t in
+    let n : old.last + length (answers old.config old.state es) ≡ middle.last = omega (arith, length-answers old.config old.state es, l) in
+    ap (numbered old.last) a ∙ numbered-append old.last (answers old.config old.state es) (answers middle.config middle.state fs)
+    ∙ ap (λ (k : ℕ). numbered old.last (answers old.config old.state es) ++ numbered k (answers middle.config middle.state fs)) n
+
+pub due-append : (old middle : Standing) (es fs : List Event) (handed : List (ℕ × Answer)) → middle.config ≡ old.config → middle.state ≡ after old.config old.state es → middle.last ≡ old.last + length es
+    → handed ++ middle.held ≡ due old es → handed ++ due middle fs ≡ due old (es ++ fs)
+unfolding due
+due-append old middle es fs handed c s l o =
+    sym (append_assoc handed middle.held (replies middle fs))
+    ∙ ap (λ (xs : List (ℕ × Answer)). xs ++ replies middle fs) o
+    ∙ append_assoc old.held (replies old es) (replies middle fs)
+    ∙ ap (λ (xs : List (ℕ × Answer)). old.held ++ xs) (sym (replies-append old middle es fs c s l))
+
+frames-append : (before : List ℕ) (xs ys : List (ℕ × Answer)) → (before ++ flat_map frame xs) ++ flat_map frame ys ≡ before ++ flat_map frame (xs ++ ys)
+frames-append before xs ys = append_assoc before (flat_map frame xs) (flat_map frame ys) ∙ ap (λ (zs : List ℕ). before ++ zs) (sym (flat_map-append frame xs ys))
+
+pub Progress-nil : (old : Standing) (before : List ℕ) → Progress old old [] before before
+unfolding due replies
+Progress-nil old before = record { config = refl; state = refl; last = omega arith; handed = []; sent = sym (append-nil before); order = sym (append-nil old.held) }
+
+-- one after the other
+pub Progress-then : (old middle new : Standing) (es fs : List Event) (a b c : List ℕ) → Progress old middle es a b → Progress middle new fs b c → Progress old new (es ++ fs) a c
+Progress-then old middle new es fs a b c p q = record {
+  config = q.config ∙ p.config;
+  state = q.state ∙ rw (p.state, p.config) refl ∙ sym (after-append old.config old.state es fs);
+  last = omega (arith, q.last, p.last, length-append es fs);
+  handed = p.handed ++ q.handed;
+  sent = q.sent ∙ ap (λ (zs : List ℕ). zs ++ flat_map frame q.handed) p.sent ∙ frames-append a p.handed q.handed;
+  order = append_assoc p.handed q.handed new.held ∙ ap (λ (zs : List (ℕ × Answer)). p.handed ++ zs) q.order ∙ due-append old middle es fs p.handed p.config p.state p.last p.order;
+}
+
+pub Begun-then : (old middle : Standing) (es fs : List Event) (a b c : List ℕ) → Progress old middle es a b → Begun middle fs b c → Begun old (es ++ fs) a c
+Begun-then old middle es fs a b c p q = record {
+  handed = p.handed ++ q.handed;
+  others = q.others;
+  sent = q.sent ∙ ap (λ (zs : List ℕ). zs ++ flat_map frame q.handed) p.sent ∙ frames-append a p.handed q.handed;
+  order = append_assoc p.handed q.handed q.others ∙ ap (λ (zs : List (ℕ × Answer)). p.handed ++ zs) q.order ∙ due-append old middle es fs p.handed p.config p.state p.last p.order;
+}
+
+pub Begun-of : (old new : Standing) (es : List Event) (a b : List ℕ) → Progress old new es a b → Begun old es a b
+Begun-of old new es a b p = record { handed = p.handed; others = new.held; sent = p.sent; order = p.order }
+
+-- a beginning of some events' answers is one of more events' answers
+pub Begun-more : (old : Standing) (es fs : List Event) (a b : List ℕ) → Begun old es a b → Begun old (es ++ fs) a b
+unfolding due replies
+Begun-more old es fs a b p =
+    let n = numbered (old.last + length (answers old.config old.state es)) (answers old.config (after old.config old.state es) fs) in
+    let e : numbered old.last (answers old.config old.state (es ++ fs)) ≡ numbered old.last (answers old.config old.state es) ++ n =
+    ap (numbered old.last) (answers-append old.config old.state es fs) ∙ numbered-append old.last (answers old.config old.state es) (answers old.config (after old.config old.state es) fs) in
+    record {
+      handed = p.handed;
+      others = p.others ++ n;
+      sent = p.sent;
+      order = sym (append_assoc p.handed p.others n) ∙ ap (λ (zs : List (ℕ × Answer)). zs ++ n) p.order
+          ∙ append_assoc old.held (numbered old.last (answers old.config old.state es)) n ∙ ap (λ (zs : List (ℕ × Answer)). old.held ++ zs) (sym e);
+    }
+
+-- an event was taken, and what it handed out was put out
+pub Progress-took : (old new : Standing) (event : Event) (given : Given) (before out : List ℕ) → Took old new event given → out ≡ before ++ flat_map frame (handed given) → Progress old new (event ∷ []) before out
+unfolding due replies
+Progress-took old new event given before out t e = record { config = t.config; state = t.state; last = t.last; handed = handed given; sent = e; order = t.order }
+
+-- an event was taken, and its answer got lost
+pub Begun-lost : (old new : Standing) (event : Event) (given : Given) (before : List ℕ) → Took old new event given → Begun old (event ∷ []) before before
+unfolding due replies
+Begun-lost old new event given before t = record { handed = []; others = handed given ++ new.held; sent = sym (append-nil before); order = t.order }
+
+-- what was held is handed out
+pub Progress-flushed : (old new : Standing) (handed : List (ℕ × Answer)) (before out : List ℕ) → handed ≡ old.held → new ≡ record old { held = [] } → out ≡ before ++ flat_map frame handed → Progress old new [] before out
+unfolding due replies
+Progress-flushed old new handed before out h n o = record {
+  config = ap (λ (s : Standing). s.config) n;
+  state = ap (λ (s : Standing). s.state) n;
+  last = omega (arith, ap (λ (s : Standing). s.last) n);
+  handed = handed;
+  sent = o;
+  order = ap (λ (xs : List (ℕ × Answer)). handed ++ xs) (ap (λ (s : Standing). s.held) n) ∙ ap (λ (xs : List (ℕ × Answer)). xs ++ []) h;
+}
+
+-- a beginning of what was held is put out
+pub Begun-flushed : (old : Standing) (n : ℕ) (handed : List (ℕ × Answer)) (before out : List ℕ) → handed ≡ old.held → out ≡ before ++ flat_map frame (take n handed) → Begun old [] before out
+unfolding due replies
+Begun-flushed old n handed before out h o = record { handed = take n handed; others = drop n handed; sent = o; order = take-append-drop n handed ∙ h ∙ sym (append-nil old.held) }
+
+-- everything that stands out was handed out
+pub all_sent : (old new : Standing) (events : List Event) (out : List ℕ) → Progress old new events [] out → (old.held ≡ [] → new.held ≡ []) → old.held ≡ [] → out ≡ flat_map frame (replies old events)
+unfolding due
+all_sent old new events out p none h =
+    let e : p.handed ≡ replies old events = sym (append-nil p.handed) ∙ ap (λ (xs : List (ℕ × Answer)). p.handed ++ xs) (sym (none h)) ∙ p.order ∙ ap (λ (xs : List (ℕ × Answer)). xs ++ replies old events) h in
+    p.sent ∙ ap (flat_map frame) e
+
+-- ---- one event, where room was made for it first
+
+pub took_after : (old middle new : Standing) (event : Event) (given : Given) (a b c : List ℕ) → Progress old middle [] a b → Took middle new event given → c ≡ b ++ flat_map frame (handed given) → Progress old new (event ∷ []) a c
+took_after old middle new event given a b c p t e = Progress-then old middle new [] (event ∷ []) a b c p (Progress-took middle new event given b c t e)
+
+pub lost_after : (old middle new : Standing) (event : Event) (given : Given) (a b : List ℕ) → Progress old middle [] a b → Took middle new event given → Begun old (event ∷ []) a b
+lost_after old middle new event given a b p t = Begun-then old middle [] (event ∷ []) a b b p (Begun-lost middle new event given b t)
+
+pub lost_before : (old : Standing) (event : Event) (a b : List ℕ) → Begun old [] a b → Begun old (event ∷ []) a b
+lost_before old event a b p = Begun-more old [] (event ∷ []) a b p
+
+pub refused_after : (old middle new : Standing) (a b : List ℕ) → Progress old middle [] a b → new ≡ middle → Progress old new [] a b
+refused_after old middle new a b p e = subst (λ (s : Standing). Progress old s [] a b) (sym e) p

@@ -1,0 +1,10 @@
+pub mod Heads
+pub mod Fronts
+pub mod Frames
+pub mod Answers
+pub mod Streams
+pub mod Loops
+pub mod Closing
+pub mod Runs
+pub mod Composed
+pub mod Decomposed

@@ -1,0 +1,60 @@
+-- Answer frames, and what has been answered.
+use Rattle.std.specs.Prelude.{◌≡◌, ℕ, ◌+◌, List, [], ◌∷◌, ◌++◌, length}
+use Rattle.std.specs.List.{flat_map}
+use Rattle.byteorder.specs.Endian.{big_bytes}
+use Rattle.packet.specs.declared.endpoint.Iface.{Iface}
+use Rattle.packet.specs.declared.endpoint.Iface.TheVariants.{Lan, Wan}
+use Rattle.gateway.specs.declared.event.Event.{Event}
+use Rattle.gateway.specs.declared.event.Answer.{Answer}
+use Rattle.gateway.specs.declared.event.Answer.TheVariants as answer
+use Rattle.gateway.specs.Machine.{after, answers, numbered}
+use Rattle.gateway.specs.Standing.{Standing}
+
+abbrev pub iface_byte : Iface → ℕ
+iface_byte Lan = 0
+iface_byte Wan = 1
+
+abbrev pub kind_byte : Answer → ℕ
+kind_byte (answer.Forward iface packet) = 1
+kind_byte (answer.Dropped n) = 2
+kind_byte answer.Loaded = 3
+kind_byte answer.Refused = 4
+kind_byte answer.Ticked = 5
+
+abbrev pub body_of : Answer → List ℕ
+body_of (answer.Forward iface packet) = iface_byte iface ∷ packet
+body_of (answer.Dropped n) = n ∷ []
+body_of answer.Loaded = []
+body_of answer.Refused = []
+body_of answer.Ticked = []
+
+-- the frame of an event's number and answer: kind, number, length of the body, body
+unfoldable pub frame : ℕ × Answer → List ℕ
+frame p = kind_byte p.1 ∷ big_bytes 8 p.0 ++ big_bytes 4 (length (body_of p.1)) ++ body_of p.1
+
+abbrev pub frames : List (ℕ × Answer) → List ℕ
+frames answers = flat_map frame answers
+
+-- the numbered answers to these events
+unfoldable pub replies : Standing → List Event → List (ℕ × Answer)
+replies old events = numbered old.last (answers old.config old.state events)
+
+-- the numbered answers that stand out once these events are taken
+unfoldable pub due : Standing → List Event → List (ℕ × Answer)
+due old events = old.held ++ replies old events
+
+-- The events were taken, and of the answers that stand out these were handed out; their frames went behind `before`.
+pub record Progress (old new : Standing) (events : List Event) (before out : List ℕ) : Type 0 where
+  pub config : new.config ≡ old.config
+  pub state : new.state ≡ after old.config old.state events
+  pub last : new.last ≡ old.last + length events
+  pub handed : List (ℕ × Answer)
+  pub sent : out ≡ before ++ frames handed
+  pub order : handed ++ new.held ≡ due old events
+
+-- The frames of a beginning of the answers that stand out went behind `before`.
+pub record Begun (old : Standing) (events : List Event) (before out : List ℕ) : Type 0 where
+  pub handed : List (ℕ × Answer)
+  pub others : List (ℕ × Answer)
+  pub sent : out ≡ before ++ frames handed
+  pub order : handed ++ others ≡ due old events

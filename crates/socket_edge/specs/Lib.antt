@@ -1,0 +1,5 @@
+pub mod Requests
+pub mod Framing
+pub mod Answering
+pub mod Running
+pub mod Streams

@@ -1,0 +1,91 @@
+//! The frames of answers.
+ghost use Rattle.std.specs.Prelude.{◌≡◌, ℕ, ◌++◌, OnOk, OnErr, length, take};
+ghost use Rattle.socket_edge.specs.Answering.{iface_byte, kind_byte, body_of, frame, frames};
+
+use gateway::{Answer, Iface};
+use std::alloc::AllocError;
+
+fn kind_of(answer: &Answer) -> u8
+    ensures { result ≡ kind_byte answer.now }
+{
+    match answer {
+        Answer::Forward(_, _) => 1,
+        Answer::Dropped(_) => 2,
+        Answer::Loaded => 3,
+        Answer::Refused => 4,
+        Answer::Ticked => 5,
+    }
+}
+
+fn byte_of(iface: Iface) -> u8
+    ensures { result ≡ iface_byte iface }
+{
+    match iface {
+        Iface::Lan => 0,
+        Iface::Wan => 1,
+    }
+}
+
+fn body_len(answer: &Answer) -> u32
+    ensures { result ≡ length (body_of answer.now) }
+{
+    match answer {
+        Answer::Forward(_, packet) => 1 + packet.as_slice().len() as u32,
+        Answer::Dropped(_) => 1,
+        _ => 0,
+    }
+}
+
+/// Puts a body at the end. An `Err` may leave a part of it there.
+fn put_body(out: &mut Vec<u8>, answer: &Answer) -> Result<(), AllocError>
+    ensures ok { OnOk result (out.new.items ≡ out.old.items ++ body_of answer.now) }
+    ensures front { take (length out.old.items) out.new.items ≡ out.old.items }
+{
+    match answer {
+        Answer::Forward(iface, packet) => {
+            out.push(byte_of(*iface))?;
+            out.extend_from_slice(packet.as_slice())?;
+            Ok(())
+        }
+        Answer::Dropped(number) => {
+            out.push(*number)?;
+            Ok(())
+        }
+        _ => Ok(()),
+    }
+}
+
+/// Puts a frame at the end. An `Err` may leave a part of it there.
+fn put_parts(out: &mut Vec<u8>, number: u64, answer: &Answer) -> Result<(), AllocError>
+    ensures ok { OnOk result (out.new.items ≡ out.old.items ++ frame (number, answer.now)) }
+    ensures front { take (length out.old.items) out.new.items ≡ out.old.items }
+{
+    out.push(kind_of(answer))?;
+    out.extend_from_slice(&number.to_be_bytes())?;
+    out.extend_from_slice(&body_len(answer).to_be_bytes())?;
+    put_body(out, answer)
+}
+
+/// Puts a frame at the end. An `Err` changes nothing.
+pub fn put_frame(out: &mut Vec<u8>, number: u64, answer: &Answer) -> Result<(), AllocError>
+    ensures ok { OnOk result (out.new.items ≡ out.old.items ++ frame (number, answer.now)) }
+    ensures err { OnErr result (out.new.items ≡ out.old.items) }
+{
+    let before = out.as_slice().len();
+    let put = put_parts(out, number, answer);
+    if put.is_err() {
+        out.truncate(before);
+    }
+    put
+}
+
+/// Puts the frames of answers at the end; of a beginning of them, at an `Err`.
+pub fn put_frames(out: &mut Vec<u8>, answers: &[(u64, Answer)]) -> Result<(), AllocError>
+    ensures ok { OnOk result (out.new.items ≡ out.old.items ++ frames answers.now) }
+    ensures err { OnErr result ((n : ℕ) × (out.new.items ≡ out.old.items ++ frames (take n answers.now))) }
+{
+    for pair in answers {
+        put_frame(out, pair.0, &pair.1)?;
+    }
+    Ok(())
+}

@@ -1,0 +1,23 @@
+//! Bytes in, answer frames out: the edge between a byte stream and a gateway.
+//!
+//! `run` reads request frames, offers each whole one to the gateway, and writes the frames of the
+//! answers, in whatever pieces the bytes come and go. The rooms:
+//! - `request`: what stands at the front of the bytes: a whole frame, a part of one, or a fault;
+//! - `answer`: the frames of answers;
+//! - `serving`: all whole frames at the front, offered in order;
+//! - `edge`: the run, one read after the other;
+//! - `laws`: what holds of every stream of frames;
+//! - `fault`: why a run ends early.
+#![tactic(auto)]
+
+mod answer;
+mod edge;
+mod fault;
+pub mod laws;
+mod request;
+mod serving;
+#[cfg(test)]
+mod tests;
+
+pub use edge::run;
+pub use fault::{EdgeFault, HeaderFault};

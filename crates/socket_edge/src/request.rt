@@ -1,0 +1,129 @@
+//! The request at the front of the bytes.
+ghost use Rattle.std.specs.Prelude.{◌≡◌, ◌≤◌, length, IfOk};
+ghost use Rattle.socket_edge.specs.Requests.{without_interface, announced, longest, head_of, what_of, TakesNext};
+
+use crate::fault::HeaderFault;
+use byteorder::{BigEndian, ByteOrder};
+use gateway::{Bytes, Event, Iface, What};
+use std::alloc::{AllocError, Global};
+
+/// What a request's kind and interface announce.
+#[derive(Clone, Copy, Drop)]
+pub enum Kind {
+    Packet(Iface),
+    Load,
+    Moment,
+}
+
+/// The header at the front: not all there, faulty, or its kind, moment and length of the body.
+#[derive(Clone, Copy, Drop)]
+pub enum Head {
+    Cut,
+    Bad(HeaderFault),
+    Frame(Kind, u64, u32),
+}
+
+/// What stands at the front: less than a frame, a faulty header, or an event and its frame's length.
+#[derive(Drop)]
+pub enum Taken {
+    Cut,
+    Bad(HeaderFault),
+    Whole(Event, usize),
+}
+
+fn kind_alone(iface: u8, kind: Kind) -> Result<Kind, HeaderFault>
+    ensures { result ≡ without_interface iface kind }
+{
+    if iface == 0 {
+        Ok(kind)
+    } else {
+        Err(HeaderFault::BadInterface)
+    }
+}
+
+fn packet_from(iface: u8) -> Result<Kind, HeaderFault>
+    ensures { result ≡ announced 1 iface }
+{
+    if iface == 0 {
+        Ok(Kind::Packet(Iface::Lan))
+    } else if iface == 1 {
+        Ok(Kind::Packet(Iface::Wan))
+    } else {
+        Err(HeaderFault::BadInterface)
+    }
+}
+
+fn announced_by(kind: u8, iface: u8) -> Result<Kind, HeaderFault>
+    ensures { result ≡ announced kind iface }
+{
+    if kind == 1 {
+        packet_from(iface)
+    } else if kind == 2 {
+        kind_alone(iface, Kind::Load)
+    } else if kind == 3 {
+        kind_alone(iface, Kind::Moment)
+    } else {
+        Err(HeaderFault::BadKind)
+    }
+}
+
+fn longest_of(kind: Kind) -> u32
+    ensures { result ≡ longest kind }
+{
+    match kind {
+        Kind::Packet(_) => 65_535,
+        Kind::Load => 262_144,
+        Kind::Moment => 0,
+    }
+}
+
+/// The header at the front, tested once its 14 bytes are there.
+#[tactic(auto, unfolding(crate::specs::Requests::head_of))]
+fn read_head(bytes: &[u8]) -> Head
+    ensures { result ≡ head_of bytes.now }
+{
+    if bytes.len() < 14 {
+        return Head::Cut;
+    }
+    match announced_by(bytes[0], bytes[1]) {
+        Err(fault) => Head::Bad(fault),
+        Ok(kind) => {
+            let len = BigEndian::read_u32(&bytes[2..]);
+            if longest_of(kind) < len {
+                return Head::Bad(HeaderFault::TooLong);
+            }
+            Head::Frame(kind, BigEndian::read_u64(&bytes[6..]), len)
+        }
+    }
+}
+
+fn what_from(kind: Kind, body: Vec<u8>) -> What
+    requires { length body.items ≤ longest kind }
+    ensures { result ≡ what_of kind body.items }
+{
+    match kind {
+        Kind::Packet(iface) => What::Packet(iface, Bytes::of(body)),
+        Kind::Load => What::Load(Bytes::of(body)),
+        Kind::Moment => What::Moment,
+    }
+}
+
+/// What stands at the front of the bytes.
+#[tactic(auto, unfolding(crate::specs::Requests::next), using(crate::proofs::Heads::frame_is_short))]
+pub fn take_frame(alloc: Global, bytes: &[u8]) -> Result<Taken, AllocError>
+    ensures { IfOk result (λ taken. TakesNext taken bytes.now) }
+{
+    match read_head(bytes) {
+        Head::Cut => Ok(Taken::Cut),
+        Head::Bad(fault) => Ok(Taken::Bad(fault)),
+        Head::Frame(kind, moment, len) => {
+            let end = 14 + len as usize;
+            if bytes.len() < end {
+                return Ok(Taken::Cut);
+            }
+            let body = Vec::from_slice(alloc, &bytes[14..end])?;
+            let what = what_from(kind, body);
+            Ok(Taken::Whole(Event { moment, what }, end))
+        }
+    }
+}
