@@ -1,0 +1,10 @@
+use crate::FileId;
+
+/// A call that changed what a crash may leave.
+#[derive(Drop)]
+pub(crate) enum Call {
+    /// These bytes were written at this place.
+    Write(FileId, usize, Vec<u8>),
+    /// The file was synced.
+    Sync(FileId),
+}

@@ -1,0 +1,83 @@
+// Two files: what a read gives, and what a crash may leave of them.
+ghost use Rattle.std.specs.Prelude.{◌≡◌, ◌+◌, ◌≤◌, ◌↔◌, List, ℕ, length, IfOk, OnOk, take, drop};
+ghost use Rattle.disk_model.specs.declared.disk.FileId.{FileId};
+ghost use Rattle.disk_model.specs.Disk.{Files, Goes, Written, Synced, Same, Put, HasCause};
+
+/// One of the two files of a disk.
+#[derive(Clone, Copy, Debug, PartialEq, Eq)]
+pub enum FileId {
+    A,
+    B,
+}
+
+/// A call of a disk has failed.
+#[derive(Clone, Copy, Debug, PartialEq, Eq, Drop, thiserror::Error)]
+#[error("a call of the disk has failed")]
+pub struct DiskFault;
+
+/// Two files on a device that may stop at any moment. Places and lengths are in bytes.
+///
+/// What is said of the files' contents is said of honest disks, those that behave as this model. That calls are safe,
+/// and that `failures` grows with each failed call and with nothing else, is said of every disk.
+pub trait Disk {
+    /// It behaves as the model says.
+    ghost honest: { Self → Type 0 };
+
+    /// The bytes that a read of each file gives.
+    ghost seen: { Self → FileId → List ℕ };
+
+    /// The moment, as a number that doesn't fall.
+    ghost moment: { Self → ℕ };
+
+    /// What a crash at any moment from that one on might have left of the two files.
+    ghost left: { Self → ℕ → Files → Type 0 };
+
+    /// How many calls have failed, up to the greatest u64.
+    ghost failed: { Self → ℕ };
+
+    /// How many calls have failed since the disk was made. At the greatest u64 it stays, and counts as grown.
+    fn failures(&self) -> u64
+        ensures { result ≡ failed self.now };
+
+    /// The length of a file.
+    fn len(&mut self, file: FileId) -> Result<u64, DiskFault>
+        ensures honest { honest self.old ↔ honest self.new }
+        ensures length { honest self.old → IfOk result (λ n. n ≡ length (seen self.old file)) }
+        ensures seen { honest self.old → Same (seen self.old) (seen self.new) }
+        ensures crash { honest self.old → Goes moment left self.old self.new Same }
+        ensures cause { HasCause (failed self.old) (failed self.new) result };
+
+    /// Fills `bytes` from a place of a file. The range lies within the file. A read that fails changes no file.
+    fn read_at(&mut self, file: FileId, at: u64, bytes: &mut [u8]) -> Result<(), DiskFault>
+        requires { honest self.old → at + length bytes.old ≤ length (seen self.old file) }
+        ensures honest { honest self.old ↔ honest self.new }
+        ensures read { honest self.old → OnOk result (bytes.new ≡ take (length bytes.old) (drop at (seen self.old file))) }
+        ensures seen { honest self.old → Same (seen self.old) (seen self.new) }
+        ensures crash { honest self.old → Goes moment left self.old self.new Same }
+        ensures cause { HasCause (failed self.old) (failed self.new) result };
+
+    /// Puts bytes at a place of a file, which may make it longer; the place is at most the file's length. Until a
+    /// sync a crash may leave any bytes in the range and past the end. A write that fails may have put any bytes there.
+    fn write_at(&mut self, file: FileId, at: u64, bytes: &[u8]) -> Result<(), DiskFault>
+        requires { honest self.old → at ≤ length (seen self.old file) }
+        ensures honest { honest self.old ↔ honest self.new }
+        ensures written { honest self.old → OnOk result (Put file at bytes.now (seen self.old) (seen self.new)) }
+        ensures range { honest self.old → Written file at bytes.now (seen self.old) (seen self.new) }
+        ensures crash { honest self.old → Goes moment left self.old self.new (Written file at bytes.now) }
+        ensures cause { HasCause (failed self.old) (failed self.new) result };
+
+    /// Makes a file durable: from then on until the next write to it a crash leaves of it what a read gives, its
+    /// length too. A sync that fails promises nothing.
+    fn sync(&mut self, file: FileId) -> Result<(), DiskFault>
+        ensures honest { honest self.old ↔ honest self.new }
+        ensures durable { honest self.old → OnOk result (Synced moment left seen self.new file) }
+        ensures seen { honest self.old → Same (seen self.old) (seen self.new) }
+        ensures crash { honest self.old → Goes moment left self.old self.new Same }
+        ensures cause { HasCause (failed self.old) (failed self.new) result };
+
+    /// What a read gives is one of the outcomes of a crash.
+    ghost reads: { (disk : Self) → honest disk → left disk (moment disk) (seen disk) };
+
+    /// What a crash since a moment might have left, one since an earlier moment might have left too.
+    ghost earlier: { (disk : Self) (s t : ℕ) (c : Files) → honest disk → s ≤ t → left disk t c → left disk s c };
+}

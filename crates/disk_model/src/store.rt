@@ -1,0 +1,23 @@
+ghost use Rattle.std.specs.Prelude.{◌≡◌, ◌+◌, ◌≤◌, ◌↔◌, List, ℕ, length, IfOk, OnOk};
+ghost use Rattle.disk_model.specs.Disk.{Files, Leaves, Written, Synced, Put, HasCause};
+
+use crate::{Disk, DiskFault, FileId};
+
+/// Writes a range of one file and syncs it: two calls of the disk. Stopped at any moment, a crash leaves of the file
+/// what the write alone may leave, and the other file stays.
+pub fn write_synced<D: Disk>(
+    disk: &mut D,
+    file: FileId,
+    at: u64,
+    bytes: &[u8],
+) -> Result<(), DiskFault>
+    requires { D.honest disk.old → at ≤ length (D.seen disk.old file) }
+    ensures honest { D.honest disk.old ↔ D.honest disk.new }
+    ensures written { D.honest disk.old → OnOk result (Put file at bytes.now (D.seen disk.old) (D.seen disk.new)) }
+    ensures durable { D.honest disk.old → OnOk result (Synced D.moment D.left D.seen disk.new file) }
+    ensures any_moment { D.honest disk.old → Leaves D.moment D.left disk.old disk.new (Written file at bytes.now) }
+    ensures cause { HasCause (D.failed disk.old) (D.failed disk.new) result }
+{
+    disk.write_at(file, at, bytes)?;
+    disk.sync(file)
+}

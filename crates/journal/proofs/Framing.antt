@@ -1,0 +1,62 @@
+-- The body of a framed buffer.
+use Rattle.std.proofs.Common.{◌≡◌, ℕ, ◌+◌, ◌-◌, ◌<◌, ◌≤◌, ◌^◌, List, [], ◌∷◌, ◌++◌, length, take, drop, sym, ◌∙◌, ap, subst, arith, length-append, length-drop, append_assoc}
+use Rattle.std.proofs.lemmas.List.{take_at, drop_at, take-take, drop-take, drop-append-le, take-append-le, length-take-le}
+use Rattle.byteorder.specs.Endian.{big_bytes}
+use Rattle.byteorder.specs.Numbers.{length-bytes_high_first}
+use Rattle.disk_model.specs.Disk.{put}
+use Rattle.journal.specs.Groups.{framed, body_of, IsFramed}
+use Rattle.journal.proofs.Behind.{length-framed}
+
+pub body_of-framed : (body bytes : List ℕ) → bytes ≡ framed body → body_of bytes ≡ body
+body_of-framed body bytes is =
+    ap body_of is
+    ∙ ap (λ l. take (length (framed body) - 5) l) (drop_at (big_bytes 4 (length body)) (body ++ 0 ∷ []) 4 (length-bytes_high_first 4 (length body)))
+    ∙ take_at body (0 ∷ []) (length (framed body) - 5) (omega (arith, length-framed body))
+
+pub is_framed : (body bytes : List ℕ) → bytes ≡ framed body → length body < 2 ^ 32 → IsFramed bytes
+is_framed body bytes is fits =
+    let e = body_of-framed body bytes is in
+    record { bytes = is ∙ ap framed (sym e); fits = subst (λ l. length l < 2 ^ 32) (sym e) fits }
+
+length-body_of : (bytes : List ℕ) → 5 ≤ length bytes → length (body_of bytes) ≡ length bytes - 5
+length-body_of bytes long = length-take-le (length bytes - 5) (drop 4 bytes) (omega (arith, length-drop 4 bytes))
+
+body_behind : (bytes : List ℕ) → 5 ≤ length bytes → drop 4 (take (length bytes - 1) bytes) ≡ body_of bytes
+body_behind bytes long = ap (λ n. drop 4 (take n bytes)) (let e : length bytes - 1 ≡ 4 + (length bytes - 5) = omega (arith, long) in e) ∙ drop-take 4 (length bytes - 5) bytes
+
+-- the length before the body, and the 0 behind it
+pub sealed : (bytes : List ℕ) (count : ℕ) → 5 ≤ length bytes → count ≡ length bytes - 5 → big_bytes 4 count ++ drop 4 (take (length bytes - 1) bytes ++ 0 ∷ []) ≡ framed (body_of bytes)
+sealed bytes count long is =
+    let front = take (length bytes - 1) bytes in
+    let size : length front ≡ length bytes - 1 = length-take-le (length bytes - 1) bytes (omega arith) in
+    ap (λ l. big_bytes 4 count ++ l) (drop-append-le 4 front (0 ∷ []) (omega (arith, size, long)) ∙ ap (λ l. l ++ 0 ∷ []) (body_behind bytes long))
+    ∙ ap (λ n. big_bytes 4 n ++ (body_of bytes ++ 0 ∷ [])) (is ∙ sym (length-body_of bytes long))
+
+-- an entry behind the body, where the 0 stood
+pub grown : (bytes entry : List ℕ) → 5 ≤ length bytes → body_of (put (length bytes - 1) entry (bytes ++ entry)) ≡ body_of bytes ++ entry
+grown bytes entry long =
+    let n = length bytes - 1 in
+    let rest = drop (n + length entry) (bytes ++ entry) in
+    let front = take n bytes in
+    let size : length front ≡ n = length-take-le n bytes (omega arith) in
+    let is : put n entry (bytes ++ entry) ≡ front ++ (entry ++ rest) =
+    ap (λ l. l ++ entry ++ rest) (take-append-le n bytes entry (omega arith)) ∙ append_assoc front entry rest in
+    let one : length rest ≡ 1 = omega (arith, long, length-drop (n + length entry) (bytes ++ entry), length-append bytes entry) in
+    let whole : length (front ++ (entry ++ rest)) ≡ length bytes + length entry = omega (arith, long, length-append front (entry ++ rest), length-append entry rest, size, one) in
+    let behind : drop 4 (front ++ (entry ++ rest)) ≡ (body_of bytes ++ entry) ++ rest =
+    drop-append-le 4 front (entry ++ rest) (omega (arith, size, long)) ∙ ap (λ l. l ++ (entry ++ rest)) (body_behind bytes long) ∙ sym (append_assoc (body_of bytes) entry rest) in
+    ap body_of is
+    ∙ ap (λ k. take (k - 5) (drop 4 (front ++ (entry ++ rest)))) whole
+    ∙ ap (λ l. take (length bytes + length entry - 5) l) behind
+    ∙ take_at (body_of bytes ++ entry) rest (length bytes + length entry - 5) (omega (arith, long, length-append (body_of bytes) entry, length-body_of bytes long))
+
+-- the first bytes of the body
+pub cut : (bytes : List ℕ) (n : ℕ) → n + 5 ≤ length bytes → body_of (take (n + 5) bytes) ≡ take n (body_of bytes)
+cut bytes n short =
+    let size : length (take (n + 5) bytes) ≡ n + 5 = length-take-le (n + 5) bytes short in
+    let behind : drop 4 (take (n + 5) bytes) ≡ take (n + 1) (drop 4 bytes) = ap (λ k. drop 4 (take k bytes)) (let e : n + 5 ≡ 4 + (n + 1) = omega arith in e) ∙ drop-take 4 (n + 1) bytes in
+    ap (λ k. take (k - 5) (drop 4 (take (n + 5) bytes))) size
+    ∙ ap (λ k. take k (drop 4 (take (n + 5) bytes))) (let e : n + 5 - 5 ≡ n = omega arith in e)
+    ∙ ap (λ l. take n l) behind
+    ∙ take-take n (n + 1) (drop 4 bytes) (omega arith)
+    ∙ sym (take-take n (length bytes - 5) (drop 4 bytes) (omega (arith, short)))

@@ -1,0 +1,60 @@
+-- What the two writes of an append leave, and what stands after them.
+use Rattle.std.proofs.Common.{◌≡◌, ◌≢◌, ℕ, ◌+◌, ◌<◌, ◌≤◌, ◌^◌, List, [], ◌∷◌, ◌++◌, length, get_or, drop, sym, ◌∙◌, ap, subst, arith}
+use Rattle.disk_model.specs.declared.disk.FileId.{FileId}
+use Rattle.disk_model.specs.Disk.{Files, Torn, Written, Put, put, Leaves, Synced}
+use Rattle.disk_model.proofs.Moments.{follows, at_end, narrows}
+use Rattle.journal.specs.Groups.{Groups, Extended, Appended, Resting, Stands, framed}
+use Rattle.journal.proofs.Behind.{torn_body, torn_gate, opened, one_more, none, closed_there, length-framed}
+
+module _ {D : Type 0} (moment : D → ℕ) (left : D → ℕ → Files → Type 0) (seen : D → Files) (file : FileId) (at : ℕ) (body buffer : List ℕ) where
+  pub body_written : (old new : D) → Resting moment left seen old file at → Leaves moment left old new (Written file (at + 1) buffer) → Leaves moment left old new (Appended file at body)
+  body_written old new rest leaves = narrows moment left old new (Written file (at + 1) buffer) (Appended file at body) leaves (λ before files was written.
+      let is = rest.synced before was in
+      record {
+        here = torn_body at buffer (before file) (files file) body (subst (λ l. at < length l) (sym is) rest.within) (subst (λ l. get_or l at 0 ≢ 1) (sym is) rest.closed) written.here;
+        elsewhere = written.elsewhere;
+      })
+
+  pub gate_written : (old mid new : D) → buffer ≡ framed body → length body < 2 ^ 32 → Resting moment left seen old file at
+      → ((s t : ℕ) (files : Files) → s ≤ t → left mid t files → left mid s files)
+      → Leaves moment left old mid (Written file (at + 1) buffer) → Put file (at + 1) buffer (seen old) (seen mid) → Synced moment left seen mid file
+      → Leaves moment left mid new (Written file at (1 ∷ [])) → Leaves moment left old new (Appended file at body)
+  gate_written old mid new is fits rest earlier first stored synced next =
+      let step = Written file (at + 1) buffer in
+      follows moment left old mid new (Appended file at body) (Written file at (1 ∷ [])) (Appended file at body)
+      (body_written old mid rest first)
+      next
+      (λ before files was appended. appended)
+      (λ files from.
+      let origin = at_end moment left old mid step earlier first from.0 from.1 in
+      let was : origin.0 file ≡ seen old file = rest.synced origin.0 origin.1 in
+      let staged : from.0 file ≡ put (at + 1) (framed body) (seen old file) = synced from.0 from.1 ∙ stored.here ∙ ap (λ b. put (at + 1) b (seen old file)) is in
+      let torn : Torn at (1 ∷ []) (put (at + 1) (framed body) (seen old file)) (files file) = subst (λ l. Torn at (1 ∷ []) l (files file)) staged from.2.here in (
+        origin.0,
+        origin.1,
+        record {
+          here = subst (λ l. Extended at body l (files file)) (sym was) (torn_gate at body (seen old file) rest.within (files file) fits torn);
+          elsewhere = λ other ne. from.2.elsewhere other ne ∙ origin.2.elsewhere other ne;
+        },
+      ))
+
+  pub stands : (old mid new : D) → buffer ≡ framed body → length body < 2 ^ 32 → Resting moment left seen old file at
+      → Put file (at + 1) buffer (seen old) (seen mid) → Put file at (1 ∷ []) (seen mid) (seen new) → Synced moment left seen new file
+      → Stands moment left seen old new file at body (at + length buffer)
+  stands old mid new is fits rest stored opens synced =
+      let whole : seen new file ≡ put at (1 ∷ []) (put (at + 1) (framed body) (seen old file)) = opens.here ∙ ap (λ l. put at (1 ∷ []) l) (stored.here ∙ ap (λ b. put (at + 1) b (seen old file)) is) in
+      let parts = opened at body (seen old file) rest.within (seen new file) whole in
+      let tail = drop (at + 1 + length (framed body)) (seen old file) in
+      let next : at + length buffer ≡ at + length body + 5 = omega (arith, ap length is, length-framed body) in
+      let there = closed_there (seen new file) at (at + length body + 5) (body ∷ []) (one_more at body tail (seen old file) (seen new file) fits parts.0 parts.1 at [] (none (seen old file) at rest.within rest.closed)) in
+      record {
+        next_is = next;
+        resting = record {
+          synced = synced;
+          within = subst (λ k. k < length (seen new file)) (sym next) there.0;
+          closed = subst (λ k. get_or (seen new file) k 0 ≢ 1) (sym next) there.1;
+        };
+        before = parts.0;
+        groups = λ start bodies g. subst (λ k. Groups (seen new file) start (bodies ++ body ∷ []) k) (sym next) (one_more at body tail (seen old file) (seen new file) fits parts.0 parts.1 start bodies g);
+        elsewhere = λ other ne. opens.elsewhere other ne ∙ stored.elsewhere other ne;
+      }

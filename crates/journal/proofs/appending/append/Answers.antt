@@ -1,0 +1,26 @@
+use Rattle.journal.proofs.Stages.{body_written, gate_written, stands}
+use Rattle.journal.proofs.appending.append.Goals as goal
+
+pub returns-in_err-write_synced-clause-any_moment : goal.returns-in_err-write_synced-clause-any_moment
+returns-in_err-write_synced-clause-any_moment g c = λ honest.
+    body_written g.D.Disk.moment g.D.Disk.left g.D.Disk.seen c.args.file c.args.at c.args.group.now c.as_bytes-bytes.result.now _ _ (c.requires honest) (c.write_synced.ensures.any_moment honest)
+
+pub returns-in_err-write_synced-2-clause-any_moment : goal.returns-in_err-write_synced-2-clause-any_moment
+returns-in_err-write_synced-2-clause-any_moment g c = λ honest.
+    let mid = c.write_synced.ensures.honest.0 honest in
+    gate_written g.D.Disk.moment g.D.Disk.left g.D.Disk.seen c.args.file c.args.at c.args.group.now c.as_bytes-bytes.result.now _ c.write_synced.new.disk _ c.as_bytes-bytes.ensures.bytes c.as_bytes-bytes.ensures.fits (c.requires honest)
+    (λ s t files le since. g.met.D.Disk.earlier c.write_synced.new.disk s t files mid le since)
+    (c.write_synced.ensures.any_moment honest) (c.in_ok-write_synced.ensures.written honest) (c.in_ok-write_synced.ensures.durable honest) (c.write_synced-2.ensures.any_moment mid)
+
+pub returns-clause-any_moment : goal.returns-clause-any_moment
+returns-clause-any_moment g c = λ honest.
+    let mid = c.write_synced.ensures.honest.0 honest in
+    gate_written g.D.Disk.moment g.D.Disk.left g.D.Disk.seen c.args.file c.args.at c.args.group.now c.as_bytes-bytes.result.now _ c.write_synced.new.disk _ c.as_bytes-bytes.ensures.bytes c.as_bytes-bytes.ensures.fits (c.requires honest)
+    (λ s t files le since. g.met.D.Disk.earlier c.write_synced.new.disk s t files mid le since)
+    (c.write_synced.ensures.any_moment honest) (c.in_ok-write_synced.ensures.written honest) (c.in_ok-write_synced.ensures.durable honest) (c.write_synced-2.ensures.any_moment mid)
+
+pub returns-clause-ok : goal.returns-clause-ok
+returns-clause-ok g c = λ honest.
+    let mid = c.write_synced.ensures.honest.0 honest in
+    stands g.D.Disk.moment g.D.Disk.left g.D.Disk.seen c.args.file c.args.at c.args.group.now c.as_bytes-bytes.result.now _ c.write_synced.new.disk _ c.as_bytes-bytes.ensures.bytes c.as_bytes-bytes.ensures.fits (c.requires honest)
+    (c.in_ok-write_synced.ensures.written honest) (c.in_ok-write_synced-2.ensures.written mid) (c.in_ok-write_synced-2.ensures.durable mid)

@@ -1,0 +1,99 @@
+use Rattle.std.proofs.Common.{◌≡◌, ◌+◌, ◌∙◌, ap, arith, take, drop, length}
+use Rattle.std.proofs.lemmas.List.{take_at}
+use Rattle.disk_model.proofs.Moments.{not_yet, looks_on}
+use Rattle.journal.proofs.Whole.{too_long, whole, gate_is}
+use Rattle.journal.proofs.reading.read_group.Goals as goal
+
+pub returns-in_err-read_at-2-clause-looks : goal.returns-in_err-read_at-2-clause-looks
+returns-in_err-read_at-2-clause-looks g c = λ h0.
+    let m = g.D.Disk.moment in
+    let left = g.D.Disk.left in
+    let s = g.D.Disk.seen in
+    let d0 = c.args.disk.now in
+    let d1 = c.read_at.new.self in
+    let h1 = c.read_at.ensures.honest.0 h0 in
+    let first = looks_on m left s d0 d0 d1 (λ s t files le since. g.met.D.Disk.earlier d0 s t files h0 le since) (not_yet m left s d0) (c.read_at.ensures.seen h0) (c.read_at.ensures.crash h0) in
+    let d2 = c.read_at-2.new.self in
+    let second = looks_on m left s d0 d1 d2 (λ s t files le since. g.met.D.Disk.earlier d1 s t files h1 le since) first (c.read_at-2.ensures.seen h1) (c.read_at-2.ensures.crash h1) in
+    second
+
+pub returns-then-end-at-clause-looks : goal.returns-then-end-at-clause-looks
+returns-then-end-at-clause-looks g c = λ h0.
+    let m = g.D.Disk.moment in
+    let left = g.D.Disk.left in
+    let s = g.D.Disk.seen in
+    let d0 = c.args.disk.now in
+    let d1 = c.read_at.new.self in
+    let h1 = c.read_at.ensures.honest.0 h0 in
+    let first = looks_on m left s d0 d0 d1 (λ s t files le since. g.met.D.Disk.earlier d0 s t files h0 le since) (not_yet m left s d0) (c.read_at.ensures.seen h0) (c.read_at.ensures.crash h0) in
+    let d2 = c.read_at-2.new.self in
+    let second = looks_on m left s d0 d1 d2 (λ s t files le since. g.met.D.Disk.earlier d1 s t files h1 le since) first (c.read_at-2.ensures.seen h1) (c.read_at-2.ensures.crash h1) in
+    second
+
+pub returns-in_err-body-clause-looks : goal.returns-in_err-body-clause-looks
+returns-in_err-body-clause-looks g c = λ h0.
+    let m = g.D.Disk.moment in
+    let left = g.D.Disk.left in
+    let s = g.D.Disk.seen in
+    let d0 = c.args.disk.now in
+    let d1 = c.read_at.new.self in
+    let h1 = c.read_at.ensures.honest.0 h0 in
+    let first = looks_on m left s d0 d0 d1 (λ s t files le since. g.met.D.Disk.earlier d0 s t files h0 le since) (not_yet m left s d0) (c.read_at.ensures.seen h0) (c.read_at.ensures.crash h0) in
+    let d2 = c.read_at-2.new.self in
+    let second = looks_on m left s d0 d1 d2 (λ s t files le since. g.met.D.Disk.earlier d1 s t files h1 le since) first (c.read_at-2.ensures.seen h1) (c.read_at-2.ensures.crash h1) in
+    second
+
+pub returns-in_err-read_at-3-clause-looks : goal.returns-in_err-read_at-3-clause-looks
+returns-in_err-read_at-3-clause-looks g c = λ h0.
+    let m = g.D.Disk.moment in
+    let left = g.D.Disk.left in
+    let s = g.D.Disk.seen in
+    let d0 = c.args.disk.now in
+    let d1 = c.read_at.new.self in
+    let h1 = c.read_at.ensures.honest.0 h0 in
+    let first = looks_on m left s d0 d0 d1 (λ s t files le since. g.met.D.Disk.earlier d0 s t files h0 le since) (not_yet m left s d0) (c.read_at.ensures.seen h0) (c.read_at.ensures.crash h0) in
+    let d2 = c.read_at-2.new.self in
+    let second = looks_on m left s d0 d1 d2 (λ s t files le since. g.met.D.Disk.earlier d1 s t files h1 le since) first (c.read_at-2.ensures.seen h1) (c.read_at-2.ensures.crash h1) in
+    let h2 = c.read_at-2.ensures.honest.0 h1 in
+    let d3 = c.read_at-3.new.self in
+    let third = looks_on m left s d0 d2 d3 (λ s t files le since. g.met.D.Disk.earlier d2 s t files h2 le since) second (c.read_at-3.ensures.seen h2) (c.read_at-3.ensures.crash h2) in
+    third
+
+pub returns-clause-looks : goal.returns-clause-looks
+returns-clause-looks g c = λ h0.
+    let m = g.D.Disk.moment in
+    let left = g.D.Disk.left in
+    let s = g.D.Disk.seen in
+    let d0 = c.args.disk.now in
+    let d1 = c.read_at.new.self in
+    let h1 = c.read_at.ensures.honest.0 h0 in
+    let first = looks_on m left s d0 d0 d1 (λ s t files le since. g.met.D.Disk.earlier d0 s t files h0 le since) (not_yet m left s d0) (c.read_at.ensures.seen h0) (c.read_at.ensures.crash h0) in
+    let d2 = c.read_at-2.new.self in
+    let second = looks_on m left s d0 d1 d2 (λ s t files le since. g.met.D.Disk.earlier d1 s t files h1 le since) first (c.read_at-2.ensures.seen h1) (c.read_at-2.ensures.crash h1) in
+    let h2 = c.read_at-2.ensures.honest.0 h1 in
+    let d3 = c.read_at-3.new.self in
+    let third = looks_on m left s d0 d2 d3 (λ s t files le since. g.met.D.Disk.earlier d2 s t files h2 le since) second (c.read_at-3.ensures.seen h2) (c.read_at-3.ensures.crash h2) in
+    third
+
+pub returns-then-end-at-clause-torn : goal.returns-then-end-at-clause-torn
+returns-then-end-at-clause-torn g c = λ h0 damaged.
+    let h1 = c.read_at.ensures.honest.0 h0 in
+    let file = g.D.Disk.seen c.args.disk.now c.args.file in
+    let same1 = c.read_at.ensures.seen h0 c.args.file in
+    let gate = gate_is file c.read_at.new.bytes c.args.at (c.in_ok-read_at.ensures.read h0) c.if-gate-ne1.false in
+    let size = c.number_of-count.ensures ∙ c.in_ok-read_at-2.ensures.read h1 ∙ ap (λ l. take 4 (drop (c.args.at + 1) l)) same1 in
+    too_long file c.args.at c.number_of-count.result gate (omega (arith, c.requires.size h0)) (omega arith) size (omega (arith, c.requires.size h0, c.from.ensures))
+
+pub returns-clause-ok : goal.returns-clause-ok
+returns-clause-ok g c = λ h0.
+    let h1 = c.read_at.ensures.honest.0 h0 in
+    let file = g.D.Disk.seen c.args.disk.now c.args.file in
+    let same1 = c.read_at.ensures.seen h0 c.args.file in
+    let gate = gate_is file c.read_at.new.bytes c.args.at (c.in_ok-read_at.ensures.read h0) c.if-gate-ne1.false in
+    let size = c.number_of-count.ensures ∙ c.in_ok-read_at-2.ensures.read h1 ∙ ap (λ l. take 4 (drop (c.args.at + 1) l)) same1 in
+    let h2 = c.read_at-2.ensures.honest.0 h1 in
+    let same2 = c.read_at-2.ensures.seen h1 c.args.file ∙ same1 in
+    let count : length c.deref_mut.result.now ≡ c.number_of-count.result = omega (arith, c.deref_mut.ensures.value, c.deref_mut.ensures.len, c.in_ok-body.ensures.len) in
+    let read = c.in_ok-read_at-3.ensures.read h2 ∙ ap (λ l. take (length c.deref_mut.result.now) (drop (c.args.at + 5) l)) same2 ∙ ap (λ k. take k (drop (c.args.at + 5) file)) count in
+    let body = take_at c.read_at-3.new.bytes (drop (length c.read_at-3.new.bytes) c.in_ok-body.body.items) c.in_ok-body.body.len (omega (arith, c.read_at-3.auto.bytes, c.deref_mut.ensures.len)) in
+    whole file _ c.args.at c.number_of-count.result gate size (omega arith) (omega (arith, c.requires.size h0, c.from.ensures)) (body ∙ read)

@@ -1,0 +1,49 @@
+ghost use Rattle.std.specs.Prelude.{◌≡◌, ◌+◌, ◌<◌, ◌≤◌, ◌↔◌, List, ℕ, length, IfOk, OnOk, IsErrOf};
+ghost use Rattle.disk_model.specs.Disk.{Leaves, Grew};
+ghost use Rattle.journal.specs.Groups.{Resting, Appended, Stands};
+
+use crate::{Group, JournalFault};
+use disk_model::{Disk, FileId, write_synced};
+
+/// The greatest length of a file, in bytes.
+pub const LIMIT: u64 = 67_108_864;
+
+/// Puts a group behind the groups of a file whose closed gate is at a place, and gives the place of the closed gate
+/// behind the new one.
+///
+/// It makes four calls of the disk: the length, the body and one 00 are written behind the gate; a sync; 01 is written
+/// over the gate; a sync. A crash at any moment leaves the group whole or not at all. It takes no memory. `Full` comes
+/// exactly where the group, with the 00 behind it, would end past the greatest length of a file, before any call of
+/// the disk; `Device` comes only where a call of the disk has failed.
+pub fn append<D: Disk>(
+    disk: &mut D,
+    file: FileId,
+    at: u64,
+    group: &Group,
+) -> Result<u64, JournalFault>
+    requires { D.honest disk.old → Resting D.moment D.left D.seen disk.old file at }
+    ensures honest { D.honest disk.old ↔ D.honest disk.new }
+
+    // At `Ok` it stands: the file is synced and has the new group, and so has it whatever a crash leaves.
+    ensures ok { D.honest disk.old → IfOk result (λ next. Stands D.moment D.left D.seen disk.old disk.new file at group.now next) }
+
+    // A crash at any moment leaves the groups from before, with the new one, whole, or without it, and the other file.
+    ensures any_moment { D.honest disk.old → Leaves D.moment D.left disk.old disk.new (Appended file at group.now) }
+
+    ensures failures { D.failed disk.old ≤ D.failed disk.new }
+    ensures no_failure { OnOk result (D.failed disk.new ≡ D.failed disk.old) }
+    ensures device { IsErrOf result JournalFault.Device → Grew (D.failed disk.old) (D.failed disk.new) }
+    ensures full { IsErrOf result JournalFault.Full ↔ 67108864 < at + length group.now + 6 }
+    ensures full_stays { IsErrOf result JournalFault.Full → disk.new ≡ disk.old }
+    ensures damaged { IsErrOf result JournalFault.Damaged → ⊥ }
+    ensures memory { IsErrOf result JournalFault.NoMemory → ⊥ }
+{
+    let bytes = group.as_bytes();
+    let count = bytes.len() as u64;
+    if at >= LIMIT || count >= LIMIT - at {
+        return Err(JournalFault::Full);
+    }
+    write_synced(disk, file, at + 1, bytes)?;
+    write_synced(disk, file, at, &[1])?;
+    Ok(at + count)
+}

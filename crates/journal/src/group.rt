@@ -1,0 +1,140 @@
+ghost use Rattle.std.specs.Prelude.{◌≡◌, ◌+◌, ◌-◌, ◌<◌, ◌≤◌, ◌^◌, List, ℕ, [], ◌∷◌, ◌++◌, length, take, drop, IfOk, OnOk, OnErr, nat_eq};
+ghost use Rattle.byteorder.specs.Endian.{big_bytes};
+ghost use Rattle.disk_model.specs.Disk.{put};
+ghost use Rattle.journal.specs.Groups.{body_of, framed, IsFramed};
+
+use byteorder::{BigEndian, ByteOrder};
+use std::alloc::{AllocError, Global};
+use std::marker::Model;
+
+/// A growing body of entries, in one buffer with its length before it and the byte 00 behind it.
+///
+/// Contracts see it as its body.
+#[derive(Drop)]
+pub struct Group {
+    bytes: Vec<u8>,
+}
+
+impl Model for Group {
+    ghost use Rattle.std.specs.Prelude.{List, ℕ};
+    ghost use Rattle.journal.specs.Groups.{body_of, IsFramed};
+
+    ghost Value = { List ℕ };
+
+    ghost view = { λ g. body_of g.bytes.items };
+
+    ghost invariant = { λ g. IsFramed g.bytes.items };
+}
+
+impl Group {
+    /// A group with no entry.
+    pub fn new(alloc: Global) -> Result<Group, AllocError>
+        ensures { IfOk result (λ group. group ≡ []) }
+    {
+        let bytes = Vec::from_slice(alloc, &[0; 5])?;
+        Ok(Group { bytes })
+    }
+
+    /// The bytes that follow the gate in a file: the length of the body (4 bytes, big-endian), the body, and 00.
+    pub fn as_bytes(&self) -> &[u8]
+        ensures bytes { result.now ≡ framed self.now }
+        ensures fits { length self.now < 2 ^ 32 }
+    {
+        &self.bytes
+    }
+
+    /// The length of the body.
+    pub fn len(&self) -> usize
+        ensures { result ≡ length self.now }
+    {
+        self.bytes.len() - 5
+    }
+
+    pub fn is_empty(&self) -> bool
+        ensures { result ≡ nat_eq (length self.now) 0 }
+    {
+        self.bytes.len() == 5
+    }
+
+    /// Puts the bytes of an entry behind the body. Where memory is refused, nothing has changed.
+    pub fn extend(&mut self, entry: &[u8]) -> Result<(), AllocError>
+        requires { length self.old + length entry.now < 2 ^ 32 }
+        ensures ok { OnOk result (self.new ≡ self.old ++ entry.now) }
+        ensures err { OnErr result (self.new ≡ self.old) }
+    {
+        grow(&mut self.bytes, entry)
+    }
+
+    /// Keeps the first bytes of the body.
+    pub fn truncate(&mut self, len: usize)
+        requires { len ≤ length self.old }
+        ensures { self.new ≡ take len self.old }
+    {
+        self.bytes.truncate(len + 5);
+        seal(&mut self.bytes);
+    }
+
+    /// Takes all entries out.
+    pub fn clear(&mut self)
+        ensures { self.new ≡ [] }
+    {
+        self.truncate(0);
+    }
+}
+
+// Puts bytes between the body and the 00 behind it.
+fn grow(bytes: &mut Vec<u8>, entry: &[u8]) -> Result<(), AllocError>
+    requires framed { 5 ≤ length bytes.old.items }
+    requires fits { length bytes.old.items + length entry.now < 2 ^ 32 + 5 }
+    ensures ok { OnOk result (bytes.new.items ≡ framed (body_of bytes.old.items ++ entry.now)) }
+    ensures err { OnErr result (bytes.new.items ≡ bytes.old.items) }
+{
+    let end = bytes.len() - 1;
+    bytes.extend_from_slice(entry)?;
+    settle(bytes, end, entry);
+    Ok(())
+}
+
+fn settle(bytes: &mut [u8], end: usize, entry: &[u8])
+    requires end { end + 1 + length entry.now ≡ length bytes.old }
+    requires framed { 4 ≤ end }
+    requires fits { length bytes.old < 2 ^ 32 + 5 }
+    ensures { bytes.new ≡ framed (body_of (put end entry.now bytes.old)) }
+{
+    overwrite(bytes, end, entry);
+    seal(bytes);
+}
+
+fn overwrite(bytes: &mut [u8], at: usize, entry: &[u8])
+    requires { at + length entry.now ≤ length bytes.old }
+    ensures { bytes.new ≡ put at entry.now bytes.old }
+{
+    bytes[at..at + entry.len()].copy_from_slice(entry);
+}
+
+// Writes the length before the body, and the 00 behind it.
+#[tactic(auto, using(crate::proofs::Framing::sealed))]
+fn seal(bytes: &mut [u8])
+    requires framed { 5 ≤ length bytes.old }
+    requires fits { length bytes.old < 2 ^ 32 + 5 }
+    ensures { bytes.new ≡ framed (body_of bytes.old) }
+{
+    close(bytes);
+    write_size(bytes, (bytes.len() - 5) as u32);
+}
+
+fn close(bytes: &mut [u8])
+    requires { 1 ≤ length bytes.old }
+    ensures { bytes.new ≡ take (length bytes.old - 1) bytes.old ++ 0 ∷ [] }
+{
+    let last = bytes.len() - 1;
+    bytes[last] = 0;
+}
+
+fn write_size(bytes: &mut [u8], count: u32)
+    requires { 4 ≤ length bytes.old }
+    ensures { bytes.new ≡ big_bytes 4 count ++ drop 4 bytes.old }
+{
+    let (front, _) = bytes.split_at_mut(4);
+    BigEndian::write_u32(front, count);
+}

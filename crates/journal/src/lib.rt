@@ -1,0 +1,24 @@
+//! Groups of entries in a file, each whole on the disk before it counts.
+//!
+//! A file has groups one behind the other. A group is its gate (one byte, open at 01 and closed at any other value),
+//! the length of its body (4 bytes, big-endian) and its body; behind the last open group stands a closed gate. A group
+//! is written behind the closed gate and synced before its gate is opened, so that a crash leaves it whole or not at
+//! all.
+//!
+//! - `group`: the buffer in which a group's body grows.
+//! - `appending`: a group is put behind the others.
+//! - `reading`: the bodies of the leading open groups.
+//! - `fault`: why a call is refused.
+#![tactic(auto)]
+
+mod appending;
+mod fault;
+mod group;
+mod reading;
+#[cfg(test)]
+mod tests;
+
+pub use appending::{LIMIT, append};
+pub use fault::JournalFault;
+pub use group::Group;
+pub use reading::groups;
