@@ -1,0 +1,14 @@
+pub mod Seen
+pub mod Loop
+pub mod Sound
+pub mod Elements
+pub mod Verdicts
+pub mod Heads
+pub mod Matches
+pub mod Rules
+pub mod Lists
+pub mod Chains
+pub mod Sets
+pub mod Tables
+pub mod Cut
+pub mod Pieces

@@ -1,0 +1,17 @@
+use Rattle.std.proofs.Common.{[], ◌∷◌, ap, ◌∙◌, refl}
+use Rattle.rulesyntax.specs.declared.token.Token.TheVariants.{Symbol, Wrong}
+use Rattle.rulesyntax.specs.declared.token.Symbol.TheVariants.{Differs}
+use Rattle.rulesyntax.specs.declared.lex.Shape.TheVariants as shape
+use Rattle.rulesyntax.specs.Tokens.{Text, token, kind_by}
+use Rattle.rulesyntax.proofs.Pieces.{both_begin, one_begins}
+use Rattle.rulesyntax.proofs.lex.bang.Goals as goal
+
+pub returns-in-Some : goal.returns-in-Some
+unfolding kind_by
+returns-in-Some c =
+    let b = c.requires.0 in
+    (b ∷ 61 ∷ [], both_begin shape.Bang (token Wrong) 61 (token (Symbol Differs)) (λ b bs. refl) c.args.text.now b c.in-Some.rest.now (c.requires.1 ∙ ap (λ (u : Text). b ∷ u) c.in-Some.ensures.some) c.requires.2 refl)
+
+pub returns-in-None : goal.returns-in-None
+unfolding kind_by
+returns-in-None c = (c.requires.0 ∷ [], one_begins shape.Bang (token Wrong) 61 (token (Symbol Differs)) (λ b bs. refl) c.args.text.now c.requires.0 c.args.behind.now c.requires.1 c.requires.2 c.in-None.ensures.none)

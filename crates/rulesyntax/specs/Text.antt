@@ -1,0 +1,39 @@
+-- What a text spells.
+use Rattle.std.specs.Prelude.{◌≡◌, ℕ, List, Result, Ok, Err}
+use Rattle.rulesyntax.specs.declared.token.Token.{Token}
+use Rattle.rulesyntax.specs.declared.tree.Spelled.{Spelled}
+use Rattle.rulesyntax.specs.declared.fault.Kind.{Kind}
+use Rattle.rulesyntax.specs.declared.fault.Kind.TheVariants.{TooLong, Syntax, Unsupported, Family, NoMemory}
+use Rattle.rulesyntax.specs.declared.fault.LoadFault.{LoadFault}
+use Rattle.rulesyntax.specs.declared.error.ReadError.{ReadError}
+use Rattle.rulesyntax.specs.declared.error.ReadError.TheVariants as errors
+use Rattle.rulesyntax.specs.Tokens.{AreTokens}
+use Rattle.rulesyntax.specs.Grammar.{Spells}
+
+-- the tokens of the text spell the ruleset
+abbrev pub IsSpelledBy : Spelled → List ℕ → Type 0
+IsSpelledBy rules text = (tokens : List Token) × AreTokens tokens text × Spells rules tokens
+
+abbrev pub IsOkOrNoMemory : Spelled → Result Spelled LoadFault → Type 0
+IsOkOrNoMemory rules (Ok found) = found ≡ rules
+IsOkOrNoMemory rules (Err fault) = fault.kind ≡ NoMemory
+
+-- no ruleset is spelled
+abbrev pub IsUnspelled : Kind → Type 0
+IsUnspelled Syntax = Unit {0}
+IsUnspelled Unsupported = Unit {0}
+IsUnspelled Family = Unit {0}
+IsUnspelled _ = ⊥
+
+abbrev pub IsUnread : Kind → Type 0
+IsUnread NoMemory = Unit {0}
+IsUnread kind = IsUnspelled kind
+
+abbrev pub IsOfSyntax : Kind → Type 0
+IsOfSyntax TooLong = Unit {0}
+IsOfSyntax kind = IsUnread kind
+
+-- the fault that tells of the error
+abbrev pub IsFault : LoadFault → ReadError → Type 0
+IsFault fault errors.Memory = fault.kind ≡ NoMemory
+IsFault fault (errors.Syntax spot) = IsUnspelled fault.kind

@@ -1,0 +1,198 @@
+-- The words that have a meaning.
+use Rattle.std.specs.Prelude.{ℕ, ℤ, pos, neg_ℤ, Bool, ◌||◌, codes, List, [], ◌∷◌, Option, Some, None, if◌then◌else◌}
+use Rattle.std.specs.Str.{bytes_eq}
+use Rattle.rulesyntax.specs.declared.keyword.Flag.{Flag}
+use Rattle.rulesyntax.specs.declared.keyword.Flag.TheVariants as flag
+use Rattle.rulesyntax.specs.declared.keyword.VerdictWord.{VerdictWord}
+use Rattle.rulesyntax.specs.declared.keyword.VerdictWord.TheVariants as verdict_word
+use Rattle.rulesyntax.specs.declared.keyword.NatWord.{NatWord}
+use Rattle.rulesyntax.specs.declared.keyword.NatWord.TheVariants as nat_word
+use Rattle.rulesyntax.specs.declared.keyword.HeadWord.{HeadWord}
+use Rattle.rulesyntax.specs.declared.keyword.HeadWord.TheVariants as head_word
+use Rattle.rulesyntax.specs.declared.keyword.MetaWord.{MetaWord}
+use Rattle.rulesyntax.specs.declared.keyword.MetaWord.TheVariants as meta_word
+use Rattle.rulesyntax.specs.declared.keyword.IpWord.{IpWord}
+use Rattle.rulesyntax.specs.declared.keyword.IpWord.TheVariants as ip_word
+use Rattle.rulesyntax.specs.declared.keyword.PortWord.{PortWord}
+use Rattle.rulesyntax.specs.declared.keyword.PortWord.TheVariants as port_word
+use Rattle.rulesyntax.specs.declared.tree.Family.{Family}
+use Rattle.rulesyntax.specs.declared.tree.Family.TheVariants as family
+use Rattle.rulesyntax.specs.declared.tree.ChainType.{ChainType}
+use Rattle.rulesyntax.specs.declared.tree.ChainType.TheVariants as chain_type
+use Rattle.rulesyntax.specs.declared.tree.Hook.{Hook}
+use Rattle.rulesyntax.specs.declared.tree.Hook.TheVariants as hook
+use Rattle.rulesyntax.specs.declared.tree.Policy.{Policy}
+use Rattle.rulesyntax.specs.declared.tree.Policy.TheVariants as policy
+use Rattle.rulesyntax.specs.declared.keyword.PriorityName.{PriorityName}
+use Rattle.rulesyntax.specs.declared.keyword.PriorityName.TheVariants as priority
+use Rattle.rulesyntax.specs.declared.keyword.StatementWord.{StatementWord}
+use Rattle.rulesyntax.specs.declared.keyword.StatementWord.TheVariants as statement_word
+use Rattle.rulesyntax.specs.declared.keyword.ItemWord.{ItemWord}
+use Rattle.rulesyntax.specs.declared.keyword.ItemWord.TheVariants as item_word
+use Rattle.rulesyntax.specs.declared.keyword.LineWord.{LineWord}
+use Rattle.rulesyntax.specs.declared.keyword.LineWord.TheVariants as line_word
+use Rattle.rulesyntax.specs.declared.keyword.MemberWord.{MemberWord}
+use Rattle.rulesyntax.specs.declared.keyword.MemberWord.TheVariants as member_word
+use Rattle.rulesyntax.specs.declared.tree.Transport.{Transport}
+use Rattle.rulesyntax.specs.declared.tree.Transport.TheVariants as transport
+
+-- what a word means
+abbrev pub lookup : {K : Type 0} → List (List ℕ × K) → List ℕ → Option K
+lookup [] w = None
+lookup (e ∷ more) w = if bytes_eq w e.0 then Some e.1 else lookup more w
+
+abbrev pub flag_words : List (List ℕ × Flag)
+flag_words = (codes "interval", flag.Interval) ∷ (codes "constant", flag.Constant) ∷ []
+
+abbrev pub verdict_words : List (List ℕ × VerdictWord)
+verdict_words = (codes "accept", verdict_word.Accept) ∷ (codes "drop", verdict_word.Drop) ∷ (codes "return", verdict_word.Return) ∷ (codes "continue", verdict_word.Continue) ∷ (codes "jump", verdict_word.Jump) ∷ (codes "goto", verdict_word.Goto) ∷ []
+
+abbrev pub nat_words : List (List ℕ × NatWord)
+nat_words = (codes "dnat", nat_word.Dnat) ∷ (codes "snat", nat_word.Snat) ∷ (codes "masquerade", nat_word.Masquerade) ∷ []
+
+abbrev pub head_words : List (List ℕ × HeadWord)
+head_words = (codes "meta", head_word.Meta) ∷ (codes "ip", head_word.Ip) ∷ (codes "tcp", head_word.Tcp) ∷ (codes "udp", head_word.Udp) ∷ (codes "ct", head_word.Ct) ∷ (codes "iifname", head_word.Iifname) ∷ (codes "iif", head_word.Iif) ∷ (codes "oifname", head_word.Oifname) ∷ (codes "oif", head_word.Oif) ∷ []
+
+abbrev pub meta_words : List (List ℕ × MetaWord)
+meta_words = (codes "iifname", meta_word.Iifname) ∷ (codes "iif", meta_word.Iif) ∷ (codes "oifname", meta_word.Oifname) ∷ (codes "oif", meta_word.Oif) ∷ (codes "l4proto", meta_word.L4proto) ∷ []
+
+abbrev pub ip_words : List (List ℕ × IpWord)
+ip_words = (codes "saddr", ip_word.Saddr) ∷ (codes "daddr", ip_word.Daddr) ∷ (codes "protocol", ip_word.Protocol) ∷ []
+
+abbrev pub port_words : List (List ℕ × PortWord)
+port_words = (codes "sport", port_word.Sport) ∷ (codes "dport", port_word.Dport) ∷ []
+
+abbrev pub family_words : List (List ℕ × Family)
+family_words = (codes "ip", family.Ip) ∷ (codes "inet", family.Inet) ∷ []
+
+abbrev pub type_words : List (List ℕ × ChainType)
+type_words = (codes "filter", chain_type.Filter) ∷ (codes "nat", chain_type.Nat) ∷ []
+
+abbrev pub hook_words : List (List ℕ × Hook)
+hook_words = (codes "prerouting", hook.Prerouting) ∷ (codes "input", hook.Input) ∷ (codes "forward", hook.Forward) ∷ (codes "output", hook.Output) ∷ (codes "postrouting", hook.Postrouting) ∷ []
+
+abbrev pub policy_words : List (List ℕ × Policy)
+policy_words = (codes "accept", policy.Accept) ∷ (codes "drop", policy.Drop) ∷ []
+
+abbrev pub priority_words : List (List ℕ × PriorityName)
+priority_words = (codes "raw", priority.Raw) ∷ (codes "mangle", priority.Mangle) ∷ (codes "dstnat", priority.Dstnat) ∷ (codes "filter", priority.Filter) ∷ (codes "security", priority.Security) ∷ (codes "srcnat", priority.Srcnat) ∷ []
+
+abbrev pub statement_words : List (List ℕ × StatementWord)
+statement_words = (codes "flush", statement_word.Flush) ∷ (codes "table", statement_word.Table) ∷ []
+
+abbrev pub item_words : List (List ℕ × ItemWord)
+item_words = (codes "comment", item_word.Comment) ∷ (codes "set", item_word.Set) ∷ (codes "chain", item_word.Chain) ∷ []
+
+abbrev pub line_words : List (List ℕ × LineWord)
+line_words = (codes "type", line_word.Type) ∷ (codes "flags", line_word.Flags) ∷ (codes "auto-merge", line_word.AutoMerge) ∷ (codes "elements", line_word.Elements) ∷ (codes "comment", line_word.Comment) ∷ []
+
+abbrev pub member_words : List (List ℕ × MemberWord)
+member_words = (codes "comment", member_word.Comment) ∷ (codes "type", member_word.Type) ∷ []
+
+abbrev pub flag_name : Flag → List ℕ
+flag_name flag.Interval = codes "interval"
+flag_name flag.Constant = codes "constant"
+
+abbrev pub verdict_name : VerdictWord → List ℕ
+verdict_name verdict_word.Accept = codes "accept"
+verdict_name verdict_word.Drop = codes "drop"
+verdict_name verdict_word.Return = codes "return"
+verdict_name verdict_word.Continue = codes "continue"
+verdict_name verdict_word.Jump = codes "jump"
+verdict_name verdict_word.Goto = codes "goto"
+
+abbrev pub nat_name : NatWord → List ℕ
+nat_name nat_word.Dnat = codes "dnat"
+nat_name nat_word.Snat = codes "snat"
+nat_name nat_word.Masquerade = codes "masquerade"
+
+abbrev pub head_name : HeadWord → List ℕ
+head_name head_word.Meta = codes "meta"
+head_name head_word.Ip = codes "ip"
+head_name head_word.Tcp = codes "tcp"
+head_name head_word.Udp = codes "udp"
+head_name head_word.Ct = codes "ct"
+head_name head_word.Iifname = codes "iifname"
+head_name head_word.Iif = codes "iif"
+head_name head_word.Oifname = codes "oifname"
+head_name head_word.Oif = codes "oif"
+
+abbrev pub meta_name : MetaWord → List ℕ
+meta_name meta_word.Iifname = codes "iifname"
+meta_name meta_word.Iif = codes "iif"
+meta_name meta_word.Oifname = codes "oifname"
+meta_name meta_word.Oif = codes "oif"
+meta_name meta_word.L4proto = codes "l4proto"
+
+abbrev pub ip_name : IpWord → List ℕ
+ip_name ip_word.Saddr = codes "saddr"
+ip_name ip_word.Daddr = codes "daddr"
+ip_name ip_word.Protocol = codes "protocol"
+
+abbrev pub port_name : PortWord → List ℕ
+port_name port_word.Sport = codes "sport"
+port_name port_word.Dport = codes "dport"
+
+abbrev pub family_name : Family → List ℕ
+family_name family.Ip = codes "ip"
+family_name family.Inet = codes "inet"
+
+abbrev pub type_name : ChainType → List ℕ
+type_name chain_type.Filter = codes "filter"
+type_name chain_type.Nat = codes "nat"
+
+abbrev pub hook_name : Hook → List ℕ
+hook_name hook.Prerouting = codes "prerouting"
+hook_name hook.Input = codes "input"
+hook_name hook.Forward = codes "forward"
+hook_name hook.Output = codes "output"
+hook_name hook.Postrouting = codes "postrouting"
+
+abbrev pub policy_name : Policy → List ℕ
+policy_name policy.Accept = codes "accept"
+policy_name policy.Drop = codes "drop"
+
+abbrev pub priority_name : PriorityName → List ℕ
+priority_name priority.Raw = codes "raw"
+priority_name priority.Mangle = codes "mangle"
+priority_name priority.Dstnat = codes "dstnat"
+priority_name priority.Filter = codes "filter"
+priority_name priority.Security = codes "security"
+priority_name priority.Srcnat = codes "srcnat"
+
+abbrev pub statement_name : StatementWord → List ℕ
+statement_name statement_word.Flush = codes "flush"
+statement_name statement_word.Table = codes "table"
+
+abbrev pub item_name : ItemWord → List ℕ
+item_name item_word.Comment = codes "comment"
+item_name item_word.Set = codes "set"
+item_name item_word.Chain = codes "chain"
+
+abbrev pub line_name : LineWord → List ℕ
+line_name line_word.Type = codes "type"
+line_name line_word.Flags = codes "flags"
+line_name line_word.AutoMerge = codes "auto-merge"
+line_name line_word.Elements = codes "elements"
+line_name line_word.Comment = codes "comment"
+
+abbrev pub member_name : MemberWord → List ℕ
+member_name member_word.Comment = codes "comment"
+member_name member_word.Type = codes "type"
+
+abbrev pub transport_name : Transport → List ℕ
+transport_name transport.Tcp = codes "tcp"
+transport_name transport.Udp = codes "udp"
+
+-- what a name of a priority means
+abbrev pub priority_value : PriorityName → ℤ
+priority_value priority.Raw = neg_ℤ (pos 300)
+priority_value priority.Mangle = neg_ℤ (pos 150)
+priority_value priority.Dstnat = neg_ℤ (pos 100)
+priority_value priority.Filter = pos 0
+priority_value priority.Security = pos 50
+priority_value priority.Srcnat = pos 100
+
+-- no table has such a name
+abbrev pub is_reserved : List ℕ → Bool
+is_reserved n = bytes_eq n (codes "ip") || bytes_eq n (codes "inet") || bytes_eq n (codes "ip6") || bytes_eq n (codes "arp") || bytes_eq n (codes "bridge") || bytes_eq n (codes "netdev")

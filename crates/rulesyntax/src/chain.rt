@@ -1,0 +1,262 @@
+//! Chains.
+
+ghost use Rattle.std.specs.Prelude.{◌≡◌, ◌+ℤ◌, ◌≤◌, ◌≤ℤ◌, ℤ, pos, neg_ℤ, false, IfOk, IfErr, codes};
+ghost use Rattle.rulesyntax.specs.Words.{priority_value};
+ghost use Rattle.rulesyntax.specs.Reading.{Gives, amount_at, less_behind, more_behind, named_priority, priority_at, base_behind, with_policy, rule_step, policy_behind, member_behind, chain_step, no_members, chain_behind};
+
+use crate::error::ReadError;
+use crate::keyword::{MemberWord, PriorityName};
+use crate::line::Line;
+use crate::list::{Body, block};
+use crate::next::{choice, eat, eat_symbol, keyword, name, number, quoted, stop, word};
+use crate::rule::rule;
+use crate::source::Source;
+use crate::token::{Symbol, Token};
+use crate::tree::{Base, Chain, ChainType, Hook, Policy, Rule};
+use sqlite_items::Items;
+
+const GREATEST: u64 = 1_000_000_000;
+
+#[tactic(auto, unfolding(crate::specs::Reading::amount_at))]
+fn amount(tokens: &[Token]) -> Result<(u64, &[Token]), ReadError>
+    ensures value { Gives false result (amount_at tokens.now) }
+    ensures small { IfOk result (λ x. x.0 ≤ 1000000000) }
+{
+    let (amount, rest) = number(false, tokens)?;
+    if amount <= GREATEST {
+        Ok((amount, rest))
+    } else {
+        Err(stop(false, tokens))
+    }
+}
+
+#[tactic(auto, unfolding(crate::specs::Reading::less_behind))]
+fn less(value: i64, tokens: &[Token]) -> Result<(i64, &[Token]), ReadError>
+    requires low { neg_ℤ (pos 1000) ≤ℤ value }
+    requires high { value ≤ℤ pos 1000 }
+    ensures { Gives false result (less_behind value tokens.now) }
+{
+    let (amount, rest) = amount(tokens)?;
+    Ok((value - amount as i64, rest))
+}
+
+#[tactic(auto, unfolding(crate::specs::Reading::more_behind))]
+fn more(value: i64, tokens: &[Token]) -> Result<(i64, &[Token]), ReadError>
+    requires low { neg_ℤ (pos 1000) ≤ℤ value }
+    requires high { value ≤ℤ pos 1000 }
+    ensures { Gives false result (more_behind value tokens.now) }
+{
+    let (amount, rest) = amount(tokens)?;
+    Ok((value + amount as i64, rest))
+}
+
+#[tactic(auto, unfolding(crate::specs::Reading::named_priority))]
+fn named(value: i64, tokens: &[Token]) -> Result<(i64, &[Token]), ReadError>
+    requires low { neg_ℤ (pos 1000) ≤ℤ value }
+    requires high { value ≤ℤ pos 1000 }
+    ensures { Gives false result (named_priority value tokens.now) }
+{
+    if let Some(rest) = eat_symbol(false, tokens, Symbol::Minus) {
+        return less(value, rest);
+    }
+    if let Some(rest) = eat_symbol(false, tokens, Symbol::Plus) {
+        return more(value, rest);
+    }
+    Ok((value, tokens))
+}
+
+fn value_of(name: PriorityName) -> i64
+    ensures value { result ≡ priority_value name }
+    ensures low { neg_ℤ (pos 1000) ≤ℤ result }
+    ensures high { result ≤ℤ pos 1000 }
+{
+    match name {
+        PriorityName::Raw => -300,
+        PriorityName::Mangle => -150,
+        PriorityName::Dstnat => -100,
+        PriorityName::Filter => 0,
+        PriorityName::Security => 50,
+        PriorityName::Srcnat => 100,
+    }
+}
+
+#[tactic(auto, unfolding(crate::specs::Reading::priority_at))]
+fn priority(tokens: &[Token]) -> Result<(i64, &[Token]), ReadError>
+    ensures { Gives false result (priority_at tokens.now) }
+{
+    if let Some(rest) = eat_symbol(false, tokens, Symbol::Minus) {
+        return less(0, rest);
+    }
+    if let Some((name, rest)) = choice::<PriorityName>(false, tokens) {
+        return named(value_of(name), rest);
+    }
+    more(0, tokens)
+}
+
+/// What stands behind `type`, without the policy.
+#[tactic(auto, unfolding(crate::specs::Reading::base_behind))]
+fn base(line: Line, tokens: &[Token]) -> Result<(Base, &[Token]), ReadError>
+    ensures { Gives false result (base_behind tokens.now) }
+{
+    let (kind, rest) = keyword::<ChainType>(false, tokens)?;
+    let rest = word(rest, b"hook")?;
+    let (hook, rest) = keyword::<Hook>(false, rest)?;
+    let rest = word(rest, b"priority")?;
+    let (priority, rest) = priority(rest)?;
+    let policy = Policy::Accept;
+    Ok((
+        Base {
+            line,
+            kind,
+            hook,
+            priority,
+            policy,
+        },
+        rest,
+    ))
+}
+
+fn with_policy(base: Option<Base>, policy: Policy) -> Option<Base>
+    ensures { result ≡ with_policy base policy }
+{
+    match base {
+        Some(base) => Some(Base { policy, ..base }),
+        None => None,
+    }
+}
+
+/// What may come next in a chain besides a rule.
+#[derive(Clone, Copy, Debug, PartialEq, Eq, Drop)]
+pub enum Stage {
+    /// Comments and a base.
+    Start,
+    Policy,
+    /// Nothing.
+    Rules,
+}
+
+/// What stands in a chain so far.
+#[derive(Debug, Drop)]
+pub struct ChainBody {
+    stage: Stage,
+    base: Option<Base>,
+    rules: Items<Rule>,
+}
+
+#[tactic(auto, unfolding(crate::specs::Reading::rule_step))]
+fn rule_step<'a>(
+    body: ChainBody,
+    source: &Source,
+    tokens: &'a [Token],
+) -> Result<((ChainBody, bool), &'a [Token]), ReadError>
+    ensures { Gives false result (rule_step body tokens.now) }
+{
+    let (rule, rest) = rule(source, tokens)?;
+    let ChainBody {
+        base,
+        mut rules,
+        ..
+    } = body;
+    rules.push(rule)?;
+    let stage = Stage::Rules;
+    Ok(((ChainBody { stage, base, rules }, false), rest))
+}
+
+#[tactic(auto, unfolding(crate::specs::Reading::policy_behind))]
+fn policy_step(
+    body: ChainBody,
+    tokens: &[Token],
+) -> Result<((ChainBody, bool), &[Token]), ReadError>
+    ensures { Gives false result (policy_behind body tokens.now) }
+{
+    let (policy, rest) = keyword::<Policy>(false, tokens)?;
+    let ChainBody { base, rules, .. } = body;
+    let base = with_policy(base, policy);
+    let stage = Stage::Rules;
+    Ok(((ChainBody { stage, base, rules }, false), rest))
+}
+
+#[tactic(auto, unfolding(crate::specs::Reading::member_behind))]
+fn member(
+    body: ChainBody,
+    word: MemberWord,
+    line: Line,
+    tokens: &[Token],
+) -> Result<((ChainBody, bool), &[Token]), ReadError>
+    ensures { Gives false result (member_behind body word tokens.now) }
+{
+    match word {
+        MemberWord::Comment => {
+            let rest = quoted(tokens)?;
+            Ok(((body, false), rest))
+        }
+        MemberWord::Type => {
+            let (base, rest) = base(line, tokens)?;
+            let ChainBody { rules, .. } = body;
+            let stage = Stage::Policy;
+            let base = Some(base);
+            Ok(((ChainBody { stage, base, rules }, false), rest))
+        }
+    }
+}
+
+#[tactic(auto, unfolding(crate::specs::Reading::chain_step))]
+fn step<'a>(
+    body: ChainBody,
+    source: &Source,
+    tokens: &'a [Token],
+) -> Result<((ChainBody, bool), &'a [Token]), ReadError>
+    ensures { Gives false result (chain_step body tokens.now) }
+{
+    match body.stage {
+        Stage::Start => match choice::<MemberWord>(false, tokens) {
+            Some((word, rest)) => member(body, word, source.line(tokens), rest),
+            None => rule_step(body, source, tokens),
+        },
+        Stage::Policy => match eat(tokens, b"policy") {
+            Some(rest) => policy_step(body, rest),
+            None => rule_step(body, source, tokens),
+        },
+        Stage::Rules => rule_step(body, source, tokens),
+    }
+}
+
+impl Body for ChainBody {
+    ghost steps = { chain_step };
+
+    fn step<'a>(
+        self,
+        source: &Source,
+        tokens: &'a [Token],
+    ) -> Result<((ChainBody, bool), &'a [Token]), ReadError> {
+        step(self, source, tokens)
+    }
+}
+
+/// What stands behind `chain`.
+#[tactic(auto, unfolding(crate::specs::Reading::chain_behind))]
+pub fn chain<'a>(
+    source: &Source,
+    line: Line,
+    tokens: &'a [Token],
+) -> Result<(Chain, &'a [Token]), ReadError>
+    ensures { Gives false result (chain_behind tokens.now) }
+{
+    let (name, rest) = name(source, false, tokens)?;
+    let start = ChainBody {
+        stage: Stage::Start,
+        base: None,
+        rules: Items::new(source.alloc),
+    };
+    let (body, rest) = block(source, start, rest)?;
+    let ChainBody { base, rules, .. } = body;
+    Ok((
+        Chain {
+            line,
+            name,
+            base,
+            rules,
+        },
+        rest,
+    ))
+}

@@ -1,0 +1,48 @@
+ghost use Rattle.std.specs.Prelude.{◌≡◌};
+ghost use Rattle.rulesyntax.specs.Reading.{IsSyntax};
+ghost use Rattle.rulesyntax.specs.declared.error.ReadError.TheVariants.{Memory};
+
+use crate::token::Token;
+use std::alloc::{AllocError, AllocFailed};
+
+/// The first token that can't stand where it does.
+#[derive(Clone, Copy, Debug, Drop)]
+pub struct Spot {
+    /// How many tokens there are from it on.
+    pub left: usize,
+    /// It is another family than `ip` and `inet`, behind `table`.
+    pub is_family: bool,
+}
+
+#[derive(Clone, Copy, Debug, Drop)]
+pub enum ReadError {
+    Memory,
+    Syntax(Spot),
+}
+
+impl ReadError {
+    pub fn at(tokens: &[Token]) -> ReadError
+        ensures { IsSyntax result }
+    {
+        ReadError::Syntax(Spot {
+            left: tokens.len(),
+            is_family: false,
+        })
+    }
+}
+
+impl From<AllocError> for ReadError {
+    ghost from_gives = { λ _ e. e ≡ Memory };
+
+    fn from(_e: AllocError) -> ReadError {
+        ReadError::Memory
+    }
+}
+
+impl<T: Drop> From<AllocFailed<T>> for ReadError {
+    ghost from_gives = { λ _ e. e ≡ Memory };
+
+    fn from(_e: AllocFailed<T>) -> ReadError {
+        ReadError::Memory
+    }
+}

@@ -1,0 +1,29 @@
+//! The syntax of rulesets: the text of a ruleset read as the tree that it spells.
+//!
+//! `parse` answers the tree exactly where the text spells one, and else what is wrong, and in which
+//! line. `tree` is what it answers, `fault` and `line` why it doesn't. Within, `lex` cuts a text into
+//! tokens; `next` and `keyword` read one token, `element` elements and lists with commas, `rule`,
+//! `chain`, `set` and `table` what their names say, and `list` what stands apart by semicolons and
+//! line ends. What tokens are is said in specs/Tokens, what they spell in specs/Grammar.
+#![tactic(auto)]
+
+mod chain;
+mod element;
+mod error;
+pub mod fault;
+mod keyword;
+mod lex;
+pub mod line;
+mod list;
+mod next;
+mod rule;
+pub mod ruleset;
+mod set;
+mod source;
+mod table;
+#[cfg(test)]
+mod tests;
+mod token;
+pub mod tree;
+
+pub use ruleset::{one_ruleset, parse};

@@ -1,0 +1,89 @@
+//! Texts.
+
+ghost use Rattle.std.specs.Prelude.{◌≡◌, ◌↔◌, ◌<◌, ◌≤◌, ℕ, List, length, Err, IfOk, IfErr};
+ghost use Rattle.rulesyntax.specs.Reading.{Answers};
+ghost use Rattle.rulesyntax.specs.Grammar.{Spells};
+ghost use Rattle.rulesyntax.specs.Text.{IsSpelledBy, IsOkOrNoMemory, IsUnspelled, IsUnread, IsOfSyntax, IsFault};
+ghost use Rattle.rulesyntax.specs.declared.token.Token.{Token};
+ghost use Rattle.rulesyntax.specs.declared.tree.Spelled.{Spelled};
+ghost use Rattle.rulesyntax.specs.declared.fault.Kind.TheVariants.{TooLong};
+
+use crate::error::{ReadError, Spot};
+use crate::fault::{Kind, LoadFault};
+use crate::lex::tokens;
+use crate::line::Line;
+use crate::source::Source;
+use crate::table::text;
+use crate::token::Token;
+use crate::tree::Spelled;
+use std::alloc::Global;
+
+/// A text may have as many bytes.
+pub const GREATEST_LENGTH: usize = 262_144;
+
+fn kind_at(tokens: &[Token], spot: Spot) -> Kind
+    ensures { IsUnspelled result }
+{
+    if spot.is_family {
+        return Kind::Family;
+    }
+    match tokens.get(tokens.len().saturating_sub(spot.left)) {
+        Some(Token::Name(_)) => Kind::Unsupported,
+        _ => Kind::Syntax,
+    }
+}
+
+fn fault_at(source: &Source, tokens: &[Token], error: ReadError) -> LoadFault
+    ensures { IsFault result error }
+{
+    match error {
+        ReadError::Memory => LoadFault::no_memory(),
+        ReadError::Syntax(spot) => LoadFault {
+            kind: kind_at(tokens, spot),
+            line: source.line_of(spot.left),
+        },
+    }
+}
+
+/// The ruleset that the tokens spell.
+fn read(source: &Source, tokens: &[Token]) -> Result<Spelled, LoadFault>
+    ensures found { IfOk result (λ rules. Spells rules tokens.now) }
+    ensures only { (rules : Spelled) → Spells rules tokens.now → IsOkOrNoMemory rules result }
+    ensures kinds { IfErr result (λ fault. IsUnread fault.kind) }
+{
+    match text(source, tokens) {
+        Ok(rules) => Ok(rules),
+        Err(error) => Err(fault_at(source, tokens, error)),
+    }
+}
+
+/// The ruleset that a text spells.
+///
+/// The line of a fault is that of the first token that can't stand where it does, or where the text
+/// ends too early the number of its newlines plus one; of `NoMemory` it has no meaning.
+pub fn parse(alloc: Global, text: &[u8]) -> Result<Spelled, LoadFault>
+    // What is answered is spelled.
+    ensures found { IfOk result (λ rules. IsSpelledBy rules text.now) }
+
+    // What is spelled is answered, unless memory runs out.
+    ensures only { (rules : Spelled) → IsSpelledBy rules text.now → length text.now ≤ 262144 → IsOkOrNoMemory rules result }
+    ensures too_long { (result ≡ Err (record { kind = TooLong; line = tt })) ↔ 262144 < length text.now }
+    ensures kinds { IfErr result (λ fault. IsOfSyntax fault.kind) }
+{
+    if text.len() > GREATEST_LENGTH {
+        return Err(LoadFault {
+            kind: Kind::TooLong,
+            line: Line::new(1),
+        });
+    }
+    let mut lines = Vec::new(alloc);
+    let tokens = tokens(alloc, text, &mut lines)?;
+    let source = Source { alloc, lines };
+    read(&source, tokens.as_slice())
+}
+
+/// A text spells one ruleset at most.
+pub fn one_ruleset()
+    ensures tokens { (tokens : List Token) (a b : Spelled) → Spells a tokens → Spells b tokens → a ≡ b }
+    ensures text { (text : List ℕ) (a b : Spelled) → IsSpelledBy a text → IsSpelledBy b text → a ≡ b }
+{}

@@ -1,0 +1,376 @@
+use crate::parse;
+use std::alloc::{AllocError, Global};
+use std::process::Abort;
+use std::test::*;
+
+type Row = (&'static str, &'static str);
+
+fn answer(alloc: Global, text: &[u8]) -> Result<String, AllocError> {
+    match parse(alloc, text) {
+        Ok(_rules) => String::from_str(alloc, "ok"),
+        Err(fault) => format!(in alloc; "{fault}"),
+    }
+}
+
+fn check(rt: &impl Abort, alloc: Global, rows: &[Row]) -> Result<(), Fail> {
+    for (text, expected) in rows {
+        let found = answer(alloc, text.as_bytes())?;
+        assert_eq!(rt; found.as_str(), *expected, "{text}");
+    }
+    Ok(())
+}
+
+const TABLES: [Row; 30] = [
+    ("", "ok"),
+    ("\n;; \t\r\n", "ok"),
+    ("# a comment { \" 007", "ok"),
+    ("flush ruleset", "ok"),
+    ("flush ruleset; flush ruleset\n\ntable t { }", "ok"),
+    ("table t{}", "ok"),
+    ("table t { }\n", "ok"),
+    ("table ip t { } table inet t { }; table u { }", "ok"),
+    ("table _a-b.c/d { }", "ok"),
+    ("table t { comment \"a # b\" }", "ok"),
+    (
+        "table t { comment \"\"; set s { } chain c { } set u { }\n }",
+        "ok",
+    ),
+    ("table \\\nt { }", "ok"),
+    ("table t { } flush ruleset", "line 1: unsupported"),
+    ("flush ruleset table t { }", "line 1: unsupported"),
+    ("flush\nruleset", "line 1: syntax"),
+    ("flush sets", "line 1: unsupported"),
+    ("add table t { }", "line 1: unsupported"),
+    ("table { }", "line 1: syntax"),
+    ("table t", "line 1: syntax"),
+    ("table t {\n\n", "line 3: syntax"),
+    ("table t }", "line 1: syntax"),
+    ("table t { } }", "line 1: syntax"),
+    ("table t { };\n table ip6 u { }", "line 2: family"),
+    ("table arp { }", "line 1: family"),
+    ("table bridge t { }", "line 1: family"),
+    ("table netdev t { }", "line 1: family"),
+    ("table ip { }", "line 1: syntax"),
+    ("table ip inet { }", "line 1: unsupported"),
+    ("table inet ip6 { }", "line 1: unsupported"),
+    ("table t { map m { } }", "line 1: unsupported"),
+];
+
+const SETS: [Row; 24] = [
+    ("table t { set s { type ipv4_addr } }", "ok"),
+    (
+        "table t { set s { type a; type b\nflags interval, constant; auto-merge; comment \"c\" } }",
+        "ok",
+    ),
+    ("table t { set s { elements = { 1 } } }", "ok"),
+    (
+        "table t { set s { elements = { 1, 10.0.0.0/8, a, \"b\", } ; elements = {2} } }",
+        "ok",
+    ),
+    (
+        "table t { set s { elements = {\n1\n-\n5\n,\n10.0.0.1\n-\n10.0.0.9\n,\n10.0.0.0\n/\n32\n\n,\n} } }",
+        "ok",
+    ),
+    ("table t { set { } }", "line 1: syntax"),
+    ("table t { set s }", "line 1: syntax"),
+    ("table t { set s { } set u { } }", "ok"),
+    (
+        "table t { set s { } comment \"c\" set u { } }",
+        "line 1: unsupported",
+    ),
+    ("table t { set s { type } }", "line 1: syntax"),
+    ("table t { set s { type a type b } }", "line 1: unsupported"),
+    ("table t { set s { typeof a } }", "line 1: unsupported"),
+    ("table t { set s { flags } }", "line 1: syntax"),
+    ("table t { set s { flags timeout } }", "line 1: unsupported"),
+    ("table t { set s { flags interval, } }", "line 1: syntax"),
+    (
+        "table t { set s { flags interval constant } }",
+        "line 1: unsupported",
+    ),
+    ("table t { set s { elements { 1 } } }", "line 1: syntax"),
+    ("table t { set s { elements = 1 } }", "line 1: syntax"),
+    ("table t { set s { elements = { } } }", "line 1: syntax"),
+    (
+        "table t { set s { elements = { 1,, 2 } } }",
+        "line 1: syntax",
+    ),
+    (
+        "table t { set s { elements = {\n1\n2 } } }",
+        "line 3: syntax",
+    ),
+    ("table t { set s { elements = { ,1 } } }", "line 1: syntax"),
+    (
+        "table t { set s { elements = { 1; 2 } } }",
+        "line 1: syntax",
+    ),
+    (
+        "table t { set s { elements = { 1 }\n\n comment c } }",
+        "line 3: unsupported",
+    ),
+];
+
+const CHAINS: [Row; 30] = [
+    ("table t { chain c { } }", "ok"),
+    (
+        "table t { chain c { comment \"a\"\ncomment \"b\"; accept } }",
+        "ok",
+    ),
+    (
+        "table t { chain c { type filter hook forward priority 0 } }",
+        "ok",
+    ),
+    (
+        "table t { chain c { type nat hook prerouting priority -1000000000; policy accept; } }",
+        "ok",
+    ),
+    (
+        "table t { chain c { type filter hook input priority raw - 5; policy drop } }",
+        "ok",
+    ),
+    (
+        "table t { chain c { type filter hook output priority mangle+1000000000\npolicy drop\ndrop } }",
+        "ok",
+    ),
+    (
+        "table t { chain c { type nat hook postrouting priority srcnat; masquerade } }",
+        "ok",
+    ),
+    (
+        "table t { chain c { type nat hook prerouting priority dstnat } chain d { type filter hook forward priority security } }",
+        "ok",
+    ),
+    ("table t { chain { } }", "line 1: syntax"),
+    (
+        "table t { chain c { type route hook output priority 0 } }",
+        "line 1: unsupported",
+    ),
+    (
+        "table t { chain c { type filter forward priority 0 } }",
+        "line 1: unsupported",
+    ),
+    (
+        "table t { chain c { type filter hook ingress priority 0 } }",
+        "line 1: unsupported",
+    ),
+    (
+        "table t { chain c { type filter hook input device lo priority 0 } }",
+        "line 1: unsupported",
+    ),
+    (
+        "table t { chain c { type filter hook input } }",
+        "line 1: syntax",
+    ),
+    (
+        "table t { chain c { type filter hook input priority } }",
+        "line 1: syntax",
+    ),
+    (
+        "table t { chain c { type filter hook input priority 1000000001 } }",
+        "line 1: syntax",
+    ),
+    (
+        "table t { chain c { type filter hook input priority out } }",
+        "line 1: unsupported",
+    ),
+    (
+        "table t { chain c { type filter hook input priority - filter } }",
+        "line 1: unsupported",
+    ),
+    (
+        "table t { chain c { type filter hook input priority filter 5 } }",
+        "line 1: syntax",
+    ),
+    (
+        "table t { chain c { type filter hook input priority filter-5 } }",
+        "line 1: unsupported",
+    ),
+    (
+        "table t { chain c { type filter hook input priority +5 } }",
+        "line 1: syntax",
+    ),
+    (
+        "table t { chain c { type filter hook input priority 0 policy drop } }",
+        "line 1: unsupported",
+    ),
+    ("table t { chain c { policy drop } }", "line 1: unsupported"),
+    (
+        "table t { chain c { type filter hook input priority 0; policy reject } }",
+        "line 1: unsupported",
+    ),
+    (
+        "table t { chain c { type filter hook input priority 0; policy drop; policy drop } }",
+        "line 1: unsupported",
+    ),
+    (
+        "table t { chain c { type filter hook input priority 0; accept; policy drop } }",
+        "line 1: unsupported",
+    ),
+    (
+        "table t { chain c { accept; type filter hook input priority 0 } }",
+        "line 1: unsupported",
+    ),
+    (
+        "table t { chain c { type filter hook input priority 0; comment \"late\" } }",
+        "line 1: unsupported",
+    ),
+    (
+        "table t { chain c { drop;\naccept drop } }",
+        "line 2: unsupported",
+    ),
+    ("table t {\nchain c {\ndrop }\n}\n}", "line 5: syntax"),
+];
+
+const RULES: [Row; 44] = [
+    ("accept", "ok"),
+    ("drop comment \"why\"", "ok"),
+    ("return\n\n; continue", "ok"),
+    ("jump d; goto e", "ok"),
+    ("counter", "ok"),
+    ("counter packets 0 bytes 18446744073709551615 drop", "ok"),
+    (
+        "iifname lan oifname \"wan\" iif lan oif wan meta iifname lan meta oifname lan meta iif lan meta oif lan accept",
+        "ok",
+    ),
+    (
+        "ip saddr 10.0.0.1 ip daddr 10.0.0.0/8 ip protocol tcp meta l4proto 6",
+        "ok",
+    ),
+    (
+        "tcp sport 1 tcp dport 1-2 udp sport { 3, 4 } udp dport @ports counter drop",
+        "ok",
+    ),
+    (
+        "ct state new counter ct state established , related accept",
+        "ok",
+    ),
+    ("ct state { new,\n related\n, } accept", "ok"),
+    ("ct state != { new } tcp dport == 5 tcp dport != 6", "ok"),
+    (
+        "tcp dport vmap { 1 : accept, 2-3 :\njump\nd, \"x\": continue, }",
+        "ok",
+    ),
+    (
+        "ip saddr 1.2.3.4 tcp dport vmap { 1 : drop } comment \"c\"",
+        "ok",
+    ),
+    ("ip daddr @vmap ip daddr { vmap } drop", "ok"),
+    ("dnat to 10.0.0.1", "ok"),
+    ("tcp dport 80 dnat ip to 10.0.0.1:65535 comment \"c\"", "ok"),
+    (
+        "snat to 203.0.113.1; snat ip to 203.0.113.1; masquerade",
+        "ok",
+    ),
+    ("tcp dport 22 reject", "line 1: unsupported"),
+    ("accept; comment \"alone\"", "line 1: unsupported"),
+    ("accept comment", "line 1: syntax"),
+    ("jump", "line 1: syntax"),
+    ("goto\nd", "line 1: syntax"),
+    ("counter packets 5", "line 1: syntax"),
+    ("counter packets 5 bytes", "line 1: syntax"),
+    ("ip saddr", "line 1: syntax"),
+    ("ip sport 5 drop", "line 1: unsupported"),
+    ("ip vmap { 1 : drop }", "line 1: unsupported"),
+    ("meta mark 5 drop", "line 1: unsupported"),
+    ("tcp flags syn drop", "line 1: unsupported"),
+    ("ct status dnat", "line 1: unsupported"),
+    ("tcp dport = 5 drop", "line 1: syntax"),
+    ("tcp dport != vmap { 1 : drop }", "line 1: unsupported"),
+    ("tcp dport 1, 2 drop", "line 1: syntax"),
+    ("ct state new, drop", "ok"),
+    ("ct state new, ; drop", "line 1: syntax"),
+    ("ct state vmap, new drop", "line 1: syntax"),
+    ("tcp dport @ drop drop drop", "line 1: unsupported"),
+    ("tcp dport vmap { } drop", "line 1: syntax"),
+    ("tcp dport vmap { 1 accept }", "line 1: unsupported"),
+    ("tcp dport vmap { 1 : reject }", "line 1: unsupported"),
+    ("tcp dport vmap { 1 : drop } drop", "line 1: unsupported"),
+    ("dnat 10.0.0.1", "line 1: syntax"),
+    ("dnat to 10.0.0.1:0", "line 1: syntax"),
+];
+
+const MORE_RULES: [Row; 14] = [
+    ("dnat to 10.0.0.1:65536", "line 1: syntax"),
+    ("dnat to lan", "line 1: unsupported"),
+    ("dnat to 10.0.0.1 : ", "line 1: syntax"),
+    ("snat to 10.0.0.1:80", "line 1: syntax"),
+    ("masquerade to 5", "line 1: unsupported"),
+    ("ip saddr 10.0.0.0/33 drop", "line 1: syntax"),
+    ("ip saddr 10.0.0.0/ drop", "line 1: unsupported"),
+    ("ip saddr 10.0.0.2 - 10.0.0.1 drop", "line 1: syntax"),
+    ("ip saddr 10.0.0.2 - 10 drop", "line 1: syntax"),
+    ("tcp dport 2-1 drop", "line 1: syntax"),
+    ("tcp dport { 2 -\n\n1 } drop", "line 3: syntax"),
+    ("tcp dport { 1, 2 drop", "line 1: unsupported"),
+    ("tcp dport {\n1 } { 2 } drop", "line 2: syntax"),
+    ("log prefix \"x\" drop", "line 1: unsupported"),
+];
+
+const TOKENS: [Row; 24] = [
+    ("tcp dport 0 tcp dport 18446744073709551615 drop", "ok"),
+    ("tcp dport 18446744073709551616 drop", "line 1: syntax"),
+    ("tcp dport 007 drop", "line 1: syntax"),
+    ("tcp dport 00 drop", "line 1: syntax"),
+    ("tcp dport 12ab drop", "line 1: syntax"),
+    ("tcp dport 1_ drop", "line 1: syntax"),
+    ("ip saddr 0.0.0.0 ip saddr 255.255.255.255 drop", "ok"),
+    ("ip saddr 1.2.3.256 drop", "line 1: syntax"),
+    ("ip saddr 1.2.3 drop", "line 1: syntax"),
+    ("ip saddr 1.2.3.4.5 drop", "line 1: syntax"),
+    ("ip saddr 1.2.3.04 drop", "line 1: syntax"),
+    ("ip saddr 1.2.3. drop", "line 1: syntax"),
+    ("ip saddr .1.2.3 drop", "line 1: syntax"),
+    ("ip saddr 1.2.3.4a drop", "line 1: syntax"),
+    ("ip saddr 1..2.3 drop", "line 1: syntax"),
+    ("tcp dport a1b drop", "ok"),
+    ("iifname \"open\n\" drop", "line 1: syntax"),
+    ("iifname \"open", "line 1: syntax"),
+    ("iifname \"\" iifname \"# { é\" drop", "ok"),
+    ("tcp dport ! drop", "line 1: syntax"),
+    ("tcp dport (5) drop", "line 1: syntax"),
+    ("tcp \\\n dport \\\n\\\n5x drop", "line 4: syntax"),
+    ("tcp \\ dport 5 drop", "line 1: syntax"),
+    ("reject 007", "line 1: unsupported"),
+];
+
+#[test]
+fn texts(rt: HostRuntime) -> Result<(), Fail> {
+    check(&rt, rt.alloc(), &TABLES)?;
+    check(&rt, rt.alloc(), &SETS)?;
+    check(&rt, rt.alloc(), &CHAINS)
+}
+
+fn check_rules(rt: &impl Abort, alloc: Global, rows: &[Row]) -> Result<(), Fail> {
+    for (rule, expected) in rows {
+        let text = format!(in alloc; "table t {{ chain c {{ {rule} }} }}")?;
+        let found = answer(alloc, text.as_bytes())?;
+        assert_eq!(rt; found.as_str(), *expected, "{rule}");
+    }
+    Ok(())
+}
+
+#[test]
+fn rules(rt: HostRuntime) -> Result<(), Fail> {
+    check_rules(&rt, rt.alloc(), &RULES)?;
+    check_rules(&rt, rt.alloc(), &MORE_RULES)?;
+    check_rules(&rt, rt.alloc(), &TOKENS)
+}
+
+fn padded(alloc: Global, spaces: usize) -> Result<Vec<u8>, AllocError> {
+    let mut text = vec![in alloc; b' '; spaces]?;
+    text.extend_from_slice(b"table t { }")?;
+    Ok(text)
+}
+
+#[test]
+fn lengths(rt: HostRuntime) -> Result<(), Fail> {
+    let longest = padded(rt.alloc(), 262_133)?;
+    assert_eq!(rt; longest.len(), 262_144);
+    assert_eq!(rt; answer(rt.alloc(), longest.as_slice())?.as_str(), "ok");
+    let longer = padded(rt.alloc(), 262_134)?;
+    assert_eq!(rt;
+        answer(rt.alloc(), longer.as_slice())?.as_str(),
+        "line 1: too-long"
+    );
+    Ok(())
+}
