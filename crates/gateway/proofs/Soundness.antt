@@ -1,5 +1,5 @@
 -- A step keeps a state sound.
-use Rattle.std.proofs.Common.{◌≡◌, ℕ, zero, suc, ◌<◌, ◌≤◌, List, [], ◌∷◌, ◌++◌, length, get_or, set, Option, Some, None, Result, Ok, Err, Bool, IsTrue, true, false, cond, not, nat_lt, refl, sym, ap, ◌∙◌, subst, inl, inr, arith, length-append}
+use Rattle.std.proofs.Common.{◌≡◌, ℕ, zero, suc, ◌<◌, ◌≤◌, List, [], ◌∷◌, ◌++◌, length, get_or, set, Option, Some, None, Result, Ok, Err, Bool, true, false, cond, not, nat_lt, refl, sym, ap, ◌∙◌, subst, inl, inr, arith, length-append}
 use Rattle.std.specs.List.{find, All, Contains}
 use Rattle.std.specs.Option.{option_map}
 use Rattle.std.proofs.lemmas.Bool.{cases_Bool, cases_eq, and_parts, false≢true, not-true, ltb-true}
@@ -15,14 +15,14 @@ use Rattle.packet.specs.declared.endpoint.Iface.{Iface}
 use Rattle.packet.specs.declared.endpoint.Proto.{Proto}
 use Rattle.packet.specs.declared.endpoint.Proto.TheVariants.{Tcp, Udp}
 use Rattle.packet.specs.declared.fault.Fault.{Fault}
-use Rattle.packet.specs.Route.{route}
+use Rattle.packet.specs.declared.view.View.{View}
+use Rattle.portpick.specs.Choice.{port_choice, first_free, size_of_class, step as next}
+use Rattle.gateway.specs.Admission.{admitted, taken, spoken, routed}
+use Rattle.packet.specs.Route.{route, IsOnRoute}
+use Rattle.packet.proofs.Routes.{routed_is_on_route}
 use Rattle.packet.specs.declared.route.Route.{Route}
 use Rattle.packet.specs.declared.route.Route.TheVariants.{Out, In, Hairpin}
 use Rattle.packet.specs.declared.route.RouteFault.{RouteFault}
-use Rattle.packet.specs.declared.view.View.{View}
-use Rattle.packet.proofs.Routes.{routed_is_on_route}
-use Rattle.portpick.specs.Choice.{port_choice, first_free, size_of_class, step as next}
-use Rattle.gateway.specs.Admission.{admitted, taken, spoken, on_route}
 use Rattle.gateway.specs.Legs.{out_leg, out_by, begun, outside_by}
 use Rattle.gateway.specs.Machine.{State, step, act, passed, sent_on, sent_out, at_clock, later, after}
 use Rattle.gateway.specs.Sessions.{has_inside, maps_inside, is_taken, put}
@@ -53,35 +53,34 @@ same_Ok : {T E : Type 0} (x y : T) (r : Result T E) → r ≡ Ok x → r ≡ Ok 
 unfolding value
 same_Ok x y r e f = ap (value x) (sym e ∙ f)
 
-true_is : (b : Bool) → IsTrue b → b ≡ true
-true_is true t = refl
-true_is false t = search
+routed-ok : (view : View) (r : Result Route RouteFault) (a : Admitted) → routed view r ≡ Ok a → (r ≡ Ok a.route) × (a.view ≡ view)
+routed-ok view (Ok way) a e =
+    let same : record { view = view; route = way } ≡ a = same_Ok _ a (routed view (Ok way)) refl e in
+    (ap (λ (x : Admitted). Ok x.route) same, ap (λ (x : Admitted). x.view) (sym same))
+routed-ok view (Err fault) a e = cc
 
-routed-out : (config : Config) (iface : Iface) (view : View) (r : Result Route RouteFault) (a : Admitted) → route config iface view ≡ r → on_route view r ≡ Ok a → a.route ≡ Out
-    → (a.view ≡ view) × (is_inside config view.src.addr ≡ true)
-routed-out config iface view (Ok way) a is e out =
-    let same : record { view = view; route = way } ≡ a = same_Ok _ a (on_route view (Ok way)) refl e in
-    let there : way ≡ Out = ap (λ (x : Admitted). x.route) same ∙ out in
-    let on = (routed_is_on_route config iface view Out (is ∙ ap Ok there)).1 in
-    (ap (λ (x : Admitted). x.view) (sym same), true_is (is_inside config view.src.addr) on.1)
-routed-out config iface view (Err fault) a is e out = cc
+spoken-ok : (config : Config) (iface : Iface) (view : View) (proto : Proto) (a : Admitted) → spoken config iface view proto ≡ Ok a → (route config iface view ≡ Ok a.route) × (a.view ≡ view)
+spoken-ok config iface view Udp a e = routed-ok view (route config iface view) a e
+spoken-ok config iface view Tcp a e = cc
 
-spoken-out : (config : Config) (iface : Iface) (view : View) (proto : Proto) (a : Admitted) → spoken config iface view proto ≡ Ok a → a.route ≡ Out → (a.view ≡ view) × (is_inside config view.src.addr ≡ true)
-spoken-out config iface view Udp a e out = routed-out config iface view (route config iface view) a refl e out
-spoken-out config iface view Tcp a e out = cc
+taken-ok : (config : Config) (iface : Iface) (r : Result View Fault) (a : Admitted) → taken config iface r ≡ Ok a → (r ≡ Ok a.view) × (route config iface a.view ≡ Ok a.route)
+taken-ok config iface (Ok view) a e =
+    let h = spoken-ok config iface view view.proto a e in
+    (ap Ok (sym h.1), subst (λ (v : View). route config iface v ≡ Ok a.route) (sym h.1) h.0)
+taken-ok config iface (Err fault) a e = cc
 
-taken-out : (config : Config) (iface : Iface) (r : Result View Fault) (a : Admitted) → taken config iface r ≡ Ok a → a.route ≡ Out → (r ≡ Ok a.view) × (is_inside config a.view.src.addr ≡ true)
-taken-out config iface (Ok view) a e out =
-    let h = spoken-out config iface view view.proto a e out in
-    (ap Ok (sym h.0), subst (λ (v : View). is_inside config v.src.addr ≡ true) (sym h.0) h.1)
-taken-out config iface (Err fault) a e out = cc
+out-inside : (config : Config) (iface : Iface) (view : View) (r : Route) → IsOnRoute config iface view r → r ≡ Out → is_inside config view.src.addr ≡ true
+out-inside config iface view Out on e = on.1
+out-inside config iface view In on e = cc
+out-inside config iface view Hairpin on e = cc
 
 pub leaving : (config : Config) (iface : Iface) (bytes : List ℕ) (a : Admitted) → admitted config iface bytes ≡ Ok a → a.route ≡ Out → Leaving config a.view
 unfolding admitted
 leaving config iface bytes a e out =
-    let h = taken-out config iface (fields bytes) a e out in
+    let h = taken-ok config iface (fields bytes) a e in
     let some = ports_are_some bytes a.view h.0 in
-    record { inside = h.1; inside_port = some.0; remote_port = some.1 }
+    let on = routed_is_on_route config iface a.view a.route h.1 in
+    record { inside = out-inside config iface a.view a.route on.1 out; inside_port = some.0; remote_port = some.1 }
 
 -- a port that is chosen is free, and not 0
 step-some : (p : ℕ) → 0 < p → 0 < next p
@@ -226,7 +225,7 @@ module _ (config : Config) (is_one : is_config config ≡ true) (s : State) (sou
   sent_out-sound bytes (Ok t) h = h t refl
   sent_out-sound bytes (Err cause) h = sound
 
-  sent_on-sound : (bytes : List ℕ) (view : View) (way : Route) → (way ≡ Out → Leaving config view) → IsSound config (sent_on config s bytes view way).0
+  sent_on-sound : (bytes : List ℕ) (view : View) (r : Route) → (r ≡ Out → Leaving config view) → IsSound config (sent_on config s bytes view r).0
   sent_on-sound bytes view Out h = sent_out-sound bytes (out_leg config.external s.sessions s.clock view.proto view.src view.dst)
       (λ t e. out-sound view (h refl) (find (has_inside view.proto view.src view.dst) s.sessions) refl t e)
   sent_on-sound bytes view In h = sound
@@ -342,7 +341,7 @@ module _ (config : Config) (s : State) (proto : Proto) (inside outside : Endpoin
   sent_out-maps bytes (Ok t) h = h t refl
   sent_out-maps bytes (Err cause) h = before
 
-  sent_on-maps : (bytes : List ℕ) (view : View) (way : Route) → IsMapping (sent_on config s bytes view way).0 proto inside outside
+  sent_on-maps : (bytes : List ℕ) (view : View) (r : Route) → IsMapping (sent_on config s bytes view r).0 proto inside outside
   sent_on-maps bytes view Out = sent_out-maps bytes (out_leg config.external s.sessions s.clock view.proto view.src view.dst)
       (λ t e. out-maps view (find (has_inside view.proto view.src view.dst) s.sessions) refl t e)
   sent_on-maps bytes view In = before

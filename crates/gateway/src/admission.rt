@@ -1,12 +1,13 @@
 //! The fields of a packet and its route, or the first cause against it.
 ghost use Rattle.std.specs.Prelude.{◌≡◌, ◌<◌, ◌≤◌, Ok, IfOk};
 ghost use Rattle.packet.specs.Fields.{fields};
-ghost use Rattle.packet.specs.Route.{route};
-ghost use Rattle.gateway.specs.Admission.{on_route, spoken, admitted};
+ghost use Rattle.packet.specs.Route.{route as way};
+ghost use Rattle.gateway.specs.Admission.{admitted, routed, spoken};
 
 use crate::cause::Cause;
 use packet::bounds::Bounds;
 use packet::endpoint::{Iface, Proto};
+use packet::fault::Fault;
 use packet::route::Route;
 use packet::view::View;
 
@@ -17,14 +18,14 @@ pub struct Admitted {
     pub route: Route,
 }
 
-fn find_route(bounds: &Bounds, iface: Iface, view: View) -> Result<Admitted, Cause>
-    ensures value { result ≡ on_route view (route bounds.now iface view) }
+fn route(bounds: &Bounds, iface: Iface, view: View) -> Result<Admitted, Cause>
+    ensures value { result ≡ routed view (way bounds.now iface view) }
     ensures view { IfOk result (λ a. a.view ≡ view) }
     ensures alive { IfOk result (λ a. 2 ≤ a.view.ttl) }
 {
     match bounds.route(iface, &view) {
         Ok(route) => Ok(Admitted { view, route }),
-        Err(fault) => Err(Cause::of_route(fault)),
+        Err(fault) => Err(Cause::Route(fault)),
     }
 }
 
@@ -34,8 +35,8 @@ fn speak(bounds: &Bounds, iface: Iface, view: View) -> Result<Admitted, Cause>
     ensures alive { IfOk result (λ a. 2 ≤ a.view.ttl) }
 {
     match view.proto {
-        Proto::Tcp => Err(Cause::Protocol),
-        Proto::Udp => find_route(bounds, iface, view),
+        Proto::Tcp => Err(Cause::Packet(Fault::Protocol)),
+        Proto::Udp => route(bounds, iface, view),
     }
 }
 
@@ -49,6 +50,6 @@ pub fn admit(bounds: &Bounds, iface: Iface, bytes: &[u8]) -> Result<Admitted, Ca
 {
     match View::read(bytes) {
         Ok(view) => speak(bounds, iface, view),
-        Err(fault) => Err(Cause::of(fault)),
+        Err(fault) => Err(Cause::Packet(fault)),
     }
 }

@@ -1,6 +1,6 @@
 //! Why a packet is dropped.
 ghost use Rattle.std.specs.Prelude.{◌≡◌};
-ghost use Rattle.gateway.specs.Causes.{number, cause_of, cause_of_route};
+ghost use Rattle.gateway.specs.Causes.{number};
 
 use packet::fault::Fault;
 use packet::route::RouteFault;
@@ -8,25 +8,25 @@ use packet::route::RouteFault;
 /// Why a packet is dropped, in the order in which the causes are found.
 #[derive(Clone, Copy, Debug, PartialEq, Eq, Drop)]
 pub enum Cause {
-    Short,
-    Version,
-    HeaderLength,
-    Length,
-    HeaderSum,
-    Fragment,
-    Protocol,
-    Transport,
-    PortZero,
-    Ttl,
-    Spoofed,
-    NoRoute,
+    /// The bytes aren't a packet that the gateway takes.
+    Packet(Fault),
+    /// The packet goes nowhere.
+    Route(RouteFault),
+    /// No mapping has the destination.
     NoMapping,
+    /// The mapping isn't open to the source.
     Filtered,
+    /// A TCP packet begins no session, and has none.
     NoSession,
+    /// A rule drops it.
     Rule,
+    /// Its session would share a key with another, or break the mappings.
     Clash,
+    /// It goes to its own outside endpoint.
     SelfMapped,
+    /// Every port of the class and parity is taken.
     NoPort,
+    /// There are 65,536 sessions.
     TableFull,
 }
 
@@ -36,18 +36,8 @@ impl Cause {
         ensures { result ≡ number self }
     {
         match self {
-            Cause::Short => 1,
-            Cause::Version => 2,
-            Cause::HeaderLength => 3,
-            Cause::Length => 4,
-            Cause::HeaderSum => 5,
-            Cause::Fragment => 6,
-            Cause::Protocol => 7,
-            Cause::Transport => 8,
-            Cause::PortZero => 9,
-            Cause::Ttl => 10,
-            Cause::Spoofed => 11,
-            Cause::NoRoute => 12,
+            Cause::Packet(fault) => fault.number(),
+            Cause::Route(fault) => fault.number(),
             Cause::NoMapping => 13,
             Cause::Filtered => 14,
             Cause::NoSession => 15,
@@ -56,34 +46,6 @@ impl Cause {
             Cause::SelfMapped => 18,
             Cause::NoPort => 19,
             Cause::TableFull => 20,
-        }
-    }
-
-    /// The cause that the fault of a packet is.
-    pub fn of(fault: Fault) -> Cause
-        ensures { result ≡ cause_of fault }
-    {
-        match fault {
-            Fault::Short => Cause::Short,
-            Fault::Version => Cause::Version,
-            Fault::HeaderLength => Cause::HeaderLength,
-            Fault::Length => Cause::Length,
-            Fault::HeaderSum => Cause::HeaderSum,
-            Fault::Fragment => Cause::Fragment,
-            Fault::Protocol => Cause::Protocol,
-            Fault::Transport => Cause::Transport,
-            Fault::PortZero => Cause::PortZero,
-        }
-    }
-
-    /// The cause that the want of a route is.
-    pub fn of_route(fault: RouteFault) -> Cause
-        ensures { result ≡ cause_of_route fault }
-    {
-        match fault {
-            RouteFault::Ttl => Cause::Ttl,
-            RouteFault::Spoofed => Cause::Spoofed,
-            RouteFault::NoRoute => Cause::NoRoute,
         }
     }
 }

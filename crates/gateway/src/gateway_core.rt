@@ -1,5 +1,5 @@
 //! The gateway: a core, and a number for each event.
-ghost use Rattle.std.specs.Prelude.{◌≡◌, ◌≢◌, ◌↔◌, ◌⊎◌, ◌-◌, ◌^◌, ◌<◌, ◌++◌, [], IfOk, IfErr, OnOk, OnErr, IsOk, List, length, vec_len, vec_capacity, ◌+◌, ◌≤◌};
+ghost use Rattle.std.specs.Prelude.{◌≡◌, ◌↔◌, ◌⊎◌, ◌-◌, ◌^◌, ◌<◌, ◌++◌, [], IfOk, IfErr, OnOk, OnErr, IsOk, List, length, vec_len, vec_capacity, ◌+◌, ◌≤◌};
 ghost use Rattle.gateway.specs.Standing.{Took, TookAll, TookFirst, handed};
 ghost use Rattle.gateway.specs.Machine.{AddsNone, empty_at, step};
 
@@ -69,7 +69,6 @@ impl Gateway {
         ensures ok { IfOk result (λ answers. answers.items ≡ self.old.held) }
         ensures none { OnOk result (self.new ≡ record self.old { held = [] }) }
         ensures err { OnErr result (self.new ≡ self.old) }
-        ensures causes { IfErr result (λ fault. fault ≢ GatewayFault.HeldFull) }
         ensures succeeds { IsOk result }
     {
         Ok(Vec::new(self.alloc))
@@ -83,7 +82,6 @@ impl Gateway {
 
         // A number is wanting exactly where the last one was the greatest u64.
         ensures numbers_out { IfErr result (λ e. (e.1 ≡ GatewayFault.NumbersOut) ↔ (self.old.last ≡ 2 ^ 64 - 1)) }
-        ensures held_full { IfErr result (λ e. e.1 ≡ GatewayFault.HeldFull → 64 ≤ length self.old.held) }
         ensures numbers_left { OnOk result (self.old.last < 2 ^ 64 - 1) }
         ensures causes { IfErr result (λ e. (e.1 ≡ GatewayFault.NumbersOut) ⊎ (e.1 ≡ GatewayFault.NoMemory)) }
 

@@ -282,3 +282,38 @@ fn core_steps(rt: HostRuntime) -> Result<(), AllocError> {
     assert_eq!(rt; core.sessions().map_err(|_| AllocError)?.len(), 1);
     Ok(())
 }
+
+/// Holds under `rt try --test --fail-alloc N` for each N: a refused growth changes nothing, and the
+/// event that comes back is answered as it would have been.
+#[test]
+fn each_growth_refused(rt: HostRuntime) {
+    let alloc = rt.alloc();
+    let Ok(mut gateway) = gateway(alloc) else {
+        return;
+    };
+    let Ok(first) = event(alloc, Iface::Lan, &FIRST) else {
+        return;
+    };
+    let given = match gateway.offer(first) {
+        Ok(given) => given,
+        Err((first, fault)) => {
+            assert_eq!(rt; fault, GatewayFault::NoMemory);
+            match gateway.offer(first) {
+                Ok(given) => given,
+                Err(_) => {
+                    assert!(rt; false);
+                    return;
+                }
+            }
+        }
+    };
+    let outcome = outcome_of(given);
+    assert_eq!(rt; outcome.number, 1);
+    match outcome.sent {
+        Some(packet) => assert_eq!(rt; packet.as_slice(), FIRST_OUT.as_slice()),
+        None => assert!(rt; false),
+    }
+    if let Ok(sessions) = gateway.sessions() {
+        assert_eq!(rt; sessions.len(), 1);
+    }
+}
