@@ -3,29 +3,84 @@ use crate::config;
 use crate::options::{Options, Sides, Task};
 use crate::refusal::Refusal;
 use gateway::Gateway;
+use packet::bounds::Bounds;
+use rulesyntax::fault::{Kind, LoadFault};
+use ruletext::reading::read;
 use std::alloc::Global;
+use std::fs::{File, Files};
 use std::io::{Read, Write};
+use std::process::ExitCode;
 
-pub fn run<R: Read, W: Write>(
-    alloc: Global,
-    options: &Options<'_>,
-    input: &mut R,
-    output: &mut W,
-) -> Result<(), Refusal> {
+/// The greatest ruleset text, in bytes. One byte more is read, so that a longer text is known for one.
+const TEXT_LIMIT: u64 = 262_144;
+
+pub fn run(rt: &HostRuntime, options: &Options<'_>) -> Result<ExitCode, Refusal> {
+    let alloc = rt.alloc();
+    let bounds = config::bounds(alloc, &options.sides)?;
     match options.task {
-        Task::Replay { moment } => replay(alloc, &options.sides, moment, input, output),
+        Task::Check { text } => check(rt, text, &bounds),
+        Task::Replay { moment } => {
+            replay(alloc, bounds, moment, &mut rt.stdin(), &mut rt.stdout())?;
+            Ok(ExitCode::SUCCESS)
+        }
     }
 }
 
+/// The bytes of a ruleset's file, and one more than the limit where it has more.
+fn read_text(rt: &HostRuntime, path: &str) -> Result<Vec<u8>, Refusal> {
+    let file = File::open(rt, path).map_err(|_| Refusal::File)?;
+    let mut bytes = Vec::new(rt.alloc());
+    file.take(TEXT_LIMIT + 1)
+        .read_to_end(&mut bytes)
+        .map_err(|_| Refusal::File)?;
+    Ok(bytes)
+}
+
+fn check(rt: &HostRuntime, path: &str, bounds: &Bounds) -> Result<ExitCode, Refusal> {
+    let text = read_text(rt, path)?;
+    let finding = report(rt.alloc(), text.as_slice(), bounds)?;
+    println!(rt; "{}", finding.line).map_err(|_| Refusal::Output)?;
+    if finding.loads {
+        Ok(ExitCode::SUCCESS)
+    } else {
+        Ok(ExitCode::FAILURE)
+    }
+}
+
+/// What `check` says of a text.
+#[derive(Drop)]
+pub struct Finding {
+    pub loads: bool,
+    /// `ok`, or the line and the kind of the text's fault.
+    pub line: String,
+}
+
+pub fn report(alloc: Global, text: &[u8], bounds: &Bounds) -> Result<Finding, Refusal> {
+    match read(alloc, text, bounds) {
+        Ok(_rules) => {
+            let line = String::from_str(alloc, "ok")?;
+            Ok(Finding { loads: true, line })
+        }
+        Err(fault) => refused(alloc, fault),
+    }
+}
+
+fn refused(alloc: Global, fault: LoadFault) -> Result<Finding, Refusal> {
+    if fault.kind == Kind::NoMemory {
+        return Err(Refusal::NoMemory);
+    }
+    let line = format!(in alloc; "{fault}")?;
+    Ok(Finding { loads: false, line })
+}
+
 /// Answers the request frames of the input on the output, by a gateway that opens at this moment.
-fn replay<R: Read, W: Write>(
+pub fn replay<R: Read, W: Write>(
     alloc: Global,
-    sides: &Sides<'_>,
+    bounds: Bounds,
     moment: u64,
     input: &mut R,
     output: &mut W,
 ) -> Result<(), Refusal> {
-    let bounds = config::bounds(alloc, sides)?;
     let Ok(mut gateway) = Gateway::start(alloc, bounds, moment) else {
         return Err(Refusal::NoMemory);
     };

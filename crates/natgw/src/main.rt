@@ -1,4 +1,4 @@
-//! The program `natgw`: its commands over the standard streams.
+//! The program `natgw`: its commands over the standard streams and files.
 //!
 //! - `options`: the command line;
 //! - `config`: addresses and prefixes as they are spelled, and the configuration made of them;
@@ -45,10 +45,7 @@ fn start(rt: &HostRuntime) -> Result<ExitCode, Refusal> {
     };
     let words: Vec<String> = arguments.collect(alloc)?;
     match options::parse(alloc, words.as_slice())? {
-        Parsed::Run(options) => {
-            commands::run(alloc, &options, &mut rt.stdin(), &mut rt.stdout())?;
-            Ok(ExitCode::SUCCESS)
-        }
+        Parsed::Run(options) => commands::run(rt, &options),
         Parsed::Stopped(error) => {
             error.print(rt).map_err(|_| Refusal::Output)?;
             Ok(ExitCode::from(error.exit_code() as u8))

@@ -13,8 +13,10 @@ pub struct Sides<'a> {
 }
 
 /// A command with what it alone takes.
-#[derive(Debug, Drop)]
-pub enum Task {
+#[derive(Clone, Copy, Debug, Drop)]
+pub enum Task<'a> {
+    /// Says whether the ruleset of this file would load.
+    Check { text: &'a str },
     /// Answers the frames of standard input; the gateway opens at this moment, in seconds.
     Replay { moment: u64 },
 }
@@ -22,7 +24,7 @@ pub enum Task {
 #[derive(Debug, Drop)]
 pub struct Options<'a> {
     pub sides: Sides<'a>,
-    pub task: Task,
+    pub task: Task<'a>,
 }
 
 /// A command line that was read, or clap's text and status.
@@ -53,6 +55,29 @@ An answer frame is:
 
 Example: answers the frames of a file.
   natgw replay --inside 192.168.0.0/16 --external 203.0.113.1 < requests > answers";
+
+const CHECK: &str = "Says whether a ruleset would load: ok, or the line and the kind of its fault";
+
+const KINDS: &str = "\
+The first line that is printed is ok, with status 0, or the fault, with status 1:
+  too-long       more than 262144 bytes
+  family         a table of another family than ip and inet
+  unsupported    a statement or word that natgw doesn't know
+  syntax         another token where it can't stand, or a text that ends too early
+  unknown-chain  a jump or goto to no chain without a hook in the same table
+  unknown-set    @ with a name that no set of the same table has
+  duplicate      two tables, chains or sets of one name, or two type or elements lines in a set
+  loop           chains that come back to themselves by jumps and gotos
+  depth          a path of more than 16 jumps and gotos
+  wrong-hook     a chain or a translation at a hook where it can't be
+  wrong-type     a value, a set or a translation where one of another type belongs
+  not-external   snat to another address than the external one
+  not-inside     dnat to an address in no inside prefix
+  limit          more than 256 chains, 4096 rules, or 16384 elements and pairs
+  overlap        two keys of a verdict map for one value
+
+Example:
+  natgw check --inside 192.168.0.0/16 --external 203.0.113.1 rules.nft";
 
 fn required<'a>(alloc: Global, name: &'a str, value: &'a str, help: &'a str) -> Arg<'a> {
     Arg::new(alloc, name)
@@ -106,11 +131,24 @@ fn opening<'a>(alloc: Global, name: &'a str, about: &'a str) -> Result<Command<'
     sided(alloc, name, about)?.arg(moment)
 }
 
+fn file<'a>(alloc: Global) -> Arg<'a> {
+    Arg::new(alloc, "FILE")
+        .value_name("FILE")
+        .help("The ruleset's text")
+        .required(true)
+        .action(ArgAction::Set)
+}
+
 fn command_line<'a>(alloc: Global) -> Result<Command<'a>, AllocError> {
     Command::new(alloc, "natgw")
         .about(ABOUT)
         .after_help(FRAMES)
         .subcommand_required(true)
+        .subcommand(
+            sided(alloc, "check", CHECK)?
+                .arg(file(alloc))?
+                .after_help(KINDS),
+        )?
         .subcommand(opening(alloc, "replay", REPLAY)?.after_help(FRAMES))
 }
 
@@ -127,12 +165,21 @@ fn read_moment<'a>(matches: &ArgMatches<'a>) -> u64 {
     matches.get_one::<u64>("at").unwrap_or(0)
 }
 
-fn read_options<'a>(matches: &ArgMatches<'a>) -> Options<'a> {
-    Options {
-        sides: read_sides(matches),
-        task: Task::Replay {
+fn read_task<'a>(name: &str, matches: &ArgMatches<'a>) -> Task<'a> {
+    match name {
+        "check" => Task::Check {
+            text: matches.get_str("FILE").unwrap_or(""),
+        },
+        _ => Task::Replay {
             moment: read_moment(matches),
         },
+    }
+}
+
+fn read_options<'a>(name: &str, matches: &ArgMatches<'a>) -> Options<'a> {
+    Options {
+        sides: read_sides(matches),
+        task: read_task(name, matches),
     }
 }
 
@@ -140,10 +187,10 @@ fn read_options<'a>(matches: &ArgMatches<'a>) -> Options<'a> {
 pub fn parse<'a>(alloc: Global, words: &'a [String]) -> Result<Parsed<'a>, AllocError> {
     match command_line(alloc)?.try_get_matches_from(words) {
         Ok(matches) => {
-            let Some((_name, inner)) = matches.subcommand() else {
+            let Some((name, inner)) = matches.subcommand() else {
                 return Err(AllocError);
             };
-            Ok(Parsed::Run(read_options(inner)))
+            Ok(Parsed::Run(read_options(name, inner)))
         }
         Err(error) => {
             if error.kind() == ErrorKind::OutOfMemory {

@@ -1,6 +1,6 @@
-use crate::commands;
-use crate::config::{address, number, prefix};
-use crate::options::{Options, Parsed, Task, parse};
+use crate::commands::{Finding, report};
+use crate::config::{address, bounds, number, prefix};
+use crate::options::{Parsed, parse};
 use crate::refusal::Refusal;
 use packet::endpoint::Prefix;
 use std::alloc::{AllocError, Global};
@@ -32,12 +32,23 @@ fn reads_addresses_and_prefixes(rt: HostRuntime) -> Result<(), Fail> {
     Ok(())
 }
 
-/// What `replay` answers to no frames under these options.
-fn replay_nothing(alloc: Global, list: &[&str]) -> Result<Result<(), Refusal>, Fail> {
-    let words = words(alloc, list)?;
-    let mut output: Vec<u8> = Vec::new(alloc);
+/// The configuration of a command line of `check`.
+fn sides_of(alloc: Global, inside: &str, external: &str) -> Result<Result<(), Refusal>, Fail> {
+    let list = [
+        "natgw",
+        "check",
+        "--inside",
+        inside,
+        "--external",
+        external,
+        "FILE",
+    ];
+    let words = words(alloc, &list)?;
     match parse(alloc, words.as_slice())? {
-        Parsed::Run(options) => Ok(commands::run(alloc, &options, &mut &[][..], &mut output)),
+        Parsed::Run(options) => match bounds(alloc, &options.sides) {
+            Ok(_) => Ok(Ok(())),
+            Err(refusal) => Ok(Err(refusal)),
+        },
         Parsed::Stopped(_) => Err(Fail::from("stopped")),
     }
 }
@@ -45,32 +56,87 @@ fn replay_nothing(alloc: Global, list: &[&str]) -> Result<Result<(), Refusal>, F
 #[test]
 fn refuses_what_is_no_configuration(rt: HostRuntime) -> Result<(), Fail> {
     let alloc = rt.alloc();
-    let good = [
+    assert!(rt; sides_of(alloc, "10.0.0.0/8,192.168.0.0/16", "1.2.3.4")? == Ok(()));
+    assert!(rt; sides_of(alloc, "10.0.0.0/8", "10.2.3.4")? == Err(Refusal::Config));
+    assert!(rt; sides_of(alloc, "10.0.0.0/08", "1.2.3.4")? == Err(Refusal::Config));
+    Ok(())
+}
+
+/// What `check` says of a text.
+fn checked(alloc: Global, text: &[u8]) -> Result<Finding, Fail> {
+    let list = [
         "natgw",
-        "replay",
+        "check",
         "--inside",
-        "10.0.0.0/8,192.168.0.0/16",
+        "192.168.0.0/16",
         "--external",
-        "1.2.3.4",
+        "203.0.113.1",
+        "FILE",
     ];
-    assert!(rt; replay_nothing(alloc, &good)? == Ok(()));
-    let covered = [
-        "natgw",
-        "replay",
-        "--inside",
-        "10.0.0.0/8",
-        "--external",
-        "10.2.3.4",
+    let words = words(alloc, &list)?;
+    match parse(alloc, words.as_slice())? {
+        Parsed::Run(options) => {
+            let bounds = bounds(alloc, &options.sides)?;
+            Ok(report(alloc, text, &bounds)?)
+        }
+        Parsed::Stopped(_) => Err(Fail::from("stopped")),
+    }
+}
+
+#[test]
+fn check_rows(rt: HostRuntime) -> Result<(), Fail> {
+    let alloc = rt.alloc();
+    let rows: [(&[u8], &str); 14] = [
+        (b"table ip6 t { }", "line 1: family"),
+        (
+            b"table ip t { chain c { jump d; }; }",
+            "line 1: unknown-chain",
+        ),
+        (
+            b"table ip t { chain c { ip saddr @s accept; }; }",
+            "line 1: unknown-set",
+        ),
+        (b"table ip t { }\ntable t { }\n", "line 2: duplicate"),
+        (
+            b"table ip t { chain c { tcp dport 70000 accept; }; }",
+            "line 1: wrong-type",
+        ),
+        (
+            b"table ip t { chain c { tcp dport vmap { 1-10 : accept, 5 : drop }; }; }",
+            "line 1: overlap",
+        ),
+        (
+            b"table ip n { chain p { type nat hook postrouting priority 100; snat to 203.0.113.2; }; }",
+            "line 1: not-external",
+        ),
+        (
+            b"table ip n { chain p { type nat hook prerouting priority -100; dnat to 10.0.0.1; }; }",
+            "line 1: not-inside",
+        ),
+        (
+            b"table ip f { chain c { type filter hook forward priority 0; masquerade; }; }",
+            "line 1: wrong-type",
+        ),
+        (
+            b"\ttable ip t {\n\tset s {\n\ttype ipv4_addr\n\tflags interval\n\telements = { 10.0.0.0/8,\n\t10.1.0.1 }\n\t}\n\tchain c {\n\ttype filter hook forward priority filter; policy drop;\n\tct state established,related accept\n\tip saddr @s accept\n\t}\n\t}\n",
+            "ok",
+        ),
+        (b"table ip t { chain c { jump c; }; }", "line 1: loop"),
+        (
+            b"table ip t {\nchain c { tcp dport 22 reject; }; }\n",
+            "line 2: unsupported",
+        ),
+        (b"", "ok"),
+        (b"table ip t { chain c { goto c; }; }", "line 1: loop"),
     ];
-    assert!(rt; replay_nothing(alloc, &covered)? == Err(Refusal::Config));
-    let spelled = [
-        "natgw",
-        "replay",
-        "--inside",
-        "10.0.0.0/08",
-        "--external",
-        "1.2.3.4",
-    ];
-    assert!(rt; replay_nothing(alloc, &spelled)? == Err(Refusal::Config));
+    for (text, line) in rows {
+        let finding = checked(alloc, text)?;
+        assert!(rt; finding.line.as_str() == line);
+        assert!(rt; finding.loads == (line == "ok"));
+    }
+    let long = vec![in alloc; b' '; 262_145]?;
+    let finding = checked(alloc, long.as_slice())?;
+    assert!(rt; finding.line.as_str() == "line 1: too-long");
+    assert!(rt; !finding.loads);
     Ok(())
 }

@@ -1,0 +1,14 @@
+pub mod Walks
+pub mod Rows
+pub mod Reaching
+pub mod NameLemmas
+pub mod Edges
+pub mod Twice
+pub mod Marks
+pub mod SetLemmas
+pub mod Somewhere
+pub mod PartLemmas
+pub mod KeyLemmas
+pub mod NoneBelow
+pub mod MayRunLemmas
+pub mod TextLemmas

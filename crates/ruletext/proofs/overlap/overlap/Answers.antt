@@ -1,0 +1,22 @@
+use Rattle.std.proofs.Common.{◌≡◌, ◌<◌, length, Some, slice_get, refl, sym, subst, arith}
+use Rattle.std.proofs.lemmas.Option.{slice_get_read}
+use Rattle.rulesyntax.specs.declared.tree.Rule.{Rule}
+use Rattle.rulesyntax.specs.declared.tree.Chain.{Chain}
+use Rattle.rulesyntax.specs.declared.tree.Table.{Table}
+use Rattle.ruletext.specs.Calls.{OfSome}
+use Rattle.ruletext.specs.Overlap.{EndOverlaps, TableOverlaps, AreFew, AreFewIn}
+use Rattle.ruletext.proofs.Somewhere.{found_here, goes_on}
+use Rattle.ruletext.proofs.overlap.overlap.Goals as goal
+
+pub overlap_in_table-requires : goal.overlap_in_table-requires
+overlap_in_table-requires c = subst (λ (table : Table). AreFewIn table.chains) (sym c.table-item.is) (c.requires c.loop-table.table-index c.table-item.result (omega arith))
+
+pub returns-in-Some : goal.returns-in-Some
+returns-in-Some c =
+    let at : slice_get c.args.tables.now c.loop-table.table-index ≡ Some c.table-item.result = slice_get_read c.args.tables.now _ c.loop-table.table-index c.table-item.result refl (omega arith) c.table-item.is in
+    (λ _. found_here TableOverlaps c.args.tables.now c.loop-table.table-index c.table-item.result at c.loop-table.invariant c.in_ok-line.field-0 c.in-Some.line c.in-Some.is c.in_ok-line.ensures, λ _. refl)
+
+pub loop-table-preserved : goal.loop-table-preserved
+loop-table-preserved c =
+    let at : slice_get c.args.tables.now c.loop-table.table-index ≡ Some c.table-item.result = slice_get_read c.args.tables.now _ c.loop-table.table-index c.table-item.result refl (omega arith) c.table-item.is in
+    goes_on TableOverlaps c.args.tables.now c.loop-table.table-index c.table-item.result at c.loop-table.invariant c.in_ok-line.field-0 c.in_default.is c.in_ok-line.ensures

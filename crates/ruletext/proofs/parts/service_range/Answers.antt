@@ -1,0 +1,15 @@
+use Rattle.std.proofs.Common.{◌≡◌, ◌∙◌, ◌≤◌, ℕ, List, true, Some, is_some, refl, sym, ap, arith, rules}
+use Rattle.std.proofs.lemmas.Grind.{common_steps}
+use Rattle.std.proofs.lemmas.Bool.Decides.{nat_tests}
+use Rattle.rulesyntax.specs.declared.tree.Value.TheVariants as values
+use Rattle.ruletext.specs.declared.class.Class.TheVariants as classes
+use Rattle.ruletext.specs.Classes.{is_value, service_named, protocol_named, state_named}
+use Rattle.ruletext.proofs.PartLemmas.{range_is, named_is, new_range, name_is}
+use Rattle.ruletext.proofs.parts.service_range.Goals as goal
+
+pub returns : goal.returns
+returns c =
+    let rises : c.args.low ≤ c.args.high = omega arith in
+    let within : c.args.high ≤ 65535 = omega arith in
+    let is : is_value classes.Services (values.Numbers c.args.low c.args.high) ≡ true = grind (arith, nat_tests) in
+    range_is classes.Services (values.Numbers c.args.low c.args.high) is c.new.result (new_range c.args.low c.args.high c.new.result c.new.ensures.low c.new.ensures.high) (λ own h. h)

@@ -1,0 +1,10 @@
+use Rattle.std.proofs.Common.{◌≡◌, ◌≤◌, ℕ, arith}
+use Rattle.ruletext.specs.Calls.{HasEdge}
+use Rattle.ruletext.proofs.Reaching.{sound_round, complete_round, all_reached}
+use Rattle.ruletext.proofs.reach.mark_reached.Goals as goal
+
+pub loop-round-preserved : goal.loop-round-preserved
+loop-round-preserved c = record {
+  sound = sound_round (HasEdge c.args.rows.now) _ _ _ c.loop-round.round c.spread.ensures.kept c.spread.ensures.sound c.spread.ensures.stepped c.loop-round.invariant.sound;
+  complete = complete_round (HasEdge c.args.rows.now) _ _ _ c.loop-round.round c.spread.ensures.kept c.spread.ensures.sound c.spread.ensures.stepped c.loop-round.invariant.complete;
+}

@@ -1,0 +1,58 @@
+-- Which chains a chain jumps or goes to.
+use Rattle.std.specs.Prelude.{◌≡◌, ◌⊎◌, ℕ, false, List, [], ◌∷◌, Option, Some, slice_get, length, All, ◌<◌}
+use Rattle.std.specs.List.{Contains}
+use Rattle.rulesyntax.specs.declared.tree.Verdict.{Verdict}
+use Rattle.rulesyntax.specs.declared.tree.Rule.{Rule}
+use Rattle.rulesyntax.specs.declared.tree.Chain.{Chain}
+use Rattle.rulesyntax.specs.declared.tree.Table.{Table}
+use Rattle.rulesyntax.specs.declared.tree.Spelled.{Spelled}
+use Rattle.ruletext.specs.Said.{verdicts_of, target_of, chain_names, set_names}
+use Rattle.ruletext.specs.Duplicate.{has_twice}
+use Rattle.ruletext.specs.Paths.{HasLoop, IsDeeper}
+
+-- it holds of some element
+abbrev pub OfSome : {X : Type 0} → (X → Type 0) → List X → Type 0
+OfSome P [] = ⊥
+OfSome P (x ∷ xs) = P x ⊎ OfSome P xs
+
+-- the verdict jumps or goes to the chain at that place among the names
+abbrev pub VerdictLeads : List (List ℕ) → ℕ → Verdict → Type 0
+VerdictLeads names b verdict = (name : List ℕ) × (target_of verdict ≡ Some name) × (slice_get names b ≡ Some name)
+
+abbrev pub RuleLeads : List (List ℕ) → ℕ → Rule → Type 0
+RuleLeads names b rule = OfSome (VerdictLeads names b) (verdicts_of rule.end)
+
+abbrev pub ChainLeads : List (List ℕ) → ℕ → Chain → Type 0
+ChainLeads names b chain = OfSome (RuleLeads names b) chain.rules
+
+-- the chain at the one place jumps or goes to the chain at the other
+abbrev pub Leads : List Chain → ℕ → ℕ → Type 0
+Leads chains a b = (chain : Chain) × (slice_get chains a ≡ Some chain) × ChainLeads (chain_names chains) b chain
+
+-- the one row has the place of the other
+abbrev pub HasEdge : List (List ℕ) → ℕ → ℕ → Type 0
+HasEdge rows a b = (row : List ℕ) × (slice_get rows a ≡ Some row) × Contains row b
+
+-- each number of a row is a place of a row
+abbrev pub AreWithin : List (List ℕ) → Type 0
+AreWithin rows = All (λ row. All (λ b. b < length rows) row) rows
+
+-- chains of a table that reach themselves by jumps and gotos
+abbrev pub IsLooped : List Chain → Type 0
+IsLooped chains = HasLoop (Leads chains)
+
+-- a path of more than 16 jumps and gotos in a table
+abbrev pub IsDeep : List Chain → Type 0
+IsDeep chains = IsDeeper (Leads chains) 16
+
+-- in no table two chains have one name
+abbrev pub AreDistinct : List Table → Type 0
+AreDistinct tables = All (λ table. has_twice (chain_names table.chains) ≡ false) tables
+
+-- in no table two sets have one name
+abbrev pub HaveDistinctSets : List Table → Type 0
+HaveDistinctSets tables = All (λ table. has_twice (set_names table.sets) ≡ false) tables
+
+-- in no table a path has more than 16 jumps and gotos
+abbrev pub AreShallow : List Table → Type 0
+AreShallow tables = All (λ table. ¬ IsDeep table.chains) tables

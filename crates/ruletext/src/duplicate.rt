@@ -1,0 +1,144 @@
+//! What a text gives twice.
+
+ghost use Rattle.std.specs.Prelude.{◌≡◌, ◌||◌, ◌&&◌, ◌∷◌, [], ℕ, List, is_some, nat_lt, length, IfOk, OnOk};
+ghost use Rattle.std.specs.List.{list_any};
+ghost use Rattle.ruletext.specs.Said.{chain_names, set_names, is_among};
+ghost use Rattle.ruletext.specs.Duplicate.{has_twice, is_of, names_in, has_line_twice, has_twice_within, has_duplicate_in};
+
+use crate::names::Names;
+use rulesyntax::line::Line;
+use rulesyntax::tree::{Chain, Family, Set, SetElements, SetType, Table};
+use std::alloc::{AllocError, Global};
+
+// The second chain of a name.
+fn twice_chain(alloc: Global, chains: &[Chain]) -> Result<Option<Line>, AllocError>
+    ensures { IfOk result (λ line. is_some line ≡ has_twice (chain_names chains.now)) }
+{
+    let mut names = Names::new(alloc);
+    for chain in chains {
+        if !names.insert(chain.name.as_slice())? {
+            return Ok(Some(chain.line.copied()));
+        }
+    }
+    Ok(None)
+}
+
+// The second set of a name.
+fn twice_set(alloc: Global, sets: &[Set]) -> Result<Option<Line>, AllocError>
+    ensures { IfOk result (λ line. is_some line ≡ has_twice (set_names sets.now)) }
+{
+    let mut names = Names::new(alloc);
+    for set in sets {
+        if !names.insert(set.name.as_slice())? {
+            return Ok(Some(set.line.copied()));
+        }
+    }
+    Ok(None)
+}
+
+fn second_type(types: &[SetType]) -> Option<Line>
+    ensures { is_some result ≡ nat_lt 1 (length types.now) }
+{
+    match types {
+        [_, second, ..] => Some(second.line.copied()),
+        _ => None,
+    }
+}
+
+fn second_elements(lists: &[SetElements]) -> Option<Line>
+    ensures { is_some result ≡ nat_lt 1 (length lists.now) }
+{
+    match lists {
+        [_, second, ..] => Some(second.line.copied()),
+        _ => None,
+    }
+}
+
+fn twice_line(set: &Set) -> Option<Line>
+    ensures { is_some result ≡ has_line_twice set.now }
+{
+    if let Some(line) = second_type(set.types.as_slice()) {
+        return Some(line);
+    }
+    second_elements(set.elements.as_slice())
+}
+
+fn twice_lines(sets: &[Set]) -> Option<Line>
+    ensures { is_some result ≡ list_any has_line_twice sets.now }
+{
+    for set in sets {
+        if let Some(line) = twice_line(set) {
+            return Some(line);
+        }
+    }
+    None
+}
+
+fn within(alloc: Global, table: &Table) -> Result<Option<Line>, AllocError>
+    ensures { IfOk result (λ line. is_some line ≡ has_twice_within table.now) }
+{
+    if let Some(line) = twice_chain(alloc, table.chains.as_slice())? {
+        return Ok(Some(line));
+    }
+    if let Some(line) = twice_set(alloc, table.sets.as_slice())? {
+        return Ok(Some(line));
+    }
+    Ok(twice_lines(table.sets.as_slice()))
+}
+
+fn within_some(alloc: Global, tables: &[Table]) -> Result<Option<Line>, AllocError>
+    ensures { IfOk result (λ line. is_some line ≡ list_any has_twice_within tables.now) }
+{
+    for table in tables {
+        if let Some(line) = within(alloc, table)? {
+            return Ok(Some(line));
+        }
+    }
+    Ok(None)
+}
+
+fn is_of_family(table: &Table, family: Family) -> bool
+    ensures { result ≡ is_of family table.now.family }
+{
+    matches!(
+        (family, table.family),
+        (Family::Ip, Family::Ip) | (Family::Inet, Family::Inet)
+    )
+}
+
+// Adds the table's name where it is of the family; answers whether it stood there before.
+fn stands_twice(names: &mut Names, family: Family, table: &Table) -> Result<bool, AllocError>
+    ensures twice { IfOk result (λ twice. twice ≡ (is_of family table.now.family && is_among names.old table.now.name)) }
+    ensures names { OnOk result ((name : List ℕ) → is_among names.new name ≡ (is_among names.old name || is_among (names_in family (table.now ∷ [])) name)) }
+{
+    if !is_of_family(table, family) {
+        return Ok(false);
+    }
+    Ok(!names.insert(table.name.as_slice())?)
+}
+
+// The second table of a name in the family.
+fn twice_table(alloc: Global, family: Family, tables: &[Table]) -> Result<Option<Line>, AllocError>
+    ensures { IfOk result (λ line. is_some line ≡ has_twice (names_in family tables.now)) }
+{
+    let mut names = Names::new(alloc);
+    for table in tables {
+        if stands_twice(&mut names, family, table)? {
+            return Ok(Some(table.line.copied()));
+        }
+    }
+    Ok(None)
+}
+
+/// Two tables of one family and name, or two chains, sets or lines of a set where one may stand.
+pub fn duplicate(alloc: Global, tables: &[Table]) -> Result<Option<Line>, AllocError>
+    ensures { IfOk result (λ line. is_some line ≡ has_duplicate_in tables.now) }
+{
+    if let Some(line) = twice_table(alloc, Family::Ip, tables)? {
+        return Ok(Some(line));
+    }
+    if let Some(line) = twice_table(alloc, Family::Inet, tables)? {
+        return Ok(Some(line));
+    }
+    within_some(alloc, tables)
+}

@@ -1,0 +1,56 @@
+//! A text that has loaded.
+
+ghost use Rattle.std.specs.Prelude.{◌≡◌};
+ghost use Rattle.ruletext.specs.Runnable.{IsRunnable};
+
+use rulesyntax::tree::Spelled;
+use std::marker::Model;
+
+/// The rules of a text that has loaded: the tables as they are spelled, without a fault.
+#[derive(Drop)]
+pub struct Ruleset {
+    text: Spelled,
+}
+
+impl Model for Ruleset {
+    ghost use Rattle.rulesyntax.specs.declared.tree.Spelled.{Spelled as Tables};
+    ghost use Rattle.ruletext.specs.Runnable.{IsRunnable};
+
+    ghost Value = { Tables };
+
+    ghost view = { λ r. r.text };
+
+    ghost invariant = { λ r. IsRunnable r.text };
+}
+
+impl Ruleset {
+    /// The rules of a text without a fault.
+    pub(crate) fn of(text: Spelled) -> Ruleset
+        requires { IsRunnable text }
+        ensures { result ≡ text }
+    {
+        Ruleset { text }
+    }
+
+    /// The tables, in the order of the text.
+    pub fn text(&self) -> &Spelled
+        ensures { result.now ≡ self.now }
+    {
+        &self.text
+    }
+
+    /// What may be relied on.
+    pub fn is_runnable(&self)
+        ensures { IsRunnable self.now }
+    {
+        let _text = &self.text;
+    }
+
+    /// The tables by themselves.
+    pub fn into_text(self) -> Spelled
+        ensures same { result ≡ self }
+        ensures runnable { IsRunnable result }
+    {
+        self.text
+    }
+}
