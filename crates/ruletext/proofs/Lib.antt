@@ -12,3 +12,4 @@ pub mod KeyLemmas
 pub mod NoneBelow
 pub mod MayRunLemmas
 pub mod TextLemmas
+pub mod LoopLemmas

@@ -26,3 +26,4 @@ mod strong;
 mod tests;
 mod types;
 mod unknown;
+mod witness;

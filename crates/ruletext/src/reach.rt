@@ -27,8 +27,8 @@ fn mark_row_if(row: &[usize], marks: &mut [bool], wanted: bool)
     }
 }
 
-// One round: marks what a marked place leads to.
-fn spread(rows: &[Items<usize>], marks: &mut [bool])
+/// One round: marks what a marked place leads to.
+pub fn spread(rows: &[Items<usize>], marks: &mut [bool])
     requires within { AreWithin rows.now }
     requires same { length marks.old ≡ length rows.now }
     ensures kept { (b : ℕ) → IsMarked marks.old b → IsMarked marks.new b }

@@ -22,7 +22,7 @@ fn bounds(alloc: Global) -> Result<Bounds, AllocError> {
 // What the reader says of a text: the line and the kind, or `ok`.
 fn said(alloc: Global, bounds: &Bounds, text: &str) -> Result<String, AllocError> {
     match read(alloc, text.as_bytes(), bounds) {
-        Ok(_) => String::from_str(alloc, "ok"),
+        Ok(_rules) => String::from_str(alloc, "ok"),
         Err(fault) => Ok(format!(in alloc; "line {}: {}", fault.line, fault.kind)?),
     }
 }
@@ -648,7 +648,7 @@ fn at_the_limits(rt: HostRuntime) -> Result<(), AllocError> {
                 16384,
                 "}\n} chain c {\ntcp sport 5 accept\n} }",
             )?,
-            "line 16387: limit",
+            "line 16388: limit",
         ),
         (
             repeated(

@@ -1,0 +1,52 @@
+-- What follows from how rules are read.
+use Rattle.std.specs.Prelude.{◌≡◌, ◌↔◌, ℕ, List, [], Some, slice_get, IsTrue}
+use Rattle.packet.specs.Config.{Config}
+use Rattle.sets.specs.Members.{Fact}
+use Rattle.rulesyntax.specs.declared.tree.Value.{Value}
+use Rattle.rulesyntax.specs.declared.tree.Chain.{Chain}
+use Rattle.rulesyntax.specs.declared.tree.Table.{Table}
+use Rattle.rulesyntax.specs.declared.tree.Spelled.{Spelled}
+use Rattle.ruletext.specs.declared.class.Class.{Class}
+use Rattle.ruletext.specs.Classes.{Lies}
+use Rattle.ruletext.specs.Said.{verdicts_of, target_of}
+use Rattle.ruletext.specs.Calls.{OfSome}
+use Rattle.ruletext.specs.Runnable.{IsRunnable}
+use Rattle.verdict.specs.declared.facts.Facts.{Facts}
+use Rattle.verdict.specs.declared.hook.Filtering.TheVariants as filterings
+use Rattle.verdict.specs.declared.hook.Destination.TheVariants as destinations
+use Rattle.verdict.specs.declared.hook.Source.TheVariants as sources
+use Rattle.rulesyntax.specs.declared.tree.Hook.TheVariants.{Forward}
+use Rattle.verdict.specs.declared.chain.Outcome.TheVariants.{Accepts}
+use Rattle.verdict.specs.Targets.{OfEach}
+use Rattle.verdict.specs.Matching.{lies}
+use Rattle.verdict.specs.Evaluation.{walk, rules_of, called}
+use Rattle.verdict.specs.Hooks.{bases_of, base_outcome, forward_verdict, prerouting_verdict, postrouting_verdict}
+
+-- a ruleset of no tables passes everything and translates nothing
+abbrev pub NoRulesPass : Type 0
+NoRulesPass =
+    (config : Config) (facts : Facts) (text : Spelled) → text.tables ≡ []
+    → (forward_verdict config facts text ≡ filterings.Pass)
+    × (prerouting_verdict config facts text ≡ destinations.None)
+    × (postrouting_verdict config facts text ≡ sources.None)
+
+-- a packet passes exactly where every base chain at forward accepts, in whatever order they stand
+abbrev pub PassesWhereAllAccept : Type 0
+PassesWhereAllAccept =
+    (config : Config) (facts : Facts) (text : Spelled)
+    → (forward_verdict config facts text ≡ filterings.Pass) ↔ OfEach (λ base. base_outcome config facts base ≡ Accepts) (bases_of Forward text.tables)
+
+-- a rule of the chain may jump or go to this name
+abbrev pub Calls : Chain → List ℕ → Type 0
+Calls chain name = OfSome (λ rule. OfSome (λ verdict. target_of verdict ≡ Some name) (verdicts_of rule.end)) chain.rules
+
+-- in a text that has loaded a called chain comes to what its rules come to: the bound of 16 is never met
+abbrev pub CallsUnfold : Type 0
+CallsUnfold =
+    (config : Config) (facts : Facts) (text : Spelled) (table : Table) (chain : Chain) (name : List ℕ) (i a : ℕ)
+    → IsRunnable text → slice_get text.tables i ≡ Some table → slice_get table.chains a ≡ Some chain → Calls chain name
+    → called 16 config facts table name ≡ walk config facts table (called 16 config facts table) (rules_of table.chains name)
+
+-- the test for a value's facts is exact
+abbrev pub LiesIsExact : Type 0
+LiesIsExact = (class : Class) (value : Value) (fact : Fact) → IsTrue (lies class value fact) ↔ Lies class value fact

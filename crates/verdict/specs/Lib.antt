@@ -1,0 +1,6 @@
+pub mod Matching
+pub mod Evaluation
+pub mod Hooks
+pub mod Ranking
+pub mod Targets
+pub mod Laws

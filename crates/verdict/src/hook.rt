@@ -1,0 +1,207 @@
+//! What the rules decide at each hook.
+
+ghost use Rattle.std.specs.Prelude.{◌≡◌, []};
+ghost use Rattle.std.specs.Option.{option_map_or};
+ghost use Rattle.ruletext.specs.Calls.{OfSome, IsDeep};
+ghost use Rattle.verdict.specs.Targets.{OfEach, TargetsHave, IsShort, AreKnown};
+ghost use Rattle.verdict.specs.Hooks.{same_hook as are_same_hooks, settled as settled_by, at_hook, bases_among, bases_of, hook_outcome as outcome_of_hook, forward_verdict, prerouting_verdict, postrouting_verdict};
+ghost use Rattle.verdict.specs.Ranking.{preferred as preferred_of, final_of as final_of_outcome, first_final, outcome_of as outcome_of_final};
+
+use crate::chain::{Outcome, chain_outcome};
+use crate::facts::Facts;
+use crate::rules::Rules;
+use packet::bounds::Bounds;
+use packet::endpoint::Endpoint;
+use rulesyntax::tree::{Chain, Hook, Policy, Table};
+
+/// What becomes of a packet that would be forwarded.
+#[derive(Clone, Copy, Debug, PartialEq, Eq, Drop)]
+pub enum Filtering {
+    Pass,
+    Drop,
+}
+
+/// What becomes of a packet's destination before it is routed.
+#[derive(Clone, Copy, Debug, PartialEq, Eq, Drop)]
+pub enum Destination {
+    /// It stays.
+    None,
+    /// It is translated to this.
+    To(Endpoint),
+    /// The packet is dropped.
+    Drop,
+}
+
+/// What becomes of a packet's source address once it is routed.
+#[derive(Clone, Copy, Debug, PartialEq, Eq, Drop)]
+pub enum Source {
+    /// It stays.
+    None,
+    /// It is translated to this address.
+    From(u32),
+    /// The packet is dropped.
+    Drop,
+}
+
+// The most chains of a loaded text.
+const CHAINS: usize = 256;
+
+// What a base chain that doesn't accept comes to, and its priority.
+#[derive(Clone, Copy, Debug, Drop)]
+struct Final {
+    priority: i64,
+    outcome: Outcome,
+}
+
+fn is_same_hook(one: Hook, other: Hook) -> bool
+    ensures { result ≡ are_same_hooks one other }
+{
+    matches!(
+        (one, other),
+        (Hook::Prerouting, Hook::Prerouting)
+            | (Hook::Input, Hook::Input)
+            | (Hook::Forward, Hook::Forward)
+            | (Hook::Output, Hook::Output)
+            | (Hook::Postrouting, Hook::Postrouting)
+    )
+}
+
+fn settled(policy: Policy, outcome: Outcome) -> Outcome
+    ensures { result ≡ settled_by policy outcome }
+{
+    match (outcome, policy) {
+        (Outcome::Ends, Policy::Accept) => Outcome::Accepts,
+        (Outcome::Ends, Policy::Drop) => Outcome::Drops,
+        _ => outcome,
+    }
+}
+
+// Of two, the one of lower priority, and of equal ones the earlier.
+fn preferred(earlier: Option<Final>, later: Option<Final>) -> Option<Final>
+    ensures { result ≡ preferred_of earlier later }
+{
+    let Some(one) = earlier else {
+        return later;
+    };
+    let Some(other) = later else {
+        return earlier;
+    };
+    if one.priority <= other.priority {
+        return earlier;
+    }
+    later
+}
+
+fn final_of(priority: i64, outcome: Outcome) -> Option<Final>
+    ensures { result ≡ final_of_outcome priority outcome }
+{
+    match outcome {
+        Outcome::Accepts => None,
+        _ => Some(Final { priority, outcome }),
+    }
+}
+
+// What a chain comes to where it is a base chain of the hook.
+fn final_at(
+    bounds: &Bounds,
+    facts: &Facts,
+    hook: Hook,
+    table: &Table,
+    chain: &Chain,
+    known: &mut [Option<Outcome>],
+) -> Option<Final>
+    requires short { OfEach (TargetsHave (IsShort table.now.chains 16)) chain.now.rules }
+    requires known { AreKnown bounds.now facts.now table.now known.old }
+    ensures still_known { AreKnown bounds.now facts.now table.now known.new }
+    ensures outcome { result ≡ first_final bounds.now facts.now (option_map_or (at_hook hook table.now chain.now) chain.now.base []) }
+{
+    let base = chain.base.as_ref()?;
+    if !is_same_hook(base.hook, hook) {
+        return None;
+    }
+    let outcome = chain_outcome(bounds, facts, table, chain.rules.as_slice(), known);
+    final_of(base.priority, settled(base.policy, outcome))
+}
+
+fn final_among(bounds: &Bounds, facts: &Facts, hook: Hook, table: &Table) -> Option<Final>
+    requires { ¬ IsDeep table.now.chains }
+    ensures { result ≡ first_final bounds.now facts.now (bases_among hook table.now table.now.chains) }
+{
+    if table.chains.is_empty() {
+        return None;
+    }
+    let mut first = None;
+    let mut known = [None; CHAINS];
+    for chain in table.chains.as_slice() {
+        let other = final_at(bounds, facts, hook, table, chain, &mut known);
+        first = preferred(first, other);
+    }
+    first
+}
+
+fn final_of_all(bounds: &Bounds, facts: &Facts, hook: Hook, tables: &[Table]) -> Option<Final>
+    requires { ¬ OfSome (λ table. IsDeep table.chains) tables.now }
+    ensures { result ≡ first_final bounds.now facts.now (bases_of hook tables.now) }
+{
+    let mut first = None;
+    for table in tables {
+        first = preferred(first, final_among(bounds, facts, hook, table));
+    }
+    first
+}
+
+fn outcome_of(first: Option<Final>) -> Outcome
+    ensures { result ≡ outcome_of_final first }
+{
+    match first {
+        None => Outcome::Accepts,
+        Some(first) => first.outcome,
+    }
+}
+
+#[tactic(auto, using(crate::proofs::Ranked::first_is_in_order), unfolding(crate::specs::Hooks::hook_outcome))]
+fn hook_outcome(rules: &Rules, bounds: &Bounds, facts: &Facts, hook: Hook) -> Outcome
+    ensures { result ≡ outcome_of_hook bounds.now facts.now hook rules.now }
+{
+    rules.is_runnable();
+    let first = final_of_all(bounds, facts, hook, rules.text().tables.as_slice());
+    outcome_of(first)
+}
+
+/// Whether a packet that is routed passes: where every base chain at the hook accepts, or there is none.
+/// Takes no memory.
+#[tactic(auto, unfolding(crate::specs::Hooks::forward_verdict))]
+pub fn forward(rules: &Rules, bounds: &Bounds, facts: &Facts) -> Filtering
+    ensures { result ≡ forward_verdict bounds.now facts.now rules.now }
+{
+    match hook_outcome(rules, bounds, facts, Hook::Forward) {
+        Outcome::Accepts => Filtering::Pass,
+        _ => Filtering::Drop,
+    }
+}
+
+/// The new destination of a packet for the external address that isn't routed yet. One that is given
+/// without a port has the packet's. Takes no memory.
+#[tactic(auto, unfolding(crate::specs::Hooks::prerouting_verdict))]
+pub fn prerouting(rules: &Rules, bounds: &Bounds, facts: &Facts) -> Destination
+    ensures { result ≡ prerouting_verdict bounds.now facts.now rules.now }
+{
+    match hook_outcome(rules, bounds, facts, Hook::Prerouting) {
+        Outcome::To(endpoint) => Destination::To(endpoint),
+        Outcome::Drops => Destination::Drop,
+        _ => Destination::None,
+    }
+}
+
+/// The new source address of a packet that leaves; masquerading gives the external one. Takes no
+/// memory.
+#[tactic(auto, unfolding(crate::specs::Hooks::postrouting_verdict))]
+pub fn postrouting(rules: &Rules, bounds: &Bounds, facts: &Facts) -> Source
+    ensures { result ≡ postrouting_verdict bounds.now facts.now rules.now }
+{
+    match hook_outcome(rules, bounds, facts, Hook::Postrouting) {
+        Outcome::From(addr) => Source::From(addr),
+        Outcome::Drops => Source::Drop,
+        _ => Source::None,
+    }
+}

@@ -1,0 +1,25 @@
+//! What follows from how rules are read: each function does nothing, and is proved to meet its clause.
+
+ghost use Rattle.verdict.specs.Laws.{NoRulesPass, PassesWhereAllAccept, CallsUnfold, LiesIsExact};
+
+/// A ruleset of no tables passes everything and translates nothing.
+pub fn no_rules_pass()
+    ensures { NoRulesPass }
+{}
+
+/// A packet passes exactly where every base chain at forward accepts, in whatever order they stand.
+pub fn passes_where_all_accept()
+    ensures { PassesWhereAllAccept }
+{}
+
+/// In a text that has loaded, what a chain that is jumped or gone to comes to is the plain recursion:
+/// the bound of 16 jumps and gotos is never met.
+pub fn calls_unfold()
+    ensures { CallsUnfold }
+{}
+
+/// A fact is a member of a side exactly where it is one of those that a value of the side stands for,
+/// as the values of the text are read when it is loaded.
+pub fn lies_is_exact()
+    ensures { LiesIsExact }
+{}

@@ -1,0 +1,132 @@
+//! Whether the matches of a rule hold of a packet.
+
+ghost use Rattle.std.specs.Prelude.{◌≡◌};
+ghost use Rattle.std.specs.List.{list_all};
+ghost use Rattle.sets.specs.Members.{fact_of};
+ghost use Rattle.verdict.specs.Matching.{is_in_set as set_holds, is_in_named as named_set_holds, is_on_side, name_of as name_of_iface, name_out as name_out_of, state_number as number_of_state, asked as asked_fact, is_of as is_of_transport, has_protocol as head_has_protocol, holds as test_holds};
+
+use crate::facts::{Facts, State};
+use crate::value::{is_member, lies};
+use packet::bounds::Bounds;
+use packet::endpoint::{Iface, Proto};
+use rulesyntax::tree::{Head, Match, Set, Side, Transport};
+use ruletext::class::{Class, class_of};
+use sets::Value as Fact;
+
+fn is_in_set(class: Class, fact: Fact<'_>, set: &Set) -> bool
+    ensures { result ≡ set_holds class (fact_of fact.entry) set.now }
+{
+    let lines = set.elements.as_slice();
+    lines
+        .iter()
+        .any(|line| is_member(class, line.elements.as_slice(), fact))
+}
+
+#[tactic(auto, unfolding(crate::specs::Matching::is_in_named))]
+fn is_in_named(class: Class, fact: Fact<'_>, sets: &[Set], name: &[u8]) -> bool
+    ensures { result ≡ named_set_holds sets.now class name.now (fact_of fact.entry) }
+{
+    for set in sets {
+        if set.name.as_slice() == name {
+            return is_in_set(class, fact, set);
+        }
+    }
+    false
+}
+
+#[tactic(auto, unfolding(crate::specs::Matching::is_on_side))]
+fn is_in_side(sets: &[Set], class: Class, side: &Side, fact: Fact<'_>) -> bool
+    ensures { result ≡ is_on_side sets.now class side.now (fact_of fact.entry) }
+{
+    match side {
+        Side::One(element) => lies(class, &element.value, fact),
+        Side::Several(elements) => is_member(class, elements.as_slice(), fact),
+        Side::Named(named) => is_in_named(class, fact, sets, named.name.as_slice()),
+    }
+}
+
+fn name_of(bounds: &Bounds, iface: Iface) -> &[u8]
+    ensures { result.now ≡ name_of_iface bounds.now iface }
+{
+    match iface {
+        Iface::Lan => bounds.lan(),
+        Iface::Wan => bounds.wan(),
+    }
+}
+
+fn name_out(bounds: &Bounds, iface: Option<Iface>) -> &[u8]
+    ensures { result.now ≡ name_out_of bounds.now iface }
+{
+    match iface {
+        None => &[],
+        Some(iface) => name_of(bounds, iface),
+    }
+}
+
+fn state_number(state: State) -> u32
+    ensures { result ≡ number_of_state state }
+{
+    match state {
+        State::New => 0,
+        State::Established => 1,
+    }
+}
+
+/// The fact of the packet that a head asks for.
+#[tactic(auto, unfolding(crate::specs::Matching::asked, sets::specs::Members::fact_of))]
+pub fn asked<'a>(bounds: &'a Bounds, facts: &Facts, head: Head) -> Fact<'a>
+    ensures { fact_of result ≡ asked_fact bounds.now facts.now head }
+{
+    match head {
+        Head::Iifname => Fact::Name(name_of(bounds, facts.iif)),
+        Head::Oifname => Fact::Name(name_out(bounds, facts.oif)),
+        Head::Saddr => Fact::Number(facts.src.addr),
+        Head::Daddr => Fact::Number(facts.dst.addr),
+        Head::Protocol => Fact::Number(u32::from(facts.proto.number())),
+        Head::Sport(_) => Fact::Number(u32::from(facts.src.port)),
+        Head::Dport(_) => Fact::Number(u32::from(facts.dst.port)),
+        Head::State => Fact::Number(state_number(facts.state)),
+    }
+}
+
+fn is_of(transport: Transport, proto: Proto) -> bool
+    ensures { result ≡ is_of_transport transport proto }
+{
+    matches!(
+        (transport, proto),
+        (Transport::Tcp, Proto::Tcp) | (Transport::Udp, Proto::Udp)
+    )
+}
+
+/// Whether the packet has the protocol that a head demands, where it demands one.
+#[tactic(auto, unfolding(crate::specs::Matching::has_protocol))]
+pub fn has_protocol(head: Head, proto: Proto) -> bool
+    ensures { result ≡ head_has_protocol head proto }
+{
+    match head {
+        Head::Sport(transport) | Head::Dport(transport) => is_of(transport, proto),
+        _ => true,
+    }
+}
+
+#[tactic(auto, unfolding(crate::specs::Matching::holds))]
+fn holds(bounds: &Bounds, sets: &[Set], facts: &Facts, test: &Match) -> bool
+    ensures { result ≡ test_holds bounds.now sets.now facts.now test.now }
+{
+    if !has_protocol(test.head, facts.proto) {
+        return false;
+    }
+    let fact = asked(bounds, facts, test.head);
+    let inside = is_in_side(sets, class_of(test.head), &test.side, fact);
+    if test.negated {
+        return !inside;
+    }
+    inside
+}
+
+/// Whether all the matches of a rule hold.
+pub fn all_hold(bounds: &Bounds, sets: &[Set], facts: &Facts, tests: &[Match]) -> bool
+    ensures { result ≡ list_all (test_holds bounds.now sets.now facts.now) tests.now }
+{
+    tests.iter().all(|test| holds(bounds, sets, facts, test))
+}

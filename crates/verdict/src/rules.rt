@@ -1,0 +1,52 @@
+//! The rules of a loaded text, as packets meet them.
+
+ghost use Rattle.std.specs.Prelude.{◌≡◌, IfOk};
+ghost use Rattle.ruletext.specs.Runnable.{IsRunnable};
+
+use rulesyntax::tree::Spelled;
+use ruletext::ruleset::Ruleset;
+use std::alloc::{AllocError, Global};
+use std::marker::Model;
+
+/// The rules of a loaded text, as packets meet them. To callers they are the tables of the text.
+#[derive(Drop)]
+pub struct Rules {
+    text: Spelled,
+}
+
+impl Model for Rules {
+    ghost use Rattle.rulesyntax.specs.declared.tree.Spelled.{Spelled as Tables};
+    ghost use Rattle.ruletext.specs.Runnable.{IsRunnable};
+
+    ghost Value = { Tables };
+
+    ghost view = { λ r. r.text };
+
+    ghost invariant = { λ r. IsRunnable r.text };
+}
+
+impl Rules {
+    /// The rules of a text that has loaded. It fails only where a growth is refused.
+    pub fn of(_alloc: Global, loaded: Ruleset) -> Result<Rules, AllocError>
+        ensures { IfOk result (λ rules. rules ≡ loaded) }
+    {
+        loaded.is_runnable();
+        Ok(Rules {
+            text: loaded.into_text(),
+        })
+    }
+
+    /// The tables, in the order of the text.
+    pub fn text(&self) -> &Spelled
+        ensures { result.now ≡ self.now }
+    {
+        &self.text
+    }
+
+    /// What the tables may be relied on for. It does nothing but carry this fact.
+    pub fn is_runnable(&self)
+        ensures { IsRunnable self.now }
+    {
+        let _text = &self.text;
+    }
+}
