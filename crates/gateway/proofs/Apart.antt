@@ -1,69 +1,93 @@
--- Sessions that are apart stay so where one is seen again or begins.
-use Rattle.std.proofs.Common.{◌≡◌, ◌≢◌, ◌⊎◌, ℕ, zero, suc, ◌<◌, List, [], ◌∷◌, length, get_or, set, Some, None, Bool, true, false, cond, not, refl, sym, ap, ◌∙◌, subst, inl, inr, arith}
-use Rattle.std.specs.List.{find, AllPairs, Contains}
-use Rattle.std.proofs.lemmas.Bool.{cases_Bool, cases_eq, cases_lt, and_from, false≢true, false_from_ne_true}
+-- Sessions that are sound, and what may join them.
+use Rattle.std.proofs.Common.{◌≡◌, ◌≢◌, ◌⊎◌, ℕ, zero, suc, ◌<◌, ◌≤◌, List, [], ◌∷◌, Option, Some, None, is_some, Bool, true, false, cond, not, ◌&&◌, refl, sym, ap, ◌∙◌, subst, inl, inr, arith}
+use Rattle.std.specs.Option.{option_map}
+use Rattle.std.proofs.lemmas.Bool.{cases_Bool, and_parts, and_from, false≢true, not-true, false_from_ne_true}
+use Rattle.std.proofs.lemmas.Bool.Decides.{nat_tests}
 use Rattle.std.proofs.lemmas.Option.{none-some, same_Some}
-use Rattle.std.proofs.lemmas.List.{get_or-set_other, length-set}
-use Rattle.std.proofs.lemmas.List.Folds.{list_any_at}
-use Rattle.std.proofs.lemmas.Grind.{get_or-set_at}
+use Rattle.packet.specs.Config.{Config, is_config, is_inside}
 use Rattle.packet.specs.Same.{same_proto, same_endpoint}
-use Rattle.packet.proofs.SameLemmas.{same_proto-itself, same_endpoint-true, same_endpoint-itself}
-use Rattle.packet.specs.declared.endpoint.Proto.{Proto}
 use Rattle.packet.specs.declared.endpoint.Endpoint.{Endpoint}
-use Rattle.gateway.specs.Sessions.{has_inside, maps_inside, has_outside, is_taken, put}
-use Rattle.gateway.specs.Sound.{IsTranslated, Clash}
-use Rattle.gateway.specs.declared.session.Session.{Session}
-
--- the session stands at the place
-pub record IsAt (ss : List Session) (place : ℕ) (s : Session) : Type 0 where
-  pub in_range : place < length ss
-  pub is : (d : Session) → get_or ss place d ≡ s
-
-abbrev pub Apart : List Session → Type 0
-Apart ss = AllPairs (λ t u. ¬ Clash t u) ss
-
--- within the list a look-up has no need of what stands in for nothing
-within : {X : Type 0} (xs : List X) (k : ℕ) (d e : X) → k < length xs → get_or xs k d ≡ get_or xs k e
-within [] k d e lt = absurd (omega (arith, lt))
-within (x ∷ xs) zero d e lt = refl
-within (x ∷ xs) (suc k) d e lt = within xs k d e (omega (arith, lt))
-
-pub at_index : (ss : List Session) (k : ℕ) (d : Session) → k < length ss → IsAt ss k (get_or ss k d)
-at_index ss k d lt = record { in_range = lt; is = λ e. within ss k e d lt }
-
-pub at_member : (ss : List Session) (s : Session) → Contains ss s → (place : ℕ) × IsAt ss place s
-at_member ss s member = (member.0, record { in_range = member.1; is = λ d. within ss member.0 d s member.1 ∙ member.2 })
-
-pub member_at : (ss : List Session) (place : ℕ) (s : Session) → IsAt ss place s → Contains ss s
-member_at ss place s at = (place, at.in_range, at.is s)
-
-pub find-at : (p : Session → Bool) (ss : List Session) (s : Session) → find p ss ≡ Some s → (place : ℕ) × IsAt ss place s × (p s ≡ true)
-find-at p [] s e = absurd (none-some _ e)
-find-at p (t ∷ ss) s e = elim (cases_Bool (p t)) [
-  | inl hit ↦
-      let same : t ≡ s = same_Some _ _ (ap (λ b. cond b (Some t) (find p ss)) (sym hit) ∙ e) in
-      (0, record { in_range = omega arith; is = λ d. same }, ap p (sym same) ∙ hit)
-  | inr miss ↦
-      let rest = find-at p ss s (ap (λ b. cond b (Some t) (find p ss)) (sym miss) ∙ e) in
-      (suc rest.0, record { in_range = omega (arith, rest.1.in_range); is = rest.1.is }, rest.2)
-]
-
-pub find-none : (p : Session → Bool) (ss : List Session) (place : ℕ) (s : Session) → find p ss ≡ None → IsAt ss place s → p s ≡ false
-find-none p [] place s e at = absurd (omega (arith, at.in_range))
-find-none p (t ∷ ss) zero s e at = elim (cases_Bool (p t)) [
-  | inl hit ↦ absurd (none-some _ (sym e ∙ ap (λ b. cond b (Some t) (find p ss)) hit))
-  | inr miss ↦ ap p (sym (at.is t)) ∙ miss
-]
-find-none p (t ∷ ss) (suc k) s e at = elim (cases_Bool (p t)) [
-  | inl hit ↦ absurd (none-some _ (sym e ∙ ap (λ b. cond b (Some t) (find p ss)) hit))
-  | inr miss ↦ find-none p ss k s (ap (λ b. cond b (Some t) (find p ss)) (sym miss) ∙ e)
-      (record { in_range = omega (arith, at.in_range); is = λ d. at.is d })
-]
+use Rattle.packet.specs.declared.endpoint.Proto.{Proto}
+use Rattle.packet.proofs.SameLemmas.{same_proto-true, same_proto-itself, same_endpoint-true, same_endpoint-itself}
+use Rattle.portpick.specs.Choice.{port_choice, first_free, size_of_class, step as next, least, greatest}
+use Rattle.sessions.specs.Listing.{In, find, has_inside}
+use Rattle.sessions.specs.Table.{Clash}
+use Rattle.sessions.specs.declared.session.Session.{Session}
+use Rattle.sessions.proofs.Puts.{find-some, has_inside-from}
+use Rattle.gateway.specs.Legs.{is_at, is_taken, maps_inside, masqueraded, outside_by}
+use Rattle.gateway.specs.Sound.{AreSound, IsPlaced}
+use Rattle.gateway.specs.Translations.{endpoint}
 
 pub cases_endpoint : (e f : Endpoint) → (e ≡ f) ⊎ (e ≢ f)
 cases_endpoint e f = elim (cases_Bool (same_endpoint e f)) [
   | inl h ↦ inl (same_endpoint-true e f h)
   | inr h ↦ inr (λ same. false≢true (sym h ∙ sym (ap (same_endpoint e) same) ∙ same_endpoint-itself e))
+]
+
+pub differ : (e f : Endpoint) → e ≢ f → same_endpoint e f ≡ false
+differ e f ne = false_from_ne_true _ (λ h. ne (same_endpoint-true e f h))
+
+pub apart-from : (e f : Endpoint) → same_endpoint e f ≡ false → e ≢ f
+apart-from e f h same = false≢true (sym h ∙ sym (ap (same_endpoint e) same) ∙ same_endpoint-itself e)
+
+same_proto-from : (p q : Proto) → p ≡ q → same_proto p q ≡ true
+same_proto-from p q e = subst (λ x. same_proto p x ≡ true) e (same_proto-itself p)
+
+same_endpoint-from : (e f : Endpoint) → e ≡ f → same_endpoint e f ≡ true
+same_endpoint-from e f is = subst (λ x. same_endpoint e x ≡ true) is (same_endpoint-itself e)
+
+pub maps-parts : (proto : Proto) (inside : Endpoint) (s : Session) → maps_inside proto inside s ≡ true → (s.inside ≢ s.outside) × (s.proto ≡ proto) × (s.inside ≡ inside)
+unfolding maps_inside
+maps-parts proto inside s h =
+    let a = and_parts (not (same_endpoint s.inside s.outside) && same_proto s.proto proto) (same_endpoint s.inside inside) h in
+    let b = and_parts (not (same_endpoint s.inside s.outside)) (same_proto s.proto proto) a.0 in
+    (apart-from _ _ (not-true _ b.0), same_proto-true _ _ b.1, same_endpoint-true _ _ a.1)
+
+pub maps-from : (proto : Proto) (inside : Endpoint) (s : Session) → s.inside ≢ s.outside → s.proto ≡ proto → s.inside ≡ inside → maps_inside proto inside s ≡ true
+unfolding maps_inside
+maps-from proto inside s away p i =
+    and_from _ _ (and_from _ _ (ap not (differ s.inside s.outside away)) (same_proto-from s.proto proto p)) (same_endpoint-from s.inside inside i)
+
+pub at-parts : (proto : Proto) (outside : Endpoint) (s : Session) → is_at proto outside s ≡ true → (s.proto ≡ proto) × (s.outside ≡ outside)
+unfolding is_at
+at-parts proto outside s h = let a = and_parts _ _ h in (same_proto-true _ _ a.0, same_endpoint-true _ _ a.1)
+
+pub at-from : (proto : Proto) (outside : Endpoint) (s : Session) → s.proto ≡ proto → s.outside ≡ outside → is_at proto outside s ≡ true
+unfolding is_at
+at-from proto outside s p o = and_from _ _ (same_proto-from s.proto proto p) (same_endpoint-from s.outside outside o)
+
+-- what is found is a member that passes
+pub find-In : (p : Session → Bool) (xs : List Session) (s : Session) → find p xs ≡ Some s → In s xs × (p s ≡ true)
+find-In p [] s e = absurd (none-some s e)
+find-In p (x ∷ xs) s e = elim (cases_Bool (p x)) [
+  | inl is_so ↦
+      let is : x ≡ s = same_Some x s (sym (ap (λ b. cond b (Some x) (find p xs)) is_so) ∙ e) in
+      (inl (sym is), ap p (sym is) ∙ is_so)
+  | inr not_so ↦
+      let old = find-In p xs s (sym (ap (λ b. cond b (Some x) (find p xs)) not_so) ∙ e) in
+      (inr old.0, old.1)
+]
+
+some_or_none : (o : Option Session) → ((s : Session) × (o ≡ Some s)) ⊎ (o ≡ None)
+some_or_none (Some s) = inl (s, refl)
+some_or_none None = inr refl
+
+is_some-None : (o : Option Session) → o ≡ None → is_some o ≡ true → ⊥
+is_some-None (Some s) e h = none-some s (sym e)
+is_some-None None e h = false≢true h
+
+pub taken-from : (sessions : List Session) (proto : Proto) (addr port : ℕ) (s : Session) → In s sessions → s.proto ≡ proto → s.outside ≡ endpoint addr port → is_taken sessions proto addr port ≡ true
+taken-from sessions proto addr port s is p o =
+    let found = find-some (is_at proto (endpoint addr port)) sessions s is (at-from proto (endpoint addr port) s p o) in
+    ap is_some found.1
+
+pub taken-by : (sessions : List Session) (proto : Proto) (addr port : ℕ) → is_taken sessions proto addr port ≡ true → (s : Session) × In s sessions × (s.proto ≡ proto) × (s.outside ≡ endpoint addr port)
+taken-by sessions proto addr port h = elim (some_or_none (find (is_at proto (endpoint addr port)) sessions)) [
+  | inl some ↦
+      let is = find-In (is_at proto (endpoint addr port)) sessions some.0 some.1 in
+      let parts = at-parts proto (endpoint addr port) some.0 is.1 in
+      (some.0, is.0, parts.0, parts.1)
+  | inr none ↦ absurd (is_some-None (find (is_at proto (endpoint addr port)) sessions) none h)
 ]
 
 pub clash-sym : (s t : Session) → Clash s t → Clash t s
@@ -79,124 +103,125 @@ clash-sym s t (inr (inr h)) = inr (inr (
   ],
 ))
 
--- two that stand in sessions that are apart are one, or don't clash
-pub one_or_apart : (ss : List Session) (i j : ℕ) (s t : Session) → Apart ss → IsAt ss i s → IsAt ss j t → (s ≡ t) ⊎ ¬ Clash s t
-one_or_apart ss i j s t apart a b = elim (cases_lt i j) [
-  | inl lt ↦ inr (λ clash. apart i j s lt b.in_range (rw (a.is s, b.is s) clash))
-  | inr ge ↦ elim (cases_lt j i) [
-    | inl lt ↦ inr (λ clash. apart j i s lt a.in_range (rw (a.is s, b.is s) (clash-sym s t clash)))
-    | inr le ↦
-        let same : i ≡ j = omega (arith, ge, le) in
-        inl (sym (a.is s) ∙ ap (λ k. get_or ss k s) same ∙ b.is s)
-  ]
-]
+-- the external address isn't inside
+pub outside_away : (config : Config) → is_config config ≡ true → is_inside config config.external ≡ true → ⊥
+unfolding is_config
+outside_away config h inside =
+    let a = and_parts _ (not (is_inside config config.external)) h in
+    false≢true (sym (not-true _ a.1) ∙ inside)
 
--- of two that are translated, the inside endpoints are one exactly where the outside endpoints are
-pub agree : (ss : List Session) (i j : ℕ) (s t : Session) → Apart ss → IsAt ss i s → IsAt ss j t → IsTranslated s → IsTranslated t → s.proto ≡ t.proto
-    → (s.inside ≡ t.inside → s.outside ≡ t.outside) × (s.outside ≡ t.outside → s.inside ≡ t.inside)
-agree ss i j s t apart a b s_away t_away proto = elim (one_or_apart ss i j s t apart a b) [
-  | inl same ↦ (λ e. ap (λ (u : Session). u.outside) same, λ e. ap (λ (u : Session). u.inside) same)
-  | inr unlike ↦ (
-    λ e. elim (cases_endpoint s.outside t.outside) [ inl is ↦ is | inr ne ↦ absurd (unlike (inr (inr (s_away, t_away, proto, inl (e, ne))))) ],
-    λ e. elim (cases_endpoint s.inside t.inside) [ inl is ↦ is | inr ne ↦ absurd (unlike (inr (inr (s_away, t_away, proto, inr (e, ne))))) ],
+-- a session at the external address is translated
+pub translated_at : (config : Config) (s : Session) → is_config config ≡ true → IsPlaced config s → s.outside.addr ≡ config.external → s.inside ≢ s.outside
+translated_at config s is_one placed at e = outside_away config is_one (subst (λ a. is_inside config a ≡ true) (ap (λ (x : Endpoint). x.addr) e ∙ at) placed.inside)
+
+module _ (sessions : List Session) (apart : (s t : Session) → In s sessions → In t sessions → s ≢ t → ¬ Clash s t) where
+  -- of two that are translated, the inside endpoints are one exactly where the outside endpoints are
+  pub agree : (s t : Session) → In s sessions → In t sessions → s.inside ≢ s.outside → t.inside ≢ t.outside → s.proto ≡ t.proto
+      → (s.inside ≡ t.inside → s.outside ≡ t.outside) × (s.outside ≡ t.outside → s.inside ≡ t.inside)
+  agree s t in_s in_t s_away t_away proto = (
+    (λ e. elim (cases_endpoint s.outside t.outside) [
+      | inl is ↦ is
+      | inr ne ↦ absurd (apart s t in_s in_t (λ same. ne (ap (λ (u : Session). u.outside) same)) (inr (inr (s_away, t_away, proto, inl (e, ne)))))
+    ]),
+    (λ e. elim (cases_endpoint s.inside t.inside) [
+      | inl is ↦ is
+      | inr ne ↦ absurd (apart s t in_s in_t (λ same. ne (ap (λ (u : Session). u.inside) same)) (inr (inr (s_away, t_away, proto, inr (e, ne)))))
+    ]),
   )
-]
 
-has_inside-from : (proto : Proto) (inside remote : Endpoint) (s : Session) → s.proto ≡ proto → s.inside ≡ inside → s.remote ≡ remote → has_inside proto inside remote s ≡ true
-unfolding has_inside
-has_inside-from proto inside remote s p i r =
-    and_from _ _ (and_from _ _ (subst (λ x. same_proto s.proto x ≡ true) p (same_proto-itself s.proto)) (subst (λ x. same_endpoint s.inside x ≡ true) i (same_endpoint-itself s.inside)))
-    (subst (λ x. same_endpoint s.remote x ≡ true) r (same_endpoint-itself s.remote))
+  -- a new session, of which none is of the same protocol, inside and remote endpoint
+  module _ (new : Session) (none : find (has_inside new.proto new.inside new.remote) sessions ≡ None) (s : Session) (in_s : In s sessions) where
+    fresh : s.proto ≡ new.proto → s.inside ≡ new.inside → s.remote ≡ new.remote → ⊥
+    fresh p i r =
+        let found = find-some (has_inside new.proto new.inside new.remote) sessions s in_s (has_inside-from new.proto new.inside new.remote s (p, i, r)) in
+        none-some found.0 (sym none ∙ found.1)
 
-has_outside-from : (proto : Proto) (outside : Endpoint) (s : Session) → s.proto ≡ proto → s.outside ≡ outside → has_outside proto outside s ≡ true
-unfolding has_outside
-has_outside-from proto outside s p o =
-    and_from _ _ (subst (λ x. same_proto s.proto x ≡ true) p (same_proto-itself s.proto)) (subst (λ x. same_endpoint s.outside x ≡ true) o (same_endpoint-itself s.outside))
+    -- by a mapping that lives
+    mapped_apart : (m : Session) → In m sessions → m.inside ≢ m.outside → m.proto ≡ new.proto → m.inside ≡ new.inside → m.outside ≡ new.outside
+        → s.inside ≢ m.outside → ¬ Clash new s
+    mapped_apart m in_m m_away m_proto m_inside m_outside placed (inl h) = fresh h.0 h.1 h.2
+    mapped_apart m in_m m_away m_proto m_inside m_outside placed (inr (inl h)) = elim (cases_endpoint s.inside s.outside) [
+      | inl plain ↦ placed (plain ∙ h.1 ∙ sym m_outside)
+      | inr away ↦
+          let same = agree s m in_s in_m away m_away (h.0 ∙ sym m_proto) in
+          fresh h.0 (same.1 (h.1 ∙ sym m_outside) ∙ m_inside) h.2
+    ]
+    mapped_apart m in_m m_away m_proto m_inside m_outside placed (inr (inr h)) =
+        let same = agree s m in_s in_m h.1 m_away (sym h.2 ∙ sym m_proto) in
+        elim h.3 [
+          | inl i ↦ i.1 (sym (same.0 (sym i.0 ∙ sym m_inside) ∙ m_outside))
+          | inr o ↦ o.1 (sym (same.1 (sym o.0 ∙ sym m_outside) ∙ m_inside))
+        ]
 
-differ : (e f : Endpoint) → e ≢ f → same_endpoint e f ≡ false
-differ e f ne = false_from_ne_true _ (λ h. ne (same_endpoint-true e f h))
-
-maps_inside-from : (proto : Proto) (inside : Endpoint) (s : Session) → IsTranslated s → s.proto ≡ proto → s.inside ≡ inside → maps_inside proto inside s ≡ true
-unfolding maps_inside
-maps_inside-from proto inside s away p i =
-    and_from _ _ (and_from _ _ (ap not (differ s.inside s.outside away)) (subst (λ x. same_proto s.proto x ≡ true) p (same_proto-itself s.proto)))
-    (subst (λ x. same_endpoint s.inside x ≡ true) i (same_endpoint-itself s.inside))
-
-pub translated-from : (s : Session) → same_endpoint s.inside s.outside ≡ false → IsTranslated s
-translated-from s h same = false≢true (sym h ∙ sym (ap (same_endpoint s.inside) same) ∙ same_endpoint-itself s.inside)
-
--- a new session, of which none is of the same protocol, inside and remote endpoint
-module _ (ss : List Session) (t : Session) (none : find (has_inside t.proto t.inside t.remote) ss ≡ None) (place : ℕ) (s : Session) (at : IsAt ss place s) where
-  fresh : s.proto ≡ t.proto → s.inside ≡ t.inside → s.remote ≡ t.remote → ⊥
-  fresh p i r = false≢true (sym (find-none (has_inside t.proto t.inside t.remote) ss place s none at) ∙ has_inside-from t.proto t.inside t.remote s p i r)
-
-  -- by a mapping that lives
-  pub mapped_apart : (j : ℕ) (m : Session) → Apart ss → IsAt ss j m → IsTranslated m → m.proto ≡ t.proto → m.inside ≡ t.inside → m.outside ≡ t.outside
-      → s.inside ≢ m.outside → ¬ Clash s t
-  mapped_apart j m apart m_at m_away m_proto m_inside m_outside placed (inl h) = fresh h.0 h.1 h.2
-  mapped_apart j m apart m_at m_away m_proto m_inside m_outside placed (inr (inl h)) = elim (cases_endpoint s.inside s.outside) [
-    | inl plain ↦ placed (plain ∙ h.1 ∙ sym m_outside)
-    | inr away ↦
-        let same = agree ss place j s m apart at m_at away m_away (h.0 ∙ sym m_proto) in
-        fresh h.0 (same.1 (h.1 ∙ sym m_outside) ∙ m_inside) h.2
-  ]
-  mapped_apart j m apart m_at m_away m_proto m_inside m_outside placed (inr (inr h)) =
-      let same = agree ss place j s m apart at m_at h.0 m_away (h.2 ∙ sym m_proto) in
-      elim h.3 [
-        | inl i ↦ i.1 (same.0 (i.0 ∙ sym m_inside) ∙ m_outside)
-        | inr o ↦ o.1 (same.1 (o.0 ∙ sym m_outside) ∙ m_inside)
-      ]
-
-  -- at a port that none has
-  pub chosen_apart : find (maps_inside t.proto t.inside) ss ≡ None → is_taken ss t.proto t.outside.addr t.outside.port ≡ false → ¬ Clash s t
-  chosen_apart unmapped free clash =
-      let taken : s.proto ≡ t.proto → s.outside ≡ t.outside → ⊥ = λ p o.
-      false≢true (sym free ∙ list_any_at (has_outside t.proto t.outside) ss place s at.in_range (ap (has_outside t.proto t.outside) (at.is s) ∙ has_outside-from t.proto t.outside s p o)) in
-      elim clash [
-        | inl h ↦ fresh h.0 h.1 h.2
-        | inr more ↦ elim more [
-          | inl h ↦ taken h.0 h.1
-          | inr h ↦ elim h.3 [
-            | inl i ↦ false≢true (sym (find-none (maps_inside t.proto t.inside) ss place s unmapped at) ∙ maps_inside-from t.proto t.inside s h.0 h.2 i.0)
-            | inr o ↦ taken h.2 o.0
+    -- at a port that none has
+    chosen_apart : find (maps_inside new.proto new.inside) sessions ≡ None → is_taken sessions new.proto new.outside.addr new.outside.port ≡ false → ¬ Clash new s
+    chosen_apart unmapped free clash =
+        let taken : s.proto ≡ new.proto → s.outside ≡ new.outside → ⊥ = λ p o.
+        false≢true (sym free ∙ taken-from sessions new.proto new.outside.addr new.outside.port s in_s p o) in
+        elim clash [
+          | inl h ↦ fresh h.0 h.1 h.2
+          | inr more ↦ elim more [
+            | inl h ↦ taken h.0 h.1
+            | inr h ↦ elim h.3 [
+              | inl i ↦
+                  let found = find-some (maps_inside new.proto new.inside) sessions s in_s (maps-from new.proto new.inside s h.1 (sym h.2) (sym i.0)) in
+                  none-some found.0 (sym unmapped ∙ found.1)
+              | inr o ↦ taken (sym h.2) (sym o.0)
+            ]
           ]
         ]
-      ]
 
--- a relation of all pairs stays where one element is written over by one that is related alike
-pub pairs-set : {X : Type 0} (R : X → X → Type 0) (xs : List X) (place : ℕ) (y : X) → ((d u : X) → R (get_or xs place d) u → R y u) → ((d u : X) → R u (get_or xs place d) → R u y)
-    → AllPairs R xs → AllPairs R (set xs place y)
-pairs-set R xs place y left right all i j d lt in_range =
-    let in_old : j < length xs = subst (λ n. j < n) (length-set xs place y) in_range in
-    let old : R (get_or xs i d) (get_or xs j d) = all i j d lt in_old in
-    elim (cases_eq i place) [
-      | inl here ↦
-          let other : get_or (set xs place y) j d ≡ get_or xs j d = get_or-set_other xs place j y d (λ e. omega (arith, lt, here, e)) in
-          let same : get_or (set xs place y) i d ≡ y = get_or-set_at xs place i y d here (omega (arith, lt, in_old, here)) in
-          let was : R (get_or xs place d) (get_or xs j d) = subst (λ k. R (get_or xs k d) (get_or xs j d)) here old in
-          subst (λ z. R z (get_or (set xs place y) j d)) (sym same) (subst (λ z. R y z) (sym other) (left d (get_or xs j d) was))
-      | inr there ↦
-          let other : get_or (set xs place y) i d ≡ get_or xs i d = get_or-set_other xs place i y d there in
-          subst (λ z. R z (get_or (set xs place y) j d)) (sym other) (elim (cases_eq j place) [
-            | inl here ↦
-                let same : get_or (set xs place y) j d ≡ y = get_or-set_at xs place j y d here (omega (arith, in_old, here)) in
-                let was : R (get_or xs i d) (get_or xs place d) = subst (λ k. R (get_or xs i d) (get_or xs k d)) here old in
-                subst (λ z. R (get_or xs i d) z) (sym same) (right d (get_or xs i d) was)
-            | inr there' ↦ subst (λ z. R (get_or xs i d) z) (sym (get_or-set_other xs place j y d there')) old
-          ])
-    ]
+-- a port that is chosen is free, and not 0
+next-some : (p : ℕ) → 0 < p → 0 < next p
+next-some p lt = grind (arith, nat_tests)
 
--- where a session of the same protocol, inside and remote endpoint is found, the other takes its place
-pub put_found : (t s : Session) (ss : List Session) → find (has_inside t.proto t.inside t.remote) ss ≡ Some s → (place : ℕ) × IsAt ss place s × (put t ss ≡ set ss place t)
-put_found t s [] e = absurd (none-some _ e)
-put_found t s (u ∷ ss) e = elim (cases_Bool (has_inside t.proto t.inside t.remote u)) [
-  | inl hit ↦
-      let same : u ≡ s = same_Some _ _ (ap (λ b. cond b (Some u) (find (has_inside t.proto t.inside t.remote) ss)) (sym hit) ∙ e) in
-      (0, record { in_range = omega arith; is = λ d. same }, ap (λ b. cond b (t ∷ ss) (u ∷ put t ss)) hit)
+first_free-free : (taken : ℕ → Bool) (n p q : ℕ) → 0 < p → first_free taken n p ≡ Some q → (taken q ≡ false) × (0 < q)
+first_free-free taken zero p q lt e = absurd (none-some _ e)
+first_free-free taken (suc n) p q lt e = elim (cases_Bool (taken p)) [
+  | inl hit ↦ first_free-free taken n (next p) q (next-some p lt) (ap (λ b. cond b (first_free taken n (next p)) (Some p)) (sym hit) ∙ e)
   | inr miss ↦
-      let rest = put_found t s ss (ap (λ b. cond b (Some u) (find (has_inside t.proto t.inside t.remote) ss)) (sym miss) ∙ e) in (
-        suc rest.0,
-        record { in_range = omega (arith, rest.1.in_range); is = rest.1.is },
-        ap (λ b. cond b (t ∷ ss) (u ∷ put t ss)) miss ∙ ap (λ (ts : List Session). u ∷ ts) rest.2,
-      )
+      let same : p ≡ q = same_Some _ _ (ap (λ b. cond b (first_free taken n (next p)) (Some p)) (sym miss) ∙ e) in
+      subst (λ x. (taken x ≡ false) × (0 < x)) same (miss, lt)
 ]
+
+choice-free : (taken : ℕ → Bool) (p q : ℕ) → 0 < p → port_choice taken p ≡ Some q → (taken q ≡ false) × (0 < q)
+unfolding port_choice
+choice-free taken p q lt e = first_free-free taken (size_of_class p) p q lt e
+
+mapped-some : {X Y : Type 0} (f : X → Y) (o : Option X) (y : Y) → option_map f o ≡ Some y → (x : X) × (o ≡ Some x) × (f x ≡ y)
+mapped-some f (Some x) y e = (x, refl, same_Some _ _ e)
+mapped-some f None y e = absurd (none-some _ e)
+
+-- what is known of the outside endpoint of a new session
+pub record Opened (config : Config) (sessions : List Session) (new : Session) : Type 0 where
+  pub apart : (s : Session) → In s sessions → ¬ Clash new s
+  pub address : new.outside.addr ≡ config.external
+  pub port : 0 < new.outside.port
+
+module _ (config : Config) (is_one : is_config config ≡ true) (sessions : List Session) (sound : AreSound config sessions) (new : Session)
+    (lt : 0 < new.inside.port) (none : find (has_inside new.proto new.inside new.remote) sessions ≡ None) where
+  opened_by : (found : Option Session) → find (maps_inside new.proto new.inside) sessions ≡ found → outside_by config.external sessions new.proto new.inside found ≡ Some new.outside → Opened config sessions new
+  opened_by (Some m) e h =
+      let is = find-In (maps_inside new.proto new.inside) sessions m e in
+      let parts = maps-parts new.proto new.inside m is.1 in
+      let placed = sound.placed m is.0 in
+      let outside : m.outside ≡ new.outside = same_Some _ _ h in
+      let address : m.outside.addr ≡ config.external = elim placed.outside [ inl same ↦ absurd (parts.0 (sym same)) | inr there ↦ there ] in
+      record {
+        apart = λ s in_s.
+            mapped_apart sessions sound.apart new none s in_s m is.0 parts.0 parts.1 parts.2 outside
+            (λ same. outside_away config is_one (subst (λ a. is_inside config a ≡ true) (ap (λ (x : Endpoint). x.addr) same ∙ address) (sound.placed s in_s).inside));
+        address = ap (λ (x : Endpoint). x.addr) (sym outside) ∙ address;
+        port = subst (λ (x : Endpoint). 0 < x.port) outside placed.outside_port;
+      }
+  opened_by None e h =
+      let chosen = mapped-some (endpoint config.external) (port_choice (is_taken sessions new.proto config.external) new.inside.port) new.outside h in
+      let free = choice-free (is_taken sessions new.proto config.external) new.inside.port chosen.0 lt chosen.1 in
+      record {
+        apart = λ s in_s. chosen_apart sessions sound.apart new none s in_s e (subst (λ (x : Endpoint). is_taken sessions new.proto x.addr x.port ≡ false) chosen.2 free.0);
+        address = ap (λ (x : Endpoint). x.addr) (sym chosen.2);
+        port = subst (λ (x : Endpoint). 0 < x.port) chosen.2 free.1;
+      }
+
+  pub opened : outside_by config.external sessions new.proto new.inside (find (maps_inside new.proto new.inside) sessions) ≡ Some new.outside → Opened config sessions new
+  opened h = opened_by (find (maps_inside new.proto new.inside) sessions) refl h

@@ -1,8 +1,11 @@
 pub mod Apart
-pub mod Places
-pub mod Plans
-pub mod Ties
+pub mod Expiry
+pub mod Following
+pub mod Lasting
+pub mod Mapped
 pub mod Reading
-pub mod Steps
 pub mod Runs
 pub mod Soundness
+pub mod Steps
+pub mod Tally
+pub mod Updated

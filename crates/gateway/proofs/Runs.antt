@@ -1,5 +1,5 @@
 -- Runs of steps, one behind the other.
-use Rattle.std.proofs.Common.{◌≡◌, ℕ, suc, ◌+◌, ◌≤◌, List, [], ◌∷◌, ◌++◌, length, vec_len, vec_capacity, Vec, Global, refl, sym, ap, ◌∙◌, subst, arith, append_assoc, length-append}
+use Rattle.std.proofs.Common.{◌≡◌, ℕ, zero, suc, ◌+◌, ◌<◌, ◌≤◌, List, [], ◌∷◌, ◌++◌, length, vec_len, vec_capacity, Vec, Global, refl, sym, ap, ◌∙◌, subst, arith, append_assoc, length-append}
 use Rattle.std.proofs.lemmas.List.{append-nil}
 use Rattle.packet.specs.Config.{Config}
 use Rattle.gateway.specs.declared.event.Event.{Event}
@@ -43,13 +43,12 @@ took_more first now new es e out given all one =
     let same : step now.config now.state e ≡ step first.config (after first.config first.state es) e =
     ap (λ c. step c now.state e) all.config ∙ ap (λ s. step first.config s e) all.state in
     let number : now.last + 1 ≡ first.last + length es + 1 = omega (arith, all.last) in
-    let count : new.last ≡ first.last + length (es ++ e ∷ []) = omega (arith, one.last, all.last, length-append es (e ∷ [])) in
     let answer : (now.last + 1, (step now.config now.state e).1) ≡ (first.last + length es + 1, (step first.config (after first.config first.state es) e).1) =
     ap (λ n. (n, (step now.config now.state e).1)) number ∙ ap (λ (p : State × Answer). (first.last + length es + 1, p.1)) same in
     record {
       config = one.config ∙ all.config;
       state = one.state ∙ ap (λ (p : State × Answer). p.0) same ∙ sym (after-append first.config first.state es (e ∷ []));
-      last = count;
+      last = omega (arith, one.last, all.last, length-append es (e ∷ []));
       order =
           append_assoc out (handed given) new.held ∙ ap (λ (zs : List (ℕ × Answer)). out ++ zs) one.order
           ∙ sym (append_assoc out now.held ((now.last + 1, (step now.config now.state e).1) ∷ []))

@@ -1,29 +1,30 @@
--- What contracts see of a core, and what a packet that goes out does to its flows.
-use Rattle.std.specs.Prelude.{◌≡◌, ℕ, List}
+-- What contracts see of a core, and what it is made of.
+use Rattle.std.specs.Prelude.{◌≡◌, ℕ, List, Option, Result}
 use Rattle.packet.specs.Config.{Config}
-use Rattle.packet.specs.declared.view.View.{View}
-use Rattle.gateway.specs.Flows.{Flows}
-use Rattle.gateway.specs.Legs.{out_leg}
-use Rattle.gateway.specs.Machine.{State, AddsNone, sent_out}
+use Rattle.sessions.specs.declared.session.Opener.{Opener}
+use Rattle.sessions.specs.declared.session.Session.{Session}
+use Rattle.gateway.specs.Machine.{State, AddsNone, sent}
+use Rattle.gateway.specs.Plans.{Plans, state_of}
+use Rattle.gateway.specs.Sound.{IsSound}
+use Rattle.gateway.specs.Tied.{Flows}
+use Rattle.gateway.specs.declared.cause.Cause.{Cause}
 use Rattle.gateway.specs.declared.event.Answer.{Answer}
+use Rattle.gateway.specs.declared.legs.Plan.{Plan}
 
 -- the configuration and the state
 pub record Core : Type 0 where
   pub config : Config
   pub state : State
 
--- the state with these flows
-abbrev pub with_flows : List ℕ → ℕ → Flows → State
-with_flows text now flows = record { text = text; sessions = flows.sessions; clock = now }
+-- the flows are those of a sound state, and translate at its external address
+pub record IsCore (config : Config) (text : List ℕ) (flows : Flows) (clock : ℕ) : Type 0 where
+  pub external : flows.translations.external ≡ config.external
+  pub sound : IsSound config (state_of text flows.table.held clock)
 
--- what the step says of a packet with these fields that goes out
-abbrev pub out_step : List ℕ → Flows → List ℕ → View → ℕ → State × Answer
-out_step text flows bytes view now =
-    sent_out (with_flows text now flows) bytes (out_leg flows.external flows.sessions now view.proto view.src view.dst)
+-- what is done leads from the sessions that were held to those that are held, whatever the text
+abbrev pub Leads : (State → State × Answer) → List (Option Session) → List (Option Session) → ℕ → Answer → Type 0
+Leads does old new now answer = (text : List ℕ) → does (state_of text old now) ≡ (state_of text new now, answer)
 
-abbrev pub SendsOut : Flows → Flows → List ℕ → View → ℕ → Answer → Type 0
-SendsOut old new bytes view now answer = (text : List ℕ) → out_step text old bytes view now ≡ (with_flows text now new, answer)
-
--- the packet adds no session
-abbrev pub SendsFew : Flows → List ℕ → View → ℕ → Type 0
-SendsFew flows bytes view now = (text : List ℕ) → AddsNone (with_flows text now flows) (out_step text flows bytes view now)
+-- what is done adds no session, whatever the text
+abbrev pub LeadsFew : (State → State × Answer) → List (Option Session) → ℕ → Type 0
+LeadsFew does held now = (text : List ℕ) → AddsNone (state_of text held now) (does (state_of text held now))

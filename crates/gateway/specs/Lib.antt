@@ -1,10 +1,10 @@
-pub mod Admission
 pub mod Causes
 pub mod Core
-pub mod Flows
 pub mod Laws
 pub mod Legs
 pub mod Machine
-pub mod Sessions
+pub mod Plans
 pub mod Sound
 pub mod Standing
+pub mod Tied
+pub mod Translations

@@ -1,279 +1,331 @@
-//! The sessions, and the outside ports that they take, which change together.
-ghost use Rattle.std.specs.Prelude.{◌≡◌, ◌<◌, ◌↔◌, ◌++◌, [], ◌∷◌, Some, None, Ok, Err, IfOk, IfErr, OnOk, OnErr, IfSome, IfNone, IsOk, length, vec_len, vec_capacity, ◌+◌, ◌≤◌};
-ghost use Rattle.std.specs.List.{find, position_from};
-ghost use Rattle.portpick.specs.Taken.{IsTaken, Takes};
-ghost use Rattle.packet.specs.Same.{same_proto as is_same_proto, same_endpoint as is_same_endpoint};
-ghost use Rattle.gateway.specs.Flows.{Opens, Puts, out_of, outside_for};
-ghost use Rattle.gateway.specs.Legs.{out_leg, out_by, begun, outside_by, masqueraded};
-ghost use Rattle.gateway.specs.Sessions.{has_inside, maps_inside, is_translated, put};
-ghost use Rattle.gateway.specs.declared.session.Session.{Session as Flow};
+//! The sessions with their timers and mappings, which change together.
+ghost use Rattle.std.specs.Prelude.{◌≡◌, ◌≢◌, ◌⊎◌, ◌↔◌, ◌+◌, ◌-◌, ◌<◌, ◌≤◌, ℕ, false, not, true, IsTrue, Some, None, Err, IfOk, OnOk, OnErr, IsOk, IfSome, IsSome, IsSomeAnd, length, slice_index};
+ghost use Rattle.std.specs.List.{Contains, filter};
+ghost use Rattle.std.specs.Option.{option_map};
+ghost use Rattle.packet.specs.Same.{same_endpoint};
+ghost use Rattle.sessions.specs.Life.{IsSeen, IsTimeout, alive, timeout_of};
+ghost use Rattle.sessions.specs.Listing.{listing, put};
+ghost use Rattle.sessions.specs.Table.{at, count, Updates, IsSound, ClashesWith, seen as seen_with, restarted};
+ghost use Rattle.sessions.specs.declared.session.Session.{Session as Flow};
+ghost use Rattle.timers.specs.Due.{at as idle_at, IsLatest as IsLatestIdle, Updates as IdleUpdates};
+ghost use Rattle.mappings.specs.declared.map.Pair.{Pair as Mapping};
+ghost use Rattle.mappings.specs.Map.{times, KeepsOneToOne};
+ghost use Rattle.gateway.specs.Legs.{in_leg as in_way, out_leg as out_way};
+ghost use Rattle.gateway.specs.Plans.{Adds, Gives, MayBegin, Plans};
+ghost use Rattle.gateway.specs.Sound.{AreSoundAt};
+ghost use Rattle.gateway.specs.Tied.{weight, IsDue, IsLatest, IsReady, pair_of as pair_with};
+ghost use Rattle.gateway.specs.Translations.{HasRoom};
 
 use crate::cause::Cause;
-use crate::event::NoMemory;
-use crate::session::Session;
-use packet::endpoint::{Endpoint, Proto};
-use portpick::ports::Ports;
-use std::alloc::Global;
+use crate::legs::{Plan, adds, in_leg, out_leg};
+use crate::translations::Translations;
+use mappings::map::Pair;
+use packet::endpoint::{Endpoint, Flags, Proto};
+use sessions::{Change, Opener, Session, Slot, Table};
+use std::alloc::{AllocError, Global};
 use std::marker::Model;
+use timers::Due;
 
-/// How a session comes into the flows.
-#[derive(Clone, Copy, Debug, PartialEq, Eq, Drop)]
-pub enum Change {
-    /// It stands at this place, and is seen again.
-    Seen(usize),
-    /// It begins, by a mapping that lives.
-    Mapped,
-    /// It begins, at a port that is free.
-    Chosen,
-}
-
-/// The session that a packet passes by, as it is then, and how it comes in.
-#[derive(Clone, Copy, Debug, PartialEq, Eq, Drop)]
-pub struct Plan {
-    pub change: Change,
-    pub session: Session,
-}
-
-/// The sessions, and the outside ports that they take.
+/// The sessions that live, with their timers and mappings.
 #[derive(Drop)]
 pub struct Flows {
-    external: u32,
-    sessions: Vec<Session>,
-    ports: Ports,
+    table: Table,
+    due: Due,
+    translations: Translations,
 }
 
 impl Model for Flows {
-    ghost use Rattle.gateway.specs.Flows.{Flows as View, Tied};
+    ghost use Rattle.gateway.specs.Tied.{Flows as View, Tied};
 
     ghost Value = { View };
 
-    ghost view = { λ f. record { external = f.external; sessions = f.sessions.items } };
+    ghost view = { λ f. record { table = f.table; watched = f.due.ready; translations = f.translations } };
 
-    ghost invariant = { λ f. Tied f.external f.sessions.items f.ports };
-}
-
-#[tactic(auto, unfolding(packet::specs::Same::same_proto))]
-fn same_proto(a: Proto, b: Proto) -> bool
-    ensures { result ≡ is_same_proto a b }
-{
-    a == b
-}
-
-#[tactic(auto, unfolding(packet::specs::Same::same_endpoint))]
-fn same_endpoint(a: Endpoint, b: Endpoint) -> bool
-    ensures { result ≡ is_same_endpoint a b }
-{
-    a.addr == b.addr && a.port == b.port
-}
-
-#[tactic(auto, unfolding(crate::specs::Sessions::has_inside))]
-fn is_of(session: &Session, proto: Proto, inside: Endpoint, remote: Endpoint) -> bool
-    ensures { result ≡ has_inside proto inside remote session.now }
-{
-    same_proto(session.proto, proto)
-        && same_endpoint(session.inside, inside)
-        && same_endpoint(session.remote, remote)
-}
-
-#[tactic(auto, unfolding(crate::specs::Sessions::maps_inside))]
-fn maps(session: &Session, proto: Proto, inside: Endpoint) -> bool
-    ensures { result ≡ maps_inside proto inside session.now }
-{
-    !same_endpoint(session.inside, session.outside)
-        && same_proto(session.proto, proto)
-        && same_endpoint(session.inside, inside)
-}
-
-/// The place of the packet's session.
-fn place_of(sessions: &[Session], proto: Proto, inside: Endpoint, remote: Endpoint) -> Option<usize>
-    ensures value { result ≡ position_from (has_inside proto inside remote) 0 sessions.now }
-    ensures bound { IfSome result (λ place. place < length sessions.now) }
-{
-    sessions
-        .iter()
-        .position(|s| is_of(s, proto, inside, remote))
-}
-
-fn place_of_mapping(sessions: &[Session], proto: Proto, inside: Endpoint) -> Option<usize>
-    ensures value { result ≡ position_from (maps_inside proto inside) 0 sessions.now }
-    ensures bound { IfSome result (λ place. place < length sessions.now) }
-{
-    sessions.iter().position(|s| maps(s, proto, inside))
-}
-
-/// A session that has the mapping of the inside endpoint.
-fn mapping_of(sessions: &[Session], proto: Proto, inside: Endpoint) -> Option<Session>
-    ensures { result ≡ find (maps_inside proto inside) sessions.now }
-{
-    match place_of_mapping(sessions, proto, inside) {
-        Some(place) => Some(sessions[place]),
-        None => None,
-    }
-}
-
-/// The session, once a packet of it has passed at this moment.
-fn seen_at(session: Session, now: u64) -> Session
-    ensures { result ≡ record session { last = now } }
-{
-    Session {
-        last: now,
-        ..session
-    }
+    ghost invariant = { λ f. Tied f.table f.due f.translations.pairs };
 }
 
 impl Flows {
     /// No session.
-    pub fn new(alloc: Global, external: u32) -> Result<Flows, NoMemory>
-        ensures { IfOk result (λ f. f ≡ record { external = external; sessions = [] }) }
+    pub fn new(alloc: Global, external: u32) -> Result<Flows, AllocError>
+        ensures none { IfOk result (λ f. (slot : ℕ) → at f.table slot ≡ None) }
+        ensures external { IfOk result (λ f. f.translations.external ≡ external) }
     {
-        let mut addresses = Vec::new(alloc);
-        if addresses.push(external).is_err() {
-            return Err(NoMemory);
-        }
+        let translations = Translations::new(alloc, external)?;
         Ok(Flows {
-            external,
-            sessions: Vec::new(alloc),
-            ports: Ports::new(alloc, addresses),
+            table: Table::new(alloc),
+            due: Due::new(alloc),
+            translations,
         })
     }
 
-    /// The sessions.
-    pub fn sessions(&self) -> &[Session]
-        ensures { result.now ≡ self.now.sessions }
+    /// The sessions, by protocol number, inside and remote endpoint.
+    pub fn list(&self, alloc: Global) -> Result<Vec<Session>, AllocError>
+        ensures { IfOk result (λ sessions. sessions.items ≡ listing self.now.table.held) }
     {
-        &self.sessions
+        self.table.list(alloc)
     }
 
-    /// The outside endpoint that masquerading chooses for an inside endpoint.
-    fn choose(&self, proto: Proto, inside: Endpoint) -> Option<Endpoint>
-        requires { 0 < inside.port }
-        ensures value { result ≡ masqueraded self.now.external self.now.sessions proto inside }
-        ensures opens { IfSome result (λ outside. Opens self.now proto outside Change.Chosen) }
+    /// Makes room for two more sessions.
+    pub fn reserve(&mut self) -> Result<(), AllocError>
+        ensures ok { OnOk result (IsReady 2 self.new) }
+        ensures held { self.new.table.held ≡ self.old.table.held }
+        ensures external { self.new.translations.external ≡ self.old.translations.external }
     {
-        match self.ports.pick(proto, self.external, inside.port) {
-            Some(port) => Some(Endpoint {
-                addr: self.external,
-                port,
-            }),
-            None => None,
-        }
+        self.table.reserve()?;
+        self.due.reserve(self.table.slots())?;
+        self.translations.reserve()
     }
 
-    /// The outside endpoint of a new session, and how it comes in.
-    fn outside_of(&self, proto: Proto, inside: Endpoint) -> Option<(Endpoint, Change)>
-        requires { 0 < inside.port }
-        ensures some { IfSome result (λ p. outside_for self.now proto inside ≡ Some p.0) }
-        ensures none { IfNone result (outside_for self.now proto inside ≡ None) }
-        ensures opens { IfSome result (λ p. Opens self.now proto p.0 p.1) }
+    /// The slots of the sessions that are alive no longer, each once.
+    fn due(&self, alloc: Global, now: u64) -> Result<Vec<Slot>, AllocError>
+        requires { IsLatest self.now.table.held now }
+        ensures exactly { IfOk result (λ slots. (slot : ℕ) → Contains slots.items slot ↔ IsSomeAnd (at self.now.table slot) (IsDue now)) }
+        ensures once { IfOk result (λ slots. (i j : ℕ) → i < j → j < length slots.items → slice_index slots.items i ≢ slice_index slots.items j) }
+        ensures sound { IsSound self.now.table.held }
+        ensures succeeds { ((slot : ℕ) → ¬ IsSomeAnd (at self.now.table slot) (IsDue now)) → IsOk result }
     {
-        match mapping_of(&self.sessions, proto, inside) {
-            Some(session) => Some((session.outside, Change::Mapped)),
-            None => match self.choose(proto, inside) {
-                Some(outside) => Some((outside, Change::Chosen)),
-                None => None,
-            },
-        }
+        self.table.is_sound();
+        self.due.due(alloc, now)
     }
 
-    /// The plan of a packet that has no session.
-    fn plan_new(
-        &self,
-        proto: Proto,
-        inside: Endpoint,
-        remote: Endpoint,
-        now: u64,
-    ) -> Result<Plan, Cause>
-        requires port { 0 < inside.port }
-        requires none { find (has_inside proto inside remote) self.now.sessions ≡ None }
-        ensures passes { IfOk result (λ plan. out_of self.now now proto inside remote ≡ Ok plan.session) }
-        ensures puts { IfOk result (λ plan. Puts self.now plan.change plan.session) }
-        ensures drops { IfErr result (λ cause. out_of self.now now proto inside remote ≡ Err cause) }
+    /// A packet of the session of the slot passed.
+    fn see(&mut self, slot: Slot, bits: u8, last: u64)
+        requires held { IsSome (at self.old.table slot) }
+        requires bits { IfSome (at self.old.table slot) (λ s. IsSeen s.proto bits) }
+        requires latest { IsLatest self.old.table.held last }
+        ensures listing { (s : Flow) → at self.old.table slot ≡ Some s → listing self.new.table.held ≡ put (seen_with s bits last) (listing self.old.table.held) }
+        ensures external { self.new.translations.external ≡ self.old.translations.external }
     {
-        match self.outside_of(proto, inside) {
-            None => Err(Cause::NoPort),
-            Some((outside, change)) => {
-                if self.sessions.len() >= 65_536 {
-                    return Err(Cause::TableFull);
-                }
-                let session = Session {
-                    proto,
-                    inside,
-                    outside,
-                    remote,
-                    last: now,
-                };
-                Ok(Plan { change, session })
+        self.table.is_sound();
+        self.table.see(slot, bits, last);
+        touch(&self.table, &mut self.due, slot, last);
+        self.table.is_sound();
+    }
+
+    /// Begins the session of the slot anew.
+    fn restart(&mut self, slot: Slot, opener: Opener, last: u64)
+        requires held { IsSome (at self.old.table slot) }
+        requires latest { IsLatest self.old.table.held last }
+        ensures listing { (s : Flow) → at self.old.table slot ≡ Some s → listing self.new.table.held ≡ put (restarted s opener last) (listing self.old.table.held) }
+        ensures external { self.new.translations.external ≡ self.old.translations.external }
+    {
+        self.table.is_sound();
+        self.table.restart(slot, opener, last);
+        touch(&self.table, &mut self.due, slot, last);
+        self.table.is_sound();
+    }
+
+    /// Takes the session, for which there is room.
+    fn begin(&mut self, session: Session)
+        requires may { MayBegin self.old.translations.external self.old.table.held session.last session }
+        requires ready { IsReady 1 self.old }
+        requires latest { IsLatest self.old.table.held session.last }
+        ensures listing { listing self.new.table.held ≡ put session (listing self.old.table.held) }
+        ensures external { self.new.translations.external ≡ self.old.translations.external }
+    {
+        self.table.is_sound();
+        match self.table.add(session) {
+            Ok(slot) => {
+                watch(&mut self.due, slot, session.last, session.timeout());
+                hold(&mut self.translations, &session);
+                self.table.is_sound();
             }
+            Err(_) => unreachable!(),
         }
     }
 
-    /// The leg of a packet from an inside endpoint to a remote one: nothing has changed yet.
+    /// Does what a plan says, for which there is room.
+    fn apply(&mut self, change: Change, now: u64)
+        requires latest { IsLatest self.old.table.held now }
+        requires gives { (t : Flow) × Gives self.old.translations.external self.old.table.held now change t }
+        requires ready { Adds change → IsReady 1 self.old }
+        ensures listing { (t : Flow) → Gives self.old.translations.external self.old.table.held now change t
+            → listing self.new.table.held ≡ put t (listing self.old.table.held) }
+        ensures external { self.new.translations.external ≡ self.old.translations.external }
+    {
+        match change {
+            Change::Begin(session) => self.begin(session),
+            Change::Seen(slot, bits) => self.see(slot, bits, now),
+            Change::Restart(slot, opener) => self.restart(slot, opener, now),
+            Change::End(_) => unreachable!(),
+        }
+    }
+
+    /// Does what a plan says; `ready` says that there is room already. An `Err` changes nothing, and
+    /// comes only where there isn't and a session is added.
+    pub fn carry_out(&mut self, ready: bool, change: Change, now: u64) -> Result<(), AllocError>
+        requires latest { IsLatest self.old.table.held now }
+        requires gives { (t : Flow) × Gives self.old.translations.external self.old.table.held now change t }
+        requires ready { IsTrue ready → IsReady 1 self.old }
+        ensures ok { OnOk result ((t : Flow) → Gives self.old.translations.external self.old.table.held now change t
+            → listing self.new.table.held ≡ put t (listing self.old.table.held)) }
+        ensures err { OnErr result (self.new.table.held ≡ self.old.table.held) }
+        ensures external { self.new.translations.external ≡ self.old.translations.external }
+        ensures succeeds { IsTrue ready → IsOk result }
+        ensures adds_none { ¬ Adds change → IsOk result }
+    {
+        if !ready && adds(&change) {
+            self.reserve()?;
+        }
+        self.apply(change, now);
+        Ok(())
+    }
+
+    /// The plan for a packet from an inside endpoint to a remote one.
     pub fn plan_out(
         &self,
         proto: Proto,
+        flags: Flags,
         inside: Endpoint,
         remote: Endpoint,
         now: u64,
     ) -> Result<Plan, Cause>
-        requires { 0 < inside.port }
-        ensures passes { IfOk result (λ plan. out_of self.now now proto inside remote ≡ Ok plan.session) }
-        ensures puts { IfOk result (λ plan. Puts self.now plan.change plan.session) }
-        ensures drops { IfErr result (λ cause. out_of self.now now proto inside remote ≡ Err cause) }
+        requires sound { AreSoundAt self.now.translations.external (listing self.now.table.held) }
+        requires port { 0 < inside.port }
+        ensures { let external = self.now.translations.external in
+            Plans external self.now.table.held now Opener.Inside result (out_way external (listing self.now.table.held) now proto flags inside remote) }
     {
-        match place_of(&self.sessions, proto, inside, remote) {
-            Some(place) => Ok(Plan {
-                change: Change::Seen(place),
-                session: seen_at(self.sessions[place], now),
-            }),
-            None => self.plan_new(proto, inside, remote, now),
+        out_leg(
+            &self.table,
+            &self.translations,
+            proto,
+            flags,
+            inside,
+            remote,
+            now,
+        )
+    }
+
+    /// The plan for a packet from a remote endpoint to an outside one.
+    pub fn plan_in(
+        &self,
+        proto: Proto,
+        flags: Flags,
+        outside: Endpoint,
+        remote: Endpoint,
+    ) -> Result<Plan, Cause>
+        ensures { (now : ℕ) → Plans self.now.translations.external self.now.table.held now Opener.Remote result
+            (in_way (listing self.now.table.held) now proto flags outside remote) }
+    {
+        in_leg(&self.table, proto, flags, outside, remote)
+    }
+
+    /// Ends the session of the slot.
+    fn end(&mut self, slot: Slot)
+        requires { IsSome (at self.old.table slot) }
+        ensures updates { Updates self.old.table self.new.table slot None }
+        ensures ready { (n : ℕ) → IsReady n self.old → IsReady n self.new }
+        ensures external { self.new.translations.external ≡ self.old.translations.external }
+    {
+        if let Some(session) = self.table.get(slot) {
+            release(&mut self.translations, &session);
+            self.due.remove(slot);
+            self.table.end(slot);
         }
     }
 
-    /// Puts the session of a plan in.
-    pub fn apply(&mut self, plan: Plan) -> Result<(), NoMemory>
-        requires { Puts self.old plan.change plan.session }
-        ensures ok { OnOk result (self.new ≡ record self.old { sessions = put plan.session self.old.sessions }) }
-        ensures err { OnErr result (self.new ≡ self.old) }
-        ensures seen { length (put plan.session self.old.sessions) ≡ length self.old.sessions → IsOk result }
+    /// Ends the sessions of the slots.
+    fn end_all(&mut self, slots: &[Slot])
+        requires held { (k : ℕ) → k < length slots.now → IsSome (at self.old.table (slice_index slots.now k)) }
+        requires once { (i j : ℕ) → i < j → j < length slots.now → slice_index slots.now i ≢ slice_index slots.now j }
+        ensures ended { (k : ℕ) → k < length slots.now → at self.new.table (slice_index slots.now k) ≡ None }
+        ensures others { (slot : ℕ) → ¬ Contains slots.now slot → at self.new.table slot ≡ at self.old.table slot }
+        ensures sound { IsSound self.new.table.held }
+        ensures ready { (n : ℕ) → IsReady n self.old → IsReady n self.new }
+        ensures external { self.new.translations.external ≡ self.old.translations.external }
     {
-        match plan.change {
-            Change::Seen(place) => {
-                self.sessions[place] = plan.session;
-                Ok(())
-            }
-            Change::Mapped => push(&mut self.sessions, plan.session),
-            Change::Chosen => {
-                if self.sessions.reserve(1).is_err() {
-                    return Err(NoMemory);
-                }
-                let outside = plan.session.outside;
-                if self
-                    .ports
-                    .take(plan.session.proto, outside.addr, outside.port)
-                    .is_err()
-                {
-                    return Err(NoMemory);
-                }
-                push_reserved(&mut self.sessions, plan.session);
-                Ok(())
-            }
+        for slot in slots {
+            self.end(*slot);
         }
+        self.table.is_sound();
+    }
+
+    /// Ends the sessions that are alive no longer, and says whether there were any; then there is room
+    /// for two more. An `Err` changes nothing.
+    pub fn expire(&mut self, alloc: Global, now: u64) -> Result<bool, AllocError>
+        requires { IsLatest self.old.table.held now }
+        ensures ok { OnOk result (listing self.new.table.held ≡ filter (alive now) (listing self.old.table.held)) }
+        ensures err { OnErr result (self.new.table.held ≡ self.old.table.held) }
+        ensures external { self.new.translations.external ≡ self.old.translations.external }
+        ensures ready { IfOk result (λ any. IsTrue any → IsReady 2 self.new) }
+        ensures none { IfOk result (λ any. any ≡ false → self.new.table.held ≡ self.old.table.held) }
+        ensures succeeds { ((slot : ℕ) → ¬ IsSomeAnd (at self.old.table slot) (IsDue now)) → IsOk result }
+    {
+        let slots = self.due(alloc, now)?;
+        if slots.is_empty() {
+            return Ok(false);
+        }
+        self.reserve()?;
+        self.end_all(&slots);
+        Ok(true)
     }
 }
 
-fn push(sessions: &mut Vec<Session>, session: Session) -> Result<(), NoMemory>
-    ensures ok { OnOk result (sessions.new.items ≡ sessions.old.items ++ session ∷ []) }
-    ensures err { OnErr result (sessions.new.items ≡ sessions.old.items) }
+fn watch(due: &mut Due, slot: Slot, last: u64, timeout: u64)
+    requires free { idle_at due.old slot ≡ None }
+    requires timeout { IsTimeout timeout }
+    requires latest { IsLatestIdle due.old last }
+    requires ready { slot < due.old.ready }
+    ensures { IdleUpdates due.old due.new slot (Some (record { last = last; timeout = timeout })) }
 {
-    match sessions.push(session) {
-        Ok(()) => Ok(()),
-        Err(_) => Err(NoMemory),
+    match due.add(slot, last, timeout) {
+        Ok(()) => {}
+        Err(_) => unreachable!(),
     }
 }
 
-fn push_reserved(sessions: &mut Vec<Session>, session: Session)
-    requires { vec_len sessions.old + 1 ≤ vec_capacity sessions.old }
-    ensures { sessions.new.items ≡ sessions.old.items ++ session ∷ [] }
+// A packet of the session that the slot holds passed.
+fn touch(table: &Table, due: &mut Due, slot: Slot, last: u64)
+    requires held { IsSome (at table.now slot) }
+    requires watched { IsSome (idle_at due.old slot) }
+    requires latest { IsLatestIdle due.old last }
+    ensures updates { IdleUpdates due.old due.new slot (option_map (λ s. record { last = last; timeout = timeout_of s }) (at table.now slot)) }
+    ensures ready { due.new.ready ≡ due.old.ready }
 {
-    let _ = sessions.push(session);
+    if let Some(session) = table.get(slot) {
+        due.touch(slot, last, session.timeout());
+    }
+}
+
+// The mapping of the session, if it is translated, is held once more.
+fn hold(translations: &mut Translations, session: &Session)
+    requires one_to_one { same_endpoint session.now.inside session.now.outside ≡ false → KeepsOneToOne translations.old.pairs (pair_with session.now) }
+    requires few { times translations.old.pairs (pair_with session.now) < 65536 }
+    requires placed { same_endpoint session.now.inside session.now.outside ≡ false
+        → (session.now.outside.addr ≡ translations.old.external) × (0 < session.now.outside.port) }
+    requires ready { HasRoom 1 translations.old }
+    ensures counts { (p : Mapping) → times translations.new.pairs p ≡ times translations.old.pairs p + weight p (Some session.now) }
+    ensures external { translations.new.external ≡ translations.old.external }
+{
+    if is_translated(session) {
+        translations.hold(pair_of(session));
+    }
+}
+
+// The mapping of the session, if it is translated, is held once less.
+fn release(translations: &mut Translations, session: &Session)
+    requires { (p : Mapping) → weight p (Some session.now) ≤ times translations.old.pairs p }
+    ensures counts { (p : Mapping) → times translations.old.pairs p ≡ times translations.new.pairs p + weight p (Some session.now) }
+    ensures room { (n : ℕ) → HasRoom n translations.old → HasRoom n translations.new }
+    ensures external { translations.new.external ≡ translations.old.external }
+{
+    if is_translated(session) {
+        translations.release(pair_of(session));
+    }
+}
+
+fn pair_of(session: &Session) -> Pair
+    ensures { result ≡ pair_with session.now }
+{
+    Pair {
+        proto: session.proto,
+        inside: session.inside,
+        outside: session.outside,
+    }
+}
+
+fn is_translated(session: &Session) -> bool
+    ensures { result ≡ not (same_endpoint session.now.inside session.now.outside) }
+{
+    session.inside != session.outside
 }

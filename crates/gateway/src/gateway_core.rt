@@ -1,12 +1,12 @@
 //! The gateway: a core, and a number for each event.
 ghost use Rattle.std.specs.Prelude.{◌≡◌, ◌↔◌, ◌⊎◌, ◌-◌, ◌^◌, ◌<◌, ◌++◌, [], IfOk, IfErr, OnOk, OnErr, IsOk, List, length, vec_len, vec_capacity, ◌+◌, ◌≤◌};
 ghost use Rattle.gateway.specs.Standing.{Took, TookAll, TookFirst, handed};
-ghost use Rattle.gateway.specs.Machine.{AddsNone, empty_at, step};
+ghost use Rattle.gateway.specs.Machine.{AddsNone, EndsNone, empty_at, later, step};
 
 use crate::core_state::Core;
 use crate::event::{Answer, Event, GatewayFault, Given, NoMemory};
-use crate::session::Session;
 use packet::bounds::Bounds;
+use sessions::Session;
 use std::alloc::Global;
 use std::marker::Model;
 
@@ -49,7 +49,7 @@ impl Gateway {
         self.core.rules()
     }
 
-    /// The sessions, in the order in which they began.
+    /// The sessions, by protocol number, inside and remote endpoint.
     pub fn sessions(&self) -> Result<Vec<Session>, NoMemory>
         ensures { IfOk result (λ sessions. sessions.items ≡ self.now.state.sessions) }
     {
@@ -85,8 +85,8 @@ impl Gateway {
         ensures numbers_left { OnOk result (self.old.last < 2 ^ 64 - 1) }
         ensures causes { IfErr result (λ e. (e.1 ≡ GatewayFault.NumbersOut) ⊎ (e.1 ≡ GatewayFault.NoMemory)) }
 
-        // Memory is taken only where a session begins.
-        ensures succeeds { self.old.last < 2 ^ 64 - 1
+        // Memory is taken only where a session ends or begins.
+        ensures succeeds { self.old.last < 2 ^ 64 - 1 → EndsNone (later self.old.state.clock event.moment) self.old.state
             → AddsNone self.old.state (step self.old.config self.old.state event) → IsOk result }
     {
         if self.last == u64::MAX {

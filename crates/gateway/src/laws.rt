@@ -1,5 +1,5 @@
 //! What every state that is reached keeps.
-ghost use Rattle.gateway.specs.Laws.{InsideMapsOnce, MappingsStay, OutsideIsNotShared, RunsKeepSound, StartIsSound, StepsKeepSound};
+ghost use Rattle.gateway.specs.Laws.{ClockNeverFalls, DropsChangeNothing, InsideMapsOnce, LivingMappingsStay, OutsideIsNotShared, RunsKeepSound, SessionsAreAlive, StartIsSound, StepsKeepSound};
 
 /// A gateway begins sound.
 pub fn start_is_sound()
@@ -26,7 +26,23 @@ pub fn inside_maps_once()
     ensures { InsideMapsOnce }
 {}
 
-/// A mapping stays.
-pub fn mappings_stay()
-    ensures { MappingsStay }
+/// A mapping stays while a session of it is alive (RFC 4787, REQ-5 and REQ-6).
+pub fn living_mappings_stay()
+    ensures { LivingMappingsStay }
+{}
+
+/// The clock never falls, whatever moments come.
+pub fn clock_never_falls()
+    ensures { ClockNeverFalls }
+{}
+
+/// After a step every session is alive: none outlives its timeout.
+pub fn sessions_are_alive()
+    ensures { SessionsAreAlive }
+{}
+
+/// A packet that is dropped changes nothing. The clock has risen, and the sessions that are alive no
+/// longer have ended.
+pub fn drops_change_nothing()
+    ensures { DropsChangeNothing }
 {}

@@ -4,13 +4,13 @@
 //! what a step is, on plain lists; `Core::step` and `Gateway::offer` are proved to be it.
 //!
 //! - `event`, `bytes`: what comes in and what goes out; `cause`: why a packet is dropped.
-//! - `admission`: the fields of a packet and its route, or the first cause against it.
-//! - `session`, `flows`: the sessions and the outside ports that they take, which change together.
+//! - `legs`: what a packet changes, and the endpoints that it leaves with; nothing has changed yet.
+//! - `flows`: the sessions with their timers and mappings, which change together; `translations`: the
+//!   mappings and the outside ports that they take.
 //! - `core_state`: `Core`, a step for each event; `gateway_core`: `Gateway`, which numbers the answers.
 //! - `laws`: what every state that is reached keeps.
 #![tactic(auto)]
 
-mod admission;
 mod bytes;
 mod cause;
 mod core_state;
@@ -18,9 +18,10 @@ mod event;
 mod flows;
 mod gateway_core;
 pub mod laws;
-mod session;
+mod legs;
 #[cfg(test)]
 mod tests;
+mod translations;
 
 pub use bytes::Bytes;
 pub use cause::Cause;
@@ -28,4 +29,4 @@ pub use core_state::Core;
 pub use event::{Answer, Event, GatewayFault, Given, NoMemory, What};
 pub use gateway_core::Gateway;
 pub use packet::endpoint::Iface;
-pub use session::Session;
+pub use sessions::Session;

@@ -1,8 +1,11 @@
 ghost use Rattle.std.specs.Prelude.{◌<◌, ◌^◌, length};
 
-use crate::{Answer, Bytes, Core, Event, Gateway, GatewayFault, Given, Iface, NoMemory, What};
+use crate::{
+    Answer, Bytes, Core, Event, Gateway, GatewayFault, Given, Iface, NoMemory, Session, What,
+};
 use packet::bounds::Bounds;
 use packet::endpoint::Prefix;
+use sessions::{Opener, Phase, is_new};
 use std::alloc::{AllocError, Global};
 use std::process::Abort;
 use std::test::*;
@@ -18,12 +21,63 @@ const FIRST_OUT: [u8; 28] = [
     0xc6, 0x33, 0x64, 0x07, 0x13, 0x88, 0x00, 0x35, 0x00, 0x08, 0x85, 0xe4,
 ];
 
-/// What an event came to: its number, and the packet sent on wan or the number of a drop.
+// From 198.51.100.7:53 to 203.0.113.1:5000, without a checksum.
+const REPLY: [u8; 28] = [
+    0x45, 0x00, 0x00, 0x1c, 0x00, 0x01, 0x00, 0x00, 0x40, 0x11, 0x14, 0x94, 0xc6, 0x33, 0x64, 0x07,
+    0xcb, 0x00, 0x71, 0x01, 0x00, 0x35, 0x13, 0x88, 0x00, 0x08, 0x00, 0x00,
+];
+
+const REPLY_IN: [u8; 28] = [
+    0x45, 0x00, 0x00, 0x1c, 0x00, 0x01, 0x00, 0x00, 0x3f, 0x11, 0x8f, 0xeb, 0xc6, 0x33, 0x64, 0x07,
+    0xc0, 0xa8, 0x01, 0x02, 0x00, 0x35, 0x13, 0x88, 0x00, 0x08, 0x00, 0x00,
+];
+
+// A SYN from 192.168.1.2:40000 to 198.51.100.7:443.
+const SYN_OUT: [u8; 40] = [
+    0x45, 0x00, 0x00, 0x28, 0x00, 0x01, 0x00, 0x00, 0x40, 0x06, 0x8e, 0xea, 0xc0, 0xa8, 0x01, 0x02,
+    0xc6, 0x33, 0x64, 0x07, 0x9c, 0x40, 0x01, 0xbb, 0x00, 0x00, 0x00, 0x01, 0x00, 0x00, 0x00, 0x00,
+    0x50, 0x02, 0xff, 0xff, 0x26, 0x01, 0x00, 0x00,
+];
+
+const SYN_SENT: [u8; 40] = [
+    0x45, 0x00, 0x00, 0x28, 0x00, 0x01, 0x00, 0x00, 0x3f, 0x06, 0x15, 0x93, 0xcb, 0x00, 0x71, 0x01,
+    0xc6, 0x33, 0x64, 0x07, 0x9c, 0x40, 0x01, 0xbb, 0x00, 0x00, 0x00, 0x01, 0x00, 0x00, 0x00, 0x00,
+    0x50, 0x02, 0xff, 0xff, 0xab, 0xa9, 0x00, 0x00,
+];
+
+// A SYN from 198.51.100.7:443 to 203.0.113.1:40000.
+const SYN_IN: [u8; 40] = [
+    0x45, 0x00, 0x00, 0x28, 0x00, 0x01, 0x00, 0x00, 0x40, 0x06, 0x14, 0x93, 0xc6, 0x33, 0x64, 0x07,
+    0xcb, 0x00, 0x71, 0x01, 0x01, 0xbb, 0x9c, 0x40, 0x00, 0x00, 0x00, 0x01, 0x00, 0x00, 0x00, 0x00,
+    0x50, 0x02, 0xff, 0xff, 0x00, 0x00, 0x00, 0x00,
+];
+
+// Control bits (RFC 9293, section 3.1).
+const FIN: u8 = 0x01;
+
+const SYN: u8 = 0x02;
+
+const RST: u8 = 0x04;
+
+const ACK: u8 = 0x10;
+
+// The packet of a host of 192.168.1.0/24 from a port, without a checksum.
+fn from_host(host: u8, port: u16) -> [u8; 28] {
+    let mut frame = FIRST;
+    frame[11] = 0xed_u8.saturating_sub(host);
+    frame[15] = host;
+    frame[20] = (port / 256) as u8;
+    frame[21] = (port % 256) as u8;
+    frame[27] = 0;
+    frame
+}
+
+/// What an event came to.
 #[derive(Drop)]
-struct Outcome {
-    number: u64,
-    sent: Option<Vec<u8>>,
-    dropped: u8,
+enum Outcome {
+    Sent(Iface, Vec<u8>),
+    Dropped(u8),
+    Done,
 }
 
 /// lan and wan, inside 192.168.0.0/16, external 203.0.113.1.
@@ -43,38 +97,22 @@ fn gateway(alloc: Global) -> Result<Gateway, AllocError> {
     Gateway::start(alloc, bounds, 1000).map_err(|_| AllocError)
 }
 
-fn event(alloc: Global, iface: Iface, frame: &[u8]) -> Result<Event, AllocError>
+fn packet_at(alloc: Global, moment: u64, iface: Iface, frame: &[u8]) -> Result<Event, AllocError>
     requires { length frame.now < 2 ^ 31 }
 {
     let bytes = Bytes::of(Vec::from_slice(alloc, frame)?);
     Ok(Event {
-        moment: 1000,
+        moment,
         what: What::Packet(iface, bytes),
     })
 }
 
 fn outcome_of(given: Given) -> Outcome {
     match given {
-        Given::Now(number, Answer::Forward(Iface::Wan, bytes)) => Outcome {
-            number,
-            sent: Some(bytes.into_vec()),
-            dropped: 0,
-        },
-        Given::Now(number, Answer::Dropped(dropped)) => Outcome {
-            number,
-            sent: None,
-            dropped,
-        },
-        Given::Now(number, _) => Outcome {
-            number,
-            sent: None,
-            dropped: 0,
-        },
-        Given::Held(number) => Outcome {
-            number,
-            sent: None,
-            dropped: 0,
-        },
+        Given::Now(_, Answer::Forward(iface, bytes)) => Outcome::Sent(iface, bytes.into_vec()),
+        Given::Now(_, Answer::Dropped(number)) => Outcome::Dropped(number),
+        Given::Now(_, _) => Outcome::Done,
+        Given::Held(_) => Outcome::Done,
     }
 }
 
@@ -90,23 +128,16 @@ fn offer(gateway: &mut Gateway, event: Event) -> Result<Outcome, AllocError> {
     }
 }
 
-// Offers a packet from lan, and expects the packet that leaves on wan.
+// Offers a packet, and expects this one to leave on the other side.
 fn expect_sent(
     rt: &impl Abort,
-    alloc: Global,
     gateway: &mut Gateway,
-    frame: &[u8],
-    number: u64,
+    event: Event,
     sent: &[u8],
-) -> Result<(), AllocError>
-    requires { length frame.now < 2 ^ 31 }
-{
-    let event = event(alloc, Iface::Lan, frame)?;
-    let outcome = offer(gateway, event)?;
-    assert_eq!(rt; outcome.number, number);
-    match outcome.sent {
-        Some(packet) => assert_eq!(rt; packet.as_slice(), sent),
-        None => assert!(rt; false),
+) -> Result<(), AllocError> {
+    match offer(gateway, event)? {
+        Outcome::Sent(_, packet) => assert_eq!(rt; packet.as_slice(), sent),
+        _ => assert!(rt; false),
     }
     Ok(())
 }
@@ -114,37 +145,66 @@ fn expect_sent(
 // Offers a packet, and expects its drop.
 fn expect_dropped(
     rt: &impl Abort,
-    alloc: Global,
     gateway: &mut Gateway,
-    iface: Iface,
-    frame: &[u8],
-    dropped: u8,
-) -> Result<(), AllocError>
-    requires { length frame.now < 2 ^ 31 }
-{
-    let event = event(alloc, iface, frame)?;
-    let outcome = offer(gateway, event)?;
-    assert!(rt; outcome.sent.is_none());
-    assert_eq!(rt; outcome.dropped, dropped);
+    event: Event,
+    number: u8,
+) -> Result<(), AllocError> {
+    match offer(gateway, event)? {
+        Outcome::Dropped(dropped) => assert_eq!(rt; dropped, number),
+        _ => assert!(rt; false),
+    }
     Ok(())
 }
 
-// The packet of a host of 192.168.1.0/24 from a port, without a checksum.
-fn from_host(host: u8, port: u16) -> [u8; 28] {
-    let mut frame = FIRST;
-    frame[11] = 0xed_u8.saturating_sub(host);
-    frame[15] = host;
-    frame[20] = (port / 256) as u8;
-    frame[21] = (port % 256) as u8;
-    frame[27] = 0;
-    frame
+// A segment with these control bits from inside or from the remote side, which passes.
+fn segment(
+    rt: &impl Abort,
+    alloc: Global,
+    gateway: &mut Gateway,
+    moment: u64,
+    sender: Opener,
+    control: u8,
+) -> Result<(), AllocError> {
+    let (iface, out, mut frame) = match sender {
+        Opener::Inside => (Iface::Lan, Iface::Wan, SYN_OUT),
+        Opener::Remote => (Iface::Wan, Iface::Lan, SYN_IN),
+    };
+    frame[33] = control;
+    let event = packet_at(alloc, moment, iface, &frame)?;
+    match offer(gateway, event)? {
+        Outcome::Sent(on, _) => assert_eq!(rt; on, out),
+        _ => assert!(rt; false),
+    }
+    Ok(())
+}
+
+// The clock rises to the moment; how many sessions there are then.
+fn count_at(gateway: &mut Gateway, moment: u64) -> Result<usize, AllocError> {
+    let event = Event {
+        moment,
+        what: What::Moment,
+    };
+    offer(gateway, event)?;
+    Ok(gateway.sessions().map_err(|_| AllocError)?.len())
+}
+
+// The only session.
+fn only(rt: &impl Abort, gateway: &Gateway) -> Result<Session, AllocError> {
+    let sessions = gateway.sessions().map_err(|_| AllocError)?;
+    assert_eq!(rt; sessions.len(), 1);
+    match sessions.first() {
+        Some(session) => Ok(*session),
+        None => Err(AllocError),
+    }
 }
 
 // The outside port that the host's packet gets.
 fn port_of(alloc: Global, gateway: &mut Gateway, host: u8, port: u16) -> Result<u16, AllocError> {
-    let event = event(alloc, Iface::Lan, &from_host(host, port))?;
-    match offer(gateway, event)?.sent {
-        Some(packet) if packet.len() == 28 => Ok(packet[20] as u16 * 256 + packet[21] as u16),
+    let event = packet_at(alloc, 1000, Iface::Lan, &from_host(host, port))?;
+    match offer(gateway, event)? {
+        Outcome::Sent(_, packet) if packet.len() == 28 => {
+            Ok(packet[20] as u16 * 256 + packet[21] as u16)
+        }
         _ => Ok(0),
     }
 }
@@ -153,18 +213,15 @@ fn port_of(alloc: Global, gateway: &mut Gateway, host: u8, port: u16) -> Result<
 fn packets_go_out(rt: HostRuntime) -> Result<(), AllocError> {
     let alloc = rt.alloc();
     let mut gateway = gateway(alloc)?;
-    expect_sent(&rt, alloc, &mut gateway, &FIRST, 1, &FIRST_OUT)?;
-    // no checksum, and a wrong one that stays wrong
+    let event = packet_at(alloc, 1000, Iface::Lan, &FIRST)?;
+    expect_sent(&rt, &mut gateway, event, &FIRST_OUT)?;
+    // a wrong checksum stays wrong
     let mut frame = FIRST;
     let mut sent = FIRST_OUT;
-    frame[27] = 0x00;
-    sent[26] = 0x00;
-    sent[27] = 0x00;
-    expect_sent(&rt, alloc, &mut gateway, &frame, 2, &sent)?;
     frame[27] = 0x3d;
-    sent[26] = 0x85;
     sent[27] = 0xe5;
-    expect_sent(&rt, alloc, &mut gateway, &frame, 3, &sent)?;
+    let event = packet_at(alloc, 1000, Iface::Lan, &frame)?;
+    expect_sent(&rt, &mut gateway, event, &sent)?;
     // a second host with the same port
     let mut frame = FIRST;
     let mut sent = FIRST_OUT;
@@ -173,19 +230,18 @@ fn packets_go_out(rt: HostRuntime) -> Result<(), AllocError> {
     frame[27] = 0x3b;
     sent[21] = 0x8a;
     sent[27] = 0xe2;
-    expect_sent(&rt, alloc, &mut gateway, &frame, 4, &sent)?;
-    // a sum that is computed as zero is written as all ones
-    let mut frame = FIRST;
-    let mut sent = FIRST_OUT;
-    frame[20] = 0x99;
-    frame[21] = 0x6c;
-    frame[26] = 0x7a;
-    frame[27] = 0x57;
-    sent[20] = 0x99;
-    sent[21] = 0x6c;
-    sent[26] = 0xff;
-    sent[27] = 0xff;
-    expect_sent(&rt, alloc, &mut gateway, &frame, 5, &sent)
+    let event = packet_at(alloc, 1000, Iface::Lan, &frame)?;
+    expect_sent(&rt, &mut gateway, event, &sent)?;
+    // another protocol has ports of its own
+    let event = packet_at(alloc, 1000, Iface::Lan, &SYN_OUT)?;
+    expect_sent(&rt, &mut gateway, event, &SYN_SENT)?;
+    let sessions = gateway.sessions().map_err(|_| AllocError)?;
+    assert_eq!(rt; sessions.len(), 3);
+    // TCP comes before UDP, and 192.168.1.2 before 192.168.1.3
+    assert_eq!(rt; sessions[0].outside.port, 40_000);
+    assert_eq!(rt; sessions[1].outside.port, 5000);
+    assert_eq!(rt; sessions[2].outside.port, 5002);
+    Ok(())
 }
 
 #[test]
@@ -196,15 +252,6 @@ fn outside_ports_keep_class_and_parity(rt: HostRuntime) -> Result<(), AllocError
     assert_eq!(rt; port_of(alloc, &mut gateway, 3, 65534)?, 1024);
     assert_eq!(rt; port_of(alloc, &mut gateway, 2, 1023)?, 1023);
     assert_eq!(rt; port_of(alloc, &mut gateway, 3, 1023)?, 1);
-    for number in 1..511 {
-        assert_eq!(rt;
-            port_of(alloc, &mut gateway, 2, 2 * number + 1)?,
-            2 * number + 1
-        );
-    }
-    let frame = from_host(4, 7);
-    expect_dropped(&rt, alloc, &mut gateway, Iface::Lan, &frame, 19)?;
-    assert_eq!(rt; gateway.sessions().map_err(|_| AllocError)?.len(), 514);
     Ok(())
 }
 
@@ -212,25 +259,127 @@ fn outside_ports_keep_class_and_parity(rt: HostRuntime) -> Result<(), AllocError
 fn packets_are_dropped(rt: HostRuntime) -> Result<(), AllocError> {
     let alloc = rt.alloc();
     let mut gateway = gateway(alloc)?;
-    let mut frame = FIRST;
-    frame[8] = 0x01;
-    frame[10] = 0xcd;
-    expect_dropped(&rt, alloc, &mut gateway, Iface::Lan, &frame, 10)?;
-    frame = FIRST;
-    frame[3] = 0x1d;
-    expect_dropped(&rt, alloc, &mut gateway, Iface::Lan, &frame, 4)?;
-    frame = FIRST;
-    frame[6] = 0x20;
-    frame[10] = 0x6e;
-    expect_dropped(&rt, alloc, &mut gateway, Iface::Lan, &frame, 6)?;
-    frame = FIRST;
-    frame[9] = 0x01;
-    frame[11] = 0xfb;
-    expect_dropped(&rt, alloc, &mut gateway, Iface::Lan, &frame, 7)?;
-    expect_dropped(&rt, alloc, &mut gateway, Iface::Lan, &[], 1)?;
+    let mut late = FIRST;
+    late[8] = 0x01;
+    late[10] = 0xcd;
+    let event = packet_at(alloc, 1000, Iface::Lan, &late)?;
+    expect_dropped(&rt, &mut gateway, event, 10)?;
+    let event = packet_at(alloc, 1000, Iface::Lan, &[])?;
+    expect_dropped(&rt, &mut gateway, event, 1)?;
     // inside addresses don't come from wan
-    expect_dropped(&rt, alloc, &mut gateway, Iface::Wan, &FIRST, 11)?;
+    let event = packet_at(alloc, 1000, Iface::Wan, &FIRST)?;
+    expect_dropped(&rt, &mut gateway, event, 11)?;
+    // no session answers a stranger, nor a TCP packet that isn't a SYN alone
+    let event = packet_at(alloc, 1000, Iface::Wan, &REPLY)?;
+    expect_dropped(&rt, &mut gateway, event, 13)?;
+    let event = packet_at(alloc, 1000, Iface::Wan, &SYN_IN)?;
+    expect_dropped(&rt, &mut gateway, event, 13)?;
+    let mut ack = SYN_IN;
+    ack[33] = ACK;
+    let event = packet_at(alloc, 1000, Iface::Wan, &ack)?;
+    expect_dropped(&rt, &mut gateway, event, 15)?;
+    ack = SYN_OUT;
+    ack[33] = ACK;
+    let event = packet_at(alloc, 1000, Iface::Lan, &ack)?;
+    expect_dropped(&rt, &mut gateway, event, 15)?;
     assert_eq!(rt; gateway.sessions().map_err(|_| AllocError)?.len(), 0);
+    Ok(())
+}
+
+#[test]
+fn phases(rt: HostRuntime) -> Result<(), AllocError> {
+    let alloc = rt.alloc();
+    let mut gateway = gateway(alloc)?;
+    let steps = [
+        (1000, Opener::Inside, SYN, Phase::Partial),
+        (1001, Opener::Remote, SYN | ACK, Phase::Partial),
+        (1002, Opener::Inside, ACK, Phase::Established),
+        (1003, Opener::Remote, RST, Phase::Closing),
+    ];
+    for (moment, sender, control, phase) in steps {
+        segment(&rt, alloc, &mut gateway, moment, sender, control)?;
+        assert_eq!(rt; only(&rt, &gateway)?.phase(), phase);
+    }
+    assert_eq!(rt; count_at(&mut gateway, 1242)?, 1);
+    assert_eq!(rt; count_at(&mut gateway, 1243)?, 0);
+    Ok(())
+}
+
+#[test]
+fn an_established_session_lives_long(rt: HostRuntime) -> Result<(), AllocError> {
+    let alloc = rt.alloc();
+    let mut gateway = gateway(alloc)?;
+    segment(&rt, alloc, &mut gateway, 1000, Opener::Inside, SYN)?;
+    segment(&rt, alloc, &mut gateway, 1000, Opener::Remote, SYN | ACK)?;
+    segment(&rt, alloc, &mut gateway, 1000, Opener::Inside, ACK)?;
+    // a FIN from one side leaves it established
+    segment(&rt, alloc, &mut gateway, 1000, Opener::Inside, FIN | ACK)?;
+    assert_eq!(rt; only(&rt, &gateway)?.phase(), Phase::Established);
+    assert_eq!(rt; count_at(&mut gateway, 8439)?, 1);
+    // a FIN from both closes it
+    segment(&rt, alloc, &mut gateway, 8439, Opener::Remote, FIN | ACK)?;
+    assert_eq!(rt; only(&rt, &gateway)?.phase(), Phase::Closing);
+    // and a SYN alone begins it anew, from either side
+    segment(&rt, alloc, &mut gateway, 8440, Opener::Remote, SYN)?;
+    let anew = only(&rt, &gateway)?;
+    assert_eq!(rt; anew.phase(), Phase::Partial);
+    assert_eq!(rt; anew.seen, 0);
+    assert_eq!(rt; anew.opener, Opener::Remote);
+    assert_eq!(rt; count_at(&mut gateway, 8679)?, 1);
+    assert_eq!(rt; count_at(&mut gateway, 8680)?, 0);
+    Ok(())
+}
+
+#[test]
+fn both_sides_open_at_once(rt: HostRuntime) -> Result<(), AllocError> {
+    let alloc = rt.alloc();
+    let mut gateway = gateway(alloc)?;
+    segment(&rt, alloc, &mut gateway, 1000, Opener::Inside, SYN)?;
+    segment(&rt, alloc, &mut gateway, 1000, Opener::Remote, SYN)?;
+    segment(&rt, alloc, &mut gateway, 1000, Opener::Inside, SYN | ACK)?;
+    segment(&rt, alloc, &mut gateway, 1000, Opener::Remote, SYN | ACK)?;
+    assert_eq!(rt; only(&rt, &gateway)?.phase(), Phase::Established);
+    assert_eq!(rt; count_at(&mut gateway, 8439)?, 1);
+    assert_eq!(rt; count_at(&mut gateway, 8440)?, 0);
+    Ok(())
+}
+
+#[test]
+fn a_syn_waits(rt: HostRuntime) -> Result<(), AllocError> {
+    let alloc = rt.alloc();
+    let mut gateway = gateway(alloc)?;
+    let event = packet_at(alloc, 1000, Iface::Lan, &SYN_OUT)?;
+    expect_sent(&rt, &mut gateway, event, &SYN_SENT)?;
+    let event = packet_at(alloc, 1239, Iface::Lan, &SYN_OUT)?;
+    expect_sent(&rt, &mut gateway, event, &SYN_SENT)?;
+    // it had no reply yet, so its packets are new
+    let session = only(&rt, &gateway)?;
+    assert!(rt; is_new(Some(session), Opener::Inside));
+    assert_eq!(rt; count_at(&mut gateway, 1478)?, 1);
+    assert_eq!(rt; count_at(&mut gateway, 1479)?, 0);
+    Ok(())
+}
+
+#[test]
+fn udp_sessions_end(rt: HostRuntime) -> Result<(), AllocError> {
+    let alloc = rt.alloc();
+    let mut gateway = gateway(alloc)?;
+    let event = packet_at(alloc, 1000, Iface::Lan, &FIRST)?;
+    expect_sent(&rt, &mut gateway, event, &FIRST_OUT)?;
+    let event = packet_at(alloc, 1299, Iface::Wan, &REPLY)?;
+    expect_sent(&rt, &mut gateway, event, &REPLY_IN)?;
+    let event = packet_at(alloc, 1599, Iface::Wan, &REPLY)?;
+    expect_dropped(&rt, &mut gateway, event, 13)?;
+    // its outside port is free again
+    assert_eq!(rt; port_of(alloc, &mut gateway, 3, 5000)?, 5000);
+    // a moment before the clock counts as the clock
+    assert_eq!(rt; only(&rt, &gateway)?.last, 1599);
+    // the greatest moment ends every session, and a later one is none
+    assert_eq!(rt; count_at(&mut gateway, u64::MAX)?, 0);
+    let event = packet_at(alloc, 1000, Iface::Lan, &FIRST)?;
+    expect_sent(&rt, &mut gateway, event, &FIRST_OUT)?;
+    assert_eq!(rt; only(&rt, &gateway)?.last, u64::MAX);
+    assert_eq!(rt; count_at(&mut gateway, u64::MAX)?, 1);
     Ok(())
 }
 
@@ -238,7 +387,8 @@ fn packets_are_dropped(rt: HostRuntime) -> Result<(), AllocError> {
 fn runs_number_on(rt: HostRuntime) -> Result<(), AllocError> {
     let alloc = rt.alloc();
     let mut gateway = gateway(alloc)?;
-    expect_sent(&rt, alloc, &mut gateway, &FIRST, 1, &FIRST_OUT)?;
+    let event = packet_at(alloc, 1000, Iface::Lan, &FIRST)?;
+    expect_sent(&rt, &mut gateway, event, &FIRST_OUT)?;
     let text = Bytes::of(Vec::from_slice(alloc, b"table ip t { }")?);
     let events = vec![in alloc;
         Event {
@@ -249,7 +399,7 @@ fn runs_number_on(rt: HostRuntime) -> Result<(), AllocError> {
             moment: 900,
             what: What::Moment
         },
-        event(alloc, Iface::Lan, &FIRST)?,
+        packet_at(alloc, 1000, Iface::Lan, &FIRST)?,
     ]?;
     let answers = gateway.run(events).map_err(|_| AllocError)?;
     assert_eq!(rt; answers.len(), 3);
@@ -259,11 +409,7 @@ fn runs_number_on(rt: HostRuntime) -> Result<(), AllocError> {
     assert_eq!(rt; gateway.held(), 0);
     assert_eq!(rt; gateway.flush().map_err(|_| AllocError)?.len(), 0);
     assert_eq!(rt; gateway.rules().len(), 0);
-    // one session, seen at the clock's moment
-    let sessions = gateway.sessions().map_err(|_| AllocError)?;
-    assert_eq!(rt; sessions.len(), 1);
-    assert_eq!(rt; sessions[0].outside.port, 5000);
-    assert_eq!(rt; sessions[0].last, 1001);
+    assert_eq!(rt; only(&rt, &gateway)?.last, 1001);
     Ok(())
 }
 
@@ -271,7 +417,7 @@ fn runs_number_on(rt: HostRuntime) -> Result<(), AllocError> {
 fn core_steps(rt: HostRuntime) -> Result<(), AllocError> {
     let alloc = rt.alloc();
     let mut core = Core::start(alloc, bounds(alloc)?, 1000).map_err(|_| AllocError)?;
-    let first = event(alloc, Iface::Lan, &FIRST)?;
+    let first = packet_at(alloc, 1000, Iface::Lan, &FIRST)?;
     let answer = match core.step(first) {
         Ok(answer) => answer,
         // nothing has changed, and the event comes back
@@ -283,35 +429,41 @@ fn core_steps(rt: HostRuntime) -> Result<(), AllocError> {
     Ok(())
 }
 
+// What the gateway answers at once, or at the second try where memory was refused.
+fn answered(rt: &impl Abort, gateway: &mut Gateway, event: Event) -> Option<Outcome> {
+    match gateway.offer(event) {
+        Ok(given) => Some(outcome_of(given)),
+        Err((event, fault)) => {
+            assert_eq!(rt; fault, GatewayFault::NoMemory);
+            match gateway.offer(event) {
+                Ok(given) => Some(outcome_of(given)),
+                Err(_) => None,
+            }
+        }
+    }
+}
+
 /// Holds under `rt try --test --fail-alloc N` for each N: a refused growth changes nothing, and the
-/// event that comes back is answered as it would have been.
+/// event that comes back is answered as it would have been, also where a session ends.
 #[test]
 fn each_growth_refused(rt: HostRuntime) {
     let alloc = rt.alloc();
     let Ok(mut gateway) = gateway(alloc) else {
         return;
     };
-    let Ok(first) = event(alloc, Iface::Lan, &FIRST) else {
+    let Ok(first) = packet_at(alloc, 1000, Iface::Lan, &FIRST) else {
         return;
     };
-    let given = match gateway.offer(first) {
-        Ok(given) => given,
-        Err((first, fault)) => {
-            assert_eq!(rt; fault, GatewayFault::NoMemory);
-            match gateway.offer(first) {
-                Ok(given) => given,
-                Err(_) => {
-                    assert!(rt; false);
-                    return;
-                }
-            }
-        }
+    match answered(&rt, &mut gateway, first) {
+        Some(Outcome::Sent(_, packet)) => assert_eq!(rt; packet.as_slice(), FIRST_OUT.as_slice()),
+        _ => assert!(rt; false),
+    }
+    let Ok(again) = packet_at(alloc, 1300, Iface::Lan, &from_host(3, 5000)) else {
+        return;
     };
-    let outcome = outcome_of(given);
-    assert_eq!(rt; outcome.number, 1);
-    match outcome.sent {
-        Some(packet) => assert_eq!(rt; packet.as_slice(), FIRST_OUT.as_slice()),
-        None => assert!(rt; false),
+    match answered(&rt, &mut gateway, again) {
+        Some(Outcome::Sent(_, packet)) => assert_eq!(rt; packet[21], 0x88),
+        _ => assert!(rt; false),
     }
     if let Ok(sessions) = gateway.sessions() {
         assert_eq!(rt; sessions.len(), 1);

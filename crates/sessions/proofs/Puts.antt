@@ -93,7 +93,7 @@ find-some p (x ∷ xs) s is h = elim (cases_Bool (p x)) [
 ]
 
 -- as many stand in the listing as are held
-length-insert : (s : Session) (xs : List Session) → length (insert s xs) ≡ length xs + 1
+pub length-insert : (s : Session) (xs : List Session) → length (insert s xs) ≡ length xs + 1
 length-insert s [] = omega arith
 length-insert s (x ∷ xs) = elim (cases_Bool (below s x)) [
   | inl is_so ↦ let e : length (cond (below s x) (s ∷ x ∷ xs) (x ∷ insert s xs)) ≡ length (s ∷ x ∷ xs) = ap (λ b. length (cond b (s ∷ x ∷ xs) (x ∷ insert s xs))) is_so in omega arith

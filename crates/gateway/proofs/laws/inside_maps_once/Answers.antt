@@ -1,5 +1,5 @@
 use Rattle.std.proofs.Common.{refl}
-use Rattle.gateway.proofs.Soundness.{mappings-agree}
+use Rattle.gateway.proofs.Lasting.{mappings-agree}
 use Rattle.gateway.proofs.laws.inside_maps_once.Goals as goal
 
 pub returns : goal.returns

@@ -1,8 +1,11 @@
-use Rattle.std.specs.List.{Contains}
-use Rattle.gateway.proofs.Ties.{tied_none, contains_only}
+use Rattle.std.proofs.Common.{◌≡◌, ℕ, None, Option, [], ap, sym, ◌∙◌}
+use Rattle.std.specs.Option.{option_map}
+use Rattle.timers.specs.Laws.{idle_of}
+use Rattle.gateway.proofs.Tally.{tally-same}
 use Rattle.gateway.proofs.flows.Flows.new.Goals as goal
 
 pub invariant_of-result : goal.invariant_of-result
-invariant_of-result c =
-    let address : Contains c.new-2.result.external c.args.external = rw (c.new-2.ensures.addresses, c.push.ensures.items, c.if-is_err.ensures.negation, c.new-addresses.ensures.items) (contains_only c.args.external) in
-    rw c.new.ensures.items (tied_none c.args.external c.new-2.result address c.new-2.ensures.none)
+invariant_of-result c = record {
+  idle = λ slot. c.new-3.ensures slot ∙ sym (ap (option_map idle_of) (c.new-2.ensures.empty slot));
+  counts = λ p. c.in_ok-translations.ensures.none p ∙ sym (tally-same p c.new-2.result.held [] (λ k. c.new-2.ensures.empty k));
+}

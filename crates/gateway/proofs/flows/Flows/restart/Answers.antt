@@ -1,0 +1,26 @@
+use Rattle.std.proofs.Common.{◌≡◌, ◌+◌, Some, sym, ap, ◌∙◌, arith}
+use Rattle.std.proofs.lemmas.Option.{same_Some}
+use Rattle.sessions.specs.Table.{at, restarted}
+use Rattle.sessions.specs.Listing.{key}
+use Rattle.sessions.proofs.Puts.{put-is}
+use Rattle.gateway.specs.Tied.{weight}
+use Rattle.gateway.proofs.Updated.{Tied-update, held_there}
+use Rattle.gateway.proofs.flows.Flows.restart.Goals as goal
+
+pub invariant_of-self : goal.invariant_of-self
+invariant_of-self c =
+    let there = held_there (at c.self.inside.table c.args.slot) (rw (← c.self.view_is) at c.requires.held) in
+    let s = there.0 in
+    let t = restarted s c.args.opener c.args.last in
+    let updates = rw there.1 at c.restart.ensures.updates in
+    let watched = rw updates.changed at c.touch.ensures.updates in
+    Tied-update c.self.inside.table c.restart.new.self c.self.inside.due c.touch.new.due c.self.inside.translations.pairs c.self.inside.translations.pairs c.args.slot (Some t) c.self.invariant updates watched
+    (λ p. let b : weight p (at c.self.inside.table c.args.slot) ≡ weight p (Some t) = ap (weight p) there.1 in omega arith)
+
+pub returns-clause-listing : goal.returns-clause-listing
+returns-clause-listing c = λ s held.
+    let is : at c.self.inside.table c.args.slot ≡ Some s = rw (← c.self.view_is) at held in
+    let updates = rw is at c.restart.ensures.updates in
+    let e = put-is c.self.inside.table.held c.restart.new.self.held c.args.slot (restarted s c.args.opener c.args.last) c.is_sound.ensures c.is_sound-2.ensures updates.changed updates.others
+    (λ u at_u. ap key (same_Some u s (sym at_u ∙ is))) in
+    rw (← c.self.view_is) e

@@ -1,0 +1,24 @@
+use Rattle.std.proofs.Common.{◌≡◌, ◌<◌, ◌+◌, false, sym, ◌∙◌, arith}
+use Rattle.std.proofs.lemmas.Bool.{not-true, not-false}
+use Rattle.packet.specs.Same.{same_endpoint}
+use Rattle.mappings.proofs.Times.{one_at-itself}
+use Rattle.mappings.specs.Map.{times, one_at}
+use Rattle.gateway.specs.Tied.{pair_of}
+use Rattle.gateway.proofs.Tally.{weight-translated, weight-plain}
+use Rattle.gateway.proofs.flows.release.Goals as goal
+
+pub release-requires : goal.release-requires
+release-requires c =
+    let away : same_endpoint c.args.session.now.inside c.args.session.now.outside ≡ false = not-true _ (sym c.is_translated.ensures ∙ c.if-is_translated.true) in
+    let pair = pair_of c.args.session.now in
+    rw c.pair_of.ensures (omega (arith, c.requires pair, weight-translated pair c.args.session.now away, one_at-itself pair))
+
+pub returns-then-is_translated-clause-counts : goal.returns-then-is_translated-clause-counts
+returns-then-is_translated-clause-counts c = λ p.
+    let away : same_endpoint c.args.session.now.inside c.args.session.now.outside ≡ false = not-true _ (sym c.is_translated.ensures ∙ c.if-is_translated.true) in
+    let gains = rw c.pair_of.ensures at c.release.ensures.loses p in
+    omega (arith, gains, weight-translated p c.args.session.now away)
+
+pub returns-else-is_translated-clause-counts : goal.returns-else-is_translated-clause-counts
+returns-else-is_translated-clause-counts c = λ p.
+    omega (arith, weight-plain p c.args.session.now (not-false _ (sym c.is_translated.ensures ∙ c.if-is_translated.false)))

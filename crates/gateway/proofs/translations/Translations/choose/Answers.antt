@@ -1,0 +1,12 @@
+use Rattle.std.proofs.Common.{◌≡◌, ℕ, Bool, Option, sym, ap, ◌∙◌, subst}
+use Rattle.std.specs.Option.{option_map}
+use Rattle.portpick.specs.Choice.{IsTestOf, port_choice}
+use Rattle.gateway.specs.Translations.{endpoint, IsOutside, Translations}
+use Rattle.gateway.proofs.Following.{chosen}
+use Rattle.gateway.proofs.translations.Translations.choose.Goals as goal
+
+pub returns-in-Some : goal.returns-in-Some
+returns-in-Some c = rw (← c.self.view_is) (λ test says. ap (option_map (endpoint c.self.inside.external)) (sym c.in-Some.is ∙ c.pick.ensures.choice test (chosen c.self.inside.external c.self.inside.map c.self.inside.ports c.self.invariant c.args.proto test says)))
+
+pub returns-in-None : goal.returns-in-None
+returns-in-None c = rw (← c.self.view_is) (λ test says. ap (option_map (endpoint c.self.inside.external)) (sym c.in-None.is ∙ c.pick.ensures.choice test (chosen c.self.inside.external c.self.inside.map c.self.inside.ports c.self.invariant c.args.proto test says)))

@@ -1,0 +1,53 @@
+-- What ties the timers and the mappings to the sessions of a table.
+use Rattle.std.specs.Prelude.{◌≡◌, ℕ, ◌+◌, ◌-◌, ◌<◌, ◌≤◌, List, [], ◌∷◌, Option, Some, None, cond, slice_index_or}
+use Rattle.std.specs.Option.{option_map}
+use Rattle.packet.specs.Same.{same_endpoint}
+use Rattle.sessions.specs.Life.{timeout_of}
+use Rattle.sessions.specs.Table as table
+use Rattle.sessions.specs.declared.session.Session.{Session}
+use Rattle.timers.specs.Due as due
+use Rattle.timers.specs.Laws.{idle_of}
+use Rattle.mappings.specs.declared.map.Pair.{Pair}
+use Rattle.mappings.specs.Map.{Pairs, times, one_at, pair}
+use Rattle.gateway.specs.Translations.{Translations, HasRoom}
+
+-- the pair of a session
+abbrev pub pair_of : Session → Pair
+pair_of s = pair s.proto s.inside s.outside
+
+-- one where the place holds a translated session of this pair
+abbrev pub weight : Pair → Option Session → ℕ
+weight p None = 0
+weight p (Some s) = cond (same_endpoint s.inside s.outside) 0 (one_at p (pair_of s))
+
+-- how many translated sessions of this pair the places hold
+abbrev pub tally : Pair → List (Option Session) → ℕ
+tally p [] = 0
+tally p (place ∷ places) = weight p place + tally p places
+
+-- each session that is held, and no other slot, is watched with its last moment and its timeout; each
+-- pair is held as often as translated sessions have it
+pub record Tied (sessions : table.Sessions) (watched : due.Watched) (pairs : Pairs) : Type 0 where
+  pub idle : (slot : ℕ) → due.at watched slot ≡ option_map idle_of (table.at sessions slot)
+  pub counts : (p : Pair) → times pairs p ≡ tally p sessions.held
+
+-- the session is alive no longer
+abbrev pub IsDue : ℕ → Session → Type 0
+IsDue now s = timeout_of s ≤ now - s.last
+
+-- what a contract sees of the flows: the sessions, a number below which each slot is watched with no
+-- memory, and the mappings
+pub record Flows : Type 0 where
+  pub table : table.Sessions
+  pub watched : ℕ
+  pub translations : Translations
+
+-- so many more sessions take no memory
+pub record IsReady (n : ℕ) (f : Flows) : Type 0 where
+  pub table : n ≤ f.table.room
+  pub watched : f.table.slots ≤ f.watched
+  pub translations : HasRoom n f.translations
+
+-- no session was seen after this moment
+abbrev pub IsLatest : List (Option Session) → ℕ → Type 0
+IsLatest held now = (slot : ℕ) (s : Session) → slice_index_or held slot None ≡ Some s → s.last ≤ now
