@@ -1,5 +1,5 @@
 -- Sessions that are sound, and what may join them.
-use Rattle.std.proofs.Common.{◌≡◌, ◌≢◌, ◌⊎◌, ℕ, zero, suc, ◌<◌, ◌≤◌, List, [], ◌∷◌, Option, Some, None, is_some, Bool, true, false, cond, not, ◌&&◌, refl, sym, ap, ◌∙◌, subst, inl, inr, arith}
+use Rattle.std.proofs.Common.{◌≡◌, ◌≢◌, ◌⊎◌, ℕ, zero, suc, ◌<◌, List, [], ◌∷◌, Option, Some, None, is_some, Bool, true, false, cond, not, ◌&&◌, refl, sym, ap, ◌∙◌, subst, inl, inr, arith}
 use Rattle.std.specs.Option.{option_map}
 use Rattle.std.proofs.lemmas.Bool.{cases_Bool, and_parts, and_from, false≢true, not-true, false_from_ne_true}
 use Rattle.std.proofs.lemmas.Bool.Decides.{nat_tests}
@@ -9,12 +9,12 @@ use Rattle.packet.specs.Same.{same_proto, same_endpoint}
 use Rattle.packet.specs.declared.endpoint.Endpoint.{Endpoint}
 use Rattle.packet.specs.declared.endpoint.Proto.{Proto}
 use Rattle.packet.proofs.SameLemmas.{same_proto-true, same_proto-itself, same_endpoint-true, same_endpoint-itself}
-use Rattle.portpick.specs.Choice.{port_choice, first_free, size_of_class, step as next, least, greatest}
+use Rattle.portpick.specs.Choice.{port_choice, first_free, size_of_class, step as next}
 use Rattle.sessions.specs.Listing.{In, find, has_inside}
 use Rattle.sessions.specs.Table.{Clash}
 use Rattle.sessions.specs.declared.session.Session.{Session}
 use Rattle.sessions.proofs.Puts.{find-some, has_inside-from}
-use Rattle.gateway.specs.Legs.{is_at, is_taken, maps_inside, masqueraded, outside_by}
+use Rattle.gateway.specs.Legs.{is_at, is_taken, maps_inside, outside_by}
 use Rattle.gateway.specs.Sound.{AreSound, IsPlaced}
 use Rattle.gateway.specs.Translations.{endpoint}
 

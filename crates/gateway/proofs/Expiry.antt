@@ -1,20 +1,20 @@
 -- Ending just the sessions that are due leaves the others.
-use Rattle.std.proofs.Common.{◌≡◌, ◌≢◌, ◌⊎◌, ◌↔◌, ℕ, ◌+◌, ◌-◌, ◌<◌, ◌≤◌, List, [], ◌∷◌, Option, Some, None, Bool, true, false, IfSome, IsSome, IsSomeAnd, get_or, length, refl, sym, ap, ◌∙◌, subst, inl, inr, arith, slice_index}
+use Rattle.std.proofs.Common.{◌≡◌, ◌↔◌, ℕ, ◌<◌, ◌≤◌, List, [], ◌∷◌, Option, Some, None, true, false, IfSome, IsSome, IsSomeAnd, get_or, length, refl, sym, ◌∙◌, subst, inl, inr, arith}
 use Rattle.std.specs.Option.{option_map}
 use Rattle.std.specs.List.{Contains, filter}
 use Rattle.std.proofs.lemmas.Bool.{cases_Bool, ltb-true, ltb-false}
 use Rattle.std.proofs.lemmas.List.{get_or_default}
-use Rattle.std.proofs.lemmas.Option.{none-some, same_Some}
+use Rattle.std.proofs.lemmas.Option.{none-some}
 use Rattle.sessions.specs.declared.session.Session.{Session}
-use Rattle.sessions.specs.Listing.{In, Rises, listing, Holds}
+use Rattle.sessions.specs.Listing.{In, listing}
 use Rattle.sessions.specs.Table as table
 use Rattle.sessions.specs.Table.{IsSound}
-use Rattle.sessions.proofs.Sets.{Apart, Apart-sound, Rises-listing, Rises-filter, In-filter, filter-In, In-listing, listing-In, listing-is}
+use Rattle.sessions.proofs.Sets.{Apart-sound, Rises-listing, Rises-filter, In-filter, filter-In, In-listing, listing-In, listing-is}
 use Rattle.timers.specs.declared.due.Idle.{Idle}
 use Rattle.timers.specs.Due as due
 use Rattle.mappings.specs.Map.{Pairs}
 use Rattle.timers.specs.Laws.{idle_of}
-use Rattle.sessions.specs.Life.{alive, timeout_of}
+use Rattle.sessions.specs.Life.{alive}
 use Rattle.gateway.specs.Tied.{Tied, IsDue, IsLatest}
 
 pub alive-not_due : (now : ℕ) (s : Session) → alive now s ≡ true → ¬ IsDue now s

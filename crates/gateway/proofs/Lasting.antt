@@ -1,20 +1,19 @@
 -- What lasts over a step.
-use Rattle.std.proofs.Common.{◌≡◌, ◌≢◌, ◌⊎◌, ℕ, ◌-◌, ◌<◌, ◌≤◌, List, true, false, not, if◌then◌else◌, Bool, refl, sym, ap, ◌∙◌, subst, inl, inr, arith}
+use Rattle.std.proofs.Common.{◌≡◌, ℕ, ◌<◌, true, false, not, if◌then◌else◌, Bool, refl, sym, ◌∙◌, subst, inl, inr, arith}
 use Rattle.std.specs.List.{filter}
 use Rattle.std.proofs.lemmas.Bool.{cases_Bool, lt-ltb, ltb-true, not_from_false}
 use Rattle.packet.specs.Config.{Config, is_config}
 use Rattle.packet.specs.declared.endpoint.Endpoint.{Endpoint}
 use Rattle.packet.specs.declared.endpoint.Proto.{Proto}
 use Rattle.packet.specs.declared.endpoint.Proto.TheVariants.{Tcp, Udp}
-use Rattle.sessions.specs.Life.{IsAlive, alive, is_acknowledged, is_closing, phase_of, timeout_by, timeout_in, timeout_of}
+use Rattle.sessions.specs.Life.{IsAlive, alive, is_acknowledged, is_closing, timeout_by, timeout_in}
 use Rattle.sessions.specs.declared.life.Phase.TheVariants.{Partial, Established, Closing}
-use Rattle.sessions.specs.Listing.{In, put, same_flow}
+use Rattle.sessions.specs.Listing.{In, same_flow}
 use Rattle.sessions.specs.declared.session.Session.{Session}
 use Rattle.sessions.proofs.Puts.{has_inside-true}
 use Rattle.sessions.proofs.Sets.{In-filter, filter-In, insert-In}
 use Rattle.gateway.specs.Machine.{State, act, aged, later, step}
-use Rattle.gateway.specs.Sound.{AreSound, IsMapping, IsSound}
-use Rattle.gateway.specs.declared.event.Answer.{Answer}
+use Rattle.gateway.specs.Sound.{IsMapping, IsSound}
 use Rattle.gateway.specs.declared.event.Answer.TheVariants.{Dropped}
 use Rattle.gateway.specs.declared.event.Event.{Event}
 use Rattle.gateway.specs.declared.event.What.{What}

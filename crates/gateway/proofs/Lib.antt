@@ -3,6 +3,7 @@ pub mod Expiry
 pub mod Following
 pub mod Lasting
 pub mod Mapped
+pub mod Passing
 pub mod Reading
 pub mod Runs
 pub mod Soundness

@@ -1,15 +1,11 @@
 -- What the mappings tell of the sessions that are held.
-use Rattle.std.proofs.Common.{◌≡◌, ◌≢◌, ◌↔◌, ℕ, ◌<◌, ◌≤◌, List, Option, Some, None, Ok, Err, Bool, true, false, cond, nat_lt, IsTrue, get_or, length, count_by, is_some, if◌then◌else◌, refl, sym, ap, ◌∙◌, subst, arith}
+use Rattle.std.proofs.Common.{◌≡◌, ◌≢◌, ℕ, ◌<◌, ◌≤◌, List, Option, Some, None, Ok, Err, true, false, nat_lt, get_or, length, count_by, is_some, if◌then◌else◌, refl, sym, ap, ◌∙◌, subst, arith}
 use Rattle.std.proofs.lemmas.Bool.{lt-ltb, le-ltb}
 use Rattle.packet.specs.Config.{Config, is_config}
-use Rattle.packet.specs.Same.{same_endpoint}
 use Rattle.packet.specs.declared.endpoint.Endpoint.{Endpoint}
 use Rattle.packet.specs.declared.endpoint.Proto.{Proto}
 use Rattle.portpick.specs.Choice.{IsTestOf}
 use Rattle.sessions.specs.Listing.{find, has_inside, listing}
-use Rattle.sessions.specs.Table.{AnyClash}
-use Rattle.sessions.specs.declared.session.Change.TheVariants.{Begin}
-use Rattle.sessions.specs.declared.session.Opener.TheVariants.{Inside}
 use Rattle.sessions.specs.declared.session.Session.{Session}
 use Rattle.sessions.proofs.Puts.{find-none, find-some, length-listing}
 use Rattle.sessions.proofs.Sets.{In-listing, listing-In}
@@ -17,12 +13,11 @@ use Rattle.mappings.specs.declared.map.Pair.{Pair}
 use Rattle.mappings.specs.Map.{Pairs, times, pair}
 use Rattle.mappings.proofs.Times.{one_at-itself}
 use Rattle.gateway.specs.Legs.{begun, is_taken, maps_inside, new_session, outside_by}
-use Rattle.gateway.specs.Plans.{MayBegin, Plans}
-use Rattle.gateway.specs.Sound.{AreSound, AreSoundAt}
+use Rattle.gateway.specs.Plans.{MayBegin}
+use Rattle.gateway.specs.Sound.{AreSound}
 use Rattle.gateway.specs.Tied.{tally, pair_of}
 use Rattle.gateway.specs.Translations.{IsOutside, endpoint}
-use Rattle.gateway.specs.declared.cause.Cause.{Cause}
-use Rattle.gateway.specs.declared.cause.Cause.TheVariants.{NoPort, TableFull}
+use Rattle.gateway.specs.declared.cause.Cause.TheVariants.{TableFull}
 use Rattle.gateway.proofs.Apart.{agree, apart-from, differ, maps-from, maps-parts, opened, taken-by, taken-from, translated_at}
 use Rattle.gateway.proofs.Tally.{tally-at, tally-some, weight-translated}
 use Rattle.gateway.proofs.Updated.{weighs}

@@ -1,7 +1,7 @@
 -- A step keeps a state sound.
-use Rattle.std.proofs.Common.{◌≡◌, ◌≢◌, ◌⊎◌, ℕ, ◌+◌, ◌<◌, ◌≤◌, List, [], ◌∷◌, length, Option, Some, None, Result, Ok, Err, Bool, true, false, cond, not, nat_lt, nat_le, bit_or, if◌then◌else◌, refl, sym, ap, ◌∙◌, subst, inl, inr, arith}
+use Rattle.std.proofs.Common.{◌≡◌, ◌⊎◌, ℕ, ◌+◌, ◌<◌, ◌≤◌, List, [], ◌∷◌, length, Option, Some, None, Result, Ok, Err, Bool, true, false, cond, not, nat_lt, nat_le, bit_or, if◌then◌else◌, refl, sym, ap, ◌∙◌, subst, inl, inr, arith}
 use Rattle.std.specs.List.{filter}
-use Rattle.std.proofs.lemmas.Bool.{cases_Bool, false≢true, not-true, not_from_false, ltb-true, leb-true}
+use Rattle.std.proofs.lemmas.Bool.{cases_Bool, false≢true, not-true, ltb-true, leb-true}
 use Rattle.packet.specs.Config.{Config, is_config, is_inside}
 use Rattle.packet.specs.Fields.{fields}
 use Rattle.packet.specs.Numbers.{fault_number, route_fault_number}
@@ -18,8 +18,8 @@ use Rattle.packet.specs.declared.route.Route.TheVariants.{Out, In, Hairpin}
 use Rattle.packet.specs.declared.route.RouteFault.{RouteFault}
 use Rattle.packet.specs.declared.view.View.{View}
 use Rattle.packet.proofs.Routes.{routed_is_on_route}
-use Rattle.sessions.specs.Life.{IsSeen, ack_bit, alive, bit_if, fin_bit, reply_bit, reset_bit, restarts, same_side, shown, shown_flags}
-use Rattle.sessions.specs.Listing.{Rises, find, has_inside, has_outside, insert, key, put, same_flow}
+use Rattle.sessions.specs.Life.{IsSeen, ack_bit, alive, bit_if, fin_bit, reply_bit, reset_bit, restarts, same_side, shown}
+use Rattle.sessions.specs.Listing.{find, has_inside, has_outside, key, put, same_flow}
 use Rattle.sessions.specs.Listing.{In as Member}
 use Rattle.sessions.specs.Table.{Clash, restarted, seen}
 use Rattle.sessions.specs.declared.session.Opener.{Opener}
@@ -28,13 +28,13 @@ use Rattle.sessions.specs.declared.session.Session.{Session}
 use Rattle.sessions.proofs.Held.{Clash-sym}
 use Rattle.sessions.proofs.LifeLemmas.{IsSeen-or}
 use Rattle.sessions.proofs.Puts.{flow-keys, has_inside-true, keys-flow, length-insert}
-use Rattle.sessions.proofs.Sets.{same_key, In-filter, In-insert, Rises-filter, Rises-insert, filter-In, insert-In}
+use Rattle.sessions.proofs.Sets.{same_key, In-filter, In-insert, Rises-filter, Rises-insert}
 use Rattle.gateway.specs.Causes.{number}
-use Rattle.gateway.specs.Legs.{begun, destination, in_by, in_leg, is_taken, maps_inside, needs_session, new_session, out_by, out_leg, outside_by, passed_by, source, way_out}
-use Rattle.gateway.specs.Machine.{State, step, act, pass, with_fields, on_route, sent, aged, later, after, empty_at}
-use Rattle.gateway.specs.Sound.{AreSound, IsPlaced, IsSound, IsMapping}
+use Rattle.gateway.specs.Legs.{begun, destination, in_by, in_leg, maps_inside, needs_session, new_session, out_by, out_leg, outside_by, passed_by, source, way_out}
+use Rattle.gateway.specs.Machine.{State, step, act, with_fields, on_route, sent, aged, later, after, empty_at}
+use Rattle.gateway.specs.Sound.{AreSound, IsPlaced, IsSound}
 use Rattle.gateway.specs.declared.cause.Cause.{Cause}
-use Rattle.gateway.specs.declared.cause.Cause.TheVariants.{NoMapping, NoPort, NoSession, TableFull}
+use Rattle.gateway.specs.declared.cause.Cause.TheVariants.{NoMapping, NoSession, TableFull}
 use Rattle.gateway.specs.declared.event.Answer.{Answer}
 use Rattle.gateway.specs.declared.event.Answer.TheVariants as answer
 use Rattle.gateway.specs.declared.event.Event.{Event}

@@ -1,5 +1,5 @@
 -- What is done at the sessions that are held is what the machine does.
-use Rattle.std.proofs.Common.{◌≡◌, ◌≢◌, ◌↔◌, ℕ, ◌+◌, ◌≤◌, List, [], ◌∷◌, suc, get_or, inl, length, Option, Some, None, Result, Ok, Err, true, false, not, count_by, is_some, refl, sym, ap, ◌∙◌, subst, arith}
+use Rattle.std.proofs.Common.{◌≡◌, ℕ, ◌+◌, ◌≤◌, List, [], ◌∷◌, suc, get_or, inl, length, Option, Some, None, Result, Ok, Err, true, not, refl, sym, ap, ◌∙◌, subst, arith}
 use Rattle.std.specs.List.{filter}
 use Rattle.std.proofs.lemmas.Bool.{false_from_ne_true}
 use Rattle.std.proofs.lemmas.Option.{none-some}
@@ -15,7 +15,6 @@ use Rattle.packet.specs.declared.route.RouteFault.{RouteFault}
 use Rattle.packet.specs.declared.view.View.{View}
 use Rattle.sessions.specs.Life.{alive}
 use Rattle.sessions.specs.Listing.{In, insert, listing, put, same_flow}
-use Rattle.sessions.specs.Table.{AnyClash}
 use Rattle.sessions.specs.declared.session.Change.{Change}
 use Rattle.sessions.specs.declared.session.Change.TheVariants.{Begin, Seen, Restart, End}
 use Rattle.sessions.specs.declared.session.Opener.{Opener}
@@ -25,7 +24,7 @@ use Rattle.sessions.proofs.Puts.{has_inside-true, length-insert}
 use Rattle.sessions.proofs.Sets.{In-listing, listing-In}
 use Rattle.gateway.specs.Core.{Core, IsCore, Leads, LeadsFew}
 use Rattle.gateway.specs.Legs.{in_leg, out_leg}
-use Rattle.gateway.specs.Machine.{State, AddsNone, EndsNone, act, aged, empty_at, later, on_route, pass, sent, step, with_fields}
+use Rattle.gateway.specs.Machine.{State, AddsNone, EndsNone, act, aged, later, on_route, pass, sent, step, with_fields}
 use Rattle.gateway.specs.Plans.{Adds, Gives, MayBegin, Plans, state_of}
 use Rattle.gateway.specs.Sound.{AreSound, IsSound}
 use Rattle.gateway.specs.Tied.{Flows, IsLatest}

@@ -1,5 +1,5 @@
 -- The tie over an update of one slot.
-use Rattle.std.proofs.Common.{◌≡◌, ◌≢◌, ◌⊎◌, ℕ, ◌+◌, ◌≤◌, ◌<◌, Bool, true, false, cond, Option, Some, None, get_or, IsSome, refl, sym, ap, ◌∙◌, subst, inl, inr, arith}
+use Rattle.std.proofs.Common.{◌≡◌, ◌≢◌, ℕ, ◌+◌, ◌≤◌, ◌<◌, true, false, cond, Option, Some, None, IsSome, refl, sym, ap, ◌∙◌, subst, inl, inr, arith}
 use Rattle.std.specs.Option.{option_map}
 use Rattle.std.proofs.lemmas.Bool.{cases_eq, cases_Bool, false≢true}
 use Rattle.sessions.specs.declared.session.Session.{Session}
@@ -12,7 +12,7 @@ use Rattle.packet.specs.declared.endpoint.Endpoint.{Endpoint}
 use Rattle.packet.specs.Same.{same_endpoint}
 use Rattle.packet.proofs.SameLemmas.{same_endpoint-true, same_endpoint-itself}
 use Rattle.timers.specs.Laws.{idle_of}
-use Rattle.gateway.specs.Tied.{Tied, weight, tally, pair_of}
+use Rattle.gateway.specs.Tied.{Tied, weight, pair_of}
 use Rattle.gateway.proofs.Tally.{tally-update, tally-at, tally-some, weight-plain, weight-translated}
 
 -- the table, the timers and the mappings after the slot got this

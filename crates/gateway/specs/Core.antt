@@ -1,15 +1,12 @@
 -- What contracts see of a core, and what it is made of.
-use Rattle.std.specs.Prelude.{◌≡◌, ℕ, List, Option, Result}
+use Rattle.std.specs.Prelude.{◌≡◌, ℕ, List, Option}
 use Rattle.packet.specs.Config.{Config}
-use Rattle.sessions.specs.declared.session.Opener.{Opener}
 use Rattle.sessions.specs.declared.session.Session.{Session}
-use Rattle.gateway.specs.Machine.{State, AddsNone, sent}
-use Rattle.gateway.specs.Plans.{Plans, state_of}
+use Rattle.gateway.specs.Machine.{State, AddsNone}
+use Rattle.gateway.specs.Plans.{state_of}
 use Rattle.gateway.specs.Sound.{IsSound}
 use Rattle.gateway.specs.Tied.{Flows}
-use Rattle.gateway.specs.declared.cause.Cause.{Cause}
 use Rattle.gateway.specs.declared.event.Answer.{Answer}
-use Rattle.gateway.specs.declared.legs.Plan.{Plan}
 
 -- the configuration and the state
 pub record Core : Type 0 where

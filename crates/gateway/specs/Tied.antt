@@ -1,5 +1,5 @@
 -- What ties the timers and the mappings to the sessions of a table.
-use Rattle.std.specs.Prelude.{◌≡◌, ℕ, ◌+◌, ◌-◌, ◌<◌, ◌≤◌, List, [], ◌∷◌, Option, Some, None, cond, slice_index_or}
+use Rattle.std.specs.Prelude.{◌≡◌, ℕ, ◌+◌, ◌-◌, ◌≤◌, List, [], ◌∷◌, Option, Some, None, cond, slice_index_or}
 use Rattle.std.specs.Option.{option_map}
 use Rattle.packet.specs.Same.{same_endpoint}
 use Rattle.sessions.specs.Life.{timeout_of}

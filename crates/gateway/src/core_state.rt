@@ -9,7 +9,7 @@ ghost use Rattle.gateway.specs.Core.{Leads, LeadsFew};
 ghost use Rattle.gateway.specs.Legs.{way_out};
 ghost use Rattle.gateway.specs.Machine.{AddsNone, EndsNone, act, aged, empty_at, later, on_route, pass, sent, step};
 ghost use Rattle.gateway.specs.Plans.{Plans, state_of};
-ghost use Rattle.gateway.specs.Sound.{AreSound, AreSoundAt};
+ghost use Rattle.gateway.specs.Sound.{AreSound, AreSoundAt, IsSound};
 ghost use Rattle.gateway.specs.Tied.{IsLatest, IsReady};
 ghost use Rattle.gateway.specs.Causes.{number};
 ghost use Rattle.gateway.specs.declared.cause.Cause.{Cause as Reason};
@@ -261,6 +261,13 @@ impl Core {
             Ok(sessions) => Ok(sessions),
             Err(_) => Err(NoMemory),
         }
+    }
+
+    /// What every core keeps: its state is sound. It does nothing but carry this fact.
+    pub fn facts(&self)
+        ensures { IsSound self.now.config self.now.state }
+    {
+        let _flows = &self.flows;
     }
 
     /// Does a step. An `Err` hands the event back and changes nothing; it comes only where a session

@@ -1,5 +1,6 @@
 //! The gateway: a core, and a number for each event.
 ghost use Rattle.std.specs.Prelude.{◌≡◌, ◌↔◌, ◌⊎◌, ◌-◌, ◌^◌, ◌<◌, ◌++◌, [], IfOk, IfErr, OnOk, OnErr, IsOk, List, length, vec_len, vec_capacity, ◌+◌, ◌≤◌};
+ghost use Rattle.gateway.specs.Sound.{IsSound};
 ghost use Rattle.gateway.specs.Standing.{Took, TookAll, TookFirst, handed};
 ghost use Rattle.gateway.specs.Machine.{AddsNone, EndsNone, empty_at, later, step};
 
@@ -54,6 +55,13 @@ impl Gateway {
         ensures { IfOk result (λ sessions. sessions.items ≡ self.now.state.sessions) }
     {
         self.core.sessions()
+    }
+
+    /// What every gateway keeps: its state is sound. It does nothing but carry this fact.
+    pub fn facts(&self)
+        ensures { IsSound self.now.config self.now.state }
+    {
+        self.core.facts();
     }
 
     /// How many answers are held.

@@ -1,5 +1,5 @@
 //! What every state that is reached keeps.
-ghost use Rattle.gateway.specs.Laws.{ClockNeverFalls, DropsChangeNothing, InsideMapsOnce, LivingMappingsStay, OutsideIsNotShared, RunsKeepSound, SessionsAreAlive, StartIsSound, StepsKeepSound};
+ghost use Rattle.gateway.specs.Laws.{AnswersComeIn, ClockNeverFalls, DropsChangeNothing, InsideMapsOnce, LivingMappingsStay, MappingsAreReused, OutsideIsNotShared, RunsKeepSound, SessionsAreAlive, SessionsGoOut, StartIsSound, StepsKeepSound};
 
 /// A gateway begins sound.
 pub fn start_is_sound()
@@ -45,4 +45,20 @@ pub fn sessions_are_alive()
 /// longer have ended.
 pub fn drops_change_nothing()
     ensures { DropsChangeNothing }
+{}
+
+/// While a session is alive, what its remote endpoint sends to its outside endpoint comes to its inside
+/// endpoint.
+pub fn answers_come_in()
+    ensures { AnswersComeIn }
+{}
+
+/// And what its inside endpoint sends to its remote endpoint goes out from its outside endpoint.
+pub fn sessions_go_out()
+    ensures { SessionsGoOut }
+{}
+
+/// An inside endpoint keeps its outside endpoint towards every remote (RFC 4787, REQ-1).
+pub fn mappings_are_reused()
+    ensures { MappingsAreReused }
 {}

@@ -14,7 +14,8 @@ use Rattle.rulesyntax.specs.declared.tree.Transport.{Transport}
 use Rattle.rulesyntax.specs.declared.tree.Transport.TheVariants.{Tcp, Udp}
 use Rattle.rulesyntax.specs.declared.tree.Head.{Head}
 use Rattle.rulesyntax.specs.declared.tree.Head.TheVariants.{Iifname, Oifname, Saddr, Daddr, Protocol, Sport, Dport, State}
-use Rattle.rulesyntax.specs.Words.{head_words, head_name, meta_words, meta_name, ip_words, ip_name, port_words, port_name, transport_name, verdict_words, nat_words}
+use Rattle.rulesyntax.specs.Names.{transport_name}
+use Rattle.rulesyntax.specs.Words.{head_words, head_name, meta_words, meta_name, ip_words, ip_name, port_words, port_name, verdict_words, nat_words}
 use Rattle.rulesyntax.specs.Grammar.{Tokens, HeadIs}
 use Rattle.rulesyntax.specs.Reading.{next_at, word_of, word_at, keyword_of, keyword_at, meta_head, ip_head, port_head, head_behind, head_at, begins_head, begins_word}
 use Rattle.rulesyntax.proofs.Sound.{Sound, just, then_sound, word_sound, keyword_sound}

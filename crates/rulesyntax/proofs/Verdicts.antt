@@ -11,7 +11,8 @@ use Rattle.rulesyntax.specs.declared.tree.Verdict.{Verdict}
 use Rattle.rulesyntax.specs.declared.tree.Verdict.TheVariants.{Accept, Drop, Return, Continue, Jump, Goto}
 use Rattle.rulesyntax.specs.declared.tree.Element.{Element}
 use Rattle.rulesyntax.specs.declared.tree.Pair.{Pair}
-use Rattle.rulesyntax.specs.Words.{verdict_words, verdict_name, flag_words, flag_name}
+use Rattle.rulesyntax.specs.Names.{flag_name}
+use Rattle.rulesyntax.specs.Words.{verdict_words, verdict_name, flag_words}
 use Rattle.rulesyntax.specs.Grammar.{Tokens, ElementIs, VerdictIs, PairIs, FlagIs}
 use Rattle.rulesyntax.specs.Reading.{next_at, name_of, name_at, keyword_of, keyword_at, rank, symbol_of, symbol_at, is_close, verdict_behind, verdict_at, pair_at, flag_at}
 use Rattle.rulesyntax.proofs.Sound.{Sound, just, then_sound, name_sound, symbol_sound, keyword_sound}

@@ -6,7 +6,7 @@ use Rattle.rulesyntax.specs.declared.token.Token.TheVariants.{Name, Number, Addr
 use Rattle.rulesyntax.specs.declared.token.Symbol.TheVariants.{Open, Close, Comma, Semicolon, Colon, Slash, Minus, Plus, Equal, Equals, Differs, At}
 use Rattle.rulesyntax.specs.declared.keyword.Flag.{Flag}
 use Rattle.rulesyntax.specs.declared.keyword.PriorityName.{PriorityName}
-use Rattle.rulesyntax.specs.Words.{flag_name, family_name, type_name, hook_name, policy_name, transport_name, priority_name, priority_value, is_reserved}
+use Rattle.rulesyntax.specs.Names.{flag_name, family_name, type_name, hook_name, policy_name, transport_name, priority_name, priority_value, is_reserved}
 use Rattle.rulesyntax.specs.declared.tree.Family.{Family}
 use Rattle.rulesyntax.specs.declared.tree.Family.TheVariants.{Ip, Inet}
 use Rattle.rulesyntax.specs.declared.tree.Head.{Head}

@@ -1,5 +1,6 @@
 pub mod Tokens
-pub mod Words
+pub mod Names
 pub mod Grammar
 pub mod Text
+pub mod Words
 pub mod Reading

@@ -1,7 +1,8 @@
 -- Reading tokens from left to right.
 use Rattle.std.specs.Prelude.{◌≡◌, ℕ, ℤ, pos, neg_ℤ, ◌+ℤ◌, zero, suc, Bool, true, false, ◌||◌, ◌&&◌, not, ◌==◌, codes, nat_le, List, [], ◌∷◌, ◌++◌, length, Option, Some, None, Result, Ok, Err, if◌then◌else◌}
 use Rattle.std.specs.Str.{bytes_eq}
-use Rattle.rulesyntax.specs.Words.{lookup, flag_words, verdict_words, nat_words, head_words, meta_words, ip_words, port_words, family_words, type_words, hook_words, policy_words, priority_words, statement_words, item_words, line_words, member_words, priority_value, is_reserved}
+use Rattle.rulesyntax.specs.Names.{priority_value, is_reserved}
+use Rattle.rulesyntax.specs.Words.{lookup, flag_words, verdict_words, nat_words, head_words, meta_words, ip_words, port_words, family_words, type_words, hook_words, policy_words, priority_words, statement_words, item_words, line_words, member_words}
 use Rattle.rulesyntax.specs.Grammar.{Tokens, inside}
 use Rattle.rulesyntax.specs.declared.token.Token.{Token}
 use Rattle.rulesyntax.specs.declared.token.Token.TheVariants as token

@@ -1,5 +1,5 @@
--- The words that have a meaning.
-use Rattle.std.specs.Prelude.{ℕ, ℤ, pos, neg_ℤ, Bool, ◌||◌, codes, List, [], ◌∷◌, Option, Some, None, if◌then◌else◌}
+-- The words that the reader looks up.
+use Rattle.std.specs.Prelude.{ℕ, codes, List, [], ◌∷◌, Option, Some, None, if◌then◌else◌}
 use Rattle.std.specs.Str.{bytes_eq}
 use Rattle.rulesyntax.specs.declared.keyword.Flag.{Flag}
 use Rattle.rulesyntax.specs.declared.keyword.Flag.TheVariants as flag
@@ -33,8 +33,6 @@ use Rattle.rulesyntax.specs.declared.keyword.LineWord.{LineWord}
 use Rattle.rulesyntax.specs.declared.keyword.LineWord.TheVariants as line_word
 use Rattle.rulesyntax.specs.declared.keyword.MemberWord.{MemberWord}
 use Rattle.rulesyntax.specs.declared.keyword.MemberWord.TheVariants as member_word
-use Rattle.rulesyntax.specs.declared.tree.Transport.{Transport}
-use Rattle.rulesyntax.specs.declared.tree.Transport.TheVariants as transport
 
 -- what a word means
 abbrev pub lookup : {K : Type 0} → List (List ℕ × K) → List ℕ → Option K
@@ -89,10 +87,6 @@ line_words = (codes "type", line_word.Type) ∷ (codes "flags", line_word.Flags)
 abbrev pub member_words : List (List ℕ × MemberWord)
 member_words = (codes "comment", member_word.Comment) ∷ (codes "type", member_word.Type) ∷ []
 
-abbrev pub flag_name : Flag → List ℕ
-flag_name flag.Interval = codes "interval"
-flag_name flag.Constant = codes "constant"
-
 abbrev pub verdict_name : VerdictWord → List ℕ
 verdict_name verdict_word.Accept = codes "accept"
 verdict_name verdict_word.Drop = codes "drop"
@@ -133,33 +127,6 @@ abbrev pub port_name : PortWord → List ℕ
 port_name port_word.Sport = codes "sport"
 port_name port_word.Dport = codes "dport"
 
-abbrev pub family_name : Family → List ℕ
-family_name family.Ip = codes "ip"
-family_name family.Inet = codes "inet"
-
-abbrev pub type_name : ChainType → List ℕ
-type_name chain_type.Filter = codes "filter"
-type_name chain_type.Nat = codes "nat"
-
-abbrev pub hook_name : Hook → List ℕ
-hook_name hook.Prerouting = codes "prerouting"
-hook_name hook.Input = codes "input"
-hook_name hook.Forward = codes "forward"
-hook_name hook.Output = codes "output"
-hook_name hook.Postrouting = codes "postrouting"
-
-abbrev pub policy_name : Policy → List ℕ
-policy_name policy.Accept = codes "accept"
-policy_name policy.Drop = codes "drop"
-
-abbrev pub priority_name : PriorityName → List ℕ
-priority_name priority.Raw = codes "raw"
-priority_name priority.Mangle = codes "mangle"
-priority_name priority.Dstnat = codes "dstnat"
-priority_name priority.Filter = codes "filter"
-priority_name priority.Security = codes "security"
-priority_name priority.Srcnat = codes "srcnat"
-
 abbrev pub statement_name : StatementWord → List ℕ
 statement_name statement_word.Flush = codes "flush"
 statement_name statement_word.Table = codes "table"
@@ -179,20 +146,3 @@ line_name line_word.Comment = codes "comment"
 abbrev pub member_name : MemberWord → List ℕ
 member_name member_word.Comment = codes "comment"
 member_name member_word.Type = codes "type"
-
-abbrev pub transport_name : Transport → List ℕ
-transport_name transport.Tcp = codes "tcp"
-transport_name transport.Udp = codes "udp"
-
--- what a name of a priority means
-abbrev pub priority_value : PriorityName → ℤ
-priority_value priority.Raw = neg_ℤ (pos 300)
-priority_value priority.Mangle = neg_ℤ (pos 150)
-priority_value priority.Dstnat = neg_ℤ (pos 100)
-priority_value priority.Filter = pos 0
-priority_value priority.Security = pos 50
-priority_value priority.Srcnat = pos 100
-
--- no table has such a name
-abbrev pub is_reserved : List ℕ → Bool
-is_reserved n = bytes_eq n (codes "ip") || bytes_eq n (codes "inet") || bytes_eq n (codes "ip6") || bytes_eq n (codes "arp") || bytes_eq n (codes "bridge") || bytes_eq n (codes "netdev")

@@ -1,7 +1,7 @@
 //! Chains.
 
 ghost use Rattle.std.specs.Prelude.{◌≡◌, ◌+ℤ◌, ◌≤◌, ◌≤ℤ◌, ℤ, pos, neg_ℤ, false, IfOk, IfErr, codes};
-ghost use Rattle.rulesyntax.specs.Words.{priority_value};
+ghost use Rattle.rulesyntax.specs.Names.{priority_value};
 ghost use Rattle.rulesyntax.specs.Reading.{Gives, amount_at, less_behind, more_behind, named_priority, priority_at, base_behind, with_policy, rule_step, policy_behind, member_behind, chain_step, no_members, chain_behind};
 
 use crate::error::ReadError;

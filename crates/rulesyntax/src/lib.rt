@@ -4,7 +4,8 @@
 //! line. `tree` is what it answers, `fault` and `line` why it doesn't. Within, `lex` cuts a text into
 //! tokens; `next` and `keyword` read one token, `element` elements and lists with commas, `rule`,
 //! `chain`, `set` and `table` what their names say, and `list` what stands apart by semicolons and
-//! line ends. What tokens are is said in specs/Tokens, what they spell in specs/Grammar.
+//! line ends. What tokens are is said in specs/Tokens, and what they spell in specs/Grammar; of these
+//! specs/Text makes what a text spells. specs/Reading and specs/Words only serve the proofs.
 #![tactic(auto)]
 
 mod chain;
@@ -23,7 +24,7 @@ mod source;
 mod table;
 #[cfg(test)]
 mod tests;
-mod token;
+pub mod token;
 pub mod tree;
 
 pub use ruleset::{one_ruleset, parse};

@@ -309,7 +309,7 @@ fn side<'a>(
 }
 
 #[tactic(auto, unfolding(crate::specs::Reading::match_at))]
-fn match_<'a>(source: &Source, tokens: &'a [Token]) -> Result<(Match, &'a [Token]), ReadError>
+fn read_match<'a>(source: &Source, tokens: &'a [Token]) -> Result<(Match, &'a [Token]), ReadError>
     ensures { Gives false result (match_at tokens.now) }
 {
     let line = line(source, false, tokens);
@@ -415,7 +415,7 @@ fn read_part<'a>(source: &Source, tokens: &'a [Token]) -> Result<(Part, &'a [Tok
         let rest = counter(rest)?;
         return Ok((Part::Counter, rest));
     }
-    let (found, rest) = match_(source, tokens)?;
+    let (found, rest) = read_match(source, tokens)?;
     Ok((Part::Match(found), rest))
 }
 

@@ -2,7 +2,7 @@
 
 ghost use Rattle.std.specs.Prelude.{◌≡◌, false, codes};
 ghost use Rattle.rulesyntax.specs.declared.keyword.StatementWord.TheVariants as statement_word;
-ghost use Rattle.rulesyntax.specs.Words.{is_reserved};
+ghost use Rattle.rulesyntax.specs.Names.{is_reserved};
 ghost use Rattle.rulesyntax.specs.Reading.{Gives, Answers, IsSyntax, item_behind, table_step, no_items, family_at, free_name_at, table_behind, flush_behind, statement_behind, text_step, text_at};
 
 use crate::chain::chain;

@@ -1,4 +1,6 @@
-use crate::parse;
+use crate::fault::Kind;
+use crate::tree::{Chain, Element, End, Rule, Set, Side, Verdict};
+use crate::{one_ruleset, parse};
 use std::alloc::{AllocError, Global};
 use std::process::Abort;
 use std::test::*;
@@ -373,4 +375,179 @@ fn lengths(rt: HostRuntime) -> Result<(), Fail> {
         "line 1: too-long"
     );
     Ok(())
+}
+
+type Lines = Vec<usize>;
+
+fn element_lines(lines: &mut Lines, elements: &[Element]) -> Result<(), AllocError> {
+    for element in elements {
+        lines.push(element.line.number())?;
+    }
+    Ok(())
+}
+
+fn set_lines(lines: &mut Lines, set: &Set) -> Result<(), AllocError> {
+    lines.push(set.line.number())?;
+    lines.push(set.name_line.number())?;
+    for set_type in set.types.as_slice() {
+        lines.push(set_type.line.number())?;
+        lines.push(set_type.name_line.number())?;
+    }
+    for listed in set.elements.as_slice() {
+        lines.push(listed.line.number())?;
+        element_lines(lines, listed.elements.as_slice())?;
+    }
+    Ok(())
+}
+
+fn verdict_lines(lines: &mut Lines, verdict: &Verdict) -> Result<(), AllocError> {
+    match verdict {
+        Verdict::Jump(target) | Verdict::Goto(target) => lines.push(target.line.number())?,
+        _ => (),
+    }
+    Ok(())
+}
+
+fn end_lines(lines: &mut Lines, end: &End) -> Result<(), AllocError> {
+    match end {
+        End::Verdict(verdict) => verdict_lines(lines, verdict)?,
+        End::Vmap(vmap) => {
+            lines.push(vmap.line.number())?;
+            for pair in vmap.pairs.as_slice() {
+                lines.push(pair.key.line.number())?;
+                verdict_lines(lines, &pair.verdict)?;
+            }
+        }
+        End::Dnat(dnat) => {
+            lines.push(dnat.line.number())?;
+            lines.push(dnat.address_line.number())?;
+        }
+        End::Snat(snat) => {
+            lines.push(snat.line.number())?;
+            lines.push(snat.address_line.number())?;
+        }
+        End::Masquerade(line) => lines.push(line.number())?,
+    }
+    Ok(())
+}
+
+fn side_lines(lines: &mut Lines, side: &Side) -> Result<(), AllocError> {
+    match side {
+        Side::One(element) => lines.push(element.line.number())?,
+        Side::Several(elements) => element_lines(lines, elements.as_slice())?,
+        Side::Named(set) => lines.push(set.line.number())?,
+    }
+    Ok(())
+}
+
+fn rule_lines(lines: &mut Lines, rule: &Rule) -> Result<(), AllocError> {
+    lines.push(rule.line.number())?;
+    for found in rule.matches.as_slice() {
+        lines.push(found.line.number())?;
+        side_lines(lines, &found.side)?;
+    }
+    if let Some(end) = &rule.end {
+        end_lines(lines, end)?;
+    }
+    Ok(())
+}
+
+fn chain_lines(lines: &mut Lines, chain: &Chain) -> Result<(), AllocError> {
+    lines.push(chain.line.number())?;
+    if let Some(base) = &chain.base {
+        lines.push(base.line.number())?;
+    }
+    for rule in chain.rules.as_slice() {
+        rule_lines(lines, rule)?;
+    }
+    Ok(())
+}
+
+const SPREAD: &str = "
+table t {
+set \\
+s {
+type \\
+ipv4_addr
+elements = {
+1,
+
+2 }
+}
+chain \\
+c {
+type nat hook prerouting priority 0
+counter \\
+ip saddr \\
+@s ct state \\
+new tcp dport {
+
+5 } jump \\
+d
+tcp dport vmap {
+1 :
+goto
+d, 2
+: drop
+}
+dnat \\
+to \\
+10.0.0.1
+snat to \\
+10.0.0.1
+masquerade
+}
+}
+";
+
+const SPREAD_LINES: [usize; 32] = [
+    2, 3, 4, 5, 6, 7, 8, 10, 12, 14, 15, 16, 17, 17, 18, 18, 20, 20, 22, 22, 23, 24, 25, 28, 28,
+    30, 31, 31, 32, 33, 33, 0,
+];
+
+#[test]
+fn lines(rt: HostRuntime) -> Result<(), Fail> {
+    let rules = parse(rt.alloc(), SPREAD.as_bytes())
+        .ok()
+        .ok_or("a ruleset")?;
+    let mut lines = Vec::new(rt.alloc());
+    for table in rules.tables.as_slice() {
+        lines.push(table.line.number())?;
+        for set in table.sets.as_slice() {
+            set_lines(&mut lines, set)?;
+        }
+        for chain in table.chains.as_slice() {
+            chain_lines(&mut lines, chain)?;
+        }
+    }
+    lines.push(0)?;
+    assert_eq!(rt; lines.as_slice(), SPREAD_LINES.as_slice());
+    Ok(())
+}
+
+const NAMES: [(Kind, &str); 16] = [
+    (Kind::TooLong, "too-long"),
+    (Kind::Syntax, "syntax"),
+    (Kind::Unsupported, "unsupported"),
+    (Kind::Family, "family"),
+    (Kind::UnknownChain, "unknown-chain"),
+    (Kind::UnknownSet, "unknown-set"),
+    (Kind::Duplicate, "duplicate"),
+    (Kind::Loop, "loop"),
+    (Kind::Depth, "depth"),
+    (Kind::WrongHook, "wrong-hook"),
+    (Kind::WrongType, "wrong-type"),
+    (Kind::NotExternal, "not-external"),
+    (Kind::NotInside, "not-inside"),
+    (Kind::Limit, "limit"),
+    (Kind::Overlap, "overlap"),
+    (Kind::NoMemory, "no-memory"),
+];
+
+#[test]
+fn names(rt: HostRuntime) {
+    one_ruleset();
+    for (kind, name) in NAMES {
+        assert_eq!(rt; kind.name(), name);
+    }
 }

@@ -1,5 +1,5 @@
 -- Keys of a set's kind, and those of a verdict map that they are made of.
-use Rattle.std.proofs.Common.{◌≡◌, ◌↔◌, ◌⊎◌, ℕ, zero, suc, ◌+◌, ◌<◌, ◌≤◌, List, [], ◌∷◌, ◌++◌, length, slice_index_or, refl, sym, ap, ◌∙◌, subst, inl, inr, arith}
+use Rattle.std.proofs.Common.{◌↔◌, zero, suc, ◌≤◌, List, [], ◌∷◌, ◌++◌, length, refl, sym, ap, ◌∙◌, subst, inl, inr, arith}
 use Rattle.std.specs.List.{Any}
 use Rattle.sets.specs.declared.element.Element.{Element as Part}
 use Rattle.sets.specs.declared.element.Pair.{Pair as Key}

@@ -1,5 +1,5 @@
 -- Ranks that fall with each step, and a step from whose end a path leads back.
-use Rattle.std.proofs.Common.{◌≡◌, ℕ, zero, suc, ◌+◌, ◌<◌, ◌≤◌, List, Bool, slice_index, refl, sym, ap, ◌∙◌, subst, arith}
+use Rattle.std.proofs.Common.{◌≡◌, ℕ, zero, suc, ◌+◌, ◌<◌, ◌≤◌, List, Bool, sym, ap, subst, arith}
 use Rattle.ruletext.specs.Paths.{Path, HasLoop, IsMarked, IsReachedFrom}
 
 module _ (E : ℕ → ℕ → Type 0) where

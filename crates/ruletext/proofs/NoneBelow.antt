@@ -1,7 +1,7 @@
 -- What may be relied on where no earlier kind holds.
-use Rattle.std.proofs.Common.{◌≡◌, ℕ, zero, suc, ◌<◌, Bool, true, false, ◌||◌, List, [], ◌∷◌, length, get_or, All, refl, sym, inl, inr, arith}
+use Rattle.std.proofs.Common.{◌≡◌, ℕ, zero, suc, ◌<◌, Bool, true, false, ◌||◌, List, [], ◌∷◌, get_or, All, refl, sym, inl, inr, arith}
 use Rattle.std.specs.List.{list_any}
-use Rattle.std.proofs.lemmas.Bool.{cases_Bool, false≢true}
+use Rattle.std.proofs.lemmas.Bool.{false≢true}
 use Rattle.packet.specs.Config.{Config}
 use Rattle.rulesyntax.specs.declared.tree.Table.{Table}
 use Rattle.rulesyntax.specs.declared.fault.Kind.TheVariants.{Duplicate, Depth}

@@ -1,5 +1,5 @@
 -- Parts of sets that hold the facts of a value.
-use Rattle.std.proofs.Common.{◌≡◌, ◌↔◌, ℕ, List, true, false, Some, None, Option, Vec, Global, ◌≤◌, subst, refl, sym, ◌∙◌, ap}
+use Rattle.std.proofs.Common.{◌≡◌, ◌↔◌, ℕ, List, true, Some, Option, Vec, Global, ◌≤◌, subst, sym, ◌∙◌, ap}
 use Rattle.sets.specs.declared.element.Range.{Range}
 use Rattle.sets.specs.declared.element.Element.{Element as Part}
 use Rattle.sets.specs.Members.{Fact, IsIn, IsWithin}

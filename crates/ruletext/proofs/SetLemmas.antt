@@ -1,5 +1,5 @@
 -- Sets found by their names.
-use Rattle.std.proofs.Common.{◌≡◌, ◌↔◌, ◌⊎◌, ◌∙◌, ℕ, zero, suc, Bool, true, false, ◌||◌, cond, not, List, [], ◌∷◌, Option, Some, None, IfSome, is_some, find, slice_get, refl, sym, ap, inl, inr}
+use Rattle.std.proofs.Common.{◌≡◌, ◌↔◌, ◌⊎◌, ◌∙◌, ℕ, zero, suc, Bool, true, false, ◌||◌, cond, not, List, [], ◌∷◌, Some, None, find, slice_get, refl, sym, ap, inl, inr}
 use Rattle.std.specs.Option.{option_map_or}
 use Rattle.std.specs.Str.{bytes_eq}
 use Rattle.std.proofs.lemmas.Slice.Eq.{bytes_eq-Decides}
@@ -8,7 +8,7 @@ use Rattle.rulesyntax.specs.declared.tree.Set.{Set}
 use Rattle.ruletext.specs.Said.{set_names, is_among}
 use Rattle.ruletext.specs.declared.class.Class.{Class}
 use Rattle.ruletext.specs.Types.{same_class, class_in, has_other_class}
-use Rattle.ruletext.proofs.NameLemmas.{some_is, among_at}
+use Rattle.ruletext.proofs.NameLemmas.{some_is}
 
 zero_suc : {n : ℕ} → zero ≡ suc n → ⊥
 zero_suc e = cc

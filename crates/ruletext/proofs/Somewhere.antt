@@ -1,5 +1,5 @@
 -- A search for the first place where something holds.
-use Rattle.std.proofs.Common.{◌≡◌, ◌↔◌, ◌⊎◌, ℕ, ◌+◌, List, ◌∷◌, slice_get, drop, Option, Some, None, is_some, IsSome, refl, sym, ap, ◌∙◌, subst, inl, inr}
+use Rattle.std.proofs.Common.{◌≡◌, ◌↔◌, ℕ, ◌+◌, List, ◌∷◌, slice_get, drop, Option, Some, None, is_some, IsSome, sym, ap, ◌∙◌, subst, inl, inr}
 use Rattle.std.proofs.lemmas.Bool.{false≢true}
 use Rattle.ruletext.specs.Calls.{OfSome}
 use Rattle.ruletext.proofs.Edges.{drop_at}

@@ -1,5 +1,5 @@
 -- What is read from a text, and what comes of it.
-use Rattle.std.proofs.Common.{◌≡◌, ◌↔◌, ◌⊎◌, ℕ, ◌<◌, ◌≤◌, List, length, Some, Result, Ok, Err, IfOk, IfErr, refl, ap, sym, ◌∙◌, subst, inl, inr, arith}
+use Rattle.std.proofs.Common.{◌≡◌, ◌↔◌, ◌⊎◌, ℕ, ◌<◌, ◌≤◌, List, length, Some, Result, Ok, Err, IfOk, IfErr, ap, ◌∙◌, subst, inl, inr}
 use Rattle.std.proofs.lemmas.Bool.{cases_lt}
 use Rattle.packet.specs.Config.{Config}
 use Rattle.rulesyntax.specs.declared.tree.Spelled.{Spelled}
@@ -7,7 +7,7 @@ use Rattle.rulesyntax.specs.declared.fault.Kind.{Kind}
 use Rattle.rulesyntax.specs.declared.fault.Kind.TheVariants.{TooLong, Syntax, Unsupported, Family, UnknownChain, UnknownSet, Duplicate, Loop, Depth, WrongHook, WrongType, NotExternal, NotInside, Limit, Overlap, NoMemory}
 use Rattle.rulesyntax.specs.declared.fault.LoadFault.{LoadFault}
 use Rattle.rulesyntax.specs.Text.{IsSpelledBy, IsOkOrNoMemory, IsOfSyntax}
-use Rattle.ruletext.specs.Loads.{Holds, IsLeast, MayRun}
+use Rattle.ruletext.specs.Loads.{Holds, IsLeast}
 use Rattle.ruletext.specs.Texts.{IsShort, IsSenseless, Loads, IsRefused}
 
 fault_is : (a b : LoadFault) (x : Result Spelled LoadFault) → x ≡ Err a → x ≡ Err b → a ≡ b

@@ -1,11 +1,10 @@
 -- Which chains a chain jumps or goes to.
-use Rattle.std.specs.Prelude.{◌≡◌, ◌⊎◌, ℕ, false, List, [], ◌∷◌, Option, Some, slice_get, length, All, ◌<◌}
+use Rattle.std.specs.Prelude.{◌≡◌, ◌⊎◌, ℕ, false, List, [], ◌∷◌, Some, slice_get, length, All, ◌<◌}
 use Rattle.std.specs.List.{Contains}
 use Rattle.rulesyntax.specs.declared.tree.Verdict.{Verdict}
 use Rattle.rulesyntax.specs.declared.tree.Rule.{Rule}
 use Rattle.rulesyntax.specs.declared.tree.Chain.{Chain}
 use Rattle.rulesyntax.specs.declared.tree.Table.{Table}
-use Rattle.rulesyntax.specs.declared.tree.Spelled.{Spelled}
 use Rattle.ruletext.specs.Said.{verdicts_of, target_of, chain_names, set_names}
 use Rattle.ruletext.specs.Duplicate.{has_twice}
 use Rattle.ruletext.specs.Paths.{HasLoop, IsDeeper}

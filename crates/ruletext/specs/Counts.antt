@@ -1,11 +1,10 @@
 -- How much a text has.
-use Rattle.std.specs.Prelude.{ℕ, Bool, ◌+◌, ◌||◌, nat_lt, List, length, Option, Some, None, sum_by}
+use Rattle.std.specs.Prelude.{ℕ, Bool, ◌+◌, ◌||◌, nat_lt, List, length, Option, Some, sum_by}
 use Rattle.rulesyntax.specs.declared.tree.Side.{Side}
 use Rattle.rulesyntax.specs.declared.tree.Side.TheVariants.{One, Several, Named}
 use Rattle.rulesyntax.specs.declared.tree.End.{End}
 use Rattle.rulesyntax.specs.declared.tree.End.TheVariants as ends
 use Rattle.rulesyntax.specs.declared.tree.Rule.{Rule}
-use Rattle.rulesyntax.specs.declared.tree.Chain.{Chain}
 use Rattle.rulesyntax.specs.declared.tree.Set.{Set}
 use Rattle.rulesyntax.specs.declared.tree.Table.{Table}
 use Rattle.rulesyntax.specs.declared.tree.Spelled.{Spelled}

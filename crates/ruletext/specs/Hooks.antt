@@ -1,11 +1,11 @@
 -- Which chains and translations stand at a hook where they can't, or in a chain of another type.
-use Rattle.std.specs.Prelude.{◌≡◌, ◌⊎◌, ℕ, Bool, true, false, ◌&&◌, ◌||◌, not, List, Option, Some, None, slice_get}
+use Rattle.std.specs.Prelude.{◌≡◌, ◌⊎◌, ℕ, Bool, true, false, ◌&&◌, not, List, Some, slice_get}
 use Rattle.std.specs.Option.{option_map_or}
 use Rattle.std.specs.List.{list_any}
 use Rattle.rulesyntax.specs.declared.tree.ChainType.{ChainType}
 use Rattle.rulesyntax.specs.declared.tree.ChainType.TheVariants.{Filter, Nat}
 use Rattle.rulesyntax.specs.declared.tree.Hook.{Hook}
-use Rattle.rulesyntax.specs.declared.tree.Hook.TheVariants.{Prerouting, Input, Forward, Output, Postrouting}
+use Rattle.rulesyntax.specs.declared.tree.Hook.TheVariants.{Prerouting, Forward, Output, Postrouting}
 use Rattle.rulesyntax.specs.declared.tree.Base.{Base}
 use Rattle.rulesyntax.specs.declared.tree.End.{End}
 use Rattle.rulesyntax.specs.declared.tree.End.TheVariants as ends

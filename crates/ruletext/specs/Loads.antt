@@ -1,5 +1,5 @@
 -- Which texts load, and why the others don't.
-use Rattle.std.specs.Prelude.{◌≡◌, ◌≤◌, ◌<◌, ℕ, true, List, length, Option, Some, None}
+use Rattle.std.specs.Prelude.{◌≡◌, ◌<◌, ℕ, true, List, Option, Some, None}
 use Rattle.packet.specs.Config.{Config}
 use Rattle.std.specs.Option.{option_map}
 use Rattle.std.specs.List.{list_any}

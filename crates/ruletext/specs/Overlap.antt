@@ -1,5 +1,5 @@
 -- Verdict maps with two keys for one value.
-use Rattle.std.specs.Prelude.{◌⊎◌, ◌≤◌, ℕ, All, List, [], ◌∷◌, Option, Some, None}
+use Rattle.std.specs.Prelude.{◌⊎◌, ◌≤◌, All, List, [], ◌∷◌, Option, Some}
 use Rattle.sets.specs.Members.{Fact}
 use Rattle.rulesyntax.specs.declared.tree.Element.{Element}
 use Rattle.rulesyntax.specs.declared.tree.Pair.{Pair}

@@ -1,12 +1,10 @@
 -- Translations to addresses where they can't lead.
-use Rattle.std.specs.Prelude.{ℕ, Bool, true, false, not, ◌==◌, List}
+use Rattle.std.specs.Prelude.{Bool, false, not, ◌==◌, List}
 use Rattle.std.specs.Option.{option_map_or}
 use Rattle.std.specs.List.{list_any}
 use Rattle.packet.specs.Config.{Config, is_inside}
 use Rattle.rulesyntax.specs.declared.tree.End.{End}
 use Rattle.rulesyntax.specs.declared.tree.End.TheVariants as ends
-use Rattle.rulesyntax.specs.declared.tree.Rule.{Rule}
-use Rattle.rulesyntax.specs.declared.tree.Chain.{Chain}
 use Rattle.rulesyntax.specs.declared.tree.Table.{Table}
 use Rattle.rulesyntax.specs.declared.tree.Spelled.{Spelled}
 use Rattle.ruletext.specs.declared.hooks.Translation.{Translation}

@@ -1,9 +1,8 @@
 -- Values, sets and translations of a wrong type.
-use Rattle.std.specs.Prelude.{◌≡◌, ◌⊎◌, ℕ, Bool, true, false, not, ◌&&◌, ◌||◌, nat_lt, length, List, [], ◌∷◌, Option, Some, None, find}
-use Rattle.std.specs.Option.{option_map_or, option_and_then}
+use Rattle.std.specs.Prelude.{◌≡◌, ◌⊎◌, ℕ, Bool, true, false, not, ◌&&◌, ◌||◌, nat_lt, length, List, [], ◌∷◌, Option, None, find}
+use Rattle.std.specs.Option.{option_map_or}
 use Rattle.std.specs.List.{list_any}
 use Rattle.std.specs.Str.{bytes_eq}
-use Rattle.rulesyntax.specs.declared.tree.Head.{Head}
 use Rattle.rulesyntax.specs.declared.tree.Element.{Element}
 use Rattle.rulesyntax.specs.declared.tree.SetType.{SetType}
 use Rattle.rulesyntax.specs.declared.tree.Set.{Set}

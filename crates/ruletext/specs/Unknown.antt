@@ -1,5 +1,5 @@
 -- Names that a text uses and nowhere gives.
-use Rattle.std.specs.Prelude.{ℕ, Bool, true, false, not, List, Option, Some, None, is_none, filter}
+use Rattle.std.specs.Prelude.{ℕ, Bool, false, not, List, is_none, filter}
 use Rattle.std.specs.Option.{option_map_or}
 use Rattle.std.specs.List.{list_any}
 use Rattle.rulesyntax.specs.declared.tree.Verdict.{Verdict}

@@ -1,4 +1,14 @@
-//! Rulesets that may run.
+//! Rulesets that may run: which texts load under a gateway's bounds, and why the others don't.
+//!
+//! `read` answers the rules of a text, or the least kind of fault that holds of it and the line.
+//!
+//! - `reading`, `load`, `ruleset`: from a text, and from what it spells, to rules that may run.
+//! - `refusal`: the kinds in the order in which they count. One room a kind: `unknown`, `duplicate`, `loops`,
+//!   `hooks`, `types`, `places`, `counts`, `overlap`.
+//! - `class`, `parts`: the classes of values, and the parts of sets that values stand for.
+//! - `names`, `calls`, `graph`: the jumps and gotos of a table as rows of places. `nesting`, `witness`, `reach`
+//!   tell what they lead to; `strong` only guesses, and `witness` shows.
+//! - `lines`, `excess`, `earlier`: which line is named, of which no contract speaks.
 #![tactic(auto)]
 
 mod calls;
@@ -27,3 +37,7 @@ mod tests;
 mod types;
 mod unknown;
 mod witness;
+
+pub use reading::read;
+pub use refusal::refusal_of;
+pub use ruleset::Ruleset;

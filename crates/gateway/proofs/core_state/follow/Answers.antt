@@ -1,10 +1,9 @@
-use Rattle.std.proofs.Common.{◌≡◌, ℕ, Option, Result, Ok}
+use Rattle.std.proofs.Common.{Result}
 use Rattle.std.proofs.lemmas.Result.{IfOk-weaker}
-use Rattle.packet.specs.Config.{Config}
 use Rattle.sessions.specs.declared.session.Opener.TheVariants.{Inside}
 use Rattle.sessions.specs.declared.session.Session.{Session}
-use Rattle.gateway.specs.Core.{Leads, LeadsFew}
-use Rattle.gateway.specs.Machine.{on_route, sent}
+use Rattle.gateway.specs.Core.{Leads}
+use Rattle.gateway.specs.Machine.{sent}
 use Rattle.gateway.specs.Plans.{Plans}
 use Rattle.gateway.specs.declared.cause.Cause.{Cause}
 use Rattle.gateway.specs.declared.event.Answer.{Answer}

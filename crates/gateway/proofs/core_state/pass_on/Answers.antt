@@ -1,5 +1,4 @@
-use Rattle.std.proofs.Common.{◌≡◌, Ok, sym, ◌∙◌, subst, List}
-use Rattle.packet.specs.Fields.{fields}
+use Rattle.std.proofs.Common.{sym, ◌∙◌}
 use Rattle.packet.proofs.Routes.{routed_is_on_route}
 use Rattle.gateway.proofs.Reading.{ports_are_some}
 use Rattle.gateway.proofs.Steps.{pass-few}

@@ -1,4 +1,4 @@
-use Rattle.std.proofs.Common.{◌≡◌, ℕ, Ok, Option, Some, IsSomeAnd, sym, subst, ◌∙◌}
+use Rattle.std.proofs.Common.{Ok, Option, IsSomeAnd, sym, subst, ◌∙◌}
 use Rattle.sessions.specs.Listing.{listing}
 use Rattle.sessions.specs.Table.{HasInside}
 use Rattle.sessions.specs.declared.session.Session.{Session}

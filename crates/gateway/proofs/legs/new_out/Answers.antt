@@ -1,4 +1,4 @@
-use Rattle.std.proofs.Common.{◌≡◌, ◌≢◌, ◌≤◌, ℕ, Option, Some, Ok, Err, Result, count_by, is_some, sym, subst, ap, ◌∙◌, refl, arith}
+use Rattle.std.proofs.Common.{◌≡◌, ◌≢◌, ◌≤◌, Some, Ok, Err, count_by, is_some, sym, subst, ap, ◌∙◌, refl, arith}
 use Rattle.sessions.proofs.Puts.{length-listing}
 use Rattle.sessions.specs.Listing.{listing, find}
 use Rattle.sessions.specs.declared.session.Change.TheVariants.{Begin}

@@ -1,4 +1,4 @@
-use Rattle.std.proofs.Common.{◌≡◌, Some, None, sym, subst, ap, ◌∙◌}
+use Rattle.std.proofs.Common.{◌≡◌, Some, sym, subst, ap, ◌∙◌}
 use Rattle.sessions.specs.Listing.{find, listing}
 use Rattle.portpick.specs.Choice.{IsTestOf}
 use Rattle.gateway.specs.Legs.{is_taken, maps_inside, outside_by}

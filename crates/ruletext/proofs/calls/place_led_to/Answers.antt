@@ -1,4 +1,4 @@
-use Rattle.std.proofs.Common.{◌≡◌, ◌∙◌, ℕ, List, Option, Some, IfSome, is_some, sym, ap, subst, slice_get}
+use Rattle.std.proofs.Common.{◌≡◌, ◌∙◌, ℕ, List, Some, IfSome, is_some, sym, ap, subst, slice_get}
 use Rattle.std.specs.Option.{option_map}
 use Rattle.ruletext.specs.Said.{target_of, is_among}
 use Rattle.ruletext.proofs.Edges.{led_to}

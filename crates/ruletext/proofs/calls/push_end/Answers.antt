@@ -1,4 +1,4 @@
-use Rattle.std.proofs.Common.{◌≡◌, ◌↔◌, ◌⊎◌, ℕ, List, OnOk, Some, subst, ap, ◌∙◌}
+use Rattle.std.proofs.Common.{◌≡◌, ◌↔◌, ◌⊎◌, ℕ, List, OnOk, subst}
 use Rattle.rulesyntax.specs.declared.tree.End.TheVariants as ends
 use Rattle.std.specs.List.{Contains}
 use Rattle.rulesyntax.specs.declared.tree.Pair.{Pair}

@@ -1,4 +1,4 @@
-use Rattle.std.proofs.Common.{◌≡◌, ℕ, Some, slice_get, refl, arith}
+use Rattle.std.proofs.Common.{◌≡◌, Some, slice_get, refl, arith}
 use Rattle.std.proofs.lemmas.Option.{slice_get_read}
 use Rattle.rulesyntax.specs.declared.tree.Pair.{Pair}
 use Rattle.ruletext.specs.Calls.{VerdictLeads}

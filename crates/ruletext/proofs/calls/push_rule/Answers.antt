@@ -1,4 +1,4 @@
-use Rattle.std.proofs.Common.{◌≡◌, ◌↔◌, ◌⊎◌, ℕ, Option, OnOk, subst, sym}
+use Rattle.std.proofs.Common.{◌↔◌, ◌⊎◌, ℕ, Option, OnOk, subst, sym}
 use Rattle.std.specs.List.{Contains}
 use Rattle.rulesyntax.specs.declared.tree.End.{End}
 use Rattle.ruletext.specs.Said.{verdicts_of}

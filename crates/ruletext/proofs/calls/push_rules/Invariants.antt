@@ -1,4 +1,4 @@
-use Rattle.std.proofs.Common.{◌≡◌, ◌↔◌, ◌⊎◌, ℕ, drop}
+use Rattle.std.proofs.Common.{◌↔◌, ◌⊎◌, ℕ, drop}
 use Rattle.std.specs.List.{Contains}
 use Rattle.ruletext.specs.Calls.{OfSome, RuleLeads}
 use Rattle.ruletext.proofs.calls.push_rules.Given as goal

@@ -1,5 +1,3 @@
-use Rattle.std.proofs.Common.{◌≡◌, ◌↔◌, ◌⊎◌, ◌++◌, ◌∷◌, [], ℕ, OnOk, Some}
-use Rattle.std.specs.List.{Contains}
 use Rattle.ruletext.specs.Calls.{VerdictLeads}
 use Rattle.ruletext.proofs.Edges.{put_place_ok, put_none}
 use Rattle.ruletext.proofs.calls.push_verdict.Goals as goal

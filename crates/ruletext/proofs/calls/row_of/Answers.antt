@@ -1,4 +1,4 @@
-use Rattle.std.proofs.Common.{◌≡◌, ◌↔◌, ◌⊎◌, ℕ, List, [], subst}
+use Rattle.std.proofs.Common.{◌↔◌, ◌⊎◌, ℕ, List, subst}
 use Rattle.std.specs.List.{Contains}
 use Rattle.rulesyntax.specs.declared.tree.Rule.{Rule}
 use Rattle.ruletext.specs.Calls.{OfSome, RuleLeads, ChainLeads}

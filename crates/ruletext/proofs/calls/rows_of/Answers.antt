@@ -1,9 +1,8 @@
-use Rattle.std.proofs.Common.{◌≡◌, length, ◌+◌, ◌++◌, ◌∷◌, [], ◌<◌, ◌↔◌, ℕ, List, Some, slice_get, refl, subst, arith, length-append, map}
+use Rattle.std.proofs.Common.{◌≡◌, length, ◌++◌, ◌∷◌, [], ◌↔◌, ℕ, List, Some, slice_get, refl, subst, arith, length-append}
 use Rattle.std.specs.List.{Contains}
 use Rattle.std.proofs.lemmas.Option.{slice_get_read, slice_get_within}
-use Rattle.ruletext.specs.Said.{chain_names}
 use Rattle.ruletext.specs.Calls.{ChainLeads}
-use Rattle.ruletext.proofs.Edges.{rows_more, edges_within, chain_within}
+use Rattle.ruletext.proofs.Edges.{rows_more, edges_within}
 use Rattle.ruletext.proofs.calls.rows_of.Goals as goal
 
 pub loop-chain-preserved : goal.loop-chain-preserved

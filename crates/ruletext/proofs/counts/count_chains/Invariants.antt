@@ -1,7 +1,7 @@
-use Rattle.std.proofs.Common.{◌≡◌, ◌-◌, ◌^◌, min, take, length}
+use Rattle.std.proofs.Common.{◌≡◌, ◌-◌, ◌^◌, min, take}
 use Rattle.std.specs.List.{sum_by}
 use Rattle.rulesyntax.specs.declared.tree.Chain.{Chain}
-use Rattle.ruletext.specs.Counts.{elements_of_side, elements_of_rule, elements_of_set, elements_of_table}
+use Rattle.ruletext.specs.Counts.{elements_of_rule}
 use Rattle.ruletext.proofs.counts.count_chains.Given as goal
 
 abbrev pub invariant-loop-chain : goal.invariant-loop-chain

@@ -1,7 +1,6 @@
 use Rattle.std.proofs.Common.{◌≡◌, ◌-◌, ◌^◌, min, take, length}
 use Rattle.std.specs.List.{sum_by}
 use Rattle.rulesyntax.specs.declared.tree.SetElements.{SetElements}
-use Rattle.ruletext.specs.Counts.{elements_of_side, elements_of_rule, elements_of_set, elements_of_table}
 use Rattle.ruletext.proofs.counts.count_lists.Given as goal
 
 abbrev pub invariant-loop-list : goal.invariant-loop-list

@@ -1,7 +1,7 @@
-use Rattle.std.proofs.Common.{◌≡◌, ◌-◌, ◌^◌, min, take, length}
+use Rattle.std.proofs.Common.{◌≡◌, ◌-◌, ◌^◌, min, take}
 use Rattle.std.specs.List.{sum_by}
 use Rattle.rulesyntax.specs.declared.tree.Match.{Match}
-use Rattle.ruletext.specs.Counts.{elements_of_side, elements_of_rule, elements_of_set, elements_of_table}
+use Rattle.ruletext.specs.Counts.{elements_of_side}
 use Rattle.ruletext.proofs.counts.count_matches.Given as goal
 
 abbrev pub invariant-loop-test : goal.invariant-loop-test

@@ -1,6 +1,6 @@
-use Rattle.std.proofs.Common.{◌≡◌, ◌-◌, ◌^◌, min, take, length}
+use Rattle.std.proofs.Common.{◌≡◌, ◌-◌, ◌^◌, min, take}
 use Rattle.std.specs.List.{sum_by}
-use Rattle.ruletext.specs.Counts.{elements_of_side, elements_of_rule, elements_of_set, elements_of_table}
+use Rattle.ruletext.specs.Counts.{elements_of_table}
 use Rattle.ruletext.proofs.counts.elements_in.Given as goal
 
 abbrev pub invariant-loop-table : goal.invariant-loop-table

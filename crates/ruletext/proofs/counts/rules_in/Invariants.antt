@@ -1,8 +1,6 @@
-use Rattle.std.proofs.Common.{◌≡◌, ◌-◌, ◌^◌, min, take, length}
+use Rattle.std.proofs.Common.{◌≡◌, ◌-◌, ◌^◌, min, take}
 use Rattle.std.specs.List.{sum_by}
-use Rattle.rulesyntax.specs.declared.tree.Table.{Table}
-use Rattle.rulesyntax.specs.declared.tree.Chain.{Chain}
-use Rattle.ruletext.specs.Counts.{elements_of_side, elements_of_rule, elements_of_set, elements_of_table, rules_of_table}
+use Rattle.ruletext.specs.Counts.{rules_of_table}
 use Rattle.ruletext.proofs.counts.rules_in.Given as goal
 
 abbrev pub invariant-loop-table : goal.invariant-loop-table

@@ -1,7 +1,7 @@
-use Rattle.std.proofs.Common.{◌≡◌, ◌||◌, ℕ, List, drop}
+use Rattle.std.proofs.Common.{◌≡◌, ◌||◌, drop}
 use Rattle.std.specs.List.{list_any}
-use Rattle.ruletext.specs.Said.{chain_names, set_names, is_among}
-use Rattle.ruletext.specs.Duplicate.{has_twice, names_in}
+use Rattle.ruletext.specs.Said.{chain_names, is_among}
+use Rattle.ruletext.specs.Duplicate.{has_twice}
 use Rattle.ruletext.proofs.duplicate.twice_chain.Given as goal
 
 -- what was put in has no name twice, and shares the names that are to come with what is to come

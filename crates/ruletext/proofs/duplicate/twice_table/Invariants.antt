@@ -1,6 +1,6 @@
-use Rattle.std.proofs.Common.{◌≡◌, ◌||◌, ℕ, List, drop}
+use Rattle.std.proofs.Common.{◌≡◌, ◌||◌, drop}
 use Rattle.std.specs.List.{list_any}
-use Rattle.ruletext.specs.Said.{chain_names, set_names, is_among}
+use Rattle.ruletext.specs.Said.{is_among}
 use Rattle.ruletext.specs.Duplicate.{has_twice, names_in}
 use Rattle.ruletext.proofs.duplicate.twice_table.Given as goal
 

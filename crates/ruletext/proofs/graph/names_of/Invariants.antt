@@ -1,4 +1,4 @@
-use Rattle.std.proofs.Common.{◌≡◌, ◌++◌, ℕ, Bool, false, List, drop}
+use Rattle.std.proofs.Common.{◌≡◌, ◌++◌, false, drop}
 use Rattle.ruletext.specs.Said.{chain_names}
 use Rattle.ruletext.proofs.Twice.{clashes}
 use Rattle.ruletext.proofs.graph.names_of.Given as goal

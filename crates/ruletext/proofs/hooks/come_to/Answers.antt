@@ -1,6 +1,6 @@
-use Rattle.std.proofs.Common.{◌≡◌, ◌↔◌, ◌∙◌, ℕ, List, Bool, IsSome, subst, sym, arith}
+use Rattle.std.proofs.Common.{◌≡◌, ◌↔◌, ℕ, List, Bool, IsSome, subst, arith}
 use Rattle.std.proofs.lemmas.Grind.{common_steps}
-use Rattle.ruletext.specs.Paths.{IsMarked, IsReachedFrom, IsDeeper}
+use Rattle.ruletext.specs.Paths.{IsMarked, IsReachedFrom}
 use Rattle.ruletext.specs.Calls.{HasEdge, Leads}
 use Rattle.ruletext.specs.Hooks.{Forbids, Translates}
 use Rattle.ruletext.proofs.Walks.{deeper_into}

@@ -1,4 +1,4 @@
-use Rattle.std.proofs.Common.{◌≡◌, ◌↔◌, ℕ, List, subst, sym}
+use Rattle.std.proofs.Common.{◌↔◌, ℕ, List, subst, sym}
 use Rattle.ruletext.specs.Calls.{HasEdge, Leads}
 use Rattle.ruletext.proofs.hooks.forbidden_translation.Goals as goal
 

@@ -1,6 +1,6 @@
 use Rattle.std.proofs.Common.{◌↔◌, drop}
 use Rattle.rulesyntax.specs.declared.tree.Table.{Table}
-use Rattle.ruletext.specs.Calls.{OfSome, IsDeep}
+use Rattle.ruletext.specs.Calls.{OfSome}
 use Rattle.ruletext.specs.Hooks.{HasWrongHook}
 use Rattle.ruletext.proofs.hooks.wrong_hook_in.Given as goal
 

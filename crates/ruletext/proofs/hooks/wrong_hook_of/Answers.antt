@@ -1,4 +1,4 @@
-use Rattle.std.proofs.Common.{◌≡◌, ◌↔◌, List, IfOk, IsSome, subst, sym}
+use Rattle.std.proofs.Common.{◌↔◌, List, IfOk, IsSome, subst, sym}
 use Rattle.rulesyntax.specs.declared.tree.Chain.{Chain}
 use Rattle.ruletext.specs.Calls.{IsDeep}
 use Rattle.ruletext.specs.Hooks.{HasWrongHook}

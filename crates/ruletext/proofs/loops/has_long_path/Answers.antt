@@ -1,6 +1,6 @@
-use Rattle.std.proofs.Common.{◌≡◌, ◌↔◌, ℕ, List, IsTrue, sym, subst}
+use Rattle.std.proofs.Common.{◌↔◌, ℕ, List, IsTrue, sym, subst}
 use Rattle.std.proofs.lemmas.Result.{IfOk-weaker}
-use Rattle.ruletext.specs.Paths.{HasLoop, IsDeeper}
+use Rattle.ruletext.specs.Paths.{IsDeeper}
 use Rattle.ruletext.specs.Calls.{HasEdge, Leads, IsDeep}
 use Rattle.ruletext.proofs.Walks.{deeper_into}
 use Rattle.ruletext.proofs.loops.has_long_path.Goals as goal

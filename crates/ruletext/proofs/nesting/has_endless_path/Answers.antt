@@ -1,5 +1,4 @@
-use Rattle.std.proofs.Common.{◌↔◌, ◌<◌, ℕ, IsTrue, length, arith}
-use Rattle.std.proofs.lemmas.Bool.{false≢true}
+use Rattle.std.proofs.Common.{◌↔◌, ℕ, IsTrue, length, arith}
 use Rattle.std.proofs.lemmas.Result.{IfOk-weaker}
 use Rattle.ruletext.specs.Paths.{HasPath, HasLoop}
 use Rattle.ruletext.specs.Calls.{HasEdge}

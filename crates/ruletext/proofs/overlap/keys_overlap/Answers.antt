@@ -1,4 +1,4 @@
-use Rattle.std.proofs.Common.{◌≡◌, ◌↔◌, IsTrue, arith}
+use Rattle.std.proofs.Common.{◌↔◌, IsTrue, arith}
 use Rattle.std.proofs.lemmas.Result.{IfOk-weaker}
 use Rattle.sets.specs.Members.{Overlaps}
 use Rattle.ruletext.specs.Overlap.{KeysOverlap}

@@ -1,9 +1,8 @@
 use Rattle.std.proofs.Common.{◌↔◌, drop}
 use Rattle.rulesyntax.specs.declared.tree.Rule.{Rule}
 use Rattle.rulesyntax.specs.declared.tree.Chain.{Chain}
-use Rattle.rulesyntax.specs.declared.tree.Table.{Table}
 use Rattle.ruletext.specs.Calls.{OfSome}
-use Rattle.ruletext.specs.Overlap.{EndOverlaps, AreFew, AreFewIn}
+use Rattle.ruletext.specs.Overlap.{EndOverlaps}
 use Rattle.ruletext.proofs.overlap.overlap_in_chains.Given as goal
 
 abbrev pub invariant-loop-chain : goal.invariant-loop-chain

@@ -1,10 +1,7 @@
-use Rattle.std.proofs.Common.{◌≡◌, ◌<◌, length, Some, slice_get, refl, sym, subst, arith}
+use Rattle.std.proofs.Common.{◌≡◌, Some, slice_get, refl, arith}
 use Rattle.std.proofs.lemmas.Option.{slice_get_read}
 use Rattle.rulesyntax.specs.declared.tree.Rule.{Rule}
-use Rattle.rulesyntax.specs.declared.tree.Chain.{Chain}
-use Rattle.rulesyntax.specs.declared.tree.Table.{Table}
-use Rattle.ruletext.specs.Calls.{OfSome}
-use Rattle.ruletext.specs.Overlap.{EndOverlaps, AreFew, AreFewIn}
+use Rattle.ruletext.specs.Overlap.{EndOverlaps}
 use Rattle.ruletext.proofs.Somewhere.{found_here, goes_on}
 use Rattle.ruletext.proofs.overlap.overlap_in_rules.Goals as goal
 

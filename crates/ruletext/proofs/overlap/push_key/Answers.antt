@@ -1,4 +1,4 @@
-use Rattle.std.proofs.Common.{◌≡◌, inr}
+use Rattle.std.proofs.Common.{inr}
 use Rattle.ruletext.proofs.overlap.push_key.Goals as goal
 
 pub returns : goal.returns

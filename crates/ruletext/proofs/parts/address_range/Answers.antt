@@ -1,10 +1,9 @@
-use Rattle.std.proofs.Common.{◌≡◌, ◌∙◌, ◌≤◌, ℕ, List, true, Some, is_some, refl, sym, ap, arith, rules}
-use Rattle.std.proofs.lemmas.Grind.{common_steps}
+use Rattle.std.proofs.Common.{◌≡◌, ◌≤◌, true, arith}
 use Rattle.std.proofs.lemmas.Bool.Decides.{nat_tests}
 use Rattle.rulesyntax.specs.declared.tree.Value.TheVariants as values
 use Rattle.ruletext.specs.declared.class.Class.TheVariants as classes
-use Rattle.ruletext.specs.Classes.{is_value, service_named, protocol_named, state_named}
-use Rattle.ruletext.proofs.PartLemmas.{range_is, named_is, new_range, name_is}
+use Rattle.ruletext.specs.Classes.{is_value}
+use Rattle.ruletext.proofs.PartLemmas.{range_is, new_range}
 use Rattle.ruletext.proofs.parts.address_range.Goals as goal
 
 pub returns : goal.returns

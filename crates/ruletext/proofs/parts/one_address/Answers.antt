@@ -1,10 +1,7 @@
-use Rattle.std.proofs.Common.{◌≡◌, ◌∙◌, ◌≤◌, ℕ, List, true, Some, is_some, refl, sym, ap, arith, rules}
-use Rattle.std.proofs.lemmas.Grind.{common_steps}
-use Rattle.std.proofs.lemmas.Bool.Decides.{nat_tests}
+use Rattle.std.proofs.Common.{refl}
 use Rattle.rulesyntax.specs.declared.tree.Value.TheVariants as values
 use Rattle.ruletext.specs.declared.class.Class.TheVariants as classes
-use Rattle.ruletext.specs.Classes.{is_value, service_named, protocol_named, state_named}
-use Rattle.ruletext.proofs.PartLemmas.{range_is, named_is, new_range, name_is}
+use Rattle.ruletext.proofs.PartLemmas.{range_is}
 use Rattle.ruletext.proofs.parts.one_address.Goals as goal
 
 pub returns : goal.returns

@@ -1,6 +1,5 @@
-use Rattle.std.proofs.Common.{◌≡◌, ◌≤◌, ℕ, arith}
 use Rattle.ruletext.specs.Calls.{HasEdge}
-use Rattle.ruletext.proofs.Reaching.{sound_round, complete_round, all_reached}
+use Rattle.ruletext.proofs.Reaching.{sound_round, complete_round}
 use Rattle.ruletext.proofs.reach.mark_reached.Goals as goal
 
 pub loop-round-preserved : goal.loop-round-preserved

@@ -1,4 +1,4 @@
-use Rattle.std.proofs.Common.{◌≡◌, ◌≤◌, ℕ}
+use Rattle.std.proofs.Common.{◌≤◌, ℕ}
 use Rattle.ruletext.specs.Paths.{Path, IsMarked, IsReachedFrom}
 use Rattle.ruletext.specs.Calls.{HasEdge}
 use Rattle.ruletext.proofs.reach.mark_reached.Given as goal

@@ -1,7 +1,5 @@
-use Rattle.std.proofs.Common.{◌≡◌, ◌↔◌, ◌⊎◌, ◌<◌, ℕ, ◌+◌, IsTrue, Some, slice_get, refl, arith}
-use Rattle.std.specs.List.{Contains}
+use Rattle.std.proofs.Common.{◌≡◌, Some, slice_get, refl, arith}
 use Rattle.std.proofs.lemmas.Option.{slice_get_read}
-use Rattle.ruletext.specs.Paths.{IsMarked}
 use Rattle.ruletext.proofs.Reaching.{kept_on, sound_on, stepped_on}
 use Rattle.ruletext.proofs.reach.spread.Goals as goal
 

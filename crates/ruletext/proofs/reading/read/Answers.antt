@@ -1,4 +1,3 @@
-use Rattle.std.proofs.Common.{◌≡◌, Ok, Err}
 use Rattle.ruletext.proofs.TextLemmas.{refused, only_memory, only_loaded}
 use Rattle.ruletext.proofs.reading.read.Goals as goal
 

@@ -1,4 +1,4 @@
-use Rattle.std.proofs.Common.{◌<◌, ℕ, arith}
+use Rattle.std.proofs.Common.{arith}
 use Rattle.ruletext.proofs.NoneBelow.{distinct}
 use Rattle.ruletext.proofs.refusal.paths.Goals as goal
 

@@ -1,4 +1,4 @@
-use Rattle.std.proofs.Common.{◌≡◌, drop, not}
+use Rattle.std.proofs.Common.{◌≡◌, drop}
 use Rattle.std.specs.List.{list_any}
 use Rattle.rulesyntax.specs.declared.tree.SetElements.{SetElements}
 use Rattle.ruletext.specs.Types.{has_stranger}

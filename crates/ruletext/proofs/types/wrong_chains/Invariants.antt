@@ -1,4 +1,4 @@
-use Rattle.std.proofs.Common.{◌≡◌, drop, not}
+use Rattle.std.proofs.Common.{◌≡◌, drop}
 use Rattle.std.specs.List.{list_any}
 use Rattle.ruletext.specs.Types.{is_wrong_chain}
 use Rattle.ruletext.proofs.types.wrong_chains.Given as goal

@@ -1,4 +1,4 @@
-use Rattle.std.proofs.Common.{◌≡◌, ◌∙◌, ◌||◌, ℕ, List, Bool, ap, is_some}
+use Rattle.std.proofs.Common.{◌∙◌, ◌||◌, Bool, ap, is_some}
 use Rattle.std.specs.List.{list_any}
 use Rattle.ruletext.specs.Types.{is_wrong_set, is_wrong_chain}
 use Rattle.ruletext.specs.Hooks.{ComesToSome}

@@ -1,4 +1,4 @@
-use Rattle.std.proofs.Common.{◌≡◌, drop, not}
+use Rattle.std.proofs.Common.{◌≡◌, drop}
 use Rattle.std.specs.List.{list_any}
 use Rattle.ruletext.specs.Types.{is_wrong_set}
 use Rattle.ruletext.proofs.types.wrong_sets.Given as goal

@@ -2,8 +2,7 @@ use Rattle.std.proofs.Common.{◌≡◌, ◌∙◌, ap, ℕ, List, Bool, subst}
 use mathlib.Core.Path.{fun_ext}
 use Rattle.std.specs.List.{list_any}
 use Rattle.rulesyntax.specs.declared.tree.Chain.{Chain}
-use Rattle.rulesyntax.specs.declared.tree.Set.{Set}
-use Rattle.ruletext.specs.Said.{chain_names, set_names, is_among}
+use Rattle.ruletext.specs.Said.{chain_names, is_among}
 use Rattle.ruletext.specs.Unknown.{plain_chains, chain_leads_nowhere}
 use Rattle.ruletext.proofs.unknown.in_table.Goals as goal
 

@@ -1,7 +1,7 @@
 use Rattle.std.proofs.Common.{◌≡◌, drop}
 use Rattle.std.specs.List.{list_any}
 use Rattle.ruletext.specs.Said.{is_among}
-use Rattle.ruletext.specs.Unknown.{leads_nowhere, rule_leads_nowhere, chain_leads_nowhere}
+use Rattle.ruletext.specs.Unknown.{leads_nowhere}
 use Rattle.ruletext.proofs.unknown.lost_pair.Given as goal
 
 abbrev pub invariant-loop-pair : goal.invariant-loop-pair

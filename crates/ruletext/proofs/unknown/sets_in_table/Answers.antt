@@ -3,8 +3,8 @@ use mathlib.Core.Path.{fun_ext}
 use Rattle.std.specs.List.{list_any}
 use Rattle.rulesyntax.specs.declared.tree.Chain.{Chain}
 use Rattle.rulesyntax.specs.declared.tree.Set.{Set}
-use Rattle.ruletext.specs.Said.{chain_names, set_names, is_among}
-use Rattle.ruletext.specs.Unknown.{plain_chains, chain_names_no_set}
+use Rattle.ruletext.specs.Said.{set_names, is_among}
+use Rattle.ruletext.specs.Unknown.{chain_names_no_set}
 use Rattle.ruletext.proofs.unknown.sets_in_table.Goals as goal
 
 pub returns : goal.returns

@@ -1,7 +1,6 @@
 use Rattle.std.proofs.Common.{◌≡◌, drop}
 use Rattle.std.specs.List.{list_any}
-use Rattle.ruletext.specs.Said.{is_among}
-use Rattle.ruletext.specs.Unknown.{names_no_set, rule_names_no_set, chain_names_no_set, has_unknown_chain_in, has_unknown_set_in}
+use Rattle.ruletext.specs.Unknown.{has_unknown_chain_in}
 use Rattle.ruletext.proofs.unknown.unknown_chain.Given as goal
 
 abbrev pub invariant-loop-table : goal.invariant-loop-table

@@ -1,4 +1,3 @@
-use Rattle.std.proofs.Common.{ℕ}
 use Rattle.ruletext.specs.Calls.{HasEdge}
 use Rattle.ruletext.proofs.Reaching.{sound_round}
 use Rattle.ruletext.proofs.witness.comes_to.Goals as goal

@@ -1,4 +1,4 @@
-use Rattle.std.proofs.Common.{◌≡◌, List, Bool, IsTrue, subst, arith}
+use Rattle.std.proofs.Common.{◌≡◌, List, Bool, subst, arith}
 use Rattle.std.proofs.lemmas.Grind.{common_steps}
 use Rattle.ruletext.specs.Paths.{IsMarked, IsReachedFrom}
 use Rattle.ruletext.specs.Calls.{HasEdge}

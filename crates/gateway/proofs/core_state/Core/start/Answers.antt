@@ -1,4 +1,4 @@
-use Rattle.std.proofs.Common.{◌≡◌, ◌∙◌, [], List, ap, refl, sym, subst}
+use Rattle.std.proofs.Common.{◌∙◌}
 use Rattle.gateway.proofs.Steps.{begins, started}
 use Rattle.gateway.proofs.core_state.Core.start.Goals as goal
 

@@ -1,6 +1,5 @@
-use Rattle.std.proofs.Common.{◌≡◌, ◌∙◌, ap, sym, subst}
-use Rattle.gateway.specs.Core.{Core}
-use Rattle.gateway.specs.Machine.{State, later, step}
+use Rattle.std.proofs.Common.{◌∙◌, ap, subst}
+use Rattle.gateway.specs.Machine.{State}
 use Rattle.gateway.specs.Plans.{state_of}
 use Rattle.gateway.specs.Sound.{IsSound}
 use Rattle.gateway.specs.declared.event.Answer.{Answer}

@@ -1,7 +1,5 @@
-use Rattle.std.proofs.Common.{◌≡◌, ◌≢◌, ◌+◌, ℕ, None, Some, Option, sym, subst, ap, ◌∙◌, refl, arith}
+use Rattle.std.proofs.Common.{Some, sym, ap, ◌∙◌, arith}
 use Rattle.std.proofs.lemmas.Option.{none-some}
-use Rattle.sessions.specs.Table.{at}
-use Rattle.sessions.specs.Listing.{key, listing, put}
 use Rattle.sessions.proofs.Puts.{put-is}
 use Rattle.gateway.specs.Tied.{weight, pair_of}
 use Rattle.gateway.proofs.Tally.{tally-few}

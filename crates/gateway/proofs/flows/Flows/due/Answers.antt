@@ -1,4 +1,4 @@
-use Rattle.gateway.proofs.Expiry.{latest_watched, due_sessions, none_over}
+use Rattle.gateway.proofs.Expiry.{latest_watched, none_over}
 use Rattle.gateway.proofs.flows.Flows.due.Goals as goal
 
 pub due-requires : goal.due-requires

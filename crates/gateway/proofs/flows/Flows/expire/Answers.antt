@@ -1,8 +1,5 @@
-use Rattle.std.proofs.Common.{◌≡◌, ◌<◌, ◌↔◌, ℕ, List, length, get_or, IsSomeAnd, sym, subst, ap, ◌∙◌, refl, arith, rules, None, Option}
-use Rattle.std.specs.List.{Contains, filter}
+use Rattle.std.proofs.Common.{◌≡◌, ◌<◌, length, refl, arith}
 use Rattle.std.proofs.lemmas.Grind.{common_steps}
-use Rattle.sessions.specs.declared.session.Session.{Session}
-use Rattle.sessions.specs.Listing.{listing}
 use Rattle.gateway.proofs.Expiry.{expired, first_of}
 use Rattle.gateway.proofs.flows.Flows.expire.Goals as goal
 

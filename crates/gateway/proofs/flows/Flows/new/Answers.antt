@@ -1,4 +1,4 @@
-use Rattle.std.proofs.Common.{◌≡◌, ℕ, None, Option, [], ap, sym, ◌∙◌}
+use Rattle.std.proofs.Common.{[], ap, sym, ◌∙◌}
 use Rattle.std.specs.Option.{option_map}
 use Rattle.timers.specs.Laws.{idle_of}
 use Rattle.gateway.proofs.Tally.{tally-same}

@@ -1,7 +1,6 @@
-use Rattle.std.proofs.Common.{◌≡◌, ℕ, Bool, Option, sym, ap, ◌∙◌, subst}
+use Rattle.std.proofs.Common.{sym, ap, ◌∙◌}
 use Rattle.std.specs.Option.{option_map}
-use Rattle.portpick.specs.Choice.{IsTestOf, port_choice}
-use Rattle.gateway.specs.Translations.{endpoint, IsOutside, Translations}
+use Rattle.gateway.specs.Translations.{endpoint}
 use Rattle.gateway.proofs.Following.{chosen}
 use Rattle.gateway.proofs.translations.Translations.choose.Goals as goal
 

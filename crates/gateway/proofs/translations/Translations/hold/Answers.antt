@@ -1,5 +1,3 @@
-use Rattle.std.proofs.Common.{sym, ◌∙◌, ap}
-use Rattle.gateway.specs.Translations.{Translations}
 use Rattle.gateway.proofs.Following.{before_hold, after_hold}
 use Rattle.gateway.proofs.translations.Translations.hold.Goals as goal
 

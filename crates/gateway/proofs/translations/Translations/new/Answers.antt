@@ -1,5 +1,4 @@
-use Rattle.std.proofs.Common.{refl, sym, subst, ◌∙◌, arith}
-use Rattle.std.specs.List.{Contains}
+use Rattle.std.proofs.Common.{◌∙◌}
 use Rattle.gateway.proofs.Following.{follows-none, one_address}
 use Rattle.gateway.proofs.translations.Translations.new.Goals as goal
 

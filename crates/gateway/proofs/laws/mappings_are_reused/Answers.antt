@@ -1,0 +1,5 @@
+use Rattle.gateway.proofs.Passing.{mapped-out}
+use Rattle.gateway.proofs.laws.mappings_are_reused.Goals as goal
+
+pub returns : goal.returns
+returns c = λ config s event bytes view outside m sound lives came none begins few. mapped-out config s event bytes view sound came none outside m lives begins few
