@@ -4,3 +4,6 @@ pub mod Steady
 pub mod Known
 pub mod Exact
 pub mod Accepted
+pub mod Said
+pub mod PortsSpelled
+pub mod Bounded

@@ -1,6 +1,6 @@
 //! What follows from how rules are read: each function does nothing, and is proved to meet its clause.
 
-ghost use Rattle.verdict.specs.Laws.{NoRulesPass, PassesWhereAllAccept, CallsUnfold, LiesIsExact};
+ghost use Rattle.verdict.specs.Laws.{NoRulesPass, PassesWhereAllAccept, CallsUnfold, LiesIsExact, SourcesAreExternal, DestinationsAreInside, PortsStayAboveZero};
 
 /// A ruleset of no tables passes everything and translates nothing.
 pub fn no_rules_pass()
@@ -22,4 +22,12 @@ pub fn calls_unfold()
 /// as the values of the text are read when it is loaded.
 pub fn lies_is_exact()
     ensures { LiesIsExact }
+{}
+
+/// Translations by a text that has loaded lead where they can: a source becomes the external address, a
+/// destination an inside one, and a port that isn't 0 never becomes 0.
+pub fn translations_stay_in_bounds()
+    ensures sources { SourcesAreExternal }
+    ensures destinations { DestinationsAreInside }
+    ensures ports { PortsStayAboveZero }
 {}

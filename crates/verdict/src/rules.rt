@@ -1,10 +1,11 @@
 //! The rules of a loaded text, as packets meet them.
 
-ghost use Rattle.std.specs.Prelude.{◌≡◌, IfOk};
+ghost use Rattle.std.specs.Prelude.{◌≡◌, [], IfOk};
 ghost use Rattle.ruletext.specs.Runnable.{IsRunnable};
 
 use rulesyntax::tree::Spelled;
 use ruletext::ruleset::Ruleset;
+use sqlite_items::Items;
 use std::alloc::{AllocError, Global};
 use std::marker::Model;
 
@@ -26,6 +27,18 @@ impl Model for Rules {
 }
 
 impl Rules {
+    /// A ruleset of no tables, as before a text has loaded: everything passes and nothing is translated.
+    /// Takes no memory.
+    pub fn none(alloc: Global) -> Rules
+        ensures { result ≡ record { tables = [] } }
+    {
+        Rules {
+            text: Spelled {
+                tables: Items::new(alloc),
+            },
+        }
+    }
+
     /// The rules of a text that has loaded. It fails only where a growth is refused.
     pub fn of(_alloc: Global, loaded: Ruleset) -> Result<Rules, AllocError>
         ensures { IfOk result (λ rules. rules ≡ loaded) }
