@@ -1,12 +1,10 @@
-pub mod Apart
+pub mod Changed
 pub mod Expiry
-pub mod Following
+pub mod Judging
 pub mod Lasting
-pub mod Mapped
 pub mod Passing
 pub mod Reading
 pub mod Runs
 pub mod Soundness
 pub mod Steps
-pub mod Tally
 pub mod Updated

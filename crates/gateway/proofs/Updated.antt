@@ -1,19 +1,19 @@
 -- The tie over an update of one slot.
-use Rattle.std.proofs.Common.{◌≡◌, ◌≢◌, ℕ, ◌+◌, ◌≤◌, ◌<◌, true, false, cond, Option, Some, None, IsSome, refl, sym, ap, ◌∙◌, subst, inl, inr, arith}
+use Rattle.std.proofs.Common.{◌≡◌, ◌≢◌, ℕ, ◌+◌, ◌≤◌, true, false, Option, Some, None, IsSome, refl, sym, ap, ◌∙◌, subst, inl, inr, arith}
 use Rattle.std.specs.Option.{option_map}
 use Rattle.std.proofs.lemmas.Bool.{cases_eq, cases_Bool, false≢true}
 use Rattle.sessions.specs.declared.session.Session.{Session}
 use Rattle.sessions.specs.Table as table
 use Rattle.timers.specs.Due as due
 use Rattle.mappings.specs.declared.map.Pair.{Pair}
-use Rattle.mappings.specs.Map.{Pairs, times, KeepsOneToOne, same_pair, one_at}
-use Rattle.mappings.proofs.Times.{same_pair-true}
+use Rattle.mappings.specs.Map.{Pairs, times, KeepsOneToOne}
 use Rattle.packet.specs.declared.endpoint.Endpoint.{Endpoint}
 use Rattle.packet.specs.Same.{same_endpoint}
 use Rattle.packet.proofs.SameLemmas.{same_endpoint-true, same_endpoint-itself}
 use Rattle.timers.specs.Laws.{idle_of}
-use Rattle.gateway.specs.Tied.{Tied, weight, pair_of}
-use Rattle.gateway.proofs.Tally.{tally-update, tally-at, tally-some, weight-plain, weight-translated}
+use Rattle.hairpin.specs.Tallies.{weight, pair_of}
+use Rattle.hairpin.proofs.Tally.{tally-update, tally-at, tally-some, weighs}
+use Rattle.gateway.specs.Tied.{Tied}
 
 -- the table, the timers and the mappings after the slot got this
 pub Tied-update : (t t' : table.Sessions) (d d' : due.Watched) (m m' : Pairs) (slot : ℕ) (o : Option Session)
@@ -37,19 +37,6 @@ Tied-update t t' d d' m m' slot o tied updates watched counted = record {
 -- what a slot holds is held in the mappings
 pub Tied-at : (t : table.Sessions) (d : due.Watched) (m : Pairs) (slot : ℕ) (o : Option Session) → Tied t d m → table.at t slot ≡ o → (p : Pair) → weight p o ≤ times m p
 Tied-at t d m slot o tied is p = let a = tied.counts p in let b = tally-at p t.held slot o is in omega arith
-
--- a session that weighs at a pair is translated, and the pair is its own
-pub weighs : (p : Pair) (s : Session) → 0 < weight p (Some s) → (same_endpoint s.inside s.outside ≡ false) × (p ≡ pair_of s)
-weighs p s lt = elim (cases_Bool (same_endpoint s.inside s.outside)) [
-  | inl same ↦ absurd (omega (arith, weight-plain p s same))
-  | inr away ↦ (
-    away,
-    elim (cases_Bool (same_pair p (pair_of s))) [
-      | inl one ↦ same_pair-true p (pair_of s) one
-      | inr other ↦ let zero_is : one_at p (pair_of s) ≡ 0 = ap (λ b. cond b 1 0) other in absurd (omega (arith, weight-translated p s away))
-    ],
-  )
-]
 
 -- a session that clashes with none that is held keeps the mappings one-to-one
 pub one_to_one : (t : table.Sessions) (d : due.Watched) (m : Pairs) (s : Session) → Tied t d m → ¬ table.ClashesWith t s → same_endpoint s.inside s.outside ≡ false → KeepsOneToOne m (pair_of s)

@@ -1,10 +1,8 @@
-pub mod Causes
 pub mod Core
+pub mod Judged
 pub mod Laws
-pub mod Legs
 pub mod Machine
 pub mod Plans
 pub mod Sound
 pub mod Standing
 pub mod Tied
-pub mod Translations

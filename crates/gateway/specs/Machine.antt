@@ -11,31 +11,34 @@ use Rattle.packet.specs.declared.route.Route.{Route}
 use Rattle.packet.specs.declared.route.Route.TheVariants.{Out, In, Hairpin}
 use Rattle.packet.specs.declared.route.RouteFault.{RouteFault}
 use Rattle.packet.specs.declared.view.View.{View}
+use Rattle.rulesyntax.specs.declared.tree.Spelled.{Spelled}
 use Rattle.sessions.specs.Life.{alive}
-use Rattle.sessions.specs.Listing.{put}
 use Rattle.sessions.specs.Listing.{In as Member}
-use Rattle.sessions.specs.declared.session.Opener.{Opener}
-use Rattle.sessions.specs.declared.session.Opener.TheVariants.{Inside, Remote}
 use Rattle.sessions.specs.declared.session.Session.{Session}
-use Rattle.gateway.specs.Causes.{number}
-use Rattle.gateway.specs.Legs.{destination, in_leg, out_leg, source, way_out}
-use Rattle.gateway.specs.declared.cause.Cause.{Cause}
-use Rattle.gateway.specs.declared.cause.Cause.TheVariants as cause
-use Rattle.gateway.specs.declared.event.Event.{Event}
-use Rattle.gateway.specs.declared.event.What.{What}
-use Rattle.gateway.specs.declared.event.What.TheVariants as what
+use Rattle.hairpin.specs.Causes.{number}
+use Rattle.hairpin.specs.Legs.{Passage, hairpin, in_leg, out_leg, put_all}
+use Rattle.hairpin.specs.declared.cause.Cause.{Cause}
+use Rattle.hairpin.specs.declared.cause.Cause.TheVariants as cause
+use Rattle.gateway.specs.Judged.{Judged}
+use Rattle.gateway.specs.declared.deed.Deed.{Deed}
+use Rattle.gateway.specs.declared.deed.Deed.TheVariants as deed
 use Rattle.gateway.specs.declared.event.Answer.{Answer}
 use Rattle.gateway.specs.declared.event.Answer.TheVariants as answer
 
--- the text of the ruleset, the sessions as a finite set, and the clock
+-- the text that loaded last and its rules, the sessions as a finite set, and the clock
 pub record State : Type 0 where
   pub text : List ℕ
+  pub rules : Spelled
   pub sessions : List Session
   pub clock : ℕ
 
--- no rules and no session
+-- the ruleset of no tables
+abbrev pub no_tables : Spelled
+no_tables = record { tables = [] }
+
+-- no text, no rules and no session
 abbrev pub empty_at : ℕ → State
-empty_at moment = record { text = []; sessions = []; clock = moment }
+empty_at moment = record { text = []; rules = no_tables; sessions = []; clock = moment }
 
 -- the later moment
 abbrev pub later : ℕ → ℕ → ℕ
@@ -48,20 +51,24 @@ aged now s = record s { sessions = filter (alive now) s.sessions; clock = now }
 abbrev pub dropped : State → Cause → State × Answer
 dropped s why = (s, answer.Dropped (number why))
 
--- a packet from this side passes by the session, or is dropped
-abbrev pub sent : State → List ℕ → Opener → Result Session Cause → State × Answer
-sent s bytes sender (Err why) = dropped s why
-sent s bytes sender (Ok t) = (
-  record s { sessions = put t s.sessions },
-  answer.Forward (way_out sender) (translated bytes (source sender t) (destination sender t)),
+-- a packet passes as its leg says, or is dropped
+abbrev pub sent : State → List ℕ → Result Passage Cause → State × Answer
+sent s bytes (Err why) = dropped s why
+sent s bytes (Ok passage) = (
+  record s { sessions = put_all passage.sessions s.sessions },
+  answer.Forward passage.iface (translated bytes passage.src passage.dst),
 )
+
+-- what the leg of a route comes to
+abbrev pub leg : Config → State → View → Route → Result Passage Cause
+leg config s view Out = out_leg config s.rules s.sessions s.clock view
+leg config s view In = in_leg config s.rules s.sessions s.clock view
+leg config s view Hairpin = hairpin config s.rules s.sessions s.clock view
 
 -- a packet with these fields, on its route
 abbrev pub on_route : Config → State → List ℕ → View → Result Route RouteFault → State × Answer
 on_route config s bytes view (Err fault) = dropped s (cause.Route fault)
-on_route config s bytes view (Ok Out) = sent s bytes Inside (out_leg config.external s.sessions s.clock view.proto view.flags view.src view.dst)
-on_route config s bytes view (Ok In) = sent s bytes Remote (in_leg s.sessions s.clock view.proto view.flags view.dst view.src)
-on_route config s bytes view (Ok Hairpin) = dropped s cause.NoMapping
+on_route config s bytes view (Ok r) = sent s bytes (leg config s view r)
 
 abbrev pub with_fields : Config → State → Iface → List ℕ → Result View Fault → State × Answer
 with_fields config s iface bytes (Err fault) = dropped s (cause.Packet fault)
@@ -71,15 +78,16 @@ with_fields config s iface bytes (Ok view) = on_route config s bytes view (route
 abbrev pub pass : Config → State → Iface → List ℕ → State × Answer
 pass config s iface bytes = with_fields config s iface bytes (fields bytes)
 
--- what an event brings, done at the clock's moment
-abbrev pub act : Config → State → What → State × Answer
-act config s (what.Load text) = (s, answer.Refused)
-act config s (what.Packet iface bytes) = pass config s iface bytes
-act config s what.Moment = (s, answer.Ticked)
+-- what is done at the clock's moment
+abbrev pub act : Config → State → Deed → State × Answer
+act config s (deed.Take text rules) = (record s { text = text; rules = rules }, answer.Loaded)
+act config s (deed.Refuse text) = (s, answer.Refused)
+act config s (deed.Packet iface bytes) = pass config s iface bytes
+act config s deed.Moment = (s, answer.Ticked)
 
--- the clock rises to the event's moment, sessions that are alive no longer end, and then the event is done
-unfoldable pub step : Config → State → Event → State × Answer
-step config s event = act config (aged (later s.clock event.moment) s) event.what
+-- the clock rises to the event's moment, sessions that are alive no longer end, and then its deed is done
+unfoldable pub step : Config → State → Judged → State × Answer
+step config s judged = act config (aged (later s.clock judged.moment) s) judged.deed
 
 -- every session is alive at this moment
 abbrev pub EndsNone : ℕ → State → Type 0
@@ -90,14 +98,14 @@ abbrev pub AddsNone : State → State × Answer → Type 0
 AddsNone s done = length done.0.sessions ≡ length s.sessions
 
 -- the state after these events
-abbrev pub after : Config → State → List Event → State
+abbrev pub after : Config → State → List Judged → State
 after config s [] = s
-after config s (event ∷ events) = after config (step config s event).0 events
+after config s (judged ∷ more) = after config (step config s judged).0 more
 
 -- the answers to them
-abbrev pub answers : Config → State → List Event → List Answer
+abbrev pub answers : Config → State → List Judged → List Answer
 answers config s [] = []
-answers config s (event ∷ events) = (step config s event).1 ∷ answers config (step config s event).0 events
+answers config s (judged ∷ more) = (step config s judged).1 ∷ answers config (step config s judged).0 more
 
 -- answers under the numbers behind last
 abbrev pub numbered : ℕ → List Answer → List (ℕ × Answer)

@@ -1,29 +1,15 @@
 -- What ties the timers and the mappings to the sessions of a table.
-use Rattle.std.specs.Prelude.{◌≡◌, ℕ, ◌+◌, ◌-◌, ◌≤◌, List, [], ◌∷◌, Option, Some, None, cond, slice_index_or}
+use Rattle.std.specs.Prelude.{◌≡◌, ℕ, ◌-◌, ◌≤◌, List, Option, Some, None, slice_index_or}
 use Rattle.std.specs.Option.{option_map}
-use Rattle.packet.specs.Same.{same_endpoint}
 use Rattle.sessions.specs.Life.{timeout_of}
 use Rattle.sessions.specs.Table as table
 use Rattle.sessions.specs.declared.session.Session.{Session}
 use Rattle.timers.specs.Due as due
 use Rattle.timers.specs.Laws.{idle_of}
 use Rattle.mappings.specs.declared.map.Pair.{Pair}
-use Rattle.mappings.specs.Map.{Pairs, times, one_at, pair}
-use Rattle.gateway.specs.Translations.{Translations, HasRoom}
-
--- the pair of a session
-abbrev pub pair_of : Session → Pair
-pair_of s = pair s.proto s.inside s.outside
-
--- one where the place holds a translated session of this pair
-abbrev pub weight : Pair → Option Session → ℕ
-weight p None = 0
-weight p (Some s) = cond (same_endpoint s.inside s.outside) 0 (one_at p (pair_of s))
-
--- how many translated sessions of this pair the places hold
-abbrev pub tally : Pair → List (Option Session) → ℕ
-tally p [] = 0
-tally p (place ∷ places) = weight p place + tally p places
+use Rattle.mappings.specs.Map.{Pairs, times}
+use Rattle.hairpin.specs.Tallies.{tally}
+use Rattle.hairpin.specs.Translations.{Translations, HasRoom}
 
 -- each session that is held, and no other slot, is watched with its last moment and its timeout; each
 -- pair is held as often as translated sessions have it

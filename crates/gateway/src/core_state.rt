@@ -1,40 +1,50 @@
 //! The gateway without a disk: a step for each event.
-ghost use Rattle.std.specs.Prelude.{◌≡◌, ◌<◌, ◌≤◌, ℕ, [], List, Ok, Err, Result as Outcome, IsTrue, IfOk, IfErr, IsOk, IsOkAnd};
-ghost use Rattle.packet.specs.Config.{Config, is_config};
+ghost use Rattle.std.specs.Prelude.{◌≡◌, ◌<◌, ◌≤◌, ℕ, List, Ok, Err, Result as Outcome, IsTrue, IfOk, IfErr, IsOk, IsOkAnd, OnErr};
 ghost use Rattle.packet.specs.Fields.{fields};
+ghost use Rattle.packet.specs.Route.{route as route_for};
 ghost use Rattle.packet.specs.Translated.{translated};
-ghost use Rattle.sessions.specs.declared.session.Session.{Session as Flow};
 ghost use Rattle.sessions.specs.Listing.{listing};
+ghost use Rattle.hairpin.specs.Causes.{number};
+ghost use Rattle.hairpin.specs.Legs.{Passage};
+ghost use Rattle.hairpin.specs.Plans.{Plans};
+ghost use Rattle.hairpin.specs.Sound.{AreSound, KeepBounds};
+ghost use Rattle.hairpin.specs.declared.cause.Cause.{Cause as Reason};
 ghost use Rattle.gateway.specs.Core.{Leads, LeadsFew};
-ghost use Rattle.gateway.specs.Legs.{way_out};
-ghost use Rattle.gateway.specs.Machine.{AddsNone, EndsNone, act, aged, empty_at, later, on_route, pass, sent, step};
-ghost use Rattle.gateway.specs.Plans.{Plans, state_of};
-ghost use Rattle.gateway.specs.Sound.{AreSound, AreSoundAt, IsSound};
+ghost use Rattle.gateway.specs.Judged.{Judged, IsJudged, IsNoLoad, bringer};
+ghost use Rattle.gateway.specs.Machine.{AddsNone, EndsNone, act, aged, empty_at, later, leg, on_route, pass, sent, step};
+ghost use Rattle.gateway.specs.Plans.{state_of};
+ghost use Rattle.gateway.specs.Sound.{IsInForce, IsSound};
 ghost use Rattle.gateway.specs.Tied.{IsLatest, IsReady};
-ghost use Rattle.gateway.specs.Causes.{number};
-ghost use Rattle.gateway.specs.declared.cause.Cause.{Cause as Reason};
 ghost use Rattle.gateway.specs.declared.event.Answer.TheVariants.{Dropped};
 
 use crate::bytes::Bytes;
-use crate::cause::Cause;
+use crate::deed::{Deed, judge};
 use crate::event::{Answer, Event, NoMemory, What};
 use crate::flows::Flows;
-use crate::legs::Plan;
+use hairpin::{Cause, Plan, both, in_leg, out_leg};
 use packet::bounds::Bounds;
 use packet::endpoint::{Endpoint, Iface};
 use packet::rewriting::rewrite;
 use packet::route::Route;
 use packet::view::View;
-use sessions::{Opener, Session};
+use sessions::Session;
 use std::alloc::Global;
 use std::marker::Model;
+use verdict::Rules;
+
+/// The text that loaded last, and its rules.
+#[derive(Drop)]
+struct InForce {
+    text: Bytes,
+    rules: Rules,
+}
 
 /// The gateway without numbers and held answers.
 #[derive(Drop)]
 pub struct Core {
     alloc: Global,
     bounds: Bounds,
-    text: Vec<u8>,
+    in_force: InForce,
     flows: Flows,
     clock: u64,
 }
@@ -45,24 +55,15 @@ impl Model for Core {
 
     ghost Value = { View };
 
-    ghost view = { λ c. record { config = c.bounds; state = state_of c.text.items c.flows.table.held c.clock } };
+    ghost view = { λ c. record { config = c.bounds; state = state_of c.in_force.text c.in_force.rules c.flows.table.held c.clock } };
 
-    ghost invariant = { λ c. IsCore c.bounds c.text.items c.flows c.clock };
+    ghost invariant = { λ c. IsCore c.bounds c.in_force.text c.in_force.rules c.flows c.clock };
 }
 
 fn later_of(a: u64, b: u64) -> u64
     ensures { result ≡ later a b }
 {
     if a <= b { b } else { a }
-}
-
-fn iface_of(sender: Opener) -> Iface
-    ensures { result ≡ way_out sender }
-{
-    match sender {
-        Opener::Inside => Iface::Wan,
-        Opener::Remote => Iface::Lan,
-    }
 }
 
 fn drop_for(cause: Cause) -> Answer
@@ -81,75 +82,69 @@ fn translate(bytes: Bytes, src: Endpoint, dst: Endpoint) -> Bytes
     Bytes::of(frame)
 }
 
-// A packet from this side, whose plan is made; `ready` says that there is room already.
+// What a plan comes to; `ready` says that there is room already.
 fn put_through(
     flows: &mut Flows,
     ready: bool,
-    sender: Opener,
     plan: Result<Plan, Cause>,
     bytes: Bytes,
     now: u64,
 ) -> Result<Answer, (Bytes, NoMemory)>
     requires read { IsOkAnd (fields bytes) (λ view. 2 ≤ view.ttl) }
     requires latest { IsLatest flows.old.table.held now }
-    requires ready { IsTrue ready → IsReady 1 flows.old }
-    requires planned { (way : Outcome Flow Reason) × Plans flows.old.translations.external flows.old.table.held now sender plan way }
-    ensures ok { IfOk result (λ answer. (way : Outcome Flow Reason) → Plans flows.old.translations.external flows.old.table.held now sender plan way
-        → Leads (λ s. sent s bytes sender way) flows.old.table.held flows.new.table.held now answer) }
+    requires ready { IsTrue ready → IsReady 2 flows.old }
+    requires planned { (way : Outcome Passage Reason) × Plans flows.old.translations.external flows.old.table.held now plan way }
+    ensures ok { IfOk result (λ answer. (way : Outcome Passage Reason) → Plans flows.old.translations.external flows.old.table.held now plan way
+        → Leads (λ s. sent s bytes way) flows.old.table.held flows.new.table.held now answer) }
     ensures err { IfErr result (λ e. (e.0 ≡ bytes) × (flows.new.table.held ≡ flows.old.table.held)) }
     ensures external { flows.new.translations.external ≡ flows.old.translations.external }
     ensures ready { IsTrue ready → IsOk result }
-    ensures adds_none { (way : Outcome Flow Reason) → Plans flows.old.translations.external flows.old.table.held now sender plan way
-        → LeadsFew (λ s. sent s bytes sender way) flows.old.table.held now → IsOk result }
+    ensures adds_none { (way : Outcome Passage Reason) → Plans flows.old.translations.external flows.old.table.held now plan way
+        → LeadsFew (λ s. sent s bytes way) flows.old.table.held now → IsOk result }
 {
     match plan {
         Err(cause) => Ok(drop_for(cause)),
-        Ok(plan) => match flows.carry_out(ready, plan.change, now) {
-            Ok(()) => Ok(Answer::Forward(iface_of(sender), translate(bytes, plan.src, plan.dst))),
-            Err(_) => Err((bytes, NoMemory)),
-        },
+        Ok(plan) => {
+            flows.table().is_sound();
+            match flows.carry_out(ready, &plan, now) {
+                Ok(()) => Ok(Answer::Forward(plan.iface, translate(bytes, plan.src, plan.dst))),
+                Err(_) => Err((bytes, NoMemory)),
+            }
+        }
     }
 }
 
-// A packet with these fields, on its route.
-fn follow(
-    flows: &mut Flows,
-    ready: bool,
+// The plan of a packet with these fields, on its route.
+fn plan_for(
+    flows: &Flows,
+    rules: &Rules,
+    bounds: &Bounds,
     route: Route,
-    view: View,
-    bytes: Bytes,
+    view: &View,
     now: u64,
-) -> Result<Answer, (Bytes, NoMemory)>
-    requires read { fields bytes ≡ Ok view }
-    requires alive { 2 ≤ view.ttl }
-    requires port { 0 < view.src.port }
-    requires sound { AreSoundAt flows.old.translations.external (listing flows.old.table.held) }
-    requires latest { IsLatest flows.old.table.held now }
-    requires ready { IsTrue ready → IsReady 1 flows.old }
-    ensures ok { IfOk result (λ answer. (config : Config) → config.external ≡ flows.old.translations.external
-        → Leads (λ s. on_route config s bytes view (Ok route)) flows.old.table.held flows.new.table.held now answer) }
-    ensures err { IfErr result (λ e. (e.0 ≡ bytes) × (flows.new.table.held ≡ flows.old.table.held)) }
-    ensures external { flows.new.translations.external ≡ flows.old.translations.external }
-    ensures ready { IsTrue ready → IsOk result }
-    ensures adds_none { (config : Config) → config.external ≡ flows.old.translations.external
-        → LeadsFew (λ s. on_route config s bytes view (Ok route)) flows.old.table.held now → IsOk result }
+) -> Result<Plan, Cause>
+    requires external { flows.now.translations.external ≡ bounds.now.external }
+    requires sound { AreSound bounds.now (listing flows.now.table.held) }
+    requires bounded { KeepBounds bounds.now rules.now }
+    requires ports { (0 < view.now.src.port) × (0 < view.now.dst.port) }
+    requires routed { (iface : Iface) × (route_for bounds.now iface view.now ≡ Ok route) }
+    ensures { (text : List ℕ) → Plans flows.now.translations.external flows.now.table.held now result
+        (leg bounds.now (state_of text rules.now flows.now.table.held now) view.now route) }
 {
+    flows.is_tied();
+    let table = flows.table();
+    let translations = flows.translations();
     match route {
-        Route::Out => {
-            let plan = flows.plan_out(view.proto, view.flags, view.src, view.dst, now);
-            put_through(flows, ready, Opener::Inside, plan, bytes, now)
-        }
-        Route::In => {
-            let plan = flows.plan_in(view.proto, view.flags, view.dst, view.src);
-            put_through(flows, ready, Opener::Remote, plan, bytes, now)
-        }
-        Route::Hairpin => Ok(drop_for(Cause::NoMapping)),
+        Route::Out => out_leg(bounds, rules, table, translations, view, now),
+        Route::In => in_leg(bounds, rules, table, translations, view, now),
+        Route::Hairpin => both(bounds, rules, table, translations, view, now),
     }
 }
 
 // What a packet comes to, at sessions that are alive.
 fn pass_on(
     flows: &mut Flows,
+    in_force: &InForce,
     bounds: &Bounds,
     ready: bool,
     iface: Iface,
@@ -158,74 +153,95 @@ fn pass_on(
 ) -> Result<Answer, (Bytes, NoMemory)>
     requires external { flows.old.translations.external ≡ bounds.now.external }
     requires sound { AreSound bounds.now (listing flows.old.table.held) }
+    requires in_force { IsInForce bounds.now in_force.now.text in_force.now.rules }
     requires latest { IsLatest flows.old.table.held now }
-    requires ready { IsTrue ready → IsReady 1 flows.old }
-    ensures ok { IfOk result (λ answer. Leads (λ s. pass bounds.now s iface bytes) flows.old.table.held flows.new.table.held now answer) }
+    requires ready { IsTrue ready → IsReady 2 flows.old }
+    ensures ok { IfOk result (λ answer. pass bounds.now (state_of in_force.now.text in_force.now.rules flows.old.table.held now) iface bytes
+        ≡ (state_of in_force.now.text in_force.now.rules flows.new.table.held now, answer)) }
     ensures err { IfErr result (λ e. (e.0 ≡ bytes) × (flows.new.table.held ≡ flows.old.table.held)) }
     ensures external { flows.new.translations.external ≡ flows.old.translations.external }
     ensures ready { IsTrue ready → IsOk result }
-    ensures adds_none { LeadsFew (λ s. pass bounds.now s iface bytes) flows.old.table.held now → IsOk result }
+    ensures adds_none { let s = state_of in_force.now.text in_force.now.rules flows.old.table.held now in
+        AddsNone s (pass bounds.now s iface bytes) → IsOk result }
 {
     bounds.facts();
     match View::read(bytes.as_slice()) {
         Err(fault) => Ok(drop_for(Cause::Packet(fault))),
         Ok(view) => match bounds.route(iface, &view) {
             Err(fault) => Ok(drop_for(Cause::Route(fault))),
-            Ok(route) => follow(flows, ready, route, view, bytes, now),
+            Ok(route) => {
+                let plan = plan_for(flows, &in_force.rules, bounds, route, &view, now);
+                put_through(flows, ready, plan, bytes, now)
+            }
         },
     }
 }
 
-// What an event brings, at sessions that are alive.
+// What is done at sessions that are alive.
 fn act_on(
     flows: &mut Flows,
+    in_force: &mut InForce,
     bounds: &Bounds,
     ready: bool,
-    what: What,
+    deed: Deed,
     now: u64,
 ) -> Result<Answer, (What, NoMemory)>
     requires external { flows.old.translations.external ≡ bounds.now.external }
     requires sound { AreSound bounds.now (listing flows.old.table.held) }
+    requires in_force { IsInForce bounds.now in_force.old.text in_force.old.rules }
     requires latest { IsLatest flows.old.table.held now }
-    requires ready { IsTrue ready → IsReady 1 flows.old }
-    ensures ok { IfOk result (λ answer. Leads (λ s. act bounds.now s what) flows.old.table.held flows.new.table.held now answer) }
-    ensures err { IfErr result (λ e. (e.0 ≡ what) × (flows.new.table.held ≡ flows.old.table.held)) }
+    requires ready { IsTrue ready → IsReady 2 flows.old }
+    ensures ok { IfOk result (λ answer. act bounds.now (state_of in_force.old.text in_force.old.rules flows.old.table.held now) deed
+        ≡ (state_of in_force.new.text in_force.new.rules flows.new.table.held now, answer)) }
+    ensures err { IfErr result (λ e. (e.0 ≡ bringer deed) × (flows.new.table.held ≡ flows.old.table.held)) }
+    ensures stays { OnErr result (in_force.new ≡ in_force.old) }
     ensures external { flows.new.translations.external ≡ flows.old.translations.external }
     ensures ready { IsTrue ready → IsOk result }
-    ensures adds_none { LeadsFew (λ s. act bounds.now s what) flows.old.table.held now → IsOk result }
+    ensures adds_none { let s = state_of in_force.old.text in_force.old.rules flows.old.table.held now in
+        AddsNone s (act bounds.now s deed) → IsOk result }
 {
-    match what {
-        What::Load(_) => Ok(Answer::Refused),
-        What::Moment => Ok(Answer::Ticked),
-        What::Packet(iface, bytes) => match pass_on(flows, bounds, ready, iface, bytes, now) {
-            Ok(answer) => Ok(answer),
-            Err((bytes, e)) => Err((What::Packet(iface, bytes), e)),
-        },
+    match deed {
+        Deed::Take(text, rules) => {
+            in_force.text = text;
+            in_force.rules = rules;
+            Ok(Answer::Loaded)
+        }
+        Deed::Refuse(_) => Ok(Answer::Refused),
+        Deed::Moment => Ok(Answer::Ticked),
+        Deed::Packet(iface, bytes) => {
+            match pass_on(flows, in_force, bounds, ready, iface, bytes, now) {
+                Ok(answer) => Ok(answer),
+                Err((bytes, e)) => Err((What::Packet(iface, bytes), e)),
+            }
+        }
     }
 }
 
-// What an event brings, once the sessions that are alive no longer have ended.
+// What is done, once the sessions that are alive no longer have ended.
 fn age_and_act(
     flows: &mut Flows,
+    in_force: &mut InForce,
     alloc: Global,
     bounds: &Bounds,
-    what: What,
+    deed: Deed,
     clock: u64,
     now: u64,
 ) -> Result<Answer, (What, NoMemory)>
     requires external { flows.old.translations.external ≡ bounds.now.external }
     requires sound { AreSound bounds.now (listing flows.old.table.held) }
+    requires in_force { IsInForce bounds.now in_force.old.text in_force.old.rules }
     requires latest { IsLatest flows.old.table.held now }
-    ensures ok { IfOk result (λ answer. (text : List ℕ)
-        → act bounds.now (aged now (state_of text flows.old.table.held clock)) what ≡ (state_of text flows.new.table.held now, answer)) }
-    ensures err { IfErr result (λ e. (e.0 ≡ what) × (flows.new.table.held ≡ flows.old.table.held)) }
+    ensures ok { IfOk result (λ answer. act bounds.now (aged now (state_of in_force.old.text in_force.old.rules flows.old.table.held clock)) deed
+        ≡ (state_of in_force.new.text in_force.new.rules flows.new.table.held now, answer)) }
+    ensures err { IfErr result (λ e. (e.0 ≡ bringer deed) × (flows.new.table.held ≡ flows.old.table.held)) }
+    ensures stays { OnErr result (in_force.new ≡ in_force.old) }
     ensures external { flows.new.translations.external ≡ flows.old.translations.external }
-    ensures succeeds { ((text : List ℕ) → let s = state_of text flows.old.table.held clock in
-        EndsNone now s × AddsNone s (act bounds.now (aged now s) what)) → IsOk result }
+    ensures succeeds { let s = state_of in_force.old.text in_force.old.rules flows.old.table.held clock in
+        EndsNone now s → AddsNone s (act bounds.now (aged now s) deed) → IsOk result }
 {
     match flows.expire(alloc, now) {
-        Ok(ready) => act_on(flows, bounds, ready, what, now),
-        Err(_) => Err((what, NoMemory)),
+        Ok(ready) => act_on(flows, in_force, bounds, ready, deed, now),
+        Err(_) => Err((deed.into_what(), NoMemory)),
     }
 }
 
@@ -238,7 +254,10 @@ impl Core {
             Ok(flows) => Ok(Core {
                 alloc,
                 bounds,
-                text: Vec::new(alloc),
+                in_force: InForce {
+                    text: Bytes::of(Vec::new(alloc)),
+                    rules: Rules::none(alloc),
+                },
                 flows,
                 clock: moment,
             }),
@@ -246,11 +265,11 @@ impl Core {
         }
     }
 
-    /// The text of the ruleset in force.
+    /// The text that loaded last; before any has, none.
     pub fn rules(&self) -> &[u8]
         ensures { result.now ≡ self.now.state.text }
     {
-        &self.text
+        self.in_force.text.as_slice()
     }
 
     /// The sessions, by protocol number, inside and remote endpoint.
@@ -270,23 +289,30 @@ impl Core {
         let _flows = &self.flows;
     }
 
-    /// Does a step. An `Err` hands the event back and changes nothing; it comes only where a session
-    /// ends or begins.
+    /// Does a step. An `Err` hands the event back and changes nothing; it comes only where a text is read,
+    /// or a session ends or begins.
     pub fn step(&mut self, event: Event) -> Result<Answer, (Event, NoMemory)>
-        ensures ok { IfOk result (λ answer. step self.old.config self.old.state event ≡ (self.new.state, answer)) }
+        ensures ok { IfOk result (λ answer. (judged : Judged) × IsJudged self.old.config event judged
+            × (step self.old.config self.old.state judged ≡ (self.new.state, answer))) }
         ensures config { self.new.config ≡ self.old.config }
         ensures err { IfErr result (λ e. (e.0 ≡ event) × (self.new ≡ self.old)) }
-        ensures succeeds { EndsNone (later self.old.state.clock event.moment) self.old.state
-            → AddsNone self.old.state (step self.old.config self.old.state event) → IsOk result }
+        ensures succeeds { IsNoLoad event.what → (judged : Judged) → IsJudged self.old.config event judged
+            → EndsNone (later self.old.state.clock event.moment) self.old.state
+            → AddsNone self.old.state (step self.old.config self.old.state judged) → IsOk result }
     {
         let Event { moment, what } = event;
         let now = later_of(self.clock, moment);
         self.bounds.facts();
+        let deed = match judge(self.alloc, &self.bounds, what) {
+            Ok(deed) => deed,
+            Err((what, e)) => return Err((Event { moment, what }, e)),
+        };
         match age_and_act(
             &mut self.flows,
+            &mut self.in_force,
             self.alloc,
             &self.bounds,
-            what,
+            deed,
             self.clock,
             now,
         ) {

@@ -1,26 +1,24 @@
 //! The sessions with their timers and mappings, which change together.
-ghost use Rattle.std.specs.Prelude.{◌≡◌, ◌≢◌, ◌⊎◌, ◌↔◌, ◌+◌, ◌-◌, ◌<◌, ◌≤◌, ℕ, false, not, true, IsTrue, Some, None, Err, IfOk, OnOk, OnErr, IsOk, IfSome, IsSome, IsSomeAnd, length, slice_index};
+ghost use Rattle.std.specs.Prelude.{◌≡◌, ◌≢◌, ◌↔◌, ◌+◌, ◌-◌, ◌<◌, ◌≤◌, ℕ, List, false, not, IsTrue, Some, None, IfOk, OnOk, OnErr, IsOk, IfSome, IsSome, IsSomeAnd, length, slice_index};
 ghost use Rattle.std.specs.List.{Contains, filter};
 ghost use Rattle.std.specs.Option.{option_map};
 ghost use Rattle.packet.specs.Same.{same_endpoint};
 ghost use Rattle.sessions.specs.Life.{IsSeen, IsTimeout, alive, timeout_of};
-ghost use Rattle.sessions.specs.Listing.{listing, put};
-ghost use Rattle.sessions.specs.Table.{at, count, Updates, IsSound, ClashesWith, seen as seen_with, restarted};
+ghost use Rattle.sessions.specs.Listing.{listing};
+ghost use Rattle.sessions.specs.Table.{at, Updates, IsSound, seen as seen_with, restarted};
 ghost use Rattle.sessions.specs.declared.session.Session.{Session as Flow};
 ghost use Rattle.timers.specs.Due.{at as idle_at, IsLatest as IsLatestIdle, Updates as IdleUpdates};
 ghost use Rattle.mappings.specs.declared.map.Pair.{Pair as Mapping};
 ghost use Rattle.mappings.specs.Map.{times, KeepsOneToOne};
-ghost use Rattle.gateway.specs.Legs.{in_leg as in_way, out_leg as out_way};
-ghost use Rattle.gateway.specs.Plans.{Adds, Gives, MayBegin, Plans};
-ghost use Rattle.gateway.specs.Sound.{AreSoundAt};
-ghost use Rattle.gateway.specs.Tied.{weight, IsDue, IsLatest, IsReady, pair_of as pair_with};
-ghost use Rattle.gateway.specs.Translations.{HasRoom};
+ghost use Rattle.hairpin.specs.Legs.{put_all};
+ghost use Rattle.hairpin.specs.Plans.{Became, Gives, GiveAll, MayBegin, adds as adds_by, adds_second};
+ghost use Rattle.hairpin.specs.Tallies.{pair_of as pair_with, tally, weight};
+ghost use Rattle.hairpin.specs.Translations.{HasRoom};
+ghost use Rattle.gateway.specs.Tied.{IsDue, IsLatest, IsReady};
 
-use crate::cause::Cause;
-use crate::legs::{Plan, adds, in_leg, out_leg};
-use crate::translations::Translations;
+use hairpin::translations::Translations;
+use hairpin::{Plan, adds};
 use mappings::map::Pair;
-use packet::endpoint::{Endpoint, Flags, Proto};
 use sessions::{Change, Opener, Session, Slot, Table};
 use std::alloc::{AllocError, Global};
 use std::marker::Model;
@@ -58,6 +56,28 @@ impl Flows {
         })
     }
 
+    /// The sessions, each under its slot.
+    pub fn table(&self) -> &Table
+        ensures { result.now ≡ self.now.table }
+    {
+        &self.table
+    }
+
+    /// The mappings, and the outside ports that they take.
+    pub fn translations(&self) -> &Translations
+        ensures { result.now ≡ self.now.translations }
+    {
+        &self.translations
+    }
+
+    /// What the flows always keep: each mapping is held as often as sessions have it.
+    pub fn is_tied(&self)
+        ensures counts { (p : Mapping) → times self.now.translations.pairs p ≡ tally p self.now.table.held }
+    {
+        // What they keep is known once a field is read.
+        let _table = &self.table;
+    }
+
     /// The sessions, by protocol number, inside and remote endpoint.
     pub fn list(&self, alloc: Global) -> Result<Vec<Session>, AllocError>
         ensures { IfOk result (λ sessions. sessions.items ≡ listing self.now.table.held) }
@@ -93,7 +113,10 @@ impl Flows {
         requires held { IsSome (at self.old.table slot) }
         requires bits { IfSome (at self.old.table slot) (λ s. IsSeen s.proto bits) }
         requires latest { IsLatest self.old.table.held last }
-        ensures listing { (s : Flow) → at self.old.table slot ≡ Some s → listing self.new.table.held ≡ put (seen_with s bits last) (listing self.old.table.held) }
+        ensures became { (s : Flow) → at self.old.table slot ≡ Some s
+            → Became self.old.table.held (Change.Seen slot bits) (seen_with s bits last) self.new.table.held }
+        ensures latest { IsLatest self.new.table.held last }
+        ensures ready { (n : ℕ) → IsReady n self.old → IsReady n self.new }
         ensures external { self.new.translations.external ≡ self.old.translations.external }
     {
         self.table.is_sound();
@@ -106,7 +129,10 @@ impl Flows {
     fn restart(&mut self, slot: Slot, opener: Opener, last: u64)
         requires held { IsSome (at self.old.table slot) }
         requires latest { IsLatest self.old.table.held last }
-        ensures listing { (s : Flow) → at self.old.table slot ≡ Some s → listing self.new.table.held ≡ put (restarted s opener last) (listing self.old.table.held) }
+        ensures became { (s : Flow) → at self.old.table slot ≡ Some s
+            → Became self.old.table.held (Change.Restart slot opener) (restarted s opener last) self.new.table.held }
+        ensures latest { IsLatest self.new.table.held last }
+        ensures ready { (n : ℕ) → IsReady n self.old → IsReady n self.new }
         ensures external { self.new.translations.external ≡ self.old.translations.external }
     {
         self.table.is_sound();
@@ -120,7 +146,9 @@ impl Flows {
         requires may { MayBegin self.old.translations.external self.old.table.held session.last session }
         requires ready { IsReady 1 self.old }
         requires latest { IsLatest self.old.table.held session.last }
-        ensures listing { listing self.new.table.held ≡ put session (listing self.old.table.held) }
+        ensures became { Became self.old.table.held (Change.Begin session) session self.new.table.held }
+        ensures latest { IsLatest self.new.table.held session.last }
+        ensures ready { (n : ℕ) → IsReady (n + 1) self.old → IsReady n self.new }
         ensures external { self.new.translations.external ≡ self.old.translations.external }
     {
         self.table.is_sound();
@@ -134,13 +162,15 @@ impl Flows {
         }
     }
 
-    /// Does what a plan says, for which there is room.
+    /// Does what a change says, for which there is room.
     fn apply(&mut self, change: Change, now: u64)
         requires latest { IsLatest self.old.table.held now }
         requires gives { (t : Flow) × Gives self.old.translations.external self.old.table.held now change t }
-        requires ready { Adds change → IsReady 1 self.old }
-        ensures listing { (t : Flow) → Gives self.old.translations.external self.old.table.held now change t
-            → listing self.new.table.held ≡ put t (listing self.old.table.held) }
+        requires ready { 0 < adds_by change → IsReady 1 self.old }
+        ensures became { (t : Flow) → Gives self.old.translations.external self.old.table.held now change t
+            → Became self.old.table.held change t self.new.table.held }
+        ensures latest { IsLatest self.new.table.held now }
+        ensures ready { (n : ℕ) → IsReady (n + adds_by change) self.old → IsReady n self.new }
         ensures external { self.new.translations.external ≡ self.old.translations.external }
     {
         match change {
@@ -151,63 +181,41 @@ impl Flows {
         }
     }
 
-    /// Does what a plan says; `ready` says that there is room already. An `Err` changes nothing, and
-    /// comes only where there isn't and a session is added.
-    pub fn carry_out(&mut self, ready: bool, change: Change, now: u64) -> Result<(), AllocError>
+    /// Does what a plan says, one change after the other, for which there is room.
+    fn apply_all(&mut self, plan: &Plan, now: u64)
         requires latest { IsLatest self.old.table.held now }
-        requires gives { (t : Flow) × Gives self.old.translations.external self.old.table.held now change t }
-        requires ready { IsTrue ready → IsReady 1 self.old }
-        ensures ok { OnOk result ((t : Flow) → Gives self.old.translations.external self.old.table.held now change t
-            → listing self.new.table.held ≡ put t (listing self.old.table.held)) }
+        requires give { (ts : List Flow) × GiveAll self.old.translations.external self.old.table.held now plan.now.first plan.now.second ts }
+        requires ready { 0 < adds_by plan.now.first + adds_second plan.now.second → IsReady 2 self.old }
+        ensures listing { (ts : List Flow) → GiveAll self.old.translations.external self.old.table.held now plan.now.first plan.now.second ts
+            → listing self.new.table.held ≡ put_all ts (listing self.old.table.held) }
+        ensures latest { IsLatest self.new.table.held now }
+        ensures external { self.new.translations.external ≡ self.old.translations.external }
+    {
+        self.apply(plan.first, now);
+        if let Some(second) = plan.second {
+            self.apply(second, now);
+        }
+    }
+
+    /// Does what a plan says; `ready` says that there is room for two sessions already. An `Err` changes
+    /// nothing, and comes only where there isn't and a session is added.
+    pub fn carry_out(&mut self, ready: bool, plan: &Plan, now: u64) -> Result<(), AllocError>
+        requires latest { IsLatest self.old.table.held now }
+        requires give { (ts : List Flow) × GiveAll self.old.translations.external self.old.table.held now plan.now.first plan.now.second ts }
+        requires ready { IsTrue ready → IsReady 2 self.old }
+        ensures ok { OnOk result ((ts : List Flow) → GiveAll self.old.translations.external self.old.table.held now plan.now.first plan.now.second ts
+            → listing self.new.table.held ≡ put_all ts (listing self.old.table.held)) }
         ensures err { OnErr result (self.new.table.held ≡ self.old.table.held) }
+        ensures latest { IsLatest self.new.table.held now }
         ensures external { self.new.translations.external ≡ self.old.translations.external }
         ensures succeeds { IsTrue ready → IsOk result }
-        ensures adds_none { ¬ Adds change → IsOk result }
+        ensures adds_none { adds_by plan.now.first + adds_second plan.now.second ≡ 0 → IsOk result }
     {
-        if !ready && adds(&change) {
+        if !ready && adds_any(plan) {
             self.reserve()?;
         }
-        self.apply(change, now);
+        self.apply_all(plan, now);
         Ok(())
-    }
-
-    /// The plan for a packet from an inside endpoint to a remote one.
-    pub fn plan_out(
-        &self,
-        proto: Proto,
-        flags: Flags,
-        inside: Endpoint,
-        remote: Endpoint,
-        now: u64,
-    ) -> Result<Plan, Cause>
-        requires sound { AreSoundAt self.now.translations.external (listing self.now.table.held) }
-        requires port { 0 < inside.port }
-        ensures { let external = self.now.translations.external in
-            Plans external self.now.table.held now Opener.Inside result (out_way external (listing self.now.table.held) now proto flags inside remote) }
-    {
-        out_leg(
-            &self.table,
-            &self.translations,
-            proto,
-            flags,
-            inside,
-            remote,
-            now,
-        )
-    }
-
-    /// The plan for a packet from a remote endpoint to an outside one.
-    pub fn plan_in(
-        &self,
-        proto: Proto,
-        flags: Flags,
-        outside: Endpoint,
-        remote: Endpoint,
-    ) -> Result<Plan, Cause>
-        ensures { (now : ℕ) → Plans self.now.translations.external self.now.table.held now Opener.Remote result
-            (in_way (listing self.now.table.held) now proto flags outside remote) }
-    {
-        in_leg(&self.table, proto, flags, outside, remote)
     }
 
     /// Ends the session of the slot.
@@ -261,12 +269,25 @@ impl Flows {
     }
 }
 
+// Whether the plan adds a session.
+fn adds_any(plan: &Plan) -> bool
+    ensures { IsTrue result ↔ (0 < adds_by plan.now.first + adds_second plan.now.second) }
+{
+    if let Some(second) = &plan.second
+        && adds(second) > 0
+    {
+        return true;
+    }
+    adds(&plan.first) > 0
+}
+
 fn watch(due: &mut Due, slot: Slot, last: u64, timeout: u64)
     requires free { idle_at due.old slot ≡ None }
     requires timeout { IsTimeout timeout }
     requires latest { IsLatestIdle due.old last }
     requires ready { slot < due.old.ready }
-    ensures { IdleUpdates due.old due.new slot (Some (record { last = last; timeout = timeout })) }
+    ensures updates { IdleUpdates due.old due.new slot (Some (record { last = last; timeout = timeout })) }
+    ensures ready { due.old.ready ≤ due.new.ready }
 {
     match due.add(slot, last, timeout) {
         Ok(()) => {}
@@ -295,6 +316,7 @@ fn hold(translations: &mut Translations, session: &Session)
         → (session.now.outside.addr ≡ translations.old.external) × (0 < session.now.outside.port) }
     requires ready { HasRoom 1 translations.old }
     ensures counts { (p : Mapping) → times translations.new.pairs p ≡ times translations.old.pairs p + weight p (Some session.now) }
+    ensures room { (n : ℕ) → HasRoom (n + 1) translations.old → HasRoom n translations.new }
     ensures external { translations.new.external ≡ translations.old.external }
 {
     if is_translated(session) {

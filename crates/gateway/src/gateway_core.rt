@@ -1,5 +1,6 @@
 //! The gateway: a core, and a number for each event.
 ghost use Rattle.std.specs.Prelude.{◌≡◌, ◌↔◌, ◌⊎◌, ◌-◌, ◌^◌, ◌<◌, ◌++◌, [], IfOk, IfErr, OnOk, OnErr, IsOk, List, length, vec_len, vec_capacity, ◌+◌, ◌≤◌};
+ghost use Rattle.gateway.specs.Judged.{Judged, IsJudged, IsNoLoad};
 ghost use Rattle.gateway.specs.Sound.{IsSound};
 ghost use Rattle.gateway.specs.Standing.{Took, TookAll, TookFirst, handed};
 ghost use Rattle.gateway.specs.Machine.{AddsNone, EndsNone, empty_at, later, step};
@@ -43,7 +44,7 @@ impl Gateway {
         }
     }
 
-    /// The text of the ruleset in force.
+    /// The text that loaded last; before any has, none.
     pub fn rules(&self) -> &[u8]
         ensures { result.now ≡ self.now.state.text }
     {
@@ -93,9 +94,10 @@ impl Gateway {
         ensures numbers_left { OnOk result (self.old.last < 2 ^ 64 - 1) }
         ensures causes { IfErr result (λ e. (e.1 ≡ GatewayFault.NumbersOut) ⊎ (e.1 ≡ GatewayFault.NoMemory)) }
 
-        // Memory is taken only where a session ends or begins.
-        ensures succeeds { self.old.last < 2 ^ 64 - 1 → EndsNone (later self.old.state.clock event.moment) self.old.state
-            → AddsNone self.old.state (step self.old.config self.old.state event) → IsOk result }
+        // Memory is taken only where a text is read, or a session ends or begins.
+        ensures succeeds { self.old.last < 2 ^ 64 - 1 → IsNoLoad event.what → (judged : Judged) → IsJudged self.old.config event judged
+            → EndsNone (later self.old.state.clock event.moment) self.old.state
+            → AddsNone self.old.state (step self.old.config self.old.state judged) → IsOk result }
     {
         if self.last == u64::MAX {
             return Err((event, GatewayFault::NumbersOut));

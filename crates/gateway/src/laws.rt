@@ -1,5 +1,7 @@
 //! What every state that is reached keeps.
-ghost use Rattle.gateway.specs.Laws.{AnswersComeIn, ClockNeverFalls, DropsChangeNothing, InsideMapsOnce, LivingMappingsStay, MappingsAreReused, OutsideIsNotShared, RunsKeepSound, SessionsAreAlive, SessionsGoOut, StartIsSound, StepsKeepSound};
+ghost use Rattle.gateway.specs.Laws.{AnswersComeIn, ClockNeverFalls, DropsChangeNothing, EventsAreJudgedOnce, ForwardsArePlanned, InsideMapsOnce, LivingMappingsStay, LoadsTakeForce, MappingsAreReused, OnlyLoadsChangeRules, OutsideIsNotShared, RefusalsChangeNothing, RunsKeepSound, SessionsAreAlive, SessionsGoOut, StartIsSound, StepsKeepSound};
+
+use rulesyntax::one_ruleset;
 
 /// A gateway begins sound.
 pub fn start_is_sound()
@@ -48,7 +50,7 @@ pub fn drops_change_nothing()
 {}
 
 /// While a session is alive, what its remote endpoint sends to its outside endpoint comes to its inside
-/// endpoint.
+/// endpoint, if the forward chains let it.
 pub fn answers_come_in()
     ensures { AnswersComeIn }
 {}
@@ -61,4 +63,32 @@ pub fn sessions_go_out()
 /// An inside endpoint keeps its outside endpoint towards every remote (RFC 4787, REQ-1).
 pub fn mappings_are_reused()
     ensures { MappingsAreReused }
+{}
+
+/// A text loads or doesn't, and spells one ruleset at most: an event does one thing only.
+pub fn events_are_judged_once()
+    ensures { EventsAreJudgedOnce }
+{
+    one_ruleset();
+}
+
+/// A load that is refused changes nothing. The clock has risen, and the sessions that are alive no
+/// longer have ended.
+pub fn refusals_change_nothing()
+    ensures { RefusalsChangeNothing }
+{}
+
+/// A text that loads is in force from then on, with its rules; the sessions that are alive go on.
+pub fn loads_take_force()
+    ensures { LoadsTakeForce }
+{}
+
+/// Packets and moments keep the text and its rules.
+pub fn only_loads_change_rules()
+    ensures { OnlyLoadsChangeRules }
+{}
+
+/// Only what a leg planned is forwarded, and then the sessions are changed as it planned.
+pub fn forwards_are_planned()
+    ensures { ForwardsArePlanned }
 {}

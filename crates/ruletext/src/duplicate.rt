@@ -5,6 +5,7 @@ ghost use Rattle.std.specs.List.{list_any};
 ghost use Rattle.ruletext.specs.Said.{chain_names, set_names, is_among};
 ghost use Rattle.ruletext.specs.Duplicate.{has_twice, is_of, names_in, has_line_twice, has_twice_within, has_duplicate_in};
 
+use crate::earlier::earlier;
 use crate::names::Names;
 use rulesyntax::line::Line;
 use rulesyntax::tree::{Chain, Family, Set, SetElements, SetType, Table};
@@ -54,13 +55,14 @@ fn second_elements(lists: &[SetElements]) -> Option<Line>
     }
 }
 
+// The first line of a set that is one too many.
 fn twice_line(set: &Set) -> Option<Line>
     ensures { is_some result ≡ has_line_twice set.now }
 {
-    if let Some(line) = second_type(set.types.as_slice()) {
-        return Some(line);
-    }
-    second_elements(set.elements.as_slice())
+    earlier(
+        second_type(set.types.as_slice()),
+        second_elements(set.elements.as_slice()),
+    )
 }
 
 fn twice_lines(sets: &[Set]) -> Option<Line>
@@ -77,13 +79,10 @@ fn twice_lines(sets: &[Set]) -> Option<Line>
 fn within(alloc: Global, table: &Table) -> Result<Option<Line>, AllocError>
     ensures { IfOk result (λ line. is_some line ≡ has_twice_within table.now) }
 {
-    if let Some(line) = twice_chain(alloc, table.chains.as_slice())? {
-        return Ok(Some(line));
-    }
-    if let Some(line) = twice_set(alloc, table.sets.as_slice())? {
-        return Ok(Some(line));
-    }
-    Ok(twice_lines(table.sets.as_slice()))
+    let chain = twice_chain(alloc, table.chains.as_slice())?;
+    let set = twice_set(alloc, table.sets.as_slice())?;
+    let line = twice_lines(table.sets.as_slice());
+    Ok(earlier(chain, earlier(set, line)))
 }
 
 fn within_some(alloc: Global, tables: &[Table]) -> Result<Option<Line>, AllocError>
@@ -130,15 +129,13 @@ fn twice_table(alloc: Global, family: Family, tables: &[Table]) -> Result<Option
     Ok(None)
 }
 
-/// Two tables of one family and name, or two chains, sets or lines of a set where one may stand.
+/// The first in the text that is one too many: a second table of one family and name, or in a table a second chain or
+/// set of one name, or a second line of one sort in a set.
 pub fn duplicate(alloc: Global, tables: &[Table]) -> Result<Option<Line>, AllocError>
     ensures { IfOk result (λ line. is_some line ≡ has_duplicate_in tables.now) }
 {
-    if let Some(line) = twice_table(alloc, Family::Ip, tables)? {
-        return Ok(Some(line));
-    }
-    if let Some(line) = twice_table(alloc, Family::Inet, tables)? {
-        return Ok(Some(line));
-    }
-    within_some(alloc, tables)
+    let ip = twice_table(alloc, Family::Ip, tables)?;
+    let inet = twice_table(alloc, Family::Inet, tables)?;
+    let within = within_some(alloc, tables)?;
+    Ok(earlier(earlier(ip, inet), within))
 }

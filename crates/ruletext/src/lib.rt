@@ -17,6 +17,8 @@ mod counts;
 mod duplicate;
 mod earlier;
 mod excess;
+#[cfg(test)]
+mod fault_tests;
 mod graph;
 pub mod hooks;
 mod lines;

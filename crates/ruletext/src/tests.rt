@@ -8,7 +8,7 @@ use std::process::Abort;
 use std::test::*;
 
 // 192.168.0.0/16 inside, 203.0.113.1 outside.
-fn bounds(alloc: Global) -> Result<Bounds, AllocError> {
+pub(crate) fn bounds(alloc: Global) -> Result<Bounds, AllocError> {
     let lan = String::from_str(alloc, "lan")?;
     let wan = String::from_str(alloc, "wan")?;
     let prefix = Prefix {
@@ -28,7 +28,7 @@ fn said(alloc: Global, bounds: &Bounds, text: &str) -> Result<String, AllocError
 }
 
 // Each text, put between the two others, must be answered so.
-fn check(
+pub(crate) fn check(
     rt: &impl Abort,
     alloc: Global,
     before: &str,
@@ -562,7 +562,7 @@ fn names_and_paths(rt: HostRuntime) -> Result<(), AllocError> {
 }
 
 // A text of so many lines between the two others.
-fn repeated(
+pub(crate) fn repeated(
     alloc: Global,
     before: &str,
     line: &str,

@@ -65,7 +65,7 @@ pub fn class_in(types: &[SetType]) -> Option<Class>
 fn line_of_type(set: &Set) -> Line {
     match set.types.as_slice() {
         [first, ..] => first.name_line.copied(),
-        [] => set.line.copied(),
+        [] => set.name_line.copied(),
     }
 }
 

@@ -11,7 +11,7 @@ use Rattle.packet.proofs.SameLemmas.{same_proto-true, same_proto-itself, same_en
 use Rattle.sessions.specs.declared.session.Session.{Session}
 use Rattle.sessions.specs.Table.{IsSound, HasInside}
 use Rattle.sessions.specs.Listing.{number, key, below, In, insert, listing, has_inside, same_flow, put, find}
-use Rattle.sessions.proofs.Sets.{Apart-sound, same_key, Rises-listing, Rises-filter, Rises-insert, In-filter, filter-In, In-insert, insert-In, In-listing, listing-In, listing-is}
+use Rattle.sessions.proofs.Sets.{Apart, Apart-sound, same_key, Rises-listing, Rises-filter, Rises-insert, In-filter, filter-In, In-insert, insert-In, In-listing, listing-In, listing-is}
 
 pub has_inside-true : (proto : Proto) (inside remote : Endpoint) (s : Session) → has_inside proto inside remote s ≡ true → HasInside proto inside remote s
 unfolding has_inside
@@ -39,17 +39,17 @@ pub keys-flow : (s t : Session) → key s ≡ key t → same_flow s t ≡ true
 keys-flow s t e = has_inside-from _ _ _ t (same_key s t e)
 
 -- one slot got the session, which held none or one of its keys
-pub put-is : (old new : List (Option Session)) (slot : ℕ) (t : Session) → IsSound old → IsSound new
+pub put-apart : (old new : List (Option Session)) (slot : ℕ) (t : Session) → Apart old → Apart new
     → get_or new slot None ≡ Some t
     → ((k : ℕ) → k ≢ slot → get_or new k None ≡ get_or old k None)
     → ((s : Session) → get_or old slot None ≡ Some s → key s ≡ key t)
     → listing new ≡ put t (listing old)
-put-is old new slot t sound_old sound_new is others fits =
+put-apart old new slot t apart_old apart_new is others fits =
     let rest = filter (λ u. not (same_flow t u)) (listing old) in
-    listing-is new (put t (listing old)) (Apart-sound new sound_new)
+    listing-is new (put t (listing old)) apart_new
     (Rises-insert t rest
     (λ u in_rest e. let kept = In-filter (λ v. not (same_flow t v)) (listing old) u in_rest in false≢true (sym (not-true _ kept.1) ∙ keys-flow t u (sym e)))
-    (Rises-filter (λ u. not (same_flow t u)) (listing old) (Rises-listing old (Apart-sound old sound_old))))
+    (Rises-filter (λ u. not (same_flow t u)) (listing old) (Rises-listing old apart_old)))
     (λ s in_put. elim (In-insert t rest s in_put) [
       | inl e ↦ (slot, is ∙ ap Some (sym e))
       | inr in_rest ↦
@@ -62,9 +62,16 @@ put-is old new slot t sound_old sound_new is others fits =
       | inl here ↦ insert-In t rest s (inl (same_Some s t (sym at ∙ subst (λ j. get_or new j None ≡ Some t) (sym here) is)))
       | inr away ↦
           let was = sym (others k away) ∙ at in
-          let differ : key s ≢ key t = (Apart-sound new sound_new).keys k slot s t away at is in
+          let differ : key s ≢ key t = apart_new.keys k slot s t away at is in
           insert-In t rest s (inr (filter-In (λ v. not (same_flow t v)) (listing old) s (listing-In old s k was) (not_from_false _ (false_from_ne_true _ (λ h. differ (flow-keys t s h))))))
     ])
+
+pub put-is : (old new : List (Option Session)) (slot : ℕ) (t : Session) → IsSound old → IsSound new
+    → get_or new slot None ≡ Some t
+    → ((k : ℕ) → k ≢ slot → get_or new k None ≡ get_or old k None)
+    → ((s : Session) → get_or old slot None ≡ Some s → key s ≡ key t)
+    → listing new ≡ put t (listing old)
+put-is old new slot t sound_old sound_new = put-apart old new slot t (Apart-sound old sound_old) (Apart-sound new sound_new)
 
 -- what a search finds
 pub find-is : (p : Session → Bool) (xs : List Session) (s : Session) → In s xs → p s ≡ true → ((t : Session) → In t xs → p t ≡ true → t ≡ s) → find p xs ≡ Some s

@@ -139,6 +139,13 @@ impl Table {
         None
     }
 
+    /// Whether the session clashes with one that is held. Takes no memory.
+    pub fn clashes_with(&self, session: &Session) -> bool
+        ensures { IsTrue result ↔ ClashesWith self.now session.now }
+    {
+        any_clash(&self.places, session)
+    }
+
     /// Takes the session into a slot that holds none. A clash is told before a full table. Where
     /// there is room it takes no memory.
     pub fn add(&mut self, session: Session) -> Result<Slot, AddFault>

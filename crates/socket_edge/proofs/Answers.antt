@@ -7,19 +7,21 @@ use Rattle.packet.specs.Config.{Config}
 use Rattle.gateway.specs.declared.event.Event.{Event}
 use Rattle.gateway.specs.declared.event.Answer.{Answer}
 use Rattle.gateway.specs.declared.event.Given.{Given}
+use Rattle.gateway.specs.Judged.{Judged, AreJudged}
 use Rattle.gateway.specs.Machine.{State, step, after, answers, numbered}
 use Rattle.gateway.specs.Standing.{Standing, Took, handed}
-use Rattle.socket_edge.specs.Answering.{frame, replies, due, Progress, Begun}
+use Rattle.gateway.proofs.Judging.{AreJudged-append, AreJudged-length, AreJudged-one}
+use Rattle.socket_edge.specs.Answering.{frame, replies, due, AreFirst, Progress, Begun}
 
-pub after-append : (config : Config) (s : State) (es fs : List Event) → after config s (es ++ fs) ≡ after config (after config s es) fs
+pub after-append : (config : Config) (s : State) (es fs : List Judged) → after config s (es ++ fs) ≡ after config (after config s es) fs
 after-append config s [] fs = refl
 after-append config s (e ∷ es) fs = after-append config (step config s e).0 es fs
 
-pub answers-append : (config : Config) (s : State) (es fs : List Event) → answers config s (es ++ fs) ≡ answers config s es ++ answers config (after config s es) fs
+pub answers-append : (config : Config) (s : State) (es fs : List Judged) → answers config s (es ++ fs) ≡ answers config s es ++ answers config (after config s es) fs
 answers-append config s [] fs = refl
 answers-append config s (e ∷ es) fs = ap (λ (xs : List Answer). (step config s e).1 ∷ xs) (answers-append config (step config s e).0 es fs)
 
-pub length-answers : (config : Config) (s : State) (es : List Event) → length (answers config s es) ≡ length es
+pub length-answers : (config : Config) (s : State) (es : List Judged) → length (answers config s es) ≡ length es
 length-answers config s [] = refl
 length-answers config s (e ∷ es) = ap suc (length-answers config (step config s e).0 es)
 
@@ -30,7 +32,7 @@ numbered-append last (x ∷ xs) ys =
     ap (λ (zs : List (ℕ × Answer)). (last + 1, x) ∷ zs) (numbered-append (last + 1) xs ys ∙ ap (λ n. numbered (last + 1) xs ++ numbered n ys) e)
 
 -- the answers to the first events, and then those to the others
-replies-append : (old middle : Standing) (es fs : List Event) → middle.config ≡ old.config → middle.state ≡ after old.config old.state es → middle.last ≡ old.last + length es
+replies-append : (old middle : Standing) (es fs : List Judged) → middle.config ≡ old.config → middle.state ≡ after old.config old.state es → middle.last ≡ old.last + length es
     → replies old (es ++ fs) ≡ replies old es ++ replies middle fs
 unfolding replies
 replies-append old middle es fs c s l =
@@ -41,7 +43,7 @@ replies-append old middle es fs c s l =
     ap (numbered old.last) a ∙ numbered-append old.last (answers old.config old.state es) (answers middle.config middle.state fs)
     ∙ ap (λ (k : ℕ). numbered old.last (answers old.config old.state es) ++ numbered k (answers middle.config middle.state fs)) n
 
-pub due-append : (old middle : Standing) (es fs : List Event) (handed : List (ℕ × Answer)) → middle.config ≡ old.config → middle.state ≡ after old.config old.state es → middle.last ≡ old.last + length es
+pub due-append : (old middle : Standing) (es fs : List Judged) (handed : List (ℕ × Answer)) → middle.config ≡ old.config → middle.state ≡ after old.config old.state es → middle.last ≡ old.last + length es
     → handed ++ middle.held ≡ due old es → handed ++ due middle fs ≡ due old (es ++ fs)
 unfolding due
 due-append old middle es fs handed c s l o =
@@ -53,61 +55,109 @@ due-append old middle es fs handed c s l o =
 frames-append : (before : List ℕ) (xs ys : List (ℕ × Answer)) → (before ++ flat_map frame xs) ++ flat_map frame ys ≡ before ++ flat_map frame (xs ++ ys)
 frames-append before xs ys = append_assoc before (flat_map frame xs) (flat_map frame ys) ∙ ap (λ (zs : List ℕ). before ++ zs) (sym (flat_map-append frame xs ys))
 
+-- none of the events, or all of them
+first-none : (config : Config) (es : List Event) → AreFirst config es []
+first-none config es = record { front = []; back = es; split = refl; are_judged = tt }
+
+first-all : (config : Config) (es : List Event) (js : List Judged) → AreJudged config es js → AreFirst config es js
+first-all config es js are = record { front = es; back = []; split = sym (append-nil es); are_judged = are }
+
+-- all events, and the first of others
+pub first-then : (config : Config) (es fs : List Event) (js ks : List Judged) → AreJudged config es js → AreFirst config fs ks → AreFirst config (es ++ fs) (js ++ ks)
+first-then config es fs js ks are first = record {
+  front = es ++ first.front;
+  back = first.back;
+  split = ap (λ (xs : List Event). es ++ xs) first.split ∙ sym (append_assoc es first.front first.back);
+  are_judged = AreJudged-append config es first.front js ks are first.are_judged;
+}
+
+first-more : (config : Config) (es fs : List Event) (js : List Judged) → AreFirst config es js → AreFirst config (es ++ fs) js
+first-more config es fs js first = record {
+  front = first.front;
+  back = first.back ++ fs;
+  split = ap (λ (xs : List Event). xs ++ fs) first.split ∙ append_assoc first.front first.back fs;
+  are_judged = first.are_judged;
+}
+
+-- the last number, said of what the events are judged
+pub last_of : (old new : Standing) (es : List Event) (a b : List ℕ) (p : Progress old new es a b) → new.last ≡ old.last + length p.judged
+last_of old new es a b p = omega (arith, p.last, AreJudged-length old.config es p.judged p.are_judged)
+
 pub Progress-nil : (old : Standing) (before : List ℕ) → Progress old old [] before before
 unfolding due replies
-Progress-nil old before = record { config = refl; state = refl; last = omega arith; handed = []; sent = sym (append-nil before); order = sym (append-nil old.held) }
+Progress-nil old before = record { judged = []; are_judged = tt; config = refl; state = refl; last = omega arith; handed = []; sent = sym (append-nil before); order = sym (append-nil old.held) }
 
 -- one after the other
 pub Progress-then : (old middle new : Standing) (es fs : List Event) (a b c : List ℕ) → Progress old middle es a b → Progress middle new fs b c → Progress old new (es ++ fs) a c
 Progress-then old middle new es fs a b c p q = record {
+  judged = p.judged ++ q.judged;
+  are_judged = AreJudged-append old.config es fs p.judged q.judged p.are_judged (subst (λ (x : Config). AreJudged x fs q.judged) p.config q.are_judged);
   config = q.config ∙ p.config;
-  state = q.state ∙ rw (p.state, p.config) refl ∙ sym (after-append old.config old.state es fs);
+  state = q.state ∙ rw (p.state, p.config) refl ∙ sym (after-append old.config old.state p.judged q.judged);
   last = omega (arith, q.last, p.last, length-append es fs);
   handed = p.handed ++ q.handed;
   sent = q.sent ∙ ap (λ (zs : List ℕ). zs ++ flat_map frame q.handed) p.sent ∙ frames-append a p.handed q.handed;
-  order = append_assoc p.handed q.handed new.held ∙ ap (λ (zs : List (ℕ × Answer)). p.handed ++ zs) q.order ∙ due-append old middle es fs p.handed p.config p.state p.last p.order;
+  order = append_assoc p.handed q.handed new.held ∙ ap (λ (zs : List (ℕ × Answer)). p.handed ++ zs) q.order
+      ∙ due-append old middle p.judged q.judged p.handed p.config p.state (last_of old middle es a b p) p.order;
 }
 
 pub Begun-then : (old middle : Standing) (es fs : List Event) (a b c : List ℕ) → Progress old middle es a b → Begun middle fs b c → Begun old (es ++ fs) a c
 Begun-then old middle es fs a b c p q = record {
+  judged = p.judged ++ q.judged;
+  are_first = first-then old.config es fs p.judged q.judged p.are_judged (subst (λ (x : Config). AreFirst x fs q.judged) p.config q.are_first);
   handed = p.handed ++ q.handed;
   others = q.others;
   sent = q.sent ∙ ap (λ (zs : List ℕ). zs ++ flat_map frame q.handed) p.sent ∙ frames-append a p.handed q.handed;
-  order = append_assoc p.handed q.handed q.others ∙ ap (λ (zs : List (ℕ × Answer)). p.handed ++ zs) q.order ∙ due-append old middle es fs p.handed p.config p.state p.last p.order;
+  order = append_assoc p.handed q.handed q.others ∙ ap (λ (zs : List (ℕ × Answer)). p.handed ++ zs) q.order
+      ∙ due-append old middle p.judged q.judged p.handed p.config p.state (last_of old middle es a b p) p.order;
 }
 
 pub Begun-of : (old new : Standing) (es : List Event) (a b : List ℕ) → Progress old new es a b → Begun old es a b
-Begun-of old new es a b p = record { handed = p.handed; others = new.held; sent = p.sent; order = p.order }
+Begun-of old new es a b p = record { judged = p.judged; are_first = first-all old.config es p.judged p.are_judged; handed = p.handed; others = new.held; sent = p.sent; order = p.order }
 
 -- a beginning of some events' answers is one of more events' answers
 pub Begun-more : (old : Standing) (es fs : List Event) (a b : List ℕ) → Begun old es a b → Begun old (es ++ fs) a b
-unfolding due replies
-Begun-more old es fs a b p =
-    let n = numbered (old.last + length (answers old.config old.state es)) (answers old.config (after old.config old.state es) fs) in
-    let e : numbered old.last (answers old.config old.state (es ++ fs)) ≡ numbered old.last (answers old.config old.state es) ++ n =
-    ap (numbered old.last) (answers-append old.config old.state es fs) ∙ numbered-append old.last (answers old.config old.state es) (answers old.config (after old.config old.state es) fs) in
-    record {
-      handed = p.handed;
-      others = p.others ++ n;
-      sent = p.sent;
-      order = sym (append_assoc p.handed p.others n) ∙ ap (λ (zs : List (ℕ × Answer)). zs ++ n) p.order
-          ∙ append_assoc old.held (numbered old.last (answers old.config old.state es)) n ∙ ap (λ (zs : List (ℕ × Answer)). old.held ++ zs) (sym e);
-    }
+Begun-more old es fs a b p = record {
+  judged = p.judged;
+  are_first = first-more old.config es fs p.judged p.are_first;
+  handed = p.handed;
+  others = p.others;
+  sent = p.sent;
+  order = p.order;
+}
 
 -- an event was taken, and what it handed out was put out
 pub Progress-took : (old new : Standing) (event : Event) (given : Given) (before out : List ℕ) → Took old new event given → out ≡ before ++ flat_map frame (handed given) → Progress old new (event ∷ []) before out
 unfolding due replies
-Progress-took old new event given before out t e = record { config = t.config; state = t.state; last = t.last; handed = handed given; sent = e; order = t.order }
+Progress-took old new event given before out t e = record {
+  judged = t.judged ∷ [];
+  are_judged = AreJudged-one old.config event t.judged t.is_judged;
+  config = t.config;
+  state = t.state;
+  last = t.last;
+  handed = handed given;
+  sent = e;
+  order = t.order;
+}
 
 -- an event was taken, and its answer got lost
 pub Begun-lost : (old new : Standing) (event : Event) (given : Given) (before : List ℕ) → Took old new event given → Begun old (event ∷ []) before before
 unfolding due replies
-Begun-lost old new event given before t = record { handed = []; others = handed given ++ new.held; sent = sym (append-nil before); order = t.order }
+Begun-lost old new event given before t = record {
+  judged = t.judged ∷ [];
+  are_first = first-all old.config (event ∷ []) (t.judged ∷ []) (AreJudged-one old.config event t.judged t.is_judged);
+  handed = [];
+  others = handed given ++ new.held;
+  sent = sym (append-nil before);
+  order = t.order;
+}
 
 -- what was held is handed out
 pub Progress-flushed : (old new : Standing) (handed : List (ℕ × Answer)) (before out : List ℕ) → handed ≡ old.held → new ≡ record old { held = [] } → out ≡ before ++ flat_map frame handed → Progress old new [] before out
 unfolding due replies
 Progress-flushed old new handed before out h n o = record {
+  judged = [];
+  are_judged = tt;
   config = ap (λ (s : Standing). s.config) n;
   state = ap (λ (s : Standing). s.state) n;
   last = omega (arith, ap (λ (s : Standing). s.last) n);
@@ -119,13 +169,23 @@ Progress-flushed old new handed before out h n o = record {
 -- a beginning of what was held is put out
 pub Begun-flushed : (old : Standing) (n : ℕ) (handed : List (ℕ × Answer)) (before out : List ℕ) → handed ≡ old.held → out ≡ before ++ flat_map frame (take n handed) → Begun old [] before out
 unfolding due replies
-Begun-flushed old n handed before out h o = record { handed = take n handed; others = drop n handed; sent = o; order = take-append-drop n handed ∙ h ∙ sym (append-nil old.held) }
+Begun-flushed old n handed before out h o = record {
+  judged = [];
+  are_first = first-none old.config [];
+  handed = take n handed;
+  others = drop n handed;
+  sent = o;
+  order = take-append-drop n handed ∙ h ∙ sym (append-nil old.held);
+}
+
+pub Begun-nothing : (old : Standing) (events : List Event) → Begun old events [] []
+Begun-nothing old events = record { judged = []; are_first = first-none old.config events; handed = []; others = due old []; sent = refl; order = refl }
 
 -- everything that stands out was handed out
-pub all_sent : (old new : Standing) (events : List Event) (out : List ℕ) → Progress old new events [] out → (old.held ≡ [] → new.held ≡ []) → old.held ≡ [] → out ≡ flat_map frame (replies old events)
+pub all_sent : (old new : Standing) (events : List Event) (out : List ℕ) (p : Progress old new events [] out) → (old.held ≡ [] → new.held ≡ []) → old.held ≡ [] → out ≡ flat_map frame (replies old p.judged)
 unfolding due
 all_sent old new events out p none h =
-    let e : p.handed ≡ replies old events = sym (append-nil p.handed) ∙ ap (λ (xs : List (ℕ × Answer)). p.handed ++ xs) (sym (none h)) ∙ p.order ∙ ap (λ (xs : List (ℕ × Answer)). xs ++ replies old events) h in
+    let e : p.handed ≡ replies old p.judged = sym (append-nil p.handed) ∙ ap (λ (xs : List (ℕ × Answer)). p.handed ++ xs) (sym (none h)) ∙ p.order ∙ ap (λ (xs : List (ℕ × Answer)). xs ++ replies old p.judged) h in
     p.sent ∙ ap (flat_map frame) e
 
 -- ---- one event, where room was made for it first

@@ -14,7 +14,7 @@ use Rattle.socket_edge.specs.declared.serving.Stop.{Stop}
 use Rattle.socket_edge.specs.declared.serving.Stop.TheVariants as stop
 use Rattle.socket_edge.specs.Requests.{Cut, Bad, next}
 use Rattle.socket_edge.specs.Framing.{Framed, Rest, Fault, behind, framed}
-use Rattle.socket_edge.specs.Answering.{frame, due, Progress, Begun}
+use Rattle.socket_edge.specs.Answering.{frame, Progress, Begun, BeginsFrames}
 use Rattle.socket_edge.specs.Running.{Answered, Reads, Offered, end_of, Closed}
 use Rattle.socket_edge.proofs.Frames.{framed_cut, framed_bad, Reads-is}
 use Rattle.socket_edge.proofs.Answers.{Progress-then, Begun-of, Begun-then, Begun-more, all_sent}
@@ -87,14 +87,19 @@ lost_is (stop.Bad f) fault old now bytes rest count b e o = absurd cc
 lost_is (stop.Refused f) fault old now bytes rest count b e o = absurd cc
 lost_is (stop.Lost f) fault old now bytes rest count b e o = (o.3, begun_framed old bytes o.1 o.0 [] b o.2 o.4)
 
-begun_stands : (old : Standing) (events : List Event) (out : List ℕ) → Begun old events [] out → (others : List ℕ) × (out ++ others ≡ flat_map frame (due old events))
-begun_stands old events out p = (flat_map frame p.others, ap (λ (x : List ℕ). x ++ flat_map frame p.others) p.sent ∙ sym (flat_map-append frame p.handed p.others) ∙ ap (flat_map frame) p.order)
+begun_stands : (old : Standing) (events : List Event) (out : List ℕ) → Begun old events [] out → BeginsFrames old events out
+begun_stands old events out p = record {
+  judged = p.judged;
+  are_first = p.are_first;
+  others = flat_map frame p.others;
+  begins = ap (λ (x : List ℕ). x ++ flat_map frame p.others) p.sent ∙ sym (flat_map-append frame p.handed p.others) ∙ ap (flat_map frame) p.order;
+}
 
-answered_stands : (old new : Standing) (bytes out : List ℕ) → Answered old new bytes out → (others : List ℕ) × (out ++ others ≡ flat_map frame (due old (framed bytes).events))
+answered_stands : (old new : Standing) (bytes out : List ℕ) → Answered old new bytes out → BeginsFrames old (framed bytes).events out
 answered_stands old new bytes out a = begun_stands old (framed bytes).events out (Begun-of old new (framed bytes).events [] out a.progress)
 
 -- what was put out is a beginning of the frames
-pub stands : (r : Result (Unit {0}) EdgeFault) (old new : Standing) (bytes rest out : List ℕ) (count : ℕ) → Closed r old new bytes rest out count → (others : List ℕ) × (out ++ others ≡ flat_map frame (due old (framed bytes).events))
+pub stands : (r : Result (Unit {0}) EdgeFault) (old new : Standing) (bytes rest out : List ℕ) (count : ℕ) → Closed r old new bytes rest out count → BeginsFrames old (framed bytes).events out
 stands (Ok done) old new bytes rest out count s =
     begun_stands old (framed bytes).events out (subst (λ (f : Framed). Begun old f.events [] out) (sym (framed_then_cut bytes rest s.events s.reads s.cut)) (Begun-of old new s.events [] out s.progress))
 stands (Err BadKind) old new bytes rest out count s = answered_stands old new bytes out s.1
@@ -106,5 +111,10 @@ stands (Err Output) old new bytes rest out count s = s
 stands (Err (Gateway fault)) old new bytes rest out count s = begun_stands old (framed bytes).events out s.1
 
 -- and so is a beginning of that
-pub stands_cut : (n : ℕ) (out all : List ℕ) → (others : List ℕ) × (out ++ others ≡ all) → (others : List ℕ) × (take n out ++ others ≡ all)
-stands_cut n out all o = (drop n out ++ o.0, sym (append_assoc (take n out) (drop n out) o.0) ∙ ap (λ (x : List ℕ). x ++ o.0) (take-append-drop n out) ∙ o.1)
+pub stands_cut : (n : ℕ) (old : Standing) (events : List Event) (out : List ℕ) → BeginsFrames old events out → BeginsFrames old events (take n out)
+stands_cut n old events out p = record {
+  judged = p.judged;
+  are_first = p.are_first;
+  others = drop n out ++ p.others;
+  begins = sym (append_assoc (take n out) (drop n out) p.others) ∙ ap (λ (x : List ℕ). x ++ p.others) (take-append-drop n out) ∙ p.begins;
+}

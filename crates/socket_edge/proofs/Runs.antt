@@ -3,6 +3,7 @@ use Rattle.std.proofs.Common.{◌≡◌, ◌≢◌, ℕ, ◌+◌, ◌≤◌, Lis
 use Rattle.std.specs.List.{flat_map}
 use Rattle.std.proofs.lemmas.List.{append-nil}
 use Rattle.std.proofs.lemmas.List.Concat.{flat_map-append}
+use Rattle.packet.specs.Config.{Config}
 use Rattle.gateway.specs.declared.event.Event.{Event}
 use Rattle.gateway.specs.declared.event.GatewayFault.TheVariants.{HeldFull}
 use Rattle.gateway.specs.Standing.{Standing}
@@ -10,10 +11,10 @@ use Rattle.socket_edge.specs.declared.fault.EdgeFault.{EdgeFault}
 use Rattle.socket_edge.specs.declared.fault.EdgeFault.TheVariants.{BadKind, BadInterface, TooLong, Truncated, Input, Output, Gateway}
 use Rattle.socket_edge.specs.Requests.{Cut, next}
 use Rattle.socket_edge.specs.Framing.{Framed, Stop, Rest, behind, framed}
-use Rattle.socket_edge.specs.Answering.{frame, due, Progress, Begun}
+use Rattle.socket_edge.specs.Answering.{frame, due, AreFirst, Progress, Begun, BeginsFrames}
 use Rattle.socket_edge.specs.Running.{Answered, Ends, Done, Reads, Served}
 use Rattle.socket_edge.proofs.Frames.{next_nil, Reads-nil, Reads-more, Reads-then}
-use Rattle.socket_edge.proofs.Answers.{Progress-nil, Progress-then, Begun-then, due-append}
+use Rattle.socket_edge.proofs.Answers.{Progress-nil, Progress-then, Begun-then, due-append, first-then, last_of}
 use Rattle.socket_edge.proofs.Closing.{framed_then_cut, Answered-of}
 
 -- the events of the bytes that came before, and of those that come
@@ -22,10 +23,10 @@ framed_more given pending got events r = r.goes got
 
 -- behind what was sent before
 Progress-shift : (old new : Standing) (events : List Event) (before out : List ℕ) → Progress old new events [] out → Progress old new events before (before ++ out)
-Progress-shift old new events before out p = record { config = p.config; state = p.state; last = p.last; handed = p.handed; sent = ap (λ (x : List ℕ). before ++ x) p.sent; order = p.order }
+Progress-shift old new events before out p = record { judged = p.judged; are_judged = p.are_judged; config = p.config; state = p.state; last = p.last; handed = p.handed; sent = ap (λ (x : List ℕ). before ++ x) p.sent; order = p.order }
 
 Begun-shift : (old : Standing) (events : List Event) (before out : List ℕ) → Begun old events [] out → Begun old events before (before ++ out)
-Begun-shift old events before out p = record { handed = p.handed; others = p.others; sent = ap (λ (x : List ℕ). before ++ x) p.sent; order = p.order }
+Begun-shift old events before out p = record { judged = p.judged; are_first = p.are_first; handed = p.handed; others = p.others; sent = ap (λ (x : List ℕ). before ++ x) p.sent; order = p.order }
 
 pub Served-first : (old : Standing) → Served old old [] [] [] 0
 Served-first old = record { events = []; reads = Reads-nil []; cut = next_nil; count_is = refl; progress = Progress-nil old []; none = λ h. h }
@@ -50,6 +51,17 @@ answered_then a b c given pending got w sent n p q =
 stop_then : (a b : Standing) (given pending got w : List ℕ) (n : ℕ) (s : Stop) → Served a b given pending w n → (framed (pending ++ got)).stop ≡ s → (framed (given ++ got)).stop ≡ s
 stop_then a b given pending got w n s p e = ap (λ (f : Framed). f.stop) (framed_more given pending got p.events p.reads) ∙ e
 
+begins_then : (a b : Standing) (es fs : List Event) (w sent : List ℕ) → Progress a b es [] w → BeginsFrames b fs sent → BeginsFrames a (es ++ fs) (w ++ sent)
+begins_then a b es fs w sent p q =
+    let d : due a (p.judged ++ q.judged) ≡ p.handed ++ due b q.judged = sym (due-append a b p.judged q.judged p.handed p.config p.state (last_of a b es [] w p) p.order) in
+    record {
+      judged = p.judged ++ q.judged;
+      are_first = first-then a.config es fs p.judged q.judged p.are_judged (subst (λ (x : Config). AreFirst x fs q.judged) p.config q.are_first);
+      others = q.others;
+      begins = append_assoc w sent q.others ∙ ap (λ (x : List ℕ). w ++ x) q.begins ∙ ap (λ (x : List ℕ). x ++ flat_map frame (due b q.judged)) p.sent
+          ∙ sym (flat_map-append frame p.handed (due b q.judged)) ∙ ap (flat_map frame) (sym d);
+    }
+
 pub Ends-then : (e : EdgeFault) (a b c : Standing) (given pending got w sent : List ℕ) (n : ℕ) (at_end : Type 0) → Served a b given pending w n → Ends e b c (pending ++ got) sent at_end → Ends e a c (given ++ got) (w ++ sent) at_end
 Ends-then BadKind a b c given pending got w sent n at_end p q = (stop_then a b given pending got w n _ p q.0, answered_then a b c given pending got w sent n p q.1)
 Ends-then BadInterface a b c given pending got w sent n at_end p q = (stop_then a b given pending got w n _ p q.0, answered_then a b c given pending got w sent n p q.1)
@@ -57,10 +69,8 @@ Ends-then TooLong a b c given pending got w sent n at_end p q = (stop_then a b g
 Ends-then Truncated a b c given pending got w sent n at_end p q = (q.0, stop_then a b given pending got w n _ p q.1, q.2, answered_then a b c given pending got w sent n p q.3, q.4)
 Ends-then Input a b c given pending got w sent n at_end p q = answered_then a b c given pending got w sent n p q
 Ends-then Output a b c given pending got w sent n at_end p q =
-    let es = (framed (pending ++ got)).events in
-    let d : due a (p.events ++ es) ≡ p.progress.handed ++ due b es = sym (due-append a b p.events es p.progress.handed p.progress.config p.progress.state p.progress.last p.progress.order) in
-    let f : (framed (given ++ got)).events ≡ p.events ++ es = ap (λ (x : Framed). x.events) (framed_more given pending got p.events p.reads) in
-    (q.0, append_assoc w sent q.0 ∙ ap (λ (x : List ℕ). w ++ x) q.1 ∙ ap (λ (x : List ℕ). x ++ flat_map frame (due b es)) p.progress.sent ∙ sym (flat_map-append frame p.progress.handed (due b es)) ∙ ap (flat_map frame) (sym d) ∙ ap (λ (x : List Event). flat_map frame (due a x)) (sym f))
+    let f : (framed (given ++ got)).events ≡ p.events ++ (framed (pending ++ got)).events = ap (λ (x : Framed). x.events) (framed_more given pending got p.events p.reads) in
+    subst (λ (es : List Event). BeginsFrames a es (w ++ sent)) (sym f) (begins_then a b p.events (framed (pending ++ got)).events w sent p.progress q)
 Ends-then (Gateway fault) a b c given pending got w sent n at_end p q = (
   q.0,
   subst (λ (f : Framed). Begun a f.events [] (w ++ sent)) (sym (framed_more given pending got p.events p.reads))
@@ -91,9 +101,6 @@ nothing_stops pending cut = ap (λ (f : Framed). f.stop) (ap framed (append-nil 
 
 pub nothing_counts : (pending : List ℕ) → next pending ≡ Cut → 0 ≡ length (framed (pending ++ [])).events
 nothing_counts pending cut = sym (ap (λ (f : Framed). length f.events) (ap framed (append-nil pending) ∙ framed_then_cut pending pending [] (Reads-nil pending) cut))
-
-pub none_begun : (b : Standing) (events : List Event) → Begun b events [] []
-none_begun b events = record { handed = []; others = due b events; sent = refl; order = refl }
 
 -- the frames so far are no more than the numbers so far
 pub count_below : (a b : Standing) (given pending w : List ℕ) (n : ℕ) → Served a b given pending w n → n ≤ b.last

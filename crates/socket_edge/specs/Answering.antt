@@ -2,11 +2,13 @@
 use Rattle.std.specs.Prelude.{◌≡◌, ℕ, ◌+◌, List, [], ◌∷◌, ◌++◌, length}
 use Rattle.std.specs.List.{flat_map}
 use Rattle.byteorder.specs.Endian.{big_bytes}
+use Rattle.packet.specs.Config.{Config}
 use Rattle.packet.specs.declared.endpoint.Iface.{Iface}
 use Rattle.packet.specs.declared.endpoint.Iface.TheVariants.{Lan, Wan}
 use Rattle.gateway.specs.declared.event.Event.{Event}
 use Rattle.gateway.specs.declared.event.Answer.{Answer}
 use Rattle.gateway.specs.declared.event.Answer.TheVariants as answer
+use Rattle.gateway.specs.Judged.{Judged, AreJudged}
 use Rattle.gateway.specs.Machine.{after, answers, numbered}
 use Rattle.gateway.specs.Standing.{Standing}
 
@@ -35,26 +37,44 @@ frame p = kind_byte p.1 ∷ big_bytes 8 p.0 ++ big_bytes 4 (length (body_of p.1)
 abbrev pub frames : List (ℕ × Answer) → List ℕ
 frames answers = flat_map frame answers
 
--- the numbered answers to these events
-unfoldable pub replies : Standing → List Event → List (ℕ × Answer)
-replies old events = numbered old.last (answers old.config old.state events)
+-- the numbered answers to events that are judged so
+unfoldable pub replies : Standing → List Judged → List (ℕ × Answer)
+replies old judged = numbered old.last (answers old.config old.state judged)
 
 -- the numbered answers that stand out once these events are taken
-unfoldable pub due : Standing → List Event → List (ℕ × Answer)
-due old events = old.held ++ replies old events
+unfoldable pub due : Standing → List Judged → List (ℕ × Answer)
+due old judged = old.held ++ replies old judged
 
--- The events were taken, and of the answers that stand out these were handed out; their frames went behind `before`.
+-- The first of the events are judged so.
+pub record AreFirst (config : Config) (events : List Event) (judged : List Judged) : Type 0 where
+  pub front : List Event
+  pub back : List Event
+  pub split : events ≡ front ++ back
+  pub are_judged : AreJudged config front judged
+
+-- The events were taken, as they are judged, and of the answers that stand out these were handed out; their frames went behind `before`.
 pub record Progress (old new : Standing) (events : List Event) (before out : List ℕ) : Type 0 where
+  pub judged : List Judged
+  pub are_judged : AreJudged old.config events judged
   pub config : new.config ≡ old.config
-  pub state : new.state ≡ after old.config old.state events
+  pub state : new.state ≡ after old.config old.state judged
   pub last : new.last ≡ old.last + length events
   pub handed : List (ℕ × Answer)
   pub sent : out ≡ before ++ frames handed
-  pub order : handed ++ new.held ≡ due old events
+  pub order : handed ++ new.held ≡ due old judged
 
--- The frames of a beginning of the answers that stand out went behind `before`.
+-- The frames of a beginning of the answers that stand out went behind `before`, once the first of the events are judged.
 pub record Begun (old : Standing) (events : List Event) (before out : List ℕ) : Type 0 where
+  pub judged : List Judged
+  pub are_first : AreFirst old.config events judged
   pub handed : List (ℕ × Answer)
   pub others : List (ℕ × Answer)
   pub sent : out ≡ before ++ frames handed
-  pub order : handed ++ others ≡ due old events
+  pub order : handed ++ others ≡ due old judged
+
+-- The bytes are a beginning of the frames of the answers that stand out, once the first of the events are judged.
+pub record BeginsFrames (old : Standing) (events : List Event) (out : List ℕ) : Type 0 where
+  pub judged : List Judged
+  pub are_first : AreFirst old.config events judged
+  pub others : List ℕ
+  pub begins : out ++ others ≡ frames (due old judged)

@@ -14,13 +14,13 @@ use Rattle.socket_edge.specs.declared.edge.Turn.{Turn}
 use Rattle.socket_edge.specs.declared.edge.Turn.TheVariants as turn
 use Rattle.socket_edge.specs.Requests.{Whole, Cut, Bad, next}
 use Rattle.socket_edge.specs.Framing.{Rest, Fault, behind, framed}
-use Rattle.socket_edge.specs.Answering.{frames, replies, due, Progress, Begun}
+use Rattle.socket_edge.specs.Answering.{frames, replies, Progress, Begun, BeginsFrames}
 
 -- The events of the bytes were taken. Where nothing was held before, all of them are answered by the bytes sent, and nothing is held.
 pub record Answered (old new : Standing) (bytes sent : List ℕ) : Type 0 where
   pub progress : Progress old new (framed bytes).events [] sent
   pub none : old.held ≡ [] → new.held ≡ []
-  pub all : old.held ≡ [] → sent ≡ frames (replies old (framed bytes).events)
+  pub all : old.held ≡ [] → sent ≡ frames (replies old progress.judged)
 
 -- what a fault says of the bytes that were read and sent
 abbrev pub Ends : EdgeFault → Standing → Standing → List ℕ → List ℕ → Type 0 → Type 0
@@ -29,7 +29,7 @@ Ends BadInterface old new bytes sent at_end = ((framed bytes).stop ≡ Fault hea
 Ends TooLong old new bytes sent at_end = ((framed bytes).stop ≡ Fault header.TooLong) × Answered old new bytes sent
 Ends Truncated old new bytes sent at_end = (rest : List ℕ) × ((framed bytes).stop ≡ Rest rest) × (rest ≢ []) × Answered old new bytes sent × at_end
 Ends Input old new bytes sent at_end = Answered old new bytes sent
-Ends Output old new bytes sent at_end = (others : List ℕ) × (sent ++ others ≡ frames (due old (framed bytes).events))
+Ends Output old new bytes sent at_end = BeginsFrames old (framed bytes).events sent
 Ends (Gateway fault) old new bytes sent at_end = (fault ≢ HeldFull) × Begun old (framed bytes).events [] sent
 
 -- all was read and answered, and it was whole frames

@@ -1,4 +1,3 @@
-use Rattle.std.proofs.Common.{[]}
 use Rattle.gateway.proofs.Expiry.{latest_expired, none_due}
 use Rattle.gateway.proofs.Steps.{live-sound}
 use Rattle.gateway.proofs.core_state.age_and_act.Goals as goal
@@ -10,4 +9,4 @@ pub act_on-requires-clause-latest : goal.act_on-requires-clause-latest
 act_on-requires-clause-latest c = latest_expired c.args.flows.now.table.held c.expire.new.self.table.held c.args.now c.in-Ok.ensures.ok c.requires.latest
 
 pub returns-in-Err-clause-succeeds : goal.returns-in-Err-clause-succeeds
-returns-in-Err-clause-succeeds c = λ quiet. c.in-Err.ensures.succeeds (none_due c.args.flows.now.table.held c.args.now (quiet []).0)
+returns-in-Err-clause-succeeds c = λ none few. c.in-Err.ensures.succeeds (none_due c.args.flows.now.table.held c.args.now none)

@@ -1,17 +1,21 @@
-use Rattle.std.proofs.Common.{sym, ◌∙◌}
+use Rattle.std.proofs.Common.{◌≤◌, Result, IsOkAnd, sym, subst, ◌∙◌}
+use Rattle.packet.specs.declared.fault.Fault.{Fault}
+use Rattle.packet.specs.declared.view.View.{View}
 use Rattle.packet.proofs.Routes.{routed_is_on_route}
 use Rattle.gateway.proofs.Reading.{ports_are_some}
-use Rattle.gateway.proofs.Steps.{pass-few}
+use Rattle.gateway.proofs.Soundness.{bounded}
 use Rattle.gateway.proofs.core_state.pass_on.Goals as goal
 
-pub follow-requires-clause-alive : goal.follow-requires-clause-alive
-follow-requires-clause-alive c = (routed_is_on_route c.args.bounds.now c.args.iface c.in-Ok.view c.in-Ok-route.route (sym c.route.ensures ∙ c.in-Ok-route.is)).0
+pub plan_for-plan-requires-clause-bounded : goal.plan_for-plan-requires-clause-bounded
+plan_for-plan-requires-clause-bounded c = bounded c.args.bounds.now c.args.in_force.now.text c.args.in_force.now.rules c.requires.in_force
 
-pub follow-requires-clause-port : goal.follow-requires-clause-port
-follow-requires-clause-port c = (ports_are_some c.as_slice.result.now c.in-Ok.view (sym c.read.ensures ∙ c.in-Ok.is)).0
+pub plan_for-plan-requires-clause-ports : goal.plan_for-plan-requires-clause-ports
+plan_for-plan-requires-clause-ports c = ports_are_some c.as_slice.result.now c.in-Ok.view (sym c.read.ensures ∙ c.in-Ok.is)
 
-pub returns-in-Ok-route-clause-adds_none : goal.returns-in-Ok-route-clause-adds_none
-returns-in-Ok-route-clause-adds_none c = λ few.
+pub put_through-requires-clause-read : goal.put_through-requires-clause-read
+put_through-requires-clause-read c =
     let is = rw c.as_slice.ensures.value at (sym c.read.ensures ∙ c.in-Ok.is) in
-    c.follow.ensures.adds_none c.args.bounds.now (sym c.requires.external)
-    (pass-few c.args.bounds.now c.args.flows.now.table.held c.args.now c.args.iface c.args.bytes c.in-Ok.view c.in-Ok-route.route is (sym c.route.ensures ∙ c.in-Ok-route.is) few)
+    subst (λ (r : Result View Fault). IsOkAnd r (λ (v : View). 2 ≤ v.ttl)) (sym is) (routed_is_on_route c.args.bounds.now c.args.iface c.in-Ok.view c.in-Ok-route.route (sym c.route.ensures ∙ c.in-Ok-route.is)).0
+
+pub put_through-requires-clause-planned : goal.put_through-requires-clause-planned
+put_through-requires-clause-planned c = (_, c.plan_for-plan.ensures c.args.in_force.now.text)

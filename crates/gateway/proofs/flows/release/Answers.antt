@@ -2,8 +2,8 @@ use Rattle.std.proofs.Common.{◌≡◌, false, sym, ◌∙◌, arith}
 use Rattle.std.proofs.lemmas.Bool.{not-true, not-false}
 use Rattle.packet.specs.Same.{same_endpoint}
 use Rattle.mappings.proofs.Times.{one_at-itself}
-use Rattle.gateway.specs.Tied.{pair_of}
-use Rattle.gateway.proofs.Tally.{weight-translated, weight-plain}
+use Rattle.hairpin.specs.Tallies.{pair_of}
+use Rattle.hairpin.proofs.Tally.{weight-translated, weight-plain}
 use Rattle.gateway.proofs.flows.release.Goals as goal
 
 pub release-requires : goal.release-requires

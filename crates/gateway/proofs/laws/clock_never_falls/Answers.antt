@@ -4,4 +4,4 @@ use Rattle.gateway.proofs.Soundness.{later-above}
 use Rattle.gateway.proofs.laws.clock_never_falls.Goals as goal
 
 pub returns : goal.returns
-returns c = λ config s event is_one sound. subst (λ n. s.clock ≤ n) (sym (step-clock config is_one s event sound)) (later-above s.clock event.moment)
+returns c = λ config s judged is_one sound. subst (λ n. s.clock ≤ n) (sym (step-clock config is_one s judged sound)) (later-above s.clock judged.moment)

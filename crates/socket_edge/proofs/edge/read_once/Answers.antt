@@ -1,9 +1,10 @@
-use Rattle.std.proofs.Common.{◌≡◌, ◌≢◌, List, [], ℕ, ◌-◌, take, length, arith, sym, ap, ◌∙◌, Option}
+use Rattle.std.proofs.Common.{◌≡◌, ◌≢◌, List, [], ◌++◌, ℕ, ◌-◌, take, length, arith, sym, ap, ◌∙◌, Option}
 use Rattle.std.proofs.lemmas.Grind.{common_steps}
 use Rattle.std.proofs.lemmas.List.{nil_from_length}
 use Rattle.std.specs.Io.KnownBytes.{Consumes}
-use Rattle.socket_edge.specs.Framing.{Rest}
+use Rattle.socket_edge.specs.Framing.{Rest, framed}
 use Rattle.socket_edge.proofs.Streams.{Consumes-keeps, Appends-nil}
+use Rattle.socket_edge.proofs.Answers.{Begun-nothing}
 use Rattle.socket_edge.proofs.Runs.{nothing, nothing_stops, nothing_counts}
 use Rattle.socket_edge.proofs.edge.read_once.Goals as goal
 
@@ -52,3 +53,13 @@ returns-then-n-eq0-clause-turned g c =
       Appends-nil (g.W.Write.contents c.args.writer.now),
       (c.args.pending.now.items, nothing_stops c.args.pending.now.items c.requires.cut, some, nothing c.args.gateway.now c.args.pending.now.items c.requires.cut, at_end),
     )
+
+pub returns-in-Err-extend_from_slice-clause-turned :
+    goal.returns-in-Err-extend_from_slice-clause-turned
+returns-in-Err-extend_from_slice-clause-turned g c = (
+  take c.in-Ok.n c.read.new.buf,
+  [],
+  c.in-Ok.ensures.bytes.0,
+  Appends-nil (g.W.Write.contents c.args.writer.now),
+  ((λ e. absurd cc), Begun-nothing c.args.gateway.now (framed (c.args.pending.now.items ++ take c.in-Ok.n c.read.new.buf)).events),
+)

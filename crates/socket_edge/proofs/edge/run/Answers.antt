@@ -1,8 +1,10 @@
 use Rattle.std.proofs.Common.{◌≡◌, ◌+◌, ◌-◌, ◌<◌, ◌≤◌, [], ◌++◌, List, ℕ, length, take, drop, arith, subst, ◌∙◌}
 use Rattle.std.specs.Io.KnownBytes.{IsAtEnd}
 use Rattle.std.proofs.lemmas.List.{take_at}
+use Rattle.socket_edge.specs.Framing.{framed}
 use Rattle.socket_edge.specs.Running.{Served, Done}
 use Rattle.socket_edge.proofs.Streams.{Appends-then, Consumes-then, Appends-nil, Consumes-nil}
+use Rattle.socket_edge.proofs.Answers.{Begun-nothing}
 use Rattle.socket_edge.proofs.Runs.{never_held_full, Served-first, Served-then, Ends-then, Done-then, Served-answered, count_below}
 use Rattle.socket_edge.proofs.edge.run.Goals as goal
 
@@ -74,3 +76,12 @@ loop-preserved g c =
 
 pub returns : goal.returns
 returns g c = record { ran = (c.loop.invariant.0, c.loop.invariant.1, c.loop.invariant.2, c.loop.invariant.3, Served-answered c.args.gateway.now c.loop.gateway c.loop.invariant.0 c.loop.pending.items c.loop.invariant.1 c.loop.count c.loop.invariant.4); not_held_full = λ h. absurd cc }
+
+pub returns-in-Err-clause-ran : goal.returns-in-Err-clause-ran
+returns-in-Err-clause-ran g c = (
+  [],
+  [],
+  Consumes-nil (g.R.Read.remaining c.args.reader.now),
+  Appends-nil (g.W.Write.contents c.args.writer.now),
+  ((λ e. absurd cc), Begun-nothing c.args.gateway.now (framed []).events),
+)

@@ -1,6 +1,6 @@
 use Rattle.std.proofs.Common.{◌≡◌, Some, None, sym, ◌∙◌, ap, arith}
 use Rattle.sessions.specs.Table.{at}
-use Rattle.gateway.specs.Tied.{weight}
+use Rattle.hairpin.specs.Tallies.{weight}
 use Rattle.gateway.proofs.Updated.{Tied-update, Tied-at}
 use Rattle.gateway.proofs.flows.Flows.end.Goals as goal
 

@@ -1,7 +1,7 @@
 use Rattle.std.proofs.Common.{[], ap, sym, ◌∙◌}
 use Rattle.std.specs.Option.{option_map}
 use Rattle.timers.specs.Laws.{idle_of}
-use Rattle.gateway.proofs.Tally.{tally-same}
+use Rattle.hairpin.proofs.Tally.{tally-same}
 use Rattle.gateway.proofs.flows.Flows.new.Goals as goal
 
 pub invariant_of-result : goal.invariant_of-result

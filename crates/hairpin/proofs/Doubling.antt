@@ -1,0 +1,370 @@
+-- Both sessions of a packet that hairpins: what joins the sessions, and what is found among them then.
+use Rattle.std.proofs.Common.{◌≡◌, ℕ, ◌+◌, ◌<◌, ◌≤◌, List, [], ◌∷◌, length, Option, Some, None, is_some, Result, Ok, Err, Bool, true, false, cond, not, nat_lt, if◌then◌else◌, refl, sym, ap, ◌∙◌, subst, inl, inr, arith}
+use Rattle.std.specs.List.{filter}
+use Rattle.std.specs.Option.{option_map}
+use Rattle.std.proofs.lemmas.Bool.{cases_Bool, cases_lt, false≢true, false_from_ne_true, lt-ltb, not-true}
+use Rattle.std.proofs.lemmas.Option.{none-some, same_Some}
+use Rattle.packet.specs.Config.{Config, is_config, is_inside}
+use Rattle.packet.specs.Same.{same_endpoint}
+use Rattle.packet.specs.declared.endpoint.Endpoint.{Endpoint}
+use Rattle.packet.specs.declared.endpoint.Flags.{Flags}
+use Rattle.packet.specs.declared.endpoint.Iface.TheVariants.{Lan}
+use Rattle.packet.specs.declared.view.View.{View}
+use Rattle.portpick.specs.Choice.{port_choice}
+use Rattle.rulesyntax.specs.declared.tree.Spelled.{Spelled}
+use Rattle.sessions.specs.Life.{restarts, shown}
+use Rattle.sessions.specs.Listing.{In, Rises, below, find, has_inside, has_outside, insert, put, same_flow}
+use Rattle.sessions.specs.Table.{Clash as Clashing, restarted, seen}
+use Rattle.sessions.specs.declared.session.Opener.{Opener}
+use Rattle.sessions.specs.declared.session.Opener.TheVariants.{Inside, Remote}
+use Rattle.sessions.specs.declared.session.Session.{Session}
+use Rattle.sessions.proofs.Held.{SameKeys}
+use Rattle.sessions.proofs.Puts.{flow-keys, has_inside-from, has_inside-true, keys-flow, length-insert}
+use Rattle.sessions.proofs.Sets.{In-filter, Rises-filter, Rises-insert, below-itself, below-keys, insert-In}
+use Rattle.verdict.specs.Hooks.{forward_verdict, prerouting_verdict}
+use Rattle.verdict.specs.declared.facts.State.TheVariants.{New}
+use Rattle.verdict.specs.declared.hook.Filtering.{Filtering}
+use Rattle.verdict.specs.declared.hook.Filtering.TheVariants as filtering
+use Rattle.verdict.specs.declared.hook.Destination.{Destination}
+use Rattle.verdict.specs.declared.hook.Destination.TheVariants as destination
+use Rattle.hairpin.specs.Legs.{Passage, begun_second, clashes, counted, facts_of, first_by, first_state, forwarded, hairpin, inside_by_rules, inside_far, is_taken, maps_inside, maps_outside, needs_session, new_session, or_no_mapping, or_no_port, outside_near, passed_by, second, second_by, then_with, through, unless_dropped}
+use Rattle.hairpin.specs.Sound.{AreSound, KeepBounds}
+use Rattle.hairpin.specs.Translations.{endpoint}
+use Rattle.hairpin.specs.declared.cause.Cause.{Cause}
+use Rattle.hairpin.specs.declared.cause.Cause.TheVariants.{Clash, NoMapping, NoPort, NoSession, Rule, SelfMapped, TableFull}
+use Rattle.hairpin.proofs.Apart.{choice-free, chosen_apart, find-In, mapped-some, mapped_apart, maps-parts, outside_away}
+use Rattle.hairpin.proofs.Clashing.{no_clash}
+use Rattle.hairpin.proofs.Soundness.{IsFine, Joins, filter-all, filter-fewer, passed-joins, put-sound, two-join}
+
+-- ---- a search of the set with one session put in
+
+pub not_apart : (b : Bool) → not b ≡ false → b ≡ true
+not_apart true h = refl
+not_apart false h = sym h
+
+find-insert : (p : Session → Bool) (t : Session) (xs : List Session) → p t ≡ false → find p (insert t xs) ≡ find p xs
+find-insert p t [] h = ap (λ b. cond b (Some t) None) h
+find-insert p t (x ∷ xs) h = elim (cases_Bool (below t x)) [
+  | inl is ↦ ap (λ b. find p (cond b (t ∷ x ∷ xs) (x ∷ insert t xs))) is ∙ ap (λ b. cond b (Some t) (find p (x ∷ xs))) h
+  | inr isnt ↦ ap (λ b. find p (cond b (t ∷ x ∷ xs) (x ∷ insert t xs))) isnt ∙ ap (λ o. cond (p x) (Some x) o) (find-insert p t xs h)
+]
+
+find-filter : (p q : Session → Bool) (xs : List Session) → ((s : Session) → In s xs → q s ≡ false → p s ≡ false) → find p (filter q xs) ≡ find p xs
+find-filter p q [] h = refl
+find-filter p q (x ∷ xs) h = elim (cases_Bool (q x)) [
+  | inl is ↦ ap (λ b. find p (cond b (x ∷ filter q xs) (filter q xs))) is ∙ ap (λ o. cond (p x) (Some x) o) (find-filter p q xs (λ s i. h s (inr i)))
+  | inr isnt ↦ ap (λ b. find p (cond b (x ∷ filter q xs) (filter q xs))) isnt ∙ find-filter p q xs (λ s i. h s (inr i)) ∙ sym (ap (λ b. cond b (Some x) (find p xs)) (h x (inl refl) isnt))
+]
+
+-- a search finds what it found, where neither the session nor those that it replaces pass
+pub find-put : (p : Session → Bool) (t : Session) (xs : List Session) → p t ≡ false → ((s : Session) → In s xs → same_flow t s ≡ true → p s ≡ false) → find p (put t xs) ≡ find p xs
+find-put p t xs own others = find-insert p t (filter (λ u. not (same_flow t u)) xs) own
+    ∙ find-filter p (λ u. not (same_flow t u)) xs (λ s in_s h. others s in_s (not_apart (same_flow t s) h))
+
+-- ---- how many sessions there are
+
+filter-one : (t : Session) (xs : List Session) → Rises xs → length xs ≤ length (filter (λ u. not (same_flow t u)) xs) + 1
+filter-one t [] rises = omega arith
+filter-one t (x ∷ xs) rises = elim (cases_Bool (same_flow t x)) [
+  | inl same ↦
+      let all : filter (λ u. not (same_flow t u)) xs ≡ xs = filter-all (λ u. not (same_flow t u)) xs (λ u in_u.
+      ap not (false_from_ne_true _ (λ h. below-itself x (below-keys x u x x refl (flow-keys t x same ∙ sym (flow-keys t u h)) ∙ rises.0 u in_u)))) in
+      let count : length (filter (λ u. not (same_flow t u)) xs) ≡ length xs = ap (λ (ys : List Session). length ys) all in
+      subst (λ b. length (x ∷ xs) ≤ length (cond (not b) (x ∷ filter (λ u. not (same_flow t u)) xs) (filter (λ u. not (same_flow t u)) xs)) + 1) (sym same) (omega arith)
+  | inr other ↦
+      let rest = filter-one t xs rises.1 in
+      subst (λ b. length (x ∷ xs) ≤ length (cond (not b) (x ∷ filter (λ u. not (same_flow t u)) xs) (filter (λ u. not (same_flow t u)) xs)) + 1) (sym other) (omega arith)
+]
+
+pub length-put_old : (t s : Session) (xs : List Session) → Rises xs → In s xs → same_flow t s ≡ true → length (put t xs) ≡ length xs
+length-put_old t s xs rises in_s same = omega (arith, length-insert t (filter (λ u. not (same_flow t u)) xs), filter-one t xs rises, filter-fewer (λ u. not (same_flow t u)) xs s in_s (ap not same))
+
+pub length-put_new : (t : Session) (xs : List Session) → ((u : Session) → In u xs → same_flow t u ≡ false) → length (put t xs) ≡ length xs + 1
+length-put_new t xs other = ap (λ (ys : List Session). length (insert t ys)) (filter-all (λ u. not (same_flow t u)) xs (λ u in_u. ap not (other u in_u))) ∙ length-insert t xs
+
+pub length-put_most : (t : Session) (xs : List Session) → Rises xs → length xs ≤ length (put t xs)
+length-put_most t xs rises = omega (arith, length-insert t (filter (λ u. not (same_flow t u)) xs), filter-one t xs rises)
+
+pub Rises-put : (t : Session) (xs : List Session) → Rises xs → Rises (put t xs)
+Rises-put t xs rises = Rises-insert t (filter (λ u. not (same_flow t u)) xs)
+    (λ u in_rest e. let kept = In-filter (λ v. not (same_flow t v)) xs u in_rest in false≢true (sym (not-true _ kept.1) ∙ keys-flow t u (sym e)))
+    (Rises-filter (λ u. not (same_flow t u)) xs rises)
+
+pub put-In : (t : Session) (xs : List Session) → In t (put t xs)
+put-In t xs = insert-In t (filter (λ u. not (same_flow t u)) xs) t (inl refl)
+
+-- ---- a session that goes on
+
+pub passed-keys : (s : Session) (sender : Opener) (flags : Flags) (now : ℕ) → SameKeys s (passed_by s sender flags now)
+passed-keys s sender flags now = elim (cases_Bool (restarts s flags)) [
+  | inl anew ↦ subst (λ b. SameKeys s (if b then restarted s sender now else seen s (shown s.proto s.opener sender flags) now)) (sym anew)
+      (record { proto = refl; inside = refl; outside = refl; remote = refl })
+  | inr on ↦ subst (λ b. SameKeys s (if b then restarted s sender now else seen s (shown s.proto s.opener sender flags) now)) (sym on)
+      (record { proto = refl; inside = refl; outside = refl; remote = refl })
+]
+
+-- it has the flow of the one that it was
+pub passed-flow : (s : Session) (sender : Opener) (flags : Flags) (now : ℕ) → same_flow (passed_by s sender flags now) s ≡ true
+passed-flow s sender flags now =
+    let keys = passed-keys s sender flags now in
+    let t = passed_by s sender flags now in
+    has_inside-from t.proto t.inside t.remote s (keys.proto, keys.inside, keys.remote)
+
+-- ---- what a result tells
+
+ok_or : {A : Type 0} → A → Result A Cause → A
+ok_or a (Ok x) = x
+ok_or a (Err cause) = a
+
+pub same_Ok : {A : Type 0} (a b : A) → ◌≡◌ {A = Result A Cause} (Ok a) (Ok b) → a ≡ b
+unfolding ok_or
+same_Ok a b e = ap (ok_or a) e
+
+is_good : {A : Type 0} → Result A Cause → Bool
+is_good (Ok x) = true
+is_good (Err cause) = false
+
+pub err-ok : {A : Type 0} (cause : Cause) (a : A) → ◌≡◌ {A = Result A Cause} (Err cause) (Ok a) → ⊥
+unfolding is_good
+err-ok cause a e = false≢true (ap is_good e)
+
+made : {A B : Type 0} (b : Bool) (cause : Cause) (r : Result A Cause) (next : A → Result B Cause) (y : B) → (if b then Err cause else then_with r next) ≡ Ok y
+    → (a : A) × (r ≡ Ok a) × (next a ≡ Ok y)
+made true cause r next y e = absurd (err-ok cause y e)
+made false cause (Err other) next y e = absurd (err-ok other y e)
+made false cause (Ok a) next y e = (a, refl, e)
+
+unless : {A : Type 0} (b : Bool) (cause : Cause) (x y : A) → (if b then Err cause else Ok x) ≡ Ok y → (b ≡ false) × (x ≡ y)
+unless true cause x y e = absurd (err-ok cause y e)
+unless false cause x y e = (refl, same_Ok x y e)
+
+some-port : (o : Option Endpoint) (e : Endpoint) → or_no_port o ≡ Ok e → o ≡ Some e
+some-port (Some x) e h = ap Some (same_Ok x e h)
+some-port None e h = absurd (err-ok NoPort e h)
+
+some-mapping : (o : Option Session) (e : Endpoint) → or_no_mapping o ≡ Ok e → (m : Session) × (o ≡ Some m) × (m.inside ≡ e)
+some-mapping (Some m) e h = (m, refl, same_Ok m.inside e h)
+some-mapping None e h = absurd (err-ok NoMapping e h)
+
+pub gone : (o : Option Session) → is_some o ≡ false → o ≡ None
+gone (Some s) h = absurd (false≢true (sym h))
+gone None h = refl
+
+-- how many a leg adds
+abbrev pub fresh : Option Session → ℕ
+fresh None = 1
+fresh (Some s) = 0
+
+-- ---- the first leg
+
+-- what is known of the outside endpoint of a new session
+pub record Opened (config : Config) (sessions : List Session) (new : Session) : Type 0 where
+  pub apart : (s : Session) → In s sessions → ¬ Clashing new s
+  pub address : new.outside.addr ≡ config.external
+  pub port : 0 < new.outside.port
+
+-- the first session, where this one of its flow was found
+pub record IsFirst (config : Config) (sessions : List Session) (view : View) (now : ℕ) (found : Option Session) (first : Session) : Type 0 where
+  pub remote : first.remote ≡ view.dst
+  pub keeps : (u : Session) → In u sessions → same_flow first u ≡ true → u.outside ≡ first.outside
+  pub many : length (put first sessions) ≡ length sessions + fresh found
+  pub joins : length (put first sessions) ≤ 65536 → Joins config sessions now first
+  pub begins : found ≡ None → Opened config sessions first × (first.seen ≡ 0) × (first.last ≡ now)
+  pub goes : (s : Session) → found ≡ Some s → passed_by s Inside view.flags now ≡ first
+
+module _ (config : Config) (rules : Spelled) (sessions : List Session) (now : ℕ) (view : View) (is_one : is_config config ≡ true) (sound : AreSound config sessions)
+    (inside : is_inside config view.src.addr ≡ true) (at : view.dst.addr ≡ config.external) (src_port : 0 < view.src.port) (dst_port : 0 < view.dst.port) where
+  abbrev near_of : Endpoint → Session
+  near_of outside = new_session config rules sessions now view Inside view.src outside view.dst
+
+  opened_by : (found : Option Session) → find (maps_inside view.proto view.src) sessions ≡ found → (outside : Endpoint) → outside_near config rules sessions now view found ≡ Ok outside
+      → find (has_inside view.proto view.src view.dst) sessions ≡ None → Opened config sessions (near_of outside)
+  opened_by (Some m) e outside h none =
+      let new = near_of outside in
+      let is = find-In (maps_inside view.proto view.src) sessions m e in
+      let parts = maps-parts view.proto view.src m is.1 in
+      let placed = sound.placed m is.0 in
+      let out : m.outside ≡ outside = same_Ok m.outside outside h in
+      let address : m.outside.addr ≡ config.external = elim placed.outside [ inl same ↦ absurd (parts.0 (sym same)) | inr there ↦ there ] in
+      record {
+        apart = λ s in_s.
+            mapped_apart sessions sound.apart new none s in_s m is.0 parts.0 parts.1 parts.2 out
+            (λ same. outside_away config is_one (subst (λ a. is_inside config a ≡ true) (ap (λ (x : Endpoint). x.addr) same ∙ address) (sound.placed s in_s).inside));
+        address = ap (λ (x : Endpoint). x.addr) (sym out) ∙ address;
+        port = subst (λ (x : Endpoint). 0 < x.port) out placed.outside_port;
+      }
+  opened_by None e outside h none =
+      let addr = view.dst.addr in
+      let new = near_of outside in
+      let some = some-port (option_map (endpoint addr) (port_choice (is_taken sessions view.proto addr) view.src.port)) outside h in
+      let chosen = mapped-some (endpoint addr) (port_choice (is_taken sessions view.proto addr) view.src.port) outside some in
+      let free = choice-free (is_taken sessions view.proto addr) view.src.port chosen.0 src_port chosen.1 in
+      record {
+        apart = λ s in_s. chosen_apart sessions sound.apart new none s in_s e (subst (λ (x : Endpoint). is_taken sessions view.proto x.addr x.port ≡ false) chosen.2 free.0);
+        address = ap (λ (x : Endpoint). x.addr) (sym chosen.2) ∙ at;
+        port = subst (λ (x : Endpoint). 0 < x.port) chosen.2 free.1;
+      }
+
+  new-first : (outside : Endpoint) → find (has_inside view.proto view.src view.dst) sessions ≡ None → Opened config sessions (near_of outside) → IsFirst config sessions view now None (near_of outside)
+  new-first outside none opened =
+      let t = near_of outside in
+      let other : (u : Session) → In u sessions → same_flow t u ≡ false = λ u in_u. false_from_ne_true _ (λ h. opened.apart u in_u (inl (has_inside-true t.proto t.inside t.remote u h))) in
+      record {
+        remote = refl;
+        keeps = λ u in_u h. absurd (false≢true (sym (other u in_u) ∙ h));
+        many = length-put_new t sessions other;
+        joins = λ few. record {
+          sound = put-sound config sessions sound t (λ s in_s away. opened.apart s in_s) few
+              (record { inside = inside; outside = inr opened.address; inside_port = src_port; outside_port = opened.port; remote_port = dst_port })
+              (omega arith);
+          last = refl;
+          keeps = λ u in_u h. absurd (false≢true (sym (other u in_u) ∙ h));
+        };
+        begins = λ e. (opened, refl, refl);
+        goes = λ s e. absurd (none-some s e);
+      }
+
+  known-first : (s : Session) → find (has_inside view.proto view.src view.dst) sessions ≡ Some s → IsFirst config sessions view now (Some s) (passed_by s Inside view.flags now)
+  known-first s e =
+      let t = passed_by s Inside view.flags now in
+      let is = find-In (has_inside view.proto view.src view.dst) sessions s e in
+      let has = has_inside-true view.proto view.src view.dst s is.1 in
+      let joins = passed-joins config sessions sound s Inside view.flags now is.0 in
+      let count : length (put t sessions) ≡ length sessions + 0 = omega (arith, length-put_old t s sessions sound.rises is.0 (passed-flow s Inside view.flags now)) in
+      record {
+        remote = sym (passed-keys s Inside view.flags now).remote ∙ has.2;
+        keeps = joins.keeps;
+        many = count;
+        joins = λ few. joins;
+        begins = λ none. absurd (none-some s (sym none));
+        goes = λ u some. ap (λ (v : Session). passed_by v Inside view.flags now) (same_Some u s (sym some));
+      }
+
+  pub first-is : (found : Option Session) → find (has_inside view.proto view.src view.dst) sessions ≡ found → (first : Session) → first_by config rules sessions now view found ≡ Ok first
+      → IsFirst config sessions view now found first
+  first-is (Some s) e first h = subst (IsFirst config sessions view now (Some s)) (same_Ok _ _ h) (known-first s e)
+  first-is None e first h =
+      let new = made (needs_session view) NoSession (outside_near config rules sessions now view (find (maps_inside view.proto view.src) sessions)) (λ outside. Ok (near_of outside)) first h in
+      subst (IsFirst config sessions view now None) (same_Ok _ _ new.2)
+      (new-first new.0 e (opened_by (find (maps_inside view.proto view.src) sessions) refl new.0 new.1 e))
+
+-- ---- the second leg
+
+-- the second session, where this one of its flow was found
+pub record IsSecond (config : Config) (rules : Spelled) (held : List Session) (view : View) (now : ℕ) (found : Option Session) (t : Session) : Type 0 where
+  pub many : length (put t held) ≡ length held + fresh found
+  pub joins : AreSound config held → KeepBounds config rules → length (put t held) ≤ 65536 → Joins config held now t
+  pub begins : found ≡ None → ((s : Session) → In s held → ¬ Clashing t s) × (t.seen ≡ 0) × (t.last ≡ now) × (t.outside ≡ view.dst)
+  pub goes : (s : Session) → found ≡ Some s → passed_by s Remote view.flags now ≡ t
+
+module _ (config : Config) (rules : Spelled) (sessions : List Session) (now : ℕ) (view : View) (at : view.dst.addr ≡ config.external) (dst_port : 0 < view.dst.port)
+    (first : Session) (held : List Session) (rises : Rises held) (in_first : In first held) where
+  abbrev far_of : Endpoint → Session
+  far_of inside = new_session config rules sessions now view Remote inside view.dst first.outside
+
+  abbrev decided : Destination
+  decided = prerouting_verdict config (facts_of config rules sessions now view Lan None view.src view.dst New) rules
+
+  -- the inside endpoint of a new session is inside
+  far-placed : AreSound config held → KeepBounds config rules → (inside : Endpoint) → (d : Destination) → decided ≡ d
+      → inside_by_rules config rules sessions now view (find (maps_outside view.proto view.dst) held) d ≡ Ok inside → (is_inside config inside.addr ≡ true) × (0 < inside.port)
+  far-placed sound bounds inside destination.None e h =
+      let m = some-mapping (find (maps_outside view.proto view.dst) held) inside h in
+      let is = find-In (maps_outside view.proto view.dst) held m.0 m.1 in
+      let placed = sound.placed m.0 is.0 in
+      subst (λ (x : Endpoint). (is_inside config x.addr ≡ true) × (0 < x.port)) m.2 (placed.inside, placed.inside_port)
+  far-placed sound bounds inside (destination.To x) e h =
+      let facts = facts_of config rules sessions now view Lan None view.src view.dst New in
+      subst (λ (y : Endpoint). (is_inside config y.addr ≡ true) × (0 < y.port)) (same_Ok x inside h) (bounds.to facts x e, bounds.port facts x e dst_port)
+  far-placed sound bounds inside destination.Drop e h = absurd (err-ok Rule inside h)
+
+  new-second : (inside : Endpoint) → inside_far config rules sessions now view first held ≡ Ok inside → find (clashes (far_of inside)) held ≡ None → IsSecond config rules held view now None (far_of inside)
+  new-second inside way none =
+      let t = far_of inside in
+      let apart = no_clash t held none in
+      let other : (u : Session) → In u held → same_flow t u ≡ false = λ u in_u. false_from_ne_true _ (λ h. apart u in_u (inl (has_inside-true t.proto t.inside t.remote u h))) in
+      record {
+        many = length-put_new t held other;
+        joins = λ sound bounds few.
+            let placed = far-placed sound bounds inside decided refl way in
+            record {
+              sound = put-sound config held sound t (λ s in_s away. apart s in_s) few
+                  (record { inside = placed.0; outside = inr at; inside_port = placed.1; outside_port = dst_port; remote_port = (sound.placed first in_first).outside_port })
+                  (omega arith);
+              last = refl;
+              keeps = λ u in_u h. absurd (false≢true (sym (other u in_u) ∙ h));
+            };
+        begins = λ e. (apart, refl, refl, refl);
+        goes = λ s e. absurd (none-some s e);
+      }
+
+  known-second : (s : Session) → find (has_outside view.proto view.dst first.outside) held ≡ Some s → IsSecond config rules held view now (Some s) (passed_by s Remote view.flags now)
+  known-second s e =
+      let t = passed_by s Remote view.flags now in
+      let is = find-In (has_outside view.proto view.dst first.outside) held s e in
+      let count : length (put t held) ≡ length held + 0 = omega (arith, length-put_old t s held rises is.0 (passed-flow s Remote view.flags now)) in
+      record {
+        many = count;
+        joins = λ sound bounds few. passed-joins config held sound s Remote view.flags now is.0;
+        begins = λ none. absurd (none-some s (sym none));
+        goes = λ u some. ap (λ (v : Session). passed_by v Remote view.flags now) (same_Some u s (sym some));
+      }
+
+  pub second-is : (found : Option Session) → find (has_outside view.proto view.dst first.outside) held ≡ found → (t : Session) → second_by config rules sessions now view first held found ≡ Ok t
+      → IsSecond config rules held view now found t
+  second-is (Some s) e t h = subst (IsSecond config rules held view now (Some s)) (same_Ok _ _ h) (known-second s e)
+  second-is None e t h =
+      let new = made (needs_session view) NoSession (inside_far config rules sessions now view first held) (begun_second config rules sessions now view first held) t h in
+      let free = unless (is_some (find (clashes (far_of new.0)) held)) Clash (far_of new.0) t new.2 in
+      subst (IsSecond config rules held view now None) free.1 (new-second new.0 new.1 (gone (find (clashes (far_of new.0)) held) free.0))
+
+-- ---- what both legs come to
+
+module _ (config : Config) (rules : Spelled) (sessions : List Session) (now : ℕ) (view : View) (is_one : is_config config ≡ true) (sound : AreSound config sessions) (bounds : KeepBounds config rules)
+    (inside : is_inside config view.src.addr ≡ true) (at : view.dst.addr ≡ config.external) (src_port : 0 < view.src.port) (dst_port : 0 < view.dst.port) where
+  abbrev found_near : Option Session
+  found_near = find (has_inside view.proto view.src view.dst) sessions
+
+  abbrev found_far : Session → Option Session
+  found_far first = find (has_outside view.proto view.dst first.outside) (put first sessions)
+
+  abbrev behind_both : Session → Session → Result Passage Cause
+  behind_both first t = forwarded config rules sessions now view Lan Lan view.src t.inside (first_state config rules sessions now view found_near) (counted config rules sessions now view (through first t))
+
+  fine-counted : (first t : Session) → IsFirst config sessions view now found_near first → IsSecond config rules (put first sessions) view now (found_far first) t
+      → (b : Bool) → nat_lt 65536 (length (put t (put first sessions))) ≡ b → IsFine config sessions now (if b then Err TableFull else Ok (through first t))
+  fine-counted first t f s true e = tt
+  fine-counted first t f s false e = elim (cases_lt 65536 (length (put t (put first sessions)))) [
+    | inl many ↦ absurd (false≢true (sym e ∙ lt-ltb 65536 (length (put t (put first sessions))) many))
+    | inr few ↦
+        let joins = f.joins (omega (arith, few, s.many)) in
+        two-join config sessions now first t joins (s.joins joins.sound bounds (omega (arith, few)))
+  ]
+
+  fine-forwarded : (d : Filtering) (end : Result Passage Cause) → IsFine config sessions now end → IsFine config sessions now (unless_dropped d end)
+  fine-forwarded filtering.Drop end fine = tt
+  fine-forwarded filtering.Pass end fine = fine
+
+  fine-second : (first : Session) → IsFirst config sessions view now found_near first → (r : Result Session Cause) → second_by config rules sessions now view first (put first sessions) (found_far first) ≡ r
+      → IsFine config sessions now (then_with r (behind_both first))
+  fine-second first f (Err cause) e = tt
+  fine-second first f (Ok t) e =
+      let s = second-is config rules sessions now view at dst_port first (put first sessions) (Rises-put first sessions sound.rises) (put-In first sessions) (found_far first) refl t e in
+      fine-forwarded (forward_verdict config (facts_of config rules sessions now view Lan (Some Lan) view.src t.inside (first_state config rules sessions now view found_near)) rules)
+      (counted config rules sessions now view (through first t)) (fine-counted first t f s (nat_lt 65536 (length (put t (put first sessions)))) refl)
+
+  fine-other : (first : Session) → IsFirst config sessions view now found_near first → (b : Bool)
+      → IsFine config sessions now (then_with (if b then Err SelfMapped else second_by config rules sessions now view first (put first sessions) (found_far first)) (behind_both first))
+  fine-other first f true = tt
+  fine-other first f false = fine-second first f (second_by config rules sessions now view first (put first sessions) (found_far first)) refl
+
+  fine-first : (r : Result Session Cause) → first_by config rules sessions now view found_near ≡ r
+      → IsFine config sessions now (then_with r (λ first. then_with (second config rules sessions now view first (put first sessions)) (behind_both first)))
+  fine-first (Err cause) e = tt
+  fine-first (Ok first) e =
+      let f = first-is config rules sessions now view is_one sound inside at src_port dst_port found_near refl first e in
+      fine-other first f (same_endpoint first.outside view.dst)
+
+  -- a packet that hairpins leaves the sessions sound
+  pub fine-hairpin : IsFine config sessions now (hairpin config rules sessions now view)
+  fine-hairpin = fine-first (first_by config rules sessions now view found_near) refl

@@ -1,0 +1,238 @@
+-- What a packet from a remote endpoint comes to, from what is looked up, and that it may join the sessions.
+use Rattle.std.proofs.Common.{◌≡◌, ◌≢◌, ◌⊎◌, ℕ, ◌+◌, ◌<◌, ◌≤◌, List, [], ◌∷◌, length, Option, Some, None, Result, Ok, Err, count_by, is_some, Bool, true, false, not, nat_lt, if◌then◌else◌, refl, sym, ap, ◌∙◌, subst, inl, inr, arith}
+use Rattle.std.proofs.lemmas.Bool.{cases_Bool, false≢true, false_from_ne_true, le-ltb, lt-ltb, ltb-false}
+use Rattle.packet.specs.Config.{Config, is_config, is_inside}
+use Rattle.packet.specs.declared.endpoint.Endpoint.{Endpoint}
+use Rattle.packet.specs.declared.endpoint.Iface.TheVariants.{Lan, Wan}
+use Rattle.packet.specs.declared.view.View.{View}
+use Rattle.rulesyntax.specs.declared.tree.Spelled.{Spelled}
+use Rattle.sessions.specs.Listing.{find, has_outside, listing, put, same_flow}
+use Rattle.sessions.specs.Table.{AnyClash}
+use Rattle.sessions.specs.declared.session.Change.TheVariants.{Begin}
+use Rattle.sessions.specs.declared.session.Opener.TheVariants.{Remote}
+use Rattle.sessions.specs.declared.session.Session.{Session}
+use Rattle.sessions.proofs.Puts.{has_inside-true, length-insert, length-listing}
+use Rattle.verdict.specs.Hooks.{forward_verdict, prerouting_verdict}
+use Rattle.verdict.specs.declared.facts.State.TheVariants.{New}
+use Rattle.verdict.specs.declared.hook.Destination.{Destination}
+use Rattle.verdict.specs.declared.hook.Destination.TheVariants as destination
+use Rattle.verdict.specs.declared.hook.Filtering.{Filtering}
+use Rattle.verdict.specs.declared.hook.Filtering.TheVariants as filtering
+use Rattle.hairpin.specs.Legs.{Passage, begun_in, clashes, counted, facts_of, forwarded, in_by, in_leg, inside_by_rules, inside_for, inward, maps_outside, needs_session, new_session, or_no_mapping, passed_by, state_of, then_with, unless_dropped}
+use Rattle.hairpin.specs.Plans.{IsPlanOf, MayBegin}
+use Rattle.hairpin.specs.Sound.{AreSound, KeepBounds}
+use Rattle.hairpin.specs.declared.cause.Cause.{Cause}
+use Rattle.hairpin.specs.declared.cause.Cause.TheVariants.{Clash, NoMapping, NoSession, Rule, TableFull}
+use Rattle.hairpin.specs.declared.plan.Plan.{Plan}
+use Rattle.hairpin.proofs.Apart.{apart-from, find-In, some_or_none}
+use Rattle.hairpin.proofs.Clashing.{any_found, no_clash, none_found}
+use Rattle.hairpin.proofs.Soundness.{IsFine, filter-all, one-joins, passed-joins, put-sound}
+
+-- what a result gives, or else this
+given : Endpoint → Result Endpoint Cause → Endpoint
+given e (Ok inside) = inside
+given e (Err cause) = e
+
+is_given : Result Endpoint Cause → Bool
+is_given (Ok inside) = true
+is_given (Err cause) = false
+
+same-inside : (e f : Endpoint) → ◌≡◌ {A = Result Endpoint Cause} (Ok e) (Ok f) → e ≡ f
+unfolding given
+same-inside e f is = ap (given e) is
+
+refused : (cause : Cause) (e : Endpoint) → ◌≡◌ {A = Result Endpoint Cause} (Err cause) (Ok e) → ⊥
+unfolding is_given
+refused cause e is = false≢true (ap is_given is)
+
+-- one that clashes with none is one more
+pub put-more : (t : Session) (sessions : List Session) → find (clashes t) sessions ≡ None → length (put t sessions) ≡ length sessions + 1
+put-more t sessions none =
+    let all = filter-all (λ u. not (same_flow t u)) sessions (λ u in_u. ap not (false_from_ne_true (same_flow t u) (λ h. no_clash t sessions none u in_u (inl (has_inside-true t.proto t.inside t.remote u h))))) in
+    length-insert t _ ∙ ap (λ (us : List Session). length us + 1) all
+
+module _ (config : Config) (rules : Spelled) (sessions : List Session) (now : ℕ) (view : View) where
+  -- the inside endpoint, where no rule translates
+  pub inside-mapped : is_inside config view.dst.addr ≡ false → prerouting_verdict config (facts_of config rules sessions now view Wan None view.src view.dst New) rules ≡ destination.None
+      → (o : Option Session) → find (maps_outside view.proto view.dst) sessions ≡ o → inside_for config rules sessions now view ≡ or_no_mapping o
+  inside-mapped far asked o found =
+      let m = find (maps_outside view.proto view.dst) sessions in
+      let verdict = prerouting_verdict config (facts_of config rules sessions now view Wan None view.src view.dst New) rules in
+      ap (λ b. if b then Ok view.dst else inside_by_rules config rules sessions now view m verdict) far
+      ∙ ap (inside_by_rules config rules sessions now view m) asked
+      ∙ ap or_no_mapping found
+
+  pub inside-near : is_inside config view.dst.addr ≡ true → inside_for config rules sessions now view ≡ Ok view.dst
+  inside-near near =
+      ap (λ b. if b then Ok view.dst else inside_by_rules config rules sessions now view (find (maps_outside view.proto view.dst) sessions)
+      (prerouting_verdict config (facts_of config rules sessions now view Wan None view.src view.dst New) rules)) near
+
+  pub is-near : (inside : Endpoint) → is_inside config view.dst.addr ≡ true → Ok inside ≡ inside_for config rules sessions now view → inside ≡ view.dst
+  is-near inside near is = same-inside inside view.dst (is ∙ inside-near near)
+
+  -- a packet that has no session, and needs none
+  pub in-new : find (has_outside view.proto view.dst view.src) sessions ≡ None → needs_session view ≡ false
+      → (r : Result Endpoint Cause) → inside_for config rules sessions now view ≡ r → in_leg config rules sessions now view ≡ then_with r (begun_in config rules sessions now view)
+  in-new none needs r is =
+      ap (in_by config rules sessions now view) none
+      ∙ ap (λ b. if b then Err NoSession else then_with (inside_for config rules sessions now view) (begun_in config rules sessions now view)) needs
+      ∙ ap (λ way. then_with way (begun_in config rules sessions now view)) is
+
+-- a session that begins to this inside endpoint
+module _ (config : Config) (rules : Spelled) (held : List (Option Session)) (now : ℕ) (view : View) (inside : Endpoint) where
+  abbrev pub begun : Session
+  begun = new_session config rules (listing held) now view Remote inside view.dst view.src
+
+  abbrev pub plan : Plan
+  plan = record { first = Begin begun; second = None; src = view.src; dst = inside; iface = Lan }
+
+  abbrev pub filtered : Filtering
+  filtered = forward_verdict config (facts_of config rules (listing held) now view Wan (Some Lan) view.src inside New) rules
+
+  abbrev pub way : Result Passage Cause
+  way = begun_in config rules (listing held) now view inside
+
+  abbrev pub behind : Result Passage Cause
+  behind = counted config rules (listing held) now view (inward begun)
+
+  pub begun-clash : AnyClash held begun → way ≡ Err Clash
+  begun-clash any = ap (λ b. if b then Err Clash else unless_dropped filtered behind) (any_found held begun any)
+
+  module _ (apart : ¬ AnyClash held begun) where
+    asked : way ≡ unless_dropped filtered behind
+    asked = ap (λ b. if b then Err Clash else unless_dropped filtered behind) (ap is_some (none_found held begun apart))
+
+    pub begun-dropped : filtered ≡ filtering.Drop → way ≡ Err Rule
+    begun-dropped is = asked ∙ ap (λ f. unless_dropped f behind) is
+
+    counts : length (put begun (listing held)) ≡ count_by is_some held + 1
+    counts = put-more begun (listing held) (none_found held begun apart) ∙ ap (λ n. n + 1) (length-listing held)
+
+    pub begun-full : filtered ≡ filtering.Pass → count_by is_some held ≡ 65536 → way ≡ Err TableFull
+    begun-full is full =
+        let many : nat_lt 65536 (length (put begun (listing held))) ≡ true = lt-ltb 65536 (length (put begun (listing held))) (omega (arith, counts, full)) in
+        asked ∙ ap (λ f. unless_dropped f behind) is ∙ ap (λ b. if b then Err TableFull else Ok (inward begun)) many
+
+    pub begun-passes : filtered ≡ filtering.Pass → length (listing held) ≤ 65536 → count_by is_some held ≢ 65536 → way ≡ Ok (inward begun)
+    begun-passes is most few =
+        let same = length-listing held in
+        let below : count_by is_some held < 65536 = omega (arith, same, most, few) in
+        let room : nat_lt 65536 (length (put begun (listing held))) ≡ false = le-ltb 65536 (length (put begun (listing held))) (omega (arith, counts, below)) in
+        asked ∙ ap (λ f. unless_dropped f behind) is ∙ ap (λ b. if b then Err TableFull else Ok (inward begun)) room
+
+    pub begun-plan : count_by is_some held ≢ 65536 → (inside ≡ view.dst) ⊎ ((view.dst.addr ≡ config.external) × (0 < view.dst.port))
+        → IsPlanOf config.external held now plan (inward begun)
+    begun-plan few placed =
+        let may : MayBegin config.external held now begun = record {
+          unseen = refl;
+          last = refl;
+          apart = apart;
+          few = few;
+          placed = λ away. elim placed [ inl same ↦ absurd (apart-from inside view.dst away same) | inr there ↦ there ];
+        } in
+        record { sessions = (begun, (refl, may), refl); src = refl; dst = refl; iface = refl }
+
+-- ---- what the leg comes to may join sessions that are sound
+
+fine-filtered : (config : Config) (sessions : List Session) (now : ℕ) (f : Filtering) (leg : Result Passage Cause) → IsFine config sessions now leg → IsFine config sessions now (unless_dropped f leg)
+fine-filtered config sessions now filtering.Drop leg fine = tt
+fine-filtered config sessions now filtering.Pass leg fine = fine
+
+module _ (config : Config) (rules : Spelled) (sessions : List Session) (now : ℕ) (view : View) (sound : AreSound config sessions) (bounded : KeepBounds config rules)
+    (routed : (is_inside config view.dst.addr ≡ true) ⊎ (view.dst.addr ≡ config.external)) (src_port : 0 < view.src.port) (dst_port : 0 < view.dst.port) where
+  -- an inside endpoint that is found is inside, and the destination stands for it
+  record Found (inside : Endpoint) : Type 0 where
+    near : is_inside config inside.addr ≡ true
+    port : 0 < inside.port
+    at : (inside ≡ view.dst) ⊎ (view.dst.addr ≡ config.external)
+
+  found-by_mapping : view.dst.addr ≡ config.external → (inside : Endpoint) (o : Option Session) → find (maps_outside view.proto view.dst) sessions ≡ o → or_no_mapping o ≡ Ok inside → Found inside
+  found-by_mapping away inside None e is = absurd (refused NoMapping inside is)
+  found-by_mapping away inside (Some m) e is =
+      let same = same-inside m.inside inside is in
+      let placed = sound.placed m (find-In (maps_outside view.proto view.dst) sessions m e).0 in
+      record {
+        near = subst (λ (i : Endpoint). is_inside config i.addr ≡ true) same placed.inside;
+        port = subst (λ (i : Endpoint). 0 < i.port) same placed.inside_port;
+        at = inr away;
+      }
+
+  found-by_rules : view.dst.addr ≡ config.external → (inside : Endpoint) (d : Destination) → prerouting_verdict config (facts_of config rules sessions now view Wan None view.src view.dst New) rules ≡ d
+      → inside_by_rules config rules sessions now view (find (maps_outside view.proto view.dst) sessions) d ≡ Ok inside → Found inside
+  found-by_rules away inside destination.None e is = found-by_mapping away inside (find (maps_outside view.proto view.dst) sessions) refl is
+  found-by_rules away inside (destination.To to) e is =
+      let facts = facts_of config rules sessions now view Wan None view.src view.dst New in
+      let same = same-inside to inside is in
+      record {
+        near = subst (λ (i : Endpoint). is_inside config i.addr ≡ true) same (bounded.to facts to e);
+        port = subst (λ (i : Endpoint). 0 < i.port) same (bounded.port facts to e dst_port);
+        at = inr away;
+      }
+  found-by_rules away inside destination.Drop e is = absurd (refused Rule inside is)
+
+  found : (inside : Endpoint) → inside_for config rules sessions now view ≡ Ok inside → Found inside
+  found inside is = elim (cases_Bool (is_inside config view.dst.addr)) [
+    | inl near ↦
+        let same = is-near config rules sessions now view inside near (sym is) in
+        record {
+          near = subst (λ (i : Endpoint). is_inside config i.addr ≡ true) (sym same) near;
+          port = subst (λ (i : Endpoint). 0 < i.port) (sym same) dst_port;
+          at = inl same;
+        }
+    | inr far ↦ elim routed [
+      | inl near ↦ absurd (false≢true (sym far ∙ near))
+      | inr away ↦
+          let verdict = prerouting_verdict config (facts_of config rules sessions now view Wan None view.src view.dst New) rules in
+          let by = inside_by_rules config rules sessions now view (find (maps_outside view.proto view.dst) sessions) verdict in
+          found-by_rules away inside verdict refl (sym (ap (λ b. if b then Ok view.dst else by) far) ∙ is)
+    ]
+  ]
+
+  fine-begun : (inside : Endpoint) → Found inside → IsFine config sessions now (begun_in config rules sessions now view inside)
+  fine-begun inside there =
+      let t = new_session config rules sessions now view Remote inside view.dst view.src in
+      let filtered = forward_verdict config (facts_of config rules sessions now view Wan (Some Lan) view.src inside New) rules in
+      let behind = counted config rules sessions now view (inward t) in
+      elim (some_or_none (find (clashes t) sessions)) [
+        | inl some ↦ subst (λ b. IsFine config sessions now (if b then Err Clash else unless_dropped filtered behind)) (sym (ap is_some some.1)) tt
+        | inr none ↦ subst (λ b. IsFine config sessions now (if b then Err Clash else unless_dropped filtered behind)) (sym (ap is_some none))
+            (fine-filtered config sessions now filtered behind (elim (cases_Bool (nat_lt 65536 (length (put t sessions)))) [
+              | inl full ↦ subst (λ b. IsFine config sessions now (if b then Err TableFull else Ok (inward t))) (sym full) tt
+              | inr room ↦ subst (λ b. IsFine config sessions now (if b then Err TableFull else Ok (inward t))) (sym room)
+                  (one-joins config sessions now t (record {
+                    sound = put-sound config sessions sound t (λ s in_s other. no_clash t sessions none s in_s)
+                        (omega (arith, ltb-false 65536 (length (put t sessions)) room))
+                        (record {
+                          inside = there.near;
+                          outside = elim there.at [ inl same ↦ inl (sym same) | inr away ↦ inr away ];
+                          inside_port = there.port;
+                          outside_port = dst_port;
+                          remote_port = src_port;
+                        })
+                        (omega arith);
+                    last = refl;
+                    keeps = λ u in_u same. absurd (no_clash t sessions none u in_u (inl (has_inside-true t.proto t.inside t.remote u same)));
+                  }))
+            ]))
+      ]
+
+  fine-new : (r : Result Endpoint Cause) → inside_for config rules sessions now view ≡ r → IsFine config sessions now (then_with r (begun_in config rules sessions now view))
+  fine-new (Err cause) e = tt
+  fine-new (Ok inside) e = fine-begun inside (found inside e)
+
+  fine-by : (o : Option Session) → find (has_outside view.proto view.dst view.src) sessions ≡ o → IsFine config sessions now (in_by config rules sessions now view o)
+  fine-by (Some s) e =
+      let t = passed_by s Remote view.flags now in
+      fine-filtered config sessions now (forward_verdict config (facts_of config rules sessions now view Wan (Some Lan) view.src s.inside (state_of s Remote view.flags)) rules) (Ok (inward t))
+      (one-joins config sessions now t (passed-joins config sessions sound s Remote view.flags now (find-In (has_outside view.proto view.dst view.src) sessions s e).0))
+  fine-by None e =
+      let new = then_with (inside_for config rules sessions now view) (begun_in config rules sessions now view) in
+      elim (cases_Bool (needs_session view)) [
+        | inl needs ↦ subst (λ b. IsFine config sessions now (if b then Err NoSession else new)) (sym needs) tt
+        | inr free ↦ subst (λ b. IsFine config sessions now (if b then Err NoSession else new)) (sym free) (fine-new (inside_for config rules sessions now view) refl)
+      ]
+
+pub fine-in : (config : Config) (rules : Spelled) (sessions : List Session) (now : ℕ) (view : View) → is_config config ≡ true → AreSound config sessions → KeepBounds config rules
+    → (is_inside config view.dst.addr ≡ true) ⊎ (view.dst.addr ≡ config.external) → 0 < view.src.port → 0 < view.dst.port → IsFine config sessions now (in_leg config rules sessions now view)
+fine-in config rules sessions now view is_one sound bounded routed src_port dst_port =
+    fine-by config rules sessions now view sound bounded routed src_port dst_port (find (has_outside view.proto view.dst view.src) sessions) refl

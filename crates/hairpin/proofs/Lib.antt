@@ -1,0 +1,11 @@
+pub mod Apart
+pub mod Clashing
+pub mod Doubling
+pub mod Following
+pub mod Incoming
+pub mod Later
+pub mod Mapped
+pub mod Opening
+pub mod Planned
+pub mod Soundness
+pub mod Tally

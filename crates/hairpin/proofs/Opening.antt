@@ -1,0 +1,226 @@
+-- What is known of a session that begins, and that what a packet on its way out comes to may join the sessions.
+use Rattle.std.proofs.Common.{◌≡◌, ◌≢◌, ◌⊎◌, ℕ, ◌+◌, ◌<◌, List, length, Option, Some, None, Result, Ok, Err, count_by, is_some, true, false, not, nat_lt, if◌then◌else◌, refl, sym, ap, ◌∙◌, subst, inl, inr, arith}
+use Rattle.std.specs.Option.{option_map}
+use Rattle.std.proofs.lemmas.Bool.{cases_Bool, false≢true, false_from_ne_true, le-ltb, lt-ltb, ltb-false}
+use Rattle.std.proofs.lemmas.Option.{none-some}
+use Rattle.std.proofs.lemmas.Result.{IfOk-at_ok}
+use Rattle.packet.specs.Config.{Config, is_config, is_inside}
+use Rattle.packet.specs.Same.{same_endpoint}
+use Rattle.packet.specs.declared.endpoint.Endpoint.{Endpoint}
+use Rattle.packet.specs.declared.endpoint.Iface.TheVariants.{Lan, Wan}
+use Rattle.packet.specs.declared.view.View.{View}
+use Rattle.packet.proofs.SameLemmas.{same_endpoint-itself}
+use Rattle.portpick.specs.Choice.{port_choice}
+use Rattle.rulesyntax.specs.declared.tree.Spelled.{Spelled}
+use Rattle.sessions.specs.Listing.{In, find, has_inside, insert, listing, put, same_flow}
+use Rattle.sessions.specs.Table.{Clash}
+use Rattle.sessions.specs.declared.session.Change.TheVariants.{Begin}
+use Rattle.sessions.specs.declared.session.Opener.TheVariants.{Inside}
+use Rattle.sessions.specs.declared.session.Session.{Session}
+use Rattle.sessions.proofs.Puts.{find-some, has_inside-true, length-insert}
+use Rattle.sessions.proofs.Sets.{listing-In}
+use Rattle.verdict.specs.Hooks.{forward_verdict, postrouting_verdict}
+use Rattle.verdict.specs.declared.facts.Facts.{Facts}
+use Rattle.verdict.specs.declared.facts.State.TheVariants.{New}
+use Rattle.verdict.specs.declared.hook.Filtering.{Filtering}
+use Rattle.verdict.specs.declared.hook.Filtering.TheVariants as filtering
+use Rattle.verdict.specs.declared.hook.Source.{Source}
+use Rattle.verdict.specs.declared.hook.Source.TheVariants as source
+use Rattle.hairpin.specs.Legs.{Passage, begun_out, chosen, counted, facts_of, forwarded, is_taken, maps_inside, needs_session, new_session, or_no_port, out_by, out_leg, outside_by_rules, outside_for, outward, passed_by, state_of, then_with, unless_dropped}
+use Rattle.hairpin.specs.Plans.{IsPlanOf, MayBegin}
+use Rattle.hairpin.specs.Sound.{AreSound, KeepBounds}
+use Rattle.hairpin.specs.Translations.{endpoint}
+use Rattle.hairpin.specs.declared.cause.Cause.{Cause}
+use Rattle.hairpin.specs.declared.cause.Cause.TheVariants.{NoPort, NoSession, Rule, TableFull}
+use Rattle.hairpin.specs.declared.plan.Plan.{Plan}
+use Rattle.hairpin.proofs.Apart.{choice-free, chosen_apart, find-In, fresh, mapped-some, mapped_apart, maps-parts, outside_away}
+use Rattle.hairpin.proofs.Soundness.{IsFine, filter-all, one-joins, passed-joins, put-sound}
+
+-- what is known of a session that begins: it stands apart from all, and its outside endpoint is in its place
+pub record Opened (config : Config) (sessions : List Session) (new : Session) : Type 0 where
+  pub apart : (s : Session) → In s sessions → ¬ Clash new s
+  pub outside : (new.outside ≡ new.inside) ⊎ (new.outside.addr ≡ config.external)
+  pub port : 0 < new.outside.port
+
+-- none of them is of the new session's protocol, inside and remote endpoint
+module _ (config : Config) (is_one : is_config config ≡ true) (sessions : List Session) (sound : AreSound config sessions) (new : Session)
+    (none : find (has_inside new.proto new.inside new.remote) sessions ≡ None) where
+  -- by a mapping that lives
+  pub opened_mapped : (m : Session) → find (maps_inside new.proto new.inside) sessions ≡ Some m → m.outside ≡ new.outside → Opened config sessions new
+  opened_mapped m e outside =
+      let is = find-In (maps_inside new.proto new.inside) sessions m e in
+      let parts = maps-parts new.proto new.inside m is.1 in
+      let placed = sound.placed m is.0 in
+      let address : m.outside.addr ≡ config.external = elim placed.outside [ inl same ↦ absurd (parts.0 (sym same)) | inr there ↦ there ] in
+      record {
+        apart = λ s in_s.
+            mapped_apart sessions sound.apart new none s in_s m is.0 parts.0 parts.1 parts.2 outside
+            (λ same. outside_away config is_one (subst (λ a. is_inside config a ≡ true) (ap (λ (x : Endpoint). x.addr) same ∙ address) (sound.placed s in_s).inside));
+        outside = inr (ap (λ (x : Endpoint). x.addr) (sym outside) ∙ address);
+        port = subst (λ (x : Endpoint). 0 < x.port) outside placed.outside_port;
+      }
+
+  -- at a port that is chosen
+  pub opened_chosen : 0 < new.inside.port → find (maps_inside new.proto new.inside) sessions ≡ None
+      → option_map (endpoint config.external) (port_choice (is_taken sessions new.proto config.external) new.inside.port) ≡ Some new.outside → Opened config sessions new
+  opened_chosen lt unmapped h =
+      let some = mapped-some (endpoint config.external) (port_choice (is_taken sessions new.proto config.external) new.inside.port) new.outside h in
+      let free = choice-free (is_taken sessions new.proto config.external) new.inside.port some.0 lt some.1 in
+      record {
+        apart = λ s in_s. chosen_apart sessions sound.apart new none s in_s unmapped (subst (λ (x : Endpoint). is_taken sessions new.proto x.addr x.port ≡ false) some.2 free.0);
+        outside = inr (ap (λ (x : Endpoint). x.addr) (sym some.2));
+        port = subst (λ (x : Endpoint). 0 < x.port) some.2 free.1;
+      }
+
+  -- untranslated: whoever has this endpoint outside has it inside too, as the external address isn't inside
+  pub opened_plain : is_inside config new.inside.addr ≡ true → 0 < new.inside.port → new.inside ≡ new.outside → Opened config sessions new
+  opened_plain is_near lt same = record {
+    apart = λ s in_s clash. elim clash [
+      | inl h ↦ fresh sessions sound.apart new none s in_s h.0 h.1 h.2
+      | inr more ↦ elim more [
+        | inl h ↦ elim (sound.placed s in_s).outside [
+          | inl plain ↦ fresh sessions sound.apart new none s in_s h.0 (sym plain ∙ h.1 ∙ sym same) h.2
+          | inr there ↦ outside_away config is_one (subst (λ a. is_inside config a ≡ true) (ap (λ (x : Endpoint). x.addr) (same ∙ sym h.1) ∙ there) is_near)
+        ]
+        | inr h ↦ h.0 same
+      ]
+    ];
+    outside = inl (sym same);
+    port = subst (λ (x : Endpoint). 0 < x.port) same lt;
+  }
+
+-- a session of which none has the flow is one more
+module _ (sessions : List Session) (t : Session) (none : find (has_inside t.proto t.inside t.remote) sessions ≡ None) where
+  other-flow : (u : Session) → In u sessions → same_flow t u ≡ false
+  other-flow u in_u = false_from_ne_true _ (λ h. let found = find-some (has_inside t.proto t.inside t.remote) sessions u in_u h in none-some found.0 (sym none ∙ found.1))
+
+  pub put-more : length (put t sessions) ≡ length sessions + 1
+  put-more = ap (λ (xs : List Session). length (insert t xs)) (filter-all (λ u. not (same_flow t u)) sessions (λ u in_u. ap not (other-flow u in_u))) ∙ length-insert t sessions
+
+-- the session may begin
+pub may_begin : (config : Config) (held : List (Option Session)) (now : ℕ) (t : Session) → Opened config (listing held) t → t.seen ≡ 0 → t.last ≡ now → count_by is_some held ≢ 65536
+    → MayBegin config.external held now t
+may_begin config held now t o unseen last few = record {
+  unseen = unseen;
+  last = last;
+  apart = λ any. o.apart any.held (listing-In held any.held any.place any.is_held) any.clash;
+  few = few;
+  placed = λ away. elim o.outside [
+    | inl same ↦ absurd (false≢true (sym away ∙ subst (λ x. same_endpoint t.inside x ≡ true) (sym same) (same_endpoint-itself t.inside)))
+    | inr there ↦ (there, o.port)
+  ];
+}
+
+-- the plan of a packet that begins the session
+abbrev pub plan_begun : Session → Plan
+plan_begun t = record { first = Begin t; second = None; src = t.outside; dst = t.remote; iface = Wan }
+
+pub begun-is : (external : ℕ) (held : List (Option Session)) (now : ℕ) (t : Session) → MayBegin external held now t → IsPlanOf external held now (plan_begun t) (outward t)
+begun-is external held now t may = record { sessions = (t, (refl, may), refl); src = refl; dst = refl; iface = refl }
+
+ok-is : {A : Type 0} (a b : A) → ◌≡◌ {A = Result A Cause} (Ok a) (Ok b) → a ≡ b
+ok-is a b e = IfOk-at_ok (λ x. a ≡ x) e refl
+
+err-ok : {A : Type 0} (cause : Cause) (b : A) → ◌≡◌ {A = Result A Cause} (Err cause) (Ok b) → ⊥
+err-ok cause b e = IfOk-at_ok (λ _. ⊥) e tt
+
+pub port-ok : (o : Option Endpoint) (outside : Endpoint) → or_no_port o ≡ Ok outside → o ≡ Some outside
+port-ok (Some x) outside e = ap Some (ok-is x outside e)
+port-ok None outside e = absurd (err-ok NoPort outside e)
+
+module _ (config : Config) (rules : Spelled) (bounded : KeepBounds config rules) (sessions : List Session) (now : ℕ) (view : View) where
+  abbrev facts : Facts
+  facts = facts_of config rules sessions now view Lan (Some Wan) view.src view.dst New
+
+  -- what is chosen at the external address is what the rules ask for
+  pub by_rules : (addr : ℕ) → postrouting_verdict config facts rules ≡ source.From addr → (o : Option Endpoint)
+      → o ≡ option_map (endpoint config.external) (port_choice (is_taken sessions view.proto config.external) view.src.port)
+      → or_no_port o ≡ outside_by_rules config rules sessions now view (postrouting_verdict config facts rules)
+  by_rules addr e o is = ap or_no_port is ∙ sym (ap (outside_by_rules config rules sessions now view) (e ∙ ap source.From (bounded.from facts addr e)))
+
+  module _ (is_one : is_config config ≡ true) (sound : AreSound config sessions) (is_near : is_inside config view.src.addr ≡ true) (near_port : 0 < view.src.port)
+      (none : find (has_inside view.proto view.src view.dst) sessions ≡ None) where
+    abbrev new : Endpoint → Session
+    new outside = new_session config rules sessions now view Inside view.src outside view.dst
+
+    opened_rules : (how : Source) → find (maps_inside view.proto view.src) sessions ≡ None → postrouting_verdict config facts rules ≡ how → (outside : Endpoint)
+        → outside_by_rules config rules sessions now view how ≡ Ok outside → Opened config sessions (new outside)
+    opened_rules source.None unmapped e outside h = opened_plain config is_one sessions sound (new outside) none is_near near_port (ok-is view.src outside h)
+    opened_rules (source.From addr) unmapped e outside h =
+        let there : chosen config rules sessions now view config.external view.src ≡ Ok outside = subst (λ a. chosen config rules sessions now view a view.src ≡ Ok outside) (bounded.from facts addr e) h in
+        opened_chosen config is_one sessions sound (new outside) none near_port unmapped (port-ok (option_map (endpoint config.external) (port_choice (is_taken sessions view.proto config.external) view.src.port)) outside there)
+    opened_rules source.Drop unmapped e outside h = absurd (err-ok Rule outside h)
+
+    opened_for : (found : Option Session) → find (maps_inside view.proto view.src) sessions ≡ found → (outside : Endpoint)
+        → outside_for config rules sessions now view found ≡ Ok outside → Opened config sessions (new outside)
+    opened_for (Some m) e outside h = opened_mapped config is_one sessions sound (new outside) none m e (ok-is m.outside outside h)
+    opened_for None e outside h = opened_rules (postrouting_verdict config facts rules) e refl outside h
+
+    -- the session that begins at the outside endpoint that a mapping or the rules give
+    pub opened : (outside : Endpoint) → outside_for config rules sessions now view (find (maps_inside view.proto view.src) sessions) ≡ Ok outside → Opened config sessions (new outside)
+    opened outside h = opened_for (find (maps_inside view.proto view.src) sessions) refl outside h
+
+    begun-at : (outside : Endpoint) → outside_for config rules sessions now view (find (maps_inside view.proto view.src) sessions) ≡ Ok outside
+        → begun_out config rules sessions now view ≡ counted config rules sessions now view (outward (new outside))
+    begun-at outside h = ap (λ r. then_with r (λ o. counted config rules sessions now view (outward (new o)))) h
+
+    -- there is room for it, or not
+    pub room_left : (outside : Endpoint) → outside_for config rules sessions now view (find (maps_inside view.proto view.src) sessions) ≡ Ok outside → length sessions < 65536
+        → begun_out config rules sessions now view ≡ Ok (outward (new outside))
+    room_left outside h few =
+        let room : nat_lt 65536 (length (put (new outside) sessions)) ≡ false = le-ltb _ _ (omega (arith, few, put-more sessions (new outside) none)) in
+        begun-at outside h ∙ ap (λ b. if b then Err TableFull else Ok (outward (new outside))) room
+
+    pub no_room : (outside : Endpoint) → outside_for config rules sessions now view (find (maps_inside view.proto view.src) sessions) ≡ Ok outside → length sessions ≡ 65536
+        → begun_out config rules sessions now view ≡ Err TableFull
+    no_room outside h many =
+        let full : nat_lt 65536 (length (put (new outside) sessions)) ≡ true = lt-ltb _ _ (omega (arith, many, put-more sessions (new outside) none)) in
+        begun-at outside h ∙ ap (λ b. if b then Err TableFull else Ok (outward (new outside))) full
+
+    module _ (remote_port : 0 < view.dst.port) where
+      fine_counted : (outside : Endpoint) → Opened config sessions (new outside) → IsFine config sessions now (counted config rules sessions now view (outward (new outside)))
+      fine_counted outside o =
+          let t = new outside in
+          elim (cases_Bool (nat_lt 65536 (length (put t sessions)))) [
+            | inl full ↦ subst (λ b. IsFine config sessions now (if b then Err TableFull else Ok (outward t))) (sym full) tt
+            | inr room ↦ subst (λ b. IsFine config sessions now (if b then Err TableFull else Ok (outward t))) (sym room)
+                (one-joins config sessions now t (record {
+                  sound = put-sound config sessions sound t (λ s in_s other. o.apart s in_s)
+                      (omega (arith, ltb-false 65536 (length (put t sessions)) room))
+                      (record { inside = is_near; outside = o.outside; inside_port = near_port; outside_port = o.port; remote_port = remote_port })
+                      (omega arith);
+                  last = refl;
+                  keeps = λ u in_u same. absurd (o.apart u in_u (inl (has_inside-true view.proto view.src view.dst u same)));
+                }))
+          ]
+
+      fine_begun : (r : Result Endpoint Cause) → outside_for config rules sessions now view (find (maps_inside view.proto view.src) sessions) ≡ r
+          → IsFine config sessions now (then_with r (λ o. counted config rules sessions now view (outward (new o))))
+      fine_begun (Err cause) e = tt
+      fine_begun (Ok outside) e = fine_counted outside (opened outside e)
+
+-- what passes or is dropped is fine where what passes is
+pub fine_filtered : (config : Config) (sessions : List Session) (now : ℕ) (verdict : Filtering) (way : Result Passage Cause) → IsFine config sessions now way → IsFine config sessions now (unless_dropped verdict way)
+fine_filtered config sessions now filtering.Drop way fine = tt
+fine_filtered config sessions now filtering.Pass way fine = fine
+
+module _ (config : Config) (rules : Spelled) (sessions : List Session) (now : ℕ) (view : View) (is_one : is_config config ≡ true) (sound : AreSound config sessions) (bounded : KeepBounds config rules)
+    (is_near : is_inside config view.src.addr ≡ true) (near_port : 0 < view.src.port) (remote_port : 0 < view.dst.port) where
+  fine_by : (found : Option Session) → find (has_inside view.proto view.src view.dst) sessions ≡ found → IsFine config sessions now (out_by config rules sessions now view found)
+  fine_by (Some s) e =
+      let t = passed_by s Inside view.flags now in
+      fine_filtered config sessions now (forward_verdict config (facts_of config rules sessions now view Lan (Some Wan) view.src view.dst (state_of s Inside view.flags)) rules) (Ok (outward t))
+      (one-joins config sessions now t (passed-joins config sessions sound s Inside view.flags now (find-In (has_inside view.proto view.src view.dst) sessions s e).0))
+  fine_by None e =
+      let way = forwarded config rules sessions now view Lan Wan view.src view.dst New (begun_out config rules sessions now view) in
+      elim (cases_Bool (needs_session view)) [
+        | inl needs ↦ subst (λ b. IsFine config sessions now (if b then Err NoSession else way)) (sym needs) tt
+        | inr begins ↦ subst (λ b. IsFine config sessions now (if b then Err NoSession else way)) (sym begins)
+            (fine_filtered config sessions now (forward_verdict config (facts_of config rules sessions now view Lan (Some Wan) view.src view.dst New) rules) (begun_out config rules sessions now view)
+            (fine_begun config rules bounded sessions now view is_one sound is_near near_port e remote_port
+            (outside_for config rules sessions now view (find (maps_inside view.proto view.src) sessions)) refl))
+      ]
+
+  -- what a packet on its way out comes to may join the sessions
+  pub fine-out : IsFine config sessions now (out_leg config rules sessions now view)
+  fine-out = fine_by (find (has_inside view.proto view.src view.dst) sessions) refl

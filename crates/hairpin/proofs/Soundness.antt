@@ -1,0 +1,190 @@
+-- What may join sessions that are sound.
+use Rattle.std.proofs.Common.{◌≡◌, ◌⊎◌, ℕ, ◌+◌, ◌<◌, ◌≤◌, List, [], ◌∷◌, length, Result, Ok, Err, Bool, true, false, cond, not, bit_or, if◌then◌else◌, refl, sym, ap, ◌∙◌, subst, inl, inr, arith}
+use Rattle.std.specs.List.{filter}
+use Rattle.std.proofs.lemmas.Bool.{cases_Bool, false≢true, not-true}
+use Rattle.packet.specs.Config.{Config}
+use Rattle.packet.specs.declared.endpoint.Flags.{Flags}
+use Rattle.packet.specs.declared.endpoint.Proto.{Proto}
+use Rattle.packet.specs.declared.endpoint.Proto.TheVariants.{Tcp, Udp}
+use Rattle.sessions.specs.Life.{IsSeen, ack_bit, bit_if, fin_bit, reply_bit, reset_bit, restarts, same_side, shown}
+use Rattle.sessions.specs.Listing.{key, put, same_flow}
+use Rattle.sessions.specs.Listing.{In as Member}
+use Rattle.sessions.specs.Table.{Clash, restarted, seen}
+use Rattle.sessions.specs.declared.session.Opener.{Opener}
+use Rattle.sessions.specs.declared.session.Opener.TheVariants.{Inside, Remote}
+use Rattle.sessions.specs.declared.session.Session.{Session}
+use Rattle.sessions.proofs.Held.{Clash-sym}
+use Rattle.sessions.proofs.LifeLemmas.{IsSeen-or}
+use Rattle.sessions.proofs.Puts.{flow-keys, has_inside-true, keys-flow, length-insert}
+use Rattle.sessions.proofs.Sets.{same_key, In-filter, In-insert, Rises-filter, Rises-insert, filter-In, insert-In}
+use Rattle.hairpin.specs.Legs.{Passage, passed_by, put_all}
+use Rattle.hairpin.specs.Sound.{AreSound, IsPlaced}
+use Rattle.hairpin.specs.declared.cause.Cause.{Cause}
+use Rattle.hairpin.proofs.Apart.{cases_endpoint}
+
+-- how long a part is
+pub filter-most : (p : Session → Bool) (xs : List Session) → length (filter p xs) ≤ length xs
+filter-most p [] = omega arith
+filter-most p (x ∷ xs) = elim (cases_Bool (p x)) [
+  | inl is_so ↦ subst (λ b. length (cond b (x ∷ filter p xs) (filter p xs)) ≤ length (x ∷ xs)) (sym is_so) (omega (arith, filter-most p xs))
+  | inr not_so ↦ subst (λ b. length (cond b (x ∷ filter p xs) (filter p xs)) ≤ length (x ∷ xs)) (sym not_so) (omega (arith, filter-most p xs))
+]
+
+pub filter-fewer : (p : Session → Bool) (xs : List Session) (s : Session) → Member s xs → p s ≡ false → length (filter p xs) + 1 ≤ length xs
+filter-fewer p [] s not_in h = absurd not_in
+filter-fewer p (x ∷ xs) s is h = elim (cases_Bool (p x)) [
+  | inl is_so ↦ elim is [
+    | inl e ↦ absurd (false≢true (sym h ∙ ap p e ∙ is_so))
+    | inr there ↦ subst (λ b. length (cond b (x ∷ filter p xs) (filter p xs)) + 1 ≤ length (x ∷ xs)) (sym is_so) (omega (arith, filter-fewer p xs s there h))
+  ]
+  | inr not_so ↦ subst (λ b. length (cond b (x ∷ filter p xs) (filter p xs)) + 1 ≤ length (x ∷ xs)) (sym not_so) (omega (arith, filter-most p xs))
+]
+
+pub filter-all : (p : Session → Bool) (xs : List Session) → ((s : Session) → Member s xs → p s ≡ true) → filter p xs ≡ xs
+filter-all p [] all = refl
+filter-all p (x ∷ xs) all = ap (λ b. cond b (x ∷ filter p xs) (filter p xs)) (all x (inl refl)) ∙ ap (λ (ys : List Session). x ∷ ys) (filter-all p xs (λ s is. all s (inr is)))
+
+-- a packet shows bits of its protocol
+bit_if-few : (mark : Bool) (bit : ℕ) → bit_if mark bit ≤ bit
+bit_if-few true bit = omega arith
+bit_if-few false bit = omega arith
+
+ack-few : (side : Opener) → ack_bit side ≤ 4
+ack-few Inside = omega arith
+ack-few Remote = omega arith
+
+fin-few : (side : Opener) → fin_bit side ≤ 16
+fin-few Inside = omega arith
+fin-few Remote = omega arith
+
+shown-fits : (proto : Proto) (opener sender : Opener) (flags : Flags) → IsSeen proto (shown proto opener sender flags)
+shown-fits Tcp opener sender flags = omega (arith, bit_if-few (not (same_side opener sender)) reply_bit, bit_if-few flags.ack (ack_bit sender), bit_if-few flags.fin (fin_bit sender), bit_if-few flags.rst reset_bit, ack-few sender, fin-few sender)
+shown-fits Udp opener sender flags = omega (arith, bit_if-few (not (same_side opener sender)) reply_bit)
+
+-- the session may be put in, and has the outside endpoint of the one of its flow
+pub record Joins (config : Config) (sessions : List Session) (now : ℕ) (t : Session) : Type 0 where
+  pub sound : AreSound config (put t sessions)
+  pub last : t.last ≡ now
+  pub keeps : (u : Session) → Member u sessions → same_flow t u ≡ true → u.outside ≡ t.outside
+
+module _ (config : Config) (sessions : List Session) (sound : AreSound config sessions) where
+  abbrev pub others : Session → List Session
+  others t = filter (λ u. not (same_flow t u)) sessions
+
+  pub put-member : (t u : Session) → Member u (put t sessions) → (u ≡ t) ⊎ (Member u sessions × (same_flow t u ≡ false))
+  put-member t u is = elim (In-insert t (others t) u is) [
+    | inl e ↦ inl e
+    | inr old ↦ let kept = In-filter (λ v. not (same_flow t v)) sessions u old in inr (kept.0, not-true _ kept.1)
+  ]
+
+  -- a session that stands apart from the others may join them
+  pub put-sound : (t : Session) → ((s : Session) → Member s sessions → same_flow t s ≡ false → ¬ Clash t s) → length (put t sessions) ≤ 65536 → IsPlaced config t → IsSeen t.proto t.seen
+      → AreSound config (put t sessions)
+  put-sound t apart few placed seen = record {
+    rises = Rises-insert t (others t)
+        (λ u in_rest e. let kept = In-filter (λ v. not (same_flow t v)) sessions u in_rest in false≢true (sym (not-true _ kept.1) ∙ keys-flow t u (sym e)))
+        (Rises-filter (λ u. not (same_flow t u)) sessions sound.rises);
+    apart = λ u v in_u in_v ne clash. elim (put-member t u in_u) [
+      | inl is_u ↦ elim (put-member t v in_v) [
+        | inl is_v ↦ ne (is_u ∙ sym is_v)
+        | inr old_v ↦ apart v old_v.0 old_v.1 (subst (λ x. Clash x v) is_u clash)
+      ]
+      | inr old_u ↦ elim (put-member t v in_v) [
+        | inl is_v ↦ apart u old_u.0 old_u.1 (Clash-sym u t (subst (λ x. Clash u x) is_v clash))
+        | inr old_v ↦ sound.apart u v old_u.0 old_v.0 ne clash
+      ]
+    ];
+    at_most = few;
+    placed = λ u in_u. elim (put-member t u in_u) [
+      | inl is ↦ subst (IsPlaced config) (sym is) placed
+      | inr old ↦ sound.placed u old.0
+    ];
+    seen = λ u in_u. elim (put-member t u in_u) [
+      | inl is ↦ subst (λ (v : Session). IsSeen v.proto v.seen) (sym is) seen
+      | inr old ↦ sound.seen u old.0
+    ];
+  }
+
+  -- a session goes on, as one of the same endpoints
+  pub on-sound : (s : Session) (opener : Opener) (bits last : ℕ) → Member s sessions → IsSeen s.proto bits
+      → AreSound config (put (record s { opener = opener; seen = bits; last = last }) sessions)
+  on-sound s opener bits last in_s seen =
+      let t : Session = record s { opener = opener; seen = bits; last = last } in
+      let own : same_flow t s ≡ true = keys-flow t s refl in
+      let placed = sound.placed s in_s in
+      put-sound t
+      (λ u in_u not_own clash. sound.apart s u in_s in_u (λ e. false≢true (sym not_own ∙ subst (λ v. same_flow t v ≡ true) e own)) clash)
+      (omega (arith, length-insert t (others t), filter-fewer (λ u. not (same_flow t u)) sessions s in_s (ap not own), sound.at_most))
+      (record { inside = placed.inside; outside = placed.outside; inside_port = placed.inside_port; outside_port = placed.outside_port; remote_port = placed.remote_port })
+      seen
+
+  pub filter-sound : (p : Session → Bool) → AreSound config (filter p sessions)
+  filter-sound p = record {
+    rises = Rises-filter p sessions sound.rises;
+    apart = λ s t in_s in_t. sound.apart s t (In-filter p sessions s in_s).0 (In-filter p sessions t in_t).0;
+    at_most = omega (arith, filter-most p sessions, sound.at_most);
+    placed = λ s in_s. sound.placed s (In-filter p sessions s in_s).0;
+    seen = λ s in_s. sound.seen s (In-filter p sessions s in_s).0;
+  }
+
+  -- of a session that is one of them, none else has the flow
+  same_outside : (s t u : Session) → Member s sessions → t.outside ≡ s.outside → key t ≡ key s → Member u sessions → same_flow t u ≡ true → u.outside ≡ t.outside
+  same_outside s t u in_s outside keys in_u same = elim (cases_endpoint u.outside s.outside) [
+    | inl is ↦ is ∙ sym outside
+    | inr ne ↦ absurd (sound.apart s u in_s in_u (λ e. ne (ap (λ (v : Session). v.outside) (sym e))) (inl (same_key s u (sym keys ∙ sym (flow-keys t u same)))))
+  ]
+
+  pub passed-joins : (s : Session) (sender : Opener) (flags : Flags) (now : ℕ) → Member s sessions → Joins config sessions now (passed_by s sender flags now)
+  passed-joins s sender flags now in_s = elim (cases_Bool (restarts s flags)) [
+    | inl anew ↦ subst (λ b. Joins config sessions now (if b then restarted s sender now else seen s (shown s.proto s.opener sender flags) now)) (sym anew)
+        (record { sound = on-sound s sender 0 now in_s (omega arith); last = refl; keeps = λ u in_u. same_outside s (restarted s sender now) u in_s refl refl in_u })
+    | inr on ↦ subst (λ b. Joins config sessions now (if b then restarted s sender now else seen s (shown s.proto s.opener sender flags) now)) (sym on)
+        (let bits = shown s.proto s.opener sender flags in
+        record {
+          sound = on-sound s s.opener (bit_or s.seen bits) now in_s (IsSeen-or s.proto s.seen bits (sound.seen s in_s) (shown-fits s.proto s.opener sender flags));
+          last = refl;
+          keeps = λ u in_u. same_outside s (seen s bits now) u in_s refl refl in_u;
+        })
+  ]
+
+-- the sessions may be put in, in turn, and no mapping is lost
+pub record JoinAll (config : Config) (sessions : List Session) (now : ℕ) (ts : List Session) : Type 0 where
+  pub sound : AreSound config (put_all ts sessions)
+  pub last : (t : Session) → Member t ts → t.last ≡ now
+  pub keeps : (u : Session) → Member u sessions
+      → (v : Session) × Member v (put_all ts sessions) × (v.proto ≡ u.proto) × (v.inside ≡ u.inside) × (v.outside ≡ u.outside)
+
+-- what a leg comes to changes a state of these sessions into a sound one, and loses no mapping
+abbrev pub IsFine : Config → List Session → ℕ → Result Passage Cause → Type 0
+IsFine config sessions now (Err cause) = Unit {0}
+IsFine config sessions now (Ok passage) = JoinAll config sessions now passage.sessions
+
+module _ (config : Config) (sessions : List Session) (now : ℕ) (t : Session) (joins : Joins config sessions now t) where
+  keeps-each : (u : Session) → Member u sessions → (v : Session) × Member v (put t sessions) × (v.proto ≡ u.proto) × (v.inside ≡ u.inside) × (v.outside ≡ u.outside)
+  keeps-each u in_u = elim (cases_Bool (same_flow t u)) [
+    | inl same ↦
+        let has = has_inside-true t.proto t.inside t.remote u same in
+        (t, insert-In t (filter (λ v. not (same_flow t v)) sessions) t (inl refl), sym has.0, sym has.1, sym (joins.keeps u in_u same))
+    | inr other ↦
+        (u, insert-In t (filter (λ v. not (same_flow t v)) sessions) u (inr (filter-In (λ v. not (same_flow t v)) sessions u in_u (ap not other))), refl, refl, refl)
+  ]
+
+  pub one-joins : JoinAll config sessions now (t ∷ [])
+  one-joins = record {
+    sound = joins.sound;
+    last = λ u is. elim is [ inl e ↦ subst (λ (v : Session). v.last ≡ now) (sym e) joins.last | inr not_in ↦ absurd not_in ];
+    keeps = keeps-each;
+  }
+
+pub two-join : (config : Config) (sessions : List Session) (now : ℕ) (t u : Session) → Joins config sessions now t → Joins config (put t sessions) now u → JoinAll config sessions now (t ∷ u ∷ [])
+two-join config sessions now t u joins more = record {
+  sound = more.sound;
+  last = λ w is. elim is [
+    | inl e ↦ subst (λ (v : Session). v.last ≡ now) (sym e) joins.last
+    | inr later ↦ elim later [ inl e ↦ subst (λ (v : Session). v.last ≡ now) (sym e) more.last | inr not_in ↦ absurd not_in ]
+  ];
+  keeps = λ w in_w.
+      let a = keeps-each config sessions now t joins w in_w in
+      let b = keeps-each config (put t sessions) now u more a.0 a.1 in
+      (b.0, b.1, b.2 ∙ a.2, b.3 ∙ a.3, b.4 ∙ a.4);
+}

@@ -1,0 +1,14 @@
+use Rattle.std.proofs.Common.{Ok, Err, sym, ◌∙◌}
+use Rattle.sessions.specs.Listing.{listing}
+use Rattle.hairpin.proofs.Planned.{second-none}
+use Rattle.hairpin.proofs.hairpinning.second_session.Goals as goal
+
+pub returns-in-Ok : goal.returns-in-Ok
+returns-in-Ok c =
+    let sessions = listing c.args.table.now.held in
+    c.begun_second.ensures c.args.bounds.now c.args.rules.now sessions
+    ∙ second-none c.args.bounds.now c.args.rules.now sessions c.args.now c.args.view.now c.args.first.now c.requires.keeps c.requires.away (sym c.needs_session.ensures ∙ c.if-needs_session.false) (Ok c.in-Ok.inside) (c.in-Ok.ensures c.args.now c.args.first.now)
+
+pub returns-in-Err : goal.returns-in-Err
+returns-in-Err c =
+    second-none c.args.bounds.now c.args.rules.now (listing c.args.table.now.held) c.args.now c.args.view.now c.args.first.now c.requires.keeps c.requires.away (sym c.needs_session.ensures ∙ c.if-needs_session.false) (Err c.in-Err.cause) (c.in-Err.ensures c.args.now c.args.first.now)

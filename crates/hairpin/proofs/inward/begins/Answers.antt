@@ -1,0 +1,39 @@
+use Rattle.std.proofs.Common.{◌≢◌, Ok, Err, count_by, is_some, refl, sym, subst, ◌∙◌}
+use Rattle.std.proofs.lemmas.Bool.{false≢true}
+use Rattle.sessions.specs.Table.{AnyClash}
+use Rattle.hairpin.specs.Plans.{Plans}
+use Rattle.hairpin.specs.declared.cause.Cause.TheVariants.{Clash, Rule, TableFull}
+use Rattle.hairpin.proofs.Incoming.{begun, begun-clash, begun-dropped, begun-full, begun-passes, begun-plan, plan}
+use Rattle.hairpin.proofs.inward.begins.Goals as goal
+
+pub returns-then-clashes_with : goal.returns-then-clashes_with
+returns-then-clashes_with c =
+    let held = c.args.table.now.held in
+    let config = c.args.bounds.now in
+    let is = begun-clash config c.args.rules.now held c.args.now c.args.view.now c.args.inside (c.if-clashes_with.ensures.0 refl) in
+    subst (Plans config.external held c.args.now (Err Clash)) (sym is) refl
+
+pub returns-in-Drop : goal.returns-in-Drop
+returns-in-Drop c =
+    let held = c.args.table.now.held in
+    let config = c.args.bounds.now in
+    let apart : ¬ AnyClash held (begun config c.args.rules.now held c.args.now c.args.view.now c.args.inside) = λ any. false≢true (c.if-clashes_with.ensures.1 any) in
+    let is = begun-dropped config c.args.rules.now held c.args.now c.args.view.now c.args.inside apart (sym c.in-Drop.ensures) in
+    subst (Plans config.external held c.args.now (Err Rule)) (sym is) refl
+
+pub returns-then-count-eq65536 : goal.returns-then-count-eq65536
+returns-then-count-eq65536 c =
+    let held = c.args.table.now.held in
+    let config = c.args.bounds.now in
+    let apart : ¬ AnyClash held (begun config c.args.rules.now held c.args.now c.args.view.now c.args.inside) = λ any. false≢true (c.if-clashes_with.ensures.1 any) in
+    let is = begun-full config c.args.rules.now held c.args.now c.args.view.now c.args.inside apart (sym c.in-Pass.ensures) (sym c.count.ensures ∙ c.if-count-eq65536.true) in
+    subst (Plans config.external held c.args.now (Err TableFull)) (sym is) refl
+
+pub returns-else-count-eq65536 : goal.returns-else-count-eq65536
+returns-else-count-eq65536 c =
+    let held = c.args.table.now.held in
+    let config = c.args.bounds.now in
+    let apart : ¬ AnyClash held (begun config c.args.rules.now held c.args.now c.args.view.now c.args.inside) = λ any. false≢true (c.if-clashes_with.ensures.1 any) in
+    let few : count_by is_some held ≢ 65536 = λ e. c.if-count-eq65536.false (c.count.ensures ∙ e) in
+    let is = begun-passes config c.args.rules.now held c.args.now c.args.view.now c.args.inside apart (sym c.in-Pass.ensures) c.requires.few few in
+    subst (Plans config.external held c.args.now (Ok (plan config c.args.rules.now held c.args.now c.args.view.now c.args.inside))) (sym is) (begun-plan config c.args.rules.now held c.args.now c.args.view.now c.args.inside apart few c.requires.placed)

@@ -1,0 +1,6 @@
+pub mod Causes
+pub mod Legs
+pub mod Plans
+pub mod Sound
+pub mod Tallies
+pub mod Translations

@@ -1,0 +1,75 @@
+-- What a plan means for the sessions that are held.
+use Rattle.std.specs.Prelude.{◌≡◌, ◌≢◌, ℕ, ◌<◌, List, [], ◌∷◌, Option, Some, None, Result, Ok, Err, slice_index_or, count_by, is_some, false}
+use Rattle.packet.specs.Same.{same_endpoint}
+use Rattle.sessions.specs.Life.{IsSeen}
+use Rattle.sessions.specs.Listing.{listing, put}
+use Rattle.sessions.specs.Table.{AnyClash, restarted, seen}
+use Rattle.sessions.specs.declared.session.Change.{Change}
+use Rattle.sessions.specs.declared.session.Change.TheVariants.{Begin, Seen, Restart, End}
+use Rattle.sessions.specs.declared.session.Session.{Session}
+use Rattle.hairpin.specs.Legs.{Passage}
+use Rattle.hairpin.specs.declared.cause.Cause.{Cause}
+use Rattle.hairpin.specs.declared.plan.Plan.{Plan}
+
+-- the session may begin now: it clashes with none, and there are not too many
+pub record MayBegin (external : ℕ) (held : List (Option Session)) (now : ℕ) (s : Session) : Type 0 where
+  pub unseen : s.seen ≡ 0
+  pub last : s.last ≡ now
+  pub apart : ¬ AnyClash held s
+  pub few : count_by is_some held ≢ 65536
+  pub placed : same_endpoint s.inside s.outside ≡ false → (s.outside.addr ≡ external) × (0 < s.outside.port)
+
+-- the change is of the session that the slot holds
+abbrev pub IsOf : Change → ℕ → Type 0
+IsOf (Begin s) slot = ⊥
+IsOf (Seen of bits) slot = of ≡ slot
+IsOf (Restart of opener) slot = of ≡ slot
+IsOf (End of) slot = of ≡ slot
+
+-- the change has put the session in, and every other slot holds what it held
+pub record Became (held : List (Option Session)) (change : Change) (t : Session) (later : List (Option Session)) : Type 0 where
+  pub listing : listing later ≡ put t (listing held)
+  pub kept : (slot : ℕ) (s : Session) → slice_index_or held slot None ≡ Some s → ¬ IsOf change slot → slice_index_or later slot None ≡ Some s
+
+module _ (external : ℕ) (held : List (Option Session)) (now : ℕ) where
+  -- the change gives this session
+  abbrev pub Gives : Change → Session → Type 0
+  Gives (Begin s) t = (s ≡ t) × MayBegin external held now s
+  Gives (Seen slot bits) t = (s : Session) × (slice_index_or held slot None ≡ Some s) × IsSeen s.proto bits × (t ≡ seen s bits now)
+  Gives (Restart slot opener) t = (s : Session) × (slice_index_or held slot None ≡ Some s) × (t ≡ restarted s opener now)
+  Gives (End slot) t = ⊥
+
+-- once the first change is made, the second gives this session
+abbrev pub GivesThen : ℕ → List (Option Session) → ℕ → Change → Session → Change → Session → Type 0
+GivesThen external held now first t second u = (later : List (Option Session)) → Became held first t later → Gives external later now second u
+
+module _ (external : ℕ) (held : List (Option Session)) (now : ℕ) where
+  -- the changes give these sessions, in turn
+  abbrev pub GiveAll : Change → Option Change → List Session → Type 0
+  GiveAll first None sessions = (t : Session) × Gives external held now first t × (sessions ≡ t ∷ [])
+  GiveAll first (Some second) sessions = (t : Session) × (u : Session) × Gives external held now first t × GivesThen external held now first t second u × (sessions ≡ t ∷ u ∷ [])
+
+  -- the plan is the way on which the packet passes
+  pub record IsPlanOf (plan : Plan) (passage : Passage) : Type 0 where
+    pub sessions : GiveAll plan.first plan.second passage.sessions
+    pub src : plan.src ≡ passage.src
+    pub dst : plan.dst ≡ passage.dst
+    pub iface : plan.iface ≡ passage.iface
+
+  -- the plan, or the drop, is what the leg comes to
+  abbrev pub Plans : Result Plan Cause → Result Passage Cause → Type 0
+  Plans (Ok plan) (Ok passage) = IsPlanOf plan passage
+  Plans (Ok plan) (Err cause) = ⊥
+  Plans (Err cause) (Ok passage) = ⊥
+  Plans (Err cause) (Err other) = cause ≡ other
+
+-- how many sessions the change adds
+abbrev pub adds : Change → ℕ
+adds (Begin s) = 1
+adds (Seen slot bits) = 0
+adds (Restart slot opener) = 0
+adds (End slot) = 0
+
+abbrev pub adds_second : Option Change → ℕ
+adds_second None = 0
+adds_second (Some change) = adds change

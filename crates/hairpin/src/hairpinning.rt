@@ -1,0 +1,487 @@
+//! Both legs of a packet from an inside endpoint to an outside endpoint of the gateway.
+ghost use Rattle.std.specs.Prelude.{◌≡◌, ◌≢◌, ◌↔◌, ◌<◌, ◌≤◌, ◌+◌, ℕ, List, Option as Maybe, IsTrue, IfErr, IfOk, IfSome, IfNone, Some, None, Ok, Err, slice_index_or, true};
+ghost use Rattle.std.specs.Option.{option_map, option_map_or};
+ghost use Rattle.packet.specs.Config.{Config, is_inside};
+ghost use Rattle.mappings.specs.declared.map.Pair.{Pair as Mapping};
+ghost use Rattle.mappings.specs.Map.{times};
+ghost use Rattle.rulesyntax.specs.declared.tree.Spelled.{Spelled};
+ghost use Rattle.sessions.specs.Listing.{In, find, has_inside, has_outside, listing, put, same_flow};
+ghost use Rattle.sessions.specs.Table.{at, count};
+ghost use Rattle.sessions.specs.declared.session.Session.{Session as Flow};
+ghost use Rattle.verdict.specs.Hooks.{forward_verdict};
+ghost use Rattle.hairpin.specs.Legs.{begun_second as begun_far, breaks_mapping as are_breaking, counted, first_by, first_state, forwarded, hairpin as hairpin_way, inside_far as far_inside, maps_inside, maps_outside, needs_session as has_need, or_no_mapping, outside_near as near_outside, passed_by, second as second_way, second_by, then_with, through};
+ghost use Rattle.hairpin.specs.Plans.{Gives, Plans};
+ghost use Rattle.hairpin.specs.Sound.{AreSound, KeepBounds};
+ghost use Rattle.hairpin.specs.Tallies.{tally};
+ghost use Rattle.hairpin.specs.declared.hairpinning.Held.{Held as Known};
+
+use crate::cause::Cause;
+use crate::plan::Plan;
+use crate::translations::Translations;
+use packet::bounds::Bounds;
+use packet::endpoint::{Endpoint, Flags, Iface, Proto};
+use packet::view::View;
+use sessions::{Change, Opener, Session, Slot, Table, is_new, is_syn_alone};
+use verdict::{Destination, Facts, Filtering, Rules, State, forward, prerouting};
+
+/// How a packet passes from an inside endpoint (its source) to an outside endpoint of the gateway (its
+/// destination, at the external address) and on to the inside endpoint that this stands for, at a moment in
+/// seconds (RFC 4787, REQ-9; RFC 5382).
+///
+/// It goes out by one session and comes in by another, and leaves on lan with its external source (REQ-9a).
+/// Without a session or a mapping the first session's port is chosen at the destination's address,
+/// whatever the rules say. The second leg is that of a packet from the first one's outside endpoint. Forward
+/// chains see the packet once, between its inside endpoints. Causes of a drop, in the order in which they
+/// are found: `NoSession`, `NoPort`, `SelfMapped`, `NoSession`, `Rule` of prerouting, `NoMapping`, `Clash`,
+/// `Rule` of forward, `TableFull`.
+pub fn both(
+    bounds: &Bounds,
+    rules: &Rules,
+    table: &Table,
+    translations: &Translations,
+    view: &View,
+    now: u64,
+) -> Result<Plan, Cause>
+    requires external { translations.now.external ≡ bounds.now.external }
+    requires counts { (p : Mapping) → times translations.now.pairs p ≡ tally p table.now.held }
+    requires sound { AreSound bounds.now (listing table.now.held) }
+    requires bounded { KeepBounds bounds.now rules.now }
+    requires ports { (0 < view.now.src.port) × (0 < view.now.dst.port) }
+    requires inside { IsTrue (is_inside bounds.now view.now.src.addr) }
+    requires external_destination { view.now.dst.addr ≡ bounds.now.external }
+    ensures { Plans bounds.now.external table.now.held now result (hairpin_way bounds.now rules.now (listing table.now.held) now view.now) }
+{
+    let before = held_inside(table, view);
+    let session = match first_session(bounds, table, translations, view, &before, now) {
+        Ok(session) => session,
+        Err(cause) => return Err(cause),
+    };
+    let first = Leg { session, before };
+    after_first(bounds, rules, table, translations, view, &first, now)
+}
+
+// A session that is held, and its slot.
+#[derive(Clone, Copy, Drop)]
+struct Held {
+    slot: Slot,
+    session: Session,
+}
+
+// The session of a leg as it is once the packet has passed, and as it was held before.
+#[derive(Clone, Copy, Drop)]
+struct Leg {
+    session: Session,
+    before: Option<Held>,
+}
+
+fn needs_session(view: &View) -> bool
+    ensures { result ≡ has_need view.now }
+{
+    match view.proto {
+        Proto::Tcp => !is_syn_alone(view.flags),
+        Proto::Udp => false,
+    }
+}
+
+fn held_inside(table: &Table, view: &View) -> Option<Held>
+    ensures session { option_map (λ (h : Known). h.session) result ≡ find (has_inside view.now.proto view.now.src view.now.dst) (listing table.now.held) }
+    ensures slot { IfSome result (λ h. at table.now h.slot ≡ Some h.session) }
+{
+    table.is_sound();
+    match table.by_inside(view.proto, view.src, view.dst) {
+        Some(slot) => match table.get(slot) {
+            Some(session) => Some(Held { slot, session }),
+            None => None,
+        },
+        None => None,
+    }
+}
+
+fn held_outside(table: &Table, view: &View, remote: Endpoint) -> Option<Held>
+    ensures session { option_map (λ (h : Known). h.session) result ≡ find (has_outside view.now.proto view.now.dst remote) (listing table.now.held) }
+    ensures slot { IfSome result (λ h. at table.now h.slot ≡ Some h.session) }
+{
+    table.is_sound();
+    match table.by_outside(view.proto, view.dst, remote) {
+        Some(slot) => match table.get(slot) {
+            Some(session) => Some(Held { slot, session }),
+            None => None,
+        },
+        None => None,
+    }
+}
+
+// The session once a packet of it from this side has passed.
+fn passed(session: &Session, sender: Opener, flags: Flags, now: u64) -> Session
+    ensures { result ≡ passed_by session.now sender flags now }
+{
+    if session.restarts(flags) {
+        Session {
+            opener: sender,
+            seen: 0,
+            last: now,
+            ..*session
+        }
+    } else {
+        Session {
+            seen: session.seen | session.shown(sender, flags),
+            last: now,
+            ..*session
+        }
+    }
+}
+
+fn state_of(before: &Option<Held>, view: &View) -> State
+    ensures { (config : Config) (rules : Spelled) (sessions : List Flow) (now : ℕ)
+        → result ≡ first_state config rules sessions now view.now (option_map (λ (h : Known). h.session) before.now) }
+{
+    match before {
+        Some(held) => {
+            if held.session.restarts(view.flags) || is_new(Some(held.session), Opener::Inside) {
+                State::New
+            } else {
+                State::Established
+            }
+        }
+        None => State::New,
+    }
+}
+
+// What a packet from this side changes of the session that the slot holds.
+fn change_of_held(held: &Held, sender: Opener, flags: Flags) -> Change
+    ensures { (external : ℕ) (places : List (Maybe Flow)) (now : ℕ) → slice_index_or places held.now.slot None ≡ Some held.now.session
+        → Gives external places now result (passed_by held.now.session sender flags now) }
+{
+    if held.session.restarts(flags) {
+        Change::Restart(held.slot, sender)
+    } else {
+        Change::Seen(held.slot, held.session.shown(sender, flags))
+    }
+}
+
+// What the packet makes of the leg's session.
+fn change_of(leg: &Leg, sender: Opener, flags: Flags) -> Change
+    ensures held { IfSome leg.now.before (λ h. (external : ℕ) (places : List (Maybe Flow)) (now : ℕ) → slice_index_or places h.slot None ≡ Some h.session
+        → Gives external places now result (passed_by h.session sender flags now)) }
+    ensures new { IfNone leg.now.before (result ≡ Change.Begin leg.now.session) }
+{
+    match &leg.before {
+        Some(held) => change_of_held(held, sender, flags),
+        None => Change::Begin(leg.session),
+    }
+}
+
+// What the rules may ask about the packet.
+fn facts_of(view: &View, oif: Option<Iface>, dst: Endpoint, state: State) -> Facts
+    ensures { result ≡ record { iif = Iface.Lan; oif = oif; src = view.now.src; dst = dst; proto = view.now.proto; state = state } }
+{
+    Facts {
+        iif: Iface::Lan,
+        oif,
+        src: view.src,
+        dst,
+        proto: view.proto,
+        state,
+    }
+}
+
+// The outside endpoint of a new first session: that of the mapping, or one that is chosen.
+fn outside_near(
+    bounds: &Bounds,
+    table: &Table,
+    translations: &Translations,
+    view: &View,
+) -> Result<Endpoint, Cause>
+    requires external { translations.now.external ≡ bounds.now.external }
+    requires counts { (p : Mapping) → times translations.now.pairs p ≡ tally p table.now.held }
+    requires sound { AreSound bounds.now (listing table.now.held) }
+    requires port { 0 < view.now.src.port }
+    requires external_destination { view.now.dst.addr ≡ bounds.now.external }
+    ensures { (rules : Spelled) (now : ℕ) → let sessions = listing table.now.held in
+        result ≡ near_outside bounds.now rules sessions now view.now (find (maps_inside view.now.proto view.now.src) sessions) }
+{
+    bounds.facts();
+    match translations.outside_of(view.proto, view.src) {
+        Some(outside) => Ok(outside),
+        None => match translations.choose(view.proto, view.src.port) {
+            Some(outside) => Ok(outside),
+            None => Err(Cause::NoPort),
+        },
+    }
+}
+
+fn first_session(
+    bounds: &Bounds,
+    table: &Table,
+    translations: &Translations,
+    view: &View,
+    before: &Option<Held>,
+    now: u64,
+) -> Result<Session, Cause>
+    requires external { translations.now.external ≡ bounds.now.external }
+    requires counts { (p : Mapping) → times translations.now.pairs p ≡ tally p table.now.held }
+    requires sound { AreSound bounds.now (listing table.now.held) }
+    requires port { 0 < view.now.src.port }
+    requires external_destination { view.now.dst.addr ≡ bounds.now.external }
+    ensures { (rules : Spelled) → result ≡ first_by bounds.now rules (listing table.now.held) now view.now (option_map (λ (h : Known). h.session) before.now) }
+{
+    match before {
+        Some(held) => Ok(passed(&held.session, Opener::Inside, view.flags, now)),
+        None => {
+            if needs_session(view) {
+                return Err(Cause::NoSession);
+            }
+            match outside_near(bounds, table, translations, view) {
+                Ok(outside) => Ok(new_session(
+                    view,
+                    Opener::Inside,
+                    view.src,
+                    outside,
+                    view.dst,
+                    now,
+                )),
+                Err(cause) => Err(cause),
+            }
+        }
+    }
+}
+
+fn new_session(
+    view: &View,
+    opener: Opener,
+    inside: Endpoint,
+    outside: Endpoint,
+    remote: Endpoint,
+    now: u64,
+) -> Session
+    ensures { result ≡ record { proto = view.now.proto; inside = inside; outside = outside; remote = remote; opener = opener; seen = 0; last = now } }
+{
+    Session {
+        proto: view.proto,
+        inside,
+        outside,
+        remote,
+        opener,
+        seen: 0,
+        last: now,
+    }
+}
+
+fn mapped_far(
+    bounds: &Bounds,
+    table: &Table,
+    translations: &Translations,
+    view: &View,
+) -> Result<Endpoint, Cause>
+    requires counts { (p : Mapping) → times translations.now.pairs p ≡ tally p table.now.held }
+    requires sound { AreSound bounds.now (listing table.now.held) }
+    ensures { result ≡ or_no_mapping (find (maps_outside view.now.proto view.now.dst) (listing table.now.held)) }
+{
+    bounds.facts();
+    match translations.inside_of(view.proto, view.dst) {
+        Some(inside) => Ok(inside),
+        None => Err(Cause::NoMapping),
+    }
+}
+
+// The inside endpoint of a new second session: what the rules say, or that of the mapping.
+fn inside_far(
+    bounds: &Bounds,
+    rules: &Rules,
+    table: &Table,
+    translations: &Translations,
+    view: &View,
+) -> Result<Endpoint, Cause>
+    requires counts { (p : Mapping) → times translations.now.pairs p ≡ tally p table.now.held }
+    requires sound { AreSound bounds.now (listing table.now.held) }
+    ensures { (now : ℕ) (first : Flow) → let sessions = listing table.now.held in
+        result ≡ far_inside bounds.now rules.now sessions now view.now first sessions }
+{
+    let facts = facts_of(view, None, view.dst, State::New);
+    match prerouting(rules, bounds, &facts) {
+        Destination::None => mapped_far(bounds, table, translations, view),
+        Destination::To(inside) => Ok(inside),
+        Destination::Drop => Err(Cause::Rule),
+    }
+}
+
+#[tactic(auto, unfolding(crate::specs::Legs::breaks_mapping))]
+fn breaks_mapping(new: &Session, held: &Session) -> bool
+    ensures { result ≡ are_breaking new.now held.now }
+{
+    let both_translated = new.inside != new.outside && held.inside != held.outside;
+    let same_inside = new.inside == held.inside;
+    let same_outside = new.outside == held.outside;
+    both_translated && new.proto == held.proto && same_inside != same_outside
+}
+
+// The second session begins, if it clashes neither with the first nor with one that is held. With the
+// first it shares no flow, since their remote endpoints differ.
+fn begun_second(
+    table: &Table,
+    view: &View,
+    first: &Session,
+    inside: Endpoint,
+    now: u64,
+) -> Result<Session, Cause>
+    requires keeps { (u : Flow) → In u (listing table.now.held) → same_flow first.now u ≡ true → u.outside ≡ first.now.outside }
+    requires away { first.now.remote ≢ first.now.outside }
+    ensures { (config : Config) (rules : Spelled) (sessions : List Flow) → result ≡ begun_far config rules sessions now view.now first.now (put first.now (listing table.now.held)) inside }
+{
+    let session = new_session(view, Opener::Remote, inside, view.dst, first.outside, now);
+    if breaks_mapping(&session, first) {
+        return Err(Cause::Clash);
+    }
+    if table.clashes_with(&session) {
+        return Err(Cause::Clash);
+    }
+    Ok(session)
+}
+
+fn second_session(
+    bounds: &Bounds,
+    rules: &Rules,
+    table: &Table,
+    translations: &Translations,
+    view: &View,
+    first: &Session,
+    now: u64,
+) -> Result<Session, Cause>
+    requires counts { (p : Mapping) → times translations.now.pairs p ≡ tally p table.now.held }
+    requires sound { AreSound bounds.now (listing table.now.held) }
+    requires keeps { (u : Flow) → In u (listing table.now.held) → same_flow first.now u ≡ true → u.outside ≡ first.now.outside }
+    requires remote { first.now.remote ≡ view.now.dst }
+    requires away { first.now.outside ≢ view.now.dst }
+    ensures { let sessions = listing table.now.held in
+        result ≡ second_by bounds.now rules.now sessions now view.now first.now (put first.now sessions) None }
+{
+    if needs_session(view) {
+        return Err(Cause::NoSession);
+    }
+    match inside_far(bounds, rules, table, translations, view) {
+        Ok(inside) => begun_second(table, view, first, inside, now),
+        Err(cause) => Err(cause),
+    }
+}
+
+fn second_leg(
+    bounds: &Bounds,
+    rules: &Rules,
+    table: &Table,
+    translations: &Translations,
+    view: &View,
+    first: &Session,
+    now: u64,
+) -> Result<Leg, Cause>
+    requires counts { (p : Mapping) → times translations.now.pairs p ≡ tally p table.now.held }
+    requires sound { AreSound bounds.now (listing table.now.held) }
+    requires keeps { (u : Flow) → In u (listing table.now.held) → same_flow first.now u ≡ true → u.outside ≡ first.now.outside }
+    requires remote { first.now.remote ≡ view.now.dst }
+    requires away { first.now.outside ≢ view.now.dst }
+    ensures session { let sessions = listing table.now.held in
+        IfOk result (λ leg. second_by bounds.now rules.now sessions now view.now first.now (put first.now sessions)
+        (find (has_outside view.now.proto view.now.dst first.now.outside) (put first.now sessions)) ≡ Ok leg.session) }
+    ensures cause { let sessions = listing table.now.held in
+        IfErr result (λ cause. second_by bounds.now rules.now sessions now view.now first.now (put first.now sessions)
+        (find (has_outside view.now.proto view.now.dst first.now.outside) (put first.now sessions)) ≡ Err cause) }
+    ensures before { IfOk result (λ leg. option_map (λ (h : Known). h.session) leg.before ≡ find (has_outside view.now.proto view.now.dst first.now.outside) (listing table.now.held)) }
+    ensures slot { IfOk result (λ leg. IfSome leg.before (λ h. at table.now h.slot ≡ Some h.session)) }
+{
+    let before = held_outside(table, view, first.outside);
+    match &before {
+        Some(held) => Ok(Leg {
+            session: passed(&held.session, Opener::Remote, view.flags, now),
+            before,
+        }),
+        None => match second_session(bounds, rules, table, translations, view, first, now) {
+            Ok(session) => Ok(Leg {
+                session,
+                before: None,
+            }),
+            Err(cause) => Err(cause),
+        },
+    }
+}
+
+fn is_forwarded(bounds: &Bounds, rules: &Rules, view: &View, dst: Endpoint, state: State) -> bool
+    ensures { IsTrue result ↔ (forward_verdict bounds.now (record { iif = Iface.Lan; oif = Some Iface.Lan; src = view.now.src; dst = dst; proto = view.now.proto; state = state }) rules.now ≡ Filtering.Pass) }
+{
+    let facts = facts_of(view, Some(Iface::Lan), dst, state);
+    match forward(rules, bounds, &facts) {
+        Filtering::Pass => true,
+        Filtering::Drop => false,
+    }
+}
+
+// How many sessions are held once the packet has passed.
+fn sessions_after(table: &Table, first: &Leg, second: &Leg) -> usize
+    ensures { result ≡ count table.now + option_map_or (λ (h : Known). 0) first.now.before 1 + option_map_or (λ (h : Known). 0) second.now.before 1 }
+{
+    table.is_sound();
+    table.count() + news(first) + news(second)
+}
+
+fn news(leg: &Leg) -> usize
+    ensures value { result ≡ option_map_or (λ (h : Known). 0) leg.now.before 1 }
+    ensures few { result ≤ 1 }
+{
+    match leg.before {
+        Some(_) => 0,
+        None => 1,
+    }
+}
+
+// The way of a packet whose first leg is known.
+fn after_first(
+    bounds: &Bounds,
+    rules: &Rules,
+    table: &Table,
+    translations: &Translations,
+    view: &View,
+    first: &Leg,
+    now: u64,
+) -> Result<Plan, Cause>
+    requires counts { (p : Mapping) → times translations.now.pairs p ≡ tally p table.now.held }
+    requires sound { AreSound bounds.now (listing table.now.held) }
+    requires ports { (0 < view.now.src.port) × (0 < view.now.dst.port) }
+    requires inside { IsTrue (is_inside bounds.now view.now.src.addr) }
+    requires external_destination { view.now.dst.addr ≡ bounds.now.external }
+    requires before { option_map (λ (h : Known). h.session) first.now.before ≡ find (has_inside view.now.proto view.now.src view.now.dst) (listing table.now.held) }
+    requires slot { IfSome first.now.before (λ h. at table.now h.slot ≡ Some h.session) }
+    requires session { first_by bounds.now rules.now (listing table.now.held) now view.now (find (has_inside view.now.proto view.now.src view.now.dst) (listing table.now.held)) ≡ Ok first.now.session }
+    ensures { let sessions = listing table.now.held in let found = find (has_inside view.now.proto view.now.src view.now.dst) sessions in
+        Plans bounds.now.external table.now.held now result (then_with (second_way bounds.now rules.now sessions now view.now first.now.session (put first.now.session sessions))
+        (λ t. forwarded bounds.now rules.now sessions now view.now Iface.Lan Iface.Lan view.now.src t.inside (first_state bounds.now rules.now sessions now view.now found)
+        (counted bounds.now rules.now sessions now view.now (through first.now.session t)))) }
+{
+    bounds.facts();
+    if first.session.outside == view.dst {
+        return Err(Cause::SelfMapped);
+    }
+    let second = match second_leg(
+        bounds,
+        rules,
+        table,
+        translations,
+        view,
+        &first.session,
+        now,
+    ) {
+        Ok(leg) => leg,
+        Err(cause) => return Err(cause),
+    };
+    let state = state_of(&first.before, view);
+    if !is_forwarded(bounds, rules, view, second.session.inside, state) {
+        return Err(Cause::Rule);
+    }
+    if sessions_after(table, first, &second) > 65_536 {
+        return Err(Cause::TableFull);
+    }
+    Ok(Plan {
+        first: change_of(first, Opener::Inside, view.flags),
+        second: Some(change_of(&second, Opener::Remote, view.flags)),
+        src: first.session.outside,
+        dst: second.session.inside,
+        iface: Iface::Lan,
+    })
+}

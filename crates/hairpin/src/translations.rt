@@ -1,0 +1,161 @@
+//! The mappings, and the outside ports that they take, which change together.
+ghost use Rattle.std.specs.Prelude.{◌≡◌, ◌↔◌, ◌⊎◌, ◌+◌, ◌<◌, ◌≤◌, ℕ, Bool, OnOk, IfOk, IfSome, IfNone};
+ghost use Rattle.std.specs.List.{Contains};
+ghost use Rattle.std.specs.Option.{option_map};
+ghost use Rattle.packet.specs.declared.endpoint.Endpoint.{Endpoint as Place};
+ghost use Rattle.packet.specs.declared.endpoint.Proto.{Proto as Protocol};
+ghost use Rattle.portpick.specs.Choice.{IsTestOf, port_choice};
+ghost use Rattle.portpick.specs.Taken.{IsTaken};
+ghost use Rattle.mappings.specs.Map.{times, pair as pair_with, Gains, KeepsOneToOne, SameTimes};
+ghost use Rattle.mappings.specs.declared.map.Pair.{Pair as Mapping};
+ghost use Rattle.hairpin.specs.Translations.{HasRoom, IsOutside, IsOutsideOf, endpoint};
+
+use mappings::map::{Map, Pair};
+use packet::endpoint::{Endpoint, Proto};
+use portpick::ports::Ports;
+use std::alloc::{AllocError, Global};
+use std::marker::Model;
+
+/// The mappings, and the ports that they take at the external address, each from the first hold of
+/// its mapping to the last release.
+#[derive(Drop)]
+pub struct Translations {
+    external: u32,
+    map: Map,
+    ports: Ports,
+}
+
+impl Model for Translations {
+    ghost use Rattle.hairpin.specs.Translations.{Translations as View, Follows};
+
+    ghost Value = { View };
+
+    ghost view = { λ t. record { external = t.external; pairs = t.map; ports = t.ports.room } };
+
+    ghost invariant = { λ t. Follows t.external t.map t.ports };
+}
+
+impl Translations {
+    /// No mapping.
+    pub fn new(alloc: Global, external: u32) -> Result<Translations, AllocError>
+        ensures none { IfOk result (λ t. (p : Mapping) → times t.pairs p ≡ 0) }
+        ensures external { IfOk result (λ t. t.external ≡ external) }
+    {
+        let mut addresses = Vec::new(alloc);
+        addresses.push(external)?;
+        Ok(Translations {
+            external,
+            map: Map::new(alloc),
+            ports: Ports::new(alloc, addresses),
+        })
+    }
+
+    /// Makes room for two more mappings.
+    pub fn reserve(&mut self) -> Result<(), AllocError>
+        ensures ok { OnOk result (HasRoom 2 self.new) }
+        ensures same { SameTimes self.old.pairs self.new.pairs }
+        ensures external { self.new.external ≡ self.old.external }
+    {
+        self.map.reserve()?;
+        self.ports.reserve()
+    }
+
+    /// The outside endpoint that stands for this inside endpoint.
+    pub fn outside_of(&self, proto: Proto, inside: Endpoint) -> Option<Endpoint>
+        ensures found { IfSome result (λ outside. 0 < times self.now.pairs (pair_with proto inside outside)) }
+        ensures absent { IfNone result ((outside : Place) → times self.now.pairs (pair_with proto inside outside) ≡ 0) }
+    {
+        self.map.outside_of(proto, inside)
+    }
+
+    /// The inside endpoint that this outside endpoint stands for.
+    pub fn inside_of(&self, proto: Proto, outside: Endpoint) -> Option<Endpoint>
+        ensures found { IfSome result (λ inside. 0 < times self.now.pairs (pair_with proto inside outside)) }
+        ensures absent { IfNone result ((inside : Place) → times self.now.pairs (pair_with proto inside outside) ≡ 0) }
+    {
+        self.map.inside_of(proto, outside)
+    }
+
+    /// The free endpoint of the external address that the port is given, by any test that says which
+    /// are taken.
+    pub fn choose(&self, proto: Proto, port: u16) -> Option<Endpoint>
+        requires { 0 < port }
+        ensures { (taken : ℕ → Bool) → IsTestOf taken (λ q. IsOutside self.now.pairs proto (endpoint self.now.external q))
+            → result ≡ option_map (endpoint self.now.external) (port_choice taken port) }
+    {
+        match self.ports.pick(proto, self.external, port) {
+            Some(port) => Some(Endpoint {
+                addr: self.external,
+                port,
+            }),
+            None => None,
+        }
+    }
+
+    /// Holds the pair once more, for which there is room.
+    pub fn hold(&mut self, pair: Pair)
+        requires one_to_one { KeepsOneToOne self.old.pairs pair }
+        requires few { times self.old.pairs pair < 65536 }
+        requires address { pair.outside.addr ≡ self.old.external }
+        requires port { 0 < pair.outside.port }
+        requires room { HasRoom 1 self.old }
+        ensures gains { Gains self.old.pairs self.new.pairs pair }
+        ensures room { (n : ℕ) → HasRoom (n + 1) self.old → HasRoom n self.new }
+        ensures external { self.new.external ≡ self.old.external }
+    {
+        take_port(&self.map, &mut self.ports, pair);
+        match self.map.hold(pair) {
+            Ok(()) => {}
+            Err(_) => unreachable!(),
+        }
+    }
+
+    /// Gives one hold of the pair back.
+    pub fn release(&mut self, pair: Pair)
+        requires { 0 < times self.old.pairs pair }
+        ensures loses { Gains self.new.pairs self.old.pairs pair }
+        ensures room { (n : ℕ) → HasRoom n self.old → HasRoom n self.new }
+        ensures external { self.new.external ≡ self.old.external }
+    {
+        self.map.release(pair);
+        free_port(&self.map, &mut self.ports, pair);
+    }
+}
+
+// The pair's port is taken, if it isn't yet.
+fn take_port(map: &Map, ports: &mut Ports, pair: Pair)
+    requires address { Contains ports.old.external pair.outside.addr }
+    requires not_zero { 0 < pair.outside.port }
+    requires room { 0 < ports.old.room }
+    requires taken { (proto : Protocol) (port : ℕ) → IsTaken ports.old proto pair.outside.addr port
+        ↔ IsOutside map.now proto (endpoint pair.outside.addr port) }
+    ensures taken { (proto : Protocol) (port : ℕ) → IsTaken ports.new proto pair.outside.addr port
+        ↔ (IsOutside map.now proto (endpoint pair.outside.addr port) ⊎ IsOutsideOf pair proto (endpoint pair.outside.addr port)) }
+    ensures addresses { ports.new.external ≡ ports.old.external }
+    ensures room { ports.old.room ≤ ports.new.room + 1 }
+{
+    match map.inside_of(pair.proto, pair.outside) {
+        Some(_) => {}
+        None => match ports.take(pair.proto, pair.outside.addr, pair.outside.port) {
+            Ok(()) => {}
+            Err(_) => unreachable!(),
+        },
+    }
+}
+
+// The port of a pair that was released is free, if the pair is held no more.
+fn free_port(map: &Map, ports: &mut Ports, pair: Pair)
+    requires address { Contains ports.old.external pair.outside.addr }
+    requires not_zero { 0 < pair.outside.port }
+    requires taken { (proto : Protocol) (port : ℕ) → IsTaken ports.old proto pair.outside.addr port
+        ↔ (IsOutside map.now proto (endpoint pair.outside.addr port) ⊎ IsOutsideOf pair proto (endpoint pair.outside.addr port)) }
+    ensures taken { (proto : Protocol) (port : ℕ) → IsTaken ports.new proto pair.outside.addr port
+        ↔ IsOutside map.now proto (endpoint pair.outside.addr port) }
+    ensures addresses { ports.new.external ≡ ports.old.external }
+    ensures room { ports.old.room ≤ ports.new.room }
+{
+    match map.inside_of(pair.proto, pair.outside) {
+        Some(_) => {}
+        None => ports.free(pair.proto, pair.outside.addr, pair.outside.port),
+    }
+}
