@@ -117,13 +117,25 @@ wan 1000 4500002800010000 40061493 c6336407 cb007101 01bb9c40 00000001 00000000 
 = drop 15
 :";
 
+// A moment before the clock counts as the clock, and the clock rises to the greatest moment.
+const MOMENTS: &str = "\
+lan 900 4500001c00010000 40118eeb c0a80102 c6336407 13880035 0008003c
+= wan 4500001c00010000 3f111594 cb007101 c6336407 13880035 000885e4
+: udp 192.168.1.2:5000 203.0.113.1:5000 198.51.100.7:53 - inside 0 at 1000
+at 18446744073709551615
+= ticked
+:
+lan 5 4500001c00010000 40118eeb c0a80102 c6336407 13880035 0008003c
+= wan 4500001c00010000 3f111594 cb007101 c6336407 13880035 000885e4
+: udp 192.168.1.2:5000 203.0.113.1:5000 198.51.100.7:53 - inside 0 at 18446744073709551615";
+
 #[test]
 fn phases(rt: HostRuntime) -> Result<(), Fail> {
     let alloc = rt.alloc();
     for script in [RESET, BOTH_OPEN, ACK_ALONE] {
         play(alloc, &[MASQUERADE, script])?;
     }
-    for end in [REPLY_IN_TIME, REPLY_TOO_LATE, PROTOCOLS_APART] {
+    for end in [REPLY_IN_TIME, REPLY_TOO_LATE, PROTOCOLS_APART, MOMENTS] {
         play(alloc, &[MASQUERADE, FIRST, end])?;
     }
     for end in [SYN_AGAIN, SYN_ALONE_ENDS] {
