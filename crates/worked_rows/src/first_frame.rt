@@ -47,7 +47,7 @@ fn first_frame(rt: HostRuntime) -> Result<(), Fail> {
 }
 
 /// A host takes each odd port below 1024, which leaves none of them for another host.
-fn all_taken(alloc: Global) -> Result<String, Fail> {
+pub fn all_taken(alloc: Global) -> Result<String, Fail> {
     let mut script = String::new(alloc);
     for half in 0..512_u32 {
         let port = 2 * half + 1;

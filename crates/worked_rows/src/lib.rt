@@ -2,9 +2,11 @@
 //!
 //! - `script`: events and their answers as lines of text, which are played over the byte stream;
 //! - `shared`: lines that several tests begin with;
-//! - `first_frame`, `phases`, `loads`, `legs`: the tests.
+//! - `first_frame`, `phases`, `loads`, `legs`, `drops`: the tests.
 #![tactic(auto)]
 
+#[cfg(test)]
+mod drops;
 #[cfg(test)]
 mod first_frame;
 #[cfg(test)]
