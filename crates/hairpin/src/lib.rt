@@ -5,6 +5,7 @@
 //!
 //! - `cause`: why a packet is dropped; `plan`: what a packet that passes changes.
 //! - `translations`: the mappings and the outside ports that they take, which change together.
+//! - `held`: a packet's session, held or new, and what the rules are asked about the packet.
 //! - `outward`: `out_leg`, from an inside endpoint to a remote one.
 //! - `inward`: `in_leg`, from a remote endpoint to an outside one.
 //! - `hairpinning`: `both`, from an inside endpoint to an outside endpoint of the gateway itself (hairpinning).
@@ -12,6 +13,7 @@
 
 mod cause;
 mod hairpinning;
+mod held;
 mod inward;
 mod outward;
 mod plan;

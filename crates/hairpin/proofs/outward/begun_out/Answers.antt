@@ -35,7 +35,7 @@ returns-else-count-eq65536 c =
     outside (sym (c.in-Ok.ensures now)) in
     let way = room_left config rules c.requires.bounded (listing held) now view c.facts.ensures.valid c.requires.sound c.requires.inside c.requires.port c.requires.none
     outside (sym (c.in-Ok.ensures now)) (omega (arith, few, most, length-listing held)) in
-    let plan = c.plan_of_new.ensures ∙ ap plan_begun c.new_session.ensures in
+    let plan = c.plan_of_new.ensures ∙ ap plan_begun c.new_session-session.ensures in
     subst (λ p. Plans config.external held now (Ok p) (begun_out config rules (listing held) now view)) (sym plan)
     (subst (Plans config.external held now (Ok (plan_begun t))) (sym way)
     (begun-is config.external held now t (may_begin config held now t o refl refl few)))

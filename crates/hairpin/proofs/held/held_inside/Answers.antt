@@ -1,0 +1,13 @@
+use Rattle.std.proofs.Common.{IsSomeAnd, sym, subst, ◌∙◌}
+use Rattle.sessions.specs.Table.{HasInside}
+use Rattle.sessions.proofs.Found.{found_inside, absent_inside}
+use Rattle.hairpin.proofs.held.held_inside.Goals as goal
+
+pub returns-in-Some-get-clause-session : goal.returns-in-Some-get-clause-session
+returns-in-Some-get-clause-session c =
+    let is = sym c.get.ensures.value ∙ c.in-Some-get.is in
+    let has = subst (λ o. IsSomeAnd o (HasInside c.args.proto c.args.inside c.args.remote)) is c.in-Some.ensures.found in
+    sym (found_inside c.args.table.now.held c.is_sound.ensures c.args.proto c.args.inside c.args.remote c.in-Some.slot c.in-Some-get.session is has)
+
+pub returns-in-None-clause-session : goal.returns-in-None-clause-session
+returns-in-None-clause-session c = sym (absent_inside c.args.table.now.held c.is_sound.ensures c.args.proto c.args.inside c.args.remote c.in-None.ensures.absent)

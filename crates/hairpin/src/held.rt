@@ -1,0 +1,153 @@
+//! A packet's session, held or new, and what the rules are asked about the packet.
+ghost use Rattle.std.specs.Prelude.{◌≡◌, ℕ, List, IfSome, Option as Maybe, Some, None, slice_index_or};
+ghost use Rattle.std.specs.Option.{option_map};
+ghost use Rattle.sessions.specs.Listing.{find, has_inside, has_outside, listing};
+ghost use Rattle.sessions.specs.Table.{at};
+ghost use Rattle.sessions.specs.declared.session.Session.{Session as Flow};
+ghost use Rattle.verdict.specs.Hooks.{forward_verdict};
+ghost use Rattle.hairpin.specs.Legs.{needs_session as has_need, passed_by, state_of as state_by};
+ghost use Rattle.hairpin.specs.Plans.{Gives};
+ghost use Rattle.hairpin.specs.declared.held.Held.{Held as Known};
+
+use packet::bounds::Bounds;
+use packet::endpoint::{Endpoint, Flags, Iface, Proto};
+use packet::view::View;
+use sessions::{Change, Opener, Session, Slot, Table, is_new, is_syn_alone};
+use verdict::{Facts, Filtering, Rules, State, forward};
+
+/// A session that is held, and its slot.
+#[derive(Clone, Copy, Drop)]
+pub struct Held {
+    pub slot: Slot,
+    pub session: Session,
+}
+
+/// The session of this inside endpoint and this remote one.
+pub fn held_inside(
+    table: &Table,
+    proto: Proto,
+    inside: Endpoint,
+    remote: Endpoint,
+) -> Option<Held>
+    ensures session { option_map (λ (h : Known). h.session) result ≡ find (has_inside proto inside remote) (listing table.now.held) }
+    ensures slot { IfSome result (λ h. at table.now h.slot ≡ Some h.session) }
+{
+    table.is_sound();
+    match table.by_inside(proto, inside, remote) {
+        Some(slot) => match table.get(slot) {
+            Some(session) => Some(Held { slot, session }),
+            None => None,
+        },
+        None => None,
+    }
+}
+
+/// The session of this outside endpoint and this remote one.
+pub fn held_outside(
+    table: &Table,
+    proto: Proto,
+    outside: Endpoint,
+    remote: Endpoint,
+) -> Option<Held>
+    ensures session { option_map (λ (h : Known). h.session) result ≡ find (has_outside proto outside remote) (listing table.now.held) }
+    ensures slot { IfSome result (λ h. at table.now h.slot ≡ Some h.session) }
+{
+    table.is_sound();
+    match table.by_outside(proto, outside, remote) {
+        Some(slot) => match table.get(slot) {
+            Some(session) => Some(Held { slot, session }),
+            None => None,
+        },
+        None => None,
+    }
+}
+
+/// Whether only a session lets the packet pass.
+pub fn needs_session(view: &View) -> bool
+    ensures { result ≡ has_need view.now }
+{
+    match view.proto {
+        Proto::Tcp => !is_syn_alone(view.flags),
+        Proto::Udp => false,
+    }
+}
+
+/// The state of a packet of the session from this side.
+pub fn state_of(session: &Session, sender: Opener, flags: Flags) -> State
+    ensures { result ≡ state_by session.now sender flags }
+{
+    if session.restarts(flags) || is_new(Some(*session), sender) {
+        State::New
+    } else {
+        State::Established
+    }
+}
+
+/// What a packet from this side changes of the session that the slot holds.
+pub fn change_of(held: &Held, sender: Opener, flags: Flags) -> Change
+    ensures { (external : ℕ) (places : List (Maybe Flow)) (now : ℕ) → slice_index_or places held.now.slot None ≡ Some held.now.session
+        → Gives external places now result (passed_by held.now.session sender flags now) }
+{
+    if held.session.restarts(flags) {
+        Change::Restart(held.slot, sender)
+    } else {
+        Change::Seen(held.slot, held.session.shown(sender, flags))
+    }
+}
+
+/// The session that the packet begins.
+pub fn new_session(
+    view: &View,
+    opener: Opener,
+    inside: Endpoint,
+    outside: Endpoint,
+    remote: Endpoint,
+    now: u64,
+) -> Session
+    ensures { result ≡ record { proto = view.now.proto; inside = inside; outside = outside; remote = remote; opener = opener; seen = 0; last = now } }
+{
+    Session {
+        proto: view.proto,
+        inside,
+        outside,
+        remote,
+        opener,
+        seen: 0,
+        last: now,
+    }
+}
+
+/// What the rules may ask about the packet between these interfaces, on its way to this endpoint.
+pub fn facts_of(
+    view: &View,
+    iif: Iface,
+    oif: Option<Iface>,
+    dst: Endpoint,
+    state: State,
+) -> Facts
+    ensures { result ≡ record { iif = iif; oif = oif; src = view.now.src; dst = dst; proto = view.now.proto; state = state } }
+{
+    Facts {
+        iif,
+        oif,
+        src: view.src,
+        dst,
+        proto: view.proto,
+        state,
+    }
+}
+
+/// What the forward chains decide about the packet between these interfaces, on its way to this endpoint.
+pub fn filtering(
+    bounds: &Bounds,
+    rules: &Rules,
+    view: &View,
+    iif: Iface,
+    oif: Iface,
+    dst: Endpoint,
+    state: State,
+) -> Filtering
+    ensures { result ≡ forward_verdict bounds.now (record { iif = iif; oif = Some oif; src = view.now.src; dst = dst; proto = view.now.proto; state = state }) rules.now }
+{
+    forward(rules, bounds, &facts_of(view, iif, Some(oif), dst, state))
+}
