@@ -1,122 +1,41 @@
 //! The leg of a packet from a remote endpoint to an outside one.
-ghost use Rattle.std.specs.Prelude.{◌≡◌, ◌⊎◌, ◌<◌, ◌≤◌, ℕ, List, Option as Maybe, Some, None, IsTrue, IfSome, IfNone, length, slice_index_or};
+ghost use Rattle.std.specs.Prelude.{◌≡◌, ◌⊎◌, ◌<◌, ◌≤◌, ℕ, List, Option as Maybe, Some, None, IsTrue, length, slice_index_or};
 ghost use Rattle.packet.specs.Config.{is_inside};
 ghost use Rattle.mappings.specs.declared.map.Pair.{Pair as Mapping};
 ghost use Rattle.mappings.specs.Map.{times};
-ghost use Rattle.sessions.specs.Listing.{find, has_outside, listing};
+ghost use Rattle.sessions.specs.Listing.{listing};
 ghost use Rattle.sessions.specs.declared.session.Session.{Session as Flow};
-ghost use Rattle.verdict.specs.Hooks.{forward_verdict};
-ghost use Rattle.hairpin.specs.Legs.{begun_in, in_by, in_leg as in_way, inside_for, needs_session, passed_by, state_of as state_by};
-ghost use Rattle.hairpin.specs.Plans.{Gives, Plans};
+ghost use Rattle.hairpin.specs.Legs.{begun_in, in_by, in_leg as in_way, inside_for};
+ghost use Rattle.hairpin.specs.Plans.{Plans};
 ghost use Rattle.hairpin.specs.Sound.{AreSound, KeepBounds};
 ghost use Rattle.hairpin.specs.Tallies.{tally};
 
 use crate::cause::Cause;
+use crate::held::{Held, change_of, facts_of, filtering, held_outside, needs_session, new_session, state_of};
 use crate::plan::Plan;
 use crate::translations::Translations;
 use packet::bounds::Bounds;
-use packet::endpoint::{Endpoint, Flags, Iface, Proto};
+use packet::endpoint::{Endpoint, Iface};
 use packet::view::View;
-use sessions::{Change, Opener, Session, Slot, Table, is_new, is_syn_alone};
-use verdict::{Destination, Facts, Filtering, Rules, State, forward, prerouting};
+use sessions::{Change, Opener, Table};
+use verdict::{Destination, Filtering, Rules, State, prerouting};
 
-// Whether only a session lets the packet pass.
-fn has_need_of_session(view: &View) -> bool
-    ensures { result ≡ needs_session view.now }
+// How a packet of a session comes in.
+fn known_in(bounds: &Bounds, rules: &Rules, found: &Held, view: &View) -> Result<Plan, Cause>
+    ensures { (external : ℕ) (held : List (Maybe Flow)) (now : ℕ) → slice_index_or held found.now.slot None ≡ Some found.now.session
+        → Plans external held now result (in_by bounds.now rules.now (listing held) now view.now (Some found.now.session)) }
 {
-    match view.proto {
-        Proto::Tcp => !is_syn_alone(view.flags),
-        Proto::Udp => false,
-    }
-}
-
-// The state of a packet of the session from the remote side.
-fn state_of(session: &Session, flags: Flags) -> State
-    ensures { result ≡ state_by session.now Opener.Remote flags }
-{
-    if session.restarts(flags) || is_new(Some(*session), Opener::Remote) {
-        State::New
-    } else {
-        State::Established
-    }
-}
-
-// What a packet from the remote side changes of the session that the slot holds.
-fn change_of(session: &Session, slot: Slot, flags: Flags) -> Change
-    ensures { (external : ℕ) (held : List (Maybe Flow)) (now : ℕ) → slice_index_or held slot None ≡ Some session.now
-        → Gives external held now result (passed_by session.now Opener.Remote flags now) }
-{
-    if session.restarts(flags) {
-        Change::Restart(slot, Opener::Remote)
-    } else {
-        Change::Seen(slot, session.shown(Opener::Remote, flags))
-    }
-}
-
-// What the forward chains decide about the packet on its way to this inside endpoint.
-fn filtering(
-    bounds: &Bounds,
-    rules: &Rules,
-    view: &View,
-    inside: Endpoint,
-    state: State,
-) -> Filtering
-    ensures { result ≡ forward_verdict bounds.now
-        (record { iif = Iface.Wan; oif = Some Iface.Lan; src = view.now.src; dst = inside; proto = view.now.proto; state = state }) rules.now }
-{
-    let facts = Facts {
-        iif: Iface::Wan,
-        oif: Some(Iface::Lan),
-        src: view.src,
-        dst: inside,
-        proto: view.proto,
-        state,
-    };
-    forward(rules, bounds, &facts)
-}
-
-// How a packet of the session that the slot holds comes in.
-fn goes_on(
-    bounds: &Bounds,
-    rules: &Rules,
-    view: &View,
-    slot: Slot,
-    session: &Session,
-) -> Result<Plan, Cause>
-    ensures { (external : ℕ) (held : List (Maybe Flow)) (now : ℕ) → slice_index_or held slot None ≡ Some session.now
-        → Plans external held now result (in_by bounds.now rules.now (listing held) now view.now (Some session.now)) }
-{
-    let state = state_of(session, view.flags);
-    match filtering(bounds, rules, view, session.inside, state) {
+    let session = &found.session;
+    let state = state_of(session, Opener::Remote, view.flags);
+    match filtering(bounds, rules, view, Iface::Wan, Iface::Lan, session.inside, state) {
         Filtering::Drop => Err(Cause::Rule),
         Filtering::Pass => Ok(Plan {
-            first: change_of(session, slot, view.flags),
+            first: change_of(found, Opener::Remote, view.flags),
             second: None,
             src: session.remote,
             dst: session.inside,
             iface: Iface::Lan,
         }),
-    }
-}
-
-// How a packet that has a session comes in.
-fn known_in(
-    bounds: &Bounds,
-    rules: &Rules,
-    table: &Table,
-    view: &View,
-) -> Option<Result<Plan, Cause>>
-    ensures some { IfSome result (λ plan. (external now : ℕ)
-        → Plans external table.now.held now plan (in_way bounds.now rules.now (listing table.now.held) now view.now)) }
-    ensures none { IfNone result (find (has_outside view.now.proto view.now.dst view.now.src) (listing table.now.held) ≡ None) }
-{
-    table.is_sound();
-    match table.by_outside(view.proto, view.dst, view.src) {
-        Some(slot) => match table.get(slot) {
-            Some(session) => Some(goes_on(bounds, rules, view, slot, &session)),
-            None => None,
-        },
-        None => None,
     }
 }
 
@@ -135,14 +54,7 @@ fn inside_of(
     if bounds.is_inside(view.dst.addr) {
         return Ok(view.dst);
     }
-    let facts = Facts {
-        iif: Iface::Wan,
-        oif: None,
-        src: view.src,
-        dst: view.dst,
-        proto: view.proto,
-        state: State::New,
-    };
+    let facts = facts_of(view, Iface::Wan, None, view.dst, State::New);
     match prerouting(rules, bounds, &facts) {
         Destination::Drop => Err(Cause::Rule),
         Destination::To(inside) => Ok(inside),
@@ -166,19 +78,11 @@ fn begins(
     requires placed { (inside ≡ view.now.dst) ⊎ ((view.now.dst.addr ≡ bounds.now.external) × (0 < view.now.dst.port)) }
     ensures { Plans bounds.now.external table.now.held now result (begun_in bounds.now rules.now (listing table.now.held) now view.now inside) }
 {
-    let session = Session {
-        proto: view.proto,
-        inside,
-        outside: view.dst,
-        remote: view.src,
-        opener: Opener::Remote,
-        seen: 0,
-        last: now,
-    };
+    let session = new_session(view, Opener::Remote, inside, view.dst, view.src, now);
     if table.clashes_with(&session) {
         return Err(Cause::Clash);
     }
-    match filtering(bounds, rules, view, inside, State::New) {
+    match filtering(bounds, rules, view, Iface::Wan, Iface::Lan, inside, State::New) {
         Filtering::Drop => Err(Cause::Rule),
         Filtering::Pass => {
             if table.count() == 65_536 {
@@ -218,10 +122,10 @@ pub fn in_leg(
     requires routed { IsTrue (is_inside bounds.now view.now.dst.addr) ⊎ (view.now.dst.addr ≡ bounds.now.external) }
     ensures { Plans bounds.now.external table.now.held now result (in_way bounds.now rules.now (listing table.now.held) now view.now) }
 {
-    match known_in(bounds, rules, table, view) {
-        Some(plan) => plan,
+    match held_outside(table, view.proto, view.dst, view.src) {
+        Some(found) => known_in(bounds, rules, &found, view),
         None => {
-            if has_need_of_session(view) {
+            if needs_session(view) {
                 return Err(Cause::NoSession);
             }
             let inside = inside_of(bounds, rules, translations, view)?;

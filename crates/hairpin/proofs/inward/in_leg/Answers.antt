@@ -1,8 +1,10 @@
-use Rattle.std.proofs.Common.{◌≡◌, Ok, Err, inl, inr, sym, subst}
+use Rattle.std.proofs.Common.{◌≡◌, Ok, Err, inl, inr, sym, ap, subst, ◌∙◌}
+use Rattle.std.specs.Option.{option_map}
 use Rattle.std.proofs.lemmas.Result.{err_from_is_err_and}
 use Rattle.sessions.specs.Listing.{listing}
 use Rattle.hairpin.specs.Legs.{in_leg}
 use Rattle.hairpin.specs.Plans.{Plans}
+use Rattle.hairpin.specs.declared.held.Held.{Held}
 use Rattle.hairpin.proofs.Incoming.{in-new, is-near}
 use Rattle.hairpin.proofs.inward.in_leg.Goals as goal
 
@@ -14,7 +16,8 @@ returns-in_err-inside-in-None c =
     let p = err_from_is_err_and c.from_residual.result c.from_residual.ensures.1 in
     let cause = c.in_err-inside-in-None.field-0.0 in
     let same : p.0 ≡ cause = cc p.2 in
-    let is = in-new config c.args.rules.now (listing held) c.args.now view c.in-None.ensures.none (sym c.if-has_need_of_session.ensures) (Err cause)
+    let none = sym c.held_outside.ensures.session ∙ ap (λ b. option_map (λ (h : Held). h.session) b) c.in-None.is in
+    let is = in-new config c.args.rules.now (listing held) c.args.now view none (sym c.if-needs_session.ensures) (Err cause)
     (sym (c.in_err-inside-in-None.ensures held c.args.now c.requires.counts c.requires.sound)) in
     let way = in_leg config c.args.rules.now (listing held) c.args.now view in
     subst (λ r. Plans config.external held c.args.now r way) (sym p.1) (subst (Plans config.external held c.args.now (Err p.0)) (sym is) same)
@@ -31,6 +34,7 @@ returns-in_ok-inside-in-None c =
     let held = c.args.table.now.held in
     let config = c.args.bounds.now in
     let view = c.args.view.now in
-    let is = in-new config c.args.rules.now (listing held) c.args.now view c.in-None.ensures.none (sym c.if-has_need_of_session.ensures) (Ok c.in_ok-inside-in-None.inside)
+    let none = sym c.held_outside.ensures.session ∙ ap (λ b. option_map (λ (h : Held). h.session) b) c.in-None.is in
+    let is = in-new config c.args.rules.now (listing held) c.args.now view none (sym c.if-needs_session.ensures) (Ok c.in_ok-inside-in-None.inside)
     (sym (c.in_ok-inside-in-None.ensures held c.args.now c.requires.counts c.requires.sound)) in
     subst (Plans config.external held c.args.now c.begins.result) (sym is) c.begins.ensures
