@@ -34,7 +34,7 @@ use Rattle.hairpin.specs.Tallies.{tally}
 use Rattle.hairpin.specs.Translations.{IsOutside, endpoint}
 use Rattle.hairpin.specs.declared.cause.Cause.{Cause}
 use Rattle.hairpin.specs.declared.cause.Cause.TheVariants.{Clash, NoSession, Rule, SelfMapped, TableFull}
-use Rattle.hairpin.specs.declared.hairpinning.Held.{Held}
+use Rattle.hairpin.specs.declared.held.Held.{Held}
 use Rattle.hairpin.specs.declared.plan.Plan.{Plan}
 use Rattle.hairpin.proofs.Apart.{differ, find-In, maps_outside-parts, same_endpoint-from}
 use Rattle.hairpin.proofs.Clashing.{breaks-from, breaks-parts, none_clashes, no_clash}

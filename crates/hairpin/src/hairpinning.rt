@@ -9,20 +9,21 @@ ghost use Rattle.sessions.specs.Listing.{In, find, has_inside, has_outside, list
 ghost use Rattle.sessions.specs.Table.{at, count};
 ghost use Rattle.sessions.specs.declared.session.Session.{Session as Flow};
 ghost use Rattle.verdict.specs.Hooks.{forward_verdict};
-ghost use Rattle.hairpin.specs.Legs.{begun_second as begun_far, breaks_mapping as are_breaking, counted, first_by, first_state, forwarded, hairpin as hairpin_way, inside_far as far_inside, maps_inside, maps_outside, needs_session as has_need, or_no_mapping, outside_near as near_outside, passed_by, second as second_way, second_by, then_with, through};
+ghost use Rattle.hairpin.specs.Legs.{begun_second as begun_far, breaks_mapping as are_breaking, counted, first_by, first_state, forwarded, hairpin as hairpin_way, inside_far as far_inside, maps_inside, maps_outside, or_no_mapping, outside_near as near_outside, passed_by, second as second_way, second_by, then_with, through};
 ghost use Rattle.hairpin.specs.Plans.{Gives, Plans};
 ghost use Rattle.hairpin.specs.Sound.{AreSound, KeepBounds};
 ghost use Rattle.hairpin.specs.Tallies.{tally};
-ghost use Rattle.hairpin.specs.declared.hairpinning.Held.{Held as Known};
+ghost use Rattle.hairpin.specs.declared.held.Held.{Held as Known};
 
 use crate::cause::Cause;
+use crate::held::{Held, change_of, facts_of, filtering, held_inside, held_outside, needs_session, new_session, state_of};
 use crate::plan::Plan;
 use crate::translations::Translations;
 use packet::bounds::Bounds;
-use packet::endpoint::{Endpoint, Flags, Iface, Proto};
+use packet::endpoint::{Endpoint, Flags, Iface};
 use packet::view::View;
-use sessions::{Change, Opener, Session, Slot, Table, is_new, is_syn_alone};
-use verdict::{Destination, Facts, Filtering, Rules, State, forward, prerouting};
+use sessions::{Change, Opener, Session, Table};
+use verdict::{Destination, Filtering, Rules, State, prerouting};
 
 /// How a packet passes from an inside endpoint (its source) to an outside endpoint of the gateway (its
 /// destination, at the external address) and on to the inside endpoint that this stands for, at a moment in
@@ -51,7 +52,7 @@ pub fn both(
     requires external_destination { view.now.dst.addr ≡ bounds.now.external }
     ensures { Plans bounds.now.external table.now.held now result (hairpin_way bounds.now rules.now (listing table.now.held) now view.now) }
 {
-    let before = held_inside(table, view);
+    let before = held_inside(table, view.proto, view.src, view.dst);
     let session = match first_session(bounds, table, translations, view, &before, now) {
         Ok(session) => session,
         Err(cause) => return Err(cause),
@@ -60,55 +61,11 @@ pub fn both(
     after_first(bounds, rules, table, translations, view, &first, now)
 }
 
-// A session that is held, and its slot.
-#[derive(Clone, Copy, Drop)]
-struct Held {
-    slot: Slot,
-    session: Session,
-}
-
 // The session of a leg as it is once the packet has passed, and as it was held before.
 #[derive(Clone, Copy, Drop)]
 struct Leg {
     session: Session,
     before: Option<Held>,
-}
-
-fn needs_session(view: &View) -> bool
-    ensures { result ≡ has_need view.now }
-{
-    match view.proto {
-        Proto::Tcp => !is_syn_alone(view.flags),
-        Proto::Udp => false,
-    }
-}
-
-fn held_inside(table: &Table, view: &View) -> Option<Held>
-    ensures session { option_map (λ (h : Known). h.session) result ≡ find (has_inside view.now.proto view.now.src view.now.dst) (listing table.now.held) }
-    ensures slot { IfSome result (λ h. at table.now h.slot ≡ Some h.session) }
-{
-    table.is_sound();
-    match table.by_inside(view.proto, view.src, view.dst) {
-        Some(slot) => match table.get(slot) {
-            Some(session) => Some(Held { slot, session }),
-            None => None,
-        },
-        None => None,
-    }
-}
-
-fn held_outside(table: &Table, view: &View, remote: Endpoint) -> Option<Held>
-    ensures session { option_map (λ (h : Known). h.session) result ≡ find (has_outside view.now.proto view.now.dst remote) (listing table.now.held) }
-    ensures slot { IfSome result (λ h. at table.now h.slot ≡ Some h.session) }
-{
-    table.is_sound();
-    match table.by_outside(view.proto, view.dst, remote) {
-        Some(slot) => match table.get(slot) {
-            Some(session) => Some(Held { slot, session }),
-            None => None,
-        },
-        None => None,
-    }
 }
 
 // The session once a packet of it from this side has passed.
@@ -131,57 +88,26 @@ fn passed(session: &Session, sender: Opener, flags: Flags, now: u64) -> Session
     }
 }
 
-fn state_of(before: &Option<Held>, view: &View) -> State
+// The state of the packet, by the first leg's session as it was held.
+fn state_of_first(before: &Option<Held>, view: &View) -> State
     ensures { (config : Config) (rules : Spelled) (sessions : List Flow) (now : ℕ)
         → result ≡ first_state config rules sessions now view.now (option_map (λ (h : Known). h.session) before.now) }
 {
     match before {
-        Some(held) => {
-            if held.session.restarts(view.flags) || is_new(Some(held.session), Opener::Inside) {
-                State::New
-            } else {
-                State::Established
-            }
-        }
+        Some(held) => state_of(&held.session, Opener::Inside, view.flags),
         None => State::New,
     }
 }
 
-// What a packet from this side changes of the session that the slot holds.
-fn change_of_held(held: &Held, sender: Opener, flags: Flags) -> Change
-    ensures { (external : ℕ) (places : List (Maybe Flow)) (now : ℕ) → slice_index_or places held.now.slot None ≡ Some held.now.session
-        → Gives external places now result (passed_by held.now.session sender flags now) }
-{
-    if held.session.restarts(flags) {
-        Change::Restart(held.slot, sender)
-    } else {
-        Change::Seen(held.slot, held.session.shown(sender, flags))
-    }
-}
-
 // What the packet makes of the leg's session.
-fn change_of(leg: &Leg, sender: Opener, flags: Flags) -> Change
+fn change_of_leg(leg: &Leg, sender: Opener, flags: Flags) -> Change
     ensures held { IfSome leg.now.before (λ h. (external : ℕ) (places : List (Maybe Flow)) (now : ℕ) → slice_index_or places h.slot None ≡ Some h.session
         → Gives external places now result (passed_by h.session sender flags now)) }
     ensures new { IfNone leg.now.before (result ≡ Change.Begin leg.now.session) }
 {
     match &leg.before {
-        Some(held) => change_of_held(held, sender, flags),
+        Some(held) => change_of(held, sender, flags),
         None => Change::Begin(leg.session),
-    }
-}
-
-// What the rules may ask about the packet.
-fn facts_of(view: &View, oif: Option<Iface>, dst: Endpoint, state: State) -> Facts
-    ensures { result ≡ record { iif = Iface.Lan; oif = oif; src = view.now.src; dst = dst; proto = view.now.proto; state = state } }
-{
-    Facts {
-        iif: Iface::Lan,
-        oif,
-        src: view.src,
-        dst,
-        proto: view.proto,
-        state,
     }
 }
 
@@ -246,27 +172,6 @@ fn first_session(
     }
 }
 
-fn new_session(
-    view: &View,
-    opener: Opener,
-    inside: Endpoint,
-    outside: Endpoint,
-    remote: Endpoint,
-    now: u64,
-) -> Session
-    ensures { result ≡ record { proto = view.now.proto; inside = inside; outside = outside; remote = remote; opener = opener; seen = 0; last = now } }
-{
-    Session {
-        proto: view.proto,
-        inside,
-        outside,
-        remote,
-        opener,
-        seen: 0,
-        last: now,
-    }
-}
-
 fn mapped_far(
     bounds: &Bounds,
     table: &Table,
@@ -297,7 +202,7 @@ fn inside_far(
     ensures { (now : ℕ) (first : Flow) → let sessions = listing table.now.held in
         result ≡ far_inside bounds.now rules.now sessions now view.now first sessions }
 {
-    let facts = facts_of(view, None, view.dst, State::New);
+    let facts = facts_of(view, Iface::Lan, None, view.dst, State::New);
     match prerouting(rules, bounds, &facts) {
         Destination::None => mapped_far(bounds, table, translations, view),
         Destination::To(inside) => Ok(inside),
@@ -387,7 +292,7 @@ fn second_leg(
     ensures before { IfOk result (λ leg. option_map (λ (h : Known). h.session) leg.before ≡ find (has_outside view.now.proto view.now.dst first.now.outside) (listing table.now.held)) }
     ensures slot { IfOk result (λ leg. IfSome leg.before (λ h. at table.now h.slot ≡ Some h.session)) }
 {
-    let before = held_outside(table, view, first.outside);
+    let before = held_outside(table, view.proto, view.dst, first.outside);
     match &before {
         Some(held) => Ok(Leg {
             session: passed(&held.session, Opener::Remote, view.flags, now),
@@ -406,8 +311,7 @@ fn second_leg(
 fn is_forwarded(bounds: &Bounds, rules: &Rules, view: &View, dst: Endpoint, state: State) -> bool
     ensures { IsTrue result ↔ (forward_verdict bounds.now (record { iif = Iface.Lan; oif = Some Iface.Lan; src = view.now.src; dst = dst; proto = view.now.proto; state = state }) rules.now ≡ Filtering.Pass) }
 {
-    let facts = facts_of(view, Some(Iface::Lan), dst, state);
-    match forward(rules, bounds, &facts) {
+    match filtering(bounds, rules, view, Iface::Lan, Iface::Lan, dst, state) {
         Filtering::Pass => true,
         Filtering::Drop => false,
     }
@@ -470,7 +374,7 @@ fn after_first(
         Ok(leg) => leg,
         Err(cause) => return Err(cause),
     };
-    let state = state_of(&first.before, view);
+    let state = state_of_first(&first.before, view);
     if !is_forwarded(bounds, rules, view, second.session.inside, state) {
         return Err(Cause::Rule);
     }
@@ -478,8 +382,8 @@ fn after_first(
         return Err(Cause::TableFull);
     }
     Ok(Plan {
-        first: change_of(first, Opener::Inside, view.flags),
-        second: Some(change_of(&second, Opener::Remote, view.flags)),
+        first: change_of_leg(first, Opener::Inside, view.flags),
+        second: Some(change_of_leg(&second, Opener::Remote, view.flags)),
         src: first.session.outside,
         dst: second.session.inside,
         iface: Iface::Lan,

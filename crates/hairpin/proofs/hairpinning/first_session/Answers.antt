@@ -3,7 +3,7 @@ use Rattle.std.specs.Option.{option_map}
 use Rattle.sessions.specs.Listing.{listing}
 use Rattle.sessions.specs.declared.session.Session.{Session}
 use Rattle.hairpin.specs.Legs.{first_by}
-use Rattle.hairpin.specs.declared.hairpinning.Held.{Held}
+use Rattle.hairpin.specs.declared.held.Held.{Held}
 use Rattle.hairpin.proofs.Planned.{first-none}
 use Rattle.hairpin.proofs.hairpinning.first_session.Goals as goal
 

@@ -2,7 +2,7 @@ use Rattle.std.proofs.Common.{Ok, sym, ap, ◌∙◌}
 use Rattle.std.specs.Option.{option_map}
 use Rattle.sessions.specs.Listing.{listing, put}
 use Rattle.hairpin.specs.Legs.{second_by}
-use Rattle.hairpin.specs.declared.hairpinning.Held.{Held}
+use Rattle.hairpin.specs.declared.held.Held.{Held}
 use Rattle.hairpin.proofs.Planned.{has-other}
 use Rattle.hairpin.proofs.hairpinning.second_leg.Goals as goal
 
