@@ -1,9 +1,10 @@
 -- Sessions that are sound, and what may join them.
-use Rattle.std.proofs.Common.{◌≡◌, ◌≢◌, ◌⊎◌, ℕ, zero, suc, ◌<◌, List, [], ◌∷◌, Option, Some, None, is_some, Bool, true, false, cond, not, ◌&&◌, refl, sym, ap, ◌∙◌, subst, inl, inr, arith}
+use Rattle.std.proofs.Common.{◌≡◌, ◌≢◌, ◌⊎◌, ℕ, zero, suc, ◌<◌, List, [], ◌∷◌, Option, Some, None, is_some, Result, Ok, Err, Bool, true, false, cond, not, ◌&&◌, refl, sym, ap, ◌∙◌, subst, inl, inr, arith}
 use Rattle.std.specs.Option.{option_map}
 use Rattle.std.proofs.lemmas.Bool.{cases_Bool, and_parts, and_from, false≢true, not-true, false_from_ne_true}
 use Rattle.std.proofs.lemmas.Bool.Decides.{nat_tests}
 use Rattle.std.proofs.lemmas.Option.{none-some, same_Some}
+use Rattle.std.proofs.lemmas.Result.{IfOk-at_ok}
 use Rattle.packet.specs.Config.{Config, is_config, is_inside}
 use Rattle.packet.specs.Same.{same_proto, same_endpoint}
 use Rattle.packet.specs.declared.endpoint.Endpoint.{Endpoint}
@@ -14,9 +15,11 @@ use Rattle.sessions.specs.Listing.{In, find, has_inside}
 use Rattle.sessions.specs.Table.{Clash}
 use Rattle.sessions.specs.declared.session.Session.{Session}
 use Rattle.sessions.proofs.Puts.{find-some, has_inside-from}
-use Rattle.hairpin.specs.Legs.{breaks_mapping, clashes, is_at, is_taken, is_translated, just_one, maps_inside, maps_outside}
-use Rattle.hairpin.specs.Sound.{AreSound, IsPlaced}
+use Rattle.hairpin.specs.Legs.{is_at, is_taken, maps_inside, maps_outside, or_no_port}
+use Rattle.hairpin.specs.Sound.{IsPlaced}
 use Rattle.hairpin.specs.Translations.{endpoint}
+use Rattle.hairpin.specs.declared.cause.Cause.{Cause}
+use Rattle.hairpin.specs.declared.cause.Cause.TheVariants.{NoPort}
 
 pub cases_endpoint : (e f : Endpoint) → (e ≡ f) ⊎ (e ≢ f)
 cases_endpoint e f = elim (cases_Bool (same_endpoint e f)) [
@@ -101,19 +104,6 @@ taken-by sessions proto addr port h = elim (some_or_none (find (is_at proto (end
       (some.0, is.0, parts.0, parts.1)
   | inr none ↦ absurd (is_some-None (find (is_at proto (endpoint addr port)) sessions) none h)
 ]
-
-pub clash-sym : (s t : Session) → Clash s t → Clash t s
-clash-sym s t (inl h) = inl (sym h.0, sym h.1, sym h.2)
-clash-sym s t (inr (inl h)) = inr (inl (sym h.0, sym h.1, sym h.2))
-clash-sym s t (inr (inr h)) = inr (inr (
-  h.1,
-  h.0,
-  sym h.2,
-  elim h.3 [
-    | inl i ↦ inl (sym i.0, λ e. i.1 (sym e))
-    | inr o ↦ inr (sym o.0, λ e. o.1 (sym e))
-  ],
-))
 
 -- the external address isn't inside
 pub outside_away : (config : Config) → is_config config ≡ true → is_inside config config.external ≡ true → ⊥
@@ -203,3 +193,14 @@ choice-free taken p q lt e = first_free-free taken (size_of_class p) p q lt e
 pub mapped-some : {X Y : Type 0} (f : X → Y) (o : Option X) (y : Y) → option_map f o ≡ Some y → (x : X) × (o ≡ Some x) × (f x ≡ y)
 mapped-some f (Some x) y e = (x, refl, same_Some _ _ e)
 mapped-some f None y e = absurd (none-some _ e)
+
+-- what a result tells
+pub same_Ok : {A : Type 0} (a b : A) → ◌≡◌ {A = Result A Cause} (Ok a) (Ok b) → a ≡ b
+same_Ok a b e = IfOk-at_ok (λ x. a ≡ x) e refl
+
+pub err-ok : {A : Type 0} (cause : Cause) (a : A) → ◌≡◌ {A = Result A Cause} (Err cause) (Ok a) → ⊥
+err-ok cause a e = IfOk-at_ok (λ _. ⊥) e tt
+
+pub port-ok : (o : Option Endpoint) (outside : Endpoint) → or_no_port o ≡ Ok outside → o ≡ Some outside
+port-ok (Some x) outside e = ap Some (same_Ok x outside e)
+port-ok None outside e = absurd (err-ok NoPort outside e)

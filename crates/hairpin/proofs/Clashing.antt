@@ -1,6 +1,6 @@
 -- Two sessions clash where the test says so.
-use Rattle.std.proofs.Common.{◌≡◌, ◌≢◌, ◌⊎◌, ℕ, List, Option, Some, None, is_some, Bool, true, false, not, ◌&&◌, ◌||◌, get_or, sym, ap, ◌∙◌, inl, inr}
-use Rattle.std.proofs.lemmas.Bool.{and_cases, and_from, and_parts, cases_Bool, false≢true, not-true, not_from_false, or_cases, or_left, or_right}
+use Rattle.std.proofs.Common.{◌≡◌, List, Option, None, is_some, true, not, ◌&&◌, ◌||◌, sym, ap, ◌∙◌, inl, inr}
+use Rattle.std.proofs.lemmas.Bool.{and_from, and_parts, not-true, or_cases, or_left, or_right}
 use Rattle.std.proofs.lemmas.Option.{none-some}
 use Rattle.packet.specs.Same.{same_proto, same_endpoint}
 use Rattle.packet.proofs.SameLemmas.{same_proto-true, same_endpoint-true}
@@ -11,7 +11,7 @@ use Rattle.sessions.proofs.Found.{has_outside-from, has_outside-true}
 use Rattle.sessions.proofs.Puts.{find-none, find-some, has_inside-from, has_inside-true}
 use Rattle.sessions.proofs.Sets.{In-listing, listing-In}
 use Rattle.hairpin.specs.Legs.{breaks_mapping, clashes, is_translated, just_one}
-use Rattle.hairpin.proofs.Apart.{apart-from, differ, find-In, same_endpoint-from, same_proto-from, some_or_none}
+use Rattle.hairpin.proofs.Apart.{apart-from, differ, same_endpoint-from, same_proto-from}
 
 pub breaks-parts : (s t : Session) → breaks_mapping s t ≡ true → BreakMapping s t
 unfolding breaks_mapping

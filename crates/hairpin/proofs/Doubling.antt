@@ -2,7 +2,7 @@
 use Rattle.std.proofs.Common.{◌≡◌, ℕ, ◌+◌, ◌<◌, ◌≤◌, List, [], ◌∷◌, length, Option, Some, None, is_some, Result, Ok, Err, Bool, true, false, cond, not, nat_lt, if◌then◌else◌, refl, sym, ap, ◌∙◌, subst, inl, inr, arith}
 use Rattle.std.specs.List.{filter}
 use Rattle.std.specs.Option.{option_map}
-use Rattle.std.proofs.lemmas.Bool.{cases_Bool, cases_lt, false≢true, false_from_ne_true, lt-ltb, not-true}
+use Rattle.std.proofs.lemmas.Bool.{cases_Bool, cases_lt, false≢true, lt-ltb, not-false, not-true}
 use Rattle.std.proofs.lemmas.Option.{none-some, same_Some}
 use Rattle.packet.specs.Config.{Config, is_config, is_inside}
 use Rattle.packet.specs.Same.{same_endpoint}
@@ -19,28 +19,22 @@ use Rattle.sessions.specs.declared.session.Opener.{Opener}
 use Rattle.sessions.specs.declared.session.Opener.TheVariants.{Inside, Remote}
 use Rattle.sessions.specs.declared.session.Session.{Session}
 use Rattle.sessions.proofs.Held.{SameKeys}
-use Rattle.sessions.proofs.Puts.{flow-keys, has_inside-from, has_inside-true, keys-flow, length-insert}
-use Rattle.sessions.proofs.Sets.{In-filter, Rises-filter, Rises-insert, below-itself, below-keys, insert-In}
+use Rattle.sessions.proofs.Puts.{has_inside-from, has_inside-true, keys-flow, length-insert}
+use Rattle.sessions.proofs.Sets.{In-filter, Rises-filter, Rises-insert, insert-In}
 use Rattle.verdict.specs.Hooks.{forward_verdict, prerouting_verdict}
 use Rattle.verdict.specs.declared.facts.State.TheVariants.{New}
-use Rattle.verdict.specs.declared.hook.Filtering.{Filtering}
-use Rattle.verdict.specs.declared.hook.Filtering.TheVariants as filtering
 use Rattle.verdict.specs.declared.hook.Destination.{Destination}
 use Rattle.verdict.specs.declared.hook.Destination.TheVariants as destination
-use Rattle.hairpin.specs.Legs.{Passage, begun_second, clashes, counted, facts_of, first_by, first_state, forwarded, hairpin, inside_by_rules, inside_far, is_taken, maps_inside, maps_outside, needs_session, new_session, or_no_mapping, or_no_port, outside_near, passed_by, second, second_by, then_with, through, unless_dropped}
+use Rattle.hairpin.specs.Legs.{Passage, begun_second, clashes, counted, facts_of, first_by, first_state, forwarded, hairpin, inside_by_rules, inside_far, is_taken, maps_inside, maps_outside, needs_session, new_session, or_no_mapping, outside_near, passed_by, second, second_by, then_with, through}
 use Rattle.hairpin.specs.Sound.{AreSound, KeepBounds}
 use Rattle.hairpin.specs.Translations.{endpoint}
 use Rattle.hairpin.specs.declared.cause.Cause.{Cause}
-use Rattle.hairpin.specs.declared.cause.Cause.TheVariants.{Clash, NoMapping, NoPort, NoSession, Rule, SelfMapped, TableFull}
-use Rattle.hairpin.proofs.Apart.{choice-free, chosen_apart, find-In, mapped-some, mapped_apart, maps-parts, outside_away}
+use Rattle.hairpin.specs.declared.cause.Cause.TheVariants.{Clash, NoMapping, NoSession, Rule, SelfMapped, TableFull}
+use Rattle.hairpin.proofs.Apart.{choice-free, chosen_apart, err-ok, find-In, mapped-some, mapped_apart, maps-parts, outside_away, port-ok, same_Ok}
 use Rattle.hairpin.proofs.Clashing.{no_clash}
-use Rattle.hairpin.proofs.Soundness.{IsFine, Joins, filter-all, filter-fewer, passed-joins, put-sound, two-join}
+use Rattle.hairpin.proofs.Soundness.{IsFine, Joins, filter-one, fine-filtered, other-flow, passed-joins, put-known, put-more, put-sound, two-join}
 
 -- ---- a search of the set with one session put in
-
-pub not_apart : (b : Bool) → not b ≡ false → b ≡ true
-not_apart true h = refl
-not_apart false h = sym h
 
 find-insert : (p : Session → Bool) (t : Session) (xs : List Session) → p t ≡ false → find p (insert t xs) ≡ find p xs
 find-insert p t [] h = ap (λ b. cond b (Some t) None) h
@@ -59,28 +53,9 @@ find-filter p q (x ∷ xs) h = elim (cases_Bool (q x)) [
 -- a search finds what it found, where neither the session nor those that it replaces pass
 pub find-put : (p : Session → Bool) (t : Session) (xs : List Session) → p t ≡ false → ((s : Session) → In s xs → same_flow t s ≡ true → p s ≡ false) → find p (put t xs) ≡ find p xs
 find-put p t xs own others = find-insert p t (filter (λ u. not (same_flow t u)) xs) own
-    ∙ find-filter p (λ u. not (same_flow t u)) xs (λ s in_s h. others s in_s (not_apart (same_flow t s) h))
+    ∙ find-filter p (λ u. not (same_flow t u)) xs (λ s in_s h. others s in_s (not-false (same_flow t s) h))
 
 -- ---- how many sessions there are
-
-filter-one : (t : Session) (xs : List Session) → Rises xs → length xs ≤ length (filter (λ u. not (same_flow t u)) xs) + 1
-filter-one t [] rises = omega arith
-filter-one t (x ∷ xs) rises = elim (cases_Bool (same_flow t x)) [
-  | inl same ↦
-      let all : filter (λ u. not (same_flow t u)) xs ≡ xs = filter-all (λ u. not (same_flow t u)) xs (λ u in_u.
-      ap not (false_from_ne_true _ (λ h. below-itself x (below-keys x u x x refl (flow-keys t x same ∙ sym (flow-keys t u h)) ∙ rises.0 u in_u)))) in
-      let count : length (filter (λ u. not (same_flow t u)) xs) ≡ length xs = ap (λ (ys : List Session). length ys) all in
-      subst (λ b. length (x ∷ xs) ≤ length (cond (not b) (x ∷ filter (λ u. not (same_flow t u)) xs) (filter (λ u. not (same_flow t u)) xs)) + 1) (sym same) (omega arith)
-  | inr other ↦
-      let rest = filter-one t xs rises.1 in
-      subst (λ b. length (x ∷ xs) ≤ length (cond (not b) (x ∷ filter (λ u. not (same_flow t u)) xs) (filter (λ u. not (same_flow t u)) xs)) + 1) (sym other) (omega arith)
-]
-
-pub length-put_old : (t s : Session) (xs : List Session) → Rises xs → In s xs → same_flow t s ≡ true → length (put t xs) ≡ length xs
-length-put_old t s xs rises in_s same = omega (arith, length-insert t (filter (λ u. not (same_flow t u)) xs), filter-one t xs rises, filter-fewer (λ u. not (same_flow t u)) xs s in_s (ap not same))
-
-pub length-put_new : (t : Session) (xs : List Session) → ((u : Session) → In u xs → same_flow t u ≡ false) → length (put t xs) ≡ length xs + 1
-length-put_new t xs other = ap (λ (ys : List Session). length (insert t ys)) (filter-all (λ u. not (same_flow t u)) xs (λ u in_u. ap not (other u in_u))) ∙ length-insert t xs
 
 pub length-put_most : (t : Session) (xs : List Session) → Rises xs → length xs ≤ length (put t xs)
 length-put_most t xs rises = omega (arith, length-insert t (filter (λ u. not (same_flow t u)) xs), filter-one t xs rises)
@@ -112,22 +87,6 @@ passed-flow s sender flags now =
 
 -- ---- what a result tells
 
-ok_or : {A : Type 0} → A → Result A Cause → A
-ok_or a (Ok x) = x
-ok_or a (Err cause) = a
-
-pub same_Ok : {A : Type 0} (a b : A) → ◌≡◌ {A = Result A Cause} (Ok a) (Ok b) → a ≡ b
-unfolding ok_or
-same_Ok a b e = ap (ok_or a) e
-
-is_good : {A : Type 0} → Result A Cause → Bool
-is_good (Ok x) = true
-is_good (Err cause) = false
-
-pub err-ok : {A : Type 0} (cause : Cause) (a : A) → ◌≡◌ {A = Result A Cause} (Err cause) (Ok a) → ⊥
-unfolding is_good
-err-ok cause a e = false≢true (ap is_good e)
-
 made : {A B : Type 0} (b : Bool) (cause : Cause) (r : Result A Cause) (next : A → Result B Cause) (y : B) → (if b then Err cause else then_with r next) ≡ Ok y
     → (a : A) × (r ≡ Ok a) × (next a ≡ Ok y)
 made true cause r next y e = absurd (err-ok cause y e)
@@ -137,10 +96,6 @@ made false cause (Ok a) next y e = (a, refl, e)
 unless : {A : Type 0} (b : Bool) (cause : Cause) (x y : A) → (if b then Err cause else Ok x) ≡ Ok y → (b ≡ false) × (x ≡ y)
 unless true cause x y e = absurd (err-ok cause y e)
 unless false cause x y e = (refl, same_Ok x y e)
-
-some-port : (o : Option Endpoint) (e : Endpoint) → or_no_port o ≡ Ok e → o ≡ Some e
-some-port (Some x) e h = ap Some (same_Ok x e h)
-some-port None e h = absurd (err-ok NoPort e h)
 
 some-mapping : (o : Option Session) (e : Endpoint) → or_no_mapping o ≡ Ok e → (m : Session) × (o ≡ Some m) × (m.inside ≡ e)
 some-mapping (Some m) e h = (m, refl, same_Ok m.inside e h)
@@ -196,7 +151,7 @@ module _ (config : Config) (rules : Spelled) (sessions : List Session) (now : �
   opened_by None e outside h none =
       let addr = view.dst.addr in
       let new = near_of outside in
-      let some = some-port (option_map (endpoint addr) (port_choice (is_taken sessions view.proto addr) view.src.port)) outside h in
+      let some = port-ok (option_map (endpoint addr) (port_choice (is_taken sessions view.proto addr) view.src.port)) outside h in
       let chosen = mapped-some (endpoint addr) (port_choice (is_taken sessions view.proto addr) view.src.port) outside some in
       let free = choice-free (is_taken sessions view.proto addr) view.src.port chosen.0 src_port chosen.1 in
       record {
@@ -208,11 +163,11 @@ module _ (config : Config) (rules : Spelled) (sessions : List Session) (now : �
   new-first : (outside : Endpoint) → find (has_inside view.proto view.src view.dst) sessions ≡ None → Opened config sessions (near_of outside) → IsFirst config sessions view now None (near_of outside)
   new-first outside none opened =
       let t = near_of outside in
-      let other : (u : Session) → In u sessions → same_flow t u ≡ false = λ u in_u. false_from_ne_true _ (λ h. opened.apart u in_u (inl (has_inside-true t.proto t.inside t.remote u h))) in
+      let other = other-flow t sessions opened.apart in
       record {
         remote = refl;
         keeps = λ u in_u h. absurd (false≢true (sym (other u in_u) ∙ h));
-        many = length-put_new t sessions other;
+        many = put-more t sessions opened.apart;
         joins = λ few. record {
           sound = put-sound config sessions sound t (λ s in_s away. opened.apart s in_s) few
               (record { inside = inside; outside = inr opened.address; inside_port = src_port; outside_port = opened.port; remote_port = dst_port })
@@ -230,7 +185,7 @@ module _ (config : Config) (rules : Spelled) (sessions : List Session) (now : �
       let is = find-In (has_inside view.proto view.src view.dst) sessions s e in
       let has = has_inside-true view.proto view.src view.dst s is.1 in
       let joins = passed-joins config sessions sound s Inside view.flags now is.0 in
-      let count : length (put t sessions) ≡ length sessions + 0 = omega (arith, length-put_old t s sessions sound.rises is.0 (passed-flow s Inside view.flags now)) in
+      let count : length (put t sessions) ≡ length sessions + 0 = omega (arith, put-known t s sessions sound.rises is.0 (passed-flow s Inside view.flags now)) in
       record {
         remote = sym (passed-keys s Inside view.flags now).remote ∙ has.2;
         keeps = joins.keeps;
@@ -282,9 +237,9 @@ module _ (config : Config) (rules : Spelled) (sessions : List Session) (now : �
   new-second inside way none =
       let t = far_of inside in
       let apart = no_clash t held none in
-      let other : (u : Session) → In u held → same_flow t u ≡ false = λ u in_u. false_from_ne_true _ (λ h. apart u in_u (inl (has_inside-true t.proto t.inside t.remote u h))) in
+      let other = other-flow t held apart in
       record {
-        many = length-put_new t held other;
+        many = put-more t held apart;
         joins = λ sound bounds few.
             let placed = far-placed sound bounds inside decided refl way in
             record {
@@ -302,7 +257,7 @@ module _ (config : Config) (rules : Spelled) (sessions : List Session) (now : �
   known-second s e =
       let t = passed_by s Remote view.flags now in
       let is = find-In (has_outside view.proto view.dst first.outside) held s e in
-      let count : length (put t held) ≡ length held + 0 = omega (arith, length-put_old t s held rises is.0 (passed-flow s Remote view.flags now)) in
+      let count : length (put t held) ≡ length held + 0 = omega (arith, put-known t s held rises is.0 (passed-flow s Remote view.flags now)) in
       record {
         many = count;
         joins = λ sound bounds few. passed-joins config held sound s Remote view.flags now is.0;
@@ -341,16 +296,12 @@ module _ (config : Config) (rules : Spelled) (sessions : List Session) (now : �
         two-join config sessions now first t joins (s.joins joins.sound bounds (omega (arith, few)))
   ]
 
-  fine-forwarded : (d : Filtering) (end : Result Passage Cause) → IsFine config sessions now end → IsFine config sessions now (unless_dropped d end)
-  fine-forwarded filtering.Drop end fine = tt
-  fine-forwarded filtering.Pass end fine = fine
-
   fine-second : (first : Session) → IsFirst config sessions view now found_near first → (r : Result Session Cause) → second_by config rules sessions now view first (put first sessions) (found_far first) ≡ r
       → IsFine config sessions now (then_with r (behind_both first))
   fine-second first f (Err cause) e = tt
   fine-second first f (Ok t) e =
       let s = second-is config rules sessions now view at dst_port first (put first sessions) (Rises-put first sessions sound.rises) (put-In first sessions) (found_far first) refl t e in
-      fine-forwarded (forward_verdict config (facts_of config rules sessions now view Lan (Some Lan) view.src t.inside (first_state config rules sessions now view found_near)) rules)
+      fine-filtered config sessions now (forward_verdict config (facts_of config rules sessions now view Lan (Some Lan) view.src t.inside (first_state config rules sessions now view found_near)) rules)
       (counted config rules sessions now view (through first t)) (fine-counted first t f s (nat_lt 65536 (length (put t (put first sessions)))) refl)
 
   fine-other : (first : Session) → IsFirst config sessions view now found_near first → (b : Bool)

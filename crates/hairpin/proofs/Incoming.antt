@@ -1,55 +1,32 @@
 -- What a packet from a remote endpoint comes to, from what is looked up, and that it may join the sessions.
-use Rattle.std.proofs.Common.{◌≡◌, ◌≢◌, ◌⊎◌, ℕ, ◌+◌, ◌<◌, ◌≤◌, List, [], ◌∷◌, length, Option, Some, None, Result, Ok, Err, count_by, is_some, Bool, true, false, not, nat_lt, if◌then◌else◌, refl, sym, ap, ◌∙◌, subst, inl, inr, arith}
-use Rattle.std.proofs.lemmas.Bool.{cases_Bool, false≢true, false_from_ne_true, le-ltb, lt-ltb, ltb-false}
+use Rattle.std.proofs.Common.{◌≡◌, ◌≢◌, ◌⊎◌, ℕ, ◌+◌, ◌<◌, ◌≤◌, List, length, Option, Some, None, Result, Ok, Err, count_by, is_some, true, false, nat_lt, if◌then◌else◌, refl, sym, ap, ◌∙◌, subst, inl, inr, arith}
+use Rattle.std.proofs.lemmas.Bool.{cases_Bool, false≢true, le-ltb, lt-ltb, ltb-false}
 use Rattle.packet.specs.Config.{Config, is_config, is_inside}
 use Rattle.packet.specs.declared.endpoint.Endpoint.{Endpoint}
 use Rattle.packet.specs.declared.endpoint.Iface.TheVariants.{Lan, Wan}
 use Rattle.packet.specs.declared.view.View.{View}
 use Rattle.rulesyntax.specs.declared.tree.Spelled.{Spelled}
-use Rattle.sessions.specs.Listing.{find, has_outside, listing, put, same_flow}
+use Rattle.sessions.specs.Listing.{find, has_outside, listing, put}
 use Rattle.sessions.specs.Table.{AnyClash}
 use Rattle.sessions.specs.declared.session.Change.TheVariants.{Begin}
 use Rattle.sessions.specs.declared.session.Opener.TheVariants.{Remote}
 use Rattle.sessions.specs.declared.session.Session.{Session}
-use Rattle.sessions.proofs.Puts.{has_inside-true, length-insert, length-listing}
+use Rattle.sessions.proofs.Puts.{has_inside-true, length-listing}
 use Rattle.verdict.specs.Hooks.{forward_verdict, prerouting_verdict}
 use Rattle.verdict.specs.declared.facts.State.TheVariants.{New}
 use Rattle.verdict.specs.declared.hook.Destination.{Destination}
 use Rattle.verdict.specs.declared.hook.Destination.TheVariants as destination
 use Rattle.verdict.specs.declared.hook.Filtering.{Filtering}
 use Rattle.verdict.specs.declared.hook.Filtering.TheVariants as filtering
-use Rattle.hairpin.specs.Legs.{Passage, begun_in, clashes, counted, facts_of, forwarded, in_by, in_leg, inside_by_rules, inside_for, inward, maps_outside, needs_session, new_session, or_no_mapping, passed_by, state_of, then_with, unless_dropped}
+use Rattle.hairpin.specs.Legs.{Passage, begun_in, clashes, counted, facts_of, in_by, in_leg, inside_by_rules, inside_for, inward, maps_outside, needs_session, new_session, or_no_mapping, passed_by, state_of, then_with, unless_dropped}
 use Rattle.hairpin.specs.Plans.{IsPlanOf, MayBegin}
 use Rattle.hairpin.specs.Sound.{AreSound, KeepBounds}
 use Rattle.hairpin.specs.declared.cause.Cause.{Cause}
 use Rattle.hairpin.specs.declared.cause.Cause.TheVariants.{Clash, NoMapping, NoSession, Rule, TableFull}
 use Rattle.hairpin.specs.declared.plan.Plan.{Plan}
-use Rattle.hairpin.proofs.Apart.{apart-from, find-In, some_or_none}
+use Rattle.hairpin.proofs.Apart.{apart-from, err-ok, find-In, same_Ok, some_or_none}
 use Rattle.hairpin.proofs.Clashing.{any_found, no_clash, none_found}
-use Rattle.hairpin.proofs.Soundness.{IsFine, filter-all, one-joins, passed-joins, put-sound}
-
--- what a result gives, or else this
-given : Endpoint → Result Endpoint Cause → Endpoint
-given e (Ok inside) = inside
-given e (Err cause) = e
-
-is_given : Result Endpoint Cause → Bool
-is_given (Ok inside) = true
-is_given (Err cause) = false
-
-same-inside : (e f : Endpoint) → ◌≡◌ {A = Result Endpoint Cause} (Ok e) (Ok f) → e ≡ f
-unfolding given
-same-inside e f is = ap (given e) is
-
-refused : (cause : Cause) (e : Endpoint) → ◌≡◌ {A = Result Endpoint Cause} (Err cause) (Ok e) → ⊥
-unfolding is_given
-refused cause e is = false≢true (ap is_given is)
-
--- one that clashes with none is one more
-pub put-more : (t : Session) (sessions : List Session) → find (clashes t) sessions ≡ None → length (put t sessions) ≡ length sessions + 1
-put-more t sessions none =
-    let all = filter-all (λ u. not (same_flow t u)) sessions (λ u in_u. ap not (false_from_ne_true (same_flow t u) (λ h. no_clash t sessions none u in_u (inl (has_inside-true t.proto t.inside t.remote u h))))) in
-    length-insert t _ ∙ ap (λ (us : List Session). length us + 1) all
+use Rattle.hairpin.proofs.Soundness.{IsFine, fine-filtered, one-joins, passed-joins, put-more, put-sound}
 
 module _ (config : Config) (rules : Spelled) (sessions : List Session) (now : ℕ) (view : View) where
   -- the inside endpoint, where no rule translates
@@ -68,7 +45,7 @@ module _ (config : Config) (rules : Spelled) (sessions : List Session) (now : �
       (prerouting_verdict config (facts_of config rules sessions now view Wan None view.src view.dst New) rules)) near
 
   pub is-near : (inside : Endpoint) → is_inside config view.dst.addr ≡ true → Ok inside ≡ inside_for config rules sessions now view → inside ≡ view.dst
-  is-near inside near is = same-inside inside view.dst (is ∙ inside-near near)
+  is-near inside near is = same_Ok inside view.dst (is ∙ inside-near near)
 
   -- a packet that has no session, and needs none
   pub in-new : find (has_outside view.proto view.dst view.src) sessions ≡ None → needs_session view ≡ false
@@ -106,7 +83,7 @@ module _ (config : Config) (rules : Spelled) (held : List (Option Session)) (now
     begun-dropped is = asked ∙ ap (λ f. unless_dropped f behind) is
 
     counts : length (put begun (listing held)) ≡ count_by is_some held + 1
-    counts = put-more begun (listing held) (none_found held begun apart) ∙ ap (λ n. n + 1) (length-listing held)
+    counts = put-more begun (listing held) (no_clash begun (listing held) (none_found held begun apart)) ∙ ap (λ n. n + 1) (length-listing held)
 
     pub begun-full : filtered ≡ filtering.Pass → count_by is_some held ≡ 65536 → way ≡ Err TableFull
     begun-full is full =
@@ -134,10 +111,6 @@ module _ (config : Config) (rules : Spelled) (held : List (Option Session)) (now
 
 -- ---- what the leg comes to may join sessions that are sound
 
-fine-filtered : (config : Config) (sessions : List Session) (now : ℕ) (f : Filtering) (leg : Result Passage Cause) → IsFine config sessions now leg → IsFine config sessions now (unless_dropped f leg)
-fine-filtered config sessions now filtering.Drop leg fine = tt
-fine-filtered config sessions now filtering.Pass leg fine = fine
-
 module _ (config : Config) (rules : Spelled) (sessions : List Session) (now : ℕ) (view : View) (sound : AreSound config sessions) (bounded : KeepBounds config rules)
     (routed : (is_inside config view.dst.addr ≡ true) ⊎ (view.dst.addr ≡ config.external)) (src_port : 0 < view.src.port) (dst_port : 0 < view.dst.port) where
   -- an inside endpoint that is found is inside, and the destination stands for it
@@ -147,9 +120,9 @@ module _ (config : Config) (rules : Spelled) (sessions : List Session) (now : �
     at : (inside ≡ view.dst) ⊎ (view.dst.addr ≡ config.external)
 
   found-by_mapping : view.dst.addr ≡ config.external → (inside : Endpoint) (o : Option Session) → find (maps_outside view.proto view.dst) sessions ≡ o → or_no_mapping o ≡ Ok inside → Found inside
-  found-by_mapping away inside None e is = absurd (refused NoMapping inside is)
+  found-by_mapping away inside None e is = absurd (err-ok NoMapping inside is)
   found-by_mapping away inside (Some m) e is =
-      let same = same-inside m.inside inside is in
+      let same = same_Ok m.inside inside is in
       let placed = sound.placed m (find-In (maps_outside view.proto view.dst) sessions m e).0 in
       record {
         near = subst (λ (i : Endpoint). is_inside config i.addr ≡ true) same placed.inside;
@@ -162,13 +135,13 @@ module _ (config : Config) (rules : Spelled) (sessions : List Session) (now : �
   found-by_rules away inside destination.None e is = found-by_mapping away inside (find (maps_outside view.proto view.dst) sessions) refl is
   found-by_rules away inside (destination.To to) e is =
       let facts = facts_of config rules sessions now view Wan None view.src view.dst New in
-      let same = same-inside to inside is in
+      let same = same_Ok to inside is in
       record {
         near = subst (λ (i : Endpoint). is_inside config i.addr ≡ true) same (bounded.to facts to e);
         port = subst (λ (i : Endpoint). 0 < i.port) same (bounded.port facts to e dst_port);
         at = inr away;
       }
-  found-by_rules away inside destination.Drop e is = absurd (refused Rule inside is)
+  found-by_rules away inside destination.Drop e is = absurd (err-ok Rule inside is)
 
   found : (inside : Endpoint) → inside_for config rules sessions now view ≡ Ok inside → Found inside
   found inside is = elim (cases_Bool (is_inside config view.dst.addr)) [

@@ -1,21 +1,18 @@
 -- What is held once a change is made.
-use Rattle.std.proofs.Common.{◌≡◌, ◌≢◌, ◌⊎◌, ℕ, ◌+◌, ◌<◌, ◌≤◌, List, [], ◌∷◌, ◌++◌, length, ◌-◌, get_or, set, Option, Some, None, Bool, true, false, not, cond, bit_or, refl, sym, ap, ◌∙◌, subst, inl, inr, arith}
-use Rattle.std.specs.List.{filter}
-use Rattle.std.proofs.lemmas.Bool.{cases_eq, cases_lt, cases_Bool, false≢true, false_from_ne_true, not-true}
+use Rattle.std.proofs.Common.{◌≡◌, ◌≢◌, ℕ, ◌+◌, ◌<◌, List, [], ◌∷◌, ◌++◌, length, ◌-◌, get_or, set, Option, Some, None, refl, sym, ap, ◌∙◌, subst, inl, inr, arith}
+use Rattle.std.proofs.lemmas.Bool.{cases_eq, cases_lt}
 use Rattle.std.proofs.lemmas.List.{get_or_append_left, get_or-append_right, get_or-set_same, get_or-set_other, get_or_past}
 use Rattle.std.proofs.Math.Seq.{get_or-append_seam}
 use Rattle.std.proofs.lemmas.Option.{none-some, same_Some}
-use Rattle.sessions.specs.Listing.{In, Rises, insert, key, listing, put, same_flow}
-use Rattle.sessions.specs.Table.{IsSound, restarted, seen}
+use Rattle.sessions.specs.Listing.{key, listing, put}
 use Rattle.sessions.specs.declared.session.Change.{Change}
 use Rattle.sessions.specs.declared.session.Change.TheVariants.{Begin, Seen, Restart, End}
-use Rattle.sessions.specs.declared.session.Opener.{Opener}
 use Rattle.sessions.specs.declared.session.Session.{Session}
-use Rattle.sessions.proofs.Puts.{flow-keys, has_inside-true, keys-flow, length-insert, put-apart}
-use Rattle.sessions.proofs.Sets.{Apart, Apart-sound, Rises-listing, Rises-filter, Rises-insert, In-filter, In-listing, listing-In, same_key, below-itself, below-keys}
+use Rattle.sessions.proofs.Puts.{keys-flow, put-apart}
+use Rattle.sessions.proofs.Sets.{Apart, Rises-listing, In-listing, listing-In, same_key}
 use Rattle.hairpin.specs.Legs.{put_all}
 use Rattle.hairpin.specs.Plans.{Became, GiveAll, Gives, IsOf, MayBegin, adds, adds_second}
-use Rattle.hairpin.proofs.Soundness.{filter-all}
+use Rattle.hairpin.proofs.Soundness.{put-known, put-more}
 
 -- one place got a session of its own key, or of a key that no place has
 module _ (old new : List (Option Session)) (slot : ℕ) (t : Session) (apart : Apart old) (is : get_or new slot None ≡ Some t)
@@ -115,39 +112,16 @@ change-leads external held now (End slot) t apart gives = absurd gives
 
 -- ---- how many sessions there are then
 
-put-fresh : (t : Session) (xs : List Session) → ((u : Session) → In u xs → key u ≢ key t) → length (put t xs) ≡ length xs + 1
-put-fresh t xs away =
-    ap (λ (ys : List Session). length (insert t ys)) (filter-all (λ u. not (same_flow t u)) xs (λ u in_u. ap not (false_from_ne_true (same_flow t u) (λ h. away u in_u (flow-keys t u h)))))
-    ∙ length-insert t xs
-
-filter-one : (t s : Session) (xs : List Session) → Rises xs → In s xs → key s ≡ key t → length (filter (λ u. not (same_flow t u)) xs) + 1 ≡ length xs
-filter-one t s [] rises is e = absurd is
-filter-one t s (x ∷ xs) rises (inl s_is) e =
-    let own : same_flow t x ≡ true = keys-flow t x (sym e ∙ ap key s_is) in
-    let rest : filter (λ u. not (same_flow t u)) xs ≡ xs = filter-all (λ u. not (same_flow t u)) xs (λ u in_u. ap not (false_from_ne_true (same_flow t u) (λ h.
-    below-itself x (sym (below-keys x x x u refl (flow-keys t u h ∙ sym e ∙ ap key s_is)) ∙ rises.0 u in_u)))) in
-    let skips : filter (λ u. not (same_flow t u)) (x ∷ xs) ≡ filter (λ u. not (same_flow t u)) xs = ap (λ b. cond (not b) (x ∷ filter (λ u. not (same_flow t u)) xs) (filter (λ u. not (same_flow t u)) xs)) own in
-    let count = ap (λ (ys : List Session). length ys) (skips ∙ rest) in
-    omega (arith, count)
-filter-one t s (x ∷ xs) rises (inr s_in) e =
-    let other : same_flow t x ≡ false = false_from_ne_true (same_flow t x) (λ h. below-itself x (sym (below-keys x x x s refl (e ∙ sym (flow-keys t x h))) ∙ rises.0 s s_in)) in
-    let keeps : filter (λ u. not (same_flow t u)) (x ∷ xs) ≡ x ∷ filter (λ u. not (same_flow t u)) xs = ap (λ b. cond (not b) (x ∷ filter (λ u. not (same_flow t u)) xs) (filter (λ u. not (same_flow t u)) xs)) other in
-    let count = ap (λ (ys : List Session). length ys) keeps in
-    omega (arith, count, filter-one t s xs rises.1 s_in e)
-
-put-known : (t s : Session) (xs : List Session) → Rises xs → In s xs → key s ≡ key t → length (put t xs) ≡ length xs
-put-known t s xs rises is e = omega (arith, length-insert t (filter (λ u. not (same_flow t u)) xs), filter-one t s xs rises is e)
-
 -- a change adds as many sessions as it says
 pub change-adds : (external : ℕ) (held : List (Option Session)) (now : ℕ) (change : Change) (t : Session) → Apart held → Gives external held now change t
     → length (put t (listing held)) ≡ length (listing held) + adds change
 change-adds external held now (Begin s) t apart gives =
     let may = subst (MayBegin external held now) gives.0 gives.1 in
-    put-fresh t (listing held) (λ u in_u e. let at = In-listing held u in_u in may.apart (record { place = at.0; held = u; is_held = at.1; clash = inl (same_key t u (sym e)) }))
+    put-more t (listing held) (λ u in_u clash. let at = In-listing held u in_u in may.apart (record { place = at.0; held = u; is_held = at.1; clash = clash }))
 change-adds external held now (Seen slot bits) t apart gives =
-    omega (arith, put-known t gives.0 (listing held) (Rises-listing held apart) (listing-In held gives.0 slot gives.1) (ap key (sym gives.3)))
+    omega (arith, put-known t gives.0 (listing held) (Rises-listing held apart) (listing-In held gives.0 slot gives.1) (keys-flow t gives.0 (ap key gives.3)))
 change-adds external held now (Restart slot opener) t apart gives =
-    omega (arith, put-known t gives.0 (listing held) (Rises-listing held apart) (listing-In held gives.0 slot gives.1) (ap key (sym gives.2)))
+    omega (arith, put-known t gives.0 (listing held) (Rises-listing held apart) (listing-In held gives.0 slot gives.1) (keys-flow t gives.0 (ap key gives.2)))
 change-adds external held now (End slot) t apart gives = absurd gives
 
 -- and so do all changes of a plan

@@ -1,13 +1,12 @@
 -- What the mappings tell of the sessions that are held.
-use Rattle.std.proofs.Common.{◌≡◌, ◌≢◌, ℕ, ◌<◌, ◌≤◌, List, Option, Some, None, Ok, Err, true, false, nat_lt, get_or, length, count_by, is_some, if◌then◌else◌, refl, sym, ap, ◌∙◌, subst, arith}
-use Rattle.std.proofs.lemmas.Bool.{lt-ltb, le-ltb}
+use Rattle.std.proofs.Common.{◌≡◌, ◌≢◌, ℕ, ◌<◌, List, Option, Some, None, true, get_or, refl, sym, ap, ◌∙◌, subst, arith}
 use Rattle.packet.specs.Config.{Config, is_config}
 use Rattle.packet.specs.declared.endpoint.Endpoint.{Endpoint}
 use Rattle.packet.specs.declared.endpoint.Proto.{Proto}
 use Rattle.portpick.specs.Choice.{IsTestOf}
-use Rattle.sessions.specs.Listing.{find, has_inside, listing}
+use Rattle.sessions.specs.Listing.{find, listing}
 use Rattle.sessions.specs.declared.session.Session.{Session}
-use Rattle.sessions.proofs.Puts.{find-none, find-some, length-listing}
+use Rattle.sessions.proofs.Puts.{find-none, find-some}
 use Rattle.sessions.proofs.Sets.{In-listing, listing-In}
 use Rattle.mappings.specs.declared.map.Pair.{Pair}
 use Rattle.mappings.specs.Map.{Pairs, times, pair}

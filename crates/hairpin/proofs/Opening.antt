@@ -1,9 +1,7 @@
 -- What is known of a session that begins, and that what a packet on its way out comes to may join the sessions.
-use Rattle.std.proofs.Common.{◌≡◌, ◌≢◌, ◌⊎◌, ℕ, ◌+◌, ◌<◌, List, length, Option, Some, None, Result, Ok, Err, count_by, is_some, true, false, not, nat_lt, if◌then◌else◌, refl, sym, ap, ◌∙◌, subst, inl, inr, arith}
+use Rattle.std.proofs.Common.{◌≡◌, ◌≢◌, ◌⊎◌, ℕ, ◌<◌, List, length, Option, Some, None, Result, Ok, Err, count_by, is_some, true, false, nat_lt, if◌then◌else◌, refl, sym, ap, ◌∙◌, subst, inl, inr, arith}
 use Rattle.std.specs.Option.{option_map}
-use Rattle.std.proofs.lemmas.Bool.{cases_Bool, false≢true, false_from_ne_true, le-ltb, lt-ltb, ltb-false}
-use Rattle.std.proofs.lemmas.Option.{none-some}
-use Rattle.std.proofs.lemmas.Result.{IfOk-at_ok}
+use Rattle.std.proofs.lemmas.Bool.{cases_Bool, false≢true, le-ltb, lt-ltb, ltb-false}
 use Rattle.packet.specs.Config.{Config, is_config, is_inside}
 use Rattle.packet.specs.Same.{same_endpoint}
 use Rattle.packet.specs.declared.endpoint.Endpoint.{Endpoint}
@@ -12,29 +10,27 @@ use Rattle.packet.specs.declared.view.View.{View}
 use Rattle.packet.proofs.SameLemmas.{same_endpoint-itself}
 use Rattle.portpick.specs.Choice.{port_choice}
 use Rattle.rulesyntax.specs.declared.tree.Spelled.{Spelled}
-use Rattle.sessions.specs.Listing.{In, find, has_inside, insert, listing, put, same_flow}
+use Rattle.sessions.specs.Listing.{In, find, has_inside, listing, put}
 use Rattle.sessions.specs.Table.{Clash}
 use Rattle.sessions.specs.declared.session.Change.TheVariants.{Begin}
 use Rattle.sessions.specs.declared.session.Opener.TheVariants.{Inside}
 use Rattle.sessions.specs.declared.session.Session.{Session}
-use Rattle.sessions.proofs.Puts.{find-some, has_inside-true, length-insert}
+use Rattle.sessions.proofs.Puts.{has_inside-true}
 use Rattle.sessions.proofs.Sets.{listing-In}
 use Rattle.verdict.specs.Hooks.{forward_verdict, postrouting_verdict}
 use Rattle.verdict.specs.declared.facts.Facts.{Facts}
 use Rattle.verdict.specs.declared.facts.State.TheVariants.{New}
-use Rattle.verdict.specs.declared.hook.Filtering.{Filtering}
-use Rattle.verdict.specs.declared.hook.Filtering.TheVariants as filtering
 use Rattle.verdict.specs.declared.hook.Source.{Source}
 use Rattle.verdict.specs.declared.hook.Source.TheVariants as source
-use Rattle.hairpin.specs.Legs.{Passage, begun_out, chosen, counted, facts_of, forwarded, is_taken, maps_inside, needs_session, new_session, or_no_port, out_by, out_leg, outside_by_rules, outside_for, outward, passed_by, state_of, then_with, unless_dropped}
+use Rattle.hairpin.specs.Legs.{begun_out, chosen, counted, facts_of, forwarded, is_taken, maps_inside, needs_session, new_session, or_no_port, out_by, out_leg, outside_by_rules, outside_for, outward, passed_by, state_of, then_with}
 use Rattle.hairpin.specs.Plans.{IsPlanOf, MayBegin}
 use Rattle.hairpin.specs.Sound.{AreSound, KeepBounds}
 use Rattle.hairpin.specs.Translations.{endpoint}
 use Rattle.hairpin.specs.declared.cause.Cause.{Cause}
-use Rattle.hairpin.specs.declared.cause.Cause.TheVariants.{NoPort, NoSession, Rule, TableFull}
+use Rattle.hairpin.specs.declared.cause.Cause.TheVariants.{NoSession, Rule, TableFull}
 use Rattle.hairpin.specs.declared.plan.Plan.{Plan}
-use Rattle.hairpin.proofs.Apart.{choice-free, chosen_apart, find-In, fresh, mapped-some, mapped_apart, maps-parts, outside_away}
-use Rattle.hairpin.proofs.Soundness.{IsFine, filter-all, one-joins, passed-joins, put-sound}
+use Rattle.hairpin.proofs.Apart.{choice-free, chosen_apart, err-ok, find-In, fresh, mapped-some, mapped_apart, maps-parts, outside_away, port-ok, same_Ok}
+use Rattle.hairpin.proofs.Soundness.{IsFine, fine-filtered, one-joins, passed-joins, put-more, put-sound}
 
 -- what is known of a session that begins: it stands apart from all, and its outside endpoint is in its place
 pub record Opened (config : Config) (sessions : List Session) (new : Session) : Type 0 where
@@ -89,14 +85,6 @@ module _ (config : Config) (is_one : is_config config ≡ true) (sessions : List
     port = subst (λ (x : Endpoint). 0 < x.port) same lt;
   }
 
--- a session of which none has the flow is one more
-module _ (sessions : List Session) (t : Session) (none : find (has_inside t.proto t.inside t.remote) sessions ≡ None) where
-  other-flow : (u : Session) → In u sessions → same_flow t u ≡ false
-  other-flow u in_u = false_from_ne_true _ (λ h. let found = find-some (has_inside t.proto t.inside t.remote) sessions u in_u h in none-some found.0 (sym none ∙ found.1))
-
-  pub put-more : length (put t sessions) ≡ length sessions + 1
-  put-more = ap (λ (xs : List Session). length (insert t xs)) (filter-all (λ u. not (same_flow t u)) sessions (λ u in_u. ap not (other-flow u in_u))) ∙ length-insert t sessions
-
 -- the session may begin
 pub may_begin : (config : Config) (held : List (Option Session)) (now : ℕ) (t : Session) → Opened config (listing held) t → t.seen ≡ 0 → t.last ≡ now → count_by is_some held ≢ 65536
     → MayBegin config.external held now t
@@ -118,16 +106,6 @@ plan_begun t = record { first = Begin t; second = None; src = t.outside; dst = t
 pub begun-is : (external : ℕ) (held : List (Option Session)) (now : ℕ) (t : Session) → MayBegin external held now t → IsPlanOf external held now (plan_begun t) (outward t)
 begun-is external held now t may = record { sessions = (t, (refl, may), refl); src = refl; dst = refl; iface = refl }
 
-ok-is : {A : Type 0} (a b : A) → ◌≡◌ {A = Result A Cause} (Ok a) (Ok b) → a ≡ b
-ok-is a b e = IfOk-at_ok (λ x. a ≡ x) e refl
-
-err-ok : {A : Type 0} (cause : Cause) (b : A) → ◌≡◌ {A = Result A Cause} (Err cause) (Ok b) → ⊥
-err-ok cause b e = IfOk-at_ok (λ _. ⊥) e tt
-
-pub port-ok : (o : Option Endpoint) (outside : Endpoint) → or_no_port o ≡ Ok outside → o ≡ Some outside
-port-ok (Some x) outside e = ap Some (ok-is x outside e)
-port-ok None outside e = absurd (err-ok NoPort outside e)
-
 module _ (config : Config) (rules : Spelled) (bounded : KeepBounds config rules) (sessions : List Session) (now : ℕ) (view : View) where
   abbrev facts : Facts
   facts = facts_of config rules sessions now view Lan (Some Wan) view.src view.dst New
@@ -145,7 +123,7 @@ module _ (config : Config) (rules : Spelled) (bounded : KeepBounds config rules)
 
     opened_rules : (how : Source) → find (maps_inside view.proto view.src) sessions ≡ None → postrouting_verdict config facts rules ≡ how → (outside : Endpoint)
         → outside_by_rules config rules sessions now view how ≡ Ok outside → Opened config sessions (new outside)
-    opened_rules source.None unmapped e outside h = opened_plain config is_one sessions sound (new outside) none is_near near_port (ok-is view.src outside h)
+    opened_rules source.None unmapped e outside h = opened_plain config is_one sessions sound (new outside) none is_near near_port (same_Ok view.src outside h)
     opened_rules (source.From addr) unmapped e outside h =
         let there : chosen config rules sessions now view config.external view.src ≡ Ok outside = subst (λ a. chosen config rules sessions now view a view.src ≡ Ok outside) (bounded.from facts addr e) h in
         opened_chosen config is_one sessions sound (new outside) none near_port unmapped (port-ok (option_map (endpoint config.external) (port_choice (is_taken sessions view.proto config.external) view.src.port)) outside there)
@@ -153,7 +131,7 @@ module _ (config : Config) (rules : Spelled) (bounded : KeepBounds config rules)
 
     opened_for : (found : Option Session) → find (maps_inside view.proto view.src) sessions ≡ found → (outside : Endpoint)
         → outside_for config rules sessions now view found ≡ Ok outside → Opened config sessions (new outside)
-    opened_for (Some m) e outside h = opened_mapped config is_one sessions sound (new outside) none m e (ok-is m.outside outside h)
+    opened_for (Some m) e outside h = opened_mapped config is_one sessions sound (new outside) none m e (same_Ok m.outside outside h)
     opened_for None e outside h = opened_rules (postrouting_verdict config facts rules) e refl outside h
 
     -- the session that begins at the outside endpoint that a mapping or the rules give
@@ -168,13 +146,13 @@ module _ (config : Config) (rules : Spelled) (bounded : KeepBounds config rules)
     pub room_left : (outside : Endpoint) → outside_for config rules sessions now view (find (maps_inside view.proto view.src) sessions) ≡ Ok outside → length sessions < 65536
         → begun_out config rules sessions now view ≡ Ok (outward (new outside))
     room_left outside h few =
-        let room : nat_lt 65536 (length (put (new outside) sessions)) ≡ false = le-ltb _ _ (omega (arith, few, put-more sessions (new outside) none)) in
+        let room : nat_lt 65536 (length (put (new outside) sessions)) ≡ false = le-ltb _ _ (omega (arith, few, put-more (new outside) sessions (opened outside h).apart)) in
         begun-at outside h ∙ ap (λ b. if b then Err TableFull else Ok (outward (new outside))) room
 
     pub no_room : (outside : Endpoint) → outside_for config rules sessions now view (find (maps_inside view.proto view.src) sessions) ≡ Ok outside → length sessions ≡ 65536
         → begun_out config rules sessions now view ≡ Err TableFull
     no_room outside h many =
-        let full : nat_lt 65536 (length (put (new outside) sessions)) ≡ true = lt-ltb _ _ (omega (arith, many, put-more sessions (new outside) none)) in
+        let full : nat_lt 65536 (length (put (new outside) sessions)) ≡ true = lt-ltb _ _ (omega (arith, many, put-more (new outside) sessions (opened outside h).apart)) in
         begun-at outside h ∙ ap (λ b. if b then Err TableFull else Ok (outward (new outside))) full
 
     module _ (remote_port : 0 < view.dst.port) where
@@ -199,24 +177,19 @@ module _ (config : Config) (rules : Spelled) (bounded : KeepBounds config rules)
       fine_begun (Err cause) e = tt
       fine_begun (Ok outside) e = fine_counted outside (opened outside e)
 
--- what passes or is dropped is fine where what passes is
-pub fine_filtered : (config : Config) (sessions : List Session) (now : ℕ) (verdict : Filtering) (way : Result Passage Cause) → IsFine config sessions now way → IsFine config sessions now (unless_dropped verdict way)
-fine_filtered config sessions now filtering.Drop way fine = tt
-fine_filtered config sessions now filtering.Pass way fine = fine
-
 module _ (config : Config) (rules : Spelled) (sessions : List Session) (now : ℕ) (view : View) (is_one : is_config config ≡ true) (sound : AreSound config sessions) (bounded : KeepBounds config rules)
     (is_near : is_inside config view.src.addr ≡ true) (near_port : 0 < view.src.port) (remote_port : 0 < view.dst.port) where
   fine_by : (found : Option Session) → find (has_inside view.proto view.src view.dst) sessions ≡ found → IsFine config sessions now (out_by config rules sessions now view found)
   fine_by (Some s) e =
       let t = passed_by s Inside view.flags now in
-      fine_filtered config sessions now (forward_verdict config (facts_of config rules sessions now view Lan (Some Wan) view.src view.dst (state_of s Inside view.flags)) rules) (Ok (outward t))
+      fine-filtered config sessions now (forward_verdict config (facts_of config rules sessions now view Lan (Some Wan) view.src view.dst (state_of s Inside view.flags)) rules) (Ok (outward t))
       (one-joins config sessions now t (passed-joins config sessions sound s Inside view.flags now (find-In (has_inside view.proto view.src view.dst) sessions s e).0))
   fine_by None e =
       let way = forwarded config rules sessions now view Lan Wan view.src view.dst New (begun_out config rules sessions now view) in
       elim (cases_Bool (needs_session view)) [
         | inl needs ↦ subst (λ b. IsFine config sessions now (if b then Err NoSession else way)) (sym needs) tt
         | inr begins ↦ subst (λ b. IsFine config sessions now (if b then Err NoSession else way)) (sym begins)
-            (fine_filtered config sessions now (forward_verdict config (facts_of config rules sessions now view Lan (Some Wan) view.src view.dst New) rules) (begun_out config rules sessions now view)
+            (fine-filtered config sessions now (forward_verdict config (facts_of config rules sessions now view Lan (Some Wan) view.src view.dst New) rules) (begun_out config rules sessions now view)
             (fine_begun config rules bounded sessions now view is_one sound is_near near_port e remote_port
             (outside_for config rules sessions now view (find (maps_inside view.proto view.src) sessions)) refl))
       ]

@@ -1,13 +1,13 @@
 -- What may join sessions that are sound.
-use Rattle.std.proofs.Common.{◌≡◌, ◌⊎◌, ℕ, ◌+◌, ◌<◌, ◌≤◌, List, [], ◌∷◌, length, Result, Ok, Err, Bool, true, false, cond, not, bit_or, if◌then◌else◌, refl, sym, ap, ◌∙◌, subst, inl, inr, arith}
+use Rattle.std.proofs.Common.{◌≡◌, ◌⊎◌, ℕ, ◌+◌, ◌≤◌, List, [], ◌∷◌, length, Result, Ok, Err, Bool, true, false, cond, not, bit_or, if◌then◌else◌, refl, sym, ap, ◌∙◌, subst, inl, inr, arith}
 use Rattle.std.specs.List.{filter}
-use Rattle.std.proofs.lemmas.Bool.{cases_Bool, false≢true, not-true}
+use Rattle.std.proofs.lemmas.Bool.{cases_Bool, false≢true, false_from_ne_true, not-true}
 use Rattle.packet.specs.Config.{Config}
 use Rattle.packet.specs.declared.endpoint.Flags.{Flags}
 use Rattle.packet.specs.declared.endpoint.Proto.{Proto}
 use Rattle.packet.specs.declared.endpoint.Proto.TheVariants.{Tcp, Udp}
 use Rattle.sessions.specs.Life.{IsSeen, ack_bit, bit_if, fin_bit, reply_bit, reset_bit, restarts, same_side, shown}
-use Rattle.sessions.specs.Listing.{key, put, same_flow}
+use Rattle.sessions.specs.Listing.{Rises, insert, key, put, same_flow}
 use Rattle.sessions.specs.Listing.{In as Member}
 use Rattle.sessions.specs.Table.{Clash, restarted, seen}
 use Rattle.sessions.specs.declared.session.Opener.{Opener}
@@ -16,8 +16,10 @@ use Rattle.sessions.specs.declared.session.Session.{Session}
 use Rattle.sessions.proofs.Held.{Clash-sym}
 use Rattle.sessions.proofs.LifeLemmas.{IsSeen-or}
 use Rattle.sessions.proofs.Puts.{flow-keys, has_inside-true, keys-flow, length-insert}
-use Rattle.sessions.proofs.Sets.{same_key, In-filter, In-insert, Rises-filter, Rises-insert, filter-In, insert-In}
-use Rattle.hairpin.specs.Legs.{Passage, passed_by, put_all}
+use Rattle.sessions.proofs.Sets.{same_key, In-filter, In-insert, Rises-filter, Rises-insert, below-itself, below-keys, filter-In, insert-In}
+use Rattle.verdict.specs.declared.hook.Filtering.{Filtering}
+use Rattle.verdict.specs.declared.hook.Filtering.TheVariants as filtering
+use Rattle.hairpin.specs.Legs.{Passage, passed_by, put_all, unless_dropped}
 use Rattle.hairpin.specs.Sound.{AreSound, IsPlaced}
 use Rattle.hairpin.specs.declared.cause.Cause.{Cause}
 use Rattle.hairpin.proofs.Apart.{cases_endpoint}
@@ -43,6 +45,30 @@ filter-fewer p (x ∷ xs) s is h = elim (cases_Bool (p x)) [
 pub filter-all : (p : Session → Bool) (xs : List Session) → ((s : Session) → Member s xs → p s ≡ true) → filter p xs ≡ xs
 filter-all p [] all = refl
 filter-all p (x ∷ xs) all = ap (λ b. cond b (x ∷ filter p xs) (filter p xs)) (all x (inl refl)) ∙ ap (λ (ys : List Session). x ∷ ys) (filter-all p xs (λ s is. all s (inr is)))
+
+-- a session that stands apart from all has a flow of its own, and is one more
+pub other-flow : (t : Session) (xs : List Session) → ((u : Session) → Member u xs → ¬ Clash t u) → (u : Session) → Member u xs → same_flow t u ≡ false
+other-flow t xs apart u in_u = false_from_ne_true _ (λ h. apart u in_u (inl (has_inside-true t.proto t.inside t.remote u h)))
+
+pub put-more : (t : Session) (xs : List Session) → ((u : Session) → Member u xs → ¬ Clash t u) → length (put t xs) ≡ length xs + 1
+put-more t xs apart = ap (λ (ys : List Session). length (insert t ys)) (filter-all (λ u. not (same_flow t u)) xs (λ u in_u. ap not (other-flow t xs apart u in_u))) ∙ length-insert t xs
+
+-- one of the flow of a session that is held is no more
+pub filter-one : (t : Session) (xs : List Session) → Rises xs → length xs ≤ length (filter (λ u. not (same_flow t u)) xs) + 1
+filter-one t [] rises = omega arith
+filter-one t (x ∷ xs) rises = elim (cases_Bool (same_flow t x)) [
+  | inl same ↦
+      let all : filter (λ u. not (same_flow t u)) xs ≡ xs = filter-all (λ u. not (same_flow t u)) xs (λ u in_u.
+      ap not (false_from_ne_true _ (λ h. below-itself x (below-keys x u x x refl (flow-keys t x same ∙ sym (flow-keys t u h)) ∙ rises.0 u in_u)))) in
+      let count : length (filter (λ u. not (same_flow t u)) xs) ≡ length xs = ap (λ (ys : List Session). length ys) all in
+      subst (λ b. length (x ∷ xs) ≤ length (cond (not b) (x ∷ filter (λ u. not (same_flow t u)) xs) (filter (λ u. not (same_flow t u)) xs)) + 1) (sym same) (omega arith)
+  | inr other ↦
+      let rest = filter-one t xs rises.1 in
+      subst (λ b. length (x ∷ xs) ≤ length (cond (not b) (x ∷ filter (λ u. not (same_flow t u)) xs) (filter (λ u. not (same_flow t u)) xs)) + 1) (sym other) (omega arith)
+]
+
+pub put-known : (t s : Session) (xs : List Session) → Rises xs → Member s xs → same_flow t s ≡ true → length (put t xs) ≡ length xs
+put-known t s xs rises in_s same = omega (arith, length-insert t (filter (λ u. not (same_flow t u)) xs), filter-one t xs rises, filter-fewer (λ u. not (same_flow t u)) xs s in_s (ap not same))
 
 -- a packet shows bits of its protocol
 bit_if-few : (mark : Bool) (bit : ℕ) → bit_if mark bit ≤ bit
@@ -158,6 +184,11 @@ pub record JoinAll (config : Config) (sessions : List Session) (now : ℕ) (ts :
 abbrev pub IsFine : Config → List Session → ℕ → Result Passage Cause → Type 0
 IsFine config sessions now (Err cause) = Unit {0}
 IsFine config sessions now (Ok passage) = JoinAll config sessions now passage.sessions
+
+-- what passes or is dropped is fine where what passes is
+pub fine-filtered : (config : Config) (sessions : List Session) (now : ℕ) (verdict : Filtering) (way : Result Passage Cause) → IsFine config sessions now way → IsFine config sessions now (unless_dropped verdict way)
+fine-filtered config sessions now filtering.Drop way fine = tt
+fine-filtered config sessions now filtering.Pass way fine = fine
 
 module _ (config : Config) (sessions : List Session) (now : ℕ) (t : Session) (joins : Joins config sessions now t) where
   keeps-each : (u : Session) → Member u sessions → (v : Session) × Member v (put t sessions) × (v.proto ≡ u.proto) × (v.inside ≡ u.inside) × (v.outside ≡ u.outside)

@@ -1,5 +1,5 @@
 -- The legs: how a packet passes and by which sessions, or the cause of its drop.
-use Rattle.std.specs.Prelude.{ℕ, nat_lt, Bool, true, false, not, ◌&&◌, ◌||◌, List, [], ◌∷◌, length, Option, Some, None, is_some, Result, Ok, Err, if◌then◌else◌}
+use Rattle.std.specs.Prelude.{ℕ, nat_lt, Bool, not, ◌&&◌, ◌||◌, List, [], ◌∷◌, length, Option, Some, None, is_some, Result, Ok, Err, if◌then◌else◌}
 use Rattle.std.specs.Option.{option_map}
 use Rattle.packet.specs.Config.{Config, is_inside}
 use Rattle.packet.specs.Same.{same_proto, same_endpoint}
@@ -8,7 +8,7 @@ use Rattle.packet.specs.declared.endpoint.Flags.{Flags}
 use Rattle.packet.specs.declared.endpoint.Iface.{Iface}
 use Rattle.packet.specs.declared.endpoint.Iface.TheVariants.{Lan, Wan}
 use Rattle.packet.specs.declared.endpoint.Proto.{Proto}
-use Rattle.packet.specs.declared.endpoint.Proto.TheVariants.{Tcp, Udp}
+use Rattle.packet.specs.declared.endpoint.Proto.TheVariants.{Tcp}
 use Rattle.packet.specs.declared.view.View.{View}
 use Rattle.portpick.specs.Choice.{port_choice}
 use Rattle.rulesyntax.specs.declared.tree.Spelled.{Spelled}

@@ -1,5 +1,5 @@
 -- What the sessions of every state keep, and what rules keep that have loaded.
-use Rattle.std.specs.Prelude.{◌≡◌, ◌≢◌, ◌⊎◌, ℕ, ◌<◌, ◌≤◌, List, [], length, IsTrue}
+use Rattle.std.specs.Prelude.{◌≡◌, ◌≢◌, ◌⊎◌, ℕ, ◌<◌, ◌≤◌, List, length, IsTrue}
 use Rattle.packet.specs.Config.{Config, is_inside}
 use Rattle.packet.specs.declared.endpoint.Endpoint.{Endpoint}
 use Rattle.rulesyntax.specs.declared.tree.Spelled.{Spelled}

@@ -1,5 +1,5 @@
 -- How often the sessions that are held have a mapping.
-use Rattle.std.specs.Prelude.{◌≡◌, ℕ, ◌+◌, List, [], ◌∷◌, Option, Some, None, cond}
+use Rattle.std.specs.Prelude.{ℕ, ◌+◌, List, [], ◌∷◌, Option, Some, None, cond}
 use Rattle.packet.specs.Same.{same_endpoint}
 use Rattle.sessions.specs.declared.session.Session.{Session}
 use Rattle.mappings.specs.declared.map.Pair.{Pair}

@@ -16,7 +16,10 @@ ghost use Rattle.hairpin.specs.Tallies.{tally};
 ghost use Rattle.hairpin.specs.declared.held.Held.{Held as Known};
 
 use crate::cause::Cause;
-use crate::held::{Held, change_of, facts_of, filtering, held_inside, held_outside, needs_session, new_session, state_of};
+use crate::held::{
+    Held, change_of, facts_of, filtering, held_inside, held_outside, needs_session, new_session,
+    state_of,
+};
 use crate::plan::Plan;
 use crate::translations::Translations;
 use packet::bounds::Bounds;

@@ -23,12 +23,7 @@ pub struct Held {
 }
 
 /// The session of this inside endpoint and this remote one.
-pub fn held_inside(
-    table: &Table,
-    proto: Proto,
-    inside: Endpoint,
-    remote: Endpoint,
-) -> Option<Held>
+pub fn held_inside(table: &Table, proto: Proto, inside: Endpoint, remote: Endpoint) -> Option<Held>
     ensures session { option_map (λ (h : Known). h.session) result ≡ find (has_inside proto inside remote) (listing table.now.held) }
     ensures slot { IfSome result (λ h. at table.now h.slot ≡ Some h.session) }
 {
@@ -118,13 +113,7 @@ pub fn new_session(
 }
 
 /// What the rules may ask about the packet between these interfaces, on its way to this endpoint.
-pub fn facts_of(
-    view: &View,
-    iif: Iface,
-    oif: Option<Iface>,
-    dst: Endpoint,
-    state: State,
-) -> Facts
+pub fn facts_of(view: &View, iif: Iface, oif: Option<Iface>, dst: Endpoint, state: State) -> Facts
     ensures { result ≡ record { iif = iif; oif = oif; src = view.now.src; dst = dst; proto = view.now.proto; state = state } }
 {
     Facts {

@@ -11,7 +11,9 @@ ghost use Rattle.hairpin.specs.Sound.{AreSound, KeepBounds};
 ghost use Rattle.hairpin.specs.Tallies.{tally};
 
 use crate::cause::Cause;
-use crate::held::{Held, change_of, facts_of, filtering, held_outside, needs_session, new_session, state_of};
+use crate::held::{
+    Held, change_of, facts_of, filtering, held_outside, needs_session, new_session, state_of,
+};
 use crate::plan::Plan;
 use crate::translations::Translations;
 use packet::bounds::Bounds;
@@ -27,7 +29,15 @@ fn known_in(bounds: &Bounds, rules: &Rules, found: &Held, view: &View) -> Result
 {
     let session = &found.session;
     let state = state_of(session, Opener::Remote, view.flags);
-    match filtering(bounds, rules, view, Iface::Wan, Iface::Lan, session.inside, state) {
+    match filtering(
+        bounds,
+        rules,
+        view,
+        Iface::Wan,
+        Iface::Lan,
+        session.inside,
+        state,
+    ) {
         Filtering::Drop => Err(Cause::Rule),
         Filtering::Pass => Ok(Plan {
             first: change_of(found, Opener::Remote, view.flags),
@@ -82,7 +92,15 @@ fn begins(
     if table.clashes_with(&session) {
         return Err(Cause::Clash);
     }
-    match filtering(bounds, rules, view, Iface::Wan, Iface::Lan, inside, State::New) {
+    match filtering(
+        bounds,
+        rules,
+        view,
+        Iface::Wan,
+        Iface::Lan,
+        inside,
+        State::New,
+    ) {
         Filtering::Drop => Err(Cause::Rule),
         Filtering::Pass => {
             if table.count() == 65_536 {

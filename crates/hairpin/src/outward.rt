@@ -11,7 +11,9 @@ ghost use Rattle.hairpin.specs.Sound.{AreSound, KeepBounds};
 ghost use Rattle.hairpin.specs.Tallies.{tally};
 
 use crate::cause::Cause;
-use crate::held::{Held, change_of, facts_of, filtering, held_inside, needs_session, new_session, state_of};
+use crate::held::{
+    Held, change_of, facts_of, filtering, held_inside, needs_session, new_session, state_of,
+};
 use crate::plan::Plan;
 use crate::translations::Translations;
 use packet::bounds::Bounds;
@@ -81,7 +83,15 @@ fn new_out(
     if needs_session(view) {
         return Err(Cause::NoSession);
     }
-    match filtering(bounds, rules, view, Iface::Lan, Iface::Wan, view.dst, State::New) {
+    match filtering(
+        bounds,
+        rules,
+        view,
+        Iface::Lan,
+        Iface::Wan,
+        view.dst,
+        State::New,
+    ) {
         Filtering::Drop => Err(Cause::Rule),
         Filtering::Pass => begun_out(bounds, rules, table, translations, view, now),
     }
