@@ -17,8 +17,7 @@ ghost use Rattle.hairpin.specs.declared.held.Held.{Held as Known};
 
 use crate::cause::Cause;
 use crate::held::{
-    Held, change_of, facts_of, filtering, held_inside, held_outside, needs_session, new_session,
-    state_of,
+    Held, change_of, facts_of, held_inside, held_outside, needs_session, new_session, state_of,
 };
 use crate::plan::Plan;
 use crate::translations::Translations;
@@ -26,7 +25,7 @@ use packet::bounds::Bounds;
 use packet::endpoint::{Endpoint, Flags, Iface};
 use packet::view::View;
 use sessions::{Change, Opener, Session, Table};
-use verdict::{Destination, Filtering, Rules, State, prerouting};
+use verdict::{Destination, Filtering, Rules, State, forward, prerouting};
 
 /// How a packet passes from an inside endpoint (its source) to an outside endpoint of the gateway (its
 /// destination, at the external address) and on to the inside endpoint that this stands for, at a moment in
@@ -314,7 +313,8 @@ fn second_leg(
 fn is_forwarded(bounds: &Bounds, rules: &Rules, view: &View, dst: Endpoint, state: State) -> bool
     ensures { IsTrue result ↔ (forward_verdict bounds.now (record { iif = Iface.Lan; oif = Some Iface.Lan; src = view.now.src; dst = dst; proto = view.now.proto; state = state }) rules.now ≡ Filtering.Pass) }
 {
-    match filtering(bounds, rules, view, Iface::Lan, Iface::Lan, dst, state) {
+    let facts = facts_of(view, Iface::Lan, Some(Iface::Lan), dst, state);
+    match forward(rules, bounds, &facts) {
         Filtering::Pass => true,
         Filtering::Drop => false,
     }

@@ -4,16 +4,14 @@ ghost use Rattle.std.specs.Option.{option_map};
 ghost use Rattle.sessions.specs.Listing.{find, has_inside, has_outside, listing};
 ghost use Rattle.sessions.specs.Table.{at};
 ghost use Rattle.sessions.specs.declared.session.Session.{Session as Flow};
-ghost use Rattle.verdict.specs.Hooks.{forward_verdict};
 ghost use Rattle.hairpin.specs.Legs.{needs_session as has_need, passed_by, state_of as state_by};
 ghost use Rattle.hairpin.specs.Plans.{Gives};
 ghost use Rattle.hairpin.specs.declared.held.Held.{Held as Known};
 
-use packet::bounds::Bounds;
 use packet::endpoint::{Endpoint, Flags, Iface, Proto};
 use packet::view::View;
 use sessions::{Change, Opener, Session, Slot, Table, is_new, is_syn_alone};
-use verdict::{Facts, Filtering, Rules, State, forward};
+use verdict::{Facts, State};
 
 /// A session that is held, and its slot.
 #[derive(Clone, Copy, Drop)]
@@ -124,19 +122,4 @@ pub fn facts_of(view: &View, iif: Iface, oif: Option<Iface>, dst: Endpoint, stat
         proto: view.proto,
         state,
     }
-}
-
-/// What the forward chains decide about the packet between these interfaces, on its way to this endpoint.
-pub fn filtering(
-    bounds: &Bounds,
-    rules: &Rules,
-    view: &View,
-    iif: Iface,
-    oif: Iface,
-    dst: Endpoint,
-    state: State,
-) -> Filtering
-    ensures { result ≡ forward_verdict bounds.now (record { iif = iif; oif = Some oif; src = view.now.src; dst = dst; proto = view.now.proto; state = state }) rules.now }
-{
-    forward(rules, bounds, &facts_of(view, iif, Some(oif), dst, state))
 }

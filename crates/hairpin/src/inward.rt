@@ -11,16 +11,14 @@ ghost use Rattle.hairpin.specs.Sound.{AreSound, KeepBounds};
 ghost use Rattle.hairpin.specs.Tallies.{tally};
 
 use crate::cause::Cause;
-use crate::held::{
-    Held, change_of, facts_of, filtering, held_outside, needs_session, new_session, state_of,
-};
+use crate::held::{Held, change_of, facts_of, held_outside, needs_session, new_session, state_of};
 use crate::plan::Plan;
 use crate::translations::Translations;
 use packet::bounds::Bounds;
 use packet::endpoint::{Endpoint, Iface};
 use packet::view::View;
 use sessions::{Change, Opener, Table};
-use verdict::{Destination, Filtering, Rules, State, prerouting};
+use verdict::{Destination, Filtering, Rules, State, forward, prerouting};
 
 // How a packet of a session comes in.
 fn known_in(bounds: &Bounds, rules: &Rules, found: &Held, view: &View) -> Result<Plan, Cause>
@@ -29,15 +27,8 @@ fn known_in(bounds: &Bounds, rules: &Rules, found: &Held, view: &View) -> Result
 {
     let session = &found.session;
     let state = state_of(session, Opener::Remote, view.flags);
-    match filtering(
-        bounds,
-        rules,
-        view,
-        Iface::Wan,
-        Iface::Lan,
-        session.inside,
-        state,
-    ) {
+    let facts = facts_of(view, Iface::Wan, Some(Iface::Lan), session.inside, state);
+    match forward(rules, bounds, &facts) {
         Filtering::Drop => Err(Cause::Rule),
         Filtering::Pass => Ok(Plan {
             first: change_of(found, Opener::Remote, view.flags),
@@ -92,15 +83,8 @@ fn begins(
     if table.clashes_with(&session) {
         return Err(Cause::Clash);
     }
-    match filtering(
-        bounds,
-        rules,
-        view,
-        Iface::Wan,
-        Iface::Lan,
-        inside,
-        State::New,
-    ) {
+    let facts = facts_of(view, Iface::Wan, Some(Iface::Lan), inside, State::New);
+    match forward(rules, bounds, &facts) {
         Filtering::Drop => Err(Cause::Rule),
         Filtering::Pass => {
             if table.count() == 65_536 {

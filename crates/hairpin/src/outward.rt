@@ -11,16 +11,14 @@ ghost use Rattle.hairpin.specs.Sound.{AreSound, KeepBounds};
 ghost use Rattle.hairpin.specs.Tallies.{tally};
 
 use crate::cause::Cause;
-use crate::held::{
-    Held, change_of, facts_of, filtering, held_inside, needs_session, new_session, state_of,
-};
+use crate::held::{Held, change_of, facts_of, held_inside, needs_session, new_session, state_of};
 use crate::plan::Plan;
 use crate::translations::Translations;
 use packet::bounds::Bounds;
 use packet::endpoint::{Endpoint, Flags, Iface};
 use packet::view::View;
 use sessions::{Change, Opener, Session, Table};
-use verdict::{Filtering, Rules, Source, State, postrouting};
+use verdict::{Filtering, Rules, Source, State, forward, postrouting};
 
 /// How a packet goes out from an inside endpoint (its source) to a remote one, at a moment in seconds.
 ///
@@ -56,7 +54,8 @@ fn known_out(bounds: &Bounds, rules: &Rules, found: &Held, view: &View) -> Resul
         → Plans external held now result (out_by bounds.now rules.now (listing held) now view.now (Some found.now.session)) }
 {
     let state = state_of(&found.session, Opener::Inside, view.flags);
-    match filtering(bounds, rules, view, Iface::Lan, Iface::Wan, view.dst, state) {
+    let facts = facts_of(view, Iface::Lan, Some(Iface::Wan), view.dst, state);
+    match forward(rules, bounds, &facts) {
         Filtering::Drop => Err(Cause::Rule),
         Filtering::Pass => Ok(plan_of(found, view.flags)),
     }
@@ -83,15 +82,8 @@ fn new_out(
     if needs_session(view) {
         return Err(Cause::NoSession);
     }
-    match filtering(
-        bounds,
-        rules,
-        view,
-        Iface::Lan,
-        Iface::Wan,
-        view.dst,
-        State::New,
-    ) {
+    let facts = facts_of(view, Iface::Lan, Some(Iface::Wan), view.dst, State::New);
+    match forward(rules, bounds, &facts) {
         Filtering::Drop => Err(Cause::Rule),
         Filtering::Pass => begun_out(bounds, rules, table, translations, view, now),
     }
