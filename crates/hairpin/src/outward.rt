@@ -18,7 +18,7 @@ use packet::bounds::Bounds;
 use packet::endpoint::{Endpoint, Flags, Iface};
 use packet::view::View;
 use sessions::{Change, Opener, Session, Table};
-use verdict::{Filtering, Rules, Source, State, forward, postrouting};
+use verdict::{Facts, Filtering, Rules, Source, State, forward, postrouting};
 
 /// How a packet goes out from an inside endpoint (its source) to a remote one, at a moment in seconds.
 ///
@@ -54,8 +54,7 @@ fn known_out(bounds: &Bounds, rules: &Rules, found: &Held, view: &View) -> Resul
         → Plans external held now result (out_by bounds.now rules.now (listing held) now view.now (Some found.now.session)) }
 {
     let state = state_of(&found.session, Opener::Inside, view.flags);
-    let facts = facts_of(view, Iface::Lan, Some(Iface::Wan), view.dst, state);
-    match forward(rules, bounds, &facts) {
+    match forward(rules, bounds, &facts_out(view, state)) {
         Filtering::Drop => Err(Cause::Rule),
         Filtering::Pass => Ok(plan_of(found, view.flags)),
     }
@@ -82,8 +81,7 @@ fn new_out(
     if needs_session(view) {
         return Err(Cause::NoSession);
     }
-    let facts = facts_of(view, Iface::Lan, Some(Iface::Wan), view.dst, State::New);
-    match forward(rules, bounds, &facts) {
+    match forward(rules, bounds, &facts_out(view, State::New)) {
         Filtering::Drop => Err(Cause::Rule),
         Filtering::Pass => begun_out(bounds, rules, table, translations, view, now),
     }
@@ -159,8 +157,7 @@ fn outside_by_rules(
     ensures { (now : ℕ) → result ≡ outside_for bounds.now rules.now (listing table.now.held) now view.now None }
 {
     bounds.facts();
-    let facts = facts_of(view, Iface::Lan, Some(Iface::Wan), view.dst, State::New);
-    match postrouting(rules, bounds, &facts) {
+    match postrouting(rules, bounds, &facts_out(view, State::New)) {
         Source::Drop => Err(Cause::Rule),
         Source::None => Ok(view.src),
         Source::From(_) => match translations.choose(view.proto, view.src.port) {
@@ -168,6 +165,13 @@ fn outside_by_rules(
             None => Err(Cause::NoPort),
         },
     }
+}
+
+// What the rules may ask about the packet in this state.
+fn facts_out(view: &View, state: State) -> Facts
+    ensures { result ≡ record { iif = Iface.Lan; oif = Some Iface.Wan; src = view.now.src; dst = view.now.dst; proto = view.now.proto; state = state } }
+{
+    facts_of(view, Iface::Lan, Some(Iface::Wan), view.dst, state)
 }
 
 // The plan of a packet from inside by the session.

@@ -20,7 +20,7 @@ returns-in-Some c = λ now.
     let test = taken_test held pairs c.requires.counts config c.facts.ensures.valid c.requires.sound view.proto in
     let says = subst (λ x. IsTestOf taken (λ q. IsOutside pairs view.proto (endpoint x q))) (sym c.requires.external) test in
     let choice = sym c.in-Some.is ∙ c.choose.ensures taken says ∙ ap (λ x. option_map (endpoint x) (port_choice taken view.src.port)) c.requires.external in
-    let verdict = ap (λ f. postrouting_verdict config f rules) (sym c.facts_of-facts.ensures) ∙ sym c.postrouting.ensures ∙ c.in-From.is in
+    let verdict = ap (λ f. postrouting_verdict config f rules) (sym c.facts_out.ensures) ∙ sym c.postrouting.ensures ∙ c.in-From.is in
     by_rules config rules c.requires.bounded (listing held) now view c.in-From.field-0 verdict (Some c.in-Some.outside) choice
 
 pub returns-in-None-choose : goal.returns-in-None-choose
@@ -34,5 +34,5 @@ returns-in-None-choose c = λ now.
     let test = taken_test held pairs c.requires.counts config c.facts.ensures.valid c.requires.sound view.proto in
     let says = subst (λ x. IsTestOf taken (λ q. IsOutside pairs view.proto (endpoint x q))) (sym c.requires.external) test in
     let choice = sym c.in-None-choose.is ∙ c.choose.ensures taken says ∙ ap (λ x. option_map (endpoint x) (port_choice taken view.src.port)) c.requires.external in
-    let verdict = ap (λ f. postrouting_verdict config f rules) (sym c.facts_of-facts.ensures) ∙ sym c.postrouting.ensures ∙ c.in-From.is in
+    let verdict = ap (λ f. postrouting_verdict config f rules) (sym c.facts_out.ensures) ∙ sym c.postrouting.ensures ∙ c.in-From.is in
     by_rules config rules c.requires.bounded (listing held) now view c.in-From.field-0 verdict None choice
