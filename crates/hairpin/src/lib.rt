@@ -17,6 +17,8 @@ mod held;
 mod inward;
 mod outward;
 mod plan;
+#[cfg(test)]
+mod tests;
 pub mod translations;
 
 pub use cause::Cause;
