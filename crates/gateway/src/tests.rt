@@ -18,7 +18,7 @@ const NEIGHBOUR: [u8; 28] = [
 ];
 
 // What goes out to wan leaves from the external address.
-const MASQUERADE: &[u8] =
+const MASQUERADE: &[u8; 101] =
     b"table ip nat { chain post { type nat hook postrouting priority srcnat; oifname \"wan\" masquerade; }; }";
 
 // Either of them, from 203.0.113.1:5000.
@@ -85,10 +85,18 @@ fn sends(gateway: &mut Gateway, event: Event) -> bool {
     }
 }
 
-fn load(alloc: Global, moment: u64, text: &[u8]) -> Result<Event, AllocError> {
+fn load(alloc: Global, moment: u64, text: &[u8; 15]) -> Result<Event, AllocError> {
     let bytes = Bytes::of(Vec::from_slice(alloc, text)?);
     Ok(Event {
         moment,
+        what: What::Load(bytes),
+    })
+}
+
+fn masquerade(alloc: Global, text: &[u8; 101]) -> Result<Event, AllocError> {
+    let bytes = Bytes::of(Vec::from_slice(alloc, text)?);
+    Ok(Event {
+        moment: 1000,
         what: What::Load(bytes),
     })
 }
@@ -144,7 +152,7 @@ fn session_count(gateway: &Gateway) -> Option<usize> {
 fn each_call(rt: HostRuntime) -> Result<(), Fail> {
     let alloc = rt.alloc();
     let mut gateway = gateway(alloc).ok_or("no gateway")?;
-    let rules = load(alloc, 1000, MASQUERADE)?;
+    let rules = masquerade(alloc, MASQUERADE)?;
     assert!(rt; loads(&mut gateway, rules));
     let first = from_lan(alloc, 1000, &FIRST)?;
     assert!(rt; sends(&mut gateway, first));
@@ -171,7 +179,7 @@ fn core_loads(core: &mut Core, event: Event) -> bool {
 fn core_steps(rt: HostRuntime) -> Result<(), Fail> {
     let alloc = rt.alloc();
     let mut core = Core::start(alloc, config(alloc).ok_or("no bounds")?, 1000)?;
-    let rules = load(alloc, 1000, MASQUERADE)?;
+    let rules = masquerade(alloc, MASQUERADE)?;
     assert!(rt; core_loads(&mut core, rules));
     let first = from_lan(alloc, 1000, &FIRST)?;
     assert!(rt; core_sends(&mut core, first));
@@ -181,8 +189,8 @@ fn core_steps(rt: HostRuntime) -> Result<(), Fail> {
 }
 
 // Whether the text loads, where there was memory for it.
-fn takes(alloc: Global, gateway: &mut Gateway, text: &[u8]) -> bool {
-    match load(alloc, 1000, text) {
+fn takes(alloc: Global, gateway: &mut Gateway) -> bool {
+    match masquerade(alloc, MASQUERADE) {
         Ok(event) => loads(gateway, event),
         Err(_) => true,
     }
@@ -204,7 +212,7 @@ fn each_growth_refused(rt: HostRuntime) {
     let Some(mut gateway) = gateway(alloc) else {
         return;
     };
-    assert!(rt; takes(alloc, &mut gateway, MASQUERADE));
+    assert!(rt; takes(alloc, &mut gateway));
     assert!(rt; passes(alloc, &mut gateway, 1000, &FIRST));
     assert!(rt; passes(alloc, &mut gateway, 1300, &NEIGHBOUR));
     if let Some(count) = session_count(&gateway) {
