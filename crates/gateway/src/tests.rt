@@ -204,7 +204,8 @@ fn passes(alloc: Global, gateway: &mut Gateway, moment: u64, packet: &[u8; 28]) 
     }
 }
 
-/// Holds under `rt try --test --fail-alloc N` for each N: a refused growth changes nothing, and the
+/// Holds under `rt try --test --fail-alloc N` for each N but those that refuse the test its own copy of
+/// the ruleset, which then isn't loaded: a refused growth changes nothing, and the
 /// event that comes back is answered as it would have been, also where a session ends.
 #[test]
 fn each_growth_refused(rt: HostRuntime) {
