@@ -1,6 +1,7 @@
 ghost use Rattle.std.specs.Prelude.{◌≤◌};
 
-use crate::parts::{are_same, meet, size_of_prefix};
+use crate::parts::{are_same, meet};
+use packet::bounds::size_of_prefix;
 use packet::endpoint::Prefix;
 
 /// What a packet has where a match looks: a number in host byte order, or the bytes of an interface name.
@@ -74,8 +75,8 @@ impl Element {
     ghost use Rattle.std.specs.Prelude.{◌↔◌, IsTrue};
     ghost use Rattle.sets.specs.Members.{fact_of, IsIn, Share};
 
-    #[tactic(auto, unfolding(crate::specs::Members::fact_of, crate::specs::Members::IsIn))]
     /// Whether the value lies in the element. Names are compared by their bytes.
+    #[tactic(auto, unfolding(crate::specs::Members::fact_of, crate::specs::Members::IsIn))]
     pub fn holds(&self, value: Value<'_>) -> bool
         ensures { IsTrue result ↔ IsIn (fact_of value.entry) self.now }
     {

@@ -1,17 +1,6 @@
-ghost use Rattle.std.specs.Prelude.{◌≡◌, ◌↔◌, ◌<◌, ◌≤◌, IsTrue};
-ghost use Rattle.packet.specs.Config.{size};
+ghost use Rattle.std.specs.Prelude.{◌≡◌, ◌↔◌, ◌≤◌, IsTrue};
 
 use crate::element::Range;
-use packet::endpoint::Prefix;
-
-/// How many addresses have the prefix: 1 where its length is above 32.
-#[tactic(auto, unfolding(packet::specs::Config::size))]
-pub fn size_of_prefix(prefix: Prefix) -> u64
-    ensures value { result ≡ size prefix }
-    ensures some { 0 < result }
-{
-    1 << 32u8.saturating_sub(prefix.len)
-}
 
 /// Neither range ends before the other begins.
 pub fn meet(one: Range, other: Range) -> bool
