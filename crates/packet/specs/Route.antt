@@ -47,3 +47,9 @@ abbrev pub RoutedIsOnRoute : Type 0
 RoutedIsOnRoute =
     (config : Config) (from : Iface) (view : View) (r : Route) → route config from view ≡ Ok r
     → (2 ≤ view.ttl) × IsOnRoute config from view r
+
+-- and one that may be put through and comes so has that route, where the external address isn't inside
+abbrev pub OnRouteIsRouted : Type 0
+OnRouteIsRouted =
+    (config : Config) (from : Iface) (view : View) (r : Route) → IsFalse (is_inside config config.external)
+    → 2 ≤ view.ttl → IsOnRoute config from view r → route config from view ≡ Ok r
