@@ -79,7 +79,7 @@ impl Map {
     /// # Errors
     ///
     /// `AllocError` where memory for it is refused, and never where there is room or the pair is held
-    /// already. No pair is held more or less often then.
+    /// already, which takes no room. No pair is held more or less often then.
     pub fn hold(&mut self, pair: Pair) -> Result<(), AllocError>
         requires one_to_one { KeepsOneToOne self.old pair }
         requires few { times self.old pair < 65536 }
@@ -88,16 +88,19 @@ impl Map {
         ensures succeeds { 0 < self.old.room → IsOk result }
         ensures again { 0 < times self.old pair → IsOk result }
         ensures room_ok { OnOk result (self.old.room ≤ self.new.room + 1) }
+        ensures room_again { 0 < times self.old pair → self.old.room ≤ self.new.room }
         ensures room_err { OnErr result (self.old.room ≤ self.new.room) }
     {
         add(&mut self.held, pair)
     }
 
-    /// Gives one hold of the pair back; with its last hold the pair is gone.
+    /// Gives one hold of the pair back; with its last hold the pair is gone, and its room is free. This
+    /// takes no memory.
     pub fn release(&mut self, pair: Pair)
         requires { 0 < times self.old pair }
         ensures loses { Gains self.new self.old pair }
         ensures room { self.old.room ≤ self.new.room }
+        ensures room_last { times self.old pair ≡ 1 → self.old.room < self.new.room }
     {
         take_one(&mut self.held, pair);
     }
@@ -106,9 +109,10 @@ impl Map {
     ///
     /// # Errors
     ///
-    /// `AllocError` where memory is refused.
+    /// `AllocError` where memory is refused, and never where there is room for two already.
     pub fn reserve(&mut self) -> Result<(), AllocError>
         ensures ok { OnOk result (2 ≤ self.new.room) }
+        ensures succeeds { 2 ≤ self.old.room → IsOk result }
         ensures same { SameTimes self.old self.new }
         ensures room { self.old.room ≤ self.new.room }
     {
@@ -135,6 +139,8 @@ fn add(held: &mut Vec<Counted>, pair: Pair) -> Result<(), AllocError>
     ensures again { 0 < times_in held.old.items pair → IsOk result }
     ensures room_ok { OnOk result (vec_capacity held.old - length held.old.items
         ≤ vec_capacity held.new - length held.new.items + 1) }
+    ensures room_again { 0 < times_in held.old.items pair → vec_capacity held.old - length held.old.items
+        ≤ vec_capacity held.new - length held.new.items }
     ensures room_err { OnErr result (vec_capacity held.old - length held.old.items
         ≤ vec_capacity held.new - length held.new.items) }
 {
@@ -154,6 +160,8 @@ fn take_one(held: &mut Vec<Counted>, pair: Pair)
     ensures loses { GainsIn held.new.items held.old.items pair }
     ensures room { vec_capacity held.old - length held.old.items
         ≤ vec_capacity held.new - length held.new.items }
+    ensures room_last { times_in held.old.items pair ≡ 1 → vec_capacity held.old - length held.old.items
+        < vec_capacity held.new - length held.new.items }
 {
     let Some(index) = index_of(held, pair) else {
         return;

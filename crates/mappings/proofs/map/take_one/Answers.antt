@@ -1,7 +1,7 @@
 use Rattle.std.proofs.Common.{◌≡◌, ◌+◌, ◌-◌, ap, sym, ◌∙◌, refl, get_or, arith}
 use Rattle.std.proofs.lemmas.List.{get_or_default}
 use Rattle.mappings.specs.declared.map.Counted.{Counted}
-use Rattle.mappings.proofs.Times.{times-gone, times-less}
+use Rattle.mappings.proofs.Times.{times-gone, times-less, times-part}
 use Rattle.mappings.proofs.map.take_one.Goals as goal
 
 pub returns-then-index-eq1-clause-loses : goal.returns-then-index-eq1-clause-loses
@@ -27,3 +27,14 @@ returns-else-index-eq1-clause-loses c = λ p.
     let count : entry.count ≡ (get_or items index entry).count = ap (λ (e : Counted). e.count) c.index_mut.ensures.value in
     let some : entry.count ≡ (entry.count - 1) + 1 = omega (arith, count, c.requires.held index entry at.0) in
     times-less items index (entry.count - 1) entry less p c.args.pair at.0 is same same some refl
+
+-- an entry that counts more than one would be more than the one hold
+pub returns-else-index-eq1-clause-room_last : goal.returns-else-index-eq1-clause-room_last
+returns-else-index-eq1-clause-room_last c = λ once.
+    let items = c.args.held.now.items in
+    let entry = c.index.result.now in
+    let at = rw c.deref.ensures.value at c.in-Some.ensures.found in
+    let count : entry.count ≡ (get_or items c.in-Some.index entry).count = ap (λ (e : Counted). e.count) c.index.ensures in
+    let part = times-part items c.in-Some.index entry c.args.pair at.0 (at.1 entry) in
+    let single : entry.count ≡ 1 = omega (arith, once, count, part, c.requires.held c.in-Some.index entry at.0) in
+    absurd (c.if-index-eq1.false single)
