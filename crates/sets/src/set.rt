@@ -24,7 +24,11 @@ impl Model for Set {
 }
 
 impl Set {
-    /// The values that lie in any of the elements. `NoMemory` comes only where a growth was refused.
+    /// The values that lie in any of the elements: at most 16,384, in any order, which may overlap.
+    ///
+    /// # Errors
+    ///
+    /// `Limit` exactly where there are more; `NoMemory` only where a growth was refused.
     pub fn union_of(elements: Vec<Element>) -> Result<Set, SetFault>
         ensures ok { IfOk result (λ set. (fact : Fact) → IsMember fact set ↔ IsMember fact elements.items) }
         ensures limit { (result ≡ Err SetFault.Limit) ↔ (limit < length elements.items) }

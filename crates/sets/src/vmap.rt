@@ -30,8 +30,12 @@ impl<V> Model for Vmap<V> {
 }
 
 impl<V: Drop> Vmap<V> {
-    /// The map of these keys to their verdicts. `Limit` is tested before `Overlap`; `NoMemory` comes only
-    /// where a growth was refused.
+    /// The map of these keys, at most 16,384 in any order, to their verdicts.
+    ///
+    /// # Errors
+    ///
+    /// `Limit` exactly where there are more; otherwise `Overlap` where two keys share a value; `NoMemory`
+    /// only where a growth was refused.
     pub fn of(mut pairs: Vec<Pair<V>>) -> Result<Vmap<V>, SetFault>
         ensures ok { IfOk result (λ vmap. (fact : Fact) (verdict : V) → Leads fact verdict vmap ↔ Leads fact verdict pairs.items) }
         ensures apart { OnOk result (¬ Overlaps pairs.items) }
@@ -48,7 +52,7 @@ impl<V: Drop> Vmap<V> {
         Ok(Vmap { pairs })
     }
 
-    /// The verdict of the one key in which the value lies. Takes no memory.
+    /// The verdict of the one key in which the value lies, if there is one. Takes no memory.
     pub fn look_up(&self, value: Value<'_>) -> Option<&V>
         ensures found { IfSome result (λ verdict. (other : V) → Leads (fact_of value.entry) other self.now ↔ (other ≡ verdict.now)) }
         ensures absent { IfNone result ((verdict : V) → ¬ Leads (fact_of value.entry) verdict self.now) }
