@@ -1,5 +1,6 @@
 pub mod Tokens
 pub mod Names
+pub mod Reasons
 pub mod Grammar
 pub mod Text
 pub mod Words

@@ -126,7 +126,7 @@ fn with_policy(base: Option<Base>, policy: Policy) -> Option<Base>
 }
 
 /// What may come next in a chain besides a rule.
-#[derive(Clone, Copy, Debug, PartialEq, Eq, Drop)]
+#[derive(Clone, Copy, Drop)]
 pub enum Stage {
     /// Comments and a base.
     Start,
@@ -136,7 +136,7 @@ pub enum Stage {
 }
 
 /// What stands in a chain so far.
-#[derive(Debug, Drop)]
+#[derive(Drop)]
 pub struct ChainBody {
     stage: Stage,
     base: Option<Base>,

@@ -6,7 +6,7 @@ use crate::token::Token;
 use std::alloc::{AllocError, AllocFailed};
 
 /// The first token that can't stand where it does.
-#[derive(Clone, Copy, Debug, Drop)]
+#[derive(Clone, Copy, Drop)]
 pub struct Spot {
     /// How many tokens there are from it on.
     pub left: usize,
@@ -14,7 +14,7 @@ pub struct Spot {
     pub is_family: bool,
 }
 
-#[derive(Clone, Copy, Debug, Drop)]
+#[derive(Clone, Copy, Drop)]
 pub enum ReadError {
     Memory,
     Syntax(Spot),

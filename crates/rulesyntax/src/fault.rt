@@ -1,4 +1,5 @@
 ghost use Rattle.std.specs.Prelude.{◌≡◌};
+ghost use Rattle.rulesyntax.specs.Reasons.{reason_name};
 ghost use Rattle.rulesyntax.specs.declared.fault.Kind.TheVariants.{NoMemory};
 
 use crate::line::Line;
@@ -44,7 +45,9 @@ pub enum Kind {
 
 impl Kind {
     /// The name that reports give it.
-    pub fn name(self) -> &'static str {
+    pub fn name(self) -> &'static str
+        ensures { result.now ≡ reason_name self }
+    {
         match self {
             Kind::TooLong => "too-long",
             Kind::Syntax => "syntax",
@@ -67,8 +70,12 @@ impl Kind {
 }
 
 impl fmt::Display for Kind {
+    ghost use Rattle.std.specs.Prelude.{Some};
+
+    ghost output = { λ kind. Some (reason_name kind) };
+
     fn fmt<W: fmt::Write>(&self, f: &mut fmt::Formatter<W>) -> fmt::Result {
-        write!(f, "{}", self.name())
+        f.write_str(self.name())
     }
 }
 

@@ -22,14 +22,14 @@ pub trait Keyword: Copy {
 }
 
 /// A flag of a set.
-#[derive(Clone, Copy, Debug, PartialEq, Eq, Drop)]
+#[derive(Clone, Copy, Drop)]
 pub enum Flag {
     Interval,
     Constant,
 }
 
 /// What a verdict begins with.
-#[derive(Clone, Copy, Debug, PartialEq, Eq, Drop)]
+#[derive(Clone, Copy, Drop)]
 pub enum VerdictWord {
     Accept,
     Drop,
@@ -40,7 +40,7 @@ pub enum VerdictWord {
 }
 
 /// What a translation begins with.
-#[derive(Clone, Copy, Debug, PartialEq, Eq, Drop)]
+#[derive(Clone, Copy, Drop)]
 pub enum NatWord {
     Dnat,
     Snat,
@@ -48,7 +48,7 @@ pub enum NatWord {
 }
 
 /// What a head begins with.
-#[derive(Clone, Copy, Debug, PartialEq, Eq, Drop)]
+#[derive(Clone, Copy, Drop)]
 pub enum HeadWord {
     Meta,
     Ip,
@@ -62,7 +62,7 @@ pub enum HeadWord {
 }
 
 /// What stands behind `meta`.
-#[derive(Clone, Copy, Debug, PartialEq, Eq, Drop)]
+#[derive(Clone, Copy, Drop)]
 pub enum MetaWord {
     Iifname,
     Iif,
@@ -72,7 +72,7 @@ pub enum MetaWord {
 }
 
 /// What stands behind `ip` in a head.
-#[derive(Clone, Copy, Debug, PartialEq, Eq, Drop)]
+#[derive(Clone, Copy, Drop)]
 pub enum IpWord {
     Saddr,
     Daddr,
@@ -80,14 +80,14 @@ pub enum IpWord {
 }
 
 /// What stands behind `tcp` or `udp`.
-#[derive(Clone, Copy, Debug, PartialEq, Eq, Drop)]
+#[derive(Clone, Copy, Drop)]
 pub enum PortWord {
     Sport,
     Dport,
 }
 
 /// A name of a priority.
-#[derive(Clone, Copy, Debug, PartialEq, Eq, Drop)]
+#[derive(Clone, Copy, Drop)]
 pub enum PriorityName {
     Raw,
     Mangle,
@@ -98,14 +98,14 @@ pub enum PriorityName {
 }
 
 /// What a statement of a text begins with.
-#[derive(Clone, Copy, Debug, PartialEq, Eq, Drop)]
+#[derive(Clone, Copy, Drop)]
 pub enum StatementWord {
     Flush,
     Table,
 }
 
 /// What an item of a table begins with.
-#[derive(Clone, Copy, Debug, PartialEq, Eq, Drop)]
+#[derive(Clone, Copy, Drop)]
 pub enum ItemWord {
     Comment,
     Set,
@@ -113,7 +113,7 @@ pub enum ItemWord {
 }
 
 /// What a line of a set begins with.
-#[derive(Clone, Copy, Debug, PartialEq, Eq, Drop)]
+#[derive(Clone, Copy, Drop)]
 pub enum LineWord {
     Type,
     Flags,
@@ -123,7 +123,7 @@ pub enum LineWord {
 }
 
 /// What stands before the rules of a chain.
-#[derive(Clone, Copy, Debug, PartialEq, Eq, Drop)]
+#[derive(Clone, Copy, Drop)]
 pub enum MemberWord {
     Comment,
     Type,

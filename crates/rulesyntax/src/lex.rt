@@ -11,7 +11,7 @@ use sqlite_items::Items;
 use std::alloc::{AllocError, Global};
 
 /// What a piece of a text may be, by its first byte.
-#[derive(Clone, Copy, Debug, PartialEq, Eq, Drop)]
+#[derive(Clone, Copy, Drop)]
 pub enum Shape {
     Word,
     Numeral,
@@ -23,7 +23,7 @@ pub enum Shape {
     Single,
 }
 
-#[derive(Clone, Copy, Debug, PartialEq, Eq, Drop)]
+#[derive(Clone, Copy, Drop)]
 pub enum Class {
     Word,
     Numeral,
@@ -89,7 +89,7 @@ fn run(class: Class, bytes: &[u8]) -> (&[u8], &[u8])
     bytes.split_at(end)
 }
 
-/// What stands before the rest.
+/// What stands before the rest, or the whole text where the rest is longer.
 fn passed<'a>(text: &'a [u8], rest: &[u8]) -> &'a [u8] {
     if rest.len() <= text.len() {
         before(text, rest)

@@ -14,14 +14,17 @@ impl Model for Line {
 }
 
 impl Line {
+    /// The line of this number, from 1.
     pub fn new(number: usize) -> Line {
         Line { number }
     }
 
+    /// Its number, from 1.
     pub fn number(&self) -> usize {
         self.number
     }
 
+    /// The same line.
     pub fn copied(&self) -> Line {
         Line {
             number: self.number,

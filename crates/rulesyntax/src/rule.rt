@@ -394,14 +394,14 @@ fn begins_part(tokens: &[Token]) -> bool
 }
 
 /// A match, or a counter, which has no effect.
-#[derive(Debug, Drop)]
+#[derive(Drop)]
 pub enum Part {
     Counter,
     Match(Match),
 }
 
 /// The matches so far, and whether any part came.
-#[derive(Debug, Drop)]
+#[derive(Drop)]
 pub struct Parts {
     matches: Items<Match>,
     any: bool,

@@ -15,7 +15,7 @@ use crate::tree::{Element, Set, SetElements, SetType};
 use sqlite_items::Items;
 
 /// What stands in a set so far.
-#[derive(Debug, Drop)]
+#[derive(Drop)]
 pub struct SetBody {
     types: Items<SetType>,
     elements: Items<SetElements>,

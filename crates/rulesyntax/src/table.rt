@@ -18,7 +18,7 @@ use crate::tree::{Chain, Family, Set, Spelled, Table};
 use sqlite_items::Items;
 
 /// What stands in a table so far.
-#[derive(Debug, Drop)]
+#[derive(Drop)]
 pub struct TableBody {
     sets: Items<Set>,
     chains: Items<Chain>,
