@@ -1,7 +1,7 @@
 //! Which of several faults is named, and what is answered where memory is refused.
 
 use crate::reading::read;
-use crate::tests::{bounds, check, repeated};
+use crate::tests::{bounds, check, repeated, row_of_chains};
 use packet::bounds::Bounds;
 use rulesyntax::fault::Kind;
 use std::alloc::{AllocError, Global};
@@ -140,8 +140,33 @@ fn each_growth(rt: HostRuntime) {
     for (text, wanted) in &rows {
         assert!(rt; is_right(alloc, &bounds, text, *wanted), "{text}");
     }
-    let Ok(rules) = repeated(alloc, "table t { chain c {\n", "drop\n", 4097, "} }") else {
+}
+
+// Whether the text has too much of something, at this line, where there was memory for the text.
+fn is_too_much(
+    alloc: Global,
+    bounds: &Bounds,
+    text: Result<String, AllocError>,
+    line: usize,
+) -> bool {
+    match text {
+        Ok(text) => is_right(alloc, bounds, text.as_str(), Some((Kind::Limit, line))),
+        Err(_) => true,
+    }
+}
+
+// The same for texts with one chain, one rule and one element too many.
+#[test]
+fn each_growth_past_a_limit(rt: HostRuntime) {
+    let alloc = rt.alloc();
+    let Ok(bounds) = bounds(alloc) else {
         return;
     };
-    assert!(rt; is_right(alloc, &bounds, rules.as_str(), Some((Kind::Limit, 4098))));
+    let rules = repeated(alloc, "table t { chain c {\n", "drop\n", 4097, "} }");
+    assert!(rt; is_too_much(alloc, &bounds, rules, 4098));
+    let set = "table t { set s { type inet_service; elements = {\n";
+    let elements = repeated(alloc, set, "1,\n", 16385, "} } }");
+    assert!(rt; is_too_much(alloc, &bounds, elements, 16386));
+    let chains = row_of_chains(alloc, 257, false, false);
+    assert!(rt; is_too_much(alloc, &bounds, chains, 258));
 }

@@ -578,7 +578,7 @@ pub(crate) fn repeated(
 }
 
 // A table with so many chains; each but the last leads to the next, and the last to the first where it is wanted.
-fn row_of_chains(
+pub(crate) fn row_of_chains(
     alloc: Global,
     count: u32,
     leading: bool,
