@@ -38,7 +38,7 @@ pub fn class_of(head: Head) -> Class
 }
 
 /// Whether they are one class.
-pub fn is_same(one: Class, other: Class) -> bool
+pub(crate) fn is_same(one: Class, other: Class) -> bool
     ensures { result ≡ same_class one other }
 {
     matches!(
@@ -58,7 +58,7 @@ fn is(word: &[u8], expected: &[u8]) -> bool
 }
 
 /// The class that the type of a set names.
-pub fn class_named(name: &[u8]) -> Option<Class>
+pub(crate) fn class_named(name: &[u8]) -> Option<Class>
     ensures { result ≡ class_of_name name.now }
 {
     if is(name, b"ipv4_addr") {
@@ -76,7 +76,7 @@ pub fn class_named(name: &[u8]) -> Option<Class>
     None
 }
 
-/// The port of a service.
+/// The port of a service: ssh 22, smtp 25, domain 53, http 80, ntp 123 or https 443.
 pub fn service_named(name: &[u8]) -> Option<u32>
     ensures { result ≡ service_of_name name.now }
 {
@@ -101,7 +101,7 @@ pub fn service_named(name: &[u8]) -> Option<u32>
     None
 }
 
-/// The number of a protocol.
+/// The number of a protocol in an IPv4 header (RFC 791, section 3.1): icmp 1, tcp 6 or udp 17.
 pub fn protocol_named(name: &[u8]) -> Option<u32>
     ensures { result ≡ protocol_of_name name.now }
 {
@@ -117,7 +117,7 @@ pub fn protocol_named(name: &[u8]) -> Option<u32>
     None
 }
 
-/// The number that stands for a state of a connection.
+/// The number, 0 to 4, that stands for a state of a connection: new, established, related, invalid or untracked.
 pub fn state_named(name: &[u8]) -> Option<u32>
     ensures { result ≡ state_of_name name.now }
 {
@@ -151,7 +151,7 @@ fn has_star(name: &[u8]) -> bool
 }
 
 /// Whether it can be the name of an interface: it isn't empty and has no `*`.
-pub fn is_interface(name: &[u8]) -> bool
+pub(crate) fn is_interface(name: &[u8]) -> bool
     ensures { result ≡ is_interface_name name.now }
 {
     name.len() >= 1 && !has_star(name)
@@ -180,7 +180,7 @@ fn is_number(class: Class, number: u64) -> bool
 }
 
 /// Whether the value is one of the class.
-pub fn is_value(class: Class, value: &Value) -> bool
+pub(crate) fn is_value(class: Class, value: &Value) -> bool
     ensures { result ≡ is_of_class class value.now }
 {
     match value {

@@ -20,15 +20,20 @@ use std::alloc::{AllocError, Global};
 /// What a statement of a nat chain changes.
 #[derive(Clone, Copy, Debug, PartialEq, Eq)]
 pub enum Translation {
+    /// `dnat`: the address, and perhaps the port, that a packet goes to.
     Destination,
+    /// `snat`: the address that it comes from.
     Source,
+    /// `masquerade`: the address that it comes from, to the external one.
     Masquerade,
 }
 
 /// Why a base chain may not come to a translation: its hook, or its type.
 #[derive(Clone, Copy, Debug, PartialEq, Eq)]
 pub enum Wrong {
+    /// A nat chain at a hook where the translation can't be.
     Hook,
+    /// A filter chain.
     Type,
 }
 

@@ -27,7 +27,7 @@ mod loops;
 mod names;
 mod nesting;
 mod overlap;
-pub mod parts;
+mod parts;
 mod places;
 mod reach;
 pub mod reading;

@@ -145,7 +145,8 @@ fn interfaces(alloc: Global, value: &Value) -> Result<Option<Part>, AllocError>
     }
 }
 
-/// The part of a set that a value of the class stands for; nothing where it is no value of the class.
+/// The part of a set that a value of the class stands for; nothing where it is no value of the class. It fails only
+/// where a growth was refused.
 pub fn part_of(alloc: Global, class: Class, value: &Value) -> Result<Option<Part>, AllocError>
     ensures { IfOk result (λ part. IsPart class value.now part) }
 {
