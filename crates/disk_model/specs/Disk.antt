@@ -1,5 +1,5 @@
 -- What the calls of a disk do to its two files, and what a crash may do between two syncs.
-use Rattle.std.specs.Prelude.{◌<◌, ◌≡◌, ◌≢◌, ◌⊎◌, ℕ, ◌+◌, ◌≤◌, ◌^◌, List, [], ◌∷◌, ◌++◌, length, take, drop, get_or, Result, IsErr, IsOk}
+use Rattle.std.specs.Prelude.{◌<◌, ◌≡◌, ◌≢◌, ◌⊎◌, ℕ, ◌+◌, ◌-◌, ◌≤◌, ◌^◌, min, List, [], ◌∷◌, ◌++◌, length, take, drop, get_or, Result, IsErr, IsOk}
 use Rattle.disk_model.specs.declared.disk.FileId.{FileId}
 use Rattle.disk_model.specs.declared.disk.DiskFault.{DiskFault}
 
@@ -34,6 +34,10 @@ pub record Torn (at : ℕ) (bytes old new : List ℕ) : Type 0 where
 pub record Written (file : FileId) (at : ℕ) (bytes : List ℕ) (old new : Files) : Type 0 where
   pub here : Torn at bytes (old file) (new file)
   pub elsewhere : Elsewhere file old new
+
+-- the count of calls has grown by this many; at the greatest u64 it stays
+abbrev pub Called : ℕ → ℕ → ℕ → Type 0
+Called calls before now = now ≡ min (before + calls) (2 ^ 64 - 1)
 
 -- the count of failures has grown; at the greatest u64 it stays, and counts as grown
 abbrev pub Grew : ℕ → ℕ → Type 0

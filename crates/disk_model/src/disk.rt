@@ -1,7 +1,7 @@
 // Two files: what a read gives, and what a crash may leave of them.
 ghost use Rattle.std.specs.Prelude.{◌≡◌, ◌+◌, ◌≤◌, ◌↔◌, List, ℕ, length, IfOk, OnOk, take, drop};
 ghost use Rattle.disk_model.specs.declared.disk.FileId.{FileId};
-ghost use Rattle.disk_model.specs.Disk.{Files, Goes, Written, Synced, Same, Put, HasCause};
+ghost use Rattle.disk_model.specs.Disk.{Files, Goes, Written, Synced, Same, Put, Called, HasCause};
 
 /// One of the two files of a disk.
 #[derive(Clone, Copy, Debug, PartialEq, Eq)]
@@ -32,6 +32,9 @@ pub trait Disk {
     /// What a crash at any moment from that one on might have left of the two files.
     ghost left: { Self → ℕ → Files → Type 0 };
 
+    /// How many calls there were, up to the greatest u64; all but `failures` count.
+    ghost called: { Self → ℕ };
+
     /// How many calls have failed, up to the greatest u64.
     ghost failed: { Self → ℕ };
 
@@ -45,6 +48,7 @@ pub trait Disk {
         ensures length { honest self.old → IfOk result (λ n. n ≡ length (seen self.old file)) }
         ensures seen { honest self.old → Same (seen self.old) (seen self.new) }
         ensures crash { honest self.old → Goes moment left self.old self.new Same }
+        ensures called { honest self.old → Called 1 (called self.old) (called self.new) }
         ensures cause { HasCause (failed self.old) (failed self.new) result };
 
     /// Fills `bytes` from a place of a file. The range lies within the file. A read that fails changes no file.
@@ -54,6 +58,7 @@ pub trait Disk {
         ensures read { honest self.old → OnOk result (bytes.new ≡ take (length bytes.old) (drop at (seen self.old file))) }
         ensures seen { honest self.old → Same (seen self.old) (seen self.new) }
         ensures crash { honest self.old → Goes moment left self.old self.new Same }
+        ensures called { honest self.old → Called 1 (called self.old) (called self.new) }
         ensures cause { HasCause (failed self.old) (failed self.new) result };
 
     /// Puts bytes at a place of a file, which may make it longer; the place is at most the file's length. Until a
@@ -64,6 +69,7 @@ pub trait Disk {
         ensures written { honest self.old → OnOk result (Put file at bytes.now (seen self.old) (seen self.new)) }
         ensures range { honest self.old → Written file at bytes.now (seen self.old) (seen self.new) }
         ensures crash { honest self.old → Goes moment left self.old self.new (Written file at bytes.now) }
+        ensures called { honest self.old → Called 1 (called self.old) (called self.new) }
         ensures cause { HasCause (failed self.old) (failed self.new) result };
 
     /// Makes a file durable: from then on until the next write to it a crash leaves of it what a read gives, its
@@ -73,6 +79,7 @@ pub trait Disk {
         ensures durable { honest self.old → OnOk result (Synced moment left seen self.new file) }
         ensures seen { honest self.old → Same (seen self.old) (seen self.new) }
         ensures crash { honest self.old → Goes moment left self.old self.new Same }
+        ensures called { honest self.old → Called 1 (called self.old) (called self.new) }
         ensures cause { HasCause (failed self.old) (failed self.new) result };
 
     /// What a read gives is one of the outcomes of a crash.

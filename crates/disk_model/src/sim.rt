@@ -1,5 +1,5 @@
 ghost use Rattle.std.specs.Prelude.{◌≡◌, ◌↔◌, ◌⊎◌, ◌+◌, ◌≤◌, ◌<◌, List, ℕ, [], ◌∷◌, ◌++◌, length, take, drop, IfOk, OnOk, OnErr, IsOk, IsErr, ⊤, Some, None};
-ghost use Rattle.disk_model.specs.Disk.{Synced as IsSynced, Put, Written, Goes, Same, Grew, HasCause};
+ghost use Rattle.disk_model.specs.Disk.{Synced as IsSynced, Put, Written, Goes, Same, Grew, Called, HasCause};
 ghost use Rattle.disk_model.specs.Recorded.{History, Wrote, Synced, did, reads, two, LeftSince};
 ghost use Rattle.disk_model.specs.Choices.{crashed, restarted};
 ghost use Rattle.disk_model.specs.Metered.{Metered, ticked, failed, turn_of};
@@ -96,6 +96,7 @@ impl SimDisk {
         ensures ok { OnOk result (self.new ≡ passed (did (Wrote file at bytes.now) self.old.history) self.old) }
         ensures turn { IsOk result → turn_of self.old.meter ≡ Passes }
         ensures err { OnErr result (FailsToWrite file at bytes.now self.old self.new) }
+        ensures called { Called 1 self.old.meter.calls self.new.meter.calls }
         ensures cause { HasCause self.old.meter.failures self.new.meter.failures result }
     {
         match self.meter.tick() {
@@ -112,6 +113,7 @@ impl SimDisk {
         ensures ok { OnOk result (self.new ≡ passed (did (Synced file) self.old.history) self.old) }
         ensures turn { IsOk result → turn_of self.old.meter ≡ Passes }
         ensures err { OnErr result (self.new ≡ failing self.old.history self.old) }
+        ensures called { Called 1 self.old.meter.calls self.new.meter.calls }
         ensures cause { HasCause self.old.meter.failures self.new.meter.failures result }
     {
         match self.meter.tick() {
@@ -126,6 +128,7 @@ impl SimDisk {
     // Counts a failure.
     fn fail(&mut self) -> DiskFault
         ensures new { self.new ≡ record { history = self.old.history; meter = failed self.old.meter } }
+        ensures calls { self.new.meter.calls ≡ self.old.meter.calls }
         ensures later { self.old.meter.failures ≤ self.new.meter.failures }
         ensures by_one { self.new.meter.failures ≤ self.old.meter.failures + 1 }
         ensures grew { Grew self.old.meter.failures self.new.meter.failures }
@@ -137,6 +140,7 @@ impl SimDisk {
     // Puts the first half of the bytes, and counts a failure.
     fn cut(&mut self, file: FileId, at: usize, bytes: &[u8]) -> DiskFault
         requires { at ≤ length (seen_of self.old file) }
+        ensures calls { self.new.meter.calls ≡ self.old.meter.calls }
         ensures later { self.old.meter.failures ≤ self.new.meter.failures }
         ensures by_one { self.new.meter.failures ≤ self.old.meter.failures + 1 }
         ensures grew { Grew self.old.meter.failures self.new.meter.failures }
@@ -154,6 +158,7 @@ impl SimDisk {
         ensures ok { OnOk result (self.new ≡ passed self.old.history self.old) }
         ensures err { OnErr result (self.new ≡ failing self.old.history self.old) }
         ensures turn { IsOk result ↔ turn_of self.old.meter ≡ Passes }
+        ensures called { Called 1 self.old.meter.calls self.new.meter.calls }
         ensures cause { HasCause self.old.meter.failures self.new.meter.failures result }
     {
         match self.meter.tick() {
@@ -173,6 +178,8 @@ impl Disk for SimDisk {
 
     ghost left = { λ d. left_of d };
 
+    ghost called = { λ d. d.meter.calls };
+
     ghost failed = { λ d. d.meter.failures };
 
     ghost reads = { λ disk honest. reads_left disk.history };
@@ -190,6 +197,7 @@ impl Disk for SimDisk {
         ensures length { IfOk result (λ n. n ≡ length (seen_of self.old file)) }
         ensures seen { Same (seen_of self.old) (seen_of self.new) }
         ensures crash { Goes moment_of left_of self.old self.new Same }
+        ensures called { Called 1 self.old.meter.calls self.new.meter.calls }
         ensures cause { HasCause self.old.meter.failures self.new.meter.failures result }
     {
         self.look()?;
@@ -204,6 +212,7 @@ impl Disk for SimDisk {
         ensures read { OnOk result (bytes.new ≡ take (length bytes.old) (drop at (seen_of self.old file))) }
         ensures seen { Same (seen_of self.old) (seen_of self.new) }
         ensures crash { Goes moment_of left_of self.old self.new Same }
+        ensures called { Called 1 self.old.meter.calls self.new.meter.calls }
         ensures cause { HasCause self.old.meter.failures self.new.meter.failures result }
     {
         self.look()?;
@@ -220,6 +229,7 @@ impl Disk for SimDisk {
         ensures written { OnOk result (Put file at bytes.now (seen_of self.old) (seen_of self.new)) }
         ensures range { Written file at bytes.now (seen_of self.old) (seen_of self.new) }
         ensures crash { Goes moment_of left_of self.old self.new (Written file at bytes.now) }
+        ensures called { Called 1 self.old.meter.calls self.new.meter.calls }
         ensures cause { HasCause self.old.meter.failures self.new.meter.failures result }
     {
         self.write(file, at as usize, bytes)
@@ -232,6 +242,7 @@ impl Disk for SimDisk {
         ensures durable { OnOk result (IsSynced moment_of left_of seen_of self.new file) }
         ensures seen { Same (seen_of self.old) (seen_of self.new) }
         ensures crash { Goes moment_of left_of self.old self.new Same }
+        ensures called { Called 1 self.old.meter.calls self.new.meter.calls }
         ensures cause { HasCause self.old.meter.failures self.new.meter.failures result }
     {
         self.settle(file)

@@ -20,3 +20,10 @@ returns-clause-any_moment g c =
     (called moment left d1 d2 Same (λ files was other. refl) synced)
     (λ before files was w. w)
     (λ files from. let first = wrote.now from.0 from.1 in (first.0, first.1, written_same file c.args.at c.args.bytes.now first.0 from.0 files first.2 from.2))
+
+pub returns-clause-range : goal.returns-clause-range
+returns-clause-range g c =
+    λ honest.
+    let seen = g.D.Disk.seen in
+    written_same c.args.file c.args.at c.args.bytes.now (seen c.args.disk.now) (seen c.write_at.new.self) (seen c.sync.new.self)
+    (c.write_at.ensures.range honest) (c.sync.ensures.seen (c.write_at.ensures.honest.0 honest))
