@@ -136,3 +136,13 @@ module _ (at : ℕ) (body old : List ℕ) (within : at < length old) where
         ap (λ l. take at l) is ∙ take-put at at (1 ∷ []) s (omega arith) (omega (arith, size.0, within)) ∙ take-put (at + 1) at (framed body) old (omega arith) (omega (arith, within)),
         ap (λ l. drop at l) is ∙ drop-put at (1 ∷ []) s (omega (arith, size.0, within)) ∙ ap (λ l. 1 ∷ l) (drop-put (at + 1) (framed body) old (omega (arith, within))),
       )
+
+  pub put_whole : (new : List ℕ) → new ≡ put at (1 ∷ []) (put (at + 1) (framed body) old) → new ≡ put at (1 ∷ framed body) old
+  put_whole new is =
+      let parts = opened new is in
+      let n = length (framed body) in
+      sym (take-append-drop at new)
+      ∙ ap (λ l. l ++ drop at new) parts.0
+      ∙ ap (λ l. take at old ++ l) parts.1
+      ∙ sym (append_assoc (take at old) (1 ∷ framed body) (drop (at + 1 + n) old))
+      ∙ ap (λ k. (take at old ++ (1 ∷ framed body)) ++ drop k old) (let e : at + 1 + n ≡ at + length (1 ∷ framed body) = omega arith in e)

@@ -1,10 +1,10 @@
 -- What the two writes of an append leave, and what stands after them.
-use Rattle.std.proofs.Common.{◌≡◌, ◌≢◌, ℕ, ◌+◌, ◌<◌, ◌≤◌, ◌^◌, List, [], ◌∷◌, ◌++◌, length, get_or, drop, sym, ◌∙◌, ap, subst, arith}
+use Rattle.std.proofs.Common.{◌≡◌, ◌≢◌, inl, ℕ, ◌+◌, ◌<◌, ◌≤◌, ◌^◌, List, [], ◌∷◌, ◌++◌, length, get_or, drop, refl, sym, ◌∙◌, ap, subst, arith}
 use Rattle.disk_model.specs.declared.disk.FileId.{FileId}
 use Rattle.disk_model.specs.Disk.{Files, Torn, Written, Put, put, Leaves, Synced}
 use Rattle.disk_model.proofs.Moments.{follows, at_end, narrows}
 use Rattle.journal.specs.Groups.{Groups, Extended, Appended, Resting, Stands, framed}
-use Rattle.journal.proofs.Behind.{torn_body, torn_gate, opened, one_more, none, closed_there, length-framed}
+use Rattle.journal.proofs.Behind.{torn_body, torn_gate, opened, put_whole, one_more, none, closed_there, length-framed}
 
 module _ {D : Type 0} (moment : D → ℕ) (left : D → ℕ → Files → Type 0) (seen : D → Files) (file : FileId) (at : ℕ) (body buffer : List ℕ) where
   pub body_written : (old new : D) → Resting moment left seen old file at → Leaves moment left old new (Written file (at + 1) buffer) → Leaves moment left old new (Appended file at body)
@@ -37,6 +37,37 @@ module _ {D : Type 0} (moment : D → ℕ) (left : D → ℕ → Files → Type 
           elsewhere = λ other ne. from.2.elsewhere other ne ∙ origin.2.elsewhere other ne;
         },
       ))
+
+  -- how the files read after the first write, and after both, whole or torn
+  pub body_seen : (old mid : D) → Resting moment left seen old file at → Written file (at + 1) buffer (seen old) (seen mid) → Appended file at body (seen old) (seen mid)
+  body_seen old mid rest written = record {
+    here = torn_body at buffer (seen old file) (seen mid file) body rest.within rest.closed written.here;
+    elsewhere = written.elsewhere;
+  }
+
+  pub gate_seen : (old mid new : D) → buffer ≡ framed body → length body < 2 ^ 32 → Resting moment left seen old file at
+      → Put file (at + 1) buffer (seen old) (seen mid) → Written file at (1 ∷ []) (seen mid) (seen new) → Appended file at body (seen old) (seen new)
+  gate_seen old mid new is fits rest stored written =
+      let staged : seen mid file ≡ put (at + 1) (framed body) (seen old file) = stored.here ∙ ap (λ b. put (at + 1) b (seen old file)) is in
+      record {
+        here = torn_gate at body (seen old file) rest.within (seen new file) fits (subst (λ l. Torn at (1 ∷ []) l (seen new file)) staged written.here);
+        elsewhere = λ other ne. written.elsewhere other ne ∙ stored.elsewhere other ne;
+      }
+
+  pub reads_group : (old mid new : D) → buffer ≡ framed body → Resting moment left seen old file at
+      → Put file (at + 1) buffer (seen old) (seen mid) → Put file at (1 ∷ []) (seen mid) (seen new) → Put file at (1 ∷ framed body) (seen old) (seen new)
+  reads_group old mid new is rest stored opens =
+      let whole : seen new file ≡ put at (1 ∷ []) (put (at + 1) (framed body) (seen old file)) = opens.here ∙ ap (λ l. put at (1 ∷ []) l) (stored.here ∙ ap (λ b. put (at + 1) b (seen old file)) is) in
+      record {
+        here = put_whole at body (seen old file) rest.within (seen new file) whole;
+        elsewhere = λ other ne. opens.elsewhere other ne ∙ stored.elsewhere other ne;
+      }
+
+  pub unchanged : (old : D) → Appended file at body (seen old) (seen old)
+  unchanged old = record {
+    here = record { before = refl; groups = λ start bodies g. inl g };
+    elsewhere = λ other ne. refl;
+  }
 
   pub stands : (old mid new : D) → buffer ≡ framed body → length body < 2 ^ 32 → Resting moment left seen old file at
       → Put file (at + 1) buffer (seen old) (seen mid) → Put file at (1 ∷ []) (seen mid) (seen new) → Synced moment left seen new file

@@ -32,8 +32,10 @@ fn read_group<D: Disk>(
     ensures looks { D.honest disk.old → Looks D.moment D.left D.seen disk.old disk.new }
     ensures within { IfOk result (λ group. IfSome group (λ body. at + 5 + length body.items < end)) }
     ensures failures { D.failed disk.old ≤ D.failed disk.new }
+    ensures by_one { D.failed disk.new ≤ D.failed disk.old + 1 }
     ensures no_failure { OnOk result (D.failed disk.new ≡ D.failed disk.old) }
     ensures device { IsErrOf result JournalFault.Device → Grew (D.failed disk.old) (D.failed disk.new) }
+    ensures by_device { D.failed disk.old < D.failed disk.new → IsErrOf result JournalFault.Device }
     ensures full { IsErrOf result JournalFault.Full → ⊥ }
 {
     let mut gate = [0];
@@ -75,8 +77,10 @@ pub fn groups<D: Disk>(
     ensures damaged { D.honest disk.old → IsErrOf result JournalFault.Damaged → (bodies : List (List ℕ)) (end : ℕ) → Groups (D.seen disk.old file) at bodies end → ⊥ }
     ensures looks { D.honest disk.old → Looks D.moment D.left D.seen disk.old disk.new }
     ensures failures { D.failed disk.old ≤ D.failed disk.new }
+    ensures by_one { D.failed disk.new ≤ D.failed disk.old + 1 }
     ensures no_failure { OnOk result (D.failed disk.new ≡ D.failed disk.old) }
     ensures device { IsErrOf result JournalFault.Device → Grew (D.failed disk.old) (D.failed disk.new) }
+    ensures by_device { D.failed disk.old < D.failed disk.new → IsErrOf result JournalFault.Device }
     ensures full { IsErrOf result JournalFault.Full → ⊥ }
 {
     let end = disk.len(file)?;

@@ -1,4 +1,4 @@
-use Rattle.journal.proofs.Stages.{body_written, gate_written, stands}
+use Rattle.journal.proofs.Stages.{body_written, gate_written, body_seen, gate_seen, reads_group, unchanged, stands}
 use Rattle.journal.proofs.appending.append.Goals as goal
 
 pub returns-in_err-write_synced-clause-any_moment : goal.returns-in_err-write_synced-clause-any_moment
@@ -24,3 +24,22 @@ returns-clause-ok g c = λ honest.
     let mid = c.write_synced.ensures.honest.0 honest in
     stands g.D.Disk.moment g.D.Disk.left g.D.Disk.seen c.args.file c.args.at c.args.group.now c.as_bytes-bytes.result.now _ c.write_synced.new.disk _ c.as_bytes-bytes.ensures.bytes c.as_bytes-bytes.ensures.fits (c.requires honest)
     (c.in_ok-write_synced.ensures.written honest) (c.in_ok-write_synced-2.ensures.written mid) (c.in_ok-write_synced-2.ensures.durable mid)
+
+pub returns-clause-written : goal.returns-clause-written
+returns-clause-written g c = λ honest.
+    reads_group g.D.Disk.moment g.D.Disk.left g.D.Disk.seen c.args.file c.args.at c.args.group.now c.as_bytes-bytes.result.now _ c.write_synced.new.disk _ c.as_bytes-bytes.ensures.bytes (c.requires honest)
+    (c.in_ok-write_synced.ensures.written honest) (c.in_ok-write_synced-2.ensures.written (c.write_synced.ensures.honest.0 honest))
+
+pub returns-in_err-write_synced-clause-seen : goal.returns-in_err-write_synced-clause-seen
+returns-in_err-write_synced-clause-seen g c = λ honest.
+    body_seen g.D.Disk.moment g.D.Disk.left g.D.Disk.seen c.args.file c.args.at c.args.group.now c.as_bytes-bytes.result.now _ _ (c.requires honest) (c.write_synced.ensures.range honest)
+
+pub returns-in_err-write_synced-2-clause-seen : goal.returns-in_err-write_synced-2-clause-seen
+returns-in_err-write_synced-2-clause-seen g c = λ honest.
+    gate_seen g.D.Disk.moment g.D.Disk.left g.D.Disk.seen c.args.file c.args.at c.args.group.now c.as_bytes-bytes.result.now _ c.write_synced.new.disk _ c.as_bytes-bytes.ensures.bytes c.as_bytes-bytes.ensures.fits (c.requires honest)
+    (c.in_ok-write_synced.ensures.written honest) (c.write_synced-2.ensures.range (c.write_synced.ensures.honest.0 honest))
+
+pub returns-clause-seen : goal.returns-clause-seen
+returns-clause-seen g c = λ honest.
+    gate_seen g.D.Disk.moment g.D.Disk.left g.D.Disk.seen c.args.file c.args.at c.args.group.now c.as_bytes-bytes.result.now _ c.write_synced.new.disk _ c.as_bytes-bytes.ensures.bytes c.as_bytes-bytes.ensures.fits (c.requires honest)
+    (c.in_ok-write_synced.ensures.written honest) (c.write_synced-2.ensures.range (c.write_synced.ensures.honest.0 honest))
