@@ -246,7 +246,7 @@ fn age_and_act(
 }
 
 impl Core {
-    /// No rules and no session; the clock stands at the moment.
+    /// No rules and no session; the clock stands at the moment, in seconds.
     pub fn start(alloc: Global, bounds: Bounds, moment: u64) -> Result<Core, NoMemory>
         ensures { IfOk result (λ c. c ≡ record { config = bounds; state = empty_at moment }) }
     {

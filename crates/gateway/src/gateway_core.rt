@@ -30,7 +30,7 @@ impl Model for Gateway {
 }
 
 impl Gateway {
-    /// A gateway with no rules, no session and no number given, whose clock stands at the moment.
+    /// A gateway with no rules, no session and no number given, whose clock stands at the moment, in seconds.
     pub fn start(alloc: Global, bounds: Bounds, moment: u64) -> Result<Gateway, NoMemory>
         ensures { IfOk result (λ g. g ≡ record { config = bounds; state = empty_at moment; last = 0; held = [] }) }
     {
@@ -83,7 +83,8 @@ impl Gateway {
         Ok(Vec::new(self.alloc))
     }
 
-    /// Takes an event. An `Err` hands it back and changes nothing.
+    /// Takes an event. An `Err` hands it back and changes nothing: `NumbersOut` behind number 2^64 - 1,
+    /// `NoMemory` where memory is refused.
     pub fn offer(&mut self, event: Event) -> Result<Given, (Event, GatewayFault)>
         ensures took { IfOk result (λ given. Took self.old self.new event given) }
         ensures now { IfOk result (λ given. self.old.held ≡ [] → self.new.held ≡ []) }
