@@ -30,8 +30,9 @@ use Rattle.hairpin.specs.Sound.{AreSound, KeepBounds}
 use Rattle.hairpin.specs.Translations.{endpoint}
 use Rattle.hairpin.specs.declared.cause.Cause.{Cause}
 use Rattle.hairpin.specs.declared.cause.Cause.TheVariants.{Clash, NoMapping, NoSession, Rule, SelfMapped, TableFull}
-use Rattle.hairpin.proofs.Apart.{choice-free, chosen_apart, err-ok, find-In, mapped-some, mapped_apart, maps-parts, outside_away, port-ok, same_Ok}
+use Rattle.hairpin.proofs.Apart.{err-ok, find-In, port-ok, same_Ok}
 use Rattle.hairpin.proofs.Clashing.{no_clash}
+use Rattle.hairpin.proofs.Opening.{Opened, opened_chosen, opened_mapped}
 use Rattle.hairpin.proofs.Soundness.{IsFine, Joins, filter-one, fine-filtered, other-flow, passed-joins, put-known, put-more, put-sound, two-join}
 
 -- ---- a search of the set with one session put in
@@ -112,12 +113,6 @@ fresh (Some s) = 0
 
 -- ---- the first leg
 
--- what is known of the outside endpoint of a new session
-pub record Opened (config : Config) (sessions : List Session) (new : Session) : Type 0 where
-  pub apart : (s : Session) → In s sessions → ¬ Clashing new s
-  pub address : new.outside.addr ≡ config.external
-  pub port : 0 < new.outside.port
-
 -- the first session, where this one of its flow was found
 pub record IsFirst (config : Config) (sessions : List Session) (view : View) (now : ℕ) (found : Option Session) (first : Session) : Type 0 where
   pub remote : first.remote ≡ view.dst
@@ -134,31 +129,10 @@ module _ (config : Config) (rules : Spelled) (sessions : List Session) (now : �
 
   opened_by : (found : Option Session) → find (maps_inside view.proto view.src) sessions ≡ found → (outside : Endpoint) → outside_near config rules sessions now view found ≡ Ok outside
       → find (has_inside view.proto view.src view.dst) sessions ≡ None → Opened config sessions (near_of outside)
-  opened_by (Some m) e outside h none =
-      let new = near_of outside in
-      let is = find-In (maps_inside view.proto view.src) sessions m e in
-      let parts = maps-parts view.proto view.src m is.1 in
-      let placed = sound.placed m is.0 in
-      let out : m.outside ≡ outside = same_Ok m.outside outside h in
-      let address : m.outside.addr ≡ config.external = elim placed.outside [ inl same ↦ absurd (parts.0 (sym same)) | inr there ↦ there ] in
-      record {
-        apart = λ s in_s.
-            mapped_apart sessions sound.apart new none s in_s m is.0 parts.0 parts.1 parts.2 out
-            (λ same. outside_away config is_one (subst (λ a. is_inside config a ≡ true) (ap (λ (x : Endpoint). x.addr) same ∙ address) (sound.placed s in_s).inside));
-        address = ap (λ (x : Endpoint). x.addr) (sym out) ∙ address;
-        port = subst (λ (x : Endpoint). 0 < x.port) out placed.outside_port;
-      }
-  opened_by None e outside h none =
-      let addr = view.dst.addr in
-      let new = near_of outside in
-      let some = port-ok (option_map (endpoint addr) (port_choice (is_taken sessions view.proto addr) view.src.port)) outside h in
-      let chosen = mapped-some (endpoint addr) (port_choice (is_taken sessions view.proto addr) view.src.port) outside some in
-      let free = choice-free (is_taken sessions view.proto addr) view.src.port chosen.0 src_port chosen.1 in
-      record {
-        apart = λ s in_s. chosen_apart sessions sound.apart new none s in_s e (subst (λ (x : Endpoint). is_taken sessions view.proto x.addr x.port ≡ false) chosen.2 free.0);
-        address = ap (λ (x : Endpoint). x.addr) (sym chosen.2) ∙ at;
-        port = subst (λ (x : Endpoint). 0 < x.port) chosen.2 free.1;
-      }
+  opened_by (Some m) e outside h none = opened_mapped config is_one sessions sound (near_of outside) none m e (same_Ok m.outside outside h)
+  opened_by None e outside h none = opened_chosen config is_one sessions sound (near_of outside) none src_port e
+      (subst (λ a. option_map (endpoint a) (port_choice (is_taken sessions view.proto a) view.src.port) ≡ Some outside) at
+      (port-ok (option_map (endpoint view.dst.addr) (port_choice (is_taken sessions view.proto view.dst.addr) view.src.port)) outside h))
 
   new-first : (outside : Endpoint) → find (has_inside view.proto view.src view.dst) sessions ≡ None → Opened config sessions (near_of outside) → IsFirst config sessions view now None (near_of outside)
   new-first outside none opened =
@@ -170,7 +144,7 @@ module _ (config : Config) (rules : Spelled) (sessions : List Session) (now : �
         many = put-more t sessions opened.apart;
         joins = λ few. record {
           sound = put-sound config sessions sound t (λ s in_s away. opened.apart s in_s) few
-              (record { inside = inside; outside = inr opened.address; inside_port = src_port; outside_port = opened.port; remote_port = dst_port })
+              (record { inside = inside; outside = opened.outside; inside_port = src_port; outside_port = opened.port; remote_port = dst_port })
               (omega arith);
           last = refl;
           keeps = λ u in_u h. absurd (false≢true (sym (other u in_u) ∙ h));

@@ -39,6 +39,7 @@ use Rattle.hairpin.specs.declared.plan.Plan.{Plan}
 use Rattle.hairpin.proofs.Apart.{differ, find-In, maps_outside-parts, same_endpoint-from}
 use Rattle.hairpin.proofs.Clashing.{breaks-from, breaks-parts, none_clashes, no_clash}
 use Rattle.hairpin.proofs.Mapped.{not_mapped, taken_test}
+use Rattle.hairpin.proofs.Opening.{may_begin}
 use Rattle.hairpin.proofs.Doubling.{IsFirst, IsSecond, Rises-put, find-put, first-is, fresh, gone, put-In, second-is}
 
 -- ---- what is looked up is what is found once the first session is put in
@@ -171,16 +172,8 @@ first-gives : (config : Config) (held : List (Option Session)) (now : ℕ) (view
     → length (put first (listing held)) ≤ 65536 → Gives config.external held now change first
 first-gives config held now view first change None f slot goes begins few =
     let new = f.begins refl in
-    subst (λ c. Gives config.external held now c first) (sym begins) (
-      refl,
-      record {
-        unseen = new.1;
-        last = new.2;
-        apart = λ any. new.0.apart any.held (listing-In held any.held any.place any.is_held) any.clash;
-        few = λ full. absurd (omega (arith, full, few, f.many, length-listing held));
-        placed = λ away. (new.0.address, new.0.port);
-      },
-    )
+    subst (λ c. Gives config.external held now c first) (sym begins)
+    (refl, may_begin config held now first new.0 new.1 new.2 (λ full. absurd (omega (arith, full, few, f.many, length-listing held))))
 first-gives config held now view first change (Some h) f slot goes begins few = subst (Gives config.external held now change) (f.goes h.session refl) (goes config.external held now slot)
 
 second-gives : (config : Config) (rules : Spelled) (held : List (Option Session)) (now : ℕ) (view : View) (first t : Session) (change before : Change) (b : Option Held)

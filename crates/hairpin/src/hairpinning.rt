@@ -130,7 +130,7 @@ fn outside_near(
 {
     bounds.facts();
     match translations.outside_of(view.proto, view.src) {
-        Some(outside) => Ok(outside),
+        Some(mapped) => Ok(mapped),
         None => match translations.choose(view.proto, view.src.port) {
             Some(outside) => Ok(outside),
             None => Err(Cause::NoPort),
