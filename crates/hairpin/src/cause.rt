@@ -16,7 +16,7 @@ pub enum Cause {
     NoMapping,
     /// The mapping isn't open to the source.
     Filtered,
-    /// A TCP packet begins no session, and has none.
+    /// A TCP packet that is not a SYN alone has no session (RFC 5382, section 4).
     NoSession,
     /// A rule drops it.
     Rule,
@@ -26,7 +26,7 @@ pub enum Cause {
     SelfMapped,
     /// Every port of the class and parity is taken.
     NoPort,
-    /// There are 65,536 sessions.
+    /// There would be more than 65,536 sessions.
     TableFull,
 }
 

@@ -9,14 +9,18 @@ use sessions::Change;
 /// it leaves on. Nothing has changed yet.
 #[derive(Clone, Copy, Debug, PartialEq, Eq, Drop)]
 pub struct Plan {
+    /// What becomes of its session; where it goes through two, of the one that it goes out by.
     pub first: Change,
+    /// What becomes of the session that it comes in by where it goes through two, once `first` is made.
     pub second: Option<Change>,
+    /// The source that it leaves with.
     pub src: Endpoint,
+    /// The destination that it leaves with.
     pub dst: Endpoint,
     pub iface: Iface,
 }
 
-/// How many sessions the change adds.
+/// How many sessions the change adds, 0 or 1.
 pub fn adds(change: &Change) -> usize
     ensures { result ≡ adds_by change.now }
 {

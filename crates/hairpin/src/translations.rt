@@ -36,7 +36,11 @@ impl Model for Translations {
 }
 
 impl Translations {
-    /// No mapping.
+    /// No mapping. `external` is the external address as a number: 192.0.2.1 is `0xc0000201`.
+    ///
+    /// # Errors
+    ///
+    /// `AllocError` where memory is refused.
     pub fn new(alloc: Global, external: u32) -> Result<Translations, AllocError>
         ensures none { IfOk result (λ t. (p : Mapping) → times t.pairs p ≡ 0) }
         ensures external { IfOk result (λ t. t.external ≡ external) }
@@ -50,10 +54,15 @@ impl Translations {
         })
     }
 
-    /// Makes room for two more mappings.
+    /// Makes room for two more mappings, which can then be held without memory.
+    ///
+    /// # Errors
+    ///
+    /// `AllocError` where memory is refused. No mapping and no room is lost then.
     pub fn reserve(&mut self) -> Result<(), AllocError>
         ensures ok { OnOk result (HasRoom 2 self.new) }
         ensures same { SameTimes self.old.pairs self.new.pairs }
+        ensures room { (n : ℕ) → HasRoom n self.old → HasRoom n self.new }
         ensures external { self.new.external ≡ self.old.external }
     {
         self.map.reserve()?;
@@ -76,8 +85,9 @@ impl Translations {
         self.map.inside_of(proto, outside)
     }
 
-    /// The free endpoint of the external address that the port is given, by any test that says which
-    /// are taken.
+    /// The first free endpoint of the external address for a port of 1 to 65,535, counted from the port on
+    /// in its class and parity (RFC 4787, REQ-3a and REQ-4); none where all of these are taken. Any test
+    /// that tells which ports are taken leads to the same.
     pub fn choose(&self, proto: Proto, port: u16) -> Option<Endpoint>
         requires { 0 < port }
         ensures { (taken : ℕ → Bool) → IsTestOf taken (λ q. IsOutside self.now.pairs proto (endpoint self.now.external q))
@@ -92,7 +102,8 @@ impl Translations {
         }
     }
 
-    /// Holds the pair once more, for which there is room.
+    /// Holds the pair once more, for which there is room: it is at the external address, shares neither
+    /// endpoint with another pair of its protocol, and is held fewer than 65,536 times.
     pub fn hold(&mut self, pair: Pair)
         requires one_to_one { KeepsOneToOne self.old.pairs pair }
         requires few { times self.old.pairs pair < 65536 }
