@@ -22,7 +22,7 @@ fn check(rt: &impl Abort, alloc: Global, rows: &[Row]) -> Result<(), Fail> {
     Ok(())
 }
 
-const TABLES: [Row; 30] = [
+const TABLES: [Row; 32] = [
     ("", "ok"),
     ("\n;; \t\r\n", "ok"),
     ("# a comment { \" 007", "ok"),
@@ -56,6 +56,8 @@ const TABLES: [Row; 30] = [
     ("table ip inet { }", "line 1: unsupported"),
     ("table inet ip6 { }", "line 1: unsupported"),
     ("table t { map m { } }", "line 1: unsupported"),
+    ("007", "line 1: syntax"),
+    ("\n?", "line 2: syntax"),
 ];
 
 const SETS: [Row; 24] = [
