@@ -1,5 +1,5 @@
 -- Laws of what has been answered.
-use Rattle.std.proofs.Common.{◌≡◌, ℕ, suc, ◌+◌, List, [], ◌∷◌, ◌++◌, length, take, drop, refl, sym, ap, ◌∙◌, arith, append_assoc, length-append, subst}
+use Rattle.std.proofs.Common.{◌≡◌, ℕ, ◌+◌, List, [], ◌∷◌, ◌++◌, length, take, drop, refl, sym, ap, ◌∙◌, arith, append_assoc, length-append, subst}
 use Rattle.std.specs.List.{flat_map}
 use Rattle.std.proofs.lemmas.List.{append-nil, take-append-drop}
 use Rattle.std.proofs.lemmas.List.Concat.{flat_map-append}
@@ -8,28 +8,11 @@ use Rattle.gateway.specs.declared.event.Event.{Event}
 use Rattle.gateway.specs.declared.event.Answer.{Answer}
 use Rattle.gateway.specs.declared.event.Given.{Given}
 use Rattle.gateway.specs.Judged.{Judged, AreJudged}
-use Rattle.gateway.specs.Machine.{State, step, after, answers, numbered}
+use Rattle.gateway.specs.Machine.{step, after, answers, numbered}
 use Rattle.gateway.specs.Standing.{Standing, Took, handed}
 use Rattle.gateway.proofs.Judging.{AreJudged-append, AreJudged-length, AreJudged-one}
+use Rattle.gateway.proofs.Runs.{after-append, answers-append, length-answers, numbered-append}
 use Rattle.socket_edge.specs.Answering.{frame, replies, due, AreFirst, Progress, Begun}
-
-pub after-append : (config : Config) (s : State) (es fs : List Judged) → after config s (es ++ fs) ≡ after config (after config s es) fs
-after-append config s [] fs = refl
-after-append config s (e ∷ es) fs = after-append config (step config s e).0 es fs
-
-pub answers-append : (config : Config) (s : State) (es fs : List Judged) → answers config s (es ++ fs) ≡ answers config s es ++ answers config (after config s es) fs
-answers-append config s [] fs = refl
-answers-append config s (e ∷ es) fs = ap (λ (xs : List Answer). (step config s e).1 ∷ xs) (answers-append config (step config s e).0 es fs)
-
-pub length-answers : (config : Config) (s : State) (es : List Judged) → length (answers config s es) ≡ length es
-length-answers config s [] = refl
-length-answers config s (e ∷ es) = ap suc (length-answers config (step config s e).0 es)
-
-pub numbered-append : (last : ℕ) (xs ys : List Answer) → numbered last (xs ++ ys) ≡ numbered last xs ++ numbered (last + length xs) ys
-numbered-append last [] ys = ap (λ n. numbered n ys) (omega arith)
-numbered-append last (x ∷ xs) ys =
-    let e : last + 1 + length xs ≡ last + suc (length xs) = omega arith in
-    ap (λ (zs : List (ℕ × Answer)). (last + 1, x) ∷ zs) (numbered-append (last + 1) xs ys ∙ ap (λ n. numbered (last + 1) xs ++ numbered n ys) e)
 
 -- the answers to the first events, and then those to the others
 replies-append : (old middle : Standing) (es fs : List Judged) → middle.config ≡ old.config → middle.state ≡ after old.config old.state es → middle.last ≡ old.last + length es
