@@ -10,7 +10,9 @@ use std::marker::Model;
 /// The last moment of a session, and how long it may be idle, in seconds.
 #[derive(Clone, Copy, Debug, PartialEq, Eq, Drop)]
 pub struct Idle {
+    /// The second of its last packet.
     pub last: u64,
+    /// 240, 300 or 7440 (RFC 4787 REQ-5, RFC 5382 REQ-5).
     pub timeout: u64,
 }
 
@@ -65,7 +67,8 @@ impl Due {
         grow(&mut self.places, slots)
     }
 
-    /// Watches a slot that isn't watched. A refused growth changes nothing.
+    /// Watches a slot that isn't watched, with the second of its session's last packet and the seconds
+    /// that it may be idle. A refused growth changes nothing.
     pub fn add(&mut self, slot: Slot, last: u64, timeout: u64) -> Result<(), AllocError>
         requires free { at self.old slot ≡ None }
         requires timeout { IsTimeout timeout }
@@ -80,7 +83,8 @@ impl Due {
         Ok(())
     }
 
-    /// A packet of a watched slot passed.
+    /// A packet of a watched slot passed at this second; its session may be idle for so many from then
+    /// on.
     pub fn touch(&mut self, slot: Slot, last: u64, timeout: u64)
         requires held { IsSome (at self.old slot) }
         requires timeout { IsTimeout timeout }
@@ -101,8 +105,8 @@ impl Due {
         clear_place(&mut self.places, slot);
     }
 
-    /// The slots of the sessions that are alive no longer, each once, in any order. Where there are
-    /// none it takes no memory.
+    /// The slots of the sessions that are alive no longer at this second, each once, in any order.
+    /// Where there are none it takes no memory.
     pub fn due(&self, alloc: Global, now: u64) -> Result<Vec<Slot>, AllocError>
         requires { IsLatest self.now now }
         ensures due { IfOk result (λ slots. AreDue self.now now slots.items) }

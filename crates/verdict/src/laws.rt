@@ -18,8 +18,8 @@ pub fn calls_unfold()
     ensures { CallsUnfold }
 {}
 
-/// A fact is a member of a side exactly where it is one of those that a value of the side stands for,
-/// as the values of the text are read when it is loaded.
+/// The test whether a fact is one of those that a value stands for is exact, as the values of a text are
+/// read when it is loaded.
 pub fn lies_is_exact()
     ensures { LiesIsExact }
 {}
