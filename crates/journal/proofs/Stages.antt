@@ -1,5 +1,5 @@
 -- What the two writes of an append leave, and what stands after them.
-use Rattle.std.proofs.Common.{◌≡◌, ◌≢◌, inl, ℕ, ◌+◌, ◌<◌, ◌≤◌, ◌^◌, List, [], ◌∷◌, ◌++◌, length, get_or, drop, refl, sym, ◌∙◌, ap, subst, arith}
+use Rattle.std.proofs.Common.{◌≡◌, ◌≢◌, ℕ, ◌+◌, ◌<◌, ◌≤◌, ◌^◌, List, [], ◌∷◌, ◌++◌, length, get_or, drop, sym, ◌∙◌, ap, subst, arith}
 use Rattle.disk_model.specs.declared.disk.FileId.{FileId}
 use Rattle.disk_model.specs.Disk.{Files, Torn, Written, Put, put, Leaves, Synced}
 use Rattle.disk_model.proofs.Moments.{follows, at_end, narrows}
@@ -62,12 +62,6 @@ module _ {D : Type 0} (moment : D → ℕ) (left : D → ℕ → Files → Type 
         here = put_whole at body (seen old file) rest.within (seen new file) whole;
         elsewhere = λ other ne. opens.elsewhere other ne ∙ stored.elsewhere other ne;
       }
-
-  pub unchanged : (old : D) → Appended file at body (seen old) (seen old)
-  unchanged old = record {
-    here = record { before = refl; groups = λ start bodies g. inl g };
-    elsewhere = λ other ne. refl;
-  }
 
   pub stands : (old mid new : D) → buffer ≡ framed body → length body < 2 ^ 32 → Resting moment left seen old file at
       → Put file (at + 1) buffer (seen old) (seen mid) → Put file at (1 ∷ []) (seen mid) (seen new) → Synced moment left seen new file

@@ -1,4 +1,4 @@
-use Rattle.journal.proofs.Stages.{body_written, gate_written, body_seen, gate_seen, reads_group, unchanged, stands}
+use Rattle.journal.proofs.Stages.{body_written, gate_written, body_seen, gate_seen, reads_group, stands}
 use Rattle.journal.proofs.appending.append.Goals as goal
 
 pub returns-in_err-write_synced-clause-any_moment : goal.returns-in_err-write_synced-clause-any_moment
