@@ -1,3 +1,4 @@
+//! What the record of the disk in memory has of one call.
 use crate::FileId;
 
 /// A call that changed what a crash may leave.

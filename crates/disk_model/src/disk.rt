@@ -1,4 +1,4 @@
-// Two files: what a read gives, and what a crash may leave of them.
+//! The disk model: the trait `Disk`, whose clauses say what each call does and what a crash may leave.
 ghost use Rattle.std.specs.Prelude.{◌≡◌, ◌+◌, ◌≤◌, ◌↔◌, List, ℕ, length, IfOk, OnOk, take, drop};
 ghost use Rattle.disk_model.specs.declared.disk.FileId.{FileId};
 ghost use Rattle.disk_model.specs.Disk.{Files, Goes, Written, Synced, Same, Put, Called, HasCause};
@@ -6,11 +6,13 @@ ghost use Rattle.disk_model.specs.Disk.{Files, Goes, Written, Synced, Same, Put,
 /// One of the two files of a disk.
 #[derive(Clone, Copy, Debug, PartialEq, Eq)]
 pub enum FileId {
+    /// The first file.
     A,
+    /// The second file.
     B,
 }
 
-/// A call of a disk has failed.
+/// A call of a disk has failed. Why is not said.
 #[derive(Clone, Copy, Debug, PartialEq, Eq, Drop, thiserror::Error)]
 #[error("a call of the disk has failed")]
 pub struct DiskFault;
@@ -42,7 +44,11 @@ pub trait Disk {
     fn failures(&self) -> u64
         ensures { result ≡ failed self.now };
 
-    /// The length of a file.
+    /// The length of a file, in bytes.
+    ///
+    /// # Errors
+    ///
+    /// `DiskFault` where the call fails. No file changes.
     fn len(&mut self, file: FileId) -> Result<u64, DiskFault>
         ensures honest { honest self.old ↔ honest self.new }
         ensures length { honest self.old → IfOk result (λ n. n ≡ length (seen self.old file)) }
@@ -51,7 +57,11 @@ pub trait Disk {
         ensures called { honest self.old → Called 1 (called self.old) (called self.new) }
         ensures cause { HasCause (failed self.old) (failed self.new) result };
 
-    /// Fills `bytes` from a place of a file. The range lies within the file. A read that fails changes no file.
+    /// Fills `bytes` from a place of a file. The range lies within the file.
+    ///
+    /// # Errors
+    ///
+    /// `DiskFault` where the call fails. No file changes; `bytes` may hold anything.
     fn read_at(&mut self, file: FileId, at: u64, bytes: &mut [u8]) -> Result<(), DiskFault>
         requires { honest self.old → at + length bytes.old ≤ length (seen self.old file) }
         ensures honest { honest self.old ↔ honest self.new }
@@ -62,7 +72,12 @@ pub trait Disk {
         ensures cause { HasCause (failed self.old) (failed self.new) result };
 
     /// Puts bytes at a place of a file, which may make it longer; the place is at most the file's length. Until a
-    /// sync a crash may leave any bytes in the range and past the end. A write that fails may have put any bytes there.
+    /// sync a crash may leave any bytes in the range and past the end; but a write of the single byte 00 never makes a
+    /// 01 of what was none.
+    ///
+    /// # Errors
+    ///
+    /// `DiskFault` where the call fails. It may have put any bytes into the range and past the end.
     fn write_at(&mut self, file: FileId, at: u64, bytes: &[u8]) -> Result<(), DiskFault>
         requires { honest self.old → at ≤ length (seen self.old file) }
         ensures honest { honest self.old ↔ honest self.new }
@@ -73,7 +88,11 @@ pub trait Disk {
         ensures cause { HasCause (failed self.old) (failed self.new) result };
 
     /// Makes a file durable: from then on until the next write to it a crash leaves of it what a read gives, its
-    /// length too. A sync that fails promises nothing.
+    /// length too.
+    ///
+    /// # Errors
+    ///
+    /// `DiskFault` where the call fails. The file reads as before, and a crash may leave what it could leave before.
     fn sync(&mut self, file: FileId) -> Result<(), DiskFault>
         ensures honest { honest self.old ↔ honest self.new }
         ensures durable { honest self.old → OnOk result (Synced moment left seen self.new file) }

@@ -1,4 +1,5 @@
-//! Two files on a device that may stop at any moment: what a read gives, and what a crash may leave.
+//! Two files on a device that may stop at any moment: what a read gives, and what a crash may leave. Today nothing
+//! but the crate `journal` and tests use it.
 //!
 //! - `disk`: the trait `Disk`, whose clauses and laws are the disk model.
 //! - `store`: a write that is synced.

@@ -1,3 +1,4 @@
+//! The meter of the disk in memory: how many calls there were and how many failed, and which one is to fail.
 ghost use Rattle.std.specs.Prelude.{◌≡◌, ◌+◌, ◌≤◌, ◌^◌, ℕ, Some, None};
 ghost use Rattle.disk_model.specs.Disk.{Grew};
 ghost use Rattle.disk_model.specs.Metered.{Metered, ticked, failed, turn_of, turn_by, burnt, spent, is_due};
@@ -12,7 +13,7 @@ pub(crate) enum Turn {
     Passes,
     /// It fails and touches nothing.
     Refused,
-    /// It fails, and a write puts its first half.
+    /// It fails, and a write puts the first half of its bytes.
     Cut,
 }
 
@@ -34,6 +35,7 @@ impl Model for Meter {
 }
 
 impl Meter {
+    /// No call yet, and none is to fail.
     pub(crate) fn new() -> Meter
         ensures { result ≡ record { calls = 0; failures = 0; fuse = None; once = None } }
     {
@@ -45,30 +47,35 @@ impl Meter {
         }
     }
 
+    /// How many calls there were, up to the greatest u64.
     pub(crate) fn calls(&self) -> u64
         ensures { result ≡ self.now.calls }
     {
         self.calls
     }
 
+    /// How many calls have failed, up to the greatest u64.
     pub(crate) fn failures(&self) -> u64
         ensures { result ≡ self.now.failures }
     {
         self.failures
     }
 
+    /// This many calls pass from now on, and all later ones are refused.
     pub(crate) fn set_fuse(&mut self, calls: u64)
         ensures { self.new ≡ record self.old { fuse = Some calls } }
     {
         self.fuse = Some(calls);
     }
 
+    /// This many calls pass from now on, and the next one is cut.
     pub(crate) fn set_once(&mut self, calls: u64)
         ensures { self.new ≡ record self.old { once = Some calls } }
     {
         self.once = Some(calls);
     }
 
+    /// No call is to fail from now on.
     pub(crate) fn clear(&mut self)
         ensures { self.new ≡ record self.old { fuse = None; once = None } }
     {

@@ -1,3 +1,4 @@
+//! Putting bytes into a file that is held in memory.
 ghost use Rattle.std.specs.Prelude.{◌≡◌, ◌+◌, ◌-◌, ◌≤◌, List, ℕ, [], ◌++◌, length, replicate, take, drop, OnOk, OnErr};
 ghost use Rattle.disk_model.specs.Disk.{put};
 ghost use Rattle.disk_model.specs.Choices.{placed};
@@ -5,6 +6,11 @@ ghost use Rattle.disk_model.specs.Choices.{placed};
 use std::alloc::AllocError;
 
 /// Puts bytes at a place of a file. A place past the end is reached by zeros.
+///
+/// # Errors
+///
+/// `AllocError` where memory is refused. A place within the file or at its end leaves the file as it was; a place
+/// past the end may have put zeros up to it.
 pub(crate) fn place(file: &mut Vec<u8>, at: usize, bytes: &[u8]) -> Result<(), AllocError>
     ensures ok { OnOk result (file.new.items ≡ placed at bytes.now file.old.items) }
     ensures err { at ≤ length file.old.items → OnErr result (file.new.items ≡ file.old.items) }

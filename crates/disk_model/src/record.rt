@@ -1,3 +1,4 @@
+//! The record of the disk in memory: two files as they read now, as they were first, and the calls between.
 ghost use Rattle.std.specs.Prelude.{◌≡◌, ◌⊎◌, ◌+◌, ◌≤◌, List, ℕ, [], ◌∷◌, ◌++◌, length, map, OnOk, OnErr, IfOk};
 ghost use Rattle.disk_model.specs.Disk.{put};
 ghost use Rattle.disk_model.specs.Recorded.{History, Done, Wrote, Synced, did, reads};
@@ -36,7 +37,11 @@ impl Model for Record {
 }
 
 impl Record {
-    /// Two files that are synced.
+    /// Two files of these bytes, both synced.
+    ///
+    /// # Errors
+    ///
+    /// `AllocError` where memory is refused.
     pub(crate) fn of(alloc: Global, a: &[u8], b: &[u8]) -> Result<Record, AllocError>
         ensures { IfOk result (λ made. made ≡ (record { first_a = a.now; first_b = b.now; done = [] })) }
     {
@@ -60,7 +65,11 @@ impl Record {
         }
     }
 
-    /// Writes, or changes nothing.
+    /// Writes bytes at a place of a file, and records that.
+    ///
+    /// # Errors
+    ///
+    /// `AllocError` where memory is refused. Nothing changes.
     pub(crate) fn write(&mut self, file: FileId, at: usize, bytes: &[u8]) -> Result<(), AllocError>
         requires { at ≤ length (reads self.old file) }
         ensures ok { OnOk result (self.new ≡ did (Wrote file at bytes.now) self.old) }
@@ -72,7 +81,11 @@ impl Record {
         }
     }
 
-    /// Syncs, or changes nothing.
+    /// Records a sync of a file.
+    ///
+    /// # Errors
+    ///
+    /// `AllocError` where memory is refused. Nothing changes.
     pub(crate) fn sync(&mut self, file: FileId) -> Result<(), AllocError>
         ensures ok { OnOk result (self.new ≡ did (Synced file) self.old) }
         ensures err { OnErr result (self.new ≡ self.old) }
@@ -80,7 +93,11 @@ impl Record {
         record_sync(&mut self.calls, file)
     }
 
-    /// Leaves what a crash leaves under a choice, or changes nothing.
+    /// Leaves what a crash leaves under a choice (`SimDisk::crash`), with both files synced.
+    ///
+    /// # Errors
+    ///
+    /// `AllocError` where memory is refused. Nothing changes.
     pub(crate) fn crash(&mut self, choice: u64) -> Result<(), AllocError>
         ensures ok { OnOk result (self.new ≡ restarted choice self.old) }
         ensures err { OnErr result (self.new ≡ self.old) }

@@ -1,4 +1,4 @@
-// What a crash leaves of one file, found by going over the record.
+//! What a crash of the disk in memory leaves of one file, found by going over the record once.
 ghost use Rattle.std.specs.Prelude.{◌≡◌, ◌+◌, ◌/◌, ◌%◌, ◌^◌, ◌<◌, ◌≤◌, Bool, nat_eq, List, ℕ, [], ◌∷◌, ◌++◌, length, get_or, map, replicate, OnOk, OnErr, IfOk};
 ghost use Rattle.disk_model.specs.Disk.{put};
 ghost use Rattle.disk_model.specs.Recorded.{Since, heard, heard_all, is_same};
@@ -18,7 +18,11 @@ struct Replay {
     number: u32,
 }
 
-/// What a crash leaves of a file under a choice, given its bytes when the record began.
+/// What a crash leaves of a file under a choice (`SimDisk::crash`), given its bytes when the record began.
+///
+/// # Errors
+///
+/// `AllocError` where memory is refused.
 pub(crate) fn left_by(
     alloc: Global,
     choice: u64,

@@ -1,3 +1,4 @@
+//! `SimDisk`: a disk in memory that can be told to fail and to crash.
 ghost use Rattle.std.specs.Prelude.{◌≡◌, ◌↔◌, ◌⊎◌, ◌+◌, ◌≤◌, ◌<◌, List, ℕ, [], ◌∷◌, ◌++◌, length, take, drop, IfOk, OnOk, OnErr, IsOk, IsErr, ⊤, Some, None};
 ghost use Rattle.disk_model.specs.Disk.{Synced as IsSynced, Put, Written, Goes, Same, Grew, Called, HasCause};
 ghost use Rattle.disk_model.specs.Recorded.{History, Wrote, Synced, did, reads, two, LeftSince};
@@ -13,7 +14,8 @@ use crate::{Disk, DiskFault, FileId};
 use std::alloc::{AllocError, Global};
 use std::marker::Model;
 
-/// Two files in memory that behave as the disk model says, for tests and trial runs.
+/// Two files in memory that behave as the disk model says, for tests and trial runs. Where memory for a write or a
+/// sync is refused, the call fails.
 #[derive(Drop)]
 pub struct SimDisk {
     record: Record,
@@ -30,6 +32,10 @@ impl Model for SimDisk {
 
 impl SimDisk {
     /// Two files of these bytes, both synced.
+    ///
+    /// # Errors
+    ///
+    /// `AllocError` where memory is refused.
     pub fn of(alloc: Global, a: &[u8], b: &[u8]) -> Result<SimDisk, AllocError>
         ensures files { IfOk result (λ disk. disk.history ≡ (record { first_a = a.now; first_b = b.now; done = [] })) }
         ensures meter { IfOk result (λ disk. disk.meter ≡ (record { calls = 0; failures = 0; fuse = None; once = None })) }
@@ -59,7 +65,7 @@ impl SimDisk {
         self.meter.set_once(calls);
     }
 
-    /// How many calls there were since it was made. At the greatest u64 it stays.
+    /// How many calls there were since it was made, those that failed too. At the greatest u64 it stays.
     pub fn calls(&self) -> u64
         ensures { result ≡ self.now.meter.calls }
     {
@@ -77,7 +83,9 @@ impl SimDisk {
     /// | 3 | at every byte ff |
     /// | 4 and more | whole, in order, each write `i` since the sync, from 0, whose bit `i mod 64` is set in the choice; a place past the old end that none of them covers is 00 |
     ///
-    /// Where memory is refused, nothing has changed.
+    /// # Errors
+    ///
+    /// `AllocError` where memory is refused. Nothing changes.
     pub fn crash(&mut self, choice: u64) -> Result<(), AllocError>
         ensures left { OnOk result (Same (crashed choice self.old.history) (seen_of self.new)) }
         ensures allowed { OnOk result (left_of self.old (moment_of self.old) (seen_of self.new)) }

@@ -1,10 +1,16 @@
+//! A write that is synced.
 ghost use Rattle.std.specs.Prelude.{◌≡◌, ◌+◌, ◌≤◌, ◌↔◌, List, ℕ, length, IfOk, OnOk};
 ghost use Rattle.disk_model.specs.Disk.{Files, Leaves, Written, Synced, Put, Called, HasCause};
 
 use crate::{Disk, DiskFault, FileId};
 
-/// Writes a range of one file and syncs it: two calls of the disk. Stopped at any moment, a crash leaves of the file
-/// what the write alone may leave, and the other file stays.
+/// Writes a range of one file and syncs it: two calls of the disk. A crash at any moment of it leaves of the file what
+/// the write alone may leave, and the other file stays.
+///
+/// # Errors
+///
+/// `DiskFault` where the write or the sync fails, and behind a write that fails there is no sync. The file may have any
+/// bytes in the range and past its old end.
 pub fn write_synced<D: Disk>(
     disk: &mut D,
     file: FileId,

@@ -1,3 +1,4 @@
+//! What each choice of a crash leaves, and which calls fail.
 use crate::{Disk, DiskFault, FileId, SimDisk};
 use std::alloc::Global;
 use std::test::Fail;
