@@ -1,3 +1,4 @@
+//! Putting a group behind the others of a file.
 ghost use Rattle.std.specs.Prelude.{◌≡◌, ◌+◌, ◌<◌, ◌≤◌, ◌↔◌, List, ℕ, ◌∷◌, length, IfOk, OnOk, IsErrOf};
 ghost use Rattle.disk_model.specs.Disk.{Leaves, Put, Called, Grew};
 ghost use Rattle.journal.specs.Groups.{Resting, Appended, Stands, framed};
@@ -12,9 +13,13 @@ pub const LIMIT: u64 = 67_108_864;
 /// behind the new one.
 ///
 /// It makes four calls of the disk: the length, the body and one 00 are written behind the gate; a sync; 01 is written
-/// over the gate; a sync. A crash at any moment leaves the group whole or not at all. It takes no memory. `Full` comes
-/// exactly where the group, with the 00 behind it, would end past the greatest length of a file, before any call of
-/// the disk; `Device` comes only where a call of the disk has failed.
+/// over the gate; a sync. A crash at any moment leaves the group whole or not at all. It takes no memory.
+///
+/// # Errors
+///
+/// - `Full` exactly where the group, with the 00 behind it, would end past `LIMIT`. No call of the disk is made.
+/// - `Device` only where a call of the disk has failed, which is the last one made. The old groups stand, and the new
+///   one stands behind them, whole, or doesn't.
 pub fn append<D: Disk>(
     disk: &mut D,
     file: FileId,

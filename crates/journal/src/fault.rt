@@ -1,3 +1,4 @@
+//! Why a call of the journal is refused.
 ghost use Rattle.std.specs.Prelude.{◌≡◌};
 ghost use Rattle.journal.specs.declared.fault.JournalFault.TheVariants.{Device, NoMemory};
 

@@ -1,3 +1,4 @@
+//! The buffer in which the body of a group grows.
 ghost use Rattle.std.specs.Prelude.{◌≡◌, ◌+◌, ◌-◌, ◌<◌, ◌≤◌, ◌^◌, List, ℕ, [], ◌∷◌, ◌++◌, length, take, drop, IfOk, OnOk, OnErr, nat_eq};
 ghost use Rattle.byteorder.specs.Endian.{big_bytes};
 ghost use Rattle.disk_model.specs.Disk.{put};
@@ -28,6 +29,10 @@ impl Model for Group {
 
 impl Group {
     /// A group with no entry.
+    ///
+    /// # Errors
+    ///
+    /// `AllocError` where memory is refused.
     pub fn new(alloc: Global) -> Result<Group, AllocError>
         ensures { IfOk result (λ group. group ≡ []) }
     {
@@ -43,20 +48,25 @@ impl Group {
         &self.bytes
     }
 
-    /// The length of the body.
+    /// The length of the body, in bytes.
     pub fn len(&self) -> usize
         ensures { result ≡ length self.now }
     {
         self.bytes.len() - 5
     }
 
+    /// Whether the body has no byte.
     pub fn is_empty(&self) -> bool
         ensures { result ≡ nat_eq (length self.now) 0 }
     {
         self.bytes.len() == 5
     }
 
-    /// Puts the bytes of an entry behind the body. Where memory is refused, nothing has changed.
+    /// Puts the bytes of an entry behind the body, which then has fewer than 2^32.
+    ///
+    /// # Errors
+    ///
+    /// `AllocError` where memory is refused. Nothing changes.
     pub fn extend(&mut self, entry: &[u8]) -> Result<(), AllocError>
         requires { length self.old + length entry.now < 2 ^ 32 }
         ensures ok { OnOk result (self.new ≡ self.old ++ entry.now) }
@@ -65,7 +75,7 @@ impl Group {
         grow(&mut self.bytes, entry)
     }
 
-    /// Keeps the first bytes of the body.
+    /// Keeps the first `len` bytes of the body.
     pub fn truncate(&mut self, len: usize)
         requires { len ≤ length self.old }
         ensures { self.new ≡ take len self.old }

@@ -1,4 +1,4 @@
-//! Groups of entries in a file, each whole on the disk before it counts.
+//! Groups of entries in a file, each whole on the disk before it counts. Today nothing but tests use it.
 //!
 //! A file has groups one behind the other. A group is its gate (one byte, open at 01 and closed at any other value),
 //! the length of its body (4 bytes, big-endian) and its body; behind the last open group stands a closed gate. A group

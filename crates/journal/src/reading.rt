@@ -1,3 +1,4 @@
+//! Reading the leading open groups of a file.
 ghost use Rattle.std.specs.Prelude.{◌≡◌, ◌+◌, ◌<◌, ◌≤◌, ◌↔◌, List, ℕ, length, get_or, IfOk, OnOk, IfSome, IsErrOf};
 ghost use Rattle.byteorder.specs.Endian.{big_bytes};
 ghost use Rattle.disk_model.specs.Disk.{Looks, Grew};
@@ -60,9 +61,12 @@ fn read_group<D: Disk>(
 /// The bodies of the leading open groups from a place of a file on, in order, and the place of the closed gate behind
 /// them. It only looks.
 ///
-/// `Damaged` comes exactly where one of the leading open groups isn't whole: its length goes past the end of the file,
-/// or no gate stands behind it. `Device` comes only where a call of the disk has failed, and `NoMemory` where memory
-/// was refused.
+/// # Errors
+///
+/// - `Damaged` only where one of the leading open groups isn't whole: its length goes past the end of the file, or no
+///   gate stands behind it.
+/// - `Device` only where a call of the disk has failed.
+/// - `NoMemory` where memory for the bodies is refused.
 pub fn groups<D: Disk>(
     alloc: Global,
     disk: &mut D,

@@ -1,3 +1,4 @@
+//! Appends with a stop or a fault at each call of the disk, the written form, and bytes that are damaged.
 ghost use Rattle.std.specs.Prelude.{◌<◌, ◌^◌, length};
 ghost use Rattle.journal.specs.Groups.{Resting};
 
