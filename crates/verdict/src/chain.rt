@@ -16,14 +16,16 @@ use rulesyntax::tree::{Chain, End, Pair, Rule, Table, Verdict, Vmap};
 use ruletext::class::{Class, class_of};
 use sets::Value as Fact;
 
-/// What a chain comes to.
+/// What a chain comes to for a packet.
 #[derive(Clone, Copy, Debug, PartialEq, Eq, Drop)]
 pub enum Outcome {
+    /// A rule accepts the packet, which ends the base chain too.
     Accepts,
+    /// A rule drops the packet, which ends the whole hook.
     Drops,
-    /// The destination is translated.
+    /// The destination is translated to this endpoint.
     To(Endpoint),
-    /// The source address is translated.
+    /// The source address is translated to this one.
     From(u32),
     /// It returned, or had no rule left.
     Ends,
@@ -107,7 +109,7 @@ fn remember(known: &mut [Option<Outcome>], place: usize, outcome: Outcome)
 }
 
 // What the chain of that name comes to, with so many jumps and gotos left. What a chain came to is known
-// from then on, so that its rules are read once.
+// from then on, so that its rules are read once for the packet, the hook and the table.
 #[cycle(evaluation)]
 fn called(
     left: u8,

@@ -14,30 +14,34 @@ use packet::bounds::Bounds;
 use packet::endpoint::Endpoint;
 use rulesyntax::tree::{Chain, Hook, Policy, Table};
 
-/// What becomes of a packet that would be forwarded.
+/// What the forward chains decide about a packet.
 #[derive(Clone, Copy, Debug, PartialEq, Eq, Drop)]
 pub enum Filtering {
+    /// Every base chain accepts, or there is none.
     Pass,
+    /// The packet is dropped.
     Drop,
 }
 
-/// What becomes of a packet's destination before it is routed.
+/// What the prerouting chains decide about a packet's destination.
 #[derive(Clone, Copy, Debug, PartialEq, Eq, Drop)]
 pub enum Destination {
     /// It stays.
     None,
-    /// It is translated to this.
+    /// It is translated to this endpoint. In a text that has loaded its address is an inside one.
     To(Endpoint),
     /// The packet is dropped.
     Drop,
 }
 
-/// What becomes of a packet's source address once it is routed.
+/// What the postrouting chains decide about a packet's source address. Its port is chosen elsewhere (crate
+/// `portpick`).
 #[derive(Clone, Copy, Debug, PartialEq, Eq, Drop)]
 pub enum Source {
     /// It stays.
     None,
-    /// It is translated to this address.
+    /// It is translated to this address, as a number: 192.0.2.1 is `0xc0000201`. In a text that has
+    /// loaded it is the external one.
     From(u32),
     /// The packet is dropped.
     Drop,
@@ -168,8 +172,7 @@ fn hook_outcome(rules: &Rules, bounds: &Bounds, facts: &Facts, hook: Hook) -> Ou
     outcome_of(first)
 }
 
-/// Whether a packet that is routed passes: where every base chain at the hook accepts, or there is none.
-/// Takes no memory.
+/// Whether a packet passes: where every base chain at forward accepts, or there is none. Takes no memory.
 #[tactic(auto, unfolding(crate::specs::Hooks::forward_verdict))]
 pub fn forward(rules: &Rules, bounds: &Bounds, facts: &Facts) -> Filtering
     ensures { result ≡ forward_verdict bounds.now facts.now rules.now }
@@ -180,8 +183,8 @@ pub fn forward(rules: &Rules, bounds: &Bounds, facts: &Facts) -> Filtering
     }
 }
 
-/// The new destination of a packet for the external address that isn't routed yet. One that is given
-/// without a port has the packet's. Takes no memory.
+/// The new destination of a packet for the external address, if the prerouting chains give one. A `dnat to`
+/// without a port keeps the packet's port. Takes no memory.
 #[tactic(auto, unfolding(crate::specs::Hooks::prerouting_verdict))]
 pub fn prerouting(rules: &Rules, bounds: &Bounds, facts: &Facts) -> Destination
     ensures { result ≡ prerouting_verdict bounds.now facts.now rules.now }
@@ -193,8 +196,8 @@ pub fn prerouting(rules: &Rules, bounds: &Bounds, facts: &Facts) -> Destination
     }
 }
 
-/// The new source address of a packet that leaves; masquerading gives the external one. Takes no
-/// memory.
+/// The new source address of a packet for wan, if the postrouting chains give one; `masquerade` gives the
+/// external one. Takes no memory.
 #[tactic(auto, unfolding(crate::specs::Hooks::postrouting_verdict))]
 pub fn postrouting(rules: &Rules, bounds: &Bounds, facts: &Facts) -> Source
     ensures { result ≡ postrouting_verdict bounds.now facts.now rules.now }

@@ -2,15 +2,17 @@
 //!
 //! - `rules`: `Rules`, the rules of a text that has loaded.
 //! - `facts`: `Facts`, what rules may ask about a packet.
-//! - `value`, `matching`: whether a fact is a member of a side, and whether a rule's matches hold.
+//! - `value`, `matching`: whether a fact is one of those that a match names, and whether a rule's matches
+//!   hold.
 //! - `chain`: what a chain of rules comes to, over jumps, gotos and verdict maps.
-//! - `hook`: `forward`, `prerouting` and `postrouting`, which ask the base chains of a hook in the
-//!   order of their priorities.
+//! - `hook`: `forward`, `prerouting` and `postrouting`, what the base chains of a hook decide, of which the
+//!   one of the least priority counts first.
 //! - `laws`: what follows from these definitions, in functions that do nothing.
 //!
 //! The definitions stand in `specs/`: `Matching` says when a match holds, `Evaluation` what a chain
-//! comes to, and `Hooks` what a hook decides. No call here takes memory, and none enters a chain twice
-//! for one packet and base chain.
+//! comes to, and `Hooks` what a hook decides. No call here takes memory. For one packet at one hook the
+//! rules of each chain are read at most once: a base chain is read once for itself, and what a chain comes
+//! to that jumps and gotos lead to is remembered for the packet, the hook and the table.
 #![tactic(auto)]
 
 mod chain;

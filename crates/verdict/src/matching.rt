@@ -72,7 +72,8 @@ fn state_number(state: State) -> u32
     }
 }
 
-/// The fact of the packet that a head asks for.
+/// The fact of the packet that a head asks for: `ip saddr` the source address, `tcp dport` the destination
+/// port, and so on.
 #[tactic(auto, unfolding(crate::specs::Matching::asked, sets::specs::Members::fact_of))]
 pub fn asked<'a>(bounds: &'a Bounds, facts: &Facts, head: Head) -> Fact<'a>
     ensures { fact_of result ≡ asked_fact bounds.now facts.now head }
@@ -98,7 +99,7 @@ fn is_of(transport: Transport, proto: Proto) -> bool
     )
 }
 
-/// Whether the packet has the protocol that a head demands, where it demands one.
+/// Whether the packet has the protocol that a head demands; only `tcp` and `udp` heads demand one.
 #[tactic(auto, unfolding(crate::specs::Matching::has_protocol))]
 pub fn has_protocol(head: Head, proto: Proto) -> bool
     ensures { result ≡ head_has_protocol head proto }

@@ -27,8 +27,8 @@ impl Model for Rules {
 }
 
 impl Rules {
-    /// A ruleset of no tables, as before a text has loaded: everything passes and nothing is translated.
-    /// Takes no memory.
+    /// The rules before a text has loaded, of no tables: everything passes and nothing is translated. Takes
+    /// no memory.
     pub fn none(alloc: Global) -> Rules
         ensures { result ≡ record { tables = [] } }
     {
@@ -39,7 +39,11 @@ impl Rules {
         }
     }
 
-    /// The rules of a text that has loaded. It fails only where a growth is refused.
+    /// The rules of a text that has loaded.
+    ///
+    /// # Errors
+    ///
+    /// `AllocError` only where memory is refused. Today's form of the rules takes none, so it never comes.
     pub fn of(_alloc: Global, loaded: Ruleset) -> Result<Rules, AllocError>
         ensures { IfOk result (λ rules. rules ≡ loaded) }
     {
@@ -56,7 +60,8 @@ impl Rules {
         &self.text
     }
 
-    /// What the tables may be relied on for. It does nothing but carry this fact.
+    /// What all rules keep: none of the faults for which a text is refused whatever the configuration, such as
+    /// a name that is unknown or a loop. It does nothing but carry this fact.
     pub fn is_runnable(&self)
         ensures { IsRunnable self.now }
     {

@@ -79,7 +79,7 @@ fn lies_by_name(class: Class, value: &Value, own: &[u8]) -> bool
     }
 }
 
-/// Whether the fact is one of those that the value stands for.
+/// Whether the fact is one of those that the value stands for, read as a value of this class.
 #[tactic(auto, unfolding(sets::specs::Members::fact_of))]
 pub fn lies(class: Class, value: &Value, fact: Fact<'_>) -> bool
     ensures { result ≡ lies class value.now (fact_of fact.entry) }
@@ -90,7 +90,7 @@ pub fn lies(class: Class, value: &Value, fact: Fact<'_>) -> bool
     }
 }
 
-/// Whether the fact is a member of the union of the elements.
+/// Whether the fact is one of those that some element stands for, read as values of this class.
 pub fn is_member(class: Class, elements: &[Element], fact: Fact<'_>) -> bool
     ensures { result ≡ is_member class elements.now (fact_of fact.entry) }
 {
