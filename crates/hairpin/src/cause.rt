@@ -5,33 +5,36 @@ ghost use Rattle.hairpin.specs.Causes.{number};
 use packet::fault::Fault;
 use packet::route::RouteFault;
 
-/// Why a packet is dropped, in the order in which the causes are found.
+/// Why a packet is dropped. The variants stand in the order of their numbers; in which order a leg finds
+/// them is said at `out_leg`, `in_leg` and `both`.
 #[derive(Clone, Copy, Debug, PartialEq, Eq, Drop)]
 pub enum Cause {
-    /// The bytes aren't a packet that the gateway takes.
+    /// The bytes aren't a packet that the gateway takes. Numbers 1 to 9.
     Packet(Fault),
-    /// The packet goes nowhere.
+    /// The packet has no route. Numbers 10 to 12.
     Route(RouteFault),
-    /// No mapping has the destination.
+    /// No rule sends it on, and no mapping has its destination at the external address.
     NoMapping,
-    /// The mapping isn't open to the source.
+    /// Never answered: every mapping is open to every remote endpoint (RFC 4787, REQ-8). The number 14 is
+    /// kept for a filter by remote endpoint.
     Filtered,
     /// A TCP packet that is not a SYN alone has no session (RFC 5382, section 4).
     NoSession,
-    /// A rule drops it.
+    /// The chains at forward, prerouting or postrouting drop it.
     Rule,
-    /// Its session would share a key with another, or break the mappings.
+    /// The session that it would begin shares protocol, inside and remote endpoint, or protocol, outside and
+    /// remote endpoint with another one, or would make the mappings many-to-one.
     Clash,
-    /// It goes to its own outside endpoint.
+    /// A hairpin to its sender's own outside endpoint.
     SelfMapped,
-    /// Every port of the class and parity is taken.
+    /// Every port of the class and parity of its source port is taken (RFC 4787, REQ-3a and REQ-4).
     NoPort,
     /// There would be more than 65,536 sessions.
     TableFull,
 }
 
 impl Cause {
-    /// The number that an answer says, 1 to 20.
+    /// The number that an answer names the cause by, 1 to 20.
     pub fn number(self) -> u8
         ensures { result ≡ number self }
     {

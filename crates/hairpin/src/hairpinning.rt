@@ -29,14 +29,17 @@ use verdict::{Destination, Filtering, Rules, State, forward, prerouting};
 
 /// How a packet passes from an inside endpoint (its source) to an outside endpoint of the gateway (its
 /// destination, at the external address) and on to the inside endpoint that this stands for, at a moment in
-/// seconds (RFC 4787, REQ-9; RFC 5382).
+/// seconds (RFC 4787, REQ-9; RFC 5382, REQ-8).
 ///
 /// It goes out by one session and comes in by another, and leaves on lan with its external source (REQ-9a).
 /// Without a session or a mapping the first session's port is chosen at the destination's address,
-/// whatever the rules say. The second leg is that of a packet from the first one's outside endpoint. Forward
-/// chains see the packet once, between its inside endpoints. Causes of a drop, in the order in which they
-/// are found: `NoSession`, `NoPort`, `SelfMapped`, `NoSession`, `Rule` of prerouting, `NoMapping`, `Clash`,
-/// `Rule` of forward, `TableFull`.
+/// whatever the rules say. The second leg is that of a packet from the first one's outside endpoint. The forward
+/// chains see the packet once, between its inside endpoints. Nothing is changed, and no memory taken.
+///
+/// # Errors
+///
+/// The first cause that holds, in this order: `NoSession` of the first leg, `NoPort`, `SelfMapped`, `NoSession`
+/// of the second one, `Rule` of prerouting, `NoMapping`, `Clash`, `Rule` of forward, `TableFull`.
 pub fn both(
     bounds: &Bounds,
     rules: &Rules,

@@ -13,10 +13,12 @@ use packet::view::View;
 use sessions::{Change, Opener, Session, Slot, Table, is_new, is_syn_alone};
 use verdict::{Facts, State};
 
-/// A session that is held, and its slot.
+/// A session that the table holds.
 #[derive(Clone, Copy, Drop)]
 pub struct Held {
+    /// Its slot in the table.
     pub slot: Slot,
+    /// The session as it is held, before the packet.
     pub session: Session,
 }
 
@@ -55,7 +57,7 @@ pub fn held_outside(
     }
 }
 
-/// Whether only a session lets the packet pass.
+/// Whether only a session lets the packet pass: it is TCP, and not a SYN alone (RFC 5382, section 4).
 pub fn needs_session(view: &View) -> bool
     ensures { result ≡ has_need view.now }
 {
@@ -65,7 +67,7 @@ pub fn needs_session(view: &View) -> bool
     }
 }
 
-/// The state of a packet of the session from this side.
+/// The state that rules see of a packet of the session from this side.
 pub fn state_of(session: &Session, sender: Opener, flags: Flags) -> State
     ensures { result ≡ state_by session.now sender flags }
 {
@@ -88,7 +90,7 @@ pub fn change_of(held: &Held, sender: Opener, flags: Flags) -> Change
     }
 }
 
-/// The session that the packet begins.
+/// The session that the packet begins at the second `now`. Nothing is seen of it yet.
 pub fn new_session(
     view: &View,
     opener: Opener,

@@ -105,9 +105,13 @@ fn begins(
 ///
 /// A session of the two gives the inside endpoint. Without one an inside destination is its own inside
 /// endpoint; for the external address the prerouting chains are asked, and where they don't translate, a
-/// mapping of the outside endpoint gives it, from whatever remote (RFC 4787, REQ-8). Forward chains see
-/// the inside endpoint. Causes of a drop, in the order in which they are found: `NoSession`, `Rule` of
-/// prerouting, `NoMapping`, `Clash`, `Rule` of forward, `TableFull`.
+/// mapping of the outside endpoint gives it, from whatever remote (RFC 4787, REQ-8; RFC 5382, REQ-3). The
+/// forward chains see the inside endpoint. Nothing is changed, and no memory taken.
+///
+/// # Errors
+///
+/// The first cause that holds, in this order: `NoSession`, `Rule` of prerouting, `NoMapping`, `Clash`, `Rule`
+/// of forward, `TableFull`. A packet of a session has `Rule` of forward alone.
 pub fn in_leg(
     bounds: &Bounds,
     rules: &Rules,

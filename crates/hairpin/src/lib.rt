@@ -1,14 +1,20 @@
-//! The legs of a packet: by which sessions it passes and how it leaves, or why it is dropped.
+//! All three legs of a packet: out, in and hairpin. The crate has its name from the last one alone.
 //!
-//! `specs/Legs` says what a leg comes to, over the sessions as a plain list; each call here is proved to
-//! be it. None changes anything, and none takes memory.
+//! A leg says by which sessions a packet passes and how it leaves (a `Plan`), or why it is dropped (a
+//! `Cause`). `specs/Legs` says what each comes to, over the sessions as a plain list, and `out_leg`, `in_leg`
+//! and `both` are proved to be it. These three change nothing and take no memory: the crate `gateway` does
+//! what a plan says. It changes `Translations` by that, of which `new` and `reserve` alone take memory.
+//!
+//! An endpoint is an address with a port. An outside endpoint is what an inside one is called towards its
+//! remote one; where nothing is translated the two are the same.
 //!
 //! - `cause`: why a packet is dropped; `plan`: what a packet that passes changes.
 //! - `translations`: the mappings and the outside ports that they take, which change together.
 //! - `held`: a packet's session, held or new, and what the rules are asked about the packet.
 //! - `outward`: `out_leg`, from an inside endpoint to a remote one.
 //! - `inward`: `in_leg`, from a remote endpoint to an outside one.
-//! - `hairpinning`: `both`, from an inside endpoint to an outside endpoint of the gateway itself (hairpinning).
+//! - `hairpinning`: `both`, from an inside endpoint to an outside endpoint of the gateway itself: first out,
+//!   then in.
 #![tactic(auto)]
 
 mod cause;

@@ -23,9 +23,13 @@ use verdict::{Facts, Filtering, Rules, Source, State, forward, postrouting};
 /// How a packet goes out from an inside endpoint (its source) to a remote one, at a moment in seconds.
 ///
 /// A session of the two gives the outside endpoint; without one a mapping of the inside endpoint does
-/// (RFC 4787, REQ-1), and without a mapping the postrouting chains decide. Forward chains are asked
-/// before that. Causes of a drop, in the order in which they are found: `NoSession`, `Rule`, `NoPort`,
-/// `TableFull`.
+/// (RFC 4787, REQ-1; RFC 5382, REQ-1), and without a mapping the postrouting chains decide. The forward
+/// chains are asked before that. Nothing is changed, and no memory taken.
+///
+/// # Errors
+///
+/// The first cause that holds, in this order: `NoSession`, `Rule` of forward, `Rule` of postrouting, `NoPort`,
+/// `TableFull`. A packet of a session has `Rule` of forward alone.
 pub fn out_leg(
     bounds: &Bounds,
     rules: &Rules,

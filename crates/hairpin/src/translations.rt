@@ -69,7 +69,7 @@ impl Translations {
         self.ports.reserve()
     }
 
-    /// The outside endpoint that stands for this inside endpoint.
+    /// The outside endpoint that stands for this inside endpoint, if it has a mapping.
     pub fn outside_of(&self, proto: Proto, inside: Endpoint) -> Option<Endpoint>
         ensures found { IfSome result (λ outside. 0 < times self.now.pairs (pair_with proto inside outside)) }
         ensures absent { IfNone result ((outside : Place) → times self.now.pairs (pair_with proto inside outside) ≡ 0) }
@@ -77,7 +77,7 @@ impl Translations {
         self.map.outside_of(proto, inside)
     }
 
-    /// The inside endpoint that this outside endpoint stands for.
+    /// The inside endpoint that this outside endpoint stands for, if it has a mapping.
     pub fn inside_of(&self, proto: Proto, outside: Endpoint) -> Option<Endpoint>
         ensures found { IfSome result (λ inside. 0 < times self.now.pairs (pair_with proto inside outside)) }
         ensures absent { IfNone result ((inside : Place) → times self.now.pairs (pair_with proto inside outside) ≡ 0) }
@@ -121,7 +121,7 @@ impl Translations {
         }
     }
 
-    /// Gives one hold of the pair back.
+    /// Gives one hold of the pair back. With the last one the mapping is gone, and its port free.
     pub fn release(&mut self, pair: Pair)
         requires { 0 < times self.old.pairs pair }
         ensures loses { Gains self.new.pairs self.old.pairs pair }
