@@ -20,6 +20,7 @@ impl Model for Bytes {
 }
 
 impl Bytes {
+    /// These bytes, of which there are fewer than 2^31.
     pub fn of(bytes: Vec<u8>) -> Bytes
         requires { length bytes.items < 2 ^ 31 }
         ensures { result ≡ bytes.items }
@@ -27,6 +28,7 @@ impl Bytes {
         Bytes { bytes }
     }
 
+    /// The bytes.
     pub fn as_slice(&self) -> &[u8]
         ensures value { result.now ≡ self.now }
         ensures small { length self.now < 2 ^ 31 }
@@ -34,6 +36,7 @@ impl Bytes {
         self.bytes.as_slice()
     }
 
+    /// The bytes, in the vector that they came in.
     pub fn into_vec(self) -> Vec<u8>
         ensures { result.items ≡ self }
     {

@@ -1,4 +1,5 @@
-//! The gateway without a disk: a step for each event.
+//! `Core`: all the state of a gateway (the text in force and its rules, the sessions, the clock), and the step
+//! that an event does to it. It gives no numbers: that is what `Gateway` adds (module `gateway_core`).
 ghost use Rattle.std.specs.Prelude.{◌≡◌, ◌<◌, ◌≤◌, ℕ, List, Ok, Err, Result as Outcome, IsTrue, IfOk, IfErr, IsOk, IsOkAnd, OnErr};
 ghost use Rattle.packet.specs.Fields.{fields};
 ghost use Rattle.packet.specs.Route.{route as route_for};
@@ -39,7 +40,7 @@ struct InForce {
     rules: Rules,
 }
 
-/// The gateway without numbers and held answers.
+/// The gateway without numbers: its configuration, and the state that events change.
 #[derive(Drop)]
 pub struct Core {
     alloc: Global,
@@ -247,6 +248,10 @@ fn age_and_act(
 
 impl Core {
     /// No rules and no session; the clock stands at the moment, in seconds.
+    ///
+    /// # Errors
+    ///
+    /// `NoMemory` where memory is refused; then there is no core.
     pub fn start(alloc: Global, bounds: Bounds, moment: u64) -> Result<Core, NoMemory>
         ensures { IfOk result (λ c. c ≡ record { config = bounds; state = empty_at moment }) }
     {
@@ -265,14 +270,18 @@ impl Core {
         }
     }
 
-    /// The text that loaded last; before any has, none.
+    /// The text that loaded last; before any has, the empty one.
     pub fn rules(&self) -> &[u8]
         ensures { result.now ≡ self.now.state.text }
     {
         self.in_force.text.as_slice()
     }
 
-    /// The sessions, by protocol number, inside and remote endpoint.
+    /// The sessions, in the order of protocol number, inside and remote endpoint.
+    ///
+    /// # Errors
+    ///
+    /// `NoMemory` where memory for the list is refused. Nothing changes.
     pub fn sessions(&self) -> Result<Vec<Session>, NoMemory>
         ensures { IfOk result (λ sessions. sessions.items ≡ self.now.state.sessions) }
     {
@@ -289,8 +298,13 @@ impl Core {
         let _flows = &self.flows;
     }
 
-    /// Does a step. An `Err` hands the event back and changes nothing; it comes only where a text is read,
-    /// or a session ends or begins.
+    /// Does a step: the clock rises to the event's moment, the sessions that are alive no longer end, and then
+    /// the text is taken or refused, or the packet passes or is dropped.
+    ///
+    /// # Errors
+    ///
+    /// `NoMemory` where memory is refused, which happens only where a text is read, or a session ends or begins.
+    /// The event comes back, and nothing has changed.
     pub fn step(&mut self, event: Event) -> Result<Answer, (Event, NoMemory)>
         ensures ok { IfOk result (λ answer. (judged : Judged) × IsJudged self.old.config event judged
             × (step self.old.config self.old.state judged ≡ (self.new.state, answer))) }

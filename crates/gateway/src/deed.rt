@@ -25,7 +25,7 @@ pub enum Deed {
 }
 
 impl Deed {
-    /// What the event brought.
+    /// What the event brought: the text, the packet, or nothing.
     pub fn into_what(self) -> What
         ensures { result ≡ bringer self }
     {
@@ -56,7 +56,11 @@ fn rules_of(alloc: Global, bounds: &Bounds, text: &[u8]) -> Result<Option<Rules>
     }
 }
 
-/// Reads the text, if the event brings one. An `Err` hands back what it brought; only a text takes memory.
+/// Reads the text, if the event brings one. Nothing but a text takes memory.
+///
+/// # Errors
+///
+/// `NoMemory` where memory to read the text is refused, with what the event brought.
 pub fn judge(alloc: Global, bounds: &Bounds, what: What) -> Result<Deed, (What, NoMemory)>
     ensures brings { IfOk result (λ deed. what ≡ bringer deed) }
     ensures right { IfOk result (λ deed. IsRight bounds.now deed) }

@@ -1,4 +1,4 @@
-//! What comes in and what goes out.
+//! What comes in and what goes out: events, their answers, and why an event isn't taken.
 use crate::bytes::Bytes;
 use packet::endpoint::Iface;
 use thiserror::Error;
@@ -6,18 +6,20 @@ use thiserror::Error;
 /// What an event brings.
 #[derive(Drop)]
 pub enum What {
-    /// The text of a ruleset.
+    /// The text of a ruleset, which takes the place of the one in force if it loads.
     Load(Bytes),
-    /// A packet, and the interface that it came in on.
+    /// A packet from its IPv4 header on, and the interface that it came in on.
     Packet(Iface, Bytes),
     /// Nothing but its moment.
     Moment,
 }
 
-/// What comes in, with its moment in seconds. A moment before the clock counts as the clock.
+/// What comes in, and when.
 #[derive(Drop)]
 pub struct Event {
+    /// Its moment in seconds, from whatever zero the caller takes. One before the clock counts as the clock.
     pub moment: u64,
+    /// What it brings.
     pub what: What,
 }
 
@@ -41,7 +43,7 @@ pub enum Answer {
 pub enum Given {
     /// It is answered.
     Now(u64, Answer),
-    /// The next flush hands out its answer.
+    /// The next flush hands out its answer. No gateway gives this yet: it is for one over a disk.
     Held(u64),
 }
 
@@ -50,21 +52,29 @@ pub enum Given {
 #[error("no memory")]
 pub struct NoMemory;
 
-/// Why a gateway doesn't do what it was asked, in the order in which it is found.
+/// Why a gateway doesn't do what it was asked. Today's gateway has no disk: `NumbersOut` and `NoMemory` are
+/// the only ones that come, and the others are kept for a gateway over one.
 #[derive(Clone, Copy, Debug, PartialEq, Eq, Drop, Error)]
 pub enum GatewayFault {
+    /// Doesn't come yet. A call of the device failed before; the gateway has to be opened again.
     #[error("the device failed; open the gateway again")]
     Reopen,
+    /// The last event had the number 2^64 - 1.
     #[error("no number is left for an event")]
     NumbersOut,
+    /// Doesn't come yet. 64 answers wait for a flush.
     #[error("64 answers are held; flush them")]
     HeldFull,
+    /// Doesn't come yet. The file has no room for the event.
     #[error("the file has no room; flush and compact")]
     Full,
+    /// Memory was refused.
     #[error("no memory")]
     NoMemory,
+    /// Doesn't come yet. A call of the device failed.
     #[error("the device failed")]
     Device,
+    /// Doesn't come yet. The last file had the greatest generation.
     #[error("no generation is left for a file")]
     Generations,
 }

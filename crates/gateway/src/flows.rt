@@ -43,7 +43,11 @@ impl Model for Flows {
 }
 
 impl Flows {
-    /// No session.
+    /// No session. `external` is the external address as a number.
+    ///
+    /// # Errors
+    ///
+    /// `AllocError` where memory is refused.
     pub fn new(alloc: Global, external: u32) -> Result<Flows, AllocError>
         ensures none { IfOk result (λ f. (slot : ℕ) → at f.table slot ≡ None) }
         ensures external { IfOk result (λ f. f.translations.external ≡ external) }
@@ -78,7 +82,11 @@ impl Flows {
         let _table = &self.table;
     }
 
-    /// The sessions, by protocol number, inside and remote endpoint.
+    /// The sessions, in the order of protocol number, inside and remote endpoint.
+    ///
+    /// # Errors
+    ///
+    /// `AllocError` where memory for the list is refused.
     pub fn list(&self, alloc: Global) -> Result<Vec<Session>, AllocError>
         ensures { IfOk result (λ sessions. sessions.items ≡ listing self.now.table.held) }
     {
@@ -86,6 +94,10 @@ impl Flows {
     }
 
     /// Makes room for two more sessions.
+    ///
+    /// # Errors
+    ///
+    /// `AllocError` where memory is refused. The sessions stay as they are.
     pub fn reserve(&mut self) -> Result<(), AllocError>
         ensures ok { OnOk result (IsReady 2 self.new) }
         ensures held { self.new.table.held ≡ self.old.table.held }
@@ -197,8 +209,12 @@ impl Flows {
         }
     }
 
-    /// Does what a plan says; `ready` says that there is room for two sessions already. An `Err` changes
-    /// nothing, and comes only where there isn't and a session is added.
+    /// Does what a plan says, at the second `now`; `ready` says that there is room for two sessions already.
+    ///
+    /// # Errors
+    ///
+    /// `AllocError` where a session is added, there is no room for it, and memory is refused. The sessions stay
+    /// as they are.
     pub fn carry_out(&mut self, ready: bool, plan: &Plan, now: u64) -> Result<(), AllocError>
         requires latest { IsLatest self.old.table.held now }
         requires give { (ts : List Flow) × GiveAll self.old.translations.external self.old.table.held now plan.now.first plan.now.second ts }
@@ -248,8 +264,12 @@ impl Flows {
         self.table.is_sound();
     }
 
-    /// Ends the sessions that are alive no longer, and says whether there were any; then there is room
-    /// for two more. An `Err` changes nothing.
+    /// Ends the sessions that are alive no longer at the second `now`, and says whether there were any; then
+    /// there is room for two more.
+    ///
+    /// # Errors
+    ///
+    /// `AllocError` where there are any and memory is refused. The sessions stay as they are.
     pub fn expire(&mut self, alloc: Global, now: u64) -> Result<bool, AllocError>
         requires { IsLatest self.old.table.held now }
         ensures ok { OnOk result (listing self.new.table.held ≡ filter (alive now) (listing self.old.table.held)) }

@@ -1,4 +1,5 @@
-//! The gateway: a core, and a number for each event.
+//! `Gateway`: a `Core`, which has all the state and does the steps (module `core_state`), and the number of the
+//! last event. This module adds nothing but the numbers.
 ghost use Rattle.std.specs.Prelude.{◌≡◌, ◌↔◌, ◌⊎◌, ◌-◌, ◌^◌, ◌<◌, ◌++◌, [], IfOk, IfErr, OnOk, OnErr, IsOk, List, length, vec_len, vec_capacity, ◌+◌, ◌≤◌};
 ghost use Rattle.gateway.specs.Judged.{Judged, IsJudged, IsNoLoad};
 ghost use Rattle.gateway.specs.Sound.{IsSound};
@@ -13,6 +14,8 @@ use std::alloc::Global;
 use std::marker::Model;
 
 /// The gateway. Events that are taken have the numbers 1, 2, .. since it was opened.
+///
+/// Every event that is taken is answered at once: there is no disk yet, for which answers would be held.
 #[derive(Drop)]
 pub struct Gateway {
     alloc: Global,
@@ -31,6 +34,10 @@ impl Model for Gateway {
 
 impl Gateway {
     /// A gateway with no rules, no session and no number given, whose clock stands at the moment, in seconds.
+    ///
+    /// # Errors
+    ///
+    /// `NoMemory` where memory is refused; then there is no gateway.
     pub fn start(alloc: Global, bounds: Bounds, moment: u64) -> Result<Gateway, NoMemory>
         ensures { IfOk result (λ g. g ≡ record { config = bounds; state = empty_at moment; last = 0; held = [] }) }
     {
@@ -44,14 +51,18 @@ impl Gateway {
         }
     }
 
-    /// The text that loaded last; before any has, none.
+    /// The text that loaded last; before any has, the empty one.
     pub fn rules(&self) -> &[u8]
         ensures { result.now ≡ self.now.state.text }
     {
         self.core.rules()
     }
 
-    /// The sessions, by protocol number, inside and remote endpoint.
+    /// The sessions after the last event, in the order of protocol number, inside and remote endpoint.
+    ///
+    /// # Errors
+    ///
+    /// `NoMemory` where memory for the list is refused. Nothing changes.
     pub fn sessions(&self) -> Result<Vec<Session>, NoMemory>
         ensures { IfOk result (λ sessions. sessions.items ≡ self.now.state.sessions) }
     {
@@ -65,7 +76,7 @@ impl Gateway {
         self.core.facts();
     }
 
-    /// How many answers are held.
+    /// How many answers are held. Today it is always 0.
     pub fn held(&self) -> usize
         ensures { result ≡ length self.now.held }
     {
@@ -73,7 +84,11 @@ impl Gateway {
         0
     }
 
-    /// Hands out the held answers, in order. An `Err` changes nothing; without a device there is none.
+    /// Hands out the held answers, in order, each with its number. Today there are none.
+    ///
+    /// # Errors
+    ///
+    /// None today.
     pub fn flush(&mut self) -> Result<Vec<(u64, Answer)>, GatewayFault>
         ensures ok { IfOk result (λ answers. answers.items ≡ self.old.held) }
         ensures none { OnOk result (self.new ≡ record self.old { held = [] }) }
@@ -83,8 +98,13 @@ impl Gateway {
         Ok(Vec::new(self.alloc))
     }
 
-    /// Takes an event. An `Err` hands it back and changes nothing: `NumbersOut` behind number 2^64 - 1,
-    /// `NoMemory` where memory is refused.
+    /// Takes an event, gives it the next number, and answers it.
+    ///
+    /// # Errors
+    ///
+    /// The event comes back, and nothing has changed: it has no number, the clock stays, and no session ends.
+    /// `NumbersOut` where the last number was 2^64 - 1; otherwise `NoMemory` where memory is refused, which
+    /// happens only to a load, or where a session ends or begins.
     pub fn offer(&mut self, event: Event) -> Result<Given, (Event, GatewayFault)>
         ensures took { IfOk result (λ given. Took self.old self.new event given) }
         ensures now { IfOk result (λ given. self.old.held ≡ [] → self.new.held ≡ []) }
@@ -112,7 +132,13 @@ impl Gateway {
         }
     }
 
-    /// Takes the events in turn, and hands out the held answers and theirs. A fault comes with the answers so far.
+    /// Takes the events in turn, and hands out the held answers and theirs, each with its number.
+    ///
+    /// # Errors
+    ///
+    /// The answers so far, and the fault of the first event that isn't taken: `NumbersOut` or `NoMemory`. The
+    /// events before it are taken; it and those behind it are not, and don't come back. `NoMemory` with no
+    /// answer also comes where memory for the answers is refused, before any event.
     pub fn run(
         &mut self,
         events: Vec<Event>,

@@ -1,4 +1,8 @@
-//! What every state that is reached keeps.
+//! What holds of every step, and of every state that is reached. Each function does nothing: its clause is a
+//! theorem, which is proved.
+//!
+//! A state is sound where its sessions can be held together, which makes the mappings of each protocol one-to-one,
+//! no packet of theirs is later than the clock, and the rules are those of the text (`specs/Sound`).
 ghost use Rattle.gateway.specs.Laws.{AnswersComeIn, ClockNeverFalls, DropsChangeNothing, EventsAreJudgedOnce, ForwardsArePlanned, InsideMapsOnce, LivingMappingsStay, LoadsTakeForce, MappingsAreReused, OnlyLoadsChangeRules, OutsideIsNotShared, RefusalsChangeNothing, RunsKeepSound, SessionsAreAlive, SessionsGoOut, StartIsSound, StepsKeepSound};
 
 use rulesyntax::one_ruleset;
@@ -13,17 +17,18 @@ pub fn steps_keep_sound()
     ensures { StepsKeepSound }
 {}
 
-/// So does every run of steps.
+/// A run of any steps from a sound state gives a sound state.
 pub fn runs_keep_sound()
     ensures { RunsKeepSound }
 {}
 
-/// No two mappings of one protocol share an outside endpoint (RFC 4787, REQ-3).
+/// No two mappings of one protocol share an outside endpoint (RFC 4787, REQ-3; RFC 5382, REQ-7).
 pub fn outside_is_not_shared()
     ensures { OutsideIsNotShared }
 {}
 
-/// An inside endpoint has one mapping of a protocol, whatever the remote (RFC 4787, REQ-1).
+/// An inside endpoint has at most one mapping of a protocol, whatever the remote (RFC 4787, REQ-1; RFC 5382,
+/// REQ-1).
 pub fn inside_maps_once()
     ensures { InsideMapsOnce }
 {}
@@ -43,8 +48,8 @@ pub fn sessions_are_alive()
     ensures { SessionsAreAlive }
 {}
 
-/// A packet that is dropped changes nothing. The clock has risen, and the sessions that are alive no
-/// longer have ended.
+/// A packet that is dropped changes nothing but what time changes: the clock has risen, and the sessions that
+/// are alive no longer have ended.
 pub fn drops_change_nothing()
     ensures { DropsChangeNothing }
 {}
@@ -55,25 +60,28 @@ pub fn answers_come_in()
     ensures { AnswersComeIn }
 {}
 
-/// And what its inside endpoint sends to its remote endpoint goes out from its outside endpoint.
+/// While a session is alive, what its inside endpoint sends to its remote endpoint goes out from its outside
+/// endpoint, if the forward chains let it.
 pub fn sessions_go_out()
     ensures { SessionsGoOut }
 {}
 
-/// An inside endpoint keeps its outside endpoint towards every remote (RFC 4787, REQ-1).
+/// While a mapping has a living session, a new session that goes out from its inside endpoint has its outside
+/// endpoint, whatever the remote and the nat chains (RFC 4787, REQ-1; RFC 5382, REQ-1): if the packet may
+/// begin a session, the forward chains let it, and fewer than 65,536 are held.
 pub fn mappings_are_reused()
     ensures { MappingsAreReused }
 {}
 
-/// A text loads or doesn't, and spells one ruleset at most: an event does one thing only.
+/// An event is judged in one way only: a text loads or doesn't, and it spells at most one ruleset.
 pub fn events_are_judged_once()
     ensures { EventsAreJudgedOnce }
 {
     one_ruleset();
 }
 
-/// A load that is refused changes nothing. The clock has risen, and the sessions that are alive no
-/// longer have ended.
+/// A load that is refused changes nothing but what time changes: the clock has risen, and the sessions that are
+/// alive no longer have ended.
 pub fn refusals_change_nothing()
     ensures { RefusalsChangeNothing }
 {}

@@ -7,8 +7,9 @@
 //! - `flows`: the sessions with their timers and mappings, which change together. What a packet changes is
 //!   the plan of its leg (crate `hairpin`).
 //! - `deed`: what an event does, once its text is read.
-//! - `core_state`: `Core`, a step for each event; `gateway_core`: `Gateway`, which numbers the answers.
-//! - `laws`: what every state that is reached keeps.
+//! - `core_state`: `Core`, which has all the state and takes a step for each event.
+//! - `gateway_core`: `Gateway`, a `Core` that numbers its events. Callers use this one.
+//! - `laws`: what holds of every step, and of every state that is reached.
 #![tactic(auto)]
 
 mod bytes;
