@@ -66,7 +66,11 @@ fn put_parts(out: &mut Vec<u8>, number: u64, answer: &Answer) -> Result<(), Allo
     put_body(out, answer)
 }
 
-/// Puts a frame at the end. An `Err` changes nothing.
+/// Puts the frame of an answer with this number at the end.
+///
+/// # Errors
+///
+/// `AllocError` where memory is refused. The bytes stay as they were.
 pub fn put_frame(out: &mut Vec<u8>, number: u64, answer: &Answer) -> Result<(), AllocError>
     ensures ok { OnOk result (out.new.items ≡ out.old.items ++ frame (number, answer.now)) }
     ensures err { OnErr result (out.new.items ≡ out.old.items) }
@@ -79,7 +83,11 @@ pub fn put_frame(out: &mut Vec<u8>, number: u64, answer: &Answer) -> Result<(), 
     put
 }
 
-/// Puts the frames of answers at the end; of a beginning of them, at an `Err`.
+/// Puts the frames of answers at the end, each with its number.
+///
+/// # Errors
+///
+/// `AllocError` where memory is refused. The frames of a beginning of the answers are put.
 pub fn put_frames(out: &mut Vec<u8>, answers: &[(u64, Answer)]) -> Result<(), AllocError>
     ensures ok { OnOk result (out.new.items ≡ out.old.items ++ frames answers.now) }
     ensures err { OnErr result ((n : ℕ) × (out.new.items ≡ out.old.items ++ frames (take n answers.now))) }

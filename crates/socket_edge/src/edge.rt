@@ -17,7 +17,9 @@ const MOST_READ: usize = 65_536;
 /// Whether the input goes on.
 #[derive(Clone, Copy, Drop)]
 pub enum Turn {
+    /// Bytes came, and all whole frames are answered.
     More,
+    /// The input is read to its end, and no part of a frame is left.
     End,
 }
 
@@ -149,7 +151,7 @@ fn zeros(alloc: Global, size: usize) -> Result<Vec<u8>, AllocError>
 }
 
 /// Answers each request that the reader gives, in order, until its end or a fault, and says how
-/// many there were.
+/// many there were. The answers to the whole frames of a read are written before the next read.
 ///
 /// A request frame has 14 bytes and a body: kind (1 byte: 1 packet, 2 load, 3 moment), interface
 /// (1 byte: 0 lan, 1 wan; 0 for loads and moments), length of the body (4 bytes; at most 65,535
@@ -159,9 +161,17 @@ fn zeros(alloc: Global, size: usize) -> Result<Vec<u8>, AllocError>
 /// is the interface (1 byte) and the packet, that of a drop its number (1 byte). Numbers stand
 /// with the highest byte first.
 ///
-/// The answers to the whole frames of a read are written before the next read. After
-/// `EdgeFault::Output` a beginning of the answer frames was written, after `EdgeFault::Gateway`
-/// the frames of a beginning of the events; after any other fault the frames of all events.
+/// # Errors
+///
+/// - `BadKind`, `BadInterface` or `TooLong` at the first faulty header; what is behind it isn't taken.
+/// - `Truncated` where the input ends within a frame.
+/// - `Input` where a read fails, or behind 2^64 - 1 reads.
+/// - `Output` where a write fails or takes no byte.
+/// - `Gateway` with the gateway's fault, or with `NoMemory` where memory of the edge is refused.
+///
+/// The events that the gateway took stay taken. After `Output` a beginning of the answer frames is written,
+/// also a part of a frame; after `Gateway` the frames of a beginning of the events; after any other fault the
+/// frames of all events that were read.
 pub fn run<R: Read, W: Write>(
     alloc: Global,
     reader: &mut R,

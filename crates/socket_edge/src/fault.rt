@@ -1,30 +1,36 @@
 //! Why a run ends early.
 use gateway::GatewayFault;
 
-/// What is wrong in a request's header, in the order of test.
+/// What is wrong in a request's header, in the order in which it is tested.
 #[derive(Clone, Copy, Debug, PartialEq, Eq, Drop)]
 pub enum HeaderFault {
     /// The kind is none of 1, 2, 3.
     BadKind,
-    /// The interface is neither 0 nor 1, or not 0 where the kind has none.
+    /// The interface of a packet is neither 0 nor 1, or that of a load or a moment isn't 0.
     BadInterface,
-    /// The body is longer than its kind allows.
+    /// The body is longer than its kind allows: 65,535 bytes of a packet, 262,144 of a load, 0 of a moment.
     TooLong,
 }
 
-/// Why a run ended before its input.
+/// Why a run didn't end well.
 #[derive(Clone, Copy, Debug, PartialEq, Eq, Drop, thiserror::Error)]
 pub enum EdgeFault {
+    /// A header's kind is none of 1, 2, 3.
     #[error("a frame of no known kind")]
     BadKind,
+    /// A header's interface is none that its kind has.
     #[error("a frame with an interface that its kind doesn't have")]
     BadInterface,
+    /// A header's body is longer than its kind allows.
     #[error("a frame with too long a body")]
     TooLong,
+    /// The input ends within a frame's header or body.
     #[error("the input ends within a frame")]
     Truncated,
+    /// A read failed, interruptions included.
     #[error("reading failed")]
     Input,
+    /// A write failed, interruptions included, or took no byte.
     #[error("writing failed")]
     Output,
     /// The gateway's fault, or the edge's own want of memory.

@@ -1,4 +1,4 @@
-//! What holds of every stream of frames.
+//! What holds of every stream of frames. The function does nothing: its clause is a theorem, which is proved.
 ghost use Rattle.std.specs.Prelude.{◌≡◌, ◌↔◌, ℕ, List};
 ghost use Rattle.socket_edge.specs.Framing.{Framed, framed};
 ghost use Rattle.socket_edge.specs.Streams.{AreBytes, IsStream};

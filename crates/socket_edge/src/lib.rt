@@ -1,5 +1,8 @@
 //! Bytes in, answer frames out: the edge between a byte stream and a gateway.
 //!
+//! It works over any byte stream, whatever its name says: a reader (`std::io::Read`) and a writer
+//! (`std::io::Write`). Today `natgw` hands it standard input and standard output, and no socket is opened.
+//!
 //! `run` reads request frames, offers each whole one to the gateway, and writes the frames of the
 //! answers, in whatever pieces the bytes come and go. The rooms:
 //! - `request`: what stands at the front of the bytes: a whole frame, a part of one, or a fault;

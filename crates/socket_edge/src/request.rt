@@ -10,24 +10,33 @@ use std::alloc::{AllocError, Global};
 /// What a request's kind and interface announce.
 #[derive(Clone, Copy, Drop)]
 pub enum Kind {
+    /// Kind 1: a packet from this interface.
     Packet(Iface),
+    /// Kind 2: the text of a ruleset.
     Load,
+    /// Kind 3: a moment alone.
     Moment,
 }
 
-/// The header at the front: not all there, faulty, or its kind, moment and length of the body.
+/// The header at the front of the bytes.
 #[derive(Clone, Copy, Drop)]
 pub enum Head {
+    /// Fewer than its 14 bytes are there.
     Cut,
+    /// It is faulty.
     Bad(HeaderFault),
+    /// The kind, the moment in seconds and the length of the body in bytes.
     Frame(Kind, u64, u32),
 }
 
-/// What stands at the front: less than a frame, a faulty header, or an event and its frame's length.
+/// What stands at the front of the bytes.
 #[derive(Drop)]
 pub enum Taken {
+    /// Less than a frame.
     Cut,
+    /// A faulty header.
     Bad(HeaderFault),
+    /// An event, and the length of its frame in bytes.
     Whole(Event, usize),
 }
 
@@ -108,7 +117,11 @@ fn what_from(kind: Kind, body: Vec<u8>) -> What
     }
 }
 
-/// What stands at the front of the bytes.
+/// Takes what stands at the front of the bytes.
+///
+/// # Errors
+///
+/// `AllocError` where memory for a body is refused.
 #[tactic(auto, unfolding(crate::specs::Requests::next), using(crate::proofs::Heads::frame_is_short))]
 pub fn take_frame(alloc: Global, bytes: &[u8]) -> Result<Taken, AllocError>
     ensures { IfOk result (λ taken. TakesNext taken bytes.now) }

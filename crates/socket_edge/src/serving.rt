@@ -10,7 +10,7 @@ use crate::request::{Taken, take_frame};
 use gateway::{Event, Gateway, GatewayFault, Given};
 use std::alloc::Global;
 
-/// The most events that a gateway holds.
+/// The most answers that a gateway holds. Today's gateway holds none.
 const MOST_HELD: usize = 64;
 
 /// Why no more frames are offered.
@@ -26,15 +26,21 @@ pub enum Stop {
     Lost(GatewayFault),
 }
 
-/// What the front of the bytes came to: a frame of so many bytes, whose event has this number, or
-/// the end.
+/// What the front of the bytes came to.
 #[derive(Clone, Copy, Drop)]
 pub enum Step {
+    /// A frame of so many bytes was taken, and its event has this number.
     Took(usize, u64),
+    /// No more frames are offered.
     Ends(Stop),
 }
 
-/// Puts out the answers that are held. At an `Err` a beginning of them is put out.
+/// Puts out the frames of the answers that the gateway holds.
+///
+/// # Errors
+///
+/// `NoMemory` where memory for a frame is refused, when a beginning of the answers is put out and the others are
+/// lost; or the gateway's fault, when none is.
 pub fn hand_out(out: &mut Vec<u8>, gateway: &mut Gateway) -> Result<(), GatewayFault>
     ensures ok { OnOk result (Progress gateway.old gateway.new [] out.old.items out.new.items × (gateway.new.held ≡ [])) }
     ensures err { IfErr result (λ fault. (fault ≢ HeldFull) × Begun gateway.old [] out.old.items out.new.items) }
@@ -91,7 +97,8 @@ fn offer_next(alloc: Global, bytes: &[u8], out: &mut Vec<u8>, gateway: &mut Gate
     }
 }
 
-/// Offers each whole frame at the front, and answers how many bytes they are.
+/// Offers each whole frame at the front, counts them on in `count`, and answers how many bytes they are and why
+/// no more are offered.
 pub fn offer_all(
     alloc: Global,
     bytes: &[u8],

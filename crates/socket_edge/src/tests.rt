@@ -1,3 +1,4 @@
+//! Streams of a few frames: how they end, in what pieces they may come and go, and with each growth refused.
 use crate::{EdgeFault, run};
 use gateway::{Gateway, GatewayFault};
 use packet::bounds::Bounds;
