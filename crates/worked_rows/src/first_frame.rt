@@ -46,7 +46,11 @@ fn first_frame(rt: HostRuntime) -> Result<(), Fail> {
     Ok(())
 }
 
-/// A host takes each odd port below 1024, which leaves none of them for another host.
+/// A script in which one host takes each odd port below 1024, so that none of them is left for another host.
+///
+/// # Errors
+///
+/// A `Fail` where memory is refused.
 pub fn all_taken(alloc: Global) -> Result<String, Fail> {
     let mut script = String::new(alloc);
     for half in 0..512_u32 {

@@ -255,6 +255,10 @@ fn run_over(alloc: Global, stream: &[u8]) -> Result<(Result<u64, EdgeFault>, Vec
 }
 
 /// Plays the parts one behind the other: each event alone, and then all of them in one stream.
+///
+/// # Errors
+///
+/// A `Fail` with the number of the event, the line and what came instead; or where a line can't be read.
 pub fn play(alloc: Global, parts: &[&str]) -> Result<(), Fail> {
     let mut stage = Stage::new(alloc)?;
     for part in parts {
@@ -280,7 +284,11 @@ fn frames(alloc: Global, lines: &str) -> Result<Vec<u8>, Fail> {
     Ok(out)
 }
 
-/// Runs over a stream in hexadecimal, and expects this end of it and these answers.
+/// Runs over a stream in hexadecimal, and expects this end of it and these answers, one on a line.
+///
+/// # Errors
+///
+/// A `Fail` with the end and the bytes that came instead; or where the stream or an answer can't be read.
 pub fn expect_end(
     alloc: Global,
     stream: &str,
