@@ -11,9 +11,18 @@ use std::fs::{File, Files};
 use std::io::{Read, Write};
 use std::process::ExitCode;
 
-/// The greatest ruleset text, in bytes. One byte more is read, so that a longer text is known for one.
+/// The length of the longest ruleset text, in bytes. One byte more is read, so that a longer text is known for one.
 const TEXT_LIMIT: u64 = 262_144;
 
+/// Runs the command of a command line that was read, and gives the status of the program: 1 where `check` finds a
+/// fault in the text, otherwise 0.
+///
+/// # Errors
+///
+/// - `Config` where the options are no configuration, before anything else.
+/// - Of `check`: `File` where the file can't be opened or read, also for want of memory; `NoMemory`; `Output` where
+///   the finding can't be printed.
+/// - Of `replay`: those of `replay` below. What was answered before is written.
 pub fn run(rt: &HostRuntime, options: &Options<'_>) -> Result<ExitCode, Refusal> {
     let alloc = rt.alloc();
     let bounds = config::bounds(alloc, &options.sides)?;
@@ -50,11 +59,18 @@ fn check(rt: &HostRuntime, path: &str, bounds: &Bounds) -> Result<ExitCode, Refu
 /// What `check` says of a text.
 #[derive(Drop)]
 pub struct Finding {
+    /// Whether the text would load.
     pub loads: bool,
-    /// `ok`, or the line and the kind of the text's fault.
+    /// `ok`, or the line and the kind of the text's fault, as `line 2: duplicate`.
     pub line: String,
 }
 
+/// Says whether a text would load under the configuration. A text that is too long is read up to one byte above the
+/// limit, and is found so.
+///
+/// # Errors
+///
+/// `NoMemory` where memory is refused; that is no finding.
 pub fn report(alloc: Global, text: &[u8], bounds: &Bounds) -> Result<Finding, Refusal> {
     match read(alloc, text, bounds) {
         Ok(_rules) => {
@@ -73,7 +89,12 @@ fn refused(alloc: Global, fault: LoadFault) -> Result<Finding, Refusal> {
     Ok(Finding { loads: false, line })
 }
 
-/// Answers the request frames of the input on the output, by a gateway that opens at this moment.
+/// Answers the request frames of the input on the output, by a gateway that opens at this moment, in seconds.
+///
+/// # Errors
+///
+/// The fault of the edge (`socket_edge::run`) by its word: `BadKind`, `BadInterface`, `TooLong`, `Truncated`, `Input`,
+/// `Output`, `NumbersOut` or `NoMemory`; also `NoMemory` where there is no memory for a gateway.
 pub fn replay<R: Read, W: Write>(
     alloc: Global,
     bounds: Bounds,

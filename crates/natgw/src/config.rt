@@ -15,13 +15,15 @@ pub fn number(text: &str) -> Option<u8> {
     }
 }
 
-/// An address: four numbers of at most 255, without leading zeros, joined by dots.
+/// An address: four numbers of at most 255, without leading zeros, joined by dots. As a number 192.0.2.1 is
+/// `0xc0000201`.
 pub fn address(text: &str) -> Option<u32> {
     let address: Ipv4Addr = text.parse().ok()?;
     Some(address.to_bits())
 }
 
-/// A prefix: an address, `/` and a number.
+/// A prefix: an address, `/` and a number. That the number is at most 32 and the host bits are clear is for `bounds`
+/// to test.
 pub fn prefix(text: &str) -> Option<Prefix> {
     let (addr, len) = text.split_once('/')?;
     Some(Prefix {
@@ -31,6 +33,10 @@ pub fn prefix(text: &str) -> Option<Prefix> {
 }
 
 /// Prefixes joined by commas.
+///
+/// # Errors
+///
+/// `Config` where one of them is no prefix; `NoMemory` where memory is refused.
 pub fn prefixes(alloc: Global, list: &str) -> Result<Vec<Prefix>, Refusal> {
     let mut found = Vec::new(alloc);
     for text in list.split(',') {
@@ -43,6 +49,11 @@ pub fn prefixes(alloc: Global, list: &str) -> Result<Vec<Prefix>, Refusal> {
 }
 
 /// The configuration that the options spell.
+///
+/// # Errors
+///
+/// `Config` where an option can't be read, or all of them together are no configuration (`Bounds::new`); `NoMemory`
+/// where memory is refused.
 pub fn bounds(alloc: Global, sides: &Sides<'_>) -> Result<Bounds, Refusal> {
     let inside = prefixes(alloc, sides.inside)?;
     let Some(external) = address(sides.external) else {

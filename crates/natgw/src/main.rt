@@ -1,11 +1,16 @@
-//! The program `natgw`: its commands over the standard streams and files.
+//! The program `natgw`: its commands over the standard streams and files. No other crate meets the system.
+//!
+//! - `natgw check FILE` says whether a ruleset would load;
+//! - `natgw replay` answers request frames on standard input by answer frames on standard output.
+//!
+//! The modules:
 //!
 //! - `options`: the command line;
 //! - `config`: addresses and prefixes as they are spelled, and the configuration made of them;
 //! - `commands`: what each command does;
 //! - `refusal`: the word that stands on standard error where a command gives up.
 //!
-//! The status is 0, 1 where a command gives up, or 2 where the command line can't be read.
+//! The status is 0; 1 where a command gives up, or `check` finds a fault; 2 where the command line can't be read.
 #![tactic(auto)]
 
 mod commands;

@@ -1,14 +1,18 @@
-//! The command line.
+//! The command line: the words of the program become a command and its options, or clap's own answer.
 use clap::error::ErrorKind;
 use clap::{Arg, ArgAction, ArgMatches, Command, Error, value_parser};
 use std::alloc::{AllocError, Global};
 
-/// What the gateway stands between, as it was written.
+/// What the gateway stands between, as it was written. Nothing of it is tested yet.
 #[derive(Debug, Drop)]
 pub struct Sides<'a> {
+    /// The name of the inside interface, `lan` where none is given.
     pub lan: &'a str,
+    /// The name of the outside interface, `wan` where none is given.
     pub wan: &'a str,
+    /// The inside prefixes, joined by commas.
     pub inside: &'a str,
+    /// The external address.
     pub external: &'a str,
 }
 
@@ -21,16 +25,21 @@ pub enum Task<'a> {
     Replay { moment: u64 },
 }
 
+/// A command line that was read.
 #[derive(Debug, Drop)]
 pub struct Options<'a> {
+    /// The options that all commands have.
     pub sides: Sides<'a>,
+    /// The command, and what it alone takes.
     pub task: Task<'a>,
 }
 
-/// A command line that was read, or clap's text and status.
+/// What a command line comes to.
 #[derive(Drop)]
 pub enum Parsed<'a> {
+    /// A command is to run.
     Run(Options<'a>),
+    /// There is none: help was asked for, with status 0, or the command line can't be read, with status 2.
     Stopped(Error),
 }
 
@@ -183,7 +192,11 @@ fn read_options<'a>(name: &str, matches: &ArgMatches<'a>) -> Options<'a> {
     }
 }
 
-/// Reads the command line; the first word is the program's name. Only memory makes this fail.
+/// Reads the command line; the first word is the program's name.
+///
+/// # Errors
+///
+/// `AllocError` where memory is refused.
 pub fn parse<'a>(alloc: Global, words: &'a [String]) -> Result<Parsed<'a>, AllocError> {
     match command_line(alloc)?.try_get_matches_from(words) {
         Ok(matches) => {

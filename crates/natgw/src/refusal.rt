@@ -7,38 +7,58 @@ use socket_edge::EdgeFault;
 use std::alloc::{AllocError, AllocFailed};
 use thiserror::Error;
 
+/// Why a command gives up, with status 1. The word of each is what is printed.
+///
+/// `Device`, `Full`, `Damaged`, `ConfigDiffers`, `Generations` and `Reopen` don't come yet: they are for a gateway
+/// over a disk.
 #[derive(Clone, Copy, Debug, PartialEq, Eq, Drop, Error)]
 pub enum Refusal {
+    /// The options are no configuration.
     #[error("config")]
     Config,
+    /// The ruleset's file can't be opened or read.
     #[error("file")]
     File,
+    /// A call of the disk failed.
     #[error("device")]
     Device,
+    /// A file has no room.
     #[error("full")]
     Full,
+    /// The files hold something else than a gateway wrote.
     #[error("damaged")]
     Damaged,
+    /// The files are of a gateway with another configuration.
     #[error("config-differs")]
     ConfigDiffers,
+    /// No generation is left for a file.
     #[error("generations")]
     Generations,
+    /// Memory was refused.
     #[error("no-memory")]
     NoMemory,
+    /// A call of the disk failed before.
     #[error("reopen")]
     Reopen,
+    /// The last event had the number 2^64 - 1.
     #[error("numbers-out")]
     NumbersOut,
+    /// A request's kind is none of 1, 2, 3.
     #[error("bad-kind")]
     BadKind,
+    /// A request's interface is none that its kind has.
     #[error("bad-interface")]
     BadInterface,
+    /// A request's body is longer than its kind allows.
     #[error("too-long")]
     TooLong,
+    /// The input ends within a frame.
     #[error("truncated")]
     Truncated,
+    /// A read of standard input failed.
     #[error("input")]
     Input,
+    /// A write of standard output failed or took no byte, or a message couldn't be printed.
     #[error("output")]
     Output,
 }

@@ -1,3 +1,4 @@
+//! Addresses and configurations as they are spelled, and what `check` says of texts.
 use crate::commands::{Finding, report};
 use crate::config::{address, bounds, number, prefix};
 use crate::options::{Parsed, parse};
