@@ -22,8 +22,6 @@ pub mod ruleset;
 mod set;
 mod source;
 mod table;
-#[cfg(test)]
-mod tests;
 pub mod token;
 pub mod tree;
 

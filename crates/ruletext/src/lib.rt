@@ -17,8 +17,6 @@ mod counts;
 mod duplicate;
 mod earlier;
 mod excess;
-#[cfg(test)]
-mod fault_tests;
 mod graph;
 pub mod hooks;
 mod lines;
@@ -34,8 +32,6 @@ pub mod reading;
 pub mod refusal;
 pub mod ruleset;
 mod strong;
-#[cfg(test)]
-mod tests;
 mod types;
 mod unknown;
 mod witness;

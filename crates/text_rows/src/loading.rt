@@ -1,8 +1,8 @@
 //! Texts with what is answered for them, worked from the rules of the format by hand.
 
-use crate::reading::read;
 use packet::bounds::Bounds;
 use packet::endpoint::Prefix;
+use ruletext::reading::read;
 use std::alloc::{AllocError, Global};
 use std::process::Abort;
 use std::test::*;

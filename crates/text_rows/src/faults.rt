@@ -1,9 +1,9 @@
 //! Which of several faults is named, and what is answered where memory is refused.
 
-use crate::reading::read;
-use crate::tests::{bounds, check, repeated, row_of_chains};
+use crate::loading::{bounds, check, repeated, row_of_chains};
 use packet::bounds::Bounds;
 use rulesyntax::fault::Kind;
+use ruletext::reading::read;
 use std::alloc::{AllocError, Global};
 use std::test::*;
 

@@ -1,6 +1,8 @@
-use crate::fault::Kind;
-use crate::tree::{Chain, Element, End, Rule, Set, Side, Verdict};
-use crate::{one_ruleset, parse};
+//! Which texts spell a ruleset, and what is told of the others.
+
+use rulesyntax::fault::Kind;
+use rulesyntax::tree::{Chain, Element, End, Rule, Set, Side, Verdict};
+use rulesyntax::{one_ruleset, parse};
 use std::alloc::{AllocError, Global};
 use std::process::Abort;
 use std::test::*;
