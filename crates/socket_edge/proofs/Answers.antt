@@ -12,7 +12,7 @@ use Rattle.gateway.specs.Machine.{step, after, answers, numbered}
 use Rattle.gateway.specs.Standing.{Standing, Took, handed}
 use Rattle.gateway.proofs.Judging.{AreJudged-append, AreJudged-length, AreJudged-one}
 use Rattle.gateway.proofs.Runs.{after-append, answers-append, length-answers, numbered-append}
-use Rattle.socket_edge.specs.Answering.{frame, replies, due, AreFirst, Progress, Begun}
+use Rattle.socket_edge.specs.Answering.{frame, replies, due, AreFirst, Reached, Progress, Begun}
 
 -- the answers to the first events, and then those to the others
 replies-append : (old middle : Standing) (es fs : List Judged) → middle.config ≡ old.config → middle.state ≡ after old.config old.state es → middle.last ≡ old.last + length es
@@ -84,27 +84,40 @@ Progress-then old middle new es fs a b c p q = record {
       ∙ due-append old middle p.judged q.judged p.handed p.config p.state (last_of old middle es a b p) p.order;
 }
 
-pub Begun-then : (old middle : Standing) (es fs : List Event) (a b c : List ℕ) → Progress old middle es a b → Begun middle fs b c → Begun old (es ++ fs) a c
-Begun-then old middle es fs a b c p q = record {
+pub Reached-by : (old new : Standing) (es : List Event) (a b : List ℕ) (p : Progress old new es a b) → Reached old new p.judged
+Reached-by old new es a b p = record { config = p.config; state = p.state; last = last_of old new es a b p }
+
+-- one after the other
+pub Reached-then : (old middle new : Standing) (xs ys : List Judged) → Reached old middle xs → Reached middle new ys → Reached old new (xs ++ ys)
+Reached-then old middle new xs ys p q = record {
+  config = q.config ∙ p.config;
+  state = q.state ∙ rw (p.state, p.config) refl ∙ sym (after-append old.config old.state xs ys);
+  last = omega (arith, q.last, p.last, length-append xs ys);
+}
+
+pub Begun-then : (old middle new : Standing) (es fs : List Event) (a b c : List ℕ) → Progress old middle es a b → Begun middle new fs b c → Begun old new (es ++ fs) a c
+Begun-then old middle new es fs a b c p q = record {
   judged = p.judged ++ q.judged;
+  reached = Reached-then old middle new p.judged q.judged (Reached-by old middle es a b p) q.reached;
   are_first = first-then old.config es fs p.judged q.judged p.are_judged (subst (λ (x : Config). AreFirst x fs q.judged) p.config q.are_first);
   handed = p.handed ++ q.handed;
-  others = q.others;
+  lost = q.lost;
   sent = q.sent ∙ ap (λ (zs : List ℕ). zs ++ flat_map frame q.handed) p.sent ∙ frames-append a p.handed q.handed;
-  order = append_assoc p.handed q.handed q.others ∙ ap (λ (zs : List (ℕ × Answer)). p.handed ++ zs) q.order
+  order = append_assoc p.handed q.handed (q.lost ++ new.held) ∙ ap (λ (zs : List (ℕ × Answer)). p.handed ++ zs) q.order
       ∙ due-append old middle p.judged q.judged p.handed p.config p.state (last_of old middle es a b p) p.order;
 }
 
-pub Begun-of : (old new : Standing) (es : List Event) (a b : List ℕ) → Progress old new es a b → Begun old es a b
-Begun-of old new es a b p = record { judged = p.judged; are_first = first-all old.config es p.judged p.are_judged; handed = p.handed; others = new.held; sent = p.sent; order = p.order }
+pub Begun-of : (old new : Standing) (es : List Event) (a b : List ℕ) → Progress old new es a b → Begun old new es a b
+Begun-of old new es a b p = record { judged = p.judged; are_first = first-all old.config es p.judged p.are_judged; reached = Reached-by old new es a b p; handed = p.handed; lost = []; sent = p.sent; order = p.order }
 
 -- a beginning of some events' answers is one of more events' answers
-pub Begun-more : (old : Standing) (es fs : List Event) (a b : List ℕ) → Begun old es a b → Begun old (es ++ fs) a b
-Begun-more old es fs a b p = record {
+pub Begun-more : (old new : Standing) (es fs : List Event) (a b : List ℕ) → Begun old new es a b → Begun old new (es ++ fs) a b
+Begun-more old new es fs a b p = record {
   judged = p.judged;
   are_first = first-more old.config es fs p.judged p.are_first;
+  reached = p.reached;
   handed = p.handed;
-  others = p.others;
+  lost = p.lost;
   sent = p.sent;
   order = p.order;
 }
@@ -124,13 +137,14 @@ Progress-took old new event given before out t e = record {
 }
 
 -- an event was taken, and its answer got lost
-pub Begun-lost : (old new : Standing) (event : Event) (given : Given) (before : List ℕ) → Took old new event given → Begun old (event ∷ []) before before
+pub Begun-lost : (old new : Standing) (event : Event) (given : Given) (before : List ℕ) → Took old new event given → Begun old new (event ∷ []) before before
 unfolding due replies
 Begun-lost old new event given before t = record {
   judged = t.judged ∷ [];
   are_first = first-all old.config (event ∷ []) (t.judged ∷ []) (AreJudged-one old.config event t.judged t.is_judged);
+  reached = record { config = t.config; state = t.state; last = t.last };
   handed = [];
-  others = handed given ++ new.held;
+  lost = handed given;
   sent = sym (append-nil before);
   order = t.order;
 }
@@ -150,19 +164,22 @@ Progress-flushed old new handed before out h n o = record {
 }
 
 -- a beginning of what was held is put out
-pub Begun-flushed : (old : Standing) (n : ℕ) (handed : List (ℕ × Answer)) (before out : List ℕ) → handed ≡ old.held → out ≡ before ++ flat_map frame (take n handed) → Begun old [] before out
+pub Begun-flushed : (old new : Standing) (n : ℕ) (handed : List (ℕ × Answer)) (before out : List ℕ) → handed ≡ old.held → new ≡ record old { held = [] } → out ≡ before ++ flat_map frame (take n handed) → Begun old new [] before out
 unfolding due replies
-Begun-flushed old n handed before out h o = record {
+Begun-flushed old new n handed before out h e o = record {
   judged = [];
   are_first = first-none old.config [];
+  reached = record { config = ap (λ (s : Standing). s.config) e; state = ap (λ (s : Standing). s.state) e; last = omega (arith, ap (λ (s : Standing). s.last) e) };
   handed = take n handed;
-  others = drop n handed;
+  lost = drop n handed;
   sent = o;
-  order = take-append-drop n handed ∙ h ∙ sym (append-nil old.held);
+  order = ap (λ (xs : List (ℕ × Answer)). take n handed ++ (drop n handed ++ xs)) (ap (λ (s : Standing). s.held) e) ∙ ap (λ (xs : List (ℕ × Answer)). take n handed ++ xs) (append-nil (drop n handed))
+      ∙ take-append-drop n handed ∙ h ∙ sym (append-nil old.held);
 }
 
-pub Begun-nothing : (old : Standing) (events : List Event) → Begun old events [] []
-Begun-nothing old events = record { judged = []; are_first = first-none old.config events; handed = []; others = due old []; sent = refl; order = refl }
+pub Begun-nothing : (old : Standing) (events : List Event) → Begun old old events [] []
+unfolding due replies
+Begun-nothing old events = record { judged = []; are_first = first-none old.config events; reached = record { config = refl; state = refl; last = omega arith }; handed = []; lost = []; sent = refl; order = sym (append-nil old.held) }
 
 -- everything that stands out was handed out
 pub all_sent : (old new : Standing) (events : List Event) (out : List ℕ) (p : Progress old new events [] out) → (old.held ≡ [] → new.held ≡ []) → old.held ≡ [] → out ≡ flat_map frame (replies old p.judged)
@@ -176,11 +193,11 @@ all_sent old new events out p none h =
 pub took_after : (old middle new : Standing) (event : Event) (given : Given) (a b c : List ℕ) → Progress old middle [] a b → Took middle new event given → c ≡ b ++ flat_map frame (handed given) → Progress old new (event ∷ []) a c
 took_after old middle new event given a b c p t e = Progress-then old middle new [] (event ∷ []) a b c p (Progress-took middle new event given b c t e)
 
-pub lost_after : (old middle new : Standing) (event : Event) (given : Given) (a b : List ℕ) → Progress old middle [] a b → Took middle new event given → Begun old (event ∷ []) a b
-lost_after old middle new event given a b p t = Begun-then old middle [] (event ∷ []) a b b p (Begun-lost middle new event given b t)
+pub lost_after : (old middle new : Standing) (event : Event) (given : Given) (a b : List ℕ) → Progress old middle [] a b → Took middle new event given → Begun old new (event ∷ []) a b
+lost_after old middle new event given a b p t = Begun-then old middle new [] (event ∷ []) a b b p (Begun-lost middle new event given b t)
 
-pub lost_before : (old : Standing) (event : Event) (a b : List ℕ) → Begun old [] a b → Begun old (event ∷ []) a b
-lost_before old event a b p = Begun-more old [] (event ∷ []) a b p
+pub lost_before : (old new : Standing) (event : Event) (a b : List ℕ) → Begun old new [] a b → Begun old new (event ∷ []) a b
+lost_before old new event a b p = Begun-more old new [] (event ∷ []) a b p
 
 pub refused_after : (old middle new : Standing) (a b : List ℕ) → Progress old middle [] a b → new ≡ middle → Progress old new [] a b
 refused_after old middle new a b p e = subst (λ (s : Standing). Progress old s [] a b) (sym e) p

@@ -31,9 +31,9 @@ pub Answered-of : (old new : Standing) (bytes sent : List ℕ) → Progress old 
 Answered-of old new bytes sent p none = record { progress = p; none = none; all = all_sent old new (framed bytes).events sent p none }
 
 -- a beginning of the answers to some of the bytes' events
-pub begun_framed : (old : Standing) (bytes later : List ℕ) (events : List Event) (a b : List ℕ) → Reads bytes events later → Begun old events a b → Begun old (framed bytes).events a b
-begun_framed old bytes later events a b r p =
-    subst (λ (f : Framed). Begun old f.events a b) (sym (Reads-is bytes events later r)) (Begun-more old events (framed later).events a b p)
+pub begun_framed : (old new : Standing) (bytes later : List ℕ) (events : List Event) (a b : List ℕ) → Reads bytes events later → Begun old new events a b → Begun old new (framed bytes).events a b
+begun_framed old new bytes later events a b r p =
+    subst (λ (f : Framed). Begun old new f.events a b) (sym (Reads-is bytes events later r)) (Begun-more old new events (framed later).events a b p)
 
 -- handing out adds no event
 flushed : (old now new : Standing) (events : List Event) (a b c : List ℕ) → Progress old now events a b → Progress now new [] b c → Progress old new events a c
@@ -66,55 +66,62 @@ closes (stop.Bad header.BadKind) old now new bytes rest count b c n o q h = bad_
 closes (stop.Bad header.BadInterface) old now new bytes rest count b c n o q h = bad_closes old now new bytes rest o.0 header.BadInterface b c o.1 o.2 o.3 q h
 closes (stop.Bad header.TooLong) old now new bytes rest count b c n o q h = bad_closes old now new bytes rest o.0 header.TooLong b c o.1 o.2 o.3 q h
 closes (stop.Refused fault) old now new bytes rest count b c n o q h =
-    (o.2, begun_framed old bytes rest o.0 [] c o.1 (Begun-of old new o.0 [] c (flushed old now new o.0 [] b c o.3 q)))
+    (o.2, begun_framed old new bytes rest o.0 [] c o.1 (Begun-of old new o.0 [] c (flushed old now new o.0 [] b c o.3 q)))
 closes (stop.Lost fault) old now new bytes rest count b c n o q h = absurd n
 
 -- handing out failed
-begun_after : (old now : Standing) (bytes rest : List ℕ) (events : List Event) (b c : List ℕ) → Reads bytes events rest → Progress old now events [] b → Begun now [] b c → Begun old (framed bytes).events [] c
-begun_after old now bytes rest events b c r p q =
-    begun_framed old bytes rest events [] c r (subst (λ (es : List Event). Begun old es [] c) (append-nil events) (Begun-then old now events [] [] b c p q))
+begun_after : (old now new : Standing) (bytes rest : List ℕ) (events : List Event) (b c : List ℕ) → Reads bytes events rest → Progress old now events [] b → Begun now new [] b c → Begun old new (framed bytes).events [] c
+begun_after old now new bytes rest events b c r p q =
+    begun_framed old new bytes rest events [] c r (subst (λ (es : List Event). Begun old new es [] c) (append-nil events) (Begun-then old now new events [] [] b c p q))
 
-pub fails : (s : Stop) (old now : Standing) (bytes rest : List ℕ) (count : ℕ) (b c : List ℕ) → IsKept s → Offered s bytes rest count old now [] b → Begun now [] b c → Begun old (framed bytes).events [] c
-fails stop.Cut old now bytes rest count b c n o q = begun_after old now bytes rest o.0 b c o.1 o.4 q
-fails (stop.Bad fault) old now bytes rest count b c n o q = begun_after old now bytes rest o.0 b c o.1 o.3 q
-fails (stop.Refused fault) old now bytes rest count b c n o q = begun_after old now bytes rest o.0 b c o.1 o.3 q
-fails (stop.Lost fault) old now bytes rest count b c n o q = absurd n
+pub fails : (s : Stop) (old now new : Standing) (bytes rest : List ℕ) (count : ℕ) (b c : List ℕ) → IsKept s → Offered s bytes rest count old now [] b → Begun now new [] b c → Begun old new (framed bytes).events [] c
+fails stop.Cut old now new bytes rest count b c n o q = begun_after old now new bytes rest o.0 b c o.1 o.4 q
+fails (stop.Bad fault) old now new bytes rest count b c n o q = begun_after old now new bytes rest o.0 b c o.1 o.3 q
+fails (stop.Refused fault) old now new bytes rest count b c n o q = begun_after old now new bytes rest o.0 b c o.1 o.3 q
+fails (stop.Lost fault) old now new bytes rest count b c n o q = absurd n
 
 -- an answer was lost
 pub lost_is : (s : Stop) (fault : GatewayFault) (old now : Standing) (bytes rest : List ℕ) (count : ℕ) (b : List ℕ) → s ≡ stop.Lost fault → Offered s bytes rest count old now [] b → Closed (end_of s) old now bytes rest b count
 lost_is stop.Cut fault old now bytes rest count b e o = absurd cc
 lost_is (stop.Bad f) fault old now bytes rest count b e o = absurd cc
 lost_is (stop.Refused f) fault old now bytes rest count b e o = absurd cc
-lost_is (stop.Lost f) fault old now bytes rest count b e o = (o.3, begun_framed old bytes o.1 o.0 [] b o.2 o.4)
+lost_is (stop.Lost f) fault old now bytes rest count b e o = (o.3, begun_framed old now bytes o.1 o.0 [] b o.2 o.4)
 
-begun_stands : (old : Standing) (events : List Event) (out : List ℕ) → Begun old events [] out → BeginsFrames old events out
-begun_stands old events out p = record {
+begun_stands : (old new : Standing) (events : List Event) (out : List ℕ) → Begun old new events [] out → BeginsFrames old new events out
+begun_stands old new events out p = record {
   judged = p.judged;
   are_first = p.are_first;
-  others = flat_map frame p.others;
-  begins = ap (λ (x : List ℕ). x ++ flat_map frame p.others) p.sent ∙ sym (flat_map-append frame p.handed p.others) ∙ ap (flat_map frame) p.order;
+  reached = p.reached;
+  lost = flat_map frame p.lost;
+  begins = ap (λ (x : List ℕ). x ++ (flat_map frame p.lost ++ flat_map frame new.held)) p.sent
+      ∙ ap (λ (x : List ℕ). flat_map frame p.handed ++ x) (sym (flat_map-append frame p.lost new.held))
+      ∙ sym (flat_map-append frame p.handed (p.lost ++ new.held)) ∙ ap (flat_map frame) p.order;
 }
 
-answered_stands : (old new : Standing) (bytes out : List ℕ) → Answered old new bytes out → BeginsFrames old (framed bytes).events out
-answered_stands old new bytes out a = begun_stands old (framed bytes).events out (Begun-of old new (framed bytes).events [] out a.progress)
+answered_stands : (old new : Standing) (bytes out : List ℕ) → Answered old new bytes out → BeginsFrames old new (framed bytes).events out
+answered_stands old new bytes out a = begun_stands old new (framed bytes).events out (Begun-of old new (framed bytes).events [] out a.progress)
 
 -- what was put out is a beginning of the frames
-pub stands : (r : Result (Unit {0}) EdgeFault) (old new : Standing) (bytes rest out : List ℕ) (count : ℕ) → Closed r old new bytes rest out count → BeginsFrames old (framed bytes).events out
+pub stands : (r : Result (Unit {0}) EdgeFault) (old new : Standing) (bytes rest out : List ℕ) (count : ℕ) → Closed r old new bytes rest out count → BeginsFrames old new (framed bytes).events out
 stands (Ok done) old new bytes rest out count s =
-    begun_stands old (framed bytes).events out (subst (λ (f : Framed). Begun old f.events [] out) (sym (framed_then_cut bytes rest s.events s.reads s.cut)) (Begun-of old new s.events [] out s.progress))
+    begun_stands old new (framed bytes).events out (subst (λ (f : Framed). Begun old new f.events [] out) (sym (framed_then_cut bytes rest s.events s.reads s.cut)) (Begun-of old new s.events [] out s.progress))
 stands (Err BadKind) old new bytes rest out count s = answered_stands old new bytes out s.1
 stands (Err BadInterface) old new bytes rest out count s = answered_stands old new bytes out s.1
 stands (Err TooLong) old new bytes rest out count s = answered_stands old new bytes out s.1
 stands (Err Truncated) old new bytes rest out count s = answered_stands old new bytes out s.3
 stands (Err Input) old new bytes rest out count s = answered_stands old new bytes out s
 stands (Err Output) old new bytes rest out count s = s
-stands (Err (Gateway fault)) old new bytes rest out count s = begun_stands old (framed bytes).events out s.1
+stands (Err (Gateway fault)) old new bytes rest out count s = begun_stands old new (framed bytes).events out s.1
 
 -- and so is a beginning of that
-pub stands_cut : (n : ℕ) (old : Standing) (events : List Event) (out : List ℕ) → BeginsFrames old events out → BeginsFrames old events (take n out)
-stands_cut n old events out p = record {
-  judged = p.judged;
-  are_first = p.are_first;
-  others = drop n out ++ p.others;
-  begins = sym (append_assoc (take n out) (drop n out) p.others) ∙ ap (λ (x : List ℕ). x ++ p.others) (take-append-drop n out) ∙ p.begins;
-}
+pub stands_cut : (n : ℕ) (old new : Standing) (events : List Event) (out : List ℕ) → BeginsFrames old new events out → BeginsFrames old new events (take n out)
+stands_cut n old new events out p =
+    let behind_it : List ℕ = p.lost ++ flat_map frame new.held in
+    record {
+      judged = p.judged;
+      are_first = p.are_first;
+      reached = p.reached;
+      lost = drop n out ++ p.lost;
+      begins = ap (λ (x : List ℕ). take n out ++ x) (append_assoc (drop n out) p.lost (flat_map frame new.held))
+          ∙ sym (append_assoc (take n out) (drop n out) behind_it) ∙ ap (λ (x : List ℕ). x ++ behind_it) (take-append-drop n out) ∙ p.begins;
+    }

@@ -54,7 +54,7 @@ SoFar-ends old now new bytes at before count a b c (stop.Refused fault) s t =
     (s.events, s.reads, t.0, still old now new s.events a b c s.progress t.1)
 SoFar-ends old now new bytes at before count a b c (stop.Lost fault) s t =
     let r = rest_whole at bytes in
-    (s.events ++ t.0 ∷ [], t.1, Reads-whole bytes (drop at bytes) s.events t.0 t.1 s.reads (ap next (sym r) ∙ t.2), t.3, Begun-then old now s.events (t.0 ∷ []) a b c s.progress t.4)
+    (s.events ++ t.0 ∷ [], t.1, Reads-whole bytes (drop at bytes) s.events t.0 t.1 s.reads (ap next (sym r) ∙ t.2), t.3, Begun-then old now new s.events (t.0 ∷ []) a b c s.progress t.4)
 
 -- an event that wasn't taken, or whose answer got lost, ends the loop
 pub event_ends : (s : Stop) (bytes rest : List ℕ) (event : Event) (old new : Standing) (before out : List ℕ) → next bytes ≡ Whole event rest → OfferedOne (Err s) event old new before out → Stepped (step.Ends s) bytes old new before out

@@ -14,7 +14,7 @@ use Rattle.socket_edge.specs.Framing.{Framed, Stop, Rest, behind, framed}
 use Rattle.socket_edge.specs.Answering.{frame, due, AreFirst, Progress, Begun, BeginsFrames}
 use Rattle.socket_edge.specs.Running.{Answered, Ends, Done, Reads, Served}
 use Rattle.socket_edge.proofs.Frames.{next_nil, Reads-nil, Reads-more, Reads-then}
-use Rattle.socket_edge.proofs.Answers.{Progress-nil, Progress-then, Begun-then, due-append, first-then, last_of}
+use Rattle.socket_edge.proofs.Answers.{Progress-nil, Progress-then, Reached-by, Reached-then, Begun-then, due-append, first-then, last_of}
 use Rattle.socket_edge.proofs.Closing.{framed_then_cut, Answered-of}
 
 -- the events of the bytes that came before, and of those that come
@@ -25,8 +25,8 @@ framed_more given pending got events r = r.goes got
 Progress-shift : (old new : Standing) (events : List Event) (before out : List ℕ) → Progress old new events [] out → Progress old new events before (before ++ out)
 Progress-shift old new events before out p = record { judged = p.judged; are_judged = p.are_judged; config = p.config; state = p.state; last = p.last; handed = p.handed; sent = ap (λ (x : List ℕ). before ++ x) p.sent; order = p.order }
 
-Begun-shift : (old : Standing) (events : List Event) (before out : List ℕ) → Begun old events [] out → Begun old events before (before ++ out)
-Begun-shift old events before out p = record { judged = p.judged; are_first = p.are_first; handed = p.handed; others = p.others; sent = ap (λ (x : List ℕ). before ++ x) p.sent; order = p.order }
+Begun-shift : (old new : Standing) (events : List Event) (before out : List ℕ) → Begun old new events [] out → Begun old new events before (before ++ out)
+Begun-shift old new events before out p = record { judged = p.judged; are_first = p.are_first; reached = p.reached; handed = p.handed; lost = p.lost; sent = ap (λ (x : List ℕ). before ++ x) p.sent; order = p.order }
 
 pub Served-first : (old : Standing) → Served old old [] [] [] 0
 Served-first old = record { events = []; reads = Reads-nil []; cut = next_nil; count_is = refl; progress = Progress-nil old []; none = λ h. h }
@@ -51,14 +51,16 @@ answered_then a b c given pending got w sent n p q =
 stop_then : (a b : Standing) (given pending got w : List ℕ) (n : ℕ) (s : Stop) → Served a b given pending w n → (framed (pending ++ got)).stop ≡ s → (framed (given ++ got)).stop ≡ s
 stop_then a b given pending got w n s p e = ap (λ (f : Framed). f.stop) (framed_more given pending got p.events p.reads) ∙ e
 
-begins_then : (a b : Standing) (es fs : List Event) (w sent : List ℕ) → Progress a b es [] w → BeginsFrames b fs sent → BeginsFrames a (es ++ fs) (w ++ sent)
-begins_then a b es fs w sent p q =
+begins_then : (a b c : Standing) (es fs : List Event) (w sent : List ℕ) → Progress a b es [] w → BeginsFrames b c fs sent → BeginsFrames a c (es ++ fs) (w ++ sent)
+begins_then a b c es fs w sent p q =
+    let behind_it : List ℕ = q.lost ++ flat_map frame c.held in
     let d : due a (p.judged ++ q.judged) ≡ p.handed ++ due b q.judged = sym (due-append a b p.judged q.judged p.handed p.config p.state (last_of a b es [] w p) p.order) in
     record {
       judged = p.judged ++ q.judged;
       are_first = first-then a.config es fs p.judged q.judged p.are_judged (subst (λ (x : Config). AreFirst x fs q.judged) p.config q.are_first);
-      others = q.others;
-      begins = append_assoc w sent q.others ∙ ap (λ (x : List ℕ). w ++ x) q.begins ∙ ap (λ (x : List ℕ). x ++ flat_map frame (due b q.judged)) p.sent
+      reached = Reached-then a b c p.judged q.judged (Reached-by a b es [] w p) q.reached;
+      lost = q.lost;
+      begins = append_assoc w sent behind_it ∙ ap (λ (x : List ℕ). w ++ x) q.begins ∙ ap (λ (x : List ℕ). x ++ flat_map frame (due b q.judged)) p.sent
           ∙ sym (flat_map-append frame p.handed (due b q.judged)) ∙ ap (flat_map frame) (sym d);
     }
 
@@ -70,11 +72,11 @@ Ends-then Truncated a b c given pending got w sent n at_end p q = (q.0, stop_the
 Ends-then Input a b c given pending got w sent n at_end p q = answered_then a b c given pending got w sent n p q
 Ends-then Output a b c given pending got w sent n at_end p q =
     let f : (framed (given ++ got)).events ≡ p.events ++ (framed (pending ++ got)).events = ap (λ (x : Framed). x.events) (framed_more given pending got p.events p.reads) in
-    subst (λ (es : List Event). BeginsFrames a es (w ++ sent)) (sym f) (begins_then a b p.events (framed (pending ++ got)).events w sent p.progress q)
+    subst (λ (es : List Event). BeginsFrames a c es (w ++ sent)) (sym f) (begins_then a b c p.events (framed (pending ++ got)).events w sent p.progress q)
 Ends-then (Gateway fault) a b c given pending got w sent n at_end p q = (
   q.0,
-  subst (λ (f : Framed). Begun a f.events [] (w ++ sent)) (sym (framed_more given pending got p.events p.reads))
-      (Begun-then a b p.events (framed (pending ++ got)).events [] w (w ++ sent) p.progress (Begun-shift b (framed (pending ++ got)).events w sent q.1)),
+  subst (λ (f : Framed). Begun a c f.events [] (w ++ sent)) (sym (framed_more given pending got p.events p.reads))
+      (Begun-then a b c p.events (framed (pending ++ got)).events [] w (w ++ sent) p.progress (Begun-shift b c (framed (pending ++ got)).events w sent q.1)),
 )
 
 pub Done-then : (a b c : Standing) (given pending got w sent : List ℕ) (n m : ℕ) (at_end : Type 0) → Served a b given pending w n → Done m b c (pending ++ got) sent at_end → Done (n + m) a c (given ++ got) (w ++ sent) at_end

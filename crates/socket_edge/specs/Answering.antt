@@ -63,18 +63,26 @@ pub record Progress (old new : Standing) (events : List Event) (before out : Lis
   pub sent : out ≡ before ++ frames handed
   pub order : handed ++ new.held ≡ due old judged
 
--- The frames of a beginning of the answers that stand out went behind `before`, once the first of the events are judged.
-pub record Begun (old : Standing) (events : List Event) (before out : List ℕ) : Type 0 where
-  pub judged : List Judged
-  pub are_first : AreFirst old.config events judged
-  pub handed : List (ℕ × Answer)
-  pub others : List (ℕ × Answer)
-  pub sent : out ≡ before ++ frames handed
-  pub order : handed ++ others ≡ due old judged
+-- The gateway stands where events that are judged so bring it.
+pub record Reached (old new : Standing) (judged : List Judged) : Type 0 where
+  pub config : new.config ≡ old.config
+  pub state : new.state ≡ after old.config old.state judged
+  pub last : new.last ≡ old.last + length judged
 
--- The bytes are a beginning of the frames of the answers that stand out, once the first of the events are judged.
-pub record BeginsFrames (old : Standing) (events : List Event) (out : List ℕ) : Type 0 where
+-- The first of the events were taken, as they are judged. Of the answers that stand out, the frames of the first went behind `before`, others got lost, and the last are held.
+pub record Begun (old new : Standing) (events : List Event) (before out : List ℕ) : Type 0 where
   pub judged : List Judged
   pub are_first : AreFirst old.config events judged
-  pub others : List ℕ
-  pub begins : out ++ others ≡ frames (due old judged)
+  pub reached : Reached old new judged
+  pub handed : List (ℕ × Answer)
+  pub lost : List (ℕ × Answer)
+  pub sent : out ≡ before ++ frames handed
+  pub order : handed ++ (lost ++ new.held) ≡ due old judged
+
+-- The first of the events were taken, as they are judged. The bytes are a beginning of the frames of the answers that stand out; the last of these are held.
+pub record BeginsFrames (old new : Standing) (events : List Event) (out : List ℕ) : Type 0 where
+  pub judged : List Judged
+  pub are_first : AreFirst old.config events judged
+  pub reached : Reached old new judged
+  pub lost : List ℕ
+  pub begins : out ++ (lost ++ frames new.held) ≡ frames (due old judged)

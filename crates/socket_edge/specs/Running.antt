@@ -29,8 +29,8 @@ Ends BadInterface old new bytes sent at_end = ((framed bytes).stop ≡ Fault hea
 Ends TooLong old new bytes sent at_end = ((framed bytes).stop ≡ Fault header.TooLong) × Answered old new bytes sent
 Ends Truncated old new bytes sent at_end = (rest : List ℕ) × ((framed bytes).stop ≡ Rest rest) × (rest ≢ []) × Answered old new bytes sent × at_end
 Ends Input old new bytes sent at_end = Answered old new bytes sent
-Ends Output old new bytes sent at_end = BeginsFrames old (framed bytes).events sent
-Ends (Gateway fault) old new bytes sent at_end = (fault ≢ HeldFull) × Begun old (framed bytes).events [] sent
+Ends Output old new bytes sent at_end = BeginsFrames old new (framed bytes).events sent
+Ends (Gateway fault) old new bytes sent at_end = (fault ≢ HeldFull) × Begun old new (framed bytes).events [] sent
 
 -- all was read and answered, and it was whole frames
 pub record Done (count : ℕ) (old new : Standing) (bytes sent : List ℕ) (at_end : Type 0) : Type 0 where
@@ -54,7 +54,7 @@ pub record Reads (given : List ℕ) (events : List Event) (pending : List ℕ) :
 abbrev pub OfferedOne : Result ℕ Stop → Event → Standing → Standing → List ℕ → List ℕ → Type 0
 OfferedOne (Ok number) event old new before out = (number ≡ new.last) × Progress old new (event ∷ []) before out
 OfferedOne (Err (stop.Refused fault)) event old new before out = (fault ≢ HeldFull) × Progress old new [] before out
-OfferedOne (Err (stop.Lost fault)) event old new before out = (fault ≢ HeldFull) × Begun old (event ∷ []) before out
+OfferedOne (Err (stop.Lost fault)) event old new before out = (fault ≢ HeldFull) × Begun old new (event ∷ []) before out
 OfferedOne (Err stop.Cut) event old new before out = ⊥
 OfferedOne (Err (stop.Bad fault)) event old new before out = ⊥
 
@@ -66,7 +66,7 @@ Stepped (step.Ends stop.Cut) bytes old new before out = (next bytes ≡ Cut) × 
 Stepped (step.Ends (stop.Bad fault)) bytes old new before out = (next bytes ≡ Bad fault) × Progress old new [] before out
 Stepped (step.Ends (stop.Refused fault)) bytes old new before out = (fault ≢ HeldFull) × Progress old new [] before out
 Stepped (step.Ends (stop.Lost fault)) bytes old new before out =
-    (event : Event) × (rest : List ℕ) × (next bytes ≡ Whole event rest) × (fault ≢ HeldFull) × Begun old (event ∷ []) before out
+    (event : Event) × (rest : List ℕ) × (next bytes ≡ Whole event rest) × (fault ≢ HeldFull) × Begun old new (event ∷ []) before out
 
 -- what all whole frames at the front came to
 abbrev pub Offered : Stop → List ℕ → List ℕ → ℕ → Standing → Standing → List ℕ → List ℕ → Type 0
@@ -77,7 +77,7 @@ Offered (stop.Bad fault) bytes rest count old new before out =
 Offered (stop.Refused fault) bytes rest count old new before out =
     (events : List Event) × Reads bytes events rest × (fault ≢ HeldFull) × Progress old new events before out
 Offered (stop.Lost fault) bytes rest count old new before out =
-    (events : List Event) × (later : List ℕ) × Reads bytes events later × (fault ≢ HeldFull) × Begun old events before out
+    (events : List Event) × (later : List ℕ) × Reads bytes events later × (fault ≢ HeldFull) × Begun old new events before out
 
 -- the whole frames at the front were answered, and these bytes are left
 pub record Served (old new : Standing) (bytes rest sent : List ℕ) (count : ℕ) : Type 0 where

@@ -11,7 +11,7 @@ returns-in-Lost c = λ old bytes rest count o.
 pub returns-in-Err : goal.returns-in-Err
 returns-in-Err c = λ old bytes rest count o.
     let e = c.in-Err.ensures.err in
-    (e.0, fails c.args.stop old c.args.gateway.now bytes rest count c.args.out.now.items c.hand_out.new.out.items (kept c.args.stop c.in_default.not-Lost) o e.1)
+    (e.0, fails c.args.stop old c.args.gateway.now c.hand_out.new.gateway bytes rest count c.args.out.now.items c.hand_out.new.out.items (kept c.args.stop c.in_default.not-Lost) o e.1)
 
 pub returns-in-Ok : goal.returns-in-Ok
 returns-in-Ok c = λ old bytes rest count o.

@@ -11,4 +11,4 @@ returns-in-Err-clause-served g c =
     let closed = c.close-closed.ensures c.args.gateway.now c.args.pending.now.items rest count offered in
     let err = c.in-Err.ensures.err in
     let o = stands c.close-closed.result c.args.gateway.now c.close-closed.new.gateway c.args.pending.now.items rest c.close-closed.new.out.items count closed in
-    (take err.1 c.close-closed.new.out.items, rw (← c.as_slice-2.ensures.value) err.2, stands_cut err.1 c.args.gateway.now (framed c.args.pending.now.items).events c.close-closed.new.out.items o)
+    (take err.1 c.close-closed.new.out.items, rw (← c.as_slice-2.ensures.value) err.2, stands_cut err.1 c.args.gateway.now c.close-closed.new.gateway (framed c.args.pending.now.items).events c.close-closed.new.out.items o)

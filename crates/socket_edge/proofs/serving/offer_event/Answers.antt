@@ -8,7 +8,7 @@ use Rattle.socket_edge.proofs.serving.offer_event.Goals as goal
 pub returns-in-Err : goal.returns-in-Err
 returns-in-Err c =
     let e = c.in-Err.ensures.err in
-    record { offered = (e.0, lost_before c.args.gateway.now c.args.event c.args.out.now.items c.make_room.new.out.items e.1) }
+    record { offered = (e.0, lost_before c.args.gateway.now c.make_room.new.gateway c.args.event c.args.out.now.items c.make_room.new.out.items e.1) }
 
 pub returns-in-Ok : goal.returns-in-Ok
 returns-in-Ok c =
