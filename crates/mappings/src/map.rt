@@ -1,3 +1,4 @@
+//! The pairs that are held, and how often.
 ghost use Rattle.std.specs.Prelude.{◌≡◌, ◌↔◌, ◌+◌, ◌-◌, ◌<◌, ◌≤◌, IsTrue, OnOk, OnErr, IsOk, IfSome, IfNone, length, slice_index_or, vec_capacity};
 ghost use Rattle.packet.specs.declared.endpoint.Endpoint.{Endpoint as Place};
 ghost use Rattle.mappings.specs.declared.map.Pair.{Pair as Mapping};
@@ -11,8 +12,11 @@ use std::marker::Model;
 /// An inside endpoint and the outside endpoint that stands for it.
 #[derive(Clone, Copy, Debug, PartialEq, Eq)]
 pub struct Pair {
+    /// Each protocol has mappings of its own.
     pub proto: Proto,
+    /// The endpoint behind the gateway.
     pub inside: Endpoint,
+    /// What it is called on the other side.
     pub outside: Endpoint,
 }
 
@@ -20,6 +24,7 @@ pub struct Pair {
 #[derive(Clone, Copy, Debug, PartialEq, Eq)]
 pub struct Counted {
     pub pair: Pair,
+    /// From 1 on: a pair that nothing holds isn't kept.
     pub count: u32,
 }
 
@@ -53,7 +58,7 @@ impl Map {
         }
     }
 
-    /// The outside endpoint that stands for this inside endpoint.
+    /// The outside endpoint that stands for this inside endpoint, where a pair of it is held.
     pub fn outside_of(&self, proto: Proto, inside: Endpoint) -> Option<Endpoint>
         ensures found { IfSome result (λ outside. 0 < times self.now (pair proto inside outside)) }
         ensures only { IfSome result (λ outside. (other : Place)
@@ -63,7 +68,7 @@ impl Map {
         find_outside(&self.held, proto, inside)
     }
 
-    /// The inside endpoint that this outside endpoint stands for.
+    /// The inside endpoint that this outside endpoint stands for, where a pair of it is held.
     pub fn inside_of(&self, proto: Proto, outside: Endpoint) -> Option<Endpoint>
         ensures found { IfSome result (λ inside. 0 < times self.now (pair proto inside outside)) }
         ensures only { IfSome result (λ inside. (other : Place)
@@ -73,13 +78,13 @@ impl Map {
         find_inside(&self.held, proto, outside)
     }
 
-    /// Holds the pair once more, at most 65,536 times. It may share neither endpoint with another pair
-    /// of its protocol that is held.
+    /// Holds the pair once more, but no more often than a table holds sessions. It may share neither
+    /// endpoint with another pair of its protocol that is held.
     ///
     /// # Errors
     ///
     /// `AllocError` where memory for it is refused, and never where there is room or the pair is held
-    /// already, which takes no room. No pair is held more or less often then.
+    /// already, which takes no room. Each pair is held as often as before then, and no room is lost.
     pub fn hold(&mut self, pair: Pair) -> Result<(), AllocError>
         requires one_to_one { KeepsOneToOne self.old pair }
         requires few { times self.old pair < 65536 }
@@ -94,7 +99,7 @@ impl Map {
         add(&mut self.held, pair)
     }
 
-    /// Gives one hold of the pair back; with its last hold the pair is gone, and its room is free. This
+    /// Gives one hold of a held pair back; with its last hold the pair is gone, and its room is free. This
     /// takes no memory.
     pub fn release(&mut self, pair: Pair)
         requires { 0 < times self.old pair }
@@ -109,7 +114,8 @@ impl Map {
     ///
     /// # Errors
     ///
-    /// `AllocError` where memory is refused, and never where there is room for two already.
+    /// `AllocError` where memory is refused, and never where there is room for two already. Each pair
+    /// is held as often as before, and no room is lost.
     pub fn reserve(&mut self) -> Result<(), AllocError>
         ensures ok { OnOk result (2 ≤ self.new.room) }
         ensures succeeds { 2 ≤ self.old.room → IsOk result }
@@ -119,7 +125,8 @@ impl Map {
         self.held.reserve(2)
     }
 
-    /// No two pairs of a protocol share an outside endpoint, nor an inside endpoint.
+    /// What every map keeps: no two pairs of a protocol share an outside endpoint, nor an inside endpoint.
+    /// It does nothing but carry this.
     pub fn is_one_to_one(&self)
         ensures { IsOneToOne self.now }
     {

@@ -7,7 +7,7 @@ use Rattle.packet.specs.declared.fault.Fault.TheVariants.{Short, Version, Header
 use Rattle.packet.specs.declared.route.RouteFault.{RouteFault}
 use Rattle.packet.specs.declared.route.RouteFault.TheVariants.{Ttl, Spoofed, NoRoute}
 
--- RFC 9293, section 3.1, and RFC 768: the protocol numbers of RFC 790
+-- the number in the protocol field of the IP header (RFC 791, section 3.1)
 abbrev pub proto_number : Proto → ℕ
 proto_number Tcp = 6
 proto_number Udp = 17

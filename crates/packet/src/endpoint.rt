@@ -1,4 +1,7 @@
 //! The plain values that every layer of the gateway speaks of.
+//!
+//! Addresses and ports are numbers in host byte order: the most significant byte of an address is its
+//! first octet.
 ghost use Rattle.std.specs.Prelude.{◌≡◌, false};
 ghost use Rattle.packet.specs.Numbers.{proto_number};
 
@@ -30,10 +33,12 @@ pub enum Iface {
     Wan,
 }
 
-/// An address and a port, both as numbers: 192.0.2.1 is `0xc0000201`.
+/// An IPv4 address and a port. Endpoints are ordered by address, then by port.
 #[derive(Clone, Copy, Debug, PartialEq, Eq, PartialOrd, Ord, Drop)]
 pub struct Endpoint {
+    /// The most significant byte is the first octet: 192.0.2.1 is `0xc0000201`.
     pub addr: u32,
+    /// From 0 to 65535; no packet that `View::read` takes has 0.
     pub port: u16,
 }
 
@@ -41,9 +46,13 @@ pub struct Endpoint {
 /// clear for UDP.
 #[derive(Clone, Copy, Debug, PartialEq, Eq, Drop)]
 pub struct Flags {
+    /// The sender has no more data.
     pub fin: bool,
+    /// The sequence numbers begin here.
     pub syn: bool,
+    /// The connection is reset.
     pub rst: bool,
+    /// The acknowledgment number counts.
     pub ack: bool,
 }
 
@@ -67,6 +76,8 @@ impl Flags {
 /// `len` of `addr` are 0, is tested by `Bounds::new`.
 #[derive(Clone, Copy, Debug, PartialEq, Eq, Drop)]
 pub struct Prefix {
+    /// The most significant byte is the first octet, as in `Endpoint`: 10.0.0.0/8 has `0x0a000000`.
     pub addr: u32,
+    /// How many bits count, from the most significant one on: 8 in 10.0.0.0/8.
     pub len: u8,
 }

@@ -80,7 +80,13 @@ impl Bounds {
         }
     }
 
-    /// Where a packet that came from this side goes, or the first reason why it goes nowhere.
+    /// Where a packet that came from this side goes, by its TTL and its addresses alone.
+    ///
+    /// # Errors
+    ///
+    /// The first that holds: `Ttl` for a TTL of 0 or 1; `Spoofed` for a source from lan that isn't
+    /// inside, or from wan that is inside or external; `NoRoute` for a destination from lan that is
+    /// inside, or from wan that is neither inside nor external.
     #[tactic(auto, unfolding(crate::specs::Route::route))]
     pub fn route(&self, from: Iface, view: &View) -> Result<Route, RouteFault>
         ensures { result ≡ route self.now from view.now }

@@ -1,3 +1,4 @@
+//! What holds of every choice: each function is proved to meet its clause.
 ghost use Rattle.portpick.specs.Laws.{ChoiceIsNearest, ChoiceKeepsClass, FreePortStays, StepsStayInClass};
 
 /// `port_choice` is the one port that is free and that the fewest steps reach; there is none exactly

@@ -1,3 +1,4 @@
+//! The ports that are taken, and the nearest free one.
 ghost use Rattle.std.specs.Prelude.{◌≡◌, ◌↔◌, ◌+◌, ◌*◌, ◌^◌, ◌<◌, ◌≤◌, ℕ, Bool, IsTrue, IsOk, OnOk, OnErr, IfSome, IfNone};
 ghost use Rattle.std.specs.List.{Contains};
 ghost use Rattle.packet.specs.declared.endpoint.Proto.{Proto as Protocol};
@@ -11,11 +12,18 @@ use std::marker::Model;
 /// An outside endpoint of a protocol.
 #[derive(Clone, Copy, Debug, PartialEq, Eq)]
 pub struct Outside {
+    /// Each protocol has ports of its own.
     pub proto: Proto,
+    /// An external address, and a port from 1 on.
     pub endpoint: Endpoint,
 }
 
 /// The ports that are taken at the external addresses; each protocol has ports of its own.
+///
+/// There may be several addresses, since a NAT may have a pool of them (RFC 4787, REQ-2), and each has
+/// ports of its own too. Which address an inside endpoint gets isn't chosen here: `pick` is asked at
+/// one. A gateway with one external address hands in that one alone. Addresses are numbers whose most
+/// significant byte is the first octet.
 #[derive(Drop)]
 pub struct Ports {
     external: Vec<u32>,
@@ -47,7 +55,7 @@ impl Ports {
         }
     }
 
-    /// Whether the port of this protocol is taken at the address.
+    /// Whether the port of this protocol is taken at the address, which may be any.
     pub fn is_taken(&self, proto: Proto, addr: u32, port: u16) -> bool
         ensures { IsTrue result ↔ IsTaken self.now proto addr port }
     {
@@ -56,7 +64,8 @@ impl Ports {
 
     /// The free port that the fewest steps of two upwards reach from `port`, in its class (1..1023 or
     /// 1024..65535) and parity, from the greatest going on at the least; none where all of them are
-    /// taken (RFC 4787, REQ-3 and REQ-4).
+    /// taken (RFC 4787, REQ-3, REQ-3a and REQ-4). `addr` is one of the external addresses, and `port`
+    /// isn't 0.
     pub fn pick(&self, proto: Proto, addr: u32, port: u16) -> Option<u16>
         requires external { Contains self.now.external addr }
         requires not_zero { 0 < port }
@@ -70,7 +79,7 @@ impl Ports {
         self.nearest_free(proto, addr, port)
     }
 
-    /// Takes a free port.
+    /// Takes a free port of this protocol, not 0, at one of the external addresses.
     ///
     /// # Errors
     ///
@@ -91,7 +100,7 @@ impl Ports {
         Ok(())
     }
 
-    /// Gives a port back.
+    /// Gives a taken port of this protocol back. This takes no memory.
     pub fn free(&mut self, proto: Proto, addr: u32, port: u16)
         requires external { Contains self.old.external addr }
         requires not_zero { 0 < port }
@@ -110,7 +119,7 @@ impl Ports {
     ///
     /// # Errors
     ///
-    /// `AllocError` where memory is refused.
+    /// `AllocError` where memory is refused. The same ports are taken then, and no room is lost.
     pub fn reserve(&mut self) -> Result<(), AllocError>
         ensures ok { OnOk result (2 ≤ self.new.room) }
         ensures same { SameTaken self.old self.new }

@@ -1,4 +1,4 @@
-//! Chains.
+//! Reads chains: comments, a base with its policy, and then rules.
 
 ghost use Rattle.std.specs.Prelude.{◌≡◌, ◌+ℤ◌, ◌≤◌, ◌≤ℤ◌, ℤ, pos, neg_ℤ, false, IfOk, IfErr, codes};
 ghost use Rattle.rulesyntax.specs.Names.{priority_value};
@@ -130,6 +130,7 @@ fn with_policy(base: Option<Base>, policy: Policy) -> Option<Base>
 pub enum Stage {
     /// Comments and a base.
     Start,
+    /// The policy of the base.
     Policy,
     /// Nothing.
     Rules,
@@ -233,7 +234,7 @@ impl Body for ChainBody {
     }
 }
 
-/// What stands behind `chain`.
+/// The chain of which the word `chain`, on this line, is read already.
 #[tactic(auto, unfolding(crate::specs::Reading::chain_behind))]
 pub fn chain<'a>(
     source: &Source,

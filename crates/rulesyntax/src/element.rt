@@ -93,6 +93,7 @@ fn value<'a>(
     }
 }
 
+/// The element that must come next.
 #[tactic(auto, unfolding(crate::specs::Reading::element_at))]
 pub fn element<'a>(
     source: &Source,
@@ -110,6 +111,7 @@ pub fn element<'a>(
 pub trait Entry: Sized {
     ghost reads: { Reader Self };
 
+    /// The one that must come next.
     fn read<'a>(
         source: &Source,
         braces: bool,
@@ -172,7 +174,7 @@ fn comma(braces: bool, tokens: &[Token]) -> (bool, &[Token])
     }
 }
 
-/// One entry at least.
+/// The entries that must come next, one at least.
 #[tactic(auto, unfolding(crate::specs::Reading::entries_from))]
 pub fn entries<'a, E: Entry + Drop>(
     source: &Source,

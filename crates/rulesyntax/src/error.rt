@@ -1,3 +1,4 @@
+//! Where and why reading stops.
 ghost use Rattle.std.specs.Prelude.{◌≡◌};
 ghost use Rattle.rulesyntax.specs.Reading.{IsSyntax};
 ghost use Rattle.rulesyntax.specs.declared.error.ReadError.TheVariants.{Memory};
@@ -14,13 +15,17 @@ pub struct Spot {
     pub is_family: bool,
 }
 
+/// Why tokens aren't read.
 #[derive(Clone, Copy, Drop)]
 pub enum ReadError {
+    /// A growth was refused.
     Memory,
+    /// They spell nothing that may stand there.
     Syntax(Spot),
 }
 
 impl ReadError {
+    /// That the first of these last tokens of a text can't stand where it does.
     pub fn at(tokens: &[Token]) -> ReadError
         ensures { IsSyntax result }
     {

@@ -1,3 +1,7 @@
+//! Why a text is refused, and in which line.
+//!
+//! The syntax gives the kinds up to `Family`, and `NoMemory`; the others are for whoever tests what is
+//! spelled.
 ghost use Rattle.std.specs.Prelude.{◌≡◌};
 ghost use Rattle.rulesyntax.specs.Reasons.{reason_name};
 ghost use Rattle.rulesyntax.specs.declared.fault.Kind.TheVariants.{NoMemory};
@@ -9,7 +13,7 @@ use std::fmt;
 /// Why a text isn't taken as the rules, in the order in which the reasons count; and lack of memory.
 #[derive(Clone, Copy, Debug, PartialEq, Eq, Drop)]
 pub enum Kind {
-    /// More than 262,144 bytes.
+    /// More bytes than `GREATEST_LENGTH` of `ruleset`.
     TooLong,
     /// No ruleset is spelled, and neither `Unsupported` nor `Family`.
     Syntax,
@@ -44,7 +48,7 @@ pub enum Kind {
 }
 
 impl Kind {
-    /// The name that reports give it.
+    /// The name that reports give it, in small letters, with `-` between words.
     pub fn name(self) -> &'static str
         ensures { result.now ≡ reason_name self }
     {
@@ -83,12 +87,14 @@ impl fmt::Display for Kind {
 #[derive(Debug, Drop, thiserror::Error)]
 #[error("line {line}: {kind}")]
 pub struct LoadFault {
+    /// The reason, or lack of memory.
     pub kind: Kind,
+    /// It has no meaning where memory was lacking.
     pub line: Line,
 }
 
 impl LoadFault {
-    /// A growth was refused. The line has no meaning.
+    /// A growth was refused.
     pub fn no_memory() -> LoadFault
         ensures { result ≡ record { kind = NoMemory; line = tt } }
     {

@@ -6,13 +6,14 @@ ghost use Rattle.rulesyntax.specs.Words.{lookup, flag_words, verdict_words, nat_
 
 use crate::tree::{ChainType, Family, Hook, Policy};
 
+/// Whether the word has these bytes.
 pub fn is(word: &[u8], expected: &[u8]) -> bool
     ensures { result ≡ bytes_eq word.now expected.now }
 {
     word == expected
 }
 
-/// One of some words.
+/// One of the words that have a meaning at some place.
 pub trait Keyword: Copy {
     ghost words: { List (List ℕ × Self) };
 

@@ -23,10 +23,14 @@ pub enum Shape {
     Single,
 }
 
+/// Which bytes go on with a piece.
 #[derive(Clone, Copy, Drop)]
 pub enum Class {
+    /// In a name.
     Word,
+    /// In a number or an address, right or wrong.
     Numeral,
+    /// In a line.
     Line,
     /// Between quotes.
     Inner,
@@ -198,7 +202,7 @@ fn last_octet(bytes: &[u8]) -> Option<u64>
     }
 }
 
-/// The IPv4 address that the bytes are, its first byte the highest.
+/// The IPv4 address that the bytes are; its most significant byte is the first octet.
 #[tactic(auto, unfolding(crate::specs::Tokens::address))]
 fn address(bytes: &[u8]) -> Option<u32>
     ensures { result ≡ address bytes.now }
@@ -372,7 +376,8 @@ fn add(tokens: &mut Items<Token>, token: Option<Token>) -> Result<(), AllocError
     Ok(())
 }
 
-/// The tokens of a text. The line of each is put into `lines`, and that of the end behind them.
+/// The tokens of a text. The line of each is put into `lines`, and that of the end behind them. It fails only
+/// where a growth was refused.
 pub fn tokens(
     alloc: Global,
     text: &[u8],

@@ -1,3 +1,4 @@
+//! Lines of a text, for reports.
 use std::fmt;
 use std::marker::Model;
 

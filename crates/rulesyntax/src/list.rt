@@ -60,6 +60,7 @@ fn stands_apart(braced: bool, after: &[Token]) -> bool
     braced || closes(after)
 }
 
+/// All items up to a closing brace or the end of the tokens, put into `start`.
 #[tactic(auto, unfolding(crate::specs::Reading::list_from))]
 pub fn list_of<'a, B: Body + Drop>(
     source: &Source,
@@ -85,7 +86,7 @@ pub fn list_of<'a, B: Body + Drop>(
     Err(stop(false, rest))
 }
 
-/// The items between braces.
+/// The items between braces, put into `start`, and the tokens behind.
 #[tactic(auto, unfolding(crate::specs::Reading::block_at))]
 pub fn block<'a, B: Body + Drop>(
     source: &Source,

@@ -1,4 +1,5 @@
-//! Single tokens. Between the braces of elements NEWLINEs are skipped.
+//! Single tokens. Where `braces` is set they stand between the braces of elements, and NEWLINEs are skipped.
+//! Where something must come next and doesn't, the error says where that is.
 
 ghost use Rattle.std.specs.Prelude.{◌≡◌, ◌==◌, false};
 ghost use Rattle.rulesyntax.specs.Reading.{Gives, Goes, Finds, Eats, Nexts, IsSyntax, seen, skip, next_at, number_at, address_at, name_at, quoted_at, word_at, symbol_at, keyword_at, close_at, is_close, rank};
@@ -57,6 +58,7 @@ pub fn next(braces: bool, tokens: &[Token]) -> Option<(&Token, &[Token])>
     }
 }
 
+/// The number that must come next.
 #[tactic(auto, unfolding(crate::specs::Reading::number_at, crate::specs::Reading::number_of))]
 pub fn number(braces: bool, tokens: &[Token]) -> Result<(u64, &[Token]), ReadError>
     ensures { Gives braces result (number_at (seen braces tokens.now)) }
@@ -67,6 +69,7 @@ pub fn number(braces: bool, tokens: &[Token]) -> Result<(u64, &[Token]), ReadErr
     }
 }
 
+/// The address that must come next; its most significant byte is the first octet.
 #[tactic(auto, unfolding(crate::specs::Reading::address_at, crate::specs::Reading::address_of))]
 pub fn address(braces: bool, tokens: &[Token]) -> Result<(u32, &[Token]), ReadError>
     ensures { Gives braces result (address_at (seen braces tokens.now)) }
@@ -77,6 +80,7 @@ pub fn address(braces: bool, tokens: &[Token]) -> Result<(u32, &[Token]), ReadEr
     }
 }
 
+/// A copy of the name that must come next.
 #[tactic(auto, unfolding(crate::specs::Reading::name_at, crate::specs::Reading::name_of))]
 pub fn name<'a>(
     source: &Source,
@@ -93,6 +97,7 @@ pub fn name<'a>(
     }
 }
 
+/// What stands behind the quoted text that must come next.
 #[tactic(auto, unfolding(crate::specs::Reading::quoted_at, crate::specs::Reading::quoted_of))]
 pub fn quoted(tokens: &[Token]) -> Result<&[Token], ReadError>
     ensures { Goes false result (quoted_at tokens.now) }
@@ -120,6 +125,7 @@ pub fn eat<'a>(tokens: &'a [Token], word: &[u8]) -> Option<&'a [Token]>
     }
 }
 
+/// What stands behind the word that must come next.
 pub fn word<'a>(tokens: &'a [Token], word: &[u8]) -> Result<&'a [Token], ReadError>
     ensures { Goes false result (word_at word.now tokens.now) }
 {
@@ -153,6 +159,7 @@ pub fn eat_symbol(braces: bool, tokens: &[Token], symbol: Symbol) -> Option<&[To
     }
 }
 
+/// What stands behind the symbol that must come next. It isn't for `}`.
 pub fn symbol(braces: bool, tokens: &[Token], symbol: Symbol) -> Result<&[Token], ReadError>
     ensures { Goes braces result (symbol_at symbol (seen braces tokens.now)) }
 {
@@ -176,6 +183,7 @@ pub fn choice<K: Keyword>(braces: bool, tokens: &[Token]) -> Option<(K, &[Token]
     }
 }
 
+/// The meaning of the word that must come next.
 pub fn keyword<K: Keyword>(braces: bool, tokens: &[Token]) -> Result<(K, &[Token]), ReadError>
     ensures { Gives braces result (keyword_at K.words (seen braces tokens.now)) }
 {
@@ -216,6 +224,7 @@ fn is_close_here(tokens: &[Token]) -> bool
     }
 }
 
+/// Whether a closing brace comes next.
 pub fn is_close(braces: bool, tokens: &[Token]) -> bool
     ensures { result ≡ is_close (seen braces tokens.now) }
 {

@@ -1,4 +1,4 @@
-//! Rules: matches, verdicts, translations.
+//! Reads rules: matches and counters, an end, a comment.
 
 ghost use Rattle.std.specs.Prelude.{◌≡◌, ◌&&◌, not, false, true, length, suc, nat_le, IfOk, IfErr};
 ghost use Rattle.rulesyntax.specs.declared.keyword.HeadWord.TheVariants as head_word;
@@ -620,7 +620,7 @@ fn is_said(parts: &Parts, end: &Option<End>) -> bool
     }
 }
 
-/// A match, a counter or an end at least.
+/// The rule that must come next, with a match, a counter or an end at least.
 #[tactic(auto, unfolding(crate::specs::Reading::rule_at))]
 pub fn rule<'a>(source: &Source, tokens: &'a [Token]) -> Result<(Rule, &'a [Token]), ReadError>
     ensures { Gives false result (rule_at tokens.now) }

@@ -1,4 +1,4 @@
-//! Texts.
+//! From a text to the ruleset that it spells.
 
 ghost use Rattle.std.specs.Prelude.{◌≡◌, ◌↔◌, ◌<◌, ◌≤◌, ℕ, List, length, Err, IfOk, IfErr};
 ghost use Rattle.rulesyntax.specs.Reading.{Answers};
@@ -18,7 +18,7 @@ use crate::token::Token;
 use crate::tree::Spelled;
 use std::alloc::Global;
 
-/// A text may have as many bytes.
+/// The most bytes of a text.
 pub const GREATEST_LENGTH: usize = 262_144;
 
 fn kind_at(tokens: &[Token], spot: Spot) -> Kind
@@ -59,8 +59,11 @@ fn read(source: &Source, tokens: &[Token]) -> Result<Spelled, LoadFault>
 
 /// The ruleset that a text spells.
 ///
-/// The line of a fault is that of the first token that can't stand where it does, or where the text
-/// ends too early the number of its newlines plus one; of `NoMemory` it has no meaning.
+/// # Errors
+///
+/// `TooLong` exactly for more than `GREATEST_LENGTH` bytes, with line 1. `Syntax`, `Unsupported` or `Family`
+/// where no ruleset is spelled, with the line of the first token that can't stand where it does; where the text
+/// ends too early, that is the number of its newlines plus one. `NoMemory` only where a growth was refused.
 pub fn parse(alloc: Global, text: &[u8]) -> Result<Spelled, LoadFault>
     // What is answered is spelled.
     ensures found { IfOk result (λ rules. IsSpelledBy rules text.now) }

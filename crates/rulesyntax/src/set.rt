@@ -1,4 +1,4 @@
-//! Sets.
+//! Reads sets: lists of lines between braces.
 
 ghost use Rattle.std.specs.Prelude.{◌≡◌, false, codes};
 ghost use Rattle.rulesyntax.specs.Reading.{Gives, type_behind, elements_behind, line_behind, set_step, no_lines, set_behind};
@@ -107,7 +107,7 @@ impl Body for SetBody {
     }
 }
 
-/// What stands behind `set`.
+/// The set of which the word `set`, on this line, is read already.
 #[tactic(auto, unfolding(crate::specs::Reading::set_behind))]
 pub fn set<'a>(
     source: &Source,

@@ -1,4 +1,4 @@
-//! Tables, and texts.
+//! Reads tables, and texts, which are lists of them.
 
 ghost use Rattle.std.specs.Prelude.{◌≡◌, false, codes};
 ghost use Rattle.rulesyntax.specs.declared.keyword.StatementWord.TheVariants as statement_word;

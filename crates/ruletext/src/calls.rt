@@ -22,7 +22,7 @@ pub fn target_of(verdict: &Verdict) -> Option<&Target>
     }
 }
 
-/// The place that a verdict leads to.
+/// The place of the chain that a verdict jumps or goes to, where the names have it.
 pub fn place_led_to(names: &Names, verdict: &Verdict) -> Option<usize>
     ensures { (b : ℕ) → (result ≡ Some b) ↔ VerdictLeads names.now b verdict.now }
 {

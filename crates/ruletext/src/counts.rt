@@ -162,7 +162,7 @@ fn is_too_much(tables: &[Table]) -> bool
     chains_in(tables) > CHAINS || rules_in(tables) > RULES || elements_in(tables) > ELEMENTS
 }
 
-/// The first chain, rule or element that is one too many.
+/// The line of the first chain, rule or element that is one too many, where there is one.
 pub fn excess(alloc: Global, tables: &[Table]) -> Result<Option<Line>, AllocError>
     ensures { IfOk result (λ line. is_some line ≡ is_much tables.now) }
 {

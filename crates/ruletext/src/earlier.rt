@@ -4,7 +4,7 @@ ghost use Rattle.std.specs.Prelude.{◌≡◌, ◌||◌, is_some};
 
 use rulesyntax::line::Line;
 
-/// The lesser of the lines that are there.
+/// The lesser of the lines that are there; where they are equal it is the first.
 pub fn earlier(one: Option<Line>, other: Option<Line>) -> Option<Line>
     ensures { is_some result ≡ (is_some one || is_some other) }
 {

@@ -83,7 +83,7 @@ fn behind(lines: &[usize], most: usize) -> usize {
     }
 }
 
-/// The line of the first chain, rule or element that is one too many, where there is one.
+/// The line of the first chain, rule or element that is one too many; without meaning where there is none.
 pub fn line_of_excess(alloc: Global, tables: &[Table]) -> Result<Line, AllocError> {
     let mut counted = Counted {
         chains: Vec::new(alloc),

@@ -187,7 +187,11 @@ fn come_to_some(
     Ok(earlier(destination, earlier(source, masquerade)))
 }
 
-/// The first translation that a base chain of a table comes to and forbids.
+/// The line of the first translation that a base chain of a table comes to and forbids, where there is one.
+///
+/// # Errors
+///
+/// `AllocError` where a growth was refused.
 pub fn forbidden_translation(
     alloc: Global,
     why: Wrong,
@@ -240,7 +244,11 @@ fn wrong_hook_of(alloc: Global, table: &Table) -> Result<Option<Line>, AllocErro
     wrong_hook(alloc, table.chains.as_slice())
 }
 
-/// The first chain or translation at a hook where it can't be, in the first table that has one.
+/// The line of the first chain or translation at a hook where it can't be, in the first table that has one.
+///
+/// # Errors
+///
+/// `AllocError` where a growth was refused.
 pub fn wrong_hook_in(alloc: Global, tables: &[Table]) -> Result<Option<Line>, AllocError>
     requires distinct { AreDistinct tables.now }
     requires flat { AreShallow tables.now }

@@ -1,6 +1,7 @@
 //! Rulesets that may run: which texts load under a gateway's bounds, and why the others don't.
 //!
-//! `read` answers the rules of a text, or the least kind of fault that holds of it and the line.
+//! `read` answers the rules of a text, or the least kind of fault that holds of it and the line. Where a function
+//! answers an `AllocError`, a growth was refused, and nothing else is wrong.
 //!
 //! - `reading`, `load`, `ruleset`: from a text, and from what it spells, to rules that may run.
 //! - `refusal`: the kinds in the order in which they count. One room a kind: `unknown`, `duplicate`, `loops`,

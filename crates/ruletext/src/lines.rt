@@ -89,7 +89,7 @@ fn first_in(names: &Names, wanted: &Wanted, chains: &[Chain]) -> Line {
     Line::new(1)
 }
 
-/// The line of the first jump or goto that stands on a loop, where there is one.
+/// The line of the first jump or goto that stands on a loop; 1 where there is none.
 pub fn line_of_loop(alloc: Global, chains: &[Chain]) -> Result<Line, AllocError>
     requires { has_twice (chain_names chains.now) ≡ false }
 {
@@ -142,7 +142,7 @@ fn steps_behind(alloc: Global, rows: &[Items<usize>]) -> Result<Vec<usize>, Allo
     Ok(numbers)
 }
 
-/// The line of the first jump or goto on a path of more than 16, where there is one.
+/// The line of the first jump or goto on a path of more than 16; 1 where there is none.
 pub fn line_of_depth(alloc: Global, chains: &[Chain]) -> Result<Line, AllocError>
     requires { has_twice (chain_names chains.now) ≡ false }
 {

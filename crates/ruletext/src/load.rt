@@ -11,8 +11,12 @@ use rulesyntax::fault::LoadFault;
 use rulesyntax::tree::Spelled;
 use std::alloc::Global;
 
-/// The rules that are spelled, where no kind of fault holds of them; otherwise the least kind that does.
-/// `NoMemory` comes only where a growth was refused.
+/// The rules that are spelled, where no kind of fault holds of them.
+///
+/// # Errors
+///
+/// The least kind of fault that holds, from `UnknownChain` to `Overlap`, and the line of the token or statement at
+/// fault. `NoMemory` comes only where a growth was refused. What is spelled is dropped then.
 pub fn load(alloc: Global, spelled: Spelled, bounds: &Bounds) -> Result<Ruleset, LoadFault>
     ensures same { IfOk result (λ rules. rules ≡ spelled) }
     ensures may_run { IfOk result (λ rules. MayRun bounds.now rules) }

@@ -13,7 +13,7 @@ use rulesyntax::line::Line;
 use rulesyntax::tree::{Chain, Table};
 use std::alloc::{AllocError, Global};
 
-/// Some chain of a table reaches itself.
+/// Whether some chain of a table reaches itself.
 pub fn is_looped(alloc: Global, chains: &[Chain]) -> Result<bool, AllocError>
     requires { has_twice (chain_names chains.now) ≡ false }
     ensures { IfOk result (λ yes. IsTrue yes ↔ IsLooped chains.now) }
@@ -22,7 +22,7 @@ pub fn is_looped(alloc: Global, chains: &[Chain]) -> Result<bool, AllocError>
     has_loop(alloc, rows.as_slice())
 }
 
-/// Some path of a table has more than 16 jumps and gotos.
+/// Whether some path of a table has more than 16 jumps and gotos.
 pub fn has_long_path(alloc: Global, chains: &[Chain]) -> Result<bool, AllocError>
     requires { has_twice (chain_names chains.now) ≡ false }
     ensures { IfOk result (λ yes. IsTrue yes ↔ IsDeep chains.now) }
@@ -59,7 +59,7 @@ fn deep_table(alloc: Global, tables: &[Table]) -> Result<Option<usize>, AllocErr
     Ok(None)
 }
 
-/// The first jump or goto that stands on a loop of chains.
+/// The line of the first jump or goto that stands on a loop of chains, in the first table that has one.
 pub fn looped(alloc: Global, tables: &[Table]) -> Result<Option<Line>, AllocError>
     requires { AreDistinct tables.now }
     ensures { IfOk result (λ line. IsSome line ↔ OfSome (λ table. IsLooped table.chains) tables.now) }
@@ -71,7 +71,7 @@ pub fn looped(alloc: Global, tables: &[Table]) -> Result<Option<Line>, AllocErro
     Ok(Some(line))
 }
 
-/// The first jump or goto on a path of more than 16.
+/// The line of the first jump or goto on a path of more than 16, in the first table that has one.
 pub fn deep(alloc: Global, tables: &[Table]) -> Result<Option<Line>, AllocError>
     requires { AreDistinct tables.now }
     ensures { IfOk result (λ line. IsSome line ↔ OfSome (λ table. IsDeep table.chains) tables.now) }

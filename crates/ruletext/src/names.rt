@@ -29,6 +29,7 @@ impl Model for Names {
 }
 
 impl Names {
+    /// No names.
     pub fn new(alloc: Global) -> Names
         ensures { result ≡ [] }
     {
@@ -38,7 +39,7 @@ impl Names {
         }
     }
 
-    /// Puts a name last, unless it is there; answers whether it is new.
+    /// Puts a copy of a name last, unless it is there; answers whether it is new.
     pub fn insert(&mut self, name: &[u8]) -> Result<bool, AllocError>
         ensures is_new { IfOk result (λ is_new. is_new ≡ not (list_any (bytes_eq name.now) self.old)) }
         ensures among { OnOk result ((other : List ℕ) → is_among self.new other ≡ (is_among self.old other || bytes_eq other name.now)) }
@@ -56,7 +57,7 @@ impl Names {
         let _names = &self.names;
     }
 
-    /// The place of a name.
+    /// The place of a name, from 0.
     pub fn place_of(&self, name: &[u8]) -> Option<usize>
         ensures found { IfSome result (λ place. slice_get self.now place ≡ Some name.now) }
         ensures only { IfSome result (λ place. (other : ℕ) → slice_get self.now other ≡ Some name.now → other ≡ place) }

@@ -147,7 +147,7 @@ fn overlap_in_table(alloc: Global, table: &Table) -> Result<Option<Line>, AllocE
     overlap_in_chains(alloc, table.chains.as_slice())
 }
 
-/// The first key of a verdict map that shares a value with an earlier one.
+/// The line of the first key of a verdict map that shares a value with an earlier one.
 pub fn overlap(alloc: Global, tables: &[Table]) -> Result<Option<Line>, AllocError>
     requires { AreFewAmong tables.now }
     ensures { IfOk result (λ line. IsSome line ↔ OfSome TableOverlaps tables.now) }

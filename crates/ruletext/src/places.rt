@@ -70,7 +70,8 @@ fn misled_chains(bounds: &Bounds, what: Translation, chains: &[Chain]) -> Option
     None
 }
 
-/// The first translation of this sort to an address where it can't lead, wherever it stands.
+/// The line of the first address of a translation of this sort where it can't lead, wherever it stands: a source
+/// that isn't the external address, or a destination that isn't inside.
 pub fn misled(bounds: &Bounds, what: Translation, tables: &[Table]) -> Option<Line>
     ensures { is_some result ≡ some_end_in (is_misled bounds.now what) tables.now }
 {

@@ -27,7 +27,7 @@ fn mark_row_if(row: &[usize], marks: &mut [bool], wanted: bool)
     }
 }
 
-/// One round: marks what a marked place leads to.
+/// One round: marks what the marked places lead to, and perhaps more of what they reach.
 pub fn spread(rows: &[Items<usize>], marks: &mut [bool])
     requires within { AreWithin rows.now }
     requires same { length marks.old ≡ length rows.now }
@@ -41,7 +41,7 @@ pub fn spread(rows: &[Items<usize>], marks: &mut [bool])
     }
 }
 
-/// Marks all that the marked places reach.
+/// Marks all that the marked places reach, where no path is longer than 16 steps.
 pub fn mark_reached(rows: &[Items<usize>], marks: &mut [bool])
     requires within { AreWithin rows.now }
     requires same { length marks.old ≡ length rows.now }

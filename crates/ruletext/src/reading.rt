@@ -12,11 +12,13 @@ use rulesyntax::fault::LoadFault;
 use rulesyntax::parse;
 use std::alloc::Global;
 
-/// The rules of a text, where it loads under these bounds; otherwise why it doesn't, and the line of the token or
-/// statement at fault.
+/// The rules of a text, where it loads under these bounds.
 ///
-/// `TooLong` is answered for more than 262,144 bytes; `Syntax`, `Unsupported` or `Family` where no ruleset is
-/// spelled; of the other kinds the least that holds. `NoMemory` comes only where a growth was refused.
+/// # Errors
+///
+/// Why it doesn't load, and the line of the token or statement at fault: `TooLong` for more bytes than
+/// `GREATEST_LENGTH` of `rulesyntax`; `Syntax`, `Unsupported` or `Family` where no ruleset is spelled; of the other
+/// kinds the least that holds, in their order. `NoMemory` comes only where a growth was refused.
 pub fn read(alloc: Global, text: &[u8], bounds: &Bounds) -> Result<Ruleset, LoadFault>
     ensures loads { IfOk result (λ rules. Loads bounds.now text.now rules) }
     ensures only { (rules : Spelled) → Loads bounds.now text.now rules → IsOkOrNoMemory rules result }

@@ -102,6 +102,10 @@ fn names(alloc: Global, bounds: &Bounds, tables: &[Table]) -> Result<Option<Load
 
 /// The least kind of fault that holds of rules, from `UnknownChain` to `Overlap`, and the line of the token or
 /// statement at fault; nothing where none holds.
+///
+/// # Errors
+///
+/// `AllocError` where a growth was refused.
 pub fn refusal_of(
     alloc: Global,
     spelled: &Spelled,

@@ -39,14 +39,15 @@ impl Ruleset {
         &self.text
     }
 
-    /// What may be relied on.
+    /// What every ruleset keeps: none of the faults that a text has under whatever bounds. It does nothing but
+    /// carry this.
     pub fn is_runnable(&self)
         ensures { IsRunnable self.now }
     {
         let _text = &self.text;
     }
 
-    /// The tables by themselves.
+    /// The tables by themselves, still without those faults.
     pub fn into_text(self) -> Spelled
         ensures same { result ≡ self }
         ensures runnable { IsRunnable result }

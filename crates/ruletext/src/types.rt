@@ -52,7 +52,7 @@ fn stranger_in(class: Class, lists: &[SetElements]) -> Option<Line>
     None
 }
 
-/// The class that the first type line of a set gives.
+/// The class that the first type line of a set gives, where it names one.
 pub fn class_in(types: &[SetType]) -> Option<Class>
     ensures { result ≡ class_in_types types.now }
 {
@@ -256,7 +256,8 @@ fn wrong_in_table(alloc: Global, table: &Table) -> Result<Option<Line>, AllocErr
     wrong_in(alloc, table.sets.as_slice(), table.chains.as_slice())
 }
 
-/// A set or a rule with a value of a wrong type, or a translation that a filter chain comes to.
+/// The line of the first value or set of a wrong type, or translation that a filter chain comes to, in the first
+/// table that has one.
 pub fn wrong_type(alloc: Global, tables: &[Table]) -> Result<Option<Line>, AllocError>
     requires sets { HaveDistinctSets tables.now }
     requires chains { AreDistinct tables.now }

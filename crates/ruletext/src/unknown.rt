@@ -100,7 +100,7 @@ fn in_table(alloc: Global, table: &Table) -> Result<Option<Line>, AllocError>
     Ok(lost_chains(&names, table.chains.as_slice()))
 }
 
-/// A jump or goto that names no chain without a hook of its own table.
+/// The line of the first jump or goto that names no chain without a hook of its own table.
 pub fn unknown_chain(alloc: Global, tables: &[Table]) -> Result<Option<Line>, AllocError>
     ensures { IfOk result (λ line. is_some line ≡ list_any has_unknown_chain_in tables.now) }
 {
@@ -175,7 +175,7 @@ fn sets_in_table(alloc: Global, table: &Table) -> Result<Option<Line>, AllocErro
     Ok(setless_chains(&names, table.chains.as_slice()))
 }
 
-/// An `@` that names no set of its own table.
+/// The line of the first `@` that names no set of its own table.
 pub fn unknown_set(alloc: Global, tables: &[Table]) -> Result<Option<Line>, AllocError>
     ensures { IfOk result (λ line. is_some line ≡ list_any has_unknown_set_in tables.now) }
 {

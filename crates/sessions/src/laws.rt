@@ -1,3 +1,4 @@
+//! What follows from the definitions: each function is proved to meet its clause.
 ghost use Rattle.sessions.specs.Laws.{ListingIsTheSet, MappingsAreOneToOne, RestartedIsNew};
 
 /// The sessions of a table, as a set, have one list that rises strictly: the one that `list` gives.

@@ -1,3 +1,4 @@
+//! What the packets of a session have shown, and how long it lives.
 ghost use Rattle.std.specs.Prelude.{◌≡◌, ◌↔◌, ◌≤◌, IsTrue, not};
 ghost use Rattle.sessions.specs.Life.{IsAlive, IsSeen, IsTimeout, ack_bit, bit_if, fin_bit, has as has_bit, is_acknowledged, is_closing, is_new as is_new_of, is_syn_alone as is_syn_alone_of, phase_of, reply_bit, reset_bit, restarts as restarts_of, same_side, shown as shown_of, shown_flags, timeout_in, timeout_of};
 
@@ -20,7 +21,7 @@ const REPLY: u8 = 1;
 const RESET: u8 = 32;
 
 impl Session {
-    /// How far the session has come; that of a UDP session means nothing.
+    /// How far the session has come, by what it has seen; that of a UDP session means nothing.
     pub fn phase(&self) -> Phase
         ensures { result ≡ phase_of self.now.seen }
     {
@@ -33,8 +34,8 @@ impl Session {
         Phase::Partial
     }
 
-    /// How many seconds may pass without a packet: 300 for UDP (RFC 4787 REQ-5), 7440 for TCP that is
-    /// established and 240 for TCP that isn't yet, or is closing (RFC 5382 REQ-5).
+    /// How many seconds may pass without a packet: 300 for UDP (RFC 4787, REQ-5), 7440 for TCP that is
+    /// established and 240 for TCP that isn't yet, or is closing (RFC 5382, REQ-5).
     pub fn timeout(&self) -> u64
         ensures value { result ≡ timeout_of self.now }
         ensures known { IsTimeout result }
@@ -49,7 +50,8 @@ impl Session {
         }
     }
 
-    /// Whether the session is alive at this second; before its last packet it is.
+    /// Whether the session is alive at this second: its last packet lies less than `timeout` seconds back,
+    /// or ahead.
     pub fn is_alive(&self, now: u64) -> bool
         ensures { IsTrue result ↔ IsAlive now self.now }
     {
@@ -88,7 +90,7 @@ pub fn is_new(session: Option<Session>, sender: Opener) -> bool
     }
 }
 
-/// Whether SYN is set, and ACK, FIN and RST are clear.
+/// Whether SYN is set, and ACK, FIN and RST are clear, as where a connection begins (RFC 9293, section 3.5).
 pub fn is_syn_alone(flags: Flags) -> bool
     ensures { result ≡ is_syn_alone_of flags }
 {

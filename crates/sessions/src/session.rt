@@ -1,3 +1,4 @@
+//! Sessions, and how two of them compare.
 ghost use Rattle.std.specs.Prelude.{◌≡◌, ◌≢◌, ◌⊎◌, ◌↔◌, IsTrue};
 ghost use Rattle.sessions.specs.Listing.{key, number, order};
 ghost use Rattle.sessions.specs.Table.{Clash, HasInside, HasOutside};
@@ -9,7 +10,9 @@ use std::cmp::Ordering;
 /// A side of the gateway, as the one that began a session.
 #[derive(Clone, Copy, Debug, PartialEq, Eq, Drop)]
 pub enum Opener {
+    /// The endpoint behind the gateway.
     Inside,
+    /// The other one.
     Remote,
 }
 
@@ -18,33 +21,39 @@ pub enum Opener {
 /// It is translated where `outside` differs from `inside`.
 #[derive(Clone, Copy, Debug, PartialEq, Eq, Drop)]
 pub struct Session {
+    /// TCP and UDP have sessions of their own.
     pub proto: Proto,
     /// The endpoint behind the gateway.
     pub inside: Endpoint,
     /// What `inside` is called on the other side.
     pub outside: Endpoint,
+    /// The endpoint that it speaks with.
     pub remote: Endpoint,
+    /// Who began it, or last began it anew.
     pub opener: Opener,
     /// What packets have shown since the session began or was begun anew, as a sum of bits: 1 a
     /// reply, 2 an ACK from inside, 4 an ACK from the remote side, 8 a FIN from inside, 16 a FIN
     /// from the remote side, 32 a RST. UDP has bit 1 alone.
     pub seen: u8,
-    /// The second of the last packet that passed.
+    /// When the last packet passed, in seconds of the clock that events bring.
     pub last: u64,
 }
 
 /// What happens to a session.
 #[derive(Clone, Copy, Debug, PartialEq, Eq, Drop)]
 pub enum Change {
+    /// It begins.
     Begin(Session),
     /// A packet passed, which showed these bits.
     Seen(Slot, u8),
     /// A SYN alone from this side begins a closing session anew.
     Restart(Slot, Opener),
+    /// It ends.
     End(Slot),
 }
 
-/// Whether the two sessions can't both be held.
+/// Whether the two sessions can't both be held: they are of one protocol, and share the remote and one more
+/// endpoint, or are both translated and share just one of inside and outside endpoint.
 pub fn clash(new: &Session, held: &Session) -> bool
     ensures { IsTrue result ↔ Clash new.now held.now }
 {
@@ -60,12 +69,14 @@ pub fn clash(new: &Session, held: &Session) -> bool
     both_translated && same_inside != same_outside
 }
 
+/// Whether the session has this protocol, inside and remote endpoint.
 pub fn has_inside(session: &Session, proto: Proto, inside: Endpoint, remote: Endpoint) -> bool
     ensures { IsTrue result ↔ HasInside proto inside remote session.now }
 {
     session.proto == proto && session.inside == inside && session.remote == remote
 }
 
+/// Whether the session has this protocol, outside and remote endpoint.
 pub fn has_outside(session: &Session, proto: Proto, outside: Endpoint, remote: Endpoint) -> bool
     ensures { IsTrue result ↔ HasOutside proto outside remote session.now }
 {

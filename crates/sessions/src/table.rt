@@ -1,3 +1,4 @@
+//! The table of the sessions that live.
 ghost use Rattle.std.specs.Prelude.{◌≡◌, ◌≢◌, ◌⊎◌, ◌↔◌, ◌+◌, ◌^◌, ◌<◌, ◌≤◌, ℕ, IsTrue, Some, None, Err, IfOk, IfErr, OnOk, OnErr, IsOk, IfSome, IfNone, IsSome, IsSomeAnd, length, count_by, is_some, slice_index_or, vec_capacity};
 ghost use Rattle.std.specs.Option.{option_map};
 ghost use Rattle.std.specs.List.Sorted.{IsPermutation, IsSorted};
@@ -11,7 +12,8 @@ use packet::endpoint::{Endpoint, Proto};
 use std::alloc::{AllocError, Global};
 use std::marker::Model;
 
-/// The name of a session in a table, from its beginning to its end.
+/// The name of a session in a table, from its beginning to its end. After that the table may give it to
+/// another session.
 #[derive(Clone, Copy, Debug, PartialEq, Eq, Drop)]
 pub struct Slot(usize);
 
@@ -26,7 +28,7 @@ impl Model for Slot {
 }
 
 impl Slot {
-    /// The number of the slot.
+    /// The number of the slot, from 0.
     pub fn number(self) -> usize
         ensures { result ≡ self }
     {
@@ -34,7 +36,7 @@ impl Slot {
     }
 }
 
-/// A session can't be taken into a table.
+/// Why a session can't be taken into a table. The variants stand in the order of the tests.
 #[derive(Clone, Copy, Debug, PartialEq, Eq, Drop, thiserror::Error)]
 pub enum AddFault {
     #[error("the session would share a flow with another, or break a mapping")]
@@ -70,7 +72,7 @@ impl Model for Table {
 }
 
 impl Table {
-    /// A table with no session.
+    /// A table with no session. This takes no memory.
     pub fn new(alloc: Global) -> Table
         ensures empty { (slot : ℕ) → at result slot ≡ None }
         ensures counted { count result ≡ 0 }
@@ -80,7 +82,7 @@ impl Table {
         }
     }
 
-    /// The session that the slot holds.
+    /// The session that the slot holds, if it holds one.
     pub fn get(&self, slot: Slot) -> Option<Session>
         ensures value { result ≡ at self.now slot }
         ensures sound { IsSound self.now.held }
@@ -109,7 +111,7 @@ impl Table {
         count_held(&self.places)
     }
 
-    /// The session of this protocol, inside and remote endpoint.
+    /// The slot of the one session of this protocol, inside and remote endpoint, where it is held.
     pub fn by_inside(&self, proto: Proto, inside: Endpoint, remote: Endpoint) -> Option<Slot>
         ensures found { IfSome result (λ slot. IsSomeAnd (at self.now slot) (HasInside proto inside remote)) }
         ensures absent { IfNone result ((slot : ℕ) → IfSome (at self.now slot) (λ s. ¬ HasInside proto inside remote s)) }
@@ -124,7 +126,7 @@ impl Table {
         None
     }
 
-    /// The session of this protocol, outside and remote endpoint.
+    /// The slot of the one session of this protocol, outside and remote endpoint, where it is held.
     pub fn by_outside(&self, proto: Proto, outside: Endpoint, remote: Endpoint) -> Option<Slot>
         ensures found { IfSome result (λ slot. IsSomeAnd (at self.now slot) (HasOutside proto outside remote)) }
         ensures absent { IfNone result ((slot : ℕ) → IfSome (at self.now slot) (λ s. ¬ HasOutside proto outside remote s)) }
@@ -139,15 +141,22 @@ impl Table {
         None
     }
 
-    /// Whether the session clashes with one that is held. Takes no memory.
+    /// Whether the session clashes with one that is held: it shares protocol, remote endpoint and one more
+    /// endpoint with it, or their translations aren't one to one. Takes no memory.
     pub fn clashes_with(&self, session: &Session) -> bool
         ensures { IsTrue result ↔ ClashesWith self.now session.now }
     {
         any_clash(&self.places, session)
     }
 
-    /// Takes the session into a slot that holds none. A clash is told before a full table. Where
-    /// there is room it takes no memory.
+    /// Takes the session into a slot that holds none. What it has seen must be bits of its protocol.
+    /// Where there is room it takes no memory.
+    ///
+    /// # Errors
+    ///
+    /// `Clash` exactly where `clashes_with` holds; `TableFull` exactly where it doesn't, and there are as
+    /// many sessions as a table may hold; `NoMemory` where a growth was refused, and never where there is
+    /// room. The same sessions are held then, and no room is lost.
     pub fn add(&mut self, session: Session) -> Result<Slot, AddFault>
         requires { IsSeen session.proto session.seen }
 
@@ -191,7 +200,7 @@ impl Table {
         }
     }
 
-    /// A number above every slot that is held or reserved.
+    /// A number above that of every slot that is held or reserved. It never falls.
     pub fn slots(&self) -> usize
         ensures value { result ≡ self.now.slots }
         ensures above { (slot : ℕ) → IsSome (at self.now slot) → slot < result }
@@ -201,6 +210,11 @@ impl Table {
 
     /// Makes room for two more sessions, so that the next two additions take no memory, whatever
     /// ends before them.
+    ///
+    /// # Errors
+    ///
+    /// `AllocError` where a growth was refused, and never where there is room for two already. The same
+    /// sessions are held in any case, and no room is lost.
     pub fn reserve(&mut self) -> Result<(), AllocError>
         ensures succeeds { 2 ≤ self.old.room → IsOk result }
         ensures ok { OnOk result (2 ≤ self.new.room) }
@@ -214,7 +228,7 @@ impl Table {
         self.places.reserve(2)
     }
 
-    /// Ends the session of the slot.
+    /// Ends the session of the slot, which must hold one. This takes no memory.
     pub fn end(&mut self, slot: Slot)
         requires { IsSome (at self.old slot) }
         ensures updates { Updates self.old self.new slot None }
@@ -225,7 +239,8 @@ impl Table {
         self.places[slot.number()] = None;
     }
 
-    /// Puts the bits that a packet showed, and its moment, into the session of the slot.
+    /// Puts the bits that a packet showed, and the second in which it passed, into the session of the slot,
+    /// which must hold one of their protocol.
     pub fn see(&mut self, slot: Slot, bits: u8, last: u64)
         requires held { IsSome (at self.old slot) }
         requires bits { IfSome (at self.old slot) (λ s. IsSeen s.proto bits) }
@@ -244,7 +259,8 @@ impl Table {
         }
     }
 
-    /// Begins the session of the slot anew, from this side and at this moment.
+    /// Begins the session of the slot, which must hold one, anew from this side and at this second, with
+    /// nothing seen.
     pub fn restart(&mut self, slot: Slot, opener: Opener, last: u64)
         requires { IsSome (at self.old slot) }
         ensures updates { Updates self.old self.new slot (option_map (λ s. restarted s opener last) (at self.old slot)) }
@@ -263,7 +279,11 @@ impl Table {
         }
     }
 
-    /// The sessions, by protocol number, inside and remote endpoint.
+    /// The sessions, rising by protocol number, inside and remote endpoint.
+    ///
+    /// # Errors
+    ///
+    /// `AllocError` where a growth was refused.
     pub fn list(&self, alloc: Global) -> Result<Vec<Session>, AllocError>
         ensures { IfOk result (λ sessions. sessions.items ≡ listing self.now.held) }
     {

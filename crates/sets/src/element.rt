@@ -1,20 +1,25 @@
+//! Values, and the ranges and names that they are compared with.
 ghost use Rattle.std.specs.Prelude.{◌≤◌};
 
 use crate::parts::{are_same, meet};
 use packet::bounds::size_of_prefix;
 use packet::endpoint::Prefix;
 
-/// What a packet has where a match looks: a number in host byte order, or the bytes of an interface name.
+/// What a packet has where a match looks.
 #[derive(Clone, Copy, Debug, PartialEq, Eq, Drop)]
 pub enum Value<'a> {
+    /// A number in host byte order: the most significant byte of an address is its first octet.
     Number(u32),
+    /// The bytes of an interface name.
     Name(&'a [u8]),
 }
 
 /// The numbers from `low` to `high`, both included.
 #[derive(Clone, Copy, Debug, PartialEq, Eq, Drop)]
 pub struct Range {
+    /// The least.
     pub low: u32,
+    /// The greatest, at least `low`.
     pub high: u32,
     pub ghost rises: { low ≤ high },
 }
@@ -22,14 +27,18 @@ pub struct Range {
 /// A part of a set: a range of numbers, or one interface name.
 #[derive(Debug, PartialEq, Eq, Drop)]
 pub enum Element {
+    /// Each number of the range.
     Numbers(Range),
+    /// The bytes of the name, which stand for themselves: there are no wildcards.
     Name(Vec<u8>),
 }
 
 /// A key of a verdict map, and where it leads.
 #[derive(Debug, PartialEq, Eq, Drop)]
 pub struct Pair<V> {
+    /// The values that lead there.
     pub key: Element,
+    /// Where they lead.
     pub verdict: V,
 }
 
@@ -48,7 +57,7 @@ impl Range {
         }
     }
 
-    /// The numbers from `low` to `high`.
+    /// The numbers from `low` to `high`, both included.
     pub fn new(low: u32, high: u32) -> Range
         requires { low ≤ high }
         ensures low { result.low ≡ low }
@@ -57,8 +66,8 @@ impl Range {
         Range { low, high }
     }
 
-    /// The addresses that have the prefix; the bits of its address behind its length count as zero, and a
-    /// length above 32 is taken as 32.
+    /// The addresses that have the prefix (RFC 4632, section 3.1); the bits of its address behind its length
+    /// count as zero, and a length above 32 is taken as 32.
     pub fn of_prefix(prefix: Prefix) -> Range
         ensures { (addr : ℕ) → IsWithin addr result ↔ IsTrue (covers addr prefix) }
     {
@@ -89,7 +98,7 @@ impl Element {
         }
     }
 
-    /// Whether some value lies in both.
+    /// Whether some value lies in both. A number and a name never share one.
     pub fn shares_with(&self, other: &Element) -> bool
         ensures { IsTrue result ↔ Share self.now other.now }
     {

@@ -1,3 +1,4 @@
+//! The refusals of sets and verdict maps.
 use std::alloc::AllocError;
 
 /// Why a set or a verdict map isn't made.
@@ -6,7 +7,7 @@ pub enum SetFault {
     /// Two keys of a verdict map, at different places, share a value.
     #[error("two keys of a verdict map share a value")]
     Overlap,
-    /// More than 16,384 elements or keys.
+    /// More elements or keys than `LIMIT`.
     #[error("more than 16,384 elements")]
     Limit,
     /// A growth was refused.

@@ -1,3 +1,4 @@
+//! What follows from the definitions: each function is proved to meet its clause.
 ghost use Rattle.sets.specs.Laws.{NoneHoldNothing, UnionHoldsBoth, AdjoiningIsJoined, RangesShare};
 
 /// The union of no elements holds nothing.

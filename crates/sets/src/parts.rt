@@ -1,3 +1,4 @@
+//! The tests that elements are compared by.
 ghost use Rattle.std.specs.Prelude.{◌≡◌, ◌↔◌, ◌≤◌, IsTrue};
 
 use crate::element::Range;

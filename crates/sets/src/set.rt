@@ -1,3 +1,4 @@
+//! Sets: unions of elements.
 ghost use Rattle.std.specs.Prelude.{◌≡◌, ◌≢◌, ◌↔◌, ◌<◌, ℕ, IsTrue, IfOk, length};
 ghost use Rattle.sets.specs.Members.{Fact, fact_of, IsMember, limit};
 
@@ -24,11 +25,12 @@ impl Model for Set {
 }
 
 impl Set {
-    /// The values that lie in any of the elements: at most 16,384, in any order, which may overlap.
+    /// The values that lie in any of the elements: at most `LIMIT`, in any order, which may overlap.
     ///
     /// # Errors
     ///
-    /// `Limit` exactly where there are more; `NoMemory` only where a growth was refused.
+    /// `Limit` exactly where there are more; `NoMemory` only where a growth was refused. The elements are
+    /// dropped then.
     pub fn union_of(elements: Vec<Element>) -> Result<Set, SetFault>
         ensures ok { IfOk result (λ set. (fact : Fact) → IsMember fact set ↔ IsMember fact elements.items) }
         ensures limit { (result ≡ Err SetFault.Limit) ↔ (limit < length elements.items) }

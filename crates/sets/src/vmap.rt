@@ -1,3 +1,4 @@
+//! Verdict maps: keys, each with a verdict.
 ghost use Rattle.std.specs.Prelude.{◌≡◌, ◌↔◌, ◌<◌, ◌≤◌, ℕ, IsTrue, IfOk, OnOk, IfSome, IfNone, length};
 ghost use Rattle.std.specs.Cmp.Lexicographic.{slice_cmp};
 ghost use Rattle.std.specs.List.Sorted.{IsSortedBy};
@@ -30,12 +31,12 @@ impl<V> Model for Vmap<V> {
 }
 
 impl<V: Drop> Vmap<V> {
-    /// The map of these keys, at most 16,384 in any order, to their verdicts.
+    /// The map of these keys, at most `LIMIT` in any order, to their verdicts.
     ///
     /// # Errors
     ///
     /// `Limit` exactly where there are more; otherwise `Overlap` where two keys share a value; `NoMemory`
-    /// only where a growth was refused.
+    /// only where a growth was refused. The pairs are dropped then.
     pub fn of(mut pairs: Vec<Pair<V>>) -> Result<Vmap<V>, SetFault>
         ensures ok { IfOk result (λ vmap. (fact : Fact) (verdict : V) → Leads fact verdict vmap ↔ Leads fact verdict pairs.items) }
         ensures apart { OnOk result (¬ Overlaps pairs.items) }

@@ -1,3 +1,4 @@
+//! The sessions that are watched, and those of them that have been idle for too long.
 ghost use Rattle.std.specs.Prelude.{◌≡◌, ◌≢◌, ◌⊎◌, ◌↔◌, ◌+◌, ◌-◌, ◌^◌, ◌<◌, ◌≤◌, ℕ, Some, None, IfOk, OnOk, OnErr, IsOk, IsSome, IsSomeAnd, IfSome, IfNone, IsTrue, length, slice_index_or, slice_set};
 ghost use Rattle.sessions.specs.Life.{IsTimeout};
 ghost use Rattle.timers.specs.Due.{at, Updates, IsLatest, IsNoneOver, IsOver, AreDue};
@@ -12,7 +13,7 @@ use std::marker::Model;
 pub struct Idle {
     /// The second of its last packet.
     pub last: u64,
-    /// 240, 300 or 7440 (RFC 4787 REQ-5, RFC 5382 REQ-5).
+    /// 240, 300 or 7440 seconds (RFC 4787, REQ-5; RFC 5382, REQ-5).
     pub timeout: u64,
 }
 
@@ -25,8 +26,8 @@ struct Watch {
 
 /// The idle times of the sessions that are watched, each under its slot.
 ///
-/// The moments that are handed in never fall. `add`, for a slot below what `reserve` was given,
-/// `touch`, `remove`, and `due` where all are alive take no memory.
+/// The moments that are handed in, in seconds, never fall. `add`, for a slot below what `reserve` was
+/// given, `touch`, `remove`, and `due` where all are alive take no memory.
 #[derive(Drop)]
 pub struct Due {
     places: Vec<Option<Watch>>,
@@ -48,7 +49,7 @@ impl Model for Due {
 }
 
 impl Due {
-    /// No slot is watched.
+    /// No slot is watched. This takes no memory.
     pub fn new(alloc: Global) -> Due
         ensures { (slot : ℕ) → at result slot ≡ None }
     {
@@ -58,6 +59,11 @@ impl Due {
     }
 
     /// Makes room for each slot below `slots`.
+    ///
+    /// # Errors
+    ///
+    /// `AllocError` where a growth was refused, and never where there is that room already. The same slots
+    /// are watched in any case, and no room is lost.
     pub fn reserve(&mut self, slots: usize) -> Result<(), AllocError>
         ensures ok { OnOk result (slots ≤ self.new.ready) }
         ensures succeeds { slots ≤ self.old.ready → IsOk result }
@@ -68,7 +74,12 @@ impl Due {
     }
 
     /// Watches a slot that isn't watched, with the second of its session's last packet and the seconds
-    /// that it may be idle. A refused growth changes nothing.
+    /// that it may be idle.
+    ///
+    /// # Errors
+    ///
+    /// `AllocError` where a growth was refused, and never for a slot for which there is room. The same
+    /// slots are watched then, and no room is lost.
     pub fn add(&mut self, slot: Slot, last: u64, timeout: u64) -> Result<(), AllocError>
         requires free { at self.old slot ≡ None }
         requires timeout { IsTimeout timeout }
@@ -96,7 +107,7 @@ impl Due {
         set_place(&mut self.places, slot, idle);
     }
 
-    /// Watches the slot no longer.
+    /// Watches a watched slot no longer.
     pub fn remove(&mut self, slot: Slot)
         requires { IsSome (at self.old slot) }
         ensures updates { Updates self.old self.new slot None }
@@ -105,8 +116,12 @@ impl Due {
         clear_place(&mut self.places, slot);
     }
 
-    /// The slots of the sessions that are alive no longer at this second, each once, in any order.
-    /// Where there are none it takes no memory.
+    /// The slots of the sessions that are alive no longer at this second, each once, in any order. They
+    /// stay watched.
+    ///
+    /// # Errors
+    ///
+    /// `AllocError` where a growth was refused, and never where there are none.
     pub fn due(&self, alloc: Global, now: u64) -> Result<Vec<Slot>, AllocError>
         requires { IsLatest self.now now }
         ensures due { IfOk result (λ slots. AreDue self.now now slots.items) }
