@@ -13,7 +13,7 @@ use Rattle.packet.specs.declared.view.View.{View}
 use Rattle.portpick.specs.Choice.{port_choice}
 use Rattle.rulesyntax.specs.declared.tree.Spelled.{Spelled}
 use Rattle.sessions.specs.Life.{is_new, is_syn_alone, restarts, shown}
-use Rattle.sessions.specs.Listing.{find, has_inside, has_outside, put}
+use Rattle.sessions.specs.Listing.{clashes, find, has_inside, has_outside, is_translated, put}
 use Rattle.sessions.specs.Table.{restarted, seen}
 use Rattle.sessions.specs.declared.session.Opener.{Opener}
 use Rattle.sessions.specs.declared.session.Opener.TheVariants.{Inside, Remote}
@@ -52,10 +52,6 @@ through first t = record { sessions = first ∷ t ∷ []; src = first.outside; d
 
 -- ---- sessions and mappings
 
--- the session's endpoints differ inside and outside
-abbrev pub is_translated : Session → Bool
-is_translated s = not (same_endpoint s.inside s.outside)
-
 -- this protocol's inside endpoint has the session's mapping
 unfoldable pub maps_inside : Proto → Endpoint → Session → Bool
 maps_inside proto inside s = is_translated s && same_proto s.proto proto && same_endpoint s.inside inside
@@ -71,20 +67,6 @@ is_at proto outside s = same_proto s.proto proto && same_endpoint s.outside outs
 -- the port is taken: some session of the protocol has it outside, at this address
 abbrev pub is_taken : List Session → Proto → ℕ → ℕ → Bool
 is_taken sessions proto addr port = is_some (find (is_at proto (endpoint addr port)) sessions)
-
--- just one of the two
-abbrev pub just_one : Bool → Bool → Bool
-just_one a b = (a && not b) || (not a && b)
-
--- both are translated, and share just one of the endpoints of their mappings
-unfoldable pub breaks_mapping : Session → Session → Bool
-breaks_mapping s t = is_translated s && is_translated t && same_proto s.proto t.proto
-    && just_one (same_endpoint s.inside t.inside) (same_endpoint s.outside t.outside)
-
--- the two can't both be held: they share protocol, inside and remote, or protocol, outside and remote, or they would
--- make the mappings many-to-one
-unfoldable pub clashes : Session → Session → Bool
-clashes s t = has_inside s.proto s.inside s.remote t || has_outside s.proto s.outside s.remote t || breaks_mapping s t
 
 -- the session once a packet of it from this side has passed: a SYN alone begins a closing one anew
 abbrev pub passed_by : Session → Opener → Flags → ℕ → Session

@@ -1,4 +1,4 @@
-ghost use Rattle.sessions.specs.Laws.{ListingIsTheSet, MappingsAreOneToOne, RestartedIsNew};
+ghost use Rattle.sessions.specs.Laws.{ClashesTellsClash, ListingIsTheSet, MappingsAreOneToOne, RestartedIsNew};
 
 /// The sessions of a table, as a set, have one list that rises strictly: the one that `list` gives.
 pub fn listing_is_the_set()
@@ -9,6 +9,11 @@ pub fn listing_is_the_set()
 /// translated sessions of a table and for each protocol.
 pub fn mappings_are_one_to_one()
     ensures { MappingsAreOneToOne }
+{}
+
+/// The test of a clash tells exactly which two sessions clash.
+pub fn clashes_tells_clash()
+    ensures { ClashesTellsClash }
 {}
 
 /// In a session that was begun anew, a packet of the side that began it is new.
