@@ -4,20 +4,15 @@ use Rattle.std.specs.Ordering.{nat_cmp, is_lt}
 use Rattle.std.specs.declared.cmp.Ordering.{Ordering}
 use Rattle.std.specs.List.{filter}
 use Rattle.packet.specs.declared.endpoint.Endpoint.{Endpoint}
+use Rattle.packet.specs.Numbers.{proto_number}
 use Rattle.packet.specs.Same.{same_proto, same_endpoint}
 use Rattle.std.specs.Cmp.Lexicographic.{slice_cmp}
 use Rattle.packet.specs.declared.endpoint.Proto.{Proto}
-use Rattle.packet.specs.declared.endpoint.Proto.TheVariants.{Tcp, Udp}
 use Rattle.sessions.specs.declared.session.Session.{Session}
-
--- the number of the protocol
-abbrev pub number : Proto → ℕ
-number Tcp = 6
-number Udp = 17
 
 -- what the order reads of a session, in turn
 abbrev pub key : Session → List ℕ
-key s = number s.proto ∷ s.inside.addr ∷ s.inside.port ∷ s.remote.addr ∷ s.remote.port ∷ []
+key s = proto_number s.proto ∷ s.inside.addr ∷ s.inside.port ∷ s.remote.addr ∷ s.remote.port ∷ []
 
 -- the order of sessions: protocol number, inside, remote
 abbrev pub order : Session → Session → Ordering
