@@ -62,14 +62,3 @@ module _ (external : ℕ) (held : List (Option Session)) (now : ℕ) where
   Plans (Ok plan) (Err cause) = ⊥
   Plans (Err cause) (Ok passage) = ⊥
   Plans (Err cause) (Err other) = cause ≡ other
-
--- how many sessions the change adds
-abbrev pub adds : Change → ℕ
-adds (Begin s) = 1
-adds (Seen slot bits) = 0
-adds (Restart slot opener) = 0
-adds (End slot) = 0
-
-abbrev pub adds_second : Option Change → ℕ
-adds_second None = 0
-adds_second (Some change) = adds change
