@@ -12,7 +12,7 @@ ghost use Rattle.mappings.specs.Map.{times};
 ghost use Rattle.hairpin.specs.Legs.{put_all};
 ghost use Rattle.hairpin.specs.Plans.{Became, Gives, GiveAll, MayBegin};
 ghost use Rattle.hairpin.specs.Tallies.{tally};
-ghost use Rattle.gateway.specs.Tied.{IsDue, IsLatest, IsReady, adds as adds_by, adds_second};
+ghost use Rattle.gateway.specs.Flows.{IsDue, IsLatest, IsReady, adds as adds_by, adds_second};
 
 use hairpin::Plan;
 use hairpin::translations::Translations;
@@ -30,7 +30,7 @@ pub struct Flows {
 }
 
 impl Model for Flows {
-    ghost use Rattle.gateway.specs.Tied.{Flows as View, Tied};
+    ghost use Rattle.gateway.specs.Flows.{Flows as View, Tied};
 
     ghost Value = { View };
 

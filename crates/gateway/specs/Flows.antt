@@ -1,4 +1,4 @@
--- What ties the timers and the mappings to the sessions of a table.
+-- What contracts see of the sessions with their timers and mappings, and what ties these to the sessions.
 use Rattle.std.specs.Prelude.{◌≡◌, ℕ, ◌-◌, ◌≤◌, List, Option, Some, None, slice_index_or}
 use Rattle.std.specs.Option.{option_map}
 use Rattle.sessions.specs.Life.{timeout_of}
