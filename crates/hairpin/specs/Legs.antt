@@ -12,7 +12,7 @@ use Rattle.packet.specs.declared.endpoint.Proto.TheVariants.{Tcp}
 use Rattle.packet.specs.declared.view.View.{View}
 use Rattle.portpick.specs.Choice.{port_choice}
 use Rattle.rulesyntax.specs.declared.tree.Spelled.{Spelled}
-use Rattle.sessions.specs.Life.{is_new, is_syn_alone, restarts, shown}
+use Rattle.sessions.specs.Life.{awaits_reply, is_syn_alone, restarts, shown}
 use Rattle.sessions.specs.Listing.{clashes, find, has_inside, has_outside, is_translated, put}
 use Rattle.sessions.specs.Table.{restarted, seen}
 use Rattle.sessions.specs.declared.session.Opener.{Opener}
@@ -79,7 +79,7 @@ needs_session view = same_proto view.proto Tcp && not (is_syn_alone view.flags)
 
 -- the state of a packet of this session from this side: one that begins it anew is new too
 abbrev pub state_of : Session → Opener → Flags → State
-state_of s sender flags = if restarts s flags || is_new (Some s) sender then New else Established
+state_of s sender flags = if restarts s flags || awaits_reply s sender then New else Established
 
 -- the sessions with these, each in place of the one of its protocol, inside and remote endpoint
 abbrev pub put_all : List Session → List Session → List Session

@@ -1,12 +1,12 @@
 -- What the definitions promise.
-use Rattle.std.specs.Prelude.{◌≡◌, ◌≢◌, ◌↔◌, ℕ, IsTrue, List, Option, Some, true}
+use Rattle.std.specs.Prelude.{◌≡◌, ◌≢◌, ◌↔◌, ℕ, IsTrue, List, Option, true}
 use Rattle.packet.specs.declared.endpoint.Proto.{Proto}
 use Rattle.packet.specs.declared.endpoint.Endpoint.{Endpoint}
 use Rattle.sessions.specs.declared.session.Session.{Session}
 use Rattle.sessions.specs.declared.session.Opener.{Opener}
 use Rattle.sessions.specs.Table.{Clash, IsSound, restarted}
 use Rattle.sessions.specs.Listing.{In, IsSetOf, clashes, listing}
-use Rattle.sessions.specs.Life.{is_new}
+use Rattle.sessions.specs.Life.{awaits_reply}
 
 -- what a table holds has one rising list, its listing
 abbrev pub ListingIsTheSet : Type 0
@@ -31,6 +31,6 @@ abbrev pub MappingsAreOneToOne : Type 0
 MappingsAreOneToOne = (held : List (Option Session)) (proto : Proto) (inside inside' outside outside' : Endpoint) → IsSound held
     → IsMapping (listing held) proto inside outside → IsMapping (listing held) proto inside' outside' → (inside ≡ inside') ↔ (outside ≡ outside')
 
--- in a session that was begun anew a packet of the side that began it is new
-abbrev pub RestartedIsNew : Type 0
-RestartedIsNew = (s : Session) (sender : Opener) (last : ℕ) → is_new (Some (restarted s sender last)) sender ≡ true
+-- in a session that was begun anew the side that began it awaits a reply
+abbrev pub RestartedAwaitsReply : Type 0
+RestartedAwaitsReply = (s : Session) (sender : Opener) (last : ℕ) → awaits_reply (restarted s sender last) sender ≡ true

@@ -1,4 +1,4 @@
-ghost use Rattle.sessions.specs.Laws.{ClashesTellsClash, ListingIsTheSet, MappingsAreOneToOne, RestartedIsNew};
+ghost use Rattle.sessions.specs.Laws.{ClashesTellsClash, ListingIsTheSet, MappingsAreOneToOne, RestartedAwaitsReply};
 
 /// The sessions of a table, as a set, have one list that rises strictly: the one that `list` gives.
 pub fn listing_is_the_set()
@@ -16,7 +16,7 @@ pub fn clashes_tells_clash()
     ensures { ClashesTellsClash }
 {}
 
-/// In a session that was begun anew, a packet of the side that began it is new.
-pub fn restarted_is_new()
-    ensures { RestartedIsNew }
+/// In a session that was begun anew, the side that began it awaits a reply.
+pub fn restarted_awaits_reply()
+    ensures { RestartedAwaitsReply }
 {}

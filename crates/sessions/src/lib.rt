@@ -15,8 +15,8 @@ mod table;
 mod tests;
 
 pub use laws::{
-    clashes_tells_clash, listing_is_the_set, mappings_are_one_to_one, restarted_is_new,
+    clashes_tells_clash, listing_is_the_set, mappings_are_one_to_one, restarted_awaits_reply,
 };
-pub use life::{Phase, is_new, is_syn_alone};
+pub use life::{Phase, is_syn_alone};
 pub use session::{Change, Opener, Session};
 pub use table::{AddFault, Slot, Table};
