@@ -16,7 +16,7 @@ use Rattle.rulesyntax.specs.declared.tree.Spelled.{Spelled}
 use Rattle.sessions.specs.Laws.{IsMapping}
 use Rattle.sessions.specs.Life.{IsAlive}
 use Rattle.sessions.specs.Listing.{In}
-use Rattle.sessions.specs.Table.{HasInside, HasOutside}
+use Rattle.sessions.specs.Table.{HasInside, HasOutside, most_sessions}
 use Rattle.sessions.specs.declared.session.Session.{Session}
 use Rattle.sessions.specs.declared.session.Opener.TheVariants.{Inside, Remote}
 use Rattle.verdict.specs.Hooks.{forward_verdict}
@@ -117,7 +117,7 @@ MappingsAreReused =
     → IsSound config s → IsAlive (later s.clock judged.moment) mapping.session → Came config judged Lan bytes view Out
     → ((u : Session) → In u s.sessions → IsAlive (later s.clock judged.moment) u → ¬ HasInside view.proto view.src view.dst u)
     → IsFalse (needs_session view) → LetsPass config s view Lan Wan view.src view.dst New
-    → IsTrue (nat_lt (length (aged (later s.clock judged.moment) s).sessions) 65536)
+    → IsTrue (nat_lt (length (aged (later s.clock judged.moment) s).sessions) most_sessions)
     → (step config s judged).1 ≡ Forward Wan (translated bytes outside view.dst)
 
 -- only what a leg planned is forwarded: a packet that was read and has a route, between the leg's endpoints

@@ -14,7 +14,7 @@ use Rattle.portpick.specs.Choice.{port_choice}
 use Rattle.rulesyntax.specs.declared.tree.Spelled.{Spelled}
 use Rattle.sessions.specs.Life.{awaits_reply, is_syn_alone, restarts, shown}
 use Rattle.sessions.specs.Listing.{clashes, find, has_inside, has_outside, is_translated, put}
-use Rattle.sessions.specs.Table.{restarted, seen}
+use Rattle.sessions.specs.Table.{most_sessions, restarted, seen}
 use Rattle.sessions.specs.declared.session.Opener.{Opener}
 use Rattle.sessions.specs.declared.session.Opener.TheVariants.{Inside, Remote}
 use Rattle.sessions.specs.declared.session.Session.{Session}
@@ -113,9 +113,9 @@ module _ (config : Config) (rules : Spelled) (sessions : List Session) (now : �
   abbrev pub forwarded : {A : Type 0} → Iface → Iface → Endpoint → Endpoint → State → Result A Cause → Result A Cause
   forwarded iif oif src dst state way = unless_dropped (forward_verdict config (facts_of iif (Some oif) src dst state) rules) way
 
-  -- last, there are no more than 65,536 sessions
+  -- last, there are not too many sessions
   abbrev pub counted : Passage → Result Passage Cause
-  counted passage = if nat_lt 65536 (length (put_all passage.sessions sessions)) then Err TableFull else Ok passage
+  counted passage = if nat_lt most_sessions (length (put_all passage.sessions sessions)) then Err TableFull else Ok passage
 
   -- the outside endpoint at this address that the port of the inside endpoint is given
   abbrev pub chosen : ℕ → Endpoint → Result Endpoint Cause

@@ -3,7 +3,7 @@ use Rattle.std.specs.Prelude.{◌≡◌, ◌≢◌, ℕ, ◌<◌, List, [], ◌�
 use Rattle.packet.specs.Same.{same_endpoint}
 use Rattle.sessions.specs.Life.{IsSeen}
 use Rattle.sessions.specs.Listing.{listing, put}
-use Rattle.sessions.specs.Table.{AnyClash, restarted, seen}
+use Rattle.sessions.specs.Table.{AnyClash, most_sessions, restarted, seen}
 use Rattle.sessions.specs.declared.session.Change.{Change}
 use Rattle.sessions.specs.declared.session.Change.TheVariants.{Begin, Seen, Restart, End}
 use Rattle.sessions.specs.declared.session.Session.{Session}
@@ -16,7 +16,7 @@ pub record MayBegin (external : ℕ) (held : List (Option Session)) (now : ℕ) 
   pub unseen : s.seen ≡ 0
   pub last : s.last ≡ now
   pub apart : ¬ AnyClash held s
-  pub few : count_by is_some held ≢ 65536
+  pub few : count_by is_some held ≢ most_sessions
   pub placed : same_endpoint s.inside s.outside ≡ false → (s.outside.addr ≡ external) × (0 < s.outside.port)
 
 -- the change is of the session that the slot holds

@@ -24,7 +24,7 @@ use crate::translations::Translations;
 use packet::bounds::Bounds;
 use packet::endpoint::{Endpoint, Flags, Iface};
 use packet::view::View;
-use sessions::{Change, Opener, Session, Table};
+use sessions::{Change, MOST_SESSIONS, Opener, Session, Table};
 use verdict::{Destination, Filtering, Rules, State, forward, prerouting};
 
 /// How a packet passes from an inside endpoint (its source) to an outside endpoint of the gateway (its
@@ -381,7 +381,7 @@ fn after_first(
     if !is_forwarded(bounds, rules, view, second.session.inside, state) {
         return Err(Cause::Rule);
     }
-    if sessions_after(table, first, &second) > 65_536 {
+    if sessions_after(table, first, &second) > MOST_SESSIONS {
         return Err(Cause::TableFull);
     }
     Ok(Plan {

@@ -19,4 +19,4 @@ pub use laws::{
 };
 pub use life::{Phase, is_syn_alone};
 pub use session::{Change, Opener, Session};
-pub use table::{AddFault, Slot, Table};
+pub use table::{AddFault, MOST_SESSIONS, Slot, Table};
