@@ -9,8 +9,8 @@ use Rattle.sessions.specs.Listing.{key}
 use Rattle.sessions.specs.declared.session.Opener.{Opener}
 use Rattle.sessions.specs.Table.{Sessions, Updates, IsSound, at, restarted, seen}
 use Rattle.sessions.proofs.Puts.{put-is}
-use Rattle.hairpin.specs.Plans.{Became, Gives, IsOf, adds}
-use Rattle.gateway.specs.Tied.{Flows, IsLatest, IsReady}
+use Rattle.hairpin.specs.Plans.{Became, Gives, IsOf}
+use Rattle.gateway.specs.Flows.{Flows, IsLatest, IsReady, adds}
 
 -- the slot, which held none or the session of the change, got this
 pub became : (old new : Sessions) (change : Change) (slot : ℕ) (t : Session) → IsSound old.held → IsSound new.held → Updates old new slot (Some t)

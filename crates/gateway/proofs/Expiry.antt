@@ -15,7 +15,7 @@ use Rattle.timers.specs.Due as due
 use Rattle.mappings.specs.Map.{Pairs}
 use Rattle.timers.specs.Laws.{idle_of}
 use Rattle.sessions.specs.Life.{alive}
-use Rattle.gateway.specs.Tied.{Tied, IsDue, IsLatest}
+use Rattle.gateway.specs.Flows.{Tied, IsDue, IsLatest}
 
 pub alive-not_due : (now : ℕ) (s : Session) → alive now s ≡ true → ¬ IsDue now s
 alive-not_due now s h over = let lt = ltb-true _ _ h in omega arith

@@ -7,6 +7,7 @@ use Rattle.packet.specs.declared.endpoint.Endpoint.{Endpoint}
 use Rattle.packet.specs.declared.endpoint.Proto.{Proto}
 use Rattle.packet.specs.declared.endpoint.Proto.TheVariants.{Tcp, Udp}
 use Rattle.rulesyntax.specs.declared.tree.Spelled.{Spelled}
+use Rattle.sessions.specs.Laws.{IsMapping}
 use Rattle.sessions.specs.Life.{IsAlive, alive, is_acknowledged, is_closing, timeout_by, timeout_in}
 use Rattle.sessions.specs.declared.life.Phase.TheVariants.{Partial, Established, Closing}
 use Rattle.sessions.specs.Listing.{In}
@@ -14,7 +15,7 @@ use Rattle.sessions.specs.declared.session.Session.{Session}
 use Rattle.sessions.proofs.Sets.{In-filter, filter-In}
 use Rattle.gateway.specs.Judged.{Judged, IsJudged, IsNoLoad, bringer}
 use Rattle.gateway.specs.Machine.{State, act, aged, later, step}
-use Rattle.gateway.specs.Sound.{IsMapping, IsSound}
+use Rattle.gateway.specs.Sound.{IsSound}
 use Rattle.gateway.specs.declared.event.Answer.{Answer}
 use Rattle.gateway.specs.declared.event.Answer.TheVariants.{Dropped}
 use Rattle.gateway.specs.declared.event.Answer.TheVariants as answer
@@ -26,7 +27,7 @@ use Rattle.gateway.proofs.Judging.{no_take}
 use Rattle.gateway.proofs.Soundness.{act-by, aged-sound, later-above, put_all-member}
 
 -- the endpoints of two mappings of a protocol are one at one side where they are one at the other
-pub mappings-agree : (config : Config) (s : State) (proto : Proto) (inside inside' outside outside' : Endpoint) → IsSound config s → IsMapping s proto inside outside → IsMapping s proto inside' outside'
+pub mappings-agree : (config : Config) (s : State) (proto : Proto) (inside inside' outside outside' : Endpoint) → IsSound config s → IsMapping s.sessions proto inside outside → IsMapping s.sessions proto inside' outside'
     → (inside ≡ inside' → outside ≡ outside') × (outside ≡ outside' → inside ≡ inside')
 mappings-agree config s proto inside inside' outside outside' sound a b =
     let same = agree s.sessions sound.sessions.apart a.session b.session a.is_held b.is_held a.translated b.translated (a.proto ∙ sym b.proto) in (
@@ -86,9 +87,9 @@ module _ (config : Config) (is_one : is_config config ≡ true) where
   step-alive s judged t sound is = subst (λ n. IsAlive n t) (sym (step-clock s judged sound)) (lives-then s judged t sound is)
 
   -- a mapping stays where what is done puts a session in
-  module _ (s : State) (sound : IsSound config s) (proto : Proto) (inside outside : Endpoint) (m : IsMapping s proto inside outside) where
-    act-maps : (d : Deed) → IsMapping (act config s d).0 proto inside outside
-    act-maps d = act-by config is_one s sound (λ p. IsMapping p.0 proto inside outside) (λ a. m)
+  module _ (s : State) (sound : IsSound config s) (proto : Proto) (inside outside : Endpoint) (m : IsMapping s.sessions proto inside outside) where
+    act-maps : (d : Deed) → IsMapping (act config s d).0.sessions proto inside outside
+    act-maps d = act-by config is_one s sound (λ p. IsMapping p.0.sessions proto inside outside) (λ a. m)
         (λ ts iface bytes joins.
         let kept = joins.keeps m.session m.is_held in
         record {
@@ -100,14 +101,14 @@ module _ (config : Config) (is_one : is_config config ≡ true) where
           outside = kept.4 ∙ m.outside;
         })
         d
-        (λ text rules e. record { session = m.session; is_held = m.is_held; translated = m.translated; proto = m.proto; inside = m.inside; outside = m.outside })
+        (λ text rules e. m)
 
-  pub step-maps : (s : State) (judged : Judged) (proto : Proto) (inside outside : Endpoint) (m : IsMapping s proto inside outside) → IsSound config s → IsAlive (later s.clock judged.moment) m.session
-      → IsMapping (step config s judged).0 proto inside outside
+  pub step-maps : (s : State) (judged : Judged) (proto : Proto) (inside outside : Endpoint) (m : IsMapping s.sessions proto inside outside) → IsSound config s → IsAlive (later s.clock judged.moment) m.session
+      → IsMapping (step config s judged).0.sessions proto inside outside
   unfolding step
   step-maps s judged proto inside outside m sound lives =
       let now = later s.clock judged.moment in
-      let there : IsMapping (aged now s) proto inside outside = record {
+      let there : IsMapping (aged now s).sessions proto inside outside = record {
         session = m.session;
         is_held = filter-In (alive now) s.sessions m.session m.is_held (lt-ltb _ _ lives);
         translated = m.translated;

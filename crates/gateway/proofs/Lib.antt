@@ -2,6 +2,7 @@ pub mod Changed
 pub mod Expiry
 pub mod Judging
 pub mod Lasting
+pub mod Later
 pub mod Passing
 pub mod Reading
 pub mod Runs

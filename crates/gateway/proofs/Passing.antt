@@ -17,6 +17,7 @@ use Rattle.packet.specs.declared.route.Route.TheVariants.{In as InRoute}
 use Rattle.packet.specs.declared.route.RouteFault.{RouteFault}
 use Rattle.packet.specs.declared.view.View.{View}
 use Rattle.rulesyntax.specs.declared.tree.Spelled.{Spelled}
+use Rattle.sessions.specs.Laws.{IsMapping}
 use Rattle.sessions.specs.Life.{IsAlive, alive, restarts, shown}
 use Rattle.sessions.specs.Listing.{In, Rises, below, find, has_inside, has_outside, insert, key, put, same_flow}
 use Rattle.sessions.specs.Table.{HasInside, HasOutside, restarted, seen}
@@ -36,7 +37,7 @@ use Rattle.hairpin.proofs.Soundness.{filter-most}
 use Rattle.gateway.specs.Judged.{Judged}
 use Rattle.gateway.specs.Laws.{Came, LetsPass}
 use Rattle.gateway.specs.Machine.{State, act, aged, later, leg, on_route, sent, step, with_fields}
-use Rattle.gateway.specs.Sound.{IsMapping, IsSound}
+use Rattle.gateway.specs.Sound.{IsSound}
 use Rattle.gateway.specs.declared.deed.Deed.{Deed}
 use Rattle.gateway.specs.declared.deed.Deed.TheVariants as deed
 use Rattle.gateway.specs.declared.event.Answer.{Answer}
@@ -123,7 +124,7 @@ module _ (config : Config) (s : State) (judged : Judged) (bytes : List ℕ) (vie
 
   -- a new session of a mapping that lives has its outside endpoint
   pub mapped-out : Came config judged Lan bytes view Out → ((u : Session) → In u s.sessions → IsAlive now u → ¬ HasInside view.proto view.src view.dst u)
-      → (outside : Endpoint) (m : IsMapping s view.proto view.src outside) → IsAlive now m.session → needs_session view ≡ false → LetsPass config s view Lan Wan view.src view.dst New
+      → (outside : Endpoint) (m : IsMapping s.sessions view.proto view.src outside) → IsAlive now m.session → needs_session view ≡ false → LetsPass config s view Lan Wan view.src view.dst New
       → nat_lt (length live.sessions) 65536 ≡ true → (step config s judged).1 ≡ Forward Wan (translated bytes outside view.dst)
   mapped-out came none outside m lives begins lets few =
       let proto = view.proto in

@@ -19,19 +19,18 @@ use Rattle.sessions.proofs.Sets.{Apart-sound, listing-In}
 use Rattle.hairpin.specs.Sound.{AreSound}
 use Rattle.hairpin.proofs.Soundness.{filter-sound}
 use Rattle.hairpin.specs.Legs.{Passage, put_all}
-use Rattle.hairpin.specs.Plans.{GiveAll, Plans, adds, adds_second}
+use Rattle.hairpin.specs.Plans.{GiveAll, Plans}
 use Rattle.hairpin.specs.declared.cause.Cause.{Cause}
 use Rattle.hairpin.specs.declared.plan.Plan.{Plan}
-use Rattle.hairpin.proofs.Later.{plan-adds}
-use Rattle.gateway.specs.Core.{Core, IsCore, Leads, LeadsFew}
+use Rattle.gateway.specs.Core.{Core, IsCore, Leads, LeadsFew, state_of}
 use Rattle.gateway.specs.Judged.{Judged}
 use Rattle.gateway.specs.Machine.{State, AddsNone, act, aged, later, no_tables, on_route, pass, sent, step, with_fields}
-use Rattle.gateway.specs.Plans.{state_of}
 use Rattle.gateway.specs.Sound.{IsSound}
-use Rattle.gateway.specs.Tied.{Flows, IsLatest}
+use Rattle.gateway.specs.Flows.{Flows, IsLatest, adds, adds_second}
 use Rattle.gateway.specs.declared.deed.Deed.{Deed}
 use Rattle.gateway.specs.declared.event.Answer.{Answer}
 use Rattle.gateway.specs.declared.event.Answer.TheVariants as answer
+use Rattle.gateway.proofs.Later.{plan-adds}
 use Rattle.gateway.proofs.Soundness.{later-above, start-sound}
 
 -- a plan that leads to no more sessions adds none

@@ -13,7 +13,7 @@ use Rattle.packet.proofs.SameLemmas.{same_endpoint-true, same_endpoint-itself}
 use Rattle.timers.specs.Laws.{idle_of}
 use Rattle.hairpin.specs.Tallies.{weight, pair_of}
 use Rattle.hairpin.proofs.Tally.{tally-update, tally-at, tally-some, weighs}
-use Rattle.gateway.specs.Tied.{Tied}
+use Rattle.gateway.specs.Flows.{Tied}
 
 -- the table, the timers and the mappings after the slot got this
 pub Tied-update : (t t' : table.Sessions) (d d' : due.Watched) (m m' : Pairs) (slot : ℕ) (o : Option Session)

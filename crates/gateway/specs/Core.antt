@@ -2,17 +2,21 @@
 use Rattle.std.specs.Prelude.{◌≡◌, ℕ, List, Option}
 use Rattle.packet.specs.Config.{Config}
 use Rattle.rulesyntax.specs.declared.tree.Spelled.{Spelled}
+use Rattle.sessions.specs.Listing.{listing}
 use Rattle.sessions.specs.declared.session.Session.{Session}
 use Rattle.gateway.specs.Machine.{State, AddsNone}
-use Rattle.gateway.specs.Plans.{state_of}
 use Rattle.gateway.specs.Sound.{IsSound}
-use Rattle.gateway.specs.Tied.{Flows}
+use Rattle.gateway.specs.Flows.{Flows}
 use Rattle.gateway.specs.declared.event.Answer.{Answer}
 
 -- the configuration and the state
 pub record Core : Type 0 where
   pub config : Config
   pub state : State
+
+-- the state whose sessions are those that are held
+abbrev pub state_of : List ℕ → Spelled → List (Option Session) → ℕ → State
+state_of text rules held now = record { text = text; rules = rules; sessions = listing held; clock = now }
 
 -- the flows are those of a sound state, and translate at its external address
 pub record IsCore (config : Config) (text : List ℕ) (rules : Spelled) (flows : Flows) (clock : ℕ) : Type 0 where

@@ -13,9 +13,10 @@ use Rattle.packet.specs.declared.route.Route.TheVariants.{Out}
 use Rattle.packet.specs.declared.route.Route.TheVariants.{In as InRoute}
 use Rattle.packet.specs.declared.view.View.{View}
 use Rattle.rulesyntax.specs.declared.tree.Spelled.{Spelled}
+use Rattle.sessions.specs.Laws.{IsMapping}
 use Rattle.sessions.specs.Life.{IsAlive}
 use Rattle.sessions.specs.Listing.{In}
-use Rattle.sessions.specs.Table.{HasInside, HasOutside}
+use Rattle.sessions.specs.Table.{HasInside, HasOutside, most_sessions}
 use Rattle.sessions.specs.declared.session.Session.{Session}
 use Rattle.sessions.specs.declared.session.Opener.TheVariants.{Inside, Remote}
 use Rattle.verdict.specs.Hooks.{forward_verdict}
@@ -25,7 +26,7 @@ use Rattle.verdict.specs.declared.hook.Filtering.TheVariants.{Pass}
 use Rattle.hairpin.specs.Legs.{Passage, needs_session, put_all, state_of}
 use Rattle.gateway.specs.Judged.{Judged, AreJudged, IsJudged, IsNoLoad}
 use Rattle.gateway.specs.Machine.{State, aged, empty_at, later, leg, step, after}
-use Rattle.gateway.specs.Sound.{IsSound, IsMapping}
+use Rattle.gateway.specs.Sound.{IsSound}
 use Rattle.gateway.specs.declared.event.Answer.TheVariants.{Dropped, Forward, Loaded, Refused}
 use Rattle.gateway.specs.declared.event.Event.{Event}
 use Rattle.gateway.specs.declared.deed.Deed.TheVariants.{Packet, Refuse, Take}
@@ -65,20 +66,20 @@ DropsChangeNothing =
 abbrev pub OutsideIsNotShared : Type 0
 OutsideIsNotShared =
     (config : Config) (s : State) (proto : Proto) (inside inside' outside : Endpoint) → IsSound config s
-    → IsMapping s proto inside outside → IsMapping s proto inside' outside → inside ≡ inside'
+    → IsMapping s.sessions proto inside outside → IsMapping s.sessions proto inside' outside → inside ≡ inside'
 
 -- an inside endpoint has one mapping of a protocol
 abbrev pub InsideMapsOnce : Type 0
 InsideMapsOnce =
     (config : Config) (s : State) (proto : Proto) (inside outside outside' : Endpoint) → IsSound config s
-    → IsMapping s proto inside outside → IsMapping s proto inside outside' → outside ≡ outside'
+    → IsMapping s.sessions proto inside outside → IsMapping s.sessions proto inside outside' → outside ≡ outside'
 
 -- a mapping stays while a session of it is alive
 abbrev pub LivingMappingsStay : Type 0
 LivingMappingsStay =
-    (config : Config) (s : State) (judged : Judged) (proto : Proto) (inside outside : Endpoint) (mapping : IsMapping s proto inside outside)
+    (config : Config) (s : State) (judged : Judged) (proto : Proto) (inside outside : Endpoint) (mapping : IsMapping s.sessions proto inside outside)
     → IsTrue (is_config config) → IsSound config s → IsAlive (later s.clock judged.moment) mapping.session
-    → IsMapping (step config s judged).0 proto inside outside
+    → IsMapping (step config s judged).0.sessions proto inside outside
 
 -- a packet with these fields came in here, and has this route
 pub record Came (config : Config) (judged : Judged) (iface : Iface) (bytes : List ℕ) (view : View) (r : Route) : Type 0 where
@@ -112,11 +113,11 @@ SessionsGoOut =
 -- endpoint and the nat chains: unless it is TCP that may begin none, the forward chains drop it, or there are too many
 abbrev pub MappingsAreReused : Type 0
 MappingsAreReused =
-    (config : Config) (s : State) (judged : Judged) (bytes : List ℕ) (view : View) (outside : Endpoint) (mapping : IsMapping s view.proto view.src outside)
+    (config : Config) (s : State) (judged : Judged) (bytes : List ℕ) (view : View) (outside : Endpoint) (mapping : IsMapping s.sessions view.proto view.src outside)
     → IsSound config s → IsAlive (later s.clock judged.moment) mapping.session → Came config judged Lan bytes view Out
     → ((u : Session) → In u s.sessions → IsAlive (later s.clock judged.moment) u → ¬ HasInside view.proto view.src view.dst u)
     → IsFalse (needs_session view) → LetsPass config s view Lan Wan view.src view.dst New
-    → IsTrue (nat_lt (length (aged (later s.clock judged.moment) s).sessions) 65536)
+    → IsTrue (nat_lt (length (aged (later s.clock judged.moment) s).sessions) most_sessions)
     → (step config s judged).1 ≡ Forward Wan (translated bytes outside view.dst)
 
 -- only what a leg planned is forwarded: a packet that was read and has a route, between the leg's endpoints

@@ -1,8 +1,6 @@
 -- The soundness of a state: its mappings are one-to-one, and no two sessions share a key.
-use Rattle.std.specs.Prelude.{◌≡◌, ◌≢◌, ◌⊎◌, ℕ, ◌≤◌, List, []}
+use Rattle.std.specs.Prelude.{◌≡◌, ◌⊎◌, ℕ, ◌≤◌, List, []}
 use Rattle.packet.specs.Config.{Config}
-use Rattle.packet.specs.declared.endpoint.Endpoint.{Endpoint}
-use Rattle.packet.specs.declared.endpoint.Proto.{Proto}
 use Rattle.rulesyntax.specs.declared.tree.Spelled.{Spelled}
 use Rattle.ruletext.specs.Texts.{Loads}
 use Rattle.sessions.specs.Listing.{In}
@@ -19,12 +17,3 @@ pub record IsSound (config : Config) (state : State) : Type 0 where
   pub sessions : AreSound config state.sessions
   pub latest : (s : Session) → In s state.sessions → s.last ≤ state.clock
   pub in_force : IsInForce config state.text state.rules
-
--- the pair of endpoints is a mapping of the protocol: a translated session has both
-pub record IsMapping (state : State) (protocol : Proto) (near far : Endpoint) : Type 0 where
-  pub session : Session
-  pub is_held : In session state.sessions
-  pub translated : session.inside ≢ session.outside
-  pub proto : session.proto ≡ protocol
-  pub inside : session.inside ≡ near
-  pub outside : session.outside ≡ far

@@ -10,12 +10,11 @@ ghost use Rattle.hairpin.specs.Legs.{Passage};
 ghost use Rattle.hairpin.specs.Plans.{Plans};
 ghost use Rattle.hairpin.specs.Sound.{AreSound, KeepBounds};
 ghost use Rattle.hairpin.specs.declared.cause.Cause.{Cause as Reason};
-ghost use Rattle.gateway.specs.Core.{Leads, LeadsFew};
+ghost use Rattle.gateway.specs.Core.{Leads, LeadsFew, state_of};
 ghost use Rattle.gateway.specs.Judged.{Judged, IsJudged, IsNoLoad, bringer};
 ghost use Rattle.gateway.specs.Machine.{AddsNone, EndsNone, act, aged, empty_at, later, leg, on_route, pass, sent, step};
-ghost use Rattle.gateway.specs.Plans.{state_of};
 ghost use Rattle.gateway.specs.Sound.{IsInForce, IsSound};
-ghost use Rattle.gateway.specs.Tied.{IsLatest, IsReady};
+ghost use Rattle.gateway.specs.Flows.{IsLatest, IsReady};
 ghost use Rattle.gateway.specs.declared.event.Answer.TheVariants.{Dropped};
 
 use crate::bytes::Bytes;
@@ -51,8 +50,7 @@ pub struct Core {
 }
 
 impl Model for Core {
-    ghost use Rattle.gateway.specs.Core.{Core as View, IsCore};
-    ghost use Rattle.gateway.specs.Plans.{state_of};
+    ghost use Rattle.gateway.specs.Core.{Core as View, IsCore, state_of};
 
     ghost Value = { View };
 

@@ -1,24 +1,21 @@
 //! The sessions with their timers and mappings, which change together.
-ghost use Rattle.std.specs.Prelude.{◌≡◌, ◌≢◌, ◌↔◌, ◌+◌, ◌-◌, ◌<◌, ◌≤◌, ℕ, List, false, not, IsTrue, Some, None, IfOk, OnOk, OnErr, IsOk, IfSome, IsSome, IsSomeAnd, length, slice_index};
+ghost use Rattle.std.specs.Prelude.{◌≡◌, ◌≢◌, ◌↔◌, ◌+◌, ◌-◌, ◌<◌, ◌≤◌, ℕ, List, false, IsTrue, Some, None, IfOk, OnOk, OnErr, IsOk, IfSome, IsSome, IsSomeAnd, length, slice_index};
 ghost use Rattle.std.specs.List.{Contains, filter};
 ghost use Rattle.std.specs.Option.{option_map};
-ghost use Rattle.packet.specs.Same.{same_endpoint};
 ghost use Rattle.sessions.specs.Life.{IsSeen, IsTimeout, alive, timeout_of};
 ghost use Rattle.sessions.specs.Listing.{listing};
 ghost use Rattle.sessions.specs.Table.{at, Updates, IsSound, seen as seen_with, restarted};
 ghost use Rattle.sessions.specs.declared.session.Session.{Session as Flow};
 ghost use Rattle.timers.specs.Due.{at as idle_at, IsLatest as IsLatestIdle, Updates as IdleUpdates};
 ghost use Rattle.mappings.specs.declared.map.Pair.{Pair as Mapping};
-ghost use Rattle.mappings.specs.Map.{times, KeepsOneToOne};
+ghost use Rattle.mappings.specs.Map.{times};
 ghost use Rattle.hairpin.specs.Legs.{put_all};
-ghost use Rattle.hairpin.specs.Plans.{Became, Gives, GiveAll, MayBegin, adds as adds_by, adds_second};
-ghost use Rattle.hairpin.specs.Tallies.{pair_of as pair_with, tally, weight};
-ghost use Rattle.hairpin.specs.Translations.{HasRoom};
-ghost use Rattle.gateway.specs.Tied.{IsDue, IsLatest, IsReady};
+ghost use Rattle.hairpin.specs.Plans.{Became, Gives, GiveAll, MayBegin};
+ghost use Rattle.hairpin.specs.Tallies.{tally};
+ghost use Rattle.gateway.specs.Flows.{IsDue, IsLatest, IsReady, adds as adds_by, adds_second};
 
+use hairpin::Plan;
 use hairpin::translations::Translations;
-use hairpin::{Plan, adds};
-use mappings::map::Pair;
 use sessions::{Change, Opener, Session, Slot, Table};
 use std::alloc::{AllocError, Global};
 use std::marker::Model;
@@ -33,7 +30,7 @@ pub struct Flows {
 }
 
 impl Model for Flows {
-    ghost use Rattle.gateway.specs.Tied.{Flows as View, Tied};
+    ghost use Rattle.gateway.specs.Flows.{Flows as View, Tied};
 
     ghost Value = { View };
 
@@ -167,7 +164,7 @@ impl Flows {
         match self.table.add(session) {
             Ok(slot) => {
                 watch(&mut self.due, slot, session.last, session.timeout());
-                hold(&mut self.translations, &session);
+                self.translations.hold(&session);
                 self.table.is_sound();
             }
             Err(_) => unreachable!(),
@@ -242,7 +239,7 @@ impl Flows {
         ensures external { self.new.translations.external ≡ self.old.translations.external }
     {
         if let Some(session) = self.table.get(slot) {
-            release(&mut self.translations, &session);
+            self.translations.release(&session);
             self.due.remove(slot);
             self.table.end(slot);
         }
@@ -289,6 +286,18 @@ impl Flows {
     }
 }
 
+// How many sessions the change adds, 0 or 1.
+fn adds(change: &Change) -> usize
+    ensures { result ≡ adds_by change.now }
+{
+    match change {
+        Change::Begin(_) => 1,
+        Change::Seen(_, _) => 0,
+        Change::Restart(_, _) => 0,
+        Change::End(_) => 0,
+    }
+}
+
 // Whether the plan adds a session.
 fn adds_any(plan: &Plan) -> bool
     ensures { IsTrue result ↔ (0 < adds_by plan.now.first + adds_second plan.now.second) }
@@ -326,48 +335,4 @@ fn touch(table: &Table, due: &mut Due, slot: Slot, last: u64)
     if let Some(session) = table.get(slot) {
         due.touch(slot, last, session.timeout());
     }
-}
-
-// The mapping of the session, if it is translated, is held once more.
-fn hold(translations: &mut Translations, session: &Session)
-    requires one_to_one { same_endpoint session.now.inside session.now.outside ≡ false → KeepsOneToOne translations.old.pairs (pair_with session.now) }
-    requires few { times translations.old.pairs (pair_with session.now) < 65536 }
-    requires placed { same_endpoint session.now.inside session.now.outside ≡ false
-        → (session.now.outside.addr ≡ translations.old.external) × (0 < session.now.outside.port) }
-    requires ready { HasRoom 1 translations.old }
-    ensures counts { (p : Mapping) → times translations.new.pairs p ≡ times translations.old.pairs p + weight p (Some session.now) }
-    ensures room { (n : ℕ) → HasRoom (n + 1) translations.old → HasRoom n translations.new }
-    ensures external { translations.new.external ≡ translations.old.external }
-{
-    if is_translated(session) {
-        translations.hold(pair_of(session));
-    }
-}
-
-// The mapping of the session, if it is translated, is held once less.
-fn release(translations: &mut Translations, session: &Session)
-    requires { (p : Mapping) → weight p (Some session.now) ≤ times translations.old.pairs p }
-    ensures counts { (p : Mapping) → times translations.old.pairs p ≡ times translations.new.pairs p + weight p (Some session.now) }
-    ensures room { (n : ℕ) → HasRoom n translations.old → HasRoom n translations.new }
-    ensures external { translations.new.external ≡ translations.old.external }
-{
-    if is_translated(session) {
-        translations.release(pair_of(session));
-    }
-}
-
-fn pair_of(session: &Session) -> Pair
-    ensures { result ≡ pair_with session.now }
-{
-    Pair {
-        proto: session.proto,
-        inside: session.inside,
-        outside: session.outside,
-    }
-}
-
-fn is_translated(session: &Session) -> bool
-    ensures { result ≡ not (same_endpoint session.now.inside session.now.outside) }
-{
-    session.inside != session.outside
 }

@@ -1,7 +1,7 @@
 -- Sessions that are sound, and what may join them.
 use Rattle.std.proofs.Common.{◌≡◌, ◌≢◌, ◌⊎◌, ℕ, zero, suc, ◌<◌, List, [], ◌∷◌, Option, Some, None, is_some, Result, Ok, Err, Bool, true, false, cond, not, ◌&&◌, refl, sym, ap, ◌∙◌, subst, inl, inr, arith}
 use Rattle.std.specs.Option.{option_map}
-use Rattle.std.proofs.lemmas.Bool.{cases_Bool, and_parts, and_from, false≢true, not-true, false_from_ne_true}
+use Rattle.std.proofs.lemmas.Bool.{cases_Bool, and_parts, and_from, false≢true, not-true}
 use Rattle.std.proofs.lemmas.Bool.Decides.{nat_tests}
 use Rattle.std.proofs.lemmas.Option.{none-some, same_Some}
 use Rattle.std.proofs.lemmas.Result.{IfOk-at_ok}
@@ -9,11 +9,12 @@ use Rattle.packet.specs.Config.{Config, is_config, is_inside}
 use Rattle.packet.specs.Same.{same_proto, same_endpoint}
 use Rattle.packet.specs.declared.endpoint.Endpoint.{Endpoint}
 use Rattle.packet.specs.declared.endpoint.Proto.{Proto}
-use Rattle.packet.proofs.SameLemmas.{same_proto-true, same_proto-itself, same_endpoint-true, same_endpoint-itself}
+use Rattle.packet.proofs.SameLemmas.{same_proto-true, same_endpoint-true, same_endpoint-itself}
 use Rattle.portpick.specs.Choice.{port_choice, first_free, size_of_class, step as next}
 use Rattle.sessions.specs.Listing.{In, find, has_inside}
 use Rattle.sessions.specs.Table.{Clash}
 use Rattle.sessions.specs.declared.session.Session.{Session}
+use Rattle.sessions.proofs.Clashing.{apart-from, differ, same_endpoint-from, same_proto-from}
 use Rattle.sessions.proofs.Puts.{find-some, has_inside-from}
 use Rattle.hairpin.specs.Legs.{is_at, is_taken, maps_inside, maps_outside, or_no_port}
 use Rattle.hairpin.specs.Sound.{IsPlaced}
@@ -26,18 +27,6 @@ cases_endpoint e f = elim (cases_Bool (same_endpoint e f)) [
   | inl h ↦ inl (same_endpoint-true e f h)
   | inr h ↦ inr (λ same. false≢true (sym h ∙ sym (ap (same_endpoint e) same) ∙ same_endpoint-itself e))
 ]
-
-pub differ : (e f : Endpoint) → e ≢ f → same_endpoint e f ≡ false
-differ e f ne = false_from_ne_true _ (λ h. ne (same_endpoint-true e f h))
-
-pub apart-from : (e f : Endpoint) → same_endpoint e f ≡ false → e ≢ f
-apart-from e f h same = false≢true (sym h ∙ sym (ap (same_endpoint e) same) ∙ same_endpoint-itself e)
-
-pub same_proto-from : (p q : Proto) → p ≡ q → same_proto p q ≡ true
-same_proto-from p q e = subst (λ x. same_proto p x ≡ true) e (same_proto-itself p)
-
-pub same_endpoint-from : (e f : Endpoint) → e ≡ f → same_endpoint e f ≡ true
-same_endpoint-from e f is = subst (λ x. same_endpoint e x ≡ true) is (same_endpoint-itself e)
 
 pub maps-parts : (proto : Proto) (inside : Endpoint) (s : Session) → maps_inside proto inside s ≡ true → (s.inside ≢ s.outside) × (s.proto ≡ proto) × (s.inside ≡ inside)
 unfolding maps_inside

@@ -1,5 +1,5 @@
 -- What holds before any session has begun and any rules have loaded.
-use Rattle.std.proofs.Common.{◌≡◌, ◌≤◌, ℕ, suc, List, [], ◌∷◌, get_or, Option, Some, None, refl, sym, subst, ◌∙◌, arith}
+use Rattle.std.proofs.Common.{◌≡◌, ℕ, suc, List, [], ◌∷◌, get_or, Option, Some, None, refl, sym, subst, ◌∙◌, arith}
 use Rattle.std.proofs.lemmas.Option.{none-some}
 use Rattle.packet.specs.Config.{Config}
 use Rattle.packet.specs.declared.endpoint.Endpoint.{Endpoint}

@@ -13,7 +13,7 @@ use Rattle.packet.specs.declared.view.View.{View}
 use Rattle.portpick.specs.Choice.{port_choice}
 use Rattle.rulesyntax.specs.declared.tree.Spelled.{Spelled}
 use Rattle.sessions.specs.Life.{restarts, shown}
-use Rattle.sessions.specs.Listing.{In, Rises, below, find, has_inside, has_outside, insert, put, same_flow}
+use Rattle.sessions.specs.Listing.{In, Rises, below, clashes, find, has_inside, has_outside, insert, put, same_flow}
 use Rattle.sessions.specs.Table.{Clash as Clashing, restarted, seen}
 use Rattle.sessions.specs.declared.session.Opener.{Opener}
 use Rattle.sessions.specs.declared.session.Opener.TheVariants.{Inside, Remote}
@@ -25,7 +25,7 @@ use Rattle.verdict.specs.Hooks.{forward_verdict, prerouting_verdict}
 use Rattle.verdict.specs.declared.facts.State.TheVariants.{New}
 use Rattle.verdict.specs.declared.hook.Destination.{Destination}
 use Rattle.verdict.specs.declared.hook.Destination.TheVariants as destination
-use Rattle.hairpin.specs.Legs.{Passage, begun_second, clashes, counted, facts_of, first_by, first_state, forwarded, hairpin, inside_by_rules, inside_far, is_taken, maps_inside, maps_outside, needs_session, new_session, or_no_mapping, outside_near, passed_by, second, second_by, then_with, through}
+use Rattle.hairpin.specs.Legs.{Passage, begun_second, counted, facts_of, first_by, first_state, forwarded, hairpin, inside_by_rules, inside_far, is_taken, maps_inside, maps_outside, needs_session, new_session, or_no_mapping, outside_near, passed_by, second, second_by, then_with, through}
 use Rattle.hairpin.specs.Sound.{AreSound, KeepBounds}
 use Rattle.hairpin.specs.Translations.{endpoint}
 use Rattle.hairpin.specs.declared.cause.Cause.{Cause}

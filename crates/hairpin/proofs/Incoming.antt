@@ -6,11 +6,12 @@ use Rattle.packet.specs.declared.endpoint.Endpoint.{Endpoint}
 use Rattle.packet.specs.declared.endpoint.Iface.TheVariants.{Lan, Wan}
 use Rattle.packet.specs.declared.view.View.{View}
 use Rattle.rulesyntax.specs.declared.tree.Spelled.{Spelled}
-use Rattle.sessions.specs.Listing.{find, has_outside, listing, put}
+use Rattle.sessions.specs.Listing.{clashes, find, has_outside, listing, put}
 use Rattle.sessions.specs.Table.{AnyClash}
 use Rattle.sessions.specs.declared.session.Change.TheVariants.{Begin}
 use Rattle.sessions.specs.declared.session.Opener.TheVariants.{Remote}
 use Rattle.sessions.specs.declared.session.Session.{Session}
+use Rattle.sessions.proofs.Clashing.{apart-from}
 use Rattle.sessions.proofs.Puts.{has_inside-true, length-listing}
 use Rattle.verdict.specs.Hooks.{forward_verdict, prerouting_verdict}
 use Rattle.verdict.specs.declared.facts.State.TheVariants.{New}
@@ -18,13 +19,13 @@ use Rattle.verdict.specs.declared.hook.Destination.{Destination}
 use Rattle.verdict.specs.declared.hook.Destination.TheVariants as destination
 use Rattle.verdict.specs.declared.hook.Filtering.{Filtering}
 use Rattle.verdict.specs.declared.hook.Filtering.TheVariants as filtering
-use Rattle.hairpin.specs.Legs.{Passage, begun_in, clashes, counted, facts_of, in_by, in_leg, inside_by_rules, inside_for, inward, maps_outside, needs_session, new_session, or_no_mapping, passed_by, state_of, then_with, unless_dropped}
+use Rattle.hairpin.specs.Legs.{Passage, begun_in, counted, facts_of, in_by, in_leg, inside_by_rules, inside_for, inward, maps_outside, needs_session, new_session, or_no_mapping, passed_by, state_of, then_with, unless_dropped}
 use Rattle.hairpin.specs.Plans.{IsPlanOf, MayBegin}
 use Rattle.hairpin.specs.Sound.{AreSound, KeepBounds}
 use Rattle.hairpin.specs.declared.cause.Cause.{Cause}
 use Rattle.hairpin.specs.declared.cause.Cause.TheVariants.{Clash, NoMapping, NoSession, Rule, TableFull}
 use Rattle.hairpin.specs.declared.plan.Plan.{Plan}
-use Rattle.hairpin.proofs.Apart.{apart-from, err-ok, find-In, same_Ok, some_or_none}
+use Rattle.hairpin.proofs.Apart.{err-ok, find-In, same_Ok, some_or_none}
 use Rattle.hairpin.proofs.Clashing.{any_found, no_clash, none_found}
 use Rattle.hairpin.proofs.Soundness.{IsFine, fine-filtered, one-joins, passed-joins, put-more, put-sound}
 

@@ -4,7 +4,6 @@ pub mod Clashing
 pub mod Doubling
 pub mod Following
 pub mod Incoming
-pub mod Later
 pub mod Mapped
 pub mod Opening
 pub mod Planned

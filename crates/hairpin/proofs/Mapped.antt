@@ -6,6 +6,7 @@ use Rattle.packet.specs.declared.endpoint.Proto.{Proto}
 use Rattle.portpick.specs.Choice.{IsTestOf}
 use Rattle.sessions.specs.Listing.{find, listing}
 use Rattle.sessions.specs.declared.session.Session.{Session}
+use Rattle.sessions.proofs.Clashing.{apart-from, differ}
 use Rattle.sessions.proofs.Puts.{find-none, find-some}
 use Rattle.sessions.proofs.Sets.{In-listing, listing-In}
 use Rattle.mappings.specs.declared.map.Pair.{Pair}
@@ -15,7 +16,7 @@ use Rattle.hairpin.specs.Legs.{is_taken, maps_inside, maps_outside}
 use Rattle.hairpin.specs.Sound.{AreSound}
 use Rattle.hairpin.specs.Tallies.{tally, pair_of}
 use Rattle.hairpin.specs.Translations.{IsOutside, endpoint}
-use Rattle.hairpin.proofs.Apart.{agree, apart-from, differ, maps-from, maps-parts, maps_outside-from, maps_outside-parts, taken-by, taken-from, translated_at}
+use Rattle.hairpin.proofs.Apart.{agree, maps-from, maps-parts, maps_outside-from, maps_outside-parts, taken-by, taken-from, translated_at}
 use Rattle.hairpin.proofs.Tally.{tally-at, tally-some, weighs, weight-translated}
 
 -- what is held of a session's pair

@@ -13,12 +13,13 @@ use Rattle.portpick.specs.Choice.{IsTestOf, port_choice}
 use Rattle.rulesyntax.specs.declared.tree.Spelled.{Spelled}
 use Rattle.mappings.specs.declared.map.Pair.{Pair}
 use Rattle.mappings.specs.Map.{Pairs, times, pair}
-use Rattle.sessions.specs.Listing.{In, find, has_inside, has_outside, listing, put, same_flow}
+use Rattle.sessions.specs.Listing.{In, breaks_mapping, clashes, find, has_inside, has_outside, listing, put, same_flow}
 use Rattle.sessions.specs.Table.{AnyClash, Clash as Clashing}
 use Rattle.sessions.specs.declared.session.Change.{Change}
 use Rattle.sessions.specs.declared.session.Change.TheVariants.{Begin, Seen, Restart, End}
 use Rattle.sessions.specs.declared.session.Opener.TheVariants.{Inside, Remote}
 use Rattle.sessions.specs.declared.session.Session.{Session}
+use Rattle.sessions.proofs.Clashing.{breaks-from, breaks-parts, differ, same_endpoint-from}
 use Rattle.sessions.proofs.Found.{has_outside-true}
 use Rattle.sessions.proofs.Held.{Clash-same_keys, SameKeys-refl}
 use Rattle.sessions.proofs.Puts.{has_inside-true, length-listing}
@@ -27,7 +28,7 @@ use Rattle.verdict.specs.Hooks.{forward_verdict, prerouting_verdict}
 use Rattle.verdict.specs.declared.facts.State.TheVariants.{New}
 use Rattle.verdict.specs.declared.hook.Filtering.{Filtering}
 use Rattle.verdict.specs.declared.hook.Filtering.TheVariants as filtering
-use Rattle.hairpin.specs.Legs.{Passage, begun_second, breaks_mapping, clashes, counted, facts_of, first_by, first_state, forwarded, inside_by_rules, inside_far, is_taken, maps_inside, maps_outside, needs_session, new_session, or_no_port, outside_near, passed_by, second, second_by, then_with, through, unless_dropped}
+use Rattle.hairpin.specs.Legs.{Passage, begun_second, counted, facts_of, first_by, first_state, forwarded, inside_by_rules, inside_far, is_taken, maps_inside, maps_outside, needs_session, new_session, or_no_port, outside_near, passed_by, second, second_by, then_with, through, unless_dropped}
 use Rattle.hairpin.specs.Plans.{Gives, GivesThen, IsOf, Plans}
 use Rattle.hairpin.specs.Sound.{AreSound}
 use Rattle.hairpin.specs.Tallies.{tally}
@@ -36,8 +37,8 @@ use Rattle.hairpin.specs.declared.cause.Cause.{Cause}
 use Rattle.hairpin.specs.declared.cause.Cause.TheVariants.{Clash, NoSession, Rule, SelfMapped, TableFull}
 use Rattle.hairpin.specs.declared.held.Held.{Held}
 use Rattle.hairpin.specs.declared.plan.Plan.{Plan}
-use Rattle.hairpin.proofs.Apart.{differ, find-In, maps_outside-parts, same_endpoint-from}
-use Rattle.hairpin.proofs.Clashing.{breaks-from, breaks-parts, none_clashes, no_clash}
+use Rattle.hairpin.proofs.Apart.{find-In, maps_outside-parts}
+use Rattle.hairpin.proofs.Clashing.{none_clashes, no_clash}
 use Rattle.hairpin.proofs.Mapped.{not_mapped, taken_test}
 use Rattle.hairpin.proofs.Opening.{may_begin}
 use Rattle.hairpin.proofs.Doubling.{IsFirst, IsSecond, Rises-put, find-put, first-is, fresh, gone, put-In, second-is}

@@ -12,9 +12,9 @@ use Rattle.packet.specs.declared.endpoint.Proto.TheVariants.{Tcp}
 use Rattle.packet.specs.declared.view.View.{View}
 use Rattle.portpick.specs.Choice.{port_choice}
 use Rattle.rulesyntax.specs.declared.tree.Spelled.{Spelled}
-use Rattle.sessions.specs.Life.{is_new, is_syn_alone, restarts, shown}
-use Rattle.sessions.specs.Listing.{find, has_inside, has_outside, put}
-use Rattle.sessions.specs.Table.{restarted, seen}
+use Rattle.sessions.specs.Life.{awaits_reply, is_syn_alone, restarts, shown}
+use Rattle.sessions.specs.Listing.{clashes, find, has_inside, has_outside, is_translated, put}
+use Rattle.sessions.specs.Table.{most_sessions, restarted, seen}
 use Rattle.sessions.specs.declared.session.Opener.{Opener}
 use Rattle.sessions.specs.declared.session.Opener.TheVariants.{Inside, Remote}
 use Rattle.sessions.specs.declared.session.Session.{Session}
@@ -52,10 +52,6 @@ through first t = record { sessions = first ∷ t ∷ []; src = first.outside; d
 
 -- ---- sessions and mappings
 
--- the session's endpoints differ inside and outside
-abbrev pub is_translated : Session → Bool
-is_translated s = not (same_endpoint s.inside s.outside)
-
 -- this protocol's inside endpoint has the session's mapping
 unfoldable pub maps_inside : Proto → Endpoint → Session → Bool
 maps_inside proto inside s = is_translated s && same_proto s.proto proto && same_endpoint s.inside inside
@@ -72,20 +68,6 @@ is_at proto outside s = same_proto s.proto proto && same_endpoint s.outside outs
 abbrev pub is_taken : List Session → Proto → ℕ → ℕ → Bool
 is_taken sessions proto addr port = is_some (find (is_at proto (endpoint addr port)) sessions)
 
--- just one of the two
-abbrev pub just_one : Bool → Bool → Bool
-just_one a b = (a && not b) || (not a && b)
-
--- both are translated, and share just one of the endpoints of their mappings
-unfoldable pub breaks_mapping : Session → Session → Bool
-breaks_mapping s t = is_translated s && is_translated t && same_proto s.proto t.proto
-    && just_one (same_endpoint s.inside t.inside) (same_endpoint s.outside t.outside)
-
--- the two can't both be held: they share protocol, inside and remote, or protocol, outside and remote, or they would
--- make the mappings many-to-one
-unfoldable pub clashes : Session → Session → Bool
-clashes s t = has_inside s.proto s.inside s.remote t || has_outside s.proto s.outside s.remote t || breaks_mapping s t
-
 -- the session once a packet of it from this side has passed: a SYN alone begins a closing one anew
 abbrev pub passed_by : Session → Opener → Flags → ℕ → Session
 passed_by s sender flags now =
@@ -97,7 +79,7 @@ needs_session view = same_proto view.proto Tcp && not (is_syn_alone view.flags)
 
 -- the state of a packet of this session from this side: one that begins it anew is new too
 abbrev pub state_of : Session → Opener → Flags → State
-state_of s sender flags = if restarts s flags || is_new (Some s) sender then New else Established
+state_of s sender flags = if restarts s flags || awaits_reply s sender then New else Established
 
 -- the sessions with these, each in place of the one of its protocol, inside and remote endpoint
 abbrev pub put_all : List Session → List Session → List Session
@@ -131,9 +113,9 @@ module _ (config : Config) (rules : Spelled) (sessions : List Session) (now : �
   abbrev pub forwarded : {A : Type 0} → Iface → Iface → Endpoint → Endpoint → State → Result A Cause → Result A Cause
   forwarded iif oif src dst state way = unless_dropped (forward_verdict config (facts_of iif (Some oif) src dst state) rules) way
 
-  -- last, there are no more than 65,536 sessions
+  -- last, there are not too many sessions
   abbrev pub counted : Passage → Result Passage Cause
-  counted passage = if nat_lt 65536 (length (put_all passage.sessions sessions)) then Err TableFull else Ok passage
+  counted passage = if nat_lt most_sessions (length (put_all passage.sessions sessions)) then Err TableFull else Ok passage
 
   -- the outside endpoint at this address that the port of the inside endpoint is given
   abbrev pub chosen : ℕ → Endpoint → Result Endpoint Cause

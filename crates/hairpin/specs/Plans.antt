@@ -3,7 +3,7 @@ use Rattle.std.specs.Prelude.{◌≡◌, ◌≢◌, ℕ, ◌<◌, List, [], ◌�
 use Rattle.packet.specs.Same.{same_endpoint}
 use Rattle.sessions.specs.Life.{IsSeen}
 use Rattle.sessions.specs.Listing.{listing, put}
-use Rattle.sessions.specs.Table.{AnyClash, restarted, seen}
+use Rattle.sessions.specs.Table.{AnyClash, most_sessions, restarted, seen}
 use Rattle.sessions.specs.declared.session.Change.{Change}
 use Rattle.sessions.specs.declared.session.Change.TheVariants.{Begin, Seen, Restart, End}
 use Rattle.sessions.specs.declared.session.Session.{Session}
@@ -16,7 +16,7 @@ pub record MayBegin (external : ℕ) (held : List (Option Session)) (now : ℕ) 
   pub unseen : s.seen ≡ 0
   pub last : s.last ≡ now
   pub apart : ¬ AnyClash held s
-  pub few : count_by is_some held ≢ 65536
+  pub few : count_by is_some held ≢ most_sessions
   pub placed : same_endpoint s.inside s.outside ≡ false → (s.outside.addr ≡ external) × (0 < s.outside.port)
 
 -- the change is of the session that the slot holds
@@ -62,14 +62,3 @@ module _ (external : ℕ) (held : List (Option Session)) (now : ℕ) where
   Plans (Ok plan) (Err cause) = ⊥
   Plans (Err cause) (Ok passage) = ⊥
   Plans (Err cause) (Err other) = cause ≡ other
-
--- how many sessions the change adds
-abbrev pub adds : Change → ℕ
-adds (Begin s) = 1
-adds (Seen slot bits) = 0
-adds (Restart slot opener) = 0
-adds (End slot) = 0
-
-abbrev pub adds_second : Option Change → ℕ
-adds_second None = 0
-adds_second (Some change) = adds change

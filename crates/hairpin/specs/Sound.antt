@@ -5,7 +5,7 @@ use Rattle.packet.specs.declared.endpoint.Endpoint.{Endpoint}
 use Rattle.rulesyntax.specs.declared.tree.Spelled.{Spelled}
 use Rattle.sessions.specs.Life.{IsSeen}
 use Rattle.sessions.specs.Listing.{In, Rises}
-use Rattle.sessions.specs.Table.{Clash}
+use Rattle.sessions.specs.Table.{Clash, most_sessions}
 use Rattle.sessions.specs.declared.session.Session.{Session}
 use Rattle.verdict.specs.Hooks.{prerouting_verdict, postrouting_verdict}
 use Rattle.verdict.specs.declared.facts.Facts.{Facts}
@@ -24,7 +24,7 @@ pub record IsPlaced (config : Config) (s : Session) : Type 0 where
 pub record AreSound (config : Config) (sessions : List Session) : Type 0 where
   pub rises : Rises sessions
   pub apart : (s t : Session) → In s sessions → In t sessions → s ≢ t → ¬ Clash s t
-  pub at_most : length sessions ≤ 65536
+  pub at_most : length sessions ≤ most_sessions
   pub placed : (s : Session) → In s sessions → IsPlaced config s
   pub seen : (s : Session) → In s sessions → IsSeen s.proto s.seen
 

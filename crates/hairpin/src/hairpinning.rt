@@ -5,11 +5,11 @@ ghost use Rattle.packet.specs.Config.{Config, is_inside};
 ghost use Rattle.mappings.specs.declared.map.Pair.{Pair as Mapping};
 ghost use Rattle.mappings.specs.Map.{times};
 ghost use Rattle.rulesyntax.specs.declared.tree.Spelled.{Spelled};
-ghost use Rattle.sessions.specs.Listing.{In, find, has_inside, has_outside, listing, put, same_flow};
+ghost use Rattle.sessions.specs.Listing.{In, breaks_mapping as are_breaking, find, has_inside, has_outside, listing, put, same_flow};
 ghost use Rattle.sessions.specs.Table.{at, count};
 ghost use Rattle.sessions.specs.declared.session.Session.{Session as Flow};
 ghost use Rattle.verdict.specs.Hooks.{forward_verdict};
-ghost use Rattle.hairpin.specs.Legs.{begun_second as begun_far, breaks_mapping as are_breaking, counted, first_by, first_state, forwarded, hairpin as hairpin_way, inside_far as far_inside, maps_inside, maps_outside, or_no_mapping, outside_near as near_outside, passed_by, second as second_way, second_by, then_with, through};
+ghost use Rattle.hairpin.specs.Legs.{begun_second as begun_far, counted, first_by, first_state, forwarded, hairpin as hairpin_way, inside_far as far_inside, maps_inside, maps_outside, or_no_mapping, outside_near as near_outside, passed_by, second as second_way, second_by, then_with, through};
 ghost use Rattle.hairpin.specs.Plans.{Gives, Plans};
 ghost use Rattle.hairpin.specs.Sound.{AreSound, KeepBounds};
 ghost use Rattle.hairpin.specs.Tallies.{tally};
@@ -24,7 +24,7 @@ use crate::translations::Translations;
 use packet::bounds::Bounds;
 use packet::endpoint::{Endpoint, Flags, Iface};
 use packet::view::View;
-use sessions::{Change, Opener, Session, Table};
+use sessions::{Change, MOST_SESSIONS, Opener, Session, Table};
 use verdict::{Destination, Filtering, Rules, State, forward, prerouting};
 
 /// How a packet passes from an inside endpoint (its source) to an outside endpoint of the gateway (its
@@ -215,7 +215,7 @@ fn inside_far(
     }
 }
 
-#[tactic(auto, unfolding(crate::specs::Legs::breaks_mapping))]
+#[tactic(auto, unfolding(sessions::specs::Listing::breaks_mapping))]
 fn breaks_mapping(new: &Session, held: &Session) -> bool
     ensures { result ≡ are_breaking new.now held.now }
 {
@@ -384,7 +384,7 @@ fn after_first(
     if !is_forwarded(bounds, rules, view, second.session.inside, state) {
         return Err(Cause::Rule);
     }
-    if sessions_after(table, first, &second) > 65_536 {
+    if sessions_after(table, first, &second) > MOST_SESSIONS {
         return Err(Cause::TableFull);
     }
     Ok(Plan {

@@ -10,7 +10,7 @@ ghost use Rattle.hairpin.specs.declared.held.Held.{Held as Known};
 
 use packet::endpoint::{Endpoint, Flags, Iface, Proto};
 use packet::view::View;
-use sessions::{Change, Opener, Session, Slot, Table, is_new, is_syn_alone};
+use sessions::{Change, Opener, Session, Slot, Table, is_syn_alone};
 use verdict::{Facts, State};
 
 /// A session that the table holds.
@@ -71,7 +71,7 @@ pub fn needs_session(view: &View) -> bool
 pub fn state_of(session: &Session, sender: Opener, flags: Flags) -> State
     ensures { result ≡ state_by session.now sender flags }
 {
-    if session.restarts(flags) || is_new(Some(*session), sender) {
+    if session.restarts(flags) || session.awaits_reply(sender) {
         State::New
     } else {
         State::Established

@@ -4,6 +4,7 @@ ghost use Rattle.packet.specs.Config.{is_inside};
 ghost use Rattle.mappings.specs.declared.map.Pair.{Pair as Mapping};
 ghost use Rattle.mappings.specs.Map.{times};
 ghost use Rattle.sessions.specs.Listing.{listing};
+ghost use Rattle.sessions.specs.Table.{most_sessions};
 ghost use Rattle.sessions.specs.declared.session.Session.{Session as Flow};
 ghost use Rattle.hairpin.specs.Legs.{begun_in, in_by, in_leg as in_way, inside_for};
 ghost use Rattle.hairpin.specs.Plans.{Plans};
@@ -17,7 +18,7 @@ use crate::translations::Translations;
 use packet::bounds::Bounds;
 use packet::endpoint::{Endpoint, Iface};
 use packet::view::View;
-use sessions::{Change, Opener, Table};
+use sessions::{Change, MOST_SESSIONS, Opener, Table};
 use verdict::{Destination, Filtering, Rules, State, forward, prerouting};
 
 // How a packet of a session comes in.
@@ -75,7 +76,7 @@ fn begins(
     inside: Endpoint,
     now: u64,
 ) -> Result<Plan, Cause>
-    requires few { length (listing table.now.held) ≤ 65536 }
+    requires few { length (listing table.now.held) ≤ most_sessions }
     requires placed { (inside ≡ view.now.dst) ⊎ ((view.now.dst.addr ≡ bounds.now.external) × (0 < view.now.dst.port)) }
     ensures { Plans bounds.now.external table.now.held now result (begun_in bounds.now rules.now (listing table.now.held) now view.now inside) }
 {
@@ -87,7 +88,7 @@ fn begins(
     match forward(rules, bounds, &facts) {
         Filtering::Drop => Err(Cause::Rule),
         Filtering::Pass => {
-            if table.count() == 65_536 {
+            if table.count() == MOST_SESSIONS {
                 return Err(Cause::TableFull);
             }
             Ok(Plan {

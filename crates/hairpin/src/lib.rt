@@ -31,4 +31,4 @@ pub use cause::Cause;
 pub use hairpinning::both;
 pub use inward::in_leg;
 pub use outward::out_leg;
-pub use plan::{Plan, adds};
+pub use plan::Plan;

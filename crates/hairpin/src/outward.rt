@@ -17,7 +17,7 @@ use crate::translations::Translations;
 use packet::bounds::Bounds;
 use packet::endpoint::{Endpoint, Flags, Iface};
 use packet::view::View;
-use sessions::{Change, Opener, Session, Table};
+use sessions::{Change, MOST_SESSIONS, Opener, Session, Table};
 use verdict::{Facts, Filtering, Rules, Source, State, forward, postrouting};
 
 /// How a packet goes out from an inside endpoint (its source) to a remote one, at a moment in seconds.
@@ -113,7 +113,7 @@ fn begun_out(
     match outside_of(bounds, rules, table, translations, view) {
         Err(cause) => Err(cause),
         Ok(outside) => {
-            if table.count() == 65_536 {
+            if table.count() == MOST_SESSIONS {
                 return Err(Cause::TableFull);
             }
             let session = new_session(view, Opener::Inside, view.src, outside, view.dst, now);

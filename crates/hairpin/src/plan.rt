@@ -1,6 +1,4 @@
 //! What a packet that passes changes, and how it leaves.
-ghost use Rattle.std.specs.Prelude.{◌≡◌};
-ghost use Rattle.hairpin.specs.Plans.{adds as adds_by};
 
 use packet::endpoint::{Endpoint, Iface};
 use sessions::Change;
@@ -18,16 +16,4 @@ pub struct Plan {
     pub dst: Endpoint,
     /// The interface that it leaves on.
     pub iface: Iface,
-}
-
-/// How many sessions the change adds, 0 or 1.
-pub fn adds(change: &Change) -> usize
-    ensures { result ≡ adds_by change.now }
-{
-    match change {
-        Change::Begin(_) => 1,
-        Change::Seen(_, _) => 0,
-        Change::Restart(_, _) => 0,
-        Change::End(_) => 0,
-    }
 }

@@ -8,7 +8,6 @@ ghost use Rattle.hairpin.specs.Tallies.{tally};
 
 use crate::translations::Translations;
 use crate::{Cause, Plan, both, in_leg, out_leg};
-use mappings::map::Pair;
 use packet::bounds::Bounds;
 use packet::endpoint::{Endpoint, Flags, Iface, Prefix, Proto};
 use packet::fault::Fault;
@@ -42,10 +41,14 @@ const OUTSIDE: Endpoint = Endpoint {
     port: 5000,
 };
 
-const PAIR: Pair = Pair {
+const SESSION: Session = Session {
     proto: Proto::Udp,
     inside: HOST,
     outside: OUTSIDE,
+    remote: REMOTE,
+    opener: Opener::Inside,
+    seen: 0,
+    last: 0,
 };
 
 #[test]
@@ -53,7 +56,7 @@ fn a_mapping_comes_and_goes(rt: HostRuntime) -> Result<(), AllocError> {
     let mut translations = Translations::new(rt.alloc(), EXTERNAL)?;
     translations.reserve()?;
     assert_eq!(rt; translations.choose(Proto::Udp, 5000), Some(OUTSIDE));
-    translations.hold(PAIR);
+    translations.hold(&SESSION);
     assert_eq!(rt; translations.outside_of(Proto::Udp, HOST), Some(OUTSIDE));
     assert_eq!(rt; translations.inside_of(Proto::Udp, OUTSIDE), Some(HOST));
     assert_eq!(rt; translations.outside_of(Proto::Udp, NEIGHBOUR), None);
@@ -64,7 +67,7 @@ fn a_mapping_comes_and_goes(rt: HostRuntime) -> Result<(), AllocError> {
     };
     assert_eq!(rt; translations.choose(Proto::Udp, 5000), Some(next));
     assert_eq!(rt; translations.choose(Proto::Tcp, 5000), Some(OUTSIDE));
-    translations.release(PAIR);
+    translations.release(&SESSION);
     assert_eq!(rt; translations.outside_of(Proto::Udp, HOST), None);
     assert_eq!(rt; translations.inside_of(Proto::Udp, OUTSIDE), None);
     assert_eq!(rt; translations.choose(Proto::Udp, 5000), Some(OUTSIDE));

@@ -1,18 +1,22 @@
 //! The mappings, and the outside ports that they take, which change together.
-ghost use Rattle.std.specs.Prelude.{◌≡◌, ◌↔◌, ◌⊎◌, ◌+◌, ◌<◌, ◌≤◌, ℕ, Bool, OnOk, IfOk, IfSome, IfNone};
+ghost use Rattle.std.specs.Prelude.{◌≡◌, ◌↔◌, ◌⊎◌, ◌+◌, ◌<◌, ◌≤◌, ℕ, Bool, Some, false, OnOk, IfOk, IfSome, IfNone};
 ghost use Rattle.std.specs.List.{Contains};
 ghost use Rattle.std.specs.Option.{option_map};
+ghost use Rattle.packet.specs.Same.{same_endpoint};
 ghost use Rattle.packet.specs.declared.endpoint.Endpoint.{Endpoint as Place};
 ghost use Rattle.packet.specs.declared.endpoint.Proto.{Proto as Protocol};
 ghost use Rattle.portpick.specs.Choice.{IsTestOf, port_choice};
 ghost use Rattle.portpick.specs.Taken.{IsTaken};
+ghost use Rattle.sessions.specs.Listing.{is_translated};
 ghost use Rattle.mappings.specs.Map.{times, pair as pair_with, Gains, KeepsOneToOne, SameTimes};
 ghost use Rattle.mappings.specs.declared.map.Pair.{Pair as Mapping};
+ghost use Rattle.hairpin.specs.Tallies.{pair_of, weight};
 ghost use Rattle.hairpin.specs.Translations.{HasRoom, IsOutside, IsOutsideOf, endpoint};
 
 use mappings::map::{Map, Pair};
 use packet::endpoint::{Endpoint, Proto};
 use portpick::ports::Ports;
+use sessions::Session;
 use std::alloc::{AllocError, Global};
 use std::marker::Model;
 
@@ -102,9 +106,37 @@ impl Translations {
         }
     }
 
+    /// Holds the mapping of the session once more, if it is translated.
+    pub fn hold(&mut self, session: &Session)
+        requires one_to_one { same_endpoint session.now.inside session.now.outside ≡ false → KeepsOneToOne self.old.pairs (pair_of session.now) }
+        requires few { times self.old.pairs (pair_of session.now) < 65536 }
+        requires placed { same_endpoint session.now.inside session.now.outside ≡ false
+            → (session.now.outside.addr ≡ self.old.external) × (0 < session.now.outside.port) }
+        requires ready { HasRoom 1 self.old }
+        ensures counts { (p : Mapping) → times self.new.pairs p ≡ times self.old.pairs p + weight p (Some session.now) }
+        ensures room { (n : ℕ) → HasRoom (n + 1) self.old → HasRoom n self.new }
+        ensures external { self.new.external ≡ self.old.external }
+    {
+        if is_translated(session) {
+            self.hold_pair(pair_of(session));
+        }
+    }
+
+    /// Holds the mapping of the session once less, if it is translated.
+    pub fn release(&mut self, session: &Session)
+        requires { (p : Mapping) → weight p (Some session.now) ≤ times self.old.pairs p }
+        ensures counts { (p : Mapping) → times self.old.pairs p ≡ times self.new.pairs p + weight p (Some session.now) }
+        ensures room { (n : ℕ) → HasRoom n self.old → HasRoom n self.new }
+        ensures external { self.new.external ≡ self.old.external }
+    {
+        if is_translated(session) {
+            self.release_pair(pair_of(session));
+        }
+    }
+
     /// Holds the pair once more, for which there is room: it is at the external address, shares neither
     /// endpoint with another pair of its protocol, and is held fewer than 65,536 times.
-    pub fn hold(&mut self, pair: Pair)
+    fn hold_pair(&mut self, pair: Pair)
         requires one_to_one { KeepsOneToOne self.old.pairs pair }
         requires few { times self.old.pairs pair < 65536 }
         requires address { pair.outside.addr ≡ self.old.external }
@@ -122,7 +154,7 @@ impl Translations {
     }
 
     /// Gives one hold of the pair back. With the last one the mapping is gone, and its port free.
-    pub fn release(&mut self, pair: Pair)
+    fn release_pair(&mut self, pair: Pair)
         requires { 0 < times self.old.pairs pair }
         ensures loses { Gains self.new.pairs self.old.pairs pair }
         ensures room { (n : ℕ) → HasRoom n self.old → HasRoom n self.new }
@@ -131,6 +163,22 @@ impl Translations {
         self.map.release(pair);
         free_port(&self.map, &mut self.ports, pair);
     }
+}
+
+fn pair_of(session: &Session) -> Pair
+    ensures { result ≡ pair_of session.now }
+{
+    Pair {
+        proto: session.proto,
+        inside: session.inside,
+        outside: session.outside,
+    }
+}
+
+fn is_translated(session: &Session) -> bool
+    ensures { result ≡ is_translated session.now }
+{
+    session.inside != session.outside
 }
 
 // The pair's port is taken, if it isn't yet.

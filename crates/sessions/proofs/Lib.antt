@@ -1,3 +1,4 @@
+pub mod Clashing
 pub mod Found
 pub mod Held
 pub mod LifeLemmas

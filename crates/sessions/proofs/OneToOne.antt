@@ -9,6 +9,8 @@ use Rattle.packet.proofs.SameLemmas.{same_endpoint-true, same_endpoint-itself}
 use Rattle.sessions.specs.declared.session.Session.{Session}
 use Rattle.sessions.specs.Table.{IsSound, BreakMapping}
 use Rattle.sessions.specs.Laws.{IsMapping}
+use Rattle.sessions.specs.Listing.{listing}
+use Rattle.sessions.proofs.Sets.{In-listing}
 
 -- two endpoints are one where they aren't two
 one_endpoint : (e f : Endpoint) → ¬ (e ≢ f) → e ≡ f
@@ -18,18 +20,21 @@ one_endpoint e f not_two = elim (cases_Bool (same_endpoint e f)) [
 ]
 
 module _ (held : List (Option Session)) (sound : IsSound held) (proto : Proto) (inside inside' outside outside' : Endpoint)
-    (m : IsMapping held proto inside outside) (n : IsMapping held proto inside' outside') where
+    (m : IsMapping (listing held) proto inside outside) (n : IsMapping (listing held) proto inside' outside') where
   -- at one slot the two are one, and at two they don't break the mapping
   kept : BreakMapping m.session n.session → ⊥
-  kept breaks = elim (cases_eq m.slot n.slot) [
-    | inl here ↦
-        let is : m.session ≡ n.session = same_Some m.session n.session (sym m.is_held ∙ subst (λ k. get_or held k None ≡ Some n.session) (sym here) n.is_held) in
-        elim breaks.3 [
-          | inl b ↦ b.1 (ap (λ (s : Session). s.outside) is)
-          | inr b ↦ b.1 (ap (λ (s : Session). s.inside) is)
-        ]
-    | inr away ↦ sound.apart m.slot n.slot m.session n.session away m.is_held n.is_held (inr (inr breaks))
-  ]
+  kept breaks =
+      let at_m = In-listing held m.session m.is_held in
+      let at_n = In-listing held n.session n.is_held in
+      elim (cases_eq at_m.0 at_n.0) [
+        | inl here ↦
+            let is : m.session ≡ n.session = same_Some m.session n.session (sym at_m.1 ∙ subst (λ k. get_or held k None ≡ Some n.session) (sym here) at_n.1) in
+            elim breaks.3 [
+              | inl b ↦ b.1 (ap (λ (s : Session). s.outside) is)
+              | inr b ↦ b.1 (ap (λ (s : Session). s.inside) is)
+            ]
+        | inr away ↦ sound.apart at_m.0 at_n.0 m.session n.session away at_m.1 at_n.1 (inr (inr breaks))
+      ]
 
   pub same_outside : inside ≡ inside' → outside ≡ outside'
   same_outside e = sym m.outside ∙ one_endpoint m.session.outside n.session.outside

@@ -10,7 +10,8 @@ use Rattle.packet.specs.Same.{same_proto, same_endpoint}
 use Rattle.packet.proofs.SameLemmas.{same_proto-true, same_proto-itself, same_endpoint-true, same_endpoint-itself}
 use Rattle.sessions.specs.declared.session.Session.{Session}
 use Rattle.sessions.specs.Table.{IsSound, HasInside}
-use Rattle.sessions.specs.Listing.{number, key, below, In, insert, listing, has_inside, same_flow, put, find}
+use Rattle.packet.specs.Numbers.{proto_number}
+use Rattle.sessions.specs.Listing.{key, below, In, insert, listing, has_inside, same_flow, put, find}
 use Rattle.sessions.proofs.Sets.{Apart, Apart-sound, same_key, Rises-listing, Rises-filter, Rises-insert, In-filter, filter-In, In-insert, insert-In, In-listing, listing-In, listing-is}
 
 pub has_inside-true : (proto : Proto) (inside remote : Endpoint) (s : Session) → has_inside proto inside remote s ≡ true → HasInside proto inside remote s
@@ -28,9 +29,9 @@ has_inside-from proto inside remote s h = and_from _ _
 
 pub keys-from : (s t : Session) → HasInside s.proto s.inside s.remote t → key t ≡ key s
 keys-from s t h =
-    ap (λ p. number p ∷ t.inside.addr ∷ t.inside.port ∷ t.remote.addr ∷ t.remote.port ∷ []) h.0
-    ∙ ap (λ (e : Endpoint). number s.proto ∷ e.addr ∷ e.port ∷ t.remote.addr ∷ t.remote.port ∷ []) h.1
-    ∙ ap (λ (e : Endpoint). number s.proto ∷ s.inside.addr ∷ s.inside.port ∷ e.addr ∷ e.port ∷ []) h.2
+    ap (λ p. proto_number p ∷ t.inside.addr ∷ t.inside.port ∷ t.remote.addr ∷ t.remote.port ∷ []) h.0
+    ∙ ap (λ (e : Endpoint). proto_number s.proto ∷ e.addr ∷ e.port ∷ t.remote.addr ∷ t.remote.port ∷ []) h.1
+    ∙ ap (λ (e : Endpoint). proto_number s.proto ∷ s.inside.addr ∷ s.inside.port ∷ e.addr ∷ e.port ∷ []) h.2
 
 pub flow-keys : (s t : Session) → same_flow s t ≡ true → key t ≡ key s
 flow-keys s t h = keys-from s t (has_inside-true _ _ _ t h)

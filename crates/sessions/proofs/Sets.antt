@@ -13,7 +13,8 @@ use Rattle.packet.specs.declared.endpoint.Proto.{Proto}
 use Rattle.packet.specs.declared.endpoint.Proto.TheVariants.{Tcp, Udp}
 use Rattle.packet.specs.declared.endpoint.Endpoint.{Endpoint}
 use Rattle.sessions.specs.Table.{IsSound, HasInside}
-use Rattle.sessions.specs.Listing.{number, key, below, In, Rises, insert, listing, Holds}
+use Rattle.packet.specs.Numbers.{proto_number}
+use Rattle.sessions.specs.Listing.{key, below, In, Rises, insert, listing, Holds}
 
 -- the order is strict and tells keys apart
 pub below-itself : (s : Session) → below s s ≡ true → ⊥
@@ -205,7 +206,7 @@ listing-is held xs apart rises from to = rising-unique (listing held) xs (Rises-
     (λ s is. let old = In-listing held s is in to old.0 s old.1)
     (λ s is. let old = from s is in listing-In held s old.0 old.1)
 
-number-same : (p q : Proto) → number p ≡ number q → p ≡ q
+number-same : (p q : Proto) → proto_number p ≡ proto_number q → p ≡ q
 number-same Tcp Tcp e = refl
 number-same Tcp Udp e = absurd (omega (arith, e))
 number-same Udp Tcp e = absurd (omega (arith, e))
@@ -216,7 +217,7 @@ same_endpoints a b x y = let f : ℕ → Endpoint = λ n. record { addr = n; por
 
 pub same_key : (s t : Session) → key s ≡ key t → HasInside s.proto s.inside s.remote t
 same_key s t e =
-    let a : number s.proto ≡ number t.proto = ap (λ k. get_or k 0 0) e in
+    let a : proto_number s.proto ≡ proto_number t.proto = ap (λ k. get_or k 0 0) e in
     let b : s.inside.addr ≡ t.inside.addr = ap (λ k. get_or k 1 0) e in
     let f : s.inside.port ≡ t.inside.port = ap (λ k. get_or k 2 0) e in
     let g : s.remote.addr ≡ t.remote.addr = ap (λ k. get_or k 3 0) e in

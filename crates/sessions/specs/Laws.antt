@@ -1,23 +1,26 @@
 -- What the definitions promise.
-use Rattle.std.specs.Prelude.{◌≡◌, ◌≢◌, ◌↔◌, ℕ, List, Option, Some, None, true, slice_index_or}
+use Rattle.std.specs.Prelude.{◌≡◌, ◌≢◌, ◌↔◌, ℕ, IsTrue, List, Option, true}
 use Rattle.packet.specs.declared.endpoint.Proto.{Proto}
 use Rattle.packet.specs.declared.endpoint.Endpoint.{Endpoint}
 use Rattle.sessions.specs.declared.session.Session.{Session}
 use Rattle.sessions.specs.declared.session.Opener.{Opener}
-use Rattle.sessions.specs.Table.{IsSound, restarted}
-use Rattle.sessions.specs.Listing.{listing, IsSetOf}
-use Rattle.sessions.specs.Life.{is_new}
+use Rattle.sessions.specs.Table.{Clash, IsSound, restarted}
+use Rattle.sessions.specs.Listing.{In, IsSetOf, clashes, listing}
+use Rattle.sessions.specs.Life.{awaits_reply}
 
 -- what a table holds has one rising list, its listing
 abbrev pub ListingIsTheSet : Type 0
 ListingIsTheSet = (held : List (Option Session)) → IsSound held
     → IsSetOf held (listing held) × ((sessions : List Session) → IsSetOf held sessions → sessions ≡ listing held)
 
--- a translated session that is held has these two endpoints
-pub record IsMapping (held : List (Option Session)) (protocol : Proto) (near far : Endpoint) : Type 0 where
-  pub slot : ℕ
+-- the test of a clash tells exactly which two sessions clash
+abbrev pub ClashesTellsClash : Type 0
+ClashesTellsClash = (s t : Session) → IsTrue (clashes s t) ↔ Clash s t
+
+-- a translated session among these has these two endpoints
+pub record IsMapping (sessions : List Session) (protocol : Proto) (near far : Endpoint) : Type 0 where
   pub session : Session
-  pub is_held : slice_index_or held slot None ≡ Some session
+  pub is_held : In session sessions
   pub translated : session.inside ≢ session.outside
   pub proto : session.proto ≡ protocol
   pub inside : session.inside ≡ near
@@ -26,8 +29,8 @@ pub record IsMapping (held : List (Option Session)) (protocol : Proto) (near far
 -- the mappings of what a table holds are a one-to-one function, for each protocol
 abbrev pub MappingsAreOneToOne : Type 0
 MappingsAreOneToOne = (held : List (Option Session)) (proto : Proto) (inside inside' outside outside' : Endpoint) → IsSound held
-    → IsMapping held proto inside outside → IsMapping held proto inside' outside' → (inside ≡ inside') ↔ (outside ≡ outside')
+    → IsMapping (listing held) proto inside outside → IsMapping (listing held) proto inside' outside' → (inside ≡ inside') ↔ (outside ≡ outside')
 
--- in a session that was begun anew a packet of the side that began it is new
-abbrev pub RestartedIsNew : Type 0
-RestartedIsNew = (s : Session) (sender : Opener) (last : ℕ) → is_new (Some (restarted s sender last)) sender ≡ true
+-- in a session that was begun anew the side that began it awaits a reply
+abbrev pub RestartedAwaitsReply : Type 0
+RestartedAwaitsReply = (s : Session) (sender : Opener) (last : ℕ) → awaits_reply (restarted s sender last) sender ≡ true

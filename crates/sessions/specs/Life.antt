@@ -1,6 +1,6 @@
 -- The life of a session: what its packets have shown, its phase, and how long it may be idle
 -- (RFC 4787 REQ-5, RFC 5382 REQ-5).
-use Rattle.std.specs.Prelude.{◌≡◌, ◌⊎◌, ℕ, ◌+◌, ◌-◌, ◌<◌, ◌≤◌, Option, Some, None, Bool, true, false, not, ◌&&◌, ◌||◌, ◌==◌, if◌then◌else◌, nat_lt, bit_and}
+use Rattle.std.specs.Prelude.{◌≡◌, ◌⊎◌, ℕ, ◌+◌, ◌-◌, ◌<◌, ◌≤◌, Bool, true, false, not, ◌&&◌, ◌||◌, ◌==◌, if◌then◌else◌, nat_lt, bit_and}
 use Rattle.packet.specs.declared.endpoint.Proto.{Proto}
 use Rattle.packet.specs.declared.endpoint.Proto.TheVariants.{Tcp, Udp}
 use Rattle.packet.specs.declared.endpoint.Flags.{Flags}
@@ -98,11 +98,9 @@ shown_flags Tcp sender flags = bit_if flags.ack (ack_bit sender) + bit_if flags.
 abbrev pub shown : Proto → Opener → Opener → Flags → ℕ
 shown proto opener sender flags = bit_if (not (same_side opener sender)) reply_bit + shown_flags proto sender flags
 
--- the state of a packet from this side is new: it has no session, or goes in the opener's direction of
--- one that has had no reply; otherwise it is established
-abbrev pub is_new : Option Session → Opener → Bool
-is_new None sender = true
-is_new (Some s) sender = same_side s.opener sender && not (has s.seen reply_bit)
+-- this side began the session, and no reply has come
+abbrev pub awaits_reply : Session → Opener → Bool
+awaits_reply s sender = same_side s.opener sender && not (has s.seen reply_bit)
 
 -- SYN is set, and ACK, FIN and RST are clear
 abbrev pub is_syn_alone : Flags → Bool

@@ -17,6 +17,10 @@ pub record Sessions : Type 0 where
 abbrev pub at : Sessions → ℕ → Option Session
 at t slot = slice_index_or t.held slot None
 
+-- the most sessions that are held
+abbrev pub most_sessions : ℕ
+most_sessions = 65536
+
 -- how many slots hold a session
 abbrev pub count : Sessions → ℕ
 count t = count_by is_some t.held
@@ -57,7 +61,7 @@ ClashesWith t session = AnyClash t.held session
 -- no two sessions that are held clash, there are at most 65,536, and each has seen bits of its protocol
 pub record IsSound (held : List (Option Session)) : Type 0 where
   pub apart : (i j : ℕ) (s t : Session) → i ≢ j → slice_index_or held i None ≡ Some s → slice_index_or held j None ≡ Some t → ¬ Clash s t
-  pub at_most : count_by is_some held ≤ 65536
+  pub at_most : count_by is_some held ≤ most_sessions
   pub seen : (i : ℕ) (s : Session) → slice_index_or held i None ≡ Some s → IsSeen s.proto s.seen
 
 -- the session once a packet showed these bits at this moment

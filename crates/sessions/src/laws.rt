@@ -1,5 +1,5 @@
 //! What follows from the definitions: each function is proved to meet its clause.
-ghost use Rattle.sessions.specs.Laws.{ListingIsTheSet, MappingsAreOneToOne, RestartedIsNew};
+ghost use Rattle.sessions.specs.Laws.{ClashesTellsClash, ListingIsTheSet, MappingsAreOneToOne, RestartedAwaitsReply};
 
 /// The sessions of a table, as a set, have one list that rises strictly: the one that `list` gives.
 pub fn listing_is_the_set()
@@ -12,7 +12,12 @@ pub fn mappings_are_one_to_one()
     ensures { MappingsAreOneToOne }
 {}
 
-/// In a session that was begun anew, a packet of the side that began it is new.
-pub fn restarted_is_new()
-    ensures { RestartedIsNew }
+/// The test of a clash tells exactly which two sessions clash.
+pub fn clashes_tells_clash()
+    ensures { ClashesTellsClash }
+{}
+
+/// In a session that was begun anew, the side that began it awaits a reply.
+pub fn restarted_awaits_reply()
+    ensures { RestartedAwaitsReply }
 {}

@@ -14,7 +14,9 @@ mod table;
 #[cfg(test)]
 mod tests;
 
-pub use laws::{listing_is_the_set, mappings_are_one_to_one, restarted_is_new};
-pub use life::{Phase, is_new, is_syn_alone};
+pub use laws::{
+    clashes_tells_clash, listing_is_the_set, mappings_are_one_to_one, restarted_awaits_reply,
+};
+pub use life::{Phase, is_syn_alone};
 pub use session::{Change, Opener, Session};
-pub use table::{AddFault, Slot, Table};
+pub use table::{AddFault, MOST_SESSIONS, Slot, Table};

@@ -1,6 +1,6 @@
 //! What the packets of a session have shown, and how long it lives.
 ghost use Rattle.std.specs.Prelude.{◌≡◌, ◌↔◌, ◌≤◌, IsTrue, not};
-ghost use Rattle.sessions.specs.Life.{IsAlive, IsSeen, IsTimeout, ack_bit, bit_if, fin_bit, has as has_bit, is_acknowledged, is_closing, is_new as is_new_of, is_syn_alone as is_syn_alone_of, phase_of, reply_bit, reset_bit, restarts as restarts_of, same_side, shown as shown_of, shown_flags, timeout_in, timeout_of};
+ghost use Rattle.sessions.specs.Life.{IsAlive, IsSeen, IsTimeout, ack_bit, awaits_reply as awaits_reply_of, bit_if, fin_bit, has as has_bit, is_acknowledged, is_closing, is_syn_alone as is_syn_alone_of, phase_of, reply_bit, reset_bit, restarts as restarts_of, same_side, shown as shown_of, shown_flags, timeout_in, timeout_of};
 
 use crate::{Opener, Session};
 use packet::endpoint::{Flags, Proto};
@@ -77,16 +77,12 @@ impl Session {
     {
         is_syn_alone(flags) && is_closing(self.seen)
     }
-}
 
-/// Whether the state of a packet from this side is new: it has no session, or goes in the opener's
-/// direction of one that has had no reply. Otherwise its state is established.
-pub fn is_new(session: Option<Session>, sender: Opener) -> bool
-    ensures { result ≡ is_new_of session sender }
-{
-    match session {
-        None => true,
-        Some(session) => session.opener == sender && !has(session.seen, REPLY),
+    /// Whether this side began the session, and no reply has come. To the rules its packets are new then.
+    pub fn awaits_reply(&self, sender: Opener) -> bool
+        ensures { result ≡ awaits_reply_of self.now sender }
+    {
+        self.opener == sender && !has(self.seen, REPLY)
     }
 }
 

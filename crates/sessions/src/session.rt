@@ -1,6 +1,6 @@
 //! Sessions, and how two of them compare.
 ghost use Rattle.std.specs.Prelude.{◌≡◌, ◌≢◌, ◌⊎◌, ◌↔◌, IsTrue};
-ghost use Rattle.sessions.specs.Listing.{key, number, order};
+ghost use Rattle.sessions.specs.Listing.{key, order};
 ghost use Rattle.sessions.specs.Table.{Clash, HasInside, HasOutside};
 
 use crate::table::Slot;
@@ -83,22 +83,12 @@ pub fn has_outside(session: &Session, proto: Proto, outside: Endpoint, remote: E
     session.proto == proto && session.outside == outside && session.remote == remote
 }
 
-// The IP protocol number.
-fn number(proto: Proto) -> u32
-    ensures { result ≡ number proto }
-{
-    match proto {
-        Proto::Tcp => 6,
-        Proto::Udp => 17,
-    }
-}
-
 // What the order of sessions goes by, in turn.
 fn flow_key(session: &Session) -> [u32; 5]
     ensures { result ≡ key session.now }
 {
     [
-        number(session.proto),
+        session.proto.number() as u32,
         session.inside.addr,
         session.inside.port as u32,
         session.remote.addr,

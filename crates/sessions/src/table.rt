@@ -4,13 +4,16 @@ ghost use Rattle.std.specs.Option.{option_map};
 ghost use Rattle.std.specs.List.Sorted.{IsPermutation, IsSorted};
 ghost use Rattle.sessions.specs.Life.{IsSeen};
 ghost use Rattle.sessions.specs.Listing.{listing, order, sessions_of};
-ghost use Rattle.sessions.specs.Table.{at, count, Updates, HasInside, HasOutside, Clash, ClashesWith, AnyClash, IsSound, seen as seen_with, restarted};
+ghost use Rattle.sessions.specs.Table.{at, count, most_sessions, Updates, HasInside, HasOutside, Clash, ClashesWith, AnyClash, IsSound, seen as seen_with, restarted};
 
 use crate::session::{clash, has_inside, has_outside, order};
 use crate::{Opener, Session};
 use packet::endpoint::{Endpoint, Proto};
 use std::alloc::{AllocError, Global};
 use std::marker::Model;
+
+/// The most sessions that a table holds.
+pub const MOST_SESSIONS: usize = 65_536;
 
 /// The name of a session in a table, from its beginning to its end. After that the table may give it to
 /// another session.
@@ -167,7 +170,7 @@ impl Table {
 
         // Each refusal comes exactly where it should, and nothing has changed then.
         ensures clash { result ≡ Err AddFault.Clash ↔ ClashesWith self.old session }
-        ensures full { result ≡ Err AddFault.TableFull ↔ (¬ ClashesWith self.old session × (count self.old ≡ 65536)) }
+        ensures full { result ≡ Err AddFault.TableFull ↔ (¬ ClashesWith self.old session × (count self.old ≡ most_sessions)) }
         ensures no_memory { result ≡ Err AddFault.NoMemory → self.old.room ≡ 0 }
         ensures err { OnErr result (self.new.held ≡ self.old.held) }
         ensures err_room { OnErr result (self.old.room ≤ self.new.room) }
@@ -181,7 +184,7 @@ impl Table {
         if any_clash(&self.places, &session) {
             return Err(AddFault::Clash);
         }
-        if count_held(&self.places) >= 65_536 {
+        if count_held(&self.places) >= MOST_SESSIONS {
             return Err(AddFault::TableFull);
         }
         match first_free(&self.places) {

@@ -2,7 +2,7 @@ ghost use Rattle.std.specs.Prelude.{◌≡◌};
 
 use crate::life::Phase::{self, Closing, Established, Partial};
 use crate::session::Opener::{self, Inside, Remote};
-use crate::{AddFault, Session, Table, is_new};
+use crate::{AddFault, Session, Table};
 use packet::endpoint::{Endpoint, Flags, Proto};
 use std::process::Abort;
 use std::test::*;
@@ -122,11 +122,10 @@ fn phases(rt: HostRuntime) {
 #[test]
 fn states(rt: HostRuntime) {
     let query = begun(Proto::Udp, SERVER);
-    assert!(rt; is_new(None, Remote));
-    assert!(rt; is_new(Some(query), Inside));
-    assert!(rt; !is_new(Some(query), Remote));
+    assert!(rt; query.awaits_reply(Inside));
+    assert!(rt; !query.awaits_reply(Remote));
     let answered = Session { seen: 1, ..query };
-    assert!(rt; !is_new(Some(answered), Inside));
+    assert!(rt; !answered.awaits_reply(Inside));
 }
 
 #[test]

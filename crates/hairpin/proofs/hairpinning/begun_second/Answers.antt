@@ -1,10 +1,10 @@
 use Rattle.std.proofs.Common.{◌≡◌, Ok, true, false, sym, subst, ◌∙◌}
 use Rattle.std.proofs.lemmas.Bool.{false≢true}
-use Rattle.sessions.specs.Listing.{listing, put}
+use Rattle.sessions.specs.Listing.{breaks_mapping, listing, put}
 use Rattle.sessions.specs.Table.{AnyClash}
 use Rattle.sessions.specs.declared.session.Opener.TheVariants.{Remote}
 use Rattle.sessions.specs.declared.session.Session.{Session}
-use Rattle.hairpin.specs.Legs.{begun_second, breaks_mapping, new_session}
+use Rattle.hairpin.specs.Legs.{begun_second, new_session}
 use Rattle.hairpin.proofs.Planned.{begun-clashes, begun-new, clash-any, clash-first, clash-none}
 use Rattle.hairpin.proofs.hairpinning.begun_second.Goals as goal
 

@@ -8,27 +8,27 @@ use Rattle.hairpin.specs.declared.cause.Cause.TheVariants.{TableFull}
 use Rattle.hairpin.proofs.Opening.{begun-is, may_begin, no_room, opened, plan_begun, room_left}
 use Rattle.hairpin.proofs.outward.begun_out.Goals as goal
 
-pub returns-then-count-eq65536 : goal.returns-then-count-eq65536
-returns-then-count-eq65536 c =
+pub returns-then-count-eq-MOST_SESSIONS : goal.returns-then-count-eq-MOST_SESSIONS
+returns-then-count-eq-MOST_SESSIONS c =
     let config = c.args.bounds.now in
     let rules = c.args.rules.now in
     let held = c.args.table.now.held in
     let now = c.args.now in
     let view = c.args.view.now in
-    let many = length-listing held ∙ sym c.count.ensures ∙ c.if-count-eq65536.true in
+    let many = length-listing held ∙ sym c.count.ensures ∙ c.if-count-eq-MOST_SESSIONS.true in
     let way = no_room config rules c.requires.bounded (listing held) now view c.facts.ensures.valid c.requires.sound c.requires.inside c.requires.port c.requires.none
     c.in-Ok.outside (sym (c.in-Ok.ensures now)) many in
     subst (Plans config.external held now (Err TableFull)) (sym way) refl
 
-pub returns-else-count-eq65536 : goal.returns-else-count-eq65536
-returns-else-count-eq65536 c =
+pub returns-else-count-eq-MOST_SESSIONS : goal.returns-else-count-eq-MOST_SESSIONS
+returns-else-count-eq-MOST_SESSIONS c =
     let config = c.args.bounds.now in
     let rules = c.args.rules.now in
     let held = c.args.table.now.held in
     let now = c.args.now in
     let view = c.args.view.now in
     let outside = c.in-Ok.outside in
-    let few : count_by is_some held ≢ 65536 = λ e. c.if-count-eq65536.false (c.count.ensures ∙ e) in
+    let few : count_by is_some held ≢ 65536 = λ e. c.if-count-eq-MOST_SESSIONS.false (c.count.ensures ∙ e) in
     let most : count_by is_some held ≤ 65536 = omega (arith, c.requires.sound.at_most, length-listing held) in
     let t = new_session config rules (listing held) now view Inside view.src outside view.dst in
     let o = opened config rules c.requires.bounded (listing held) now view c.facts.ensures.valid c.requires.sound c.requires.inside c.requires.port c.requires.none

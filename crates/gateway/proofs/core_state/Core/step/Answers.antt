@@ -1,7 +1,7 @@
 use Rattle.std.proofs.Common.{◌∙◌, ap, refl, subst, sym}
 use Rattle.gateway.specs.Judged.{Judged, IsNoLoad}
 use Rattle.gateway.specs.Machine.{State, EndsNone, later}
-use Rattle.gateway.specs.Plans.{state_of}
+use Rattle.gateway.specs.Core.{state_of}
 use Rattle.gateway.specs.Sound.{IsSound}
 use Rattle.gateway.specs.declared.event.Answer.{Answer}
 use Rattle.gateway.proofs.Judging.{same_unread}

@@ -1,5 +1,5 @@
 use Rattle.std.proofs.Common.{◌≡◌, ◌+◌, ap, arith}
-use Rattle.hairpin.specs.Plans.{adds, adds_second}
+use Rattle.gateway.specs.Flows.{adds, adds_second}
 use Rattle.gateway.proofs.Changed.{adds-few, ready-fewer}
 use Rattle.gateway.proofs.flows.Flows.apply_all.Goals as goal
 

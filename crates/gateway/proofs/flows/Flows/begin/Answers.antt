@@ -21,7 +21,7 @@ hold-requires-clause-few c =
 pub invariant_of-self : goal.invariant_of-self
 invariant_of-self c =
     let free = c.in-Ok.ensures.was_free in
-    Tied-update c.self.inside.table c.add.new.self c.self.inside.due c.watch.new.due c.self.inside.translations.pairs c.hold.new.translations.pairs c.in-Ok.slot (Some c.args.session) c.self.invariant c.in-Ok.ensures.updates (rw c.timeout.ensures.value at c.watch.ensures.updates)
+    Tied-update c.self.inside.table c.add.new.self c.self.inside.due c.watch.new.due c.self.inside.translations.pairs c.hold.new.self.pairs c.in-Ok.slot (Some c.args.session) c.self.invariant c.in-Ok.ensures.updates (rw c.timeout.ensures.value at c.watch.ensures.updates)
     (λ p. let a = c.hold.ensures.counts p in let b = ap (weight p) free in omega arith)
 
 pub returns-clause-became : goal.returns-clause-became

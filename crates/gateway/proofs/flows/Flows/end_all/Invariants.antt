@@ -1,6 +1,6 @@
 use Rattle.std.proofs.Common.{◌≡◌, ◌≢◌, ◌<◌, ℕ, None, slice_index}
 use Rattle.sessions.specs.Table.{at}
-use Rattle.gateway.specs.Tied.{IsReady}
+use Rattle.gateway.specs.Flows.{IsReady}
 use Rattle.gateway.proofs.flows.Flows.end_all.Given as goal
 
 -- the slots before this one hold none, and the others what they held

@@ -1,12 +1,23 @@
-use Rattle.hairpin.proofs.Following.{before_release, after_release}
+use Rattle.std.proofs.Common.{◌≡◌, false, sym, ◌∙◌, arith}
+use Rattle.std.proofs.lemmas.Bool.{not-true, not-false}
+use Rattle.packet.specs.Same.{same_endpoint}
+use Rattle.mappings.proofs.Times.{one_at-itself}
+use Rattle.hairpin.specs.Tallies.{pair_of}
+use Rattle.hairpin.proofs.Tally.{weight-translated, weight-plain}
 use Rattle.hairpin.proofs.translations.Translations.release.Goals as goal
 
-pub free_port-requires-clause-taken : goal.free_port-requires-clause-taken
-free_port-requires-clause-taken c =
-    let some = rw (← c.self.view_is) at c.requires in
-    before_release c.self.inside.external c.self.inside.map c.release.new.self c.args.pair c.self.inside.ports c.self.inside.ports c.self.invariant c.release.ensures.loses some
+pub release_pair-requires : goal.release_pair-requires
+release_pair-requires c =
+    let away : same_endpoint c.args.session.now.inside c.args.session.now.outside ≡ false = not-true _ (sym c.is_translated.ensures ∙ c.if-is_translated.true) in
+    let pair = pair_of c.args.session.now in
+    rw c.pair_of.ensures (omega (arith, c.requires pair, weight-translated pair c.args.session.now away, one_at-itself pair))
 
-pub invariant_of-self : goal.invariant_of-self
-invariant_of-self c =
-    let some = rw (← c.self.view_is) at c.requires in
-    after_release c.self.inside.external c.self.inside.map c.release.new.self c.args.pair c.self.inside.ports c.free_port.new.ports c.self.invariant c.release.ensures.loses some c.free_port.ensures.addresses c.free_port.ensures.taken
+pub returns-then-is_translated-clause-counts : goal.returns-then-is_translated-clause-counts
+returns-then-is_translated-clause-counts c = λ p.
+    let away : same_endpoint c.args.session.now.inside c.args.session.now.outside ≡ false = not-true _ (sym c.is_translated.ensures ∙ c.if-is_translated.true) in
+    let gains = rw c.pair_of.ensures at c.release_pair.ensures.loses p in
+    omega (arith, gains, weight-translated p c.args.session.now away)
+
+pub returns-else-is_translated-clause-counts : goal.returns-else-is_translated-clause-counts
+returns-else-is_translated-clause-counts c = λ p.
+    omega (arith, weight-plain p c.args.session.now (not-false _ (sym c.is_translated.ensures ∙ c.if-is_translated.false)))

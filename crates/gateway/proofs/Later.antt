@@ -11,8 +11,9 @@ use Rattle.sessions.specs.declared.session.Session.{Session}
 use Rattle.sessions.proofs.Puts.{keys-flow, put-apart}
 use Rattle.sessions.proofs.Sets.{Apart, Rises-listing, In-listing, listing-In, same_key}
 use Rattle.hairpin.specs.Legs.{put_all}
-use Rattle.hairpin.specs.Plans.{Became, GiveAll, Gives, IsOf, MayBegin, adds, adds_second}
+use Rattle.hairpin.specs.Plans.{Became, GiveAll, Gives, IsOf, MayBegin}
 use Rattle.hairpin.proofs.Soundness.{put-known, put-more}
+use Rattle.gateway.specs.Flows.{adds, adds_second}
 
 -- one place got a session of its own key, or of a key that no place has
 module _ (old new : List (Option Session)) (slot : ℕ) (t : Session) (apart : Apart old) (is : get_or new slot None ≡ Some t)

@@ -1,5 +1,5 @@
 use Rattle.hairpin.proofs.Following.{before_hold, after_hold}
-use Rattle.hairpin.proofs.translations.Translations.hold.Goals as goal
+use Rattle.hairpin.proofs.translations.Translations.hold_pair.Goals as goal
 
 pub take_port-requires-clause-taken : goal.take_port-requires-clause-taken
 take_port-requires-clause-taken c =

@@ -1,8 +1,10 @@
--- What ties the timers and the mappings to the sessions of a table.
+-- What contracts see of the sessions with their timers and mappings, and what ties these to the sessions.
 use Rattle.std.specs.Prelude.{◌≡◌, ℕ, ◌-◌, ◌≤◌, List, Option, Some, None, slice_index_or}
 use Rattle.std.specs.Option.{option_map}
 use Rattle.sessions.specs.Life.{timeout_of}
 use Rattle.sessions.specs.Table as table
+use Rattle.sessions.specs.declared.session.Change.{Change}
+use Rattle.sessions.specs.declared.session.Change.TheVariants.{Begin, Seen, Restart, End}
 use Rattle.sessions.specs.declared.session.Session.{Session}
 use Rattle.timers.specs.Due as due
 use Rattle.timers.specs.Laws.{idle_of}
@@ -37,3 +39,14 @@ pub record IsReady (n : ℕ) (f : Flows) : Type 0 where
 -- no session was seen after this moment
 abbrev pub IsLatest : List (Option Session) → ℕ → Type 0
 IsLatest held now = (slot : ℕ) (s : Session) → slice_index_or held slot None ≡ Some s → s.last ≤ now
+
+-- how many sessions the change adds
+abbrev pub adds : Change → ℕ
+adds (Begin s) = 1
+adds (Seen slot bits) = 0
+adds (Restart slot opener) = 0
+adds (End slot) = 0
+
+abbrev pub adds_second : Option Change → ℕ
+adds_second None = 0
+adds_second (Some change) = adds change
