@@ -1,5 +1,5 @@
 -- The end of the frames at the front.
-use Rattle.std.proofs.Common.{◌≡◌, ◌≢◌, ℕ, List, [], ◌++◌, take, drop, refl, sym, ap, ◌∙◌, append_assoc, subst, Result, Ok, Err}
+use Rattle.std.proofs.Common.{◌≡◌, ◌≢◌, ℕ, List, [], ◌++◌, take, drop, arith, inl, inr, refl, sym, ap, ◌∙◌, append_assoc, subst, Result, Ok, Err}
 use Rattle.std.specs.List.{flat_map}
 use Rattle.std.proofs.lemmas.List.{append-nil, take-append-drop}
 use Rattle.std.proofs.lemmas.List.Concat.{flat_map-append}
@@ -15,7 +15,7 @@ use Rattle.socket_edge.specs.declared.serving.Stop.TheVariants as stop
 use Rattle.socket_edge.specs.Requests.{Cut, Bad, next}
 use Rattle.socket_edge.specs.Framing.{Framed, Rest, Fault, behind, framed}
 use Rattle.socket_edge.specs.Answering.{frame, Progress, Begun, BeginsFrames}
-use Rattle.socket_edge.specs.Running.{Answered, Reads, Offered, end_of, Closed}
+use Rattle.socket_edge.specs.Running.{Comes, Answered, Reads, Offered, end_of, Closed}
 use Rattle.socket_edge.proofs.Frames.{framed_cut, framed_bad, Reads-is}
 use Rattle.socket_edge.proofs.Answers.{Progress-then, Begun-of, Begun-then, Begun-more, all_sent}
 
@@ -45,6 +45,11 @@ bad_closes old now new bytes rest events fault b c r e p q h =
     let f = framed_then_bad bytes rest events fault r e in
     (ap (λ (x : Framed). x.stop) f, Answered-of old new bytes c (subst (λ (x : Framed). Progress old new x.events [] c) (sym f) (flushed old now new events [] b c p q)) (λ _. h))
 
+-- numbers stay out where the last number stays
+Comes-still : (fault : GatewayFault) (now new : Standing) → new.last ≡ now.last → Comes fault now → Comes fault new
+Comes-still fault now new e (inl h) = inl h
+Comes-still fault now new e (inr h) = inr (h.0, e ∙ h.1)
+
 -- no answer was lost
 abbrev pub IsKept : Stop → Type 0
 IsKept stop.Cut = Unit {0}
@@ -66,7 +71,7 @@ closes (stop.Bad header.BadKind) old now new bytes rest count b c n o q h = bad_
 closes (stop.Bad header.BadInterface) old now new bytes rest count b c n o q h = bad_closes old now new bytes rest o.0 header.BadInterface b c o.1 o.2 o.3 q h
 closes (stop.Bad header.TooLong) old now new bytes rest count b c n o q h = bad_closes old now new bytes rest o.0 header.TooLong b c o.1 o.2 o.3 q h
 closes (stop.Refused fault) old now new bytes rest count b c n o q h =
-    (o.2, begun_framed old new bytes rest o.0 [] c o.1 (Begun-of old new o.0 [] c (flushed old now new o.0 [] b c o.3 q)))
+    (Comes-still fault now new (omega (arith, q.last)) o.2, begun_framed old new bytes rest o.0 [] c o.1 (Begun-of old new o.0 [] c (flushed old now new o.0 [] b c o.3 q)))
 closes (stop.Lost fault) old now new bytes rest count b c n o q h = absurd n
 
 -- handing out failed

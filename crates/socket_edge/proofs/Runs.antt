@@ -1,11 +1,11 @@
 -- A run: one turn after the other.
-use Rattle.std.proofs.Common.{◌≡◌, ◌≢◌, ℕ, ◌+◌, ◌≤◌, List, [], ◌++◌, length, refl, sym, ap, ◌∙◌, arith, append_assoc, subst, length-append}
+use Rattle.std.proofs.Common.{◌≡◌, ◌≢◌, ℕ, ◌+◌, ◌≤◌, List, [], ◌++◌, length, inl, inr, refl, sym, ap, ◌∙◌, arith, append_assoc, subst, length-append}
 use Rattle.std.specs.List.{flat_map}
 use Rattle.std.proofs.lemmas.List.{append-nil}
 use Rattle.std.proofs.lemmas.List.Concat.{flat_map-append}
 use Rattle.packet.specs.Config.{Config}
 use Rattle.gateway.specs.declared.event.Event.{Event}
-use Rattle.gateway.specs.declared.event.GatewayFault.TheVariants.{HeldFull}
+use Rattle.gateway.specs.declared.event.GatewayFault.TheVariants.{HeldFull, NumbersOut}
 use Rattle.gateway.specs.Standing.{Standing}
 use Rattle.socket_edge.specs.declared.fault.EdgeFault.{EdgeFault}
 use Rattle.socket_edge.specs.declared.fault.EdgeFault.TheVariants.{BadKind, BadInterface, TooLong, Truncated, Input, Output, Gateway}
@@ -116,4 +116,9 @@ never_held_full TooLong a b given w at_end p = λ h. absurd cc
 never_held_full Truncated a b given w at_end p = λ h. absurd cc
 never_held_full Input a b given w at_end p = λ h. absurd cc
 never_held_full Output a b given w at_end p = λ h. absurd cc
-never_held_full (Gateway fault) a b given w at_end p = λ h. (let e : fault ≡ HeldFull = cc in p.0 e)
+never_held_full (Gateway fault) a b given w at_end p = λ h.
+    let e : fault ≡ HeldFull = cc in
+    elim p.0 [
+      | inl is ↦ absurd cc
+      | inr is ↦ (let n : fault ≡ NumbersOut = is.0 in absurd cc)
+    ]

@@ -1,7 +1,8 @@
 -- What a run does, and what its parts do.
-use Rattle.std.specs.Prelude.{◌≡◌, ◌≢◌, ◌≤◌, ℕ, List, [], ◌∷◌, ◌++◌, length, drop, Result, Ok, Err}
+use Rattle.std.specs.Prelude.{◌≡◌, ◌≢◌, ◌≤◌, ◌⊎◌, ◌-◌, ◌^◌, ℕ, List, [], ◌∷◌, ◌++◌, length, drop, Result, Ok, Err}
 use Rattle.gateway.specs.declared.event.Event.{Event}
-use Rattle.gateway.specs.declared.event.GatewayFault.TheVariants.{HeldFull}
+use Rattle.gateway.specs.declared.event.GatewayFault.{GatewayFault}
+use Rattle.gateway.specs.declared.event.GatewayFault.TheVariants.{NoMemory, NumbersOut}
 use Rattle.gateway.specs.Standing.{Standing}
 use Rattle.socket_edge.specs.declared.fault.HeaderFault.TheVariants as header
 use Rattle.socket_edge.specs.declared.fault.EdgeFault.{EdgeFault}
@@ -22,6 +23,10 @@ pub record Answered (old new : Standing) (bytes sent : List ℕ) : Type 0 where
   pub none : old.held ≡ [] → new.held ≡ []
   pub all : old.held ≡ [] → sent ≡ frames (replies old progress.judged)
 
+-- The faults that come to a gateway that stands so: memory is refused, or no number is left.
+abbrev pub Comes : GatewayFault → Standing → Type 0
+Comes fault now = (fault ≡ NoMemory) ⊎ ((fault ≡ NumbersOut) × (now.last ≡ 2 ^ 64 - 1))
+
 -- what a fault says of the bytes that were read and sent
 abbrev pub Ends : EdgeFault → Standing → Standing → List ℕ → List ℕ → Type 0 → Type 0
 Ends BadKind old new bytes sent at_end = ((framed bytes).stop ≡ Fault header.BadKind) × Answered old new bytes sent
@@ -30,7 +35,7 @@ Ends TooLong old new bytes sent at_end = ((framed bytes).stop ≡ Fault header.T
 Ends Truncated old new bytes sent at_end = (rest : List ℕ) × ((framed bytes).stop ≡ Rest rest) × (rest ≢ []) × Answered old new bytes sent × at_end
 Ends Input old new bytes sent at_end = Answered old new bytes sent
 Ends Output old new bytes sent at_end = BeginsFrames old new (framed bytes).events sent
-Ends (Gateway fault) old new bytes sent at_end = (fault ≢ HeldFull) × Begun old new (framed bytes).events [] sent
+Ends (Gateway fault) old new bytes sent at_end = Comes fault new × Begun old new (framed bytes).events [] sent
 
 -- all was read and answered, and it was whole frames
 pub record Done (count : ℕ) (old new : Standing) (bytes sent : List ℕ) (at_end : Type 0) : Type 0 where
@@ -53,8 +58,8 @@ pub record Reads (given : List ℕ) (events : List Event) (pending : List ℕ) :
 -- what the offer of one event came to
 abbrev pub OfferedOne : Result ℕ Stop → Event → Standing → Standing → List ℕ → List ℕ → Type 0
 OfferedOne (Ok number) event old new before out = (number ≡ new.last) × Progress old new (event ∷ []) before out
-OfferedOne (Err (stop.Refused fault)) event old new before out = (fault ≢ HeldFull) × Progress old new [] before out
-OfferedOne (Err (stop.Lost fault)) event old new before out = (fault ≢ HeldFull) × Begun old new (event ∷ []) before out
+OfferedOne (Err (stop.Refused fault)) event old new before out = Comes fault new × Progress old new [] before out
+OfferedOne (Err (stop.Lost fault)) event old new before out = Comes fault new × Begun old new (event ∷ []) before out
 OfferedOne (Err stop.Cut) event old new before out = ⊥
 OfferedOne (Err (stop.Bad fault)) event old new before out = ⊥
 
@@ -64,9 +69,9 @@ Stepped (step.Took n number) bytes old new before out =
     (event : Event) × (next bytes ≡ Whole event (drop n bytes)) × (14 ≤ n) × (n ≤ length bytes) × (number ≡ new.last) × Progress old new (event ∷ []) before out
 Stepped (step.Ends stop.Cut) bytes old new before out = (next bytes ≡ Cut) × Progress old new [] before out
 Stepped (step.Ends (stop.Bad fault)) bytes old new before out = (next bytes ≡ Bad fault) × Progress old new [] before out
-Stepped (step.Ends (stop.Refused fault)) bytes old new before out = (fault ≢ HeldFull) × Progress old new [] before out
+Stepped (step.Ends (stop.Refused fault)) bytes old new before out = Comes fault new × Progress old new [] before out
 Stepped (step.Ends (stop.Lost fault)) bytes old new before out =
-    (event : Event) × (rest : List ℕ) × (next bytes ≡ Whole event rest) × (fault ≢ HeldFull) × Begun old new (event ∷ []) before out
+    (event : Event) × (rest : List ℕ) × (next bytes ≡ Whole event rest) × Comes fault new × Begun old new (event ∷ []) before out
 
 -- what all whole frames at the front came to
 abbrev pub Offered : Stop → List ℕ → List ℕ → ℕ → Standing → Standing → List ℕ → List ℕ → Type 0
@@ -75,9 +80,9 @@ Offered stop.Cut bytes rest count old new before out =
 Offered (stop.Bad fault) bytes rest count old new before out =
     (events : List Event) × Reads bytes events rest × (next rest ≡ Bad fault) × Progress old new events before out
 Offered (stop.Refused fault) bytes rest count old new before out =
-    (events : List Event) × Reads bytes events rest × (fault ≢ HeldFull) × Progress old new events before out
+    (events : List Event) × Reads bytes events rest × Comes fault new × Progress old new events before out
 Offered (stop.Lost fault) bytes rest count old new before out =
-    (events : List Event) × (later : List ℕ) × Reads bytes events later × (fault ≢ HeldFull) × Begun old new events before out
+    (events : List Event) × (later : List ℕ) × Reads bytes events later × Comes fault new × Begun old new events before out
 
 -- the whole frames at the front were answered, and these bytes are left
 pub record Served (old new : Standing) (bytes rest sent : List ℕ) (count : ℕ) : Type 0 where

@@ -1,6 +1,6 @@
 //! Offering the whole frames at the front of the bytes.
-ghost use Rattle.std.specs.Prelude.{◌≡◌, ◌≢◌, ◌∷◌, [], ◌-◌, ◌<◌, ◌≤◌, OnOk, IfErr, length, drop};
-ghost use Rattle.gateway.specs.declared.event.GatewayFault.TheVariants.{HeldFull};
+ghost use Rattle.std.specs.Prelude.{◌≡◌, ◌∷◌, [], ◌-◌, ◌<◌, ◌≤◌, OnOk, IfErr, length, drop};
+ghost use Rattle.gateway.specs.declared.event.GatewayFault.TheVariants.{NoMemory};
 ghost use Rattle.socket_edge.specs.Answering.{Progress, Begun};
 ghost use Rattle.socket_edge.specs.Running.{OfferedOne, Stepped, Offered};
 
@@ -43,7 +43,7 @@ pub enum Step {
 /// lost; or the gateway's fault, when none is.
 pub fn hand_out(out: &mut Vec<u8>, gateway: &mut Gateway) -> Result<(), GatewayFault>
     ensures ok { OnOk result (Progress gateway.old gateway.new [] out.old.items out.new.items × (gateway.new.held ≡ [])) }
-    ensures err { IfErr result (λ fault. (fault ≢ HeldFull) × Begun gateway.old gateway.new [] out.old.items out.new.items) }
+    ensures err { IfErr result (λ fault. (fault ≡ NoMemory) × Begun gateway.old gateway.new [] out.old.items out.new.items) }
 {
     match gateway.flush() {
         Ok(answers) => match put_frames(out, answers.as_slice()) {
@@ -57,7 +57,7 @@ pub fn hand_out(out: &mut Vec<u8>, gateway: &mut Gateway) -> Result<(), GatewayF
 /// Hands out what is held where no more events can be held.
 fn make_room(out: &mut Vec<u8>, gateway: &mut Gateway) -> Result<(), GatewayFault>
     ensures ok { OnOk result (Progress gateway.old gateway.new [] out.old.items out.new.items × (length gateway.new.held < 64)) }
-    ensures err { IfErr result (λ fault. (fault ≢ HeldFull) × Begun gateway.old gateway.new [] out.old.items out.new.items) }
+    ensures err { IfErr result (λ fault. (fault ≡ NoMemory) × Begun gateway.old gateway.new [] out.old.items out.new.items) }
 {
     if gateway.held() < MOST_HELD {
         return Ok(());

@@ -1,4 +1,4 @@
-use Rattle.std.proofs.Common.{sym, subst, Result}
+use Rattle.std.proofs.Common.{inl, sym, subst, Result}
 use Rattle.socket_edge.specs.declared.fault.EdgeFault.{EdgeFault}
 use Rattle.socket_edge.specs.Running.{Closed}
 use Rattle.socket_edge.proofs.Closing.{kept, closes, fails, lost_is}
@@ -11,7 +11,7 @@ returns-in-Lost c = λ old bytes rest count o.
 pub returns-in-Err : goal.returns-in-Err
 returns-in-Err c = λ old bytes rest count o.
     let e = c.in-Err.ensures.err in
-    (e.0, fails c.args.stop old c.args.gateway.now c.hand_out.new.gateway bytes rest count c.args.out.now.items c.hand_out.new.out.items (kept c.args.stop c.in_default.not-Lost) o e.1)
+    (inl e.0, fails c.args.stop old c.args.gateway.now c.hand_out.new.gateway bytes rest count c.args.out.now.items c.hand_out.new.out.items (kept c.args.stop c.in_default.not-Lost) o e.1)
 
 pub returns-in-Ok : goal.returns-in-Ok
 returns-in-Ok c = λ old bytes rest count o.

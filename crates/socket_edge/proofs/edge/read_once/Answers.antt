@@ -1,4 +1,4 @@
-use Rattle.std.proofs.Common.{◌≡◌, ◌≢◌, List, [], ◌++◌, ℕ, ◌-◌, take, length, arith, sym, ap, ◌∙◌, Option}
+use Rattle.std.proofs.Common.{◌≡◌, ◌≢◌, List, [], ◌++◌, ℕ, ◌-◌, take, length, arith, inl, refl, sym, ap, ◌∙◌, Option}
 use Rattle.std.proofs.lemmas.Grind.{common_steps}
 use Rattle.std.proofs.lemmas.List.{nil_from_length}
 use Rattle.std.specs.Io.KnownBytes.{Consumes}
@@ -61,5 +61,5 @@ returns-in-Err-extend_from_slice-clause-turned g c = (
   [],
   c.in-Ok.ensures.bytes.0,
   Appends-nil (g.W.Write.contents c.args.writer.now),
-  ((λ e. absurd cc), Begun-nothing c.args.gateway.now (framed (c.args.pending.now.items ++ take c.in-Ok.n c.read.new.buf)).events),
+  (inl refl, Begun-nothing c.args.gateway.now (framed (c.args.pending.now.items ++ take c.in-Ok.n c.read.new.buf)).events),
 )

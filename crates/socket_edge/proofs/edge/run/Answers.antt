@@ -1,4 +1,4 @@
-use Rattle.std.proofs.Common.{◌≡◌, ◌+◌, ◌-◌, ◌<◌, ◌≤◌, [], ◌++◌, List, ℕ, length, take, drop, arith, subst, ◌∙◌}
+use Rattle.std.proofs.Common.{◌≡◌, ◌+◌, ◌-◌, ◌<◌, ◌≤◌, [], ◌++◌, List, ℕ, length, take, drop, arith, inl, refl, subst, ◌∙◌}
 use Rattle.std.specs.Io.KnownBytes.{IsAtEnd}
 use Rattle.std.proofs.lemmas.List.{take_at}
 use Rattle.socket_edge.specs.Framing.{framed}
@@ -83,5 +83,5 @@ returns-in-Err-clause-ran g c = (
   [],
   Consumes-nil (g.R.Read.remaining c.args.reader.now),
   Appends-nil (g.W.Write.contents c.args.writer.now),
-  ((λ e. absurd cc), Begun-nothing c.args.gateway.now (framed []).events),
+  (inl refl, Begun-nothing c.args.gateway.now (framed []).events),
 )

@@ -1,4 +1,4 @@
-use Rattle.std.proofs.Common.{ap, ◌∙◌}
+use Rattle.std.proofs.Common.{refl, ap, ◌∙◌}
 use Rattle.gateway.specs.Standing.{Standing}
 use Rattle.socket_edge.proofs.Answers.{Progress-flushed, Begun-flushed}
 use Rattle.socket_edge.proofs.serving.hand_out.Goals as goal
@@ -11,4 +11,4 @@ returns-in-Ok-put_frames-clause-ok c =
 pub returns-in-Ok-clause-err : goal.returns-in-Ok-clause-err
 returns-in-Ok-clause-err c =
     let e = c.in-Err-put_frames.ensures.err in
-    (λ h. absurd cc, Begun-flushed c.args.gateway.now c.flush.new.self e.0 c.as_slice.result.now c.args.out.now.items c.put_frames.new.out.items (c.as_slice.ensures.value ∙ c.in-Ok.ensures.ok) c.in-Ok.ensures.none e.1)
+    (refl, Begun-flushed c.args.gateway.now c.flush.new.self e.0 c.as_slice.result.now c.args.out.now.items c.put_frames.new.out.items (c.as_slice.ensures.value ∙ c.in-Ok.ensures.ok) c.in-Ok.ensures.none e.1)
