@@ -27,4 +27,4 @@ mod tests;
 pub mod token;
 pub mod tree;
 
-pub use ruleset::{one_ruleset, parse};
+pub use ruleset::{GREATEST_LENGTH, one_ruleset, parse};
