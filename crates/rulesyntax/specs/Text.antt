@@ -10,6 +10,10 @@ use Rattle.rulesyntax.specs.declared.error.ReadError.TheVariants as errors
 use Rattle.rulesyntax.specs.Tokens.{AreTokens}
 use Rattle.rulesyntax.specs.Grammar.{Spells}
 
+-- the most bytes of a text
+abbrev pub greatest_length : ℕ
+greatest_length = 262144
+
 -- the tokens of the text spell the ruleset
 abbrev pub IsSpelledBy : Spelled → List ℕ → Type 0
 IsSpelledBy rules text = (tokens : List Token) × AreTokens tokens text × Spells rules tokens

@@ -25,4 +25,4 @@ mod table;
 pub mod token;
 pub mod tree;
 
-pub use ruleset::{one_ruleset, parse};
+pub use ruleset::{GREATEST_LENGTH, one_ruleset, parse};

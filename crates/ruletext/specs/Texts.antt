@@ -4,12 +4,12 @@ use Rattle.packet.specs.Config.{Config}
 use Rattle.rulesyntax.specs.declared.tree.Spelled.{Spelled}
 use Rattle.rulesyntax.specs.declared.fault.Kind.{Kind}
 use Rattle.rulesyntax.specs.declared.fault.Kind.TheVariants.{TooLong, Syntax, Unsupported, Family, NoMemory}
-use Rattle.rulesyntax.specs.Text.{IsSpelledBy}
+use Rattle.rulesyntax.specs.Text.{IsSpelledBy, greatest_length}
 use Rattle.ruletext.specs.Loads.{Holds, IsLeast, MayRun}
 
 -- the text isn't too long
 abbrev pub IsShort : List ℕ → Type 0
-IsShort text = length text ≤ 262144
+IsShort text = length text ≤ greatest_length
 
 -- a text that isn't too long, spells these rules, and has no kind of fault
 abbrev pub Loads : Config → List ℕ → Spelled → Type 0
@@ -21,7 +21,7 @@ IsSenseless text = (rules : Spelled) → ¬ IsSpelledBy rules text
 
 -- the kind is why the text doesn't load; memory may be lacking for any text
 abbrev pub IsRefused : Config → List ℕ → Kind → Type 0
-IsRefused config text TooLong = 262144 < length text
+IsRefused config text TooLong = greatest_length < length text
 IsRefused config text Syntax = IsShort text × IsSenseless text
 IsRefused config text Unsupported = IsShort text × IsSenseless text
 IsRefused config text Family = IsShort text × IsSenseless text

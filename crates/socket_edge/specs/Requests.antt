@@ -2,6 +2,7 @@
 use Rattle.std.specs.Prelude.{◌≡◌, ◌≤◌, ℕ, ◌+◌, List, length, take, drop, slice_index, Result, Ok, Err, nat_lt, ◌==◌, if◌then◌else◌}
 use Rattle.byteorder.specs.Endian.{big_number}
 use Rattle.packet.specs.declared.endpoint.Iface.TheVariants.{Lan, Wan}
+use Rattle.rulesyntax.specs.Text.{greatest_length}
 use Rattle.gateway.specs.declared.event.Event.{Event}
 use Rattle.gateway.specs.declared.event.What.{What}
 use Rattle.gateway.specs.declared.event.What.TheVariants as what
@@ -29,7 +30,7 @@ announced k iface =
 -- the greatest length of a body
 abbrev pub longest : Kind → ℕ
 longest (kind.Packet iface) = 65535
-longest kind.Load = 262144
+longest kind.Load = greatest_length
 longest kind.Moment = 0
 
 -- the first fault of kind, interface and length, or the header

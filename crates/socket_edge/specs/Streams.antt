@@ -2,6 +2,7 @@
 use Rattle.std.specs.Prelude.{◌≡◌, ◌≢◌, ◌<◌, ◌≤◌, ◌^◌, ◌==◌, ◌||◌, ◌&&◌, ◌⊎◌, ℕ, List, [], ◌∷◌, ◌++◌, length, slice_index, Option, Some, None, not, nat_lt, if◌then◌else◌}
 use Rattle.std.specs.List.{flat_map, AllByRecursion}
 use Rattle.byteorder.specs.Endian.{big_bytes}
+use Rattle.rulesyntax.specs.Text.{greatest_length}
 use Rattle.gateway.specs.declared.event.Event.{Event}
 use Rattle.gateway.specs.declared.event.What.{What}
 use Rattle.gateway.specs.declared.event.What.TheVariants as what
@@ -32,7 +33,7 @@ body_of what.Moment = []
 
 -- the greatest length of a body of this kind
 abbrev pub longest_body : ℕ → ℕ
-longest_body kind = if kind == 1 then 65535 else if kind == 2 then 262144 else 0
+longest_body kind = if kind == 1 then 65535 else if kind == 2 then greatest_length else 0
 
 -- kind, interface, length of the body, moment: 14 bytes
 abbrev pub header : ℕ → ℕ → ℕ → ℕ → List ℕ

@@ -5,6 +5,7 @@ ghost use Rattle.socket_edge.specs.Requests.{without_interface, announced, longe
 use crate::fault::HeaderFault;
 use byteorder::{BigEndian, ByteOrder};
 use gateway::{Bytes, Event, Iface, What};
+use rulesyntax::GREATEST_LENGTH;
 use std::alloc::{AllocError, Global};
 
 /// What a request's kind and interface announce.
@@ -81,7 +82,7 @@ fn longest_of(kind: Kind) -> u32
 {
     match kind {
         Kind::Packet(_) => 65_535,
-        Kind::Load => 262_144,
+        Kind::Load => GREATEST_LENGTH as u32,
         Kind::Moment => 0,
     }
 }
