@@ -45,6 +45,10 @@ returns-then-end-at-clause-torn g c = λ h0 damaged.
     let size = c.number_of-count.ensures ∙ c.in_ok-read_at-2.ensures.read h1 ∙ ap (λ l. take 4 (drop (c.args.at + 1) l)) same1 in
     too_long file c.args.at c.number_of-count.result gate (omega (arith, c.requires.size h0)) (omega arith) size (omega (arith, c.requires.size h0, c.from.ensures))
 
+pub returns-in_err-body-clause-memory : goal.returns-in_err-body-clause-memory
+returns-in_err-body-clause-memory g c = λ h0 memory.
+    gate_is (g.D.Disk.seen c.args.disk.now c.args.file) c.read_at.new.bytes c.args.at (c.in_ok-read_at.ensures.read h0) c.if-gate-ne1.false
+
 pub returns-clause-ok : goal.returns-clause-ok
 returns-clause-ok g c = λ h0.
     let h1 = c.read_at.ensures.honest.0 h0 in
