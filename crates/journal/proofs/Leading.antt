@@ -40,6 +40,16 @@ read_all file at place bodies r shut = record {
   end_is = r.place_is;
 }
 
+-- the first gate is open where a group was read, or where the gate behind none is open
+pub first_byte : (file : List ℕ) (at byte : ℕ) (rest : List ℕ) → drop at file ≡ byte ∷ rest → get_or file at 0 ≡ byte
+first_byte file at byte rest is = ap (λ k. get_or file k 0) (omega arith) ∙ sym (get_or-drop at file 0 0) ∙ ap (λ (l : List ℕ). get_or l 0 0) is
+
+pub first_open : (file : List ℕ) (at place : ℕ) (bodies : List (List ℕ)) → Read file at bodies place → get_or file place 0 ≡ 1 → get_or file at 0 ≡ 1
+first_open file at place [] r is =
+    let e : at ≡ place = omega (arith, r.place_is) in
+    ap (λ k. get_or file k 0) e ∙ is
+first_open file at place (b ∷ bodies) r is = first_byte file at 1 _ r.split
+
 size_of : List ℕ → List ℕ
 size_of body = big_bytes 4 (length body)
 

@@ -1,10 +1,10 @@
-use Rattle.std.proofs.Common.{◌≡◌, ◌+◌, ◌∙◌, sym, ap, subst, arith}
+use Rattle.std.proofs.Common.{◌≡◌, ◌+◌, ◌∙◌, ℕ, List, get_or, sym, ap, subst, arith}
 use Rattle.std.proofs.lemmas.List.{map_push}
 use Rattle.std.proofs.lemmas.Result.{err_from_is_err_and}
 use Rattle.std.specs.Prelude.{Result, Ok, Err}
 use Rattle.disk_model.proofs.Moments.{looks_then}
 use Rattle.journal.specs.Groups.{bodies_of, IsRead, IsTornAt, GroupAt}
-use Rattle.journal.proofs.Leading.{Read, read_on, torn_there}
+use Rattle.journal.proofs.Leading.{Read, read_on, torn_there, first_byte, first_open}
 use Rattle.journal.proofs.reading.groups.Goals as goal
 
 error_or : {T E : Type 0} → E → Result T E → E
@@ -38,6 +38,22 @@ returns-in_err-body-clause-damaged g c = λ h0 damaged others end groups.
     let torn = c.in_err-body.ensures.torn h (ap Err (sym p.2 ∙ same_error _ _ _ p.1 damaged)) in
     let here = subst (λ l. IsTornAt l c.loop-bodies.place) ((c.loop-bodies.invariant.looks h0).stays file) torn in
     torn_there _ c.args.at c.loop-bodies.place _ (c.loop-bodies.invariant.read h0) here others end groups
+
+pub returns-in_err-body-clause-memory : goal.returns-in_err-body-clause-memory
+returns-in_err-body-clause-memory g c = λ h0 memory.
+    let h = c.loop-bodies.invariant.honest.0 h0 in
+    let p = err_from_is_err_and c.from_residual-in_err-body.result c.from_residual-in_err-body.ensures.1 in
+    let gate = c.in_err-body.ensures.memory h (ap Err (sym p.2 ∙ same_error _ _ _ p.1 memory)) in
+    let here = subst (λ (l : List ℕ). get_or l c.loop-bodies.place 0 ≡ 1) ((c.loop-bodies.invariant.looks h0).stays c.args.file) gate in
+    first_open _ c.args.at c.loop-bodies.place _ (c.loop-bodies.invariant.read h0) here
+
+pub returns-in_err-push-clause-memory : goal.returns-in_err-push-clause-memory
+returns-in_err-push-clause-memory g c = λ h0 memory.
+    let h = c.loop-bodies.invariant.honest.0 h0 in
+    let file = c.args.file in
+    let group : GroupAt (g.D.Disk.seen c.loop-bodies.disk file) c.loop-bodies.place c.in-Some.body.items = subst (λ o. IsRead (g.D.Disk.seen c.loop-bodies.disk file) c.loop-bodies.place o) c.in-Some.is (c.in_ok-body.ensures.ok h) in
+    let here = subst (λ l. GroupAt l c.loop-bodies.place c.in-Some.body.items) ((c.loop-bodies.invariant.looks h0).stays file) group in
+    first_open _ c.args.at c.loop-bodies.place _ (c.loop-bodies.invariant.read h0) (first_byte _ c.loop-bodies.place 1 _ here.split)
 
 pub loop-bodies-preserved : goal.loop-bodies-preserved
 loop-bodies-preserved g c = record {

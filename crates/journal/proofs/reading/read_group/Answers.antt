@@ -1,79 +1,40 @@
 use Rattle.std.proofs.Common.{◌≡◌, ◌+◌, ◌∙◌, ap, arith, take, drop, length}
 use Rattle.std.proofs.lemmas.List.{take_at}
-use Rattle.disk_model.proofs.Moments.{not_yet, looks_on}
 use Rattle.journal.proofs.Whole.{too_long, whole, gate_is}
+use Rattle.journal.proofs.Looking.{looks_twice, looks_thrice}
 use Rattle.journal.proofs.reading.read_group.Goals as goal
 
 pub returns-in_err-read_at-2-clause-looks : goal.returns-in_err-read_at-2-clause-looks
-returns-in_err-read_at-2-clause-looks g c = λ h0.
-    let m = g.D.Disk.moment in
-    let left = g.D.Disk.left in
-    let s = g.D.Disk.seen in
-    let d0 = c.args.disk.now in
-    let d1 = c.read_at.new.self in
-    let h1 = c.read_at.ensures.honest.0 h0 in
-    let first = looks_on m left s d0 d0 d1 (λ s t files le since. g.met.D.Disk.earlier d0 s t files h0 le since) (not_yet m left s d0) (c.read_at.ensures.seen h0) (c.read_at.ensures.crash h0) in
-    let d2 = c.read_at-2.new.self in
-    let second = looks_on m left s d0 d1 d2 (λ s t files le since. g.met.D.Disk.earlier d1 s t files h1 le since) first (c.read_at-2.ensures.seen h1) (c.read_at-2.ensures.crash h1) in
-    second
+returns-in_err-read_at-2-clause-looks g c =
+    looks_twice g.D.Disk.honest g.D.Disk.seen g.D.Disk.moment g.D.Disk.left g.met.D.Disk.earlier _ _ _
+    (record { honest_on = c.read_at.ensures.honest; stays = c.read_at.ensures.seen; goes = c.read_at.ensures.crash })
+    (record { honest_on = c.read_at-2.ensures.honest; stays = c.read_at-2.ensures.seen; goes = c.read_at-2.ensures.crash })
 
 pub returns-then-end-at-clause-looks : goal.returns-then-end-at-clause-looks
-returns-then-end-at-clause-looks g c = λ h0.
-    let m = g.D.Disk.moment in
-    let left = g.D.Disk.left in
-    let s = g.D.Disk.seen in
-    let d0 = c.args.disk.now in
-    let d1 = c.read_at.new.self in
-    let h1 = c.read_at.ensures.honest.0 h0 in
-    let first = looks_on m left s d0 d0 d1 (λ s t files le since. g.met.D.Disk.earlier d0 s t files h0 le since) (not_yet m left s d0) (c.read_at.ensures.seen h0) (c.read_at.ensures.crash h0) in
-    let d2 = c.read_at-2.new.self in
-    let second = looks_on m left s d0 d1 d2 (λ s t files le since. g.met.D.Disk.earlier d1 s t files h1 le since) first (c.read_at-2.ensures.seen h1) (c.read_at-2.ensures.crash h1) in
-    second
+returns-then-end-at-clause-looks g c =
+    looks_twice g.D.Disk.honest g.D.Disk.seen g.D.Disk.moment g.D.Disk.left g.met.D.Disk.earlier _ _ _
+    (record { honest_on = c.read_at.ensures.honest; stays = c.read_at.ensures.seen; goes = c.read_at.ensures.crash })
+    (record { honest_on = c.read_at-2.ensures.honest; stays = c.read_at-2.ensures.seen; goes = c.read_at-2.ensures.crash })
 
 pub returns-in_err-body-clause-looks : goal.returns-in_err-body-clause-looks
-returns-in_err-body-clause-looks g c = λ h0.
-    let m = g.D.Disk.moment in
-    let left = g.D.Disk.left in
-    let s = g.D.Disk.seen in
-    let d0 = c.args.disk.now in
-    let d1 = c.read_at.new.self in
-    let h1 = c.read_at.ensures.honest.0 h0 in
-    let first = looks_on m left s d0 d0 d1 (λ s t files le since. g.met.D.Disk.earlier d0 s t files h0 le since) (not_yet m left s d0) (c.read_at.ensures.seen h0) (c.read_at.ensures.crash h0) in
-    let d2 = c.read_at-2.new.self in
-    let second = looks_on m left s d0 d1 d2 (λ s t files le since. g.met.D.Disk.earlier d1 s t files h1 le since) first (c.read_at-2.ensures.seen h1) (c.read_at-2.ensures.crash h1) in
-    second
+returns-in_err-body-clause-looks g c =
+    looks_twice g.D.Disk.honest g.D.Disk.seen g.D.Disk.moment g.D.Disk.left g.met.D.Disk.earlier _ _ _
+    (record { honest_on = c.read_at.ensures.honest; stays = c.read_at.ensures.seen; goes = c.read_at.ensures.crash })
+    (record { honest_on = c.read_at-2.ensures.honest; stays = c.read_at-2.ensures.seen; goes = c.read_at-2.ensures.crash })
 
 pub returns-in_err-read_at-3-clause-looks : goal.returns-in_err-read_at-3-clause-looks
-returns-in_err-read_at-3-clause-looks g c = λ h0.
-    let m = g.D.Disk.moment in
-    let left = g.D.Disk.left in
-    let s = g.D.Disk.seen in
-    let d0 = c.args.disk.now in
-    let d1 = c.read_at.new.self in
-    let h1 = c.read_at.ensures.honest.0 h0 in
-    let first = looks_on m left s d0 d0 d1 (λ s t files le since. g.met.D.Disk.earlier d0 s t files h0 le since) (not_yet m left s d0) (c.read_at.ensures.seen h0) (c.read_at.ensures.crash h0) in
-    let d2 = c.read_at-2.new.self in
-    let second = looks_on m left s d0 d1 d2 (λ s t files le since. g.met.D.Disk.earlier d1 s t files h1 le since) first (c.read_at-2.ensures.seen h1) (c.read_at-2.ensures.crash h1) in
-    let h2 = c.read_at-2.ensures.honest.0 h1 in
-    let d3 = c.read_at-3.new.self in
-    let third = looks_on m left s d0 d2 d3 (λ s t files le since. g.met.D.Disk.earlier d2 s t files h2 le since) second (c.read_at-3.ensures.seen h2) (c.read_at-3.ensures.crash h2) in
-    third
+returns-in_err-read_at-3-clause-looks g c =
+    looks_thrice g.D.Disk.honest g.D.Disk.seen g.D.Disk.moment g.D.Disk.left g.met.D.Disk.earlier _ _ _ _
+    (record { honest_on = c.read_at.ensures.honest; stays = c.read_at.ensures.seen; goes = c.read_at.ensures.crash })
+    (record { honest_on = c.read_at-2.ensures.honest; stays = c.read_at-2.ensures.seen; goes = c.read_at-2.ensures.crash })
+    (record { honest_on = c.read_at-3.ensures.honest; stays = c.read_at-3.ensures.seen; goes = c.read_at-3.ensures.crash })
 
 pub returns-clause-looks : goal.returns-clause-looks
-returns-clause-looks g c = λ h0.
-    let m = g.D.Disk.moment in
-    let left = g.D.Disk.left in
-    let s = g.D.Disk.seen in
-    let d0 = c.args.disk.now in
-    let d1 = c.read_at.new.self in
-    let h1 = c.read_at.ensures.honest.0 h0 in
-    let first = looks_on m left s d0 d0 d1 (λ s t files le since. g.met.D.Disk.earlier d0 s t files h0 le since) (not_yet m left s d0) (c.read_at.ensures.seen h0) (c.read_at.ensures.crash h0) in
-    let d2 = c.read_at-2.new.self in
-    let second = looks_on m left s d0 d1 d2 (λ s t files le since. g.met.D.Disk.earlier d1 s t files h1 le since) first (c.read_at-2.ensures.seen h1) (c.read_at-2.ensures.crash h1) in
-    let h2 = c.read_at-2.ensures.honest.0 h1 in
-    let d3 = c.read_at-3.new.self in
-    let third = looks_on m left s d0 d2 d3 (λ s t files le since. g.met.D.Disk.earlier d2 s t files h2 le since) second (c.read_at-3.ensures.seen h2) (c.read_at-3.ensures.crash h2) in
-    third
+returns-clause-looks g c =
+    looks_thrice g.D.Disk.honest g.D.Disk.seen g.D.Disk.moment g.D.Disk.left g.met.D.Disk.earlier _ _ _ _
+    (record { honest_on = c.read_at.ensures.honest; stays = c.read_at.ensures.seen; goes = c.read_at.ensures.crash })
+    (record { honest_on = c.read_at-2.ensures.honest; stays = c.read_at-2.ensures.seen; goes = c.read_at-2.ensures.crash })
+    (record { honest_on = c.read_at-3.ensures.honest; stays = c.read_at-3.ensures.seen; goes = c.read_at-3.ensures.crash })
 
 pub returns-then-end-at-clause-torn : goal.returns-then-end-at-clause-torn
 returns-then-end-at-clause-torn g c = λ h0 damaged.
@@ -83,6 +44,10 @@ returns-then-end-at-clause-torn g c = λ h0 damaged.
     let gate = gate_is file c.read_at.new.bytes c.args.at (c.in_ok-read_at.ensures.read h0) c.if-gate-ne1.false in
     let size = c.number_of-count.ensures ∙ c.in_ok-read_at-2.ensures.read h1 ∙ ap (λ l. take 4 (drop (c.args.at + 1) l)) same1 in
     too_long file c.args.at c.number_of-count.result gate (omega (arith, c.requires.size h0)) (omega arith) size (omega (arith, c.requires.size h0, c.from.ensures))
+
+pub returns-in_err-body-clause-memory : goal.returns-in_err-body-clause-memory
+returns-in_err-body-clause-memory g c = λ h0 memory.
+    gate_is (g.D.Disk.seen c.args.disk.now c.args.file) c.read_at.new.bytes c.args.at (c.in_ok-read_at.ensures.read h0) c.if-gate-ne1.false
 
 pub returns-clause-ok : goal.returns-clause-ok
 returns-clause-ok g c = λ h0.
