@@ -1,7 +1,7 @@
 -- What a crash may leave after one call more of a record.
 use Rattle.std.proofs.Common.{◌≡◌, ◌≢◌, ◌⊎◌, inl, inr, ℕ, ◌+◌, Bool, true, false, List, [], ◌∷◌, ◌++◌, length, refl, sym, ◌∙◌, ap, subst, arith, length-append}
 use Rattle.std.specs.Prelude.{if◌then◌else◌}
-use Rattle.std.proofs.lemmas.List.{take-append-le}
+use Rattle.std.proofs.lemmas.List.{take_all, take-append-le}
 use Rattle.std.proofs.lemmas.Bool.{cases_lt, false≢true}
 use Rattle.disk_model.specs.declared.disk.FileId.{FileId}
 use Rattle.disk_model.specs.declared.disk.FileId.TheVariants.{A, B}
@@ -9,8 +9,11 @@ use Rattle.disk_model.specs.Disk.{Files, Same, Torn, Written, Goes}
 use Rattle.disk_model.specs.Recorded.{Since, Done, Wrote, Synced, History, MayLeave, LeftAfter, LeftSince, since, reads, did, is_same, read_after, two}
 use Rattle.disk_model.specs.Choices.{crashed}
 use Rattle.disk_model.proofs.Histories.{since_push, reads_synced}
-use Rattle.disk_model.specs.Lawful.{may_read, now_is, is_now}
+use Rattle.disk_model.specs.Lawful.{may_read, now_is}
 use Rattle.disk_model.proofs.Outcomes.{may_choose}
+
+is_now : (h : History) (files : Files) → LeftSince h (length h.done) files → LeftAfter h h.done files
+is_now h files left = subst (λ (l : List Done). LeftAfter h l files) (take_all left.0 h.done left.1) left.3
 
 Left : Since → List ℕ → Type 0
 Left s left = MayLeave s.writes s.base left

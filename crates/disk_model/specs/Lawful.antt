@@ -53,9 +53,6 @@ may_read (w ∷ earlier) base = (read_after earlier base, may_read earlier base,
 pub now_is : (h : History) (files : Files) → LeftAfter h h.done files → LeftSince h (length h.done) files
 now_is h files left = (length h.done, omega arith, omega arith, subst (λ (l : List Done). LeftAfter h l files) (sym (take_all (length h.done) h.done (omega arith))) left)
 
-pub is_now : (h : History) (files : Files) → LeftSince h (length h.done) files → LeftAfter h h.done files
-is_now h files left = subst (λ (l : List Done). LeftAfter h l files) (take_all left.0 h.done left.1) left.3
-
 pub reads_left : (h : History) → LeftSince h (length h.done) (reads h)
 reads_left h = now_is h (reads h) (λ file. may_read (since h h.done file).writes (since h h.done file).base)
 
