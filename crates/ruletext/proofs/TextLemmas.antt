@@ -16,9 +16,15 @@ fault_is a b x e f = cc
 module _ (config : Config) (text : List ℕ) (parsed : Result Spelled LoadFault)
     (only : (rules : Spelled) → IsSpelledBy rules text → length text ≤ 262144 → IsOkOrNoMemory rules parsed)
     (too_long : (parsed ≡ Err (record { kind = TooLong; line = tt })) ↔ 262144 < length text) where
+  short_fault : (kind : Kind) → parsed ≡ Err (record { kind = kind; line = tt }) → (kind ≡ TooLong → ⊥) → IsShort text
+  short_fault kind is other = elim (cases_lt 262144 (length text)) [
+    | inl long ↦ absurd (other (ap (λ (f : LoadFault). f.kind) (fault_is (record { kind = kind; line = tt }) (record { kind = TooLong; line = tt }) parsed is (too_long.1 long))))
+    | inr short ↦ short
+  ]
+
   senseless : (kind : Kind) → parsed ≡ Err (record { kind = kind; line = tt }) → (kind ≡ TooLong → ⊥) → (kind ≡ NoMemory → ⊥) → IsShort text × IsSenseless text
   senseless kind is other known =
-      let short : length text ≤ 262144 = elim (cases_lt 262144 (length text)) [ inl long ↦ absurd (other (ap (λ (f : LoadFault). f.kind) (fault_is (record { kind = kind; line = tt }) (record { kind = TooLong; line = tt }) parsed is (too_long.1 long)))) | inr short ↦ short ] in
+      let short : IsShort text = short_fault kind is other in
       (short, λ rules spelled. known (subst (IsOkOrNoMemory rules) is (only rules spelled short)))
 
   pub refused : (kind : Kind) → parsed ≡ Err (record { kind = kind; line = tt }) → IsOfSyntax kind → IsRefused config text kind
@@ -26,7 +32,7 @@ module _ (config : Config) (text : List ℕ) (parsed : Result Spelled LoadFault)
   refused Syntax is of = senseless Syntax is (λ e. cc) (λ e. cc)
   refused Unsupported is of = senseless Unsupported is (λ e. cc) (λ e. cc)
   refused Family is of = senseless Family is (λ e. cc) (λ e. cc)
-  refused NoMemory is of = tt
+  refused NoMemory is of = short_fault NoMemory is (λ e. cc)
   refused UnknownChain is of = absurd of
   refused UnknownSet is of = absurd of
   refused Duplicate is of = absurd of

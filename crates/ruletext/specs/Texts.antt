@@ -19,11 +19,11 @@ Loads config text rules = IsShort text × IsSpelledBy rules text × MayRun confi
 abbrev pub IsSenseless : List ℕ → Type 0
 IsSenseless text = (rules : Spelled) → ¬ IsSpelledBy rules text
 
--- the kind is why the text doesn't load; memory may be lacking for any text
+-- the kind is why the text doesn't load; memory may be lacking for any text that isn't too long
 abbrev pub IsRefused : Config → List ℕ → Kind → Type 0
 IsRefused config text TooLong = greatest_length < length text
 IsRefused config text Syntax = IsShort text × IsSenseless text
 IsRefused config text Unsupported = IsShort text × IsSenseless text
 IsRefused config text Family = IsShort text × IsSenseless text
-IsRefused config text NoMemory = Unit {0}
+IsRefused config text NoMemory = IsShort text
 IsRefused config text kind = IsShort text × ((rules : Spelled) × IsSpelledBy rules text × IsLeast (Holds config rules) (Some kind))
