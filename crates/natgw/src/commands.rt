@@ -4,6 +4,7 @@ use crate::options::{Options, Sides, Task};
 use crate::refusal::Refusal;
 use gateway::Gateway;
 use packet::bounds::Bounds;
+use rulesyntax::GREATEST_LENGTH;
 use rulesyntax::fault::{Kind, LoadFault};
 use ruletext::reading::read;
 use std::alloc::Global;
@@ -11,8 +12,8 @@ use std::fs::{File, Files};
 use std::io::{Read, Write};
 use std::process::ExitCode;
 
-/// The length of the longest ruleset text, in bytes. One byte more is read, so that a longer text is known for one.
-const TEXT_LIMIT: u64 = 262_144;
+/// The longest ruleset text, in bytes. One byte more is read, so that a longer text is known for one.
+const TEXT_LIMIT: u64 = GREATEST_LENGTH as u64;
 
 /// Runs the command of a command line that was read, and gives the status of the program: 1 where `check` finds a
 /// fault in the text, otherwise 0.

@@ -9,7 +9,7 @@ use crate::graph::{graph_of, names_of};
 use crate::names::Names;
 use crate::strong::components_of;
 use rulesyntax::line::Line;
-use rulesyntax::tree::{Chain, End, Pair, Rule, Target, Verdict};
+use rulesyntax::tree::{Chain, End, Pair, Rule, Verdict};
 use sqlite_items::Items;
 use std::alloc::{AllocError, Global};
 

@@ -8,7 +8,7 @@ ghost use Rattle.ruletext.specs.Unknown.{plain_chains, leads_nowhere, rule_leads
 use crate::calls::target_of;
 use crate::names::Names;
 use rulesyntax::line::Line;
-use rulesyntax::tree::{Chain, End, Match, Pair, Rule, Set, Side, Spelled, Table, Verdict};
+use rulesyntax::tree::{Chain, End, Match, Pair, Rule, Set, Side, Table, Verdict};
 use std::alloc::{AllocError, Global};
 
 fn lost_verdict(names: &Names, verdict: &Verdict) -> Option<Line>

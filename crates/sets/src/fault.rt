@@ -1,5 +1,4 @@
 //! The refusals of sets and verdict maps.
-use std::alloc::AllocError;
 
 /// Why a set or a verdict map isn't made.
 #[derive(Clone, Copy, Debug, PartialEq, Eq, Drop, thiserror::Error)]

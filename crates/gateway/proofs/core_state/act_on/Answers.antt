@@ -1,1 +1,0 @@
-use Rattle.gateway.proofs.core_state.act_on.Goals as goal
