@@ -10,6 +10,7 @@ use Rattle.sessions.specs.declared.session.Change.TheVariants.{Begin, Seen, Rest
 use Rattle.sessions.specs.declared.session.Session.{Session}
 use Rattle.sessions.proofs.Puts.{keys-flow, put-apart}
 use Rattle.sessions.proofs.Sets.{Apart, Rises-listing, In-listing, listing-In, same_key}
+use Rattle.sessions.proofs.Held.{at_pushed}
 use Rattle.hairpin.specs.Legs.{put_all}
 use Rattle.hairpin.specs.Plans.{Became, GiveAll, Gives, IsOf, MayBegin}
 use Rattle.hairpin.proofs.Soundness.{put-known, put-more}
@@ -37,15 +38,6 @@ module _ (old new : List (Option Session)) (slot : ℕ) (t : Session) (apart : A
     ];
   }
 
-append-others : (held : List (Option Session)) (t : Session) (k : ℕ) → k ≢ length held → get_or (held ++ Some t ∷ []) k None ≡ get_or held k None
-append-others held t k ne = elim (cases_lt k (length held)) [
-  | inl lt ↦ get_or_append_left held (Some t ∷ []) None k lt
-  | inr le ↦
-      get_or-append_right held (Some t ∷ []) (length held) k None refl le
-      ∙ get_or_past (Some t ∷ []) (k - length held) None (omega (arith, ne))
-      ∙ sym (get_or_past held k None le)
-]
-
 none-past : (held : List (Option Session)) (s : Session) → get_or held (length held) None ≡ Some s → ⊥
 none-past held s at = none-some s (sym (get_or_past held (length held) None (omega arith)) ∙ at)
 
@@ -62,13 +54,13 @@ begun-later external held now s t same apart may =
     let is : get_or later end None ≡ Some t = get_or-append_seam held (Some t) [] None in
     let away : (k : ℕ) (u : Session) → k ≢ end → get_or held k None ≡ Some u → key u ≢ key t = λ k u ne at e.
     may.apart (record { place = k; held = u; is_held = at; clash = inl (same_key t u (sym e)) }) in
-    let later_apart = later-apart held later end t apart is (append-others held t) away in
+    let later_apart = later-apart held later end t apart is (at_pushed held t) away in
     record {
       later = later;
       apart = later_apart;
       became = record {
-        listing = put-apart held later end t apart later_apart is (append-others held t) (λ u at. absurd (none-past held u at));
-        kept = λ k u at other. append-others held t k (λ e. none-past held u (subst (λ j. get_or held j None ≡ Some u) e at)) ∙ at;
+        listing = put-apart held later end t apart later_apart is (at_pushed held t) (λ u at. absurd (none-past held u at));
+        kept = λ k u at other. at_pushed held t k (λ e. none-past held u (subst (λ j. get_or held j None ≡ Some u) e at)) ∙ at;
       };
     }
 

@@ -32,6 +32,7 @@ use Rattle.hairpin.specs.Causes.{number}
 use Rattle.hairpin.specs.Legs.{Passage, hairpin, in_leg, out_leg, put_all}
 use Rattle.hairpin.specs.Sound.{AreSound, KeepBounds}
 use Rattle.hairpin.specs.declared.cause.Cause.{Cause}
+use Rattle.hairpin.proofs.Beginning.{none-from, none-to}
 use Rattle.hairpin.proofs.Doubling.{fine-hairpin}
 use Rattle.hairpin.proofs.Incoming.{fine-in}
 use Rattle.hairpin.proofs.Opening.{fine-out}
@@ -51,14 +52,6 @@ later-above a b = elim (cases_Bool (nat_le a b)) [
   | inl is_so ↦ subst (λ x. a ≤ cond x b a) (sym is_so) (leb-true a b is_so)
   | inr not_so ↦ subst (λ x. a ≤ cond x b a) (sym not_so) (omega arith)
 ]
-
-none-to : (config : Config) (facts : Facts) (inside : Endpoint) → prerouting_verdict config facts no_tables ≡ destinations.To inside → ⊥
-unfolding prerouting_verdict hook_outcome
-none-to config facts inside h = cc
-
-none-from : (config : Config) (facts : Facts) (addr : ℕ) → postrouting_verdict config facts no_tables ≡ sources.From addr → ⊥
-unfolding postrouting_verdict hook_outcome
-none-from config facts addr h = cc
 
 -- the rules in force translate to nothing out of bounds
 pub bounded : (config : Config) (text : List ℕ) (rules : Spelled) → IsInForce config text rules → KeepBounds config rules

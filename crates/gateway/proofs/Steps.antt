@@ -17,6 +17,7 @@ use Rattle.sessions.specs.declared.session.Session.{Session}
 use Rattle.sessions.specs.Table.{IsSound as IsHeldSound}
 use Rattle.sessions.proofs.Sets.{Apart-sound, listing-In}
 use Rattle.hairpin.specs.Sound.{AreSound}
+use Rattle.hairpin.proofs.Beginning.{listing-none}
 use Rattle.hairpin.proofs.Soundness.{filter-sound}
 use Rattle.hairpin.specs.Legs.{Passage, put_all}
 use Rattle.hairpin.specs.Plans.{GiveAll, Plans}
@@ -79,12 +80,6 @@ unfolding step
 few-acts config s judged now d e is few =
     subst (λ n. AddsNone s (act config (aged n s) d)) (sym e) (subst (λ x. AddsNone s (act config (aged (later s.clock judged.moment) s) x)) is few)
 
--- a core begins with no session
-none-listed : (held : List (Option Session)) → ((slot : ℕ) → get_or held slot None ≡ None) → listing held ≡ []
-none-listed [] none = refl
-none-listed (None ∷ held) none = none-listed held (λ slot. none (suc slot))
-none-listed (Some s ∷ held) none = absurd (none-some s (sym (none 0)))
-
 abbrev core_at : Config → List ℕ → Spelled → List Session → ℕ → Core
 core_at config text rules sessions clock = record { config = config; state = record { text = text; rules = rules; sessions = sessions; clock = clock } }
 
@@ -92,7 +87,7 @@ pub begins : (config : Config) (text : List ℕ) (rules : Spelled) (held : List 
     → core_at config text rules (listing held) moment ≡ core_at config [] no_tables [] moment
 begins config text rules held moment none_said none_ruled none =
     ap (λ t. core_at config t rules (listing held) moment) none_said ∙ ap (λ r. core_at config [] r (listing held) moment) none_ruled
-    ∙ ap (λ ss. core_at config [] no_tables ss moment) (none-listed held none)
+    ∙ ap (λ ss. core_at config [] no_tables ss moment) (listing-none held none)
 
 pub started : (config : Config) (text : List ℕ) (rules : Spelled) (flows : Flows) (moment : ℕ) → flows.translations.external ≡ config.external → text ≡ [] → rules ≡ no_tables
     → ((slot : ℕ) → get_or flows.table.held slot None ≡ None) → IsCore config text rules flows moment

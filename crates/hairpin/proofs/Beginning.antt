@@ -16,7 +16,7 @@ use Rattle.hairpin.specs.Sound.{AreSound, KeepBounds}
 use Rattle.hairpin.specs.Tallies.{tally}
 use Rattle.hairpin.proofs.Tally.{tally-same}
 
-listing-none : (held : List (Option Session)) → ((slot : ℕ) → get_or held slot None ≡ None) → listing held ≡ []
+pub listing-none : (held : List (Option Session)) → ((slot : ℕ) → get_or held slot None ≡ None) → listing held ≡ []
 listing-none [] none = refl
 listing-none (None ∷ held) none = listing-none held (λ slot. none (suc slot))
 listing-none (Some s ∷ held) none = absurd (none-some s (sym (none 0)))
@@ -36,14 +36,14 @@ none-sound config = record {
 pub sound_none : (config : Config) (held : List (Option Session)) → ((slot : ℕ) → get_or held slot None ≡ None) → AreSound config (listing held)
 sound_none config held none = subst (AreSound config) (sym (listing-none held none)) (none-sound config)
 
-abbrev no_tables : Spelled
+abbrev pub no_tables : Spelled
 no_tables = record { tables = [] }
 
-none-to : (config : Config) (facts : Facts) (inside : Endpoint) → prerouting_verdict config facts no_tables ≡ destination.To inside → ⊥
+pub none-to : (config : Config) (facts : Facts) (inside : Endpoint) → prerouting_verdict config facts no_tables ≡ destination.To inside → ⊥
 unfolding prerouting_verdict hook_outcome
 none-to config facts inside h = cc
 
-none-from : (config : Config) (facts : Facts) (addr : ℕ) → postrouting_verdict config facts no_tables ≡ source.From addr → ⊥
+pub none-from : (config : Config) (facts : Facts) (addr : ℕ) → postrouting_verdict config facts no_tables ≡ source.From addr → ⊥
 unfolding postrouting_verdict hook_outcome
 none-from config facts addr h = cc
 

@@ -1,13 +1,10 @@
 -- What is known of a configuration.
 use Rattle.std.proofs.Common.{◌≡◌, ℕ, ◌≤◌, ◌&&◌, not, nat_le, Bool, true, false, List, length, refl, leb-true, IsTrue}
+use Rattle.std.proofs.lemmas.Bool.{not-true}
 use Rattle.std.specs.List.{list_all}
 use Rattle.std.specs.Str.{bytes_eq}
 use Rattle.packet.specs.Config.{Config, is_name, is_name_byte, is_prefix, is_inside, is_config, IsChecked}
 use Rattle.packet.proofs.SameLemmas.{both_true}
-
-is_no : (t : Bool) → not t ≡ true → t ≡ false
-is_no true h = cc
-is_no false h = refl
 
 name_length : (name : List ℕ) → is_name name ≡ true → (1 ≤ length name) × (length name ≤ 15)
 unfolding is_name
@@ -28,8 +25,8 @@ is_checked c h =
     record {
       lan = name_length c.lan names.0;
       wan = name_length c.wan names.1;
-      names = is_no _ differ.1;
+      names = not-true _ differ.1;
       count = (leb-true 1 (length c.inside) some.1, leb-true (length c.inside) 16 few.1);
       prefixes = prefixes.1;
-      outside = is_no _ outside.1;
+      outside = not-true _ outside.1;
     }

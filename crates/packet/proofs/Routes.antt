@@ -1,6 +1,6 @@
 -- What a route says of a packet.
 use Rattle.std.proofs.Common.{◌≡◌, ◌≤◌, ◌||◌, Bool, not, nat_le, true, false, if◌then◌else◌, refl, ap, ◌∙◌, subst, arith, leb-false, Ok, IsOkAnd}
-use Rattle.std.proofs.lemmas.Bool.{lt-leb}
+use Rattle.std.proofs.lemmas.Bool.{lt-leb, or_parts}
 use Rattle.packet.specs.Config.{Config, is_inside, is_external}
 use Rattle.packet.specs.Route.{is_spoofed, is_unroutable, route_of, route, IsOnRoute, RoutedIsOnRoute, OnRouteIsRouted}
 use Rattle.packet.specs.declared.endpoint.Iface.{Iface}
@@ -9,7 +9,7 @@ use Rattle.packet.specs.declared.route.Route.{Route}
 use Rattle.packet.specs.declared.route.Route.TheVariants.{Out, In, Hairpin}
 use Rattle.packet.specs.declared.route.RouteFault.TheVariants.{Ttl, Spoofed, NoRoute}
 use Rattle.packet.specs.declared.view.View.{View}
-use Rattle.packet.proofs.Accepted.{past, or_false, not_false, same_eq}
+use Rattle.packet.proofs.Accepted.{past, not_false, same_eq}
 
 on_route : (config : Config) (from : Iface) (view : View) → is_spoofed config from view.src.addr ≡ false → is_unroutable config from view.dst.addr ≡ false
     → IsOnRoute config from view (route_of config from view.dst.addr)
@@ -20,7 +20,7 @@ on_route config Lan view source target =
       | false ↦ λ e. (refl, not_false _ source, target, e)
     ]) refl
 on_route config Wan view source target =
-    let both = or_false (is_inside config view.src.addr) (is_external config view.src.addr) source in
+    let both = or_parts (is_inside config view.src.addr) (is_external config view.src.addr) source in
     (refl, both.0, both.1, not_false _ target)
 
 on_the_way : (config : Config) (from : Iface) (view : View) (r : Route) → IsOkAnd (route config from view) (λ q. q ≡ r)

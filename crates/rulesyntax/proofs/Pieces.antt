@@ -3,6 +3,7 @@ use Rattle.std.proofs.Common.{◌≡◌, ℕ, suc, ◌+◌, ◌-◌, ◌*◌, �
 use Rattle.std.specs.Prelude.{◌&&◌, not, ◌==◌, nat_le, IsSome, map}
 use Rattle.std.specs.List.{list_all}
 use Rattle.std.specs.Char.{is_ascii_digit}
+use Rattle.std.proofs.Math.Bool.{and-false}
 use Rattle.std.proofs.lemmas.Bool.{leb-true, le-leb}
 use Rattle.std.proofs.Math.Dec.{eqb-suc-zero}
 use Rattle.std.proofs.lemmas.List.{append-nil}
@@ -15,13 +16,9 @@ none_has : (o : Option Kind) → o ≡ None → IsSome o → ⊥
 none_has (Some x) e h = absurd cc
 none_has None e h = absurd cc
 
-and_false : (b : Bool) → (b && false) ≡ false
-and_false true = refl
-and_false false = refl
-
 not_all : (test : ℕ → Bool) (bs : Text) (c : ℕ) (more : Text) → test c ≡ false → list_all test (bs ++ c ∷ more) ≡ false
 not_all test [] c more e = rw e refl
-not_all test (b ∷ bs) c more e = ap (λ (x : Bool). test b && x) (not_all test bs c more e) ∙ and_false (test b)
+not_all test (b ∷ bs) c more e = ap (λ (x : Bool). test b && x) (not_all test bs c more e) ∙ and-false (test b)
 
 kind_is : (b : ℕ) (bs : Text) (s : Shape) → shape_of b ≡ s → kind_of (b ∷ bs) ≡ kind_by s b bs
 kind_is b bs s e = ap (λ (x : Shape). kind_by x b bs) e
@@ -185,7 +182,7 @@ digits_is most (b ∷ bs) n le = by (is_ascii_digit b) (nat_le (n * 10 + (b - 48
     by : (d l : Bool) → nat_le (n * 10 + (b - 48)) most ≡ l → (n * 10 + (b - 48) ≤ most → digits_from most (n * 10 + (b - 48)) bs ≡ cond (list_all is_ascii_digit bs && nat_le (decimal_from (n * 10 + (b - 48)) bs) most) (Some (decimal_from (n * 10 + (b - 48)) bs)) None) → cond (d && l) (digits_from most (n * 10 + (b - 48)) bs) None ≡ cond ((d && list_all is_ascii_digit bs) && nat_le (decimal_from (n * 10 + (b - 48)) bs) most) (Some (decimal_from (n * 10 + (b - 48)) bs)) None
     by false l e h = refl
     by true true e h = h (leb-true (n * 10 + (b - 48)) most e)
-    by true false e h = rw (big e, and_false (list_all is_ascii_digit bs)) refl
+    by true false e h = rw (big e, and-false (list_all is_ascii_digit bs)) refl
 
 pub decimal_small : (most n : ℕ) (bs : Text) → decimal most bs ≡ Some n → n ≤ most
 unfolding decimal

@@ -2,7 +2,7 @@
 use Rattle.std.proofs.Common.{◌≡◌, ℕ, suc, ◌<◌, ◌≤◌, Bool, true, false, List, [], ◌∷◌, ◌++◌, length, Option, Some, None, refl, sym, ap, subst, ◌∙◌, append_assoc, arith, inl, inr}
 use Rattle.std.specs.Prelude.{codes, ◌||◌, ◌==◌, map, Result, Ok, Err, IfOk}
 use Rattle.std.specs.Str.{bytes_eq}
-use Rattle.std.proofs.lemmas.Bool.{eqb-true}
+use Rattle.std.proofs.lemmas.Bool.{eqb-true, or_parts}
 use Rattle.std.proofs.Math.Dec.{eqb-suc-zero}
 use Rattle.std.proofs.lemmas.List.{append-nil, nil_from_length}
 use Rattle.rulesyntax.specs.declared.token.Token.TheVariants.{Name, Symbol}
@@ -137,10 +137,6 @@ unfolding keyword_at keyword_of next_at
 family_read Ip a = refl
 family_read Inet a = refl
 
-or_false : (a b : Bool) → (a || b) ≡ false → (a ≡ false) × (b ≡ false)
-or_false true b e = absurd cc
-or_false false b e = (refl, e)
-
 -- a name that a table may have is no family
 no_family : (n : List ℕ) (a : Tokens) → is_reserved n ≡ false → keyword_at family_words (Name n ∷ a) ≡ None
 unfolding keyword_at keyword_of next_at
@@ -150,11 +146,11 @@ no_family n a e =
     let ip6 = inet || bytes_eq n (codes "ip6") in
     let arp = ip6 || bytes_eq n (codes "arp") in
     let bridge = arp || bytes_eq n (codes "bridge") in
-    let h4 = or_false bridge (bytes_eq n (codes "netdev")) e in
-    let h3 = or_false arp (bytes_eq n (codes "bridge")) h4.0 in
-    let h2 = or_false ip6 (bytes_eq n (codes "arp")) h3.0 in
-    let h1 = or_false inet (bytes_eq n (codes "ip6")) h2.0 in
-    let h0 = or_false ip (bytes_eq n (codes "inet")) h1.0 in
+    let h4 = or_parts bridge (bytes_eq n (codes "netdev")) e in
+    let h3 = or_parts arp (bytes_eq n (codes "bridge")) h4.0 in
+    let h2 = or_parts ip6 (bytes_eq n (codes "arp")) h3.0 in
+    let h1 = or_parts inet (bytes_eq n (codes "ip6")) h2.0 in
+    let h0 = or_parts ip (bytes_eq n (codes "inet")) h1.0 in
     rw (h0.0, h0.1) refl
 
 family_complete : (f : Family) (ts : Tokens) (n : List ℕ) (a : Tokens) → is_reserved n ≡ false → FamilyIs f ts (Name n ∷ a) → family_at ts ≡ (f, Name n ∷ a)

@@ -8,10 +8,7 @@ use Rattle.ruletext.specs.Duplicate.{has_duplicate}
 use Rattle.ruletext.specs.Counts.{is_too_much}
 use Rattle.ruletext.specs.Loads.{MayRun}
 use Rattle.ruletext.specs.Runnable.{IsRunnable}
-
-not_true : (b : Bool) → ¬ (b ≡ true) → b ≡ false
-not_true true never = absurd (never refl)
-not_true false never = refl
+use Rattle.ruletext.proofs.NoneBelow.{not_true}
 
 pub runnable : (config : Config) (text : Spelled) → MayRun config text → IsRunnable text
 runnable config text none = record {

@@ -1,7 +1,7 @@
 -- What may be relied on where no earlier kind holds.
 use Rattle.std.proofs.Common.{◌≡◌, ℕ, zero, suc, ◌<◌, Bool, true, false, ◌||◌, List, [], ◌∷◌, get_or, All, refl, sym, inl, inr, arith}
 use Rattle.std.specs.List.{list_any}
-use Rattle.std.proofs.lemmas.Bool.{false≢true}
+use Rattle.std.proofs.lemmas.Bool.{false≢true, or_parts}
 use Rattle.packet.specs.Config.{Config}
 use Rattle.rulesyntax.specs.declared.tree.Table.{Table}
 use Rattle.rulesyntax.specs.declared.fault.Kind.TheVariants.{Duplicate, Depth}
@@ -11,7 +11,7 @@ use Rattle.rulesyntax.specs.declared.tree.Family.TheVariants.{Ip, Inet}
 use Rattle.ruletext.specs.Calls.{OfSome, IsDeep, AreDistinct, HaveDistinctSets, AreShallow}
 use Rattle.ruletext.specs.Loads.{HoldsAmong, IsNoneBelow}
 
-not_true : (b : Bool) → ¬ (b ≡ true) → b ≡ false
+pub not_true : (b : Bool) → ¬ (b ≡ true) → b ≡ false
 not_true true never = absurd (never refl)
 not_true false never = refl
 
@@ -29,18 +29,10 @@ second true b c e = absurd (false≢true (sym e))
 second false true c e = absurd (false≢true (sym e))
 second false false c e = refl
 
-left : (a b : Bool) → (a || b) ≡ false → a ≡ false
-left true b e = absurd (false≢true (sym e))
-left false b e = refl
-
-right : (a b : Bool) → (a || b) ≡ false → b ≡ false
-right true b e = absurd (false≢true (sym e))
-right false b e = e
-
 all_false : {X : Type 0} (test : X → Bool) (xs : List X) → list_any test xs ≡ false → All (λ x. test x ≡ false) xs
 all_false test [] e k d lt = absurd (omega arith)
-all_false test (x ∷ xs) e zero d lt = left (test x) (list_any test xs) e
-all_false test (x ∷ xs) e (suc k) d lt = all_false test xs (right (test x) (list_any test xs) e) k d (omega arith)
+all_false test (x ∷ xs) e zero d lt = (or_parts (test x) (list_any test xs) e).0
+all_false test (x ∷ xs) e (suc k) d lt = all_false test xs ((or_parts (test x) (list_any test xs) e).1) k d (omega arith)
 
 none_of : {X : Type 0} (P : X → Type 0) (xs : List X) → ¬ OfSome P xs → All (λ x. ¬ P x) xs
 none_of P [] never k d lt = absurd (omega arith)

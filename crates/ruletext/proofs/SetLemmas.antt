@@ -3,7 +3,7 @@ use Rattle.std.proofs.Common.{◌≡◌, ◌↔◌, ◌⊎◌, ◌∙◌, ℕ, z
 use Rattle.std.specs.Option.{option_map_or}
 use Rattle.std.specs.Str.{bytes_eq}
 use Rattle.std.proofs.lemmas.Slice.Eq.{bytes_eq-Decides}
-use Rattle.std.proofs.lemmas.Bool.{cases_Bool, false≢true}
+use Rattle.std.proofs.lemmas.Bool.{cases_Bool, false≢true, or_parts}
 use Rattle.rulesyntax.specs.declared.tree.Set.{Set}
 use Rattle.ruletext.specs.Said.{set_names, is_among}
 use Rattle.ruletext.specs.declared.class.Class.{Class}
@@ -30,14 +30,6 @@ found_set (set ∷ sets) name (suc p) at only =
     ] in
     ap (λ b. cond b (Some set) (find (λ (s : Set). bytes_eq s.name name) sets)) different ∙ found_set sets name p at (λ other is. suc_is (only (suc other) is))
 
-or_left : (a b : Bool) → (a || b) ≡ false → a ≡ false
-or_left true b e = e
-or_left false b e = refl
-
-or_right : (a b : Bool) → (a || b) ≡ false → b ≡ false
-or_right true b e = absurd (false≢true (sym e))
-or_right false b e = e
-
 bytes_turned : (a b : List ℕ) → bytes_eq a b ≡ false → bytes_eq b a ≡ false
 bytes_turned a b differ = elim (cases_Bool (bytes_eq b a)) [
   | inl same ↦ absurd (false≢true (sym differ ∙ (bytes_eq-Decides a b).1 (sym ((bytes_eq-Decides b a).0 same))))
@@ -48,8 +40,8 @@ bytes_turned a b differ = elim (cases_Bool (bytes_eq b a)) [
 pub found_none : (sets : List Set) (name : List ℕ) → is_among (set_names sets) name ≡ false → find (λ set. bytes_eq set.name name) sets ≡ None
 found_none [] name none = refl
 found_none (set ∷ sets) name none =
-    ap (λ b. cond b (Some set) (find (λ (s : Set). bytes_eq s.name name) sets)) (bytes_turned name set.name (or_left (bytes_eq name set.name) (is_among (set_names sets) name) none))
-    ∙ found_none sets name (or_right (bytes_eq name set.name) (is_among (set_names sets) name) none)
+    ap (λ b. cond b (Some set) (find (λ (s : Set). bytes_eq s.name name) sets)) (bytes_turned name set.name ((or_parts (bytes_eq name set.name) (is_among (set_names sets) name) none).0))
+    ∙ found_none sets name ((or_parts (bytes_eq name set.name) (is_among (set_names sets) name) none).1)
 
 module _ (sets : List Set) (class : Class) (name : List ℕ) where
   pub other_at : (p : ℕ) (set : Set) (has : Bool) → slice_get (set_names sets) p ≡ Some name → ((other : ℕ) → slice_get (set_names sets) other ≡ Some name → other ≡ p)

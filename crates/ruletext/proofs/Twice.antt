@@ -1,5 +1,6 @@
 -- Names that are put in one by one, until one stands there already.
 use Rattle.std.proofs.Common.{◌≡◌, ◌+◌, ℕ, Bool, true, false, cond, not, ◌||◌, ◌&&◌, List, [], ◌∷◌, ◌++◌, append_assoc, map, drop, slice_get, Some, refl, sym, ap, ◌∙◌}
+use Rattle.std.proofs.lemmas.Bool.{or_parts}
 use Rattle.std.specs.List.{list_any, filter}
 use Rattle.std.specs.Str.{bytes_eq}
 use Rattle.std.proofs.lemmas.Slice.Eq.{bytes_eq-Decides}
@@ -86,10 +87,6 @@ module _ (family : Family) (tables : List Table) (i : ℕ) (t : Table) (at : sli
         | false ↦ λ e' among' here'. ap (λ test. list_any test rest || has_twice rest) (fun_ext (λ other. among' other ∙ or-false (is_among old other))) ∙ here'
       ]) e among here
 
-or_left_false : (a b : Bool) → (a || b) ≡ false → a ≡ false
-or_left_false true b e = e
-or_left_false false b e = refl
-
 -- where no name clashes, all go in, one behind the other
 module _ {X : Type 0} (f : X → List ℕ) (xs : List X) (i : ℕ) (x : X) (at : slice_get xs i ≡ Some x) (old new : List (List ℕ)) (is_new : Bool) (e : is_new ≡ not (is_among old (f x)))
     (fresh : clashes old (map f (drop i xs)) ≡ false) where
@@ -97,7 +94,7 @@ module _ {X : Type 0} (f : X → List ℕ) (xs : List X) (i : ℕ) (x : X) (at :
   opened = ap (λ rest. clashes old (map f rest)) (sym (drop_at xs i x at)) ∙ fresh
 
   head_fresh : is_among old (f x) ≡ false
-  head_fresh = or_left_false (is_among old (f x)) (list_any (is_among old) (map f (drop (i + 1) xs))) (or_left_false (is_among old (f x) || list_any (is_among old) (map f (drop (i + 1) xs))) (is_among (map f (drop (i + 1) xs)) (f x) || has_twice (map f (drop (i + 1) xs))) opened)
+  head_fresh = (or_parts (is_among old (f x)) (list_any (is_among old) (map f (drop (i + 1) xs))) (or_parts (is_among old (f x) || list_any (is_among old) (map f (drop (i + 1) xs))) (is_among (map f (drop (i + 1) xs)) (f x) || has_twice (map f (drop (i + 1) xs))) opened).0).0
 
   pub still_fresh : ((other : List ℕ) → is_among new other ≡ (is_among old other || bytes_eq other (f x))) → clashes new (map f (drop (i + 1) xs)) ≡ false
   still_fresh among = clash_on old new (map f (drop (i + 1) xs)) (f x) head_fresh among ∙ opened

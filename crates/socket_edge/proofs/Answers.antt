@@ -122,6 +122,10 @@ Begun-more old new es fs a b p = record {
   order = p.order;
 }
 
+-- handing out adds no event
+pub Progress-still : (old now new : Standing) (events : List Event) (a b c : List ℕ) → Progress old now events a b → Progress now new [] b c → Progress old new events a c
+Progress-still old now new events a b c p q = subst (λ (es : List Event). Progress old new es a c) (append-nil events) (Progress-then old now new events [] a b c p q)
+
 -- an event was taken, and what it handed out was put out
 pub Progress-took : (old new : Standing) (event : Event) (given : Given) (before out : List ℕ) → Took old new event given → out ≡ before ++ flat_map frame (handed given) → Progress old new (event ∷ []) before out
 unfolding due replies

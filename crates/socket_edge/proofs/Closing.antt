@@ -17,7 +17,7 @@ use Rattle.socket_edge.specs.Framing.{Framed, Rest, Fault, behind, framed}
 use Rattle.socket_edge.specs.Answering.{frame, Progress, Begun, BeginsFrames}
 use Rattle.socket_edge.specs.Running.{Comes, Answered, Reads, Offered, end_of, Closed}
 use Rattle.socket_edge.proofs.Frames.{framed_cut, framed_bad, Reads-is}
-use Rattle.socket_edge.proofs.Answers.{Progress-then, Begun-of, Begun-then, Begun-more, all_sent}
+use Rattle.socket_edge.proofs.Answers.{Progress-still, Begun-of, Begun-then, Begun-more, all_sent}
 
 -- what the bytes are, where no whole frame is left
 pub framed_then_cut : (bytes rest : List ℕ) (events : List Event) → Reads bytes events rest → next rest ≡ Cut → framed bytes ≡ record { events = events; stop = Rest rest }
@@ -35,15 +35,11 @@ pub begun_framed : (old new : Standing) (bytes later : List ℕ) (events : List 
 begun_framed old new bytes later events a b r p =
     subst (λ (f : Framed). Begun old new f.events a b) (sym (Reads-is bytes events later r)) (Begun-more old new events (framed later).events a b p)
 
--- handing out adds no event
-flushed : (old now new : Standing) (events : List Event) (a b c : List ℕ) → Progress old now events a b → Progress now new [] b c → Progress old new events a c
-flushed old now new events a b c p q = subst (λ (es : List Event). Progress old new es a c) (append-nil events) (Progress-then old now new events [] a b c p q)
-
 bad_closes : (old now new : Standing) (bytes rest : List ℕ) (events : List Event) (fault : HeaderFault) (b c : List ℕ) → Reads bytes events rest → next rest ≡ Bad fault → Progress old now events [] b → Progress now new [] b c → new.held ≡ []
     → ((framed bytes).stop ≡ Fault fault) × Answered old new bytes c
 bad_closes old now new bytes rest events fault b c r e p q h =
     let f = framed_then_bad bytes rest events fault r e in
-    (ap (λ (x : Framed). x.stop) f, Answered-of old new bytes c (subst (λ (x : Framed). Progress old new x.events [] c) (sym f) (flushed old now new events [] b c p q)) (λ _. h))
+    (ap (λ (x : Framed). x.stop) f, Answered-of old new bytes c (subst (λ (x : Framed). Progress old new x.events [] c) (sym f) (Progress-still old now new events [] b c p q)) (λ _. h))
 
 -- numbers stay out where the last number stays
 Comes-still : (fault : GatewayFault) (now new : Standing) → new.last ≡ now.last → Comes fault now → Comes fault new
@@ -66,12 +62,12 @@ kept (stop.Lost fault) n = absurd (n fault refl)
 pub closes : (s : Stop) (old now new : Standing) (bytes rest : List ℕ) (count : ℕ) (b c : List ℕ) → IsKept s → Offered s bytes rest count old now [] b → Progress now new [] b c → new.held ≡ []
     → Closed (end_of s) old new bytes rest c count
 closes stop.Cut old now new bytes rest count b c n o q h =
-    record { events = o.0; reads = o.1; cut = o.2; count_is = o.3; progress = flushed old now new o.0 [] b c o.4 q; none = λ _. h }
+    record { events = o.0; reads = o.1; cut = o.2; count_is = o.3; progress = Progress-still old now new o.0 [] b c o.4 q; none = λ _. h }
 closes (stop.Bad header.BadKind) old now new bytes rest count b c n o q h = bad_closes old now new bytes rest o.0 header.BadKind b c o.1 o.2 o.3 q h
 closes (stop.Bad header.BadInterface) old now new bytes rest count b c n o q h = bad_closes old now new bytes rest o.0 header.BadInterface b c o.1 o.2 o.3 q h
 closes (stop.Bad header.TooLong) old now new bytes rest count b c n o q h = bad_closes old now new bytes rest o.0 header.TooLong b c o.1 o.2 o.3 q h
 closes (stop.Refused fault) old now new bytes rest count b c n o q h =
-    (Comes-still fault now new (omega (arith, q.last)) o.2, begun_framed old new bytes rest o.0 [] c o.1 (Begun-of old new o.0 [] c (flushed old now new o.0 [] b c o.3 q)))
+    (Comes-still fault now new (omega (arith, q.last)) o.2, begun_framed old new bytes rest o.0 [] c o.1 (Begun-of old new o.0 [] c (Progress-still old now new o.0 [] b c o.3 q)))
 closes (stop.Lost fault) old now new bytes rest count b c n o q h = absurd n
 
 -- handing out failed

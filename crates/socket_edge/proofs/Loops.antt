@@ -11,7 +11,7 @@ use Rattle.socket_edge.specs.Answering.{Progress}
 use Rattle.socket_edge.specs.Running.{Reads, OfferedOne, Stepped, Offered}
 use Rattle.socket_edge.proofs.Streams.{rest_whole}
 use Rattle.socket_edge.proofs.Frames.{Reads-nil, Reads-whole}
-use Rattle.socket_edge.proofs.Answers.{Progress-nil, Progress-then, Begun-then}
+use Rattle.socket_edge.proofs.Answers.{Progress-nil, Progress-then, Progress-still, Begun-then}
 
 pub record SoFar (old now : Standing) (bytes : List ℕ) (at before count : ℕ) (out_before out : List ℕ) : Type 0 where
   pub within : at ≤ length bytes
@@ -37,21 +37,17 @@ SoFar-next old now new bytes at before count a b c n number s t =
       count_is = omega (arith, s.count_is, length-append s.events (t.0 ∷ []));
     }
 
--- no event more
-still : (old now new : Standing) (events : List Event) (a b c : List ℕ) → Progress old now events a b → Progress now new [] b c → Progress old new events a c
-still old now new events a b c p q = subst (λ (es : List Event). Progress old new es a c) (append-nil events) (Progress-then old now new events [] a b c p q)
-
 -- the loop's end
 pub SoFar-ends : (old now new : Standing) (bytes : List ℕ) (at before count : ℕ) (a b c : List ℕ) (s : Stop) → SoFar old now bytes at before count a b
     → Stepped (step.Ends s) (take (length bytes - at) (drop at bytes)) now new b c → Offered s bytes (drop at bytes) (count - before) old new a c
 SoFar-ends old now new bytes at before count a b c stop.Cut s t =
     let r = rest_whole at bytes in
-    (s.events, s.reads, ap next (sym r) ∙ t.0, omega (arith, s.count_is), still old now new s.events a b c s.progress t.1)
+    (s.events, s.reads, ap next (sym r) ∙ t.0, omega (arith, s.count_is), Progress-still old now new s.events a b c s.progress t.1)
 SoFar-ends old now new bytes at before count a b c (stop.Bad fault) s t =
     let r = rest_whole at bytes in
-    (s.events, s.reads, ap next (sym r) ∙ t.0, still old now new s.events a b c s.progress t.1)
+    (s.events, s.reads, ap next (sym r) ∙ t.0, Progress-still old now new s.events a b c s.progress t.1)
 SoFar-ends old now new bytes at before count a b c (stop.Refused fault) s t =
-    (s.events, s.reads, t.0, still old now new s.events a b c s.progress t.1)
+    (s.events, s.reads, t.0, Progress-still old now new s.events a b c s.progress t.1)
 SoFar-ends old now new bytes at before count a b c (stop.Lost fault) s t =
     let r = rest_whole at bytes in
     (s.events ++ t.0 ∷ [], t.1, Reads-whole bytes (drop at bytes) s.events t.0 t.1 s.reads (ap next (sym r) ∙ t.2), t.3, Begun-then old now new s.events (t.0 ∷ []) a b c s.progress t.4)
