@@ -1,0 +1,123 @@
+//! As many sessions as a gateway holds, what it drops then, and what it takes when they have ended.
+use gateway::{Answer, Bytes, Event, Gateway, Given, Iface, What};
+use packet::bounds::Bounds;
+use packet::endpoint::Prefix;
+use std::alloc::Global;
+use std::process::Abort;
+use std::test::*;
+
+/// The drop of a packet that would begin one session too many.
+const TABLE_FULL: u8 = 20;
+
+/// The seconds after which a session of UDP is over.
+const IDLE: u64 = 300;
+
+// UDP from 192.168.1.2 to 198.51.100.7:53, without a checksum; the source port stands at byte 20.
+const FIRST_HOST: [u8; 28] = [
+    0x45, 0x00, 0x00, 0x1c, 0x00, 0x01, 0x00, 0x00, 0x40, 0x11, 0x8e, 0xeb, 0xc0, 0xa8, 0x01, 0x02,
+    0xc6, 0x33, 0x64, 0x07, 0x13, 0x88, 0x00, 0x35, 0x00, 0x08, 0x00, 0x00,
+];
+
+// The same from 192.168.1.3.
+const SECOND_HOST: [u8; 28] = [
+    0x45, 0x00, 0x00, 0x1c, 0x00, 0x01, 0x00, 0x00, 0x40, 0x11, 0x8e, 0xea, 0xc0, 0xa8, 0x01, 0x03,
+    0xc6, 0x33, 0x64, 0x07, 0x13, 0x88, 0x00, 0x35, 0x00, 0x08, 0x00, 0x00,
+];
+
+// From 198.51.100.7:53 to 192.168.1.3:5000.
+const FROM_OUTSIDE: [u8; 28] = [
+    0x45, 0x00, 0x00, 0x1c, 0x00, 0x01, 0x00, 0x00, 0x40, 0x11, 0x8e, 0xea, 0xc6, 0x33, 0x64, 0x07,
+    0xc0, 0xa8, 0x01, 0x03, 0x00, 0x35, 0x13, 0x88, 0x00, 0x08, 0x00, 0x00,
+];
+
+/// lan and wan, inside 192.168.0.0/16, external 203.0.113.1, without rules.
+fn opened(alloc: Global) -> Result<Gateway, Fail> {
+    let inside = vec![in alloc;
+        Prefix {
+            addr: 0xc0a8_0000,
+            len: 16
+        },
+    ]?;
+    let lan = String::from_str(alloc, "lan")?;
+    let wan = String::from_str(alloc, "wan")?;
+    let bounds = Bounds::new(lan, wan, inside, 0xcb00_7101)?;
+    Ok(Gateway::start(alloc, bounds, 1000)?)
+}
+
+/// Offers the packet, with this source port where there is one.
+fn answer(
+    alloc: Global,
+    gateway: &mut Gateway,
+    moment: u64,
+    iface: Iface,
+    packet: &[u8; 28],
+    port: Option<u16>,
+) -> Result<Answer, Fail> {
+    let mut bytes = Vec::from_slice(alloc, packet)?;
+    if let (Some(port), Some(place)) = (port, bytes.as_mut_slice().get_mut(20..22)) {
+        place.copy_from_slice(&port.to_be_bytes());
+    }
+    let what = What::Packet(iface, Bytes::of(bytes));
+    match gateway.offer(Event { moment, what }) {
+        Ok(Given::Now(_, answer)) => Ok(answer),
+        Ok(Given::Held(_)) => Err(Fail::new("an answer is held")),
+        Err(_) => Err(Fail::new("the event was not taken")),
+    }
+}
+
+fn is_sent_on(answer: &Answer) -> bool {
+    matches!(answer, Answer::Forward(Iface::Wan, _))
+}
+
+fn is_full(answer: &Answer) -> bool {
+    matches!(answer, Answer::Dropped(TABLE_FULL))
+}
+
+/// Begins 65,536 sessions: one of each port of the first host, and one of the second.
+fn fill(rt: &impl Abort, alloc: Global, gateway: &mut Gateway) -> Result<(), Fail> {
+    for port in 1..=u16::MAX {
+        let sent = answer(alloc, gateway, 1000, Iface::Lan, &FIRST_HOST, Some(port))?;
+        assert!(rt; is_sent_on(&sent), "{port}");
+    }
+    let sent = answer(alloc, gateway, 1000, Iface::Lan, &SECOND_HOST, None)?;
+    assert!(rt; is_sent_on(&sent));
+    Ok(())
+}
+
+#[test]
+fn full_table(rt: HostRuntime) -> Result<(), Fail> {
+    let alloc = rt.alloc();
+    let mut gateway = opened(alloc)?;
+    fill(&rt, alloc, &mut gateway)?;
+    let new = answer(
+        alloc,
+        &mut gateway,
+        1000,
+        Iface::Lan,
+        &SECOND_HOST,
+        Some(6000),
+    )?;
+    assert!(rt; is_full(&new));
+    let incoming = answer(
+        alloc,
+        &mut gateway,
+        1000,
+        Iface::Wan,
+        &FROM_OUTSIDE,
+        Some(54),
+    )?;
+    assert!(rt; is_full(&incoming));
+    let held = answer(alloc, &mut gateway, 1000, Iface::Lan, &SECOND_HOST, None)?;
+    assert!(rt; is_sent_on(&held));
+    let later = answer(
+        alloc,
+        &mut gateway,
+        1000 + IDLE,
+        Iface::Lan,
+        &SECOND_HOST,
+        Some(6000),
+    )?;
+    assert!(rt; is_sent_on(&later));
+    assert_eq!(rt; gateway.sessions()?.len(), 1);
+    Ok(())
+}
