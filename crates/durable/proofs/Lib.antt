@@ -4,6 +4,8 @@ pub mod Values
 pub mod Loops
 pub mod Stored_values
 pub mod Tabled
+pub mod Named
+pub mod Arranging
 pub mod Keeping
 pub mod Bodies
 pub mod Errors

@@ -118,12 +118,12 @@ sound-before config ss (t ∷ ts) sound = sound-fewer config t ss (sound-before 
 
 -- ---- the session of a flow
 
+named-some : (t : Sessions) (slot : ℕ) (f : Flow) (o : Option Session) → at t slot ≡ o → IsSomeAnd o (HasInside f.proto f.inside f.remote) → (s : Session) × (at t slot ≡ Some s) × (is_of f s ≡ true)
+named-some t slot f None e is = absurd is
+named-some t slot f (Some s) e is = (s, e, has_inside-from f.proto f.inside f.remote s is)
+
 pub named-at : (t : Sessions) (slot : ℕ) (f : Flow) → IsSomeAnd (at t slot) (HasInside f.proto f.inside f.remote) → (s : Session) × (at t slot ≡ Some s) × (is_of f s ≡ true)
-named-at t slot f h = of_some (at t slot) refl h
-where
-  of_some : (o : Option Session) → at t slot ≡ o → IsSomeAnd o (HasInside f.proto f.inside f.remote) → (s : Session) × (at t slot ≡ Some s) × (is_of f s ≡ true)
-  of_some None e is = absurd is
-  of_some (Some s) e is = (s, e, has_inside-from f.proto f.inside f.remote s is)
+named-at t slot f h = named-some t slot f (at t slot) refl h
 
 pub is-named : (t : Sessions) (slot : ℕ) (f : Flow) (s : Session) → at t slot ≡ Some s → is_of f s ≡ true → IsNamed f (listing t.held)
 is-named t slot f s is of_s = (s, listing-In t.held s slot is, of_s)
@@ -190,3 +190,12 @@ module _ (old new : Sessions) (slot : ℕ) (f : Flow) (s : Session) (sound : IsS
             let was = sym (updates.others k differ) ∙ at_k in
             filter-In test (listing old.held) t (listing-In old.held t k was) (not_from_false _ (only t k was differ))
       ])
+
+pub sound-none : (config : Config) → AreSound config []
+sound-none config = record {
+  rises = tt;
+  apart = λ s t is. absurd is;
+  at_most = omega arith;
+  placed = λ s is. absurd is;
+  seen = λ s is. absurd is;
+}

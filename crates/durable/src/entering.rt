@@ -1,5 +1,5 @@
 //! Entries and bodies change the state that is read: a text, and a table of sessions.
-ghost use Rattle.std.specs.Prelude.{◌≡◌, IfOk, OnOk, IsErrOf, true, IsTrue};
+ghost use Rattle.std.specs.Prelude.{◌≡◌, ◌↔◌, IfOk, OnOk, IsErrOf, true, IsTrue};
 ghost use Rattle.sessions.specs.Life.{IsSeen};
 ghost use Rattle.sessions.specs.Listing.{insert, listing};
 ghost use Rattle.sessions.specs.Sound.{AreSound};

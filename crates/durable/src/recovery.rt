@@ -1,9 +1,8 @@
 //! What two files stand for.
 ghost use Rattle.std.specs.Prelude.{◌≡◌, ◌<◌, ◌↔◌, IsTrue, List, ℕ, Option, length, drop, IfOk, OnOk, IsErrOf};
-ghost use Rattle.packet.specs.Config.{is_config};
+ghost use Rattle.std.specs.List.{All};
 ghost use Rattle.sessions.specs.Life.{IsSeen};
-ghost use Rattle.sessions.specs.Listing.{In, listing};
-ghost use Rattle.sessions.specs.declared.session.Session.{Session};
+ghost use Rattle.sessions.specs.Listing.{listing};
 ghost use Rattle.sessions.specs.Sound.{AreSound};
 ghost use Rattle.durable.specs.Coding.{Heading, IsHeading};
 ghost use Rattle.durable.specs.Entering.{Durable, durable};
@@ -44,12 +43,19 @@ pub struct Recovered<'a> {
 impl Recovered<'_> {
     /// Whether these bounds are those that the file stores.
     pub fn is_configured(&self, bounds: &Bounds) -> bool
-        ensures { IsTrue result ↔ (self.now.bounds ≡ bounds.now) }
+        ensures is { IsTrue result → self.now.bounds ≡ bounds.now }
+        ensures differs { self.now.bounds ≡ bounds.now → IsTrue result }
     {
-        self.bounds.lan() == bounds.lan()
-            && self.bounds.wan() == bounds.wan()
-            && self.bounds.inside() == bounds.inside()
-            && self.bounds.external() == bounds.external()
+        if self.bounds.lan() != bounds.lan() {
+            return false;
+        }
+        if self.bounds.wan() != bounds.wan() {
+            return false;
+        }
+        if self.bounds.inside() != bounds.inside() {
+            return false;
+        }
+        self.bounds.external() == bounds.external()
     }
 }
 
@@ -91,7 +97,7 @@ fn read_open<'a>(
 
 // A table of these sessions, which may stand in any order.
 fn table_of(alloc: Global, bounds: &Bounds, sessions: &[Session]) -> Result<Table, DurableFault>
-    requires bits { (s : Session) → In s sessions.now → IsSeen s.proto s.seen }
+    requires bits { All (λ s. IsSeen s.proto s.seen) sessions.now }
     ensures ok { IfOk result (λ table. (listing table.held ≡ arranged sessions.now) × AreSound bounds.now (arranged sessions.now)) }
     ensures damaged { IsErrOf result DurableFault.Damaged → ¬ AreSound bounds.now (arranged sessions.now) }
 {

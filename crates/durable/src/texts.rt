@@ -1,5 +1,5 @@
 //! Whether a stored text is one that a gateway may have.
-ghost use Rattle.std.specs.Prelude.{OnOk, IsErrOf};
+ghost use Rattle.std.specs.Prelude.{◌≡◌, ◌≢◌, OnOk, IsErrOf};
 ghost use Rattle.durable.specs.Entering.{IsRuleset};
 
 use crate::DurableFault;
@@ -22,12 +22,16 @@ pub fn check_text(alloc: Global, bounds: &Bounds, text: &[u8]) -> Result<(), Dur
         return Ok(());
     }
     match read(alloc, text, bounds) {
-        Ok(_) => Ok(()),
-        Err(fault) => {
-            if fault.kind == Kind::NoMemory {
-                return Err(DurableFault::NoMemory);
-            }
-            Err(DurableFault::Damaged)
-        }
+        Ok(_rules) => Ok(()),
+        Err(fault) => Err(refusal(fault.kind)),
+    }
+}
+
+fn refusal(kind: Kind) -> DurableFault
+    ensures { result ≡ DurableFault.Damaged → kind ≢ Kind.NoMemory }
+{
+    match kind {
+        Kind::NoMemory => DurableFault::NoMemory,
+        _ => DurableFault::Damaged,
     }
 }

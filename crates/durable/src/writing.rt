@@ -1,10 +1,9 @@
 //! Entries and headings as bytes. All numbers are big-endian.
-ghost use Rattle.std.specs.Prelude.{◌≡◌, ◌<◌, ◌^◌, ◌∷◌, ◌++◌, ℕ, [], length, slice_index, OnOk};
+ghost use Rattle.std.specs.Prelude.{◌≡◌, ◌<◌, ◌^◌, ◌∷◌, ◌++◌, [], length, OnOk};
 ghost use Rattle.std.specs.List.{flat_map};
 ghost use Rattle.byteorder.specs.Endian.{big_bytes};
-ghost use Rattle.packet.specs.Config.{Config};
 ghost use Rattle.sessions.specs.Life.{IsSeen};
-ghost use Rattle.durable.specs.Coding.{Begin, End, Load, Restart, Seen, opener_number, endpoint_bytes, session_bytes, flow_bytes, entry_bytes, text_bytes, prefix_bytes, config_bytes, snapshot_bytes, heading_bytes, mark, IsEntry, IsCodedConfig, IsHeading};
+ghost use Rattle.durable.specs.Coding.{Begin, End, Load, Restart, Seen, opener_number, endpoint_bytes, session_bytes, flow_bytes, entry_bytes, text_bytes, prefix_bytes, config_bytes, snapshot_bytes, heading_bytes, mark, IsEndpoint, IsFlow, IsEntry};
 ghost use Rattle.durable.specs.Entering.{durable};
 ghost use Rattle.durable.specs.Laws.{anew};
 
@@ -23,9 +22,20 @@ fn number_of(opener: Opener) -> u8
     }
 }
 
+fn address_fits(address: u32)
+    ensures { address < 2 ^ 32 }
+{}
+
+fn port_fits(port: u16)
+    ensures { port < 2 ^ 16 }
+{}
+
 fn endpoint_code(endpoint: Endpoint) -> [u8; 6]
-    ensures { result ≡ endpoint_bytes endpoint }
+    ensures code { result ≡ endpoint_bytes endpoint }
+    ensures fits { IsEndpoint endpoint }
 {
+    address_fits(endpoint.addr);
+    port_fits(endpoint.port);
     let [a, b, c, d] = endpoint.addr.to_be_bytes();
     let [e, f] = endpoint.port.to_be_bytes();
     [a, b, c, d, e, f]
@@ -34,7 +44,7 @@ fn endpoint_code(endpoint: Endpoint) -> [u8; 6]
 /// What stands before the text in the entry of a load. The text has fewer than 2^32 bytes.
 pub fn load_front(text: &[u8]) -> [u8; 5]
     requires { length text.now < 2 ^ 32 }
-    ensures code { result ++ text.now ≡ entry_bytes (Load text.now) }
+    ensures { result ++ text.now ≡ entry_bytes (Load text.now) }
 {
     let [a, b, c, d] = (text.len() as u32).to_be_bytes();
     [1, a, b, c, d]
@@ -56,7 +66,8 @@ pub fn begin_code(session: &Session) -> [u8; 22]
 }
 
 fn flow_code(flow: &Flow) -> [u8; 13]
-    ensures { result ≡ flow_bytes flow.now }
+    ensures code { result ≡ flow_bytes flow.now }
+    ensures fits { IsFlow flow.now }
 {
     let [a, b, c, d, e, f] = endpoint_code(flow.inside);
     let [g, h, i, j, k, l] = endpoint_code(flow.remote);
@@ -221,7 +232,7 @@ pub fn put_heading(
 ) -> Result<(), AllocError>
     requires text { length text.now < 2 ^ 32 }
     requires count { length sessions.now < 2 ^ 32 }
-    ensures code { OnOk result (out.new.items ≡ out.old.items ++ heading_bytes (anew generation bounds.now (durable text.now sessions.now))) }
+    ensures { OnOk result (out.new.items ≡ out.old.items ++ heading_bytes (anew generation bounds.now (durable text.now sessions.now))) }
 {
     put_mark(out)?;
     put_generation(out, generation)?;

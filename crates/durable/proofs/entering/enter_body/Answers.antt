@@ -1,3 +1,5 @@
+use Rattle.sessions.specs.Listing.{listing}
+use Rattle.sessions.specs.Sound.{AreSound}
 use Rattle.std.proofs.Common.{rules, ◌<◌, ◌∙◌, length, sym, ap, subst}
 use Rattle.std.specs.Prelude.{Err}
 use Rattle.std.proofs.lemmas.Result.{err_from_is_err_and}
@@ -38,4 +40,5 @@ loop-rest-preserved c =
       back = λ new b.
           let on = body_back config e rest tail old new c.in-Some.ensures.ok (c.loop-rest.invariant.back new b) in
           subst (λ (d : Durable). BodyEnters config tail d new) (sym ok.1) on.1;
+      sound = c.in_ok-present.ensures.sound;
     }

@@ -1,9 +1,11 @@
+use Rattle.sessions.specs.Listing.{listing}
+use Rattle.sessions.specs.Sound.{AreSound}
 use Rattle.std.proofs.Common.{rules, ◌≡◌, ◌∷◌, ◌++◌, ◌∙◌, ℕ, List, length, sym, ap, subst}
 use Rattle.std.specs.Prelude.{Err}
 use Rattle.std.proofs.lemmas.Result.{err_from_is_err_and}
 use Rattle.durable.specs.Coding.{text_bytes, NoneBegins}
 use Rattle.durable.specs.Entering.{Durable, durable}
-use Rattle.durable.specs.Recovery.{GroupsLead}
+use Rattle.durable.specs.Leading.{GroupsLead}
 use Rattle.durable.specs.Viewing.{config_view}
 use Rattle.durable.proofs.Leads.{IsText, lead_on, lead_back, lead_torn, lead_cut}
 use Rattle.durable.proofs.Bodies.{body_once}
@@ -45,6 +47,7 @@ loop-behind-preserved c =
           let on = lead_back config body after rest old new tail starts.0 is (c.loop-behind.invariant.back new tail leads) in
           let same = body_once config body old on.0 mid on.1 enters in
           subst (λ (d : Durable). GroupsLead config after d new tail) same on.2;
+      sound = c.in_ok-present.ensures.sound;
     }
 
 pub returns-then-is_empty-clause-damaged : goal.returns-then-is_empty-clause-damaged

@@ -1,6 +1,8 @@
+use Rattle.sessions.specs.Listing.{listing}
+use Rattle.sessions.specs.Sound.{AreSound}
 use Rattle.std.proofs.Common.{ℕ, List, length}
 use Rattle.durable.specs.Entering.{Durable, durable}
-use Rattle.durable.specs.Recovery.{GroupsLead}
+use Rattle.durable.specs.Leading.{GroupsLead}
 use Rattle.durable.specs.Viewing.{config_view}
 use Rattle.durable.proofs.groups.enter_groups.Given as goal
 
@@ -10,6 +12,7 @@ invariant-loop-behind l = record {
       → GroupsLead l.bounds l.bytes (durable l.text (listing l.fn.table.held)) new tail;
   back : (new : Durable) (tail : List ℕ) → GroupsLead l.bounds l.bytes (durable l.text (listing l.fn.table.held)) new tail
       → GroupsLead l.bounds l.rest (durable l.present (listing l.table.held)) new tail;
+  sound : AreSound l.bounds (listing l.table.held);
 }
 
 abbrev pub decreases-loop-behind : goal.decreases-loop-behind
