@@ -2,14 +2,14 @@
 use Rattle.std.proofs.Common.{◌≡◌, ℕ, suc, ◌+◌, ◌≤◌, List, [], ◌∷◌, ◌++◌, length, vec_len, vec_capacity, Vec, Global, refl, sym, ap, ◌∙◌, subst, arith, append_assoc, length-append}
 use Rattle.std.proofs.lemmas.List.{append-nil}
 use Rattle.packet.specs.Config.{Config}
-use Rattle.gateway.specs.declared.event.Event.{Event}
-use Rattle.gateway.specs.declared.event.Answer.{Answer}
-use Rattle.gateway.specs.declared.event.Given.{Given}
-use Rattle.gateway.specs.declared.event.Given.TheVariants.{Now}
-use Rattle.gateway.specs.Judged.{Judged, AreJudged, IsJudged}
-use Rattle.gateway.specs.Machine.{State, step, after, answers, numbered}
-use Rattle.gateway.specs.Standing.{Standing, Took, TookAll, TookFirst, handed}
-use Rattle.gateway.proofs.Judging.{AreJudged-append, AreJudged-length, AreJudged-one}
+use Rattle.machine.specs.declared.event.Event.{Event}
+use Rattle.machine.specs.declared.event.Answer.{Answer}
+use Rattle.gateway.specs.declared.given.Given.{Given}
+use Rattle.gateway.specs.declared.given.Given.TheVariants.{Now}
+use Rattle.machine.specs.Judged.{Judged, AreJudged, IsJudged}
+use Rattle.machine.specs.Machine.{State, step, after, answers, numbered}
+use Rattle.gateway.specs.Told.{Told, Took, TookAll, TookFirst, handed}
+use Rattle.machine.proofs.Judging.{AreJudged-append, AreJudged-length, AreJudged-one}
 
 pub after-append : (config : Config) (s : State) (es fs : List Judged) → after config s (es ++ fs) ≡ after config (after config s es) fs
 after-append config s [] fs = refl
@@ -50,10 +50,10 @@ took_one config own old new last event answer same done = record {
   order = ap (λ (p : State × Answer). (last + 1, p.1) ∷ []) (sym done.2);
 }
 
-pub took_none : (old : Standing) → TookAll old old [] []
+pub took_none : (old : Told) → TookAll old old [] []
 took_none old = record { judged = []; are_judged = tt; config = refl; state = refl; last = omega arith; order = sym (append-nil old.held) }
 
-pub took_more : (first now new : Standing) (es : List Event) (e : Event) (out : List (ℕ × Answer)) (given : Given) → TookAll first now es out → Took now new e given
+pub took_more : (first now new : Told) (es : List Event) (e : Event) (out : List (ℕ × Answer)) (given : Given) → TookAll first now es out → Took now new e given
     → TookAll first new (es ++ e ∷ []) (out ++ handed given)
 took_more first now new es e out given all one =
     let js = all.judged in
@@ -80,13 +80,13 @@ took_more first now new es e out given all one =
     }
 
 -- a run has come as far as the events in front
-pub record Running (first now : Standing) (events front back : List Event) (out : Vec (ℕ × Answer) Global) : Type 0 where
+pub record Running (first now : Told) (events front back : List Event) (out : Vec (ℕ × Answer) Global) : Type 0 where
   pub split : events ≡ front ++ back
   pub took : TookAll first now front out.items
   pub none : now.held ≡ []
   pub room : vec_len out + length back ≤ vec_capacity out
 
-pub began : (first : Standing) (events back : List Event) (out : Vec (ℕ × Answer) Global) → back ≡ events → out.items ≡ [] → first.held ≡ [] → vec_len out + length back ≤ vec_capacity out
+pub began : (first : Told) (events back : List Event) (out : Vec (ℕ × Answer) Global) → back ≡ events → out.items ≡ [] → first.held ≡ [] → vec_len out + length back ≤ vec_capacity out
     → Running first first events [] back out
 began first events back out split empty none room = record {
   split = sym split;
@@ -95,7 +95,7 @@ began first events back out split empty none room = record {
   room = room;
 }
 
-pub went_on : (first now new : Standing) (events front back rest : List Event) (event : Event) (given : Given) (out out' : Vec (ℕ × Answer) Global)
+pub went_on : (first now new : Told) (events front back rest : List Event) (event : Event) (given : Given) (out out' : Vec (ℕ × Answer) Global)
     → Running first now events front back out → back ≡ event ∷ rest → Took now new event given → new.held ≡ [] → out'.items ≡ out.items ++ handed given
     → vec_len out' ≤ vec_len out + 1 → vec_capacity out ≤ vec_capacity out' → Running first new events (front ++ event ∷ []) rest out'
 went_on first now new events front back rest event given out out' run next took none items len capacity = record {
@@ -105,11 +105,11 @@ went_on first now new events front back rest event given out out' run next took 
   room = omega (arith, run.room, len, capacity, ap length next);
 }
 
-pub ended : (first now : Standing) (events front back : List Event) (out : Vec (ℕ × Answer) Global) → Running first now events front back out → back ≡ [] → TookAll first now events out.items
+pub ended : (first now : Told) (events front back : List Event) (out : Vec (ℕ × Answer) Global) → Running first now events front back out → back ≡ [] → TookAll first now events out.items
 ended first now events front back out run end =
     subst (λ (es : List Event). TookAll first now es out.items) (sym (run.split ∙ ap (λ (es : List Event). front ++ es) end ∙ append-nil front)) run.took
 
-pub stopped : (first now new : Standing) (events front back : List Event) (out : Vec (ℕ × Answer) Global) → Running first now events front back out → new ≡ now
+pub stopped : (first now new : Told) (events front back : List Event) (out : Vec (ℕ × Answer) Global) → Running first now events front back out → new ≡ now
     → TookFirst first new events out.items
 stopped first now new events front back out run same = record {
   front = front;

@@ -1,7 +1,1 @@
-pub mod Core
-pub mod Flows
-pub mod Judged
-pub mod Laws
-pub mod Machine
-pub mod Sound
-pub mod Standing
+pub mod Told

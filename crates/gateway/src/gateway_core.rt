@@ -1,13 +1,13 @@
-//! `Gateway`: a `Core`, which has all the state and does the steps (module `core_state`), and the number of the
+//! `Gateway`: a `Core`, which has all the state and does the steps (crate `machine`), and the number of the
 //! last event. This module adds nothing but the numbers.
 ghost use Rattle.std.specs.Prelude.{◌≡◌, ◌↔◌, ◌⊎◌, ◌-◌, ◌^◌, ◌<◌, ◌++◌, [], IfOk, IfErr, OnOk, OnErr, IsOk, List, length, vec_len, vec_capacity, ◌+◌, ◌≤◌};
-ghost use Rattle.gateway.specs.Judged.{Judged, IsJudged, IsNoLoad};
-ghost use Rattle.gateway.specs.Sound.{IsSound};
-ghost use Rattle.gateway.specs.Standing.{Took, TookAll, TookFirst, handed};
-ghost use Rattle.gateway.specs.Machine.{AddsNone, EndsNone, empty_at, later, step};
+ghost use Rattle.machine.specs.Judged.{Judged, IsJudged, IsNoLoad};
+ghost use Rattle.machine.specs.Sound.{IsSound};
+ghost use Rattle.gateway.specs.Told.{Took, TookAll, TookFirst, handed};
+ghost use Rattle.machine.specs.Machine.{AddsNone, EndsNone, empty_at, later, step};
 
-use crate::core_state::Core;
-use crate::event::{Answer, Event, GatewayFault, Given, NoMemory};
+use crate::{GatewayFault, Given};
+use machine::{Answer, Core, Event, NoMemory};
 use packet::bounds::Bounds;
 use sessions::Session;
 use std::alloc::Global;
@@ -25,9 +25,9 @@ pub struct Gateway {
 
 impl Model for Gateway {
     ghost use Rattle.std.specs.Prelude.{[]};
-    ghost use Rattle.gateway.specs.Standing.{Standing};
+    ghost use Rattle.gateway.specs.Told.{Told};
 
-    ghost Value = { Standing };
+    ghost Value = { Told };
 
     ghost view = { λ g. record { config = g.core.config; state = g.core.state; last = g.last; held = [] } };
 }

@@ -2,7 +2,8 @@
 //!
 //! Each test holds under `rt try --test --fail-alloc N` for every N too: a call to which memory was refused is
 //! made again, and has it then.
-use crate::{Answer, Bytes, Core, Event, Gateway, GatewayFault, Given, Iface, NoMemory, What};
+use crate::{Gateway, GatewayFault, Given};
+use machine::{Answer, Bytes, Core, Event, Iface, NoMemory, What};
 use packet::bounds::Bounds;
 use packet::endpoint::Prefix;
 use std::alloc::Global;

@@ -4,18 +4,18 @@ use Rattle.std.specs.List.{flat_map}
 use Rattle.std.proofs.lemmas.List.{append-nil, take-append-drop}
 use Rattle.std.proofs.lemmas.List.Concat.{flat_map-append}
 use Rattle.packet.specs.Config.{Config}
-use Rattle.gateway.specs.declared.event.Event.{Event}
-use Rattle.gateway.specs.declared.event.Answer.{Answer}
-use Rattle.gateway.specs.declared.event.Given.{Given}
-use Rattle.gateway.specs.Judged.{Judged, AreJudged}
-use Rattle.gateway.specs.Machine.{step, after, answers, numbered}
-use Rattle.gateway.specs.Standing.{Standing, Took, handed}
-use Rattle.gateway.proofs.Judging.{AreJudged-append, AreJudged-length, AreJudged-one}
+use Rattle.machine.specs.declared.event.Event.{Event}
+use Rattle.machine.specs.declared.event.Answer.{Answer}
+use Rattle.gateway.specs.declared.given.Given.{Given}
+use Rattle.machine.specs.Judged.{Judged, AreJudged}
+use Rattle.machine.specs.Machine.{step, after, answers, numbered}
+use Rattle.gateway.specs.Told.{Told, Took, handed}
+use Rattle.machine.proofs.Judging.{AreJudged-append, AreJudged-length, AreJudged-one}
 use Rattle.gateway.proofs.Runs.{after-append, answers-append, length-answers, numbered-append}
 use Rattle.socket_edge.specs.Answering.{frame, replies, due, AreFirst, Reached, Progress, Begun}
 
 -- the answers to the first events, and then those to the others
-replies-append : (old middle : Standing) (es fs : List Judged) → middle.config ≡ old.config → middle.state ≡ after old.config old.state es → middle.last ≡ old.last + length es
+replies-append : (old middle : Told) (es fs : List Judged) → middle.config ≡ old.config → middle.state ≡ after old.config old.state es → middle.last ≡ old.last + length es
     → replies old (es ++ fs) ≡ replies old es ++ replies middle fs
 unfolding replies
 replies-append old middle es fs c s l =
@@ -26,7 +26,7 @@ replies-append old middle es fs c s l =
     ap (numbered old.last) a ∙ numbered-append old.last (answers old.config old.state es) (answers middle.config middle.state fs)
     ∙ ap (λ (k : ℕ). numbered old.last (answers old.config old.state es) ++ numbered k (answers middle.config middle.state fs)) n
 
-pub due-append : (old middle : Standing) (es fs : List Judged) (handed : List (ℕ × Answer)) → middle.config ≡ old.config → middle.state ≡ after old.config old.state es → middle.last ≡ old.last + length es
+pub due-append : (old middle : Told) (es fs : List Judged) (handed : List (ℕ × Answer)) → middle.config ≡ old.config → middle.state ≡ after old.config old.state es → middle.last ≡ old.last + length es
     → handed ++ middle.held ≡ due old es → handed ++ due middle fs ≡ due old (es ++ fs)
 unfolding due
 due-append old middle es fs handed c s l o =
@@ -63,15 +63,15 @@ first-more config es fs js first = record {
 }
 
 -- the last number, said of what the events are judged
-pub last_of : (old new : Standing) (es : List Event) (a b : List ℕ) (p : Progress old new es a b) → new.last ≡ old.last + length p.judged
+pub last_of : (old new : Told) (es : List Event) (a b : List ℕ) (p : Progress old new es a b) → new.last ≡ old.last + length p.judged
 last_of old new es a b p = omega (arith, p.last, AreJudged-length old.config es p.judged p.are_judged)
 
-pub Progress-nil : (old : Standing) (before : List ℕ) → Progress old old [] before before
+pub Progress-nil : (old : Told) (before : List ℕ) → Progress old old [] before before
 unfolding due replies
 Progress-nil old before = record { judged = []; are_judged = tt; config = refl; state = refl; last = omega arith; handed = []; sent = sym (append-nil before); order = sym (append-nil old.held) }
 
 -- one after the other
-pub Progress-then : (old middle new : Standing) (es fs : List Event) (a b c : List ℕ) → Progress old middle es a b → Progress middle new fs b c → Progress old new (es ++ fs) a c
+pub Progress-then : (old middle new : Told) (es fs : List Event) (a b c : List ℕ) → Progress old middle es a b → Progress middle new fs b c → Progress old new (es ++ fs) a c
 Progress-then old middle new es fs a b c p q = record {
   judged = p.judged ++ q.judged;
   are_judged = AreJudged-append old.config es fs p.judged q.judged p.are_judged (subst (λ (x : Config). AreJudged x fs q.judged) p.config q.are_judged);
@@ -84,18 +84,18 @@ Progress-then old middle new es fs a b c p q = record {
       ∙ due-append old middle p.judged q.judged p.handed p.config p.state (last_of old middle es a b p) p.order;
 }
 
-pub Reached-by : (old new : Standing) (es : List Event) (a b : List ℕ) (p : Progress old new es a b) → Reached old new p.judged
+pub Reached-by : (old new : Told) (es : List Event) (a b : List ℕ) (p : Progress old new es a b) → Reached old new p.judged
 Reached-by old new es a b p = record { config = p.config; state = p.state; last = last_of old new es a b p }
 
 -- one after the other
-pub Reached-then : (old middle new : Standing) (xs ys : List Judged) → Reached old middle xs → Reached middle new ys → Reached old new (xs ++ ys)
+pub Reached-then : (old middle new : Told) (xs ys : List Judged) → Reached old middle xs → Reached middle new ys → Reached old new (xs ++ ys)
 Reached-then old middle new xs ys p q = record {
   config = q.config ∙ p.config;
   state = q.state ∙ rw (p.state, p.config) refl ∙ sym (after-append old.config old.state xs ys);
   last = omega (arith, q.last, p.last, length-append xs ys);
 }
 
-pub Begun-then : (old middle new : Standing) (es fs : List Event) (a b c : List ℕ) → Progress old middle es a b → Begun middle new fs b c → Begun old new (es ++ fs) a c
+pub Begun-then : (old middle new : Told) (es fs : List Event) (a b c : List ℕ) → Progress old middle es a b → Begun middle new fs b c → Begun old new (es ++ fs) a c
 Begun-then old middle new es fs a b c p q = record {
   judged = p.judged ++ q.judged;
   reached = Reached-then old middle new p.judged q.judged (Reached-by old middle es a b p) q.reached;
@@ -107,11 +107,11 @@ Begun-then old middle new es fs a b c p q = record {
       ∙ due-append old middle p.judged q.judged p.handed p.config p.state (last_of old middle es a b p) p.order;
 }
 
-pub Begun-of : (old new : Standing) (es : List Event) (a b : List ℕ) → Progress old new es a b → Begun old new es a b
+pub Begun-of : (old new : Told) (es : List Event) (a b : List ℕ) → Progress old new es a b → Begun old new es a b
 Begun-of old new es a b p = record { judged = p.judged; are_first = first-all old.config es p.judged p.are_judged; reached = Reached-by old new es a b p; handed = p.handed; lost = []; sent = p.sent; order = p.order }
 
 -- a beginning of some events' answers is one of more events' answers
-pub Begun-more : (old new : Standing) (es fs : List Event) (a b : List ℕ) → Begun old new es a b → Begun old new (es ++ fs) a b
+pub Begun-more : (old new : Told) (es fs : List Event) (a b : List ℕ) → Begun old new es a b → Begun old new (es ++ fs) a b
 Begun-more old new es fs a b p = record {
   judged = p.judged;
   are_first = first-more old.config es fs p.judged p.are_first;
@@ -123,11 +123,11 @@ Begun-more old new es fs a b p = record {
 }
 
 -- handing out adds no event
-pub Progress-still : (old now new : Standing) (events : List Event) (a b c : List ℕ) → Progress old now events a b → Progress now new [] b c → Progress old new events a c
+pub Progress-still : (old now new : Told) (events : List Event) (a b c : List ℕ) → Progress old now events a b → Progress now new [] b c → Progress old new events a c
 Progress-still old now new events a b c p q = subst (λ (es : List Event). Progress old new es a c) (append-nil events) (Progress-then old now new events [] a b c p q)
 
 -- an event was taken, and what it handed out was put out
-pub Progress-took : (old new : Standing) (event : Event) (given : Given) (before out : List ℕ) → Took old new event given → out ≡ before ++ flat_map frame (handed given) → Progress old new (event ∷ []) before out
+pub Progress-took : (old new : Told) (event : Event) (given : Given) (before out : List ℕ) → Took old new event given → out ≡ before ++ flat_map frame (handed given) → Progress old new (event ∷ []) before out
 unfolding due replies
 Progress-took old new event given before out t e = record {
   judged = t.judged ∷ [];
@@ -141,7 +141,7 @@ Progress-took old new event given before out t e = record {
 }
 
 -- an event was taken, and its answer got lost
-pub Begun-lost : (old new : Standing) (event : Event) (given : Given) (before : List ℕ) → Took old new event given → Begun old new (event ∷ []) before before
+pub Begun-lost : (old new : Told) (event : Event) (given : Given) (before : List ℕ) → Took old new event given → Begun old new (event ∷ []) before before
 unfolding due replies
 Begun-lost old new event given before t = record {
   judged = t.judged ∷ [];
@@ -154,39 +154,39 @@ Begun-lost old new event given before t = record {
 }
 
 -- what was held is handed out
-pub Progress-flushed : (old new : Standing) (handed : List (ℕ × Answer)) (before out : List ℕ) → handed ≡ old.held → new ≡ record old { held = [] } → out ≡ before ++ flat_map frame handed → Progress old new [] before out
+pub Progress-flushed : (old new : Told) (handed : List (ℕ × Answer)) (before out : List ℕ) → handed ≡ old.held → new ≡ record old { held = [] } → out ≡ before ++ flat_map frame handed → Progress old new [] before out
 unfolding due replies
 Progress-flushed old new handed before out h n o = record {
   judged = [];
   are_judged = tt;
-  config = ap (λ (s : Standing). s.config) n;
-  state = ap (λ (s : Standing). s.state) n;
-  last = omega (arith, ap (λ (s : Standing). s.last) n);
+  config = ap (λ (s : Told). s.config) n;
+  state = ap (λ (s : Told). s.state) n;
+  last = omega (arith, ap (λ (s : Told). s.last) n);
   handed = handed;
   sent = o;
-  order = ap (λ (xs : List (ℕ × Answer)). handed ++ xs) (ap (λ (s : Standing). s.held) n) ∙ ap (λ (xs : List (ℕ × Answer)). xs ++ []) h;
+  order = ap (λ (xs : List (ℕ × Answer)). handed ++ xs) (ap (λ (s : Told). s.held) n) ∙ ap (λ (xs : List (ℕ × Answer)). xs ++ []) h;
 }
 
 -- a beginning of what was held is put out
-pub Begun-flushed : (old new : Standing) (n : ℕ) (handed : List (ℕ × Answer)) (before out : List ℕ) → handed ≡ old.held → new ≡ record old { held = [] } → out ≡ before ++ flat_map frame (take n handed) → Begun old new [] before out
+pub Begun-flushed : (old new : Told) (n : ℕ) (handed : List (ℕ × Answer)) (before out : List ℕ) → handed ≡ old.held → new ≡ record old { held = [] } → out ≡ before ++ flat_map frame (take n handed) → Begun old new [] before out
 unfolding due replies
 Begun-flushed old new n handed before out h e o = record {
   judged = [];
   are_first = first-none old.config [];
-  reached = record { config = ap (λ (s : Standing). s.config) e; state = ap (λ (s : Standing). s.state) e; last = omega (arith, ap (λ (s : Standing). s.last) e) };
+  reached = record { config = ap (λ (s : Told). s.config) e; state = ap (λ (s : Told). s.state) e; last = omega (arith, ap (λ (s : Told). s.last) e) };
   handed = take n handed;
   lost = drop n handed;
   sent = o;
-  order = ap (λ (xs : List (ℕ × Answer)). take n handed ++ (drop n handed ++ xs)) (ap (λ (s : Standing). s.held) e) ∙ ap (λ (xs : List (ℕ × Answer)). take n handed ++ xs) (append-nil (drop n handed))
+  order = ap (λ (xs : List (ℕ × Answer)). take n handed ++ (drop n handed ++ xs)) (ap (λ (s : Told). s.held) e) ∙ ap (λ (xs : List (ℕ × Answer)). take n handed ++ xs) (append-nil (drop n handed))
       ∙ take-append-drop n handed ∙ h ∙ sym (append-nil old.held);
 }
 
-pub Begun-nothing : (old : Standing) (events : List Event) → Begun old old events [] []
+pub Begun-nothing : (old : Told) (events : List Event) → Begun old old events [] []
 unfolding due replies
 Begun-nothing old events = record { judged = []; are_first = first-none old.config events; reached = record { config = refl; state = refl; last = omega arith }; handed = []; lost = []; sent = refl; order = sym (append-nil old.held) }
 
 -- everything that stands out was handed out
-pub all_sent : (old new : Standing) (events : List Event) (out : List ℕ) (p : Progress old new events [] out) → (old.held ≡ [] → new.held ≡ []) → old.held ≡ [] → out ≡ flat_map frame (replies old p.judged)
+pub all_sent : (old new : Told) (events : List Event) (out : List ℕ) (p : Progress old new events [] out) → (old.held ≡ [] → new.held ≡ []) → old.held ≡ [] → out ≡ flat_map frame (replies old p.judged)
 unfolding due
 all_sent old new events out p none h =
     let e : p.handed ≡ replies old p.judged = sym (append-nil p.handed) ∙ ap (λ (xs : List (ℕ × Answer)). p.handed ++ xs) (sym (none h)) ∙ p.order ∙ ap (λ (xs : List (ℕ × Answer)). xs ++ replies old p.judged) h in
@@ -194,14 +194,14 @@ all_sent old new events out p none h =
 
 -- ---- one event, where room was made for it first
 
-pub took_after : (old middle new : Standing) (event : Event) (given : Given) (a b c : List ℕ) → Progress old middle [] a b → Took middle new event given → c ≡ b ++ flat_map frame (handed given) → Progress old new (event ∷ []) a c
+pub took_after : (old middle new : Told) (event : Event) (given : Given) (a b c : List ℕ) → Progress old middle [] a b → Took middle new event given → c ≡ b ++ flat_map frame (handed given) → Progress old new (event ∷ []) a c
 took_after old middle new event given a b c p t e = Progress-then old middle new [] (event ∷ []) a b c p (Progress-took middle new event given b c t e)
 
-pub lost_after : (old middle new : Standing) (event : Event) (given : Given) (a b : List ℕ) → Progress old middle [] a b → Took middle new event given → Begun old new (event ∷ []) a b
+pub lost_after : (old middle new : Told) (event : Event) (given : Given) (a b : List ℕ) → Progress old middle [] a b → Took middle new event given → Begun old new (event ∷ []) a b
 lost_after old middle new event given a b p t = Begun-then old middle new [] (event ∷ []) a b b p (Begun-lost middle new event given b t)
 
-pub lost_before : (old new : Standing) (event : Event) (a b : List ℕ) → Begun old new [] a b → Begun old new (event ∷ []) a b
+pub lost_before : (old new : Told) (event : Event) (a b : List ℕ) → Begun old new [] a b → Begun old new (event ∷ []) a b
 lost_before old new event a b p = Begun-more old new [] (event ∷ []) a b p
 
-pub refused_after : (old middle new : Standing) (a b : List ℕ) → Progress old middle [] a b → new ≡ middle → Progress old new [] a b
-refused_after old middle new a b p e = subst (λ (s : Standing). Progress old s [] a b) (sym e) p
+pub refused_after : (old middle new : Told) (a b : List ℕ) → Progress old middle [] a b → new ≡ middle → Progress old new [] a b
+refused_after old middle new a b p e = subst (λ (s : Told). Progress old s [] a b) (sym e) p

@@ -11,7 +11,7 @@ use Rattle.std.proofs.lemmas.List.Concat.{flat_map-cons}
 use Rattle.byteorder.specs.Endian.{big_number, big_bytes}
 use Rattle.byteorder.specs.Numbers.{big_from-take, big_from-lt}
 use Rattle.packet.specs.declared.endpoint.Iface.TheVariants.{Lan, Wan}
-use Rattle.gateway.specs.declared.event.Event.{Event}
+use Rattle.machine.specs.declared.event.Event.{Event}
 use Rattle.socket_edge.specs.declared.fault.HeaderFault.{HeaderFault}
 use Rattle.socket_edge.specs.declared.fault.HeaderFault.TheVariants.{BadKind, BadInterface, TooLong}
 use Rattle.socket_edge.specs.declared.request.Kind.{Kind}

@@ -1,7 +1,7 @@
 -- Laws of the events of a stream.
 use Rattle.std.proofs.Common.{◌≡◌, ℕ, zero, suc, ◌<◌, ◌≤◌, List, [], ◌∷◌, ◌++◌, length, refl, sym, ap, ◌∙◌, arith, append_assoc}
 use Rattle.std.proofs.lemmas.List.{append-nil, nil_from_length}
-use Rattle.gateway.specs.declared.event.Event.{Event}
+use Rattle.machine.specs.declared.event.Event.{Event}
 use Rattle.socket_edge.specs.declared.fault.HeaderFault.{HeaderFault}
 use Rattle.socket_edge.specs.Requests.{Next, Whole, Cut, Bad, next, head_of}
 use Rattle.socket_edge.specs.Framing.{Rest, Fault, Framed, behind, go_on, framed_within, framed}

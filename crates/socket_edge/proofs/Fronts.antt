@@ -5,7 +5,7 @@ use Rattle.byteorder.specs.Endian.{big_number}
 use Rattle.byteorder.specs.Numbers.{big_from-append}
 use Rattle.std.proofs.lemmas.Bool.{ltb-false, le-ltb}
 use Rattle.std.proofs.lemmas.List.{take-append-le, drop-append-le, get_or_append_left}
-use Rattle.gateway.specs.declared.event.Event.{Event}
+use Rattle.machine.specs.declared.event.Event.{Event}
 use Rattle.socket_edge.specs.declared.request.Head.{Head}
 use Rattle.socket_edge.specs.declared.request.Head.TheVariants as head
 use Rattle.socket_edge.specs.Requests.{Next, Whole, Cut, what_of, head_of, with_body, next}

@@ -5,12 +5,12 @@ use Rattle.byteorder.specs.Endian.{big_bytes}
 use Rattle.packet.specs.Config.{Config}
 use Rattle.packet.specs.declared.endpoint.Iface.{Iface}
 use Rattle.packet.specs.declared.endpoint.Iface.TheVariants.{Lan, Wan}
-use Rattle.gateway.specs.declared.event.Event.{Event}
-use Rattle.gateway.specs.declared.event.Answer.{Answer}
-use Rattle.gateway.specs.declared.event.Answer.TheVariants as answer
-use Rattle.gateway.specs.Judged.{Judged, AreJudged}
-use Rattle.gateway.specs.Machine.{after, answers, numbered}
-use Rattle.gateway.specs.Standing.{Standing}
+use Rattle.machine.specs.declared.event.Event.{Event}
+use Rattle.machine.specs.declared.event.Answer.{Answer}
+use Rattle.machine.specs.declared.event.Answer.TheVariants as answer
+use Rattle.machine.specs.Judged.{Judged, AreJudged}
+use Rattle.machine.specs.Machine.{after, answers, numbered}
+use Rattle.gateway.specs.Told.{Told}
 
 abbrev pub iface_byte : Iface → ℕ
 iface_byte Lan = 0
@@ -38,11 +38,11 @@ abbrev pub frames : List (ℕ × Answer) → List ℕ
 frames answers = flat_map frame answers
 
 -- the numbered answers to events that are judged so
-unfoldable pub replies : Standing → List Judged → List (ℕ × Answer)
+unfoldable pub replies : Told → List Judged → List (ℕ × Answer)
 replies old judged = numbered old.last (answers old.config old.state judged)
 
 -- the numbered answers that stand out once these events are taken
-unfoldable pub due : Standing → List Judged → List (ℕ × Answer)
+unfoldable pub due : Told → List Judged → List (ℕ × Answer)
 due old judged = old.held ++ replies old judged
 
 -- The first of the events are judged so.
@@ -53,7 +53,7 @@ pub record AreFirst (config : Config) (events : List Event) (judged : List Judge
   pub are_judged : AreJudged config front judged
 
 -- The events were taken, as they are judged, and of the answers that stand out these were handed out; their frames went behind `before`.
-pub record Progress (old new : Standing) (events : List Event) (before out : List ℕ) : Type 0 where
+pub record Progress (old new : Told) (events : List Event) (before out : List ℕ) : Type 0 where
   pub judged : List Judged
   pub are_judged : AreJudged old.config events judged
   pub config : new.config ≡ old.config
@@ -64,13 +64,13 @@ pub record Progress (old new : Standing) (events : List Event) (before out : Lis
   pub order : handed ++ new.held ≡ due old judged
 
 -- The gateway stands where events that are judged so bring it.
-pub record Reached (old new : Standing) (judged : List Judged) : Type 0 where
+pub record Reached (old new : Told) (judged : List Judged) : Type 0 where
   pub config : new.config ≡ old.config
   pub state : new.state ≡ after old.config old.state judged
   pub last : new.last ≡ old.last + length judged
 
 -- The first of the events were taken, as they are judged. Of the answers that stand out, the frames of the first went behind `before`, others got lost, and the last are held.
-pub record Begun (old new : Standing) (events : List Event) (before out : List ℕ) : Type 0 where
+pub record Begun (old new : Told) (events : List Event) (before out : List ℕ) : Type 0 where
   pub judged : List Judged
   pub are_first : AreFirst old.config events judged
   pub reached : Reached old new judged
@@ -80,7 +80,7 @@ pub record Begun (old new : Standing) (events : List Event) (before out : List �
   pub order : handed ++ (lost ++ new.held) ≡ due old judged
 
 -- The first of the events were taken, as they are judged. The bytes are a beginning of the frames of the answers that stand out; the last of these are held.
-pub record BeginsFrames (old new : Standing) (events : List Event) (out : List ℕ) : Type 0 where
+pub record BeginsFrames (old new : Told) (events : List Event) (out : List ℕ) : Type 0 where
   pub judged : List Judged
   pub are_first : AreFirst old.config events judged
   pub reached : Reached old new judged

@@ -1,6 +1,6 @@
 -- The events of a stream of requests, and what stands behind them.
 use Rattle.std.specs.Prelude.{ℕ, zero, suc, List, [], ◌∷◌, ◌++◌, length}
-use Rattle.gateway.specs.declared.event.Event.{Event}
+use Rattle.machine.specs.declared.event.Event.{Event}
 use Rattle.socket_edge.specs.declared.fault.HeaderFault.{HeaderFault}
 use Rattle.socket_edge.specs.Requests.{Next, Whole, Cut, Bad, next}
 

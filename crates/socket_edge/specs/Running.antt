@@ -1,9 +1,9 @@
 -- What a run does, and what its parts do.
 use Rattle.std.specs.Prelude.{◌≡◌, ◌≢◌, ◌≤◌, ◌⊎◌, ◌-◌, ◌^◌, ℕ, List, [], ◌∷◌, ◌++◌, length, drop, Result, Ok, Err}
-use Rattle.gateway.specs.declared.event.Event.{Event}
-use Rattle.gateway.specs.declared.event.GatewayFault.{GatewayFault}
-use Rattle.gateway.specs.declared.event.GatewayFault.TheVariants.{NoMemory, NumbersOut}
-use Rattle.gateway.specs.Standing.{Standing}
+use Rattle.machine.specs.declared.event.Event.{Event}
+use Rattle.gateway.specs.declared.fault.GatewayFault.{GatewayFault}
+use Rattle.gateway.specs.declared.fault.GatewayFault.TheVariants.{NoMemory, NumbersOut}
+use Rattle.gateway.specs.Told.{Told}
 use Rattle.socket_edge.specs.declared.fault.HeaderFault.TheVariants as header
 use Rattle.socket_edge.specs.declared.fault.EdgeFault.{EdgeFault}
 use Rattle.socket_edge.specs.declared.fault.EdgeFault.TheVariants.{BadKind, BadInterface, TooLong, Truncated, Input, Output, Gateway}
@@ -18,17 +18,17 @@ use Rattle.socket_edge.specs.Framing.{Rest, Fault, behind, framed}
 use Rattle.socket_edge.specs.Answering.{frames, replies, Progress, Begun, BeginsFrames}
 
 -- The events of the bytes were taken. Where nothing was held before, all of them are answered by the bytes sent, and nothing is held.
-pub record Answered (old new : Standing) (bytes sent : List ℕ) : Type 0 where
+pub record Answered (old new : Told) (bytes sent : List ℕ) : Type 0 where
   pub progress : Progress old new (framed bytes).events [] sent
   pub none : old.held ≡ [] → new.held ≡ []
   pub all : old.held ≡ [] → sent ≡ frames (replies old progress.judged)
 
 -- The faults that come to a gateway that stands so: memory is refused, or no number is left.
-abbrev pub Comes : GatewayFault → Standing → Type 0
+abbrev pub Comes : GatewayFault → Told → Type 0
 Comes fault now = (fault ≡ NoMemory) ⊎ ((fault ≡ NumbersOut) × (now.last ≡ 2 ^ 64 - 1))
 
 -- what a fault says of the bytes that were read and sent
-abbrev pub Ends : EdgeFault → Standing → Standing → List ℕ → List ℕ → Type 0 → Type 0
+abbrev pub Ends : EdgeFault → Told → Told → List ℕ → List ℕ → Type 0 → Type 0
 Ends BadKind old new bytes sent at_end = ((framed bytes).stop ≡ Fault header.BadKind) × Answered old new bytes sent
 Ends BadInterface old new bytes sent at_end = ((framed bytes).stop ≡ Fault header.BadInterface) × Answered old new bytes sent
 Ends TooLong old new bytes sent at_end = ((framed bytes).stop ≡ Fault header.TooLong) × Answered old new bytes sent
@@ -38,14 +38,14 @@ Ends Output old new bytes sent at_end = BeginsFrames old new (framed bytes).even
 Ends (Gateway fault) old new bytes sent at_end = Comes fault new × Begun old new (framed bytes).events [] sent
 
 -- all was read and answered, and it was whole frames
-pub record Done (count : ℕ) (old new : Standing) (bytes sent : List ℕ) (at_end : Type 0) : Type 0 where
+pub record Done (count : ℕ) (old new : Told) (bytes sent : List ℕ) (at_end : Type 0) : Type 0 where
   pub answered : Answered old new bytes sent
   pub whole : (framed bytes).stop ≡ Rest []
   pub count_is : count ≡ length (framed bytes).events
   pub ended : at_end
 
 -- how a run ended
-abbrev pub Ran : Result ℕ EdgeFault → Standing → Standing → List ℕ → List ℕ → Type 0 → Type 0
+abbrev pub Ran : Result ℕ EdgeFault → Told → Told → List ℕ → List ℕ → Type 0 → Type 0
 Ran (Ok count) old new bytes sent at_end = Done count old new bytes sent at_end
 Ran (Err fault) old new bytes sent at_end = Ends fault old new bytes sent at_end
 
@@ -56,7 +56,7 @@ pub record Reads (given : List ℕ) (events : List Event) (pending : List ℕ) :
   pub goes : (more : List ℕ) → framed (given ++ more) ≡ behind events (framed (pending ++ more))
 
 -- what the offer of one event came to
-abbrev pub OfferedOne : Result ℕ Stop → Event → Standing → Standing → List ℕ → List ℕ → Type 0
+abbrev pub OfferedOne : Result ℕ Stop → Event → Told → Told → List ℕ → List ℕ → Type 0
 OfferedOne (Ok number) event old new before out = (number ≡ new.last) × Progress old new (event ∷ []) before out
 OfferedOne (Err (stop.Refused fault)) event old new before out = Comes fault new × Progress old new [] before out
 OfferedOne (Err (stop.Lost fault)) event old new before out = Comes fault new × Begun old new (event ∷ []) before out
@@ -64,7 +64,7 @@ OfferedOne (Err stop.Cut) event old new before out = ⊥
 OfferedOne (Err (stop.Bad fault)) event old new before out = ⊥
 
 -- what one frame at the front came to
-abbrev pub Stepped : Step → List ℕ → Standing → Standing → List ℕ → List ℕ → Type 0
+abbrev pub Stepped : Step → List ℕ → Told → Told → List ℕ → List ℕ → Type 0
 Stepped (step.Took n number) bytes old new before out =
     (event : Event) × (next bytes ≡ Whole event (drop n bytes)) × (14 ≤ n) × (n ≤ length bytes) × (number ≡ new.last) × Progress old new (event ∷ []) before out
 Stepped (step.Ends stop.Cut) bytes old new before out = (next bytes ≡ Cut) × Progress old new [] before out
@@ -74,7 +74,7 @@ Stepped (step.Ends (stop.Lost fault)) bytes old new before out =
     (event : Event) × (rest : List ℕ) × (next bytes ≡ Whole event rest) × Comes fault new × Begun old new (event ∷ []) before out
 
 -- what all whole frames at the front came to
-abbrev pub Offered : Stop → List ℕ → List ℕ → ℕ → Standing → Standing → List ℕ → List ℕ → Type 0
+abbrev pub Offered : Stop → List ℕ → List ℕ → ℕ → Told → Told → List ℕ → List ℕ → Type 0
 Offered stop.Cut bytes rest count old new before out =
     (events : List Event) × Reads bytes events rest × (next rest ≡ Cut) × (count ≡ length events) × Progress old new events before out
 Offered (stop.Bad fault) bytes rest count old new before out =
@@ -85,7 +85,7 @@ Offered (stop.Lost fault) bytes rest count old new before out =
     (events : List Event) × (later : List ℕ) × Reads bytes events later × Comes fault new × Begun old new events before out
 
 -- the whole frames at the front were answered, and these bytes are left
-pub record Served (old new : Standing) (bytes rest sent : List ℕ) (count : ℕ) : Type 0 where
+pub record Served (old new : Told) (bytes rest sent : List ℕ) (count : ℕ) : Type 0 where
   pub events : List Event
   pub reads : Reads bytes events rest
   pub cut : next rest ≡ Cut
@@ -103,12 +103,12 @@ end_of (stop.Refused fault) = Err (Gateway fault)
 end_of (stop.Lost fault) = Err (Gateway fault)
 
 -- all whole frames at the front were answered, or why not
-abbrev pub Closed : Result (Unit {0}) EdgeFault → Standing → Standing → List ℕ → List ℕ → List ℕ → ℕ → Type 0
+abbrev pub Closed : Result (Unit {0}) EdgeFault → Told → Told → List ℕ → List ℕ → List ℕ → ℕ → Type 0
 Closed (Ok done) old new bytes rest out count = Served old new bytes rest out count
 Closed (Err fault) old new bytes rest out count = Ends fault old new bytes out ⊥
 
 -- what one read, and all that it made whole, came to
-abbrev pub Turned : Result Turn EdgeFault → Standing → Standing → List ℕ → List ℕ → List ℕ → ℕ → Type 0 → Type 0
+abbrev pub Turned : Result Turn EdgeFault → Told → Told → List ℕ → List ℕ → List ℕ → ℕ → Type 0 → Type 0
 Turned (Ok turn.More) old new bytes rest sent count at_end = Served old new bytes rest sent count
 Turned (Ok turn.End) old new bytes rest sent count at_end = Done count old new bytes sent at_end
 Turned (Err fault) old new bytes rest sent count at_end = Ends fault old new bytes sent at_end

@@ -3,9 +3,9 @@ use Rattle.std.specs.Prelude.{◌≡◌, ◌≢◌, ◌<◌, ◌≤◌, ◌^◌,
 use Rattle.std.specs.List.{flat_map, AllByRecursion}
 use Rattle.byteorder.specs.Endian.{big_bytes}
 use Rattle.rulesyntax.specs.Text.{greatest_length}
-use Rattle.gateway.specs.declared.event.Event.{Event}
-use Rattle.gateway.specs.declared.event.What.{What}
-use Rattle.gateway.specs.declared.event.What.TheVariants as what
+use Rattle.machine.specs.declared.event.Event.{Event}
+use Rattle.machine.specs.declared.event.What.{What}
+use Rattle.machine.specs.declared.event.What.TheVariants as what
 use Rattle.socket_edge.specs.declared.fault.HeaderFault.{HeaderFault}
 use Rattle.socket_edge.specs.declared.fault.HeaderFault.TheVariants.{BadKind, BadInterface, TooLong}
 use Rattle.socket_edge.specs.Answering.{iface_byte}

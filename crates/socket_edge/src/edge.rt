@@ -1,7 +1,7 @@
 //! A run: what is read is offered, and the answers are written.
 ghost use Rattle.std.specs.Prelude.{◌≡◌, ◌≢◌, ℕ, List, [], ◌++◌, ◌-◌, ◌<◌, ◌≤◌, IfOk, IfErr, OnOk, length, take, drop};
 ghost use Rattle.std.specs.Io.KnownBytes.{Appends, Consumes, IsAtEnd};
-ghost use Rattle.gateway.specs.Standing.{Standing};
+ghost use Rattle.gateway.specs.Told.{Told};
 ghost use Rattle.socket_edge.specs.Requests.{next, Cut};
 ghost use Rattle.socket_edge.specs.Running.{Offered, end_of, Closed, Turned, Ran};
 
@@ -38,7 +38,7 @@ fn end_at(stop: Stop) -> Result<(), EdgeFault>
 
 /// Hands out what is held, where no answer was lost.
 fn close(stop: Stop, out: &mut Vec<u8>, gateway: &mut Gateway) -> Result<(), EdgeFault>
-    ensures { (old : Standing) (bytes rest : List ℕ) (count : ℕ) → Offered stop bytes rest count old gateway.old [] out.old.items
+    ensures { (old : Told) (bytes rest : List ℕ) (count : ℕ) → Offered stop bytes rest count old gateway.old [] out.old.items
         → Closed result old gateway.new bytes rest out.new.items count }
 {
     if let Stop::Lost(_) = stop {

@@ -1,6 +1,6 @@
 //! Offering the whole frames at the front of the bytes.
 ghost use Rattle.std.specs.Prelude.{◌≡◌, ◌∷◌, [], ◌-◌, ◌<◌, ◌≤◌, OnOk, IfErr, length, drop};
-ghost use Rattle.gateway.specs.declared.event.GatewayFault.TheVariants.{NoMemory};
+ghost use Rattle.gateway.specs.declared.fault.GatewayFault.TheVariants.{NoMemory};
 ghost use Rattle.socket_edge.specs.Answering.{Progress, Begun};
 ghost use Rattle.socket_edge.specs.Running.{OfferedOne, Stepped, Offered};
 

@@ -1,6 +1,6 @@
 use Rattle.std.proofs.Common.{◌≡◌, ℕ, [], ◌++◌, List, inl, refl, sym, ap, ◌∙◌}
 use Rattle.std.proofs.lemmas.List.{append-nil}
-use Rattle.gateway.specs.declared.event.Given.TheVariants.{Now, Held}
+use Rattle.gateway.specs.declared.given.Given.TheVariants.{Now, Held}
 use Rattle.socket_edge.specs.Answering.{frame}
 use Rattle.socket_edge.proofs.Answers.{took_after, lost_after, lost_before}
 use Rattle.socket_edge.proofs.serving.offer_event.Goals as goal

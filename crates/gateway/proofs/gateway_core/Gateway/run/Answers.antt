@@ -1,6 +1,6 @@
 use Rattle.std.proofs.Common.{length, sym, ap, arith}
 use Rattle.std.proofs.lemmas.List.{nil_from_length}
-use Rattle.gateway.specs.Standing.{Standing}
+use Rattle.gateway.specs.Told.{Told}
 use Rattle.gateway.proofs.Runs.{began, went_on, ended, stopped}
 use Rattle.gateway.proofs.gateway_core.Gateway.run.Goals as goal
 
@@ -9,7 +9,7 @@ loop-event-init c =
     let all = c.into_iter-event-iterator.ensures.into_iter_gives.0 in (
       tt,
       tt,
-      began c.args.self.now c.args.events.items _ c.in-Ok.answers all c.in-Ok.ensures.items (ap (λ (v : Standing). v.held) (sym c.self.view_is))
+      began c.args.self.now c.args.events.items _ c.in-Ok.answers all c.in-Ok.ensures.items (ap (λ (v : Told). v.held) (sym c.self.view_is))
           (omega (arith, c.in-Ok.ensures.len, c.in-Ok.ensures.capacity, c.len.ensures, ap length all, c.args.events.ok)),
     )
 

@@ -1,7 +1,0 @@
-use Rattle.std.proofs.Common.{sym, subst, ◌≤◌}
-use Rattle.gateway.proofs.Lasting.{step-clock}
-use Rattle.gateway.proofs.Soundness.{later-above}
-use Rattle.gateway.proofs.laws.clock_never_falls.Goals as goal
-
-pub returns : goal.returns
-returns c = λ config s judged is_one sound. subst (λ n. s.clock ≤ n) (sym (step-clock config is_one s judged sound)) (later-above s.clock judged.moment)

@@ -1,5 +1,0 @@
-use Rattle.gateway.proofs.Lasting.{step-maps}
-use Rattle.gateway.proofs.laws.living_mappings_stay.Goals as goal
-
-pub returns : goal.returns
-returns c = λ config s judged proto inside outside m is_one sound lives. step-maps config is_one s judged proto inside outside m sound lives

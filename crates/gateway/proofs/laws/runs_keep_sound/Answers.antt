@@ -1,5 +1,0 @@
-use Rattle.gateway.proofs.Soundness.{run-sound}
-use Rattle.gateway.proofs.laws.runs_keep_sound.Goals as goal
-
-pub returns : goal.returns
-returns c = λ config s events judged is_one are sound. run-sound config is_one s events judged are sound

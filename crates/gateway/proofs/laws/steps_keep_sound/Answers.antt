@@ -1,5 +1,0 @@
-use Rattle.gateway.proofs.Soundness.{step-sound}
-use Rattle.gateway.proofs.laws.steps_keep_sound.Goals as goal
-
-pub returns : goal.returns
-returns c = λ config s event judged is_one is sound. step-sound config is_one s judged is.right sound

@@ -1,0 +1,55 @@
+-- What a change does to the sessions that are held.
+use Rattle.std.proofs.Common.{◌≡◌, ◌≢◌, ℕ, ◌≤◌, List, Option, Some, None, get_or, sym, ◌∙◌, subst, inl, inr, arith}
+use Rattle.std.proofs.lemmas.Bool.{cases_eq}
+use Rattle.std.proofs.lemmas.Option.{same_Some}
+use Rattle.sessions.specs.declared.session.Change.{Change}
+use Rattle.sessions.specs.declared.session.Change.TheVariants.{Begin, Seen, Restart, End}
+use Rattle.sessions.specs.declared.session.Session.{Session}
+use Rattle.sessions.specs.Listing.{key}
+use Rattle.sessions.specs.declared.session.Opener.{Opener}
+use Rattle.sessions.specs.Table.{Sessions, Updates, IsSound, at, restarted, seen}
+use Rattle.sessions.proofs.Puts.{put-is}
+use Rattle.hairpin.specs.Plans.{Became, Gives, IsOf}
+use Rattle.machine.specs.Flows.{Flows, IsLatest, IsReady, adds}
+
+-- the slot, which held none or the session of the change, got this
+pub became : (old new : Sessions) (change : Change) (slot : ℕ) (t : Session) → IsSound old.held → IsSound new.held → Updates old new slot (Some t)
+    → ((s : Session) → at old slot ≡ Some s → key s ≡ key t)
+    → ((k : ℕ) (s : Session) → at old k ≡ Some s → ¬ IsOf change k → k ≢ slot)
+    → Became old.held change t new.held
+became old new change slot t sound_old sound_new updates fits away = record {
+  listing = put-is old.held new.held slot t sound_old sound_new updates.changed updates.others fits;
+  kept = λ k s is other. updates.others k (away k s is other) ∙ is;
+}
+
+-- the session that is held gives just one
+pub seen_became : (external : ℕ) (held later : List (Option Session)) (now slot bits : ℕ)
+    → ((s : Session) → get_or held slot None ≡ Some s → Became held (Seen slot bits) (seen s bits now) later)
+    → (t : Session) → Gives external held now (Seen slot bits) t → Became held (Seen slot bits) t later
+seen_became external held later now slot bits made t gives = subst (λ x. Became held (Seen slot bits) x later) (sym gives.3) (made gives.0 gives.1)
+
+pub restart_became : (external : ℕ) (held later : List (Option Session)) (now slot : ℕ) (opener : Opener)
+    → ((s : Session) → get_or held slot None ≡ Some s → Became held (Restart slot opener) (restarted s opener now) later)
+    → (t : Session) → Gives external held now (Restart slot opener) t → Became held (Restart slot opener) t later
+restart_became external held later now slot opener made t gives = subst (λ x. Became held (Restart slot opener) x later) (sym gives.2) (made gives.0 gives.1)
+
+-- no session is seen later than the one that the slot got
+pub latest_update : (old new : Sessions) (slot : ℕ) (t : Session) (now : ℕ) → Updates old new slot (Some t) → t.last ≤ now → IsLatest old.held now → IsLatest new.held now
+latest_update old new slot t now updates last latest = λ k s is. elim (cases_eq k slot) [
+  | inl here ↦ subst (λ (u : Session). u.last ≤ now) (sym (same_Some s t (sym is ∙ subst (λ j. at new j ≡ Some t) (sym here) updates.changed))) last
+  | inr away ↦ latest k s (sym (updates.others k away) ∙ is)
+]
+
+-- room for some sessions is room for fewer
+pub ready-fewer : (n m : ℕ) (f : Flows) → n ≤ m → IsReady m f → IsReady n f
+ready-fewer n m f le was = record {
+  table = omega (arith, le, was.table);
+  watched = was.watched;
+  translations = record { pairs = omega (arith, le, was.translations.pairs); ports = omega (arith, le, was.translations.ports) };
+}
+
+pub adds-few : (change : Change) → adds change ≤ 1
+adds-few (Begin s) = omega arith
+adds-few (Seen slot bits) = omega arith
+adds-few (Restart slot opener) = omega arith
+adds-few (End slot) = omega arith

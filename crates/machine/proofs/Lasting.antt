@@ -1,0 +1,142 @@
+-- What lasts over a step.
+use Rattle.std.proofs.Common.{◌≡◌, ℕ, ◌<◌, List, true, false, not, if◌then◌else◌, Bool, refl, sym, ap, ◌∙◌, subst, inl, inr, arith}
+use Rattle.std.specs.List.{filter}
+use Rattle.std.proofs.lemmas.Bool.{cases_Bool, lt-ltb, ltb-true, not_from_false}
+use Rattle.packet.specs.Config.{Config, is_config}
+use Rattle.packet.specs.declared.endpoint.Endpoint.{Endpoint}
+use Rattle.packet.specs.declared.endpoint.Proto.{Proto}
+use Rattle.packet.specs.declared.endpoint.Proto.TheVariants.{Tcp, Udp}
+use Rattle.rulesyntax.specs.declared.tree.Spelled.{Spelled}
+use Rattle.sessions.specs.Laws.{IsMapping}
+use Rattle.sessions.specs.Life.{IsAlive, alive, is_acknowledged, is_closing, timeout_by, timeout_in}
+use Rattle.sessions.specs.declared.life.Phase.TheVariants.{Partial, Established, Closing}
+use Rattle.sessions.specs.Listing.{In}
+use Rattle.sessions.specs.declared.session.Session.{Session}
+use Rattle.sessions.proofs.Sets.{In-filter, filter-In}
+use Rattle.machine.specs.Judged.{Judged, IsJudged, IsNoLoad, bringer}
+use Rattle.machine.specs.Machine.{State, act, aged, later, step}
+use Rattle.machine.specs.Sound.{IsSound}
+use Rattle.machine.specs.declared.event.Answer.{Answer}
+use Rattle.machine.specs.declared.event.Answer.TheVariants.{Dropped}
+use Rattle.machine.specs.declared.event.Answer.TheVariants as answer
+use Rattle.machine.specs.declared.event.Event.{Event}
+use Rattle.machine.specs.declared.deed.Deed.{Deed}
+use Rattle.machine.specs.declared.deed.Deed.TheVariants as deed
+use Rattle.hairpin.proofs.Apart.{agree}
+use Rattle.machine.proofs.Judging.{no_take}
+use Rattle.machine.proofs.Soundness.{act-by, aged-sound, later-above, put_all-member}
+
+-- the endpoints of two mappings of a protocol are one at one side where they are one at the other
+pub mappings-agree : (config : Config) (s : State) (proto : Proto) (inside inside' outside outside' : Endpoint) → IsSound config s → IsMapping s.sessions proto inside outside → IsMapping s.sessions proto inside' outside'
+    → (inside ≡ inside' → outside ≡ outside') × (outside ≡ outside' → inside ≡ inside')
+mappings-agree config s proto inside inside' outside outside' sound a b =
+    let same = agree s.sessions sound.sessions.apart a.session b.session a.is_held b.is_held a.translated b.translated (a.proto ∙ sym b.proto) in (
+      (λ e. sym a.outside ∙ same.0 (a.inside ∙ e ∙ sym b.inside) ∙ b.outside),
+      (λ e. sym a.inside ∙ same.1 (a.outside ∙ e ∙ sym b.outside) ∙ b.inside),
+    )
+
+-- a session may be idle for some time
+phase-some : (closing established : Bool) → 0 < timeout_in (if closing then Closing else (if established then Established else Partial))
+phase-some true established = omega arith
+phase-some false true = omega arith
+phase-some false false = omega arith
+
+timeout-some : (proto : Proto) (seen : ℕ) → 0 < timeout_by proto seen
+timeout-some Udp seen = omega arith
+timeout-some Tcp seen = phase-some (is_closing seen) (is_acknowledged seen)
+
+alive-last : (now : ℕ) (t : Session) → t.last ≡ now → IsAlive now t
+alive-last now t e = omega (arith, timeout-some t.proto t.seen, e)
+
+module _ (config : Config) (is_one : is_config config ≡ true) where
+  act-clock : (s : State) → IsSound config s → (d : Deed) → (act config s d).0.clock ≡ s.clock
+  act-clock s sound d = act-by config is_one s sound (λ p. p.0.clock ≡ s.clock) (λ a. refl) (λ ts iface bytes joins. refl) d (λ text rules e. refl)
+
+  pub step-clock : (s : State) (judged : Judged) → IsSound config s → (step config s judged).0.clock ≡ later s.clock judged.moment
+  unfolding step
+  step-clock s judged sound =
+      let now = later s.clock judged.moment in
+      act-clock (aged now s) (aged-sound config is_one s sound now (later-above s.clock judged.moment)) judged.deed
+
+  act-dropped : (s : State) → IsSound config s → (d : Deed) (number : ℕ) → (act config s d).1 ≡ Dropped number → (act config s d).0 ≡ s
+  act-dropped s sound d number = act-by config is_one s sound (λ p. p.1 ≡ Dropped number → p.0 ≡ s) (λ a e. refl) (λ ts iface bytes joins e. cc) d (λ text rules e dropped. cc)
+
+  pub step-dropped : (s : State) (judged : Judged) (number : ℕ) → IsSound config s → (step config s judged).1 ≡ Dropped number → (step config s judged).0 ≡ aged (later s.clock judged.moment) s
+  unfolding step
+  step-dropped s judged number sound e =
+      let now = later s.clock judged.moment in
+      act-dropped (aged now s) (aged-sound config is_one s sound now (later-above s.clock judged.moment)) judged.deed number e
+
+  act-alive : (s : State) → IsSound config s → ((t : Session) → In t s.sessions → IsAlive s.clock t) → (d : Deed) (t : Session) → In t (act config s d).0.sessions → IsAlive s.clock t
+  act-alive s sound lives d = act-by config is_one s sound (λ p. (t : Session) → In t p.0.sessions → IsAlive s.clock t) (λ a. lives)
+      (λ ts iface bytes joins u is. elim (put_all-member ts s.sessions u is) [
+        | inl new ↦ alive-last s.clock u (joins.last u new)
+        | inr old ↦ lives u old
+      ])
+      d
+      (λ text rules e. lives)
+
+  lives-then : (s : State) (judged : Judged) (t : Session) → IsSound config s → In t (step config s judged).0.sessions → IsAlive (later s.clock judged.moment) t
+  unfolding step
+  lives-then s judged t sound is =
+      let now = later s.clock judged.moment in
+      act-alive (aged now s) (aged-sound config is_one s sound now (later-above s.clock judged.moment))
+      (λ u in_u. ltb-true _ _ (In-filter (alive now) s.sessions u in_u).1) judged.deed t is
+
+  pub step-alive : (s : State) (judged : Judged) (t : Session) → IsSound config s → In t (step config s judged).0.sessions → IsAlive (step config s judged).0.clock t
+  step-alive s judged t sound is = subst (λ n. IsAlive n t) (sym (step-clock s judged sound)) (lives-then s judged t sound is)
+
+  -- a mapping stays where what is done puts a session in
+  module _ (s : State) (sound : IsSound config s) (proto : Proto) (inside outside : Endpoint) (m : IsMapping s.sessions proto inside outside) where
+    act-maps : (d : Deed) → IsMapping (act config s d).0.sessions proto inside outside
+    act-maps d = act-by config is_one s sound (λ p. IsMapping p.0.sessions proto inside outside) (λ a. m)
+        (λ ts iface bytes joins.
+        let kept = joins.keeps m.session m.is_held in
+        record {
+          session = kept.0;
+          is_held = kept.1;
+          translated = λ e. m.translated (sym kept.3 ∙ e ∙ kept.4);
+          proto = kept.2 ∙ m.proto;
+          inside = kept.3 ∙ m.inside;
+          outside = kept.4 ∙ m.outside;
+        })
+        d
+        (λ text rules e. m)
+
+  pub step-maps : (s : State) (judged : Judged) (proto : Proto) (inside outside : Endpoint) (m : IsMapping s.sessions proto inside outside) → IsSound config s → IsAlive (later s.clock judged.moment) m.session
+      → IsMapping (step config s judged).0.sessions proto inside outside
+  unfolding step
+  step-maps s judged proto inside outside m sound lives =
+      let now = later s.clock judged.moment in
+      let there : IsMapping (aged now s).sessions proto inside outside = record {
+        session = m.session;
+        is_held = filter-In (alive now) s.sessions m.session m.is_held (lt-ltb _ _ lives);
+        translated = m.translated;
+        proto = m.proto;
+        inside = m.inside;
+        outside = m.outside;
+      } in
+      act-maps (aged now s) (aged-sound config is_one s sound now (later-above s.clock judged.moment)) proto inside outside there judged.deed
+
+  -- nothing but a load changes the text and its rules
+  abbrev Unchanged : State → State × Answer → Type 0
+  Unchanged s done = (done.0.text ≡ s.text) × (done.0.rules ≡ s.rules)
+
+  act-unchanged : (s : State) → IsSound config s → (d : Deed) → IsNoLoad (bringer d) → Unchanged s (act config s d)
+  act-unchanged s sound d none = act-by config is_one s sound (Unchanged s) (λ a. (refl, refl)) (λ ts iface bytes joins. (refl, refl)) d (λ text rules e. absurd (no_take d none text rules e))
+
+  pub step-unchanged : (s : State) (event : Event) (judged : Judged) → IsSound config s → IsJudged config event judged → IsNoLoad event.what → Unchanged s (step config s judged)
+  unfolding step
+  step-unchanged s event judged sound is none =
+      let now = later s.clock judged.moment in
+      act-unchanged (aged now s) (aged-sound config is_one s sound now (later-above s.clock judged.moment)) judged.deed (subst IsNoLoad is.what none)
+
+-- what a load does
+pub step-takes : (config : Config) (s : State) (judged : Judged) (text : List ℕ) (rules : Spelled) → judged.deed ≡ deed.Take text rules
+    → step config s judged ≡ (record (aged (later s.clock judged.moment) s) { text = text; rules = rules }, answer.Loaded)
+unfolding step
+step-takes config s judged text rules e = ap (act config (aged (later s.clock judged.moment) s)) e
+
+pub step-refuses : (config : Config) (s : State) (judged : Judged) (text : List ℕ) → judged.deed ≡ deed.Refuse text → step config s judged ≡ (aged (later s.clock judged.moment) s, answer.Refused)
+unfolding step
+step-refuses config s judged text e = ap (act config (aged (later s.clock judged.moment) s)) e

@@ -1,0 +1,10 @@
+pub mod Changed
+pub mod Expiry
+pub mod Judging
+pub mod Lasting
+pub mod Later
+pub mod Passing
+pub mod Reading
+pub mod Soundness
+pub mod Steps
+pub mod Updated

@@ -1,0 +1,171 @@
+-- A step keeps a state sound.
+use Rattle.std.proofs.Common.{◌≡◌, ◌⊎◌, ℕ, ◌<◌, ◌≤◌, List, [], ◌∷◌, Result, Ok, Err, Bool, true, false, cond, nat_le, not, ◌||◌, refl, sym, ap, ◌∙◌, subst, inl, inr, arith}
+use Rattle.std.specs.List.{filter}
+use Rattle.std.proofs.lemmas.Bool.{cases_Bool, leb-true, or_cases}
+use Rattle.std.proofs.lemmas.Bool.Decides.{nat_tests}
+use Rattle.packet.specs.Config.{Config, is_config, is_external, is_inside}
+use Rattle.packet.specs.Fields.{fields}
+use Rattle.packet.specs.Numbers.{fault_number, route_fault_number}
+use Rattle.packet.specs.Route.{route}
+use Rattle.packet.specs.Translated.{translated}
+use Rattle.packet.specs.declared.endpoint.Endpoint.{Endpoint}
+use Rattle.packet.specs.declared.endpoint.Iface.{Iface}
+use Rattle.packet.specs.declared.fault.Fault.{Fault}
+use Rattle.packet.specs.declared.route.Route.{Route}
+use Rattle.packet.specs.declared.route.Route.TheVariants.{Out, In, Hairpin}
+use Rattle.packet.specs.declared.route.RouteFault.{RouteFault}
+use Rattle.packet.specs.declared.view.View.{View}
+use Rattle.packet.proofs.Routes.{routed_is_on_route}
+use Rattle.rulesyntax.specs.declared.tree.Spelled.{Spelled}
+use Rattle.ruletext.specs.Texts.{Loads}
+use Rattle.sessions.specs.Life.{alive}
+use Rattle.sessions.specs.Listing.{put, same_flow}
+use Rattle.sessions.specs.Listing.{In as Member}
+use Rattle.sessions.specs.declared.session.Session.{Session}
+use Rattle.sessions.proofs.Sets.{In-filter, In-insert}
+use Rattle.verdict.specs.Hooks.{hook_outcome, prerouting_verdict, postrouting_verdict}
+use Rattle.verdict.specs.declared.facts.Facts.{Facts}
+use Rattle.verdict.specs.declared.hook.Destination.TheVariants as destinations
+use Rattle.verdict.specs.declared.hook.Source.TheVariants as sources
+use Rattle.verdict.proofs.Bounded.{source_external, destination_inside, port_above_zero}
+use Rattle.hairpin.specs.Causes.{number}
+use Rattle.hairpin.specs.Legs.{Passage, hairpin, in_leg, out_leg, put_all}
+use Rattle.hairpin.specs.Sound.{KeepBounds}
+use Rattle.sessions.specs.Sound.{AreSound}
+use Rattle.hairpin.specs.declared.cause.Cause.{Cause}
+use Rattle.hairpin.proofs.Beginning.{none-from, none-to}
+use Rattle.hairpin.proofs.Doubling.{fine-hairpin}
+use Rattle.hairpin.proofs.Incoming.{fine-in}
+use Rattle.hairpin.proofs.Opening.{fine-out}
+use Rattle.hairpin.proofs.Soundness.{JoinAll, IsFine, filter-sound}
+use Rattle.machine.specs.Judged.{Judged, AreJudged, IsRight}
+use Rattle.machine.specs.Machine.{State, step, act, with_fields, on_route, leg, no_tables, sent, aged, later, after, empty_at}
+use Rattle.machine.specs.Sound.{IsInForce, IsSound}
+use Rattle.machine.specs.declared.deed.Deed.{Deed}
+use Rattle.machine.specs.declared.deed.Deed.TheVariants as deed
+use Rattle.machine.specs.declared.event.Answer.{Answer}
+use Rattle.machine.specs.declared.event.Answer.TheVariants as answer
+use Rattle.machine.specs.declared.event.Event.{Event}
+use Rattle.machine.proofs.Reading.{ports_are_some}
+
+pub later-above : (a b : ℕ) → a ≤ later a b
+later-above a b = elim (cases_Bool (nat_le a b)) [
+  | inl is_so ↦ subst (λ x. a ≤ cond x b a) (sym is_so) (leb-true a b is_so)
+  | inr not_so ↦ subst (λ x. a ≤ cond x b a) (sym not_so) (omega arith)
+]
+
+-- the rules in force translate to nothing out of bounds
+pub bounded : (config : Config) (text : List ℕ) (rules : Spelled) → IsInForce config text rules → KeepBounds config rules
+bounded config text rules (inr loads) = record {
+  to = λ facts inside. destination_inside config facts rules loads.2 inside;
+  port = λ facts inside. port_above_zero config facts text rules loads.1 inside;
+  from = λ facts addr. source_external config facts rules loads.2 addr;
+}
+bounded config text rules (inl none) = subst (KeepBounds config) (sym none.1) (record {
+  to = λ facts inside h. absurd (none-to config facts inside h);
+  port = λ facts inside h. absurd (none-to config facts inside h);
+  from = λ facts addr h. absurd (none-from config facts addr h);
+})
+
+pub external-is : (config : Config) (addr : ℕ) → is_external config addr ≡ true → addr ≡ config.external
+external-is config addr h = grind (arith, nat_tests)
+
+-- a packet that comes in is for an inside address, or for the external one
+pub comes-to : (config : Config) (addr : ℕ) → (is_external config addr || is_inside config addr) ≡ true → (is_inside config addr ≡ true) ⊎ (addr ≡ config.external)
+comes-to config addr h = elim (or_cases (is_external config addr) (is_inside config addr) h) [
+  | inl external ↦ inr (external-is config addr external)
+  | inr inside ↦ inl inside
+]
+
+-- what is done changes nothing, or puts sessions in
+module _ (config : Config) (is_one : is_config config ≡ true) (s : State) (sound : IsSound config s) (P : State × Answer → Type 0)
+    (stays : (a : Answer) → P (s, a))
+    (puts : (ts : List Session) (iface : Iface) (bytes : List ℕ) → JoinAll config s.sessions s.clock ts → P (record s { sessions = put_all ts s.sessions }, answer.Forward iface bytes)) where
+  sent-by : (bytes : List ℕ) (way : Result Passage Cause) → IsFine config s.sessions s.clock way → P (sent s bytes way)
+  sent-by bytes (Err cause) fine = stays (answer.Dropped (number cause))
+  sent-by bytes (Ok passage) fine = puts passage.sessions passage.iface (translated bytes passage.src passage.dst) fine
+
+  leg-fine : (iface : Iface) (bytes : List ℕ) (view : View) → fields bytes ≡ Ok view → (r : Route) → route config iface view ≡ Ok r → IsFine config s.sessions s.clock (leg config s view r)
+  leg-fine iface bytes view is Out e =
+      let there = routed_is_on_route config iface view Out e in
+      let ports = ports_are_some bytes view is in
+      fine-out config s.rules s.sessions s.clock view is_one sound.sessions (bounded config s.text s.rules sound.in_force) there.1.1 ports.0 ports.1
+  leg-fine iface bytes view is In e =
+      let there = routed_is_on_route config iface view In e in
+      let ports = ports_are_some bytes view is in
+      fine-in config s.rules s.sessions s.clock view is_one sound.sessions (bounded config s.text s.rules sound.in_force) (comes-to config view.dst.addr there.1.3) ports.0 ports.1
+  leg-fine iface bytes view is Hairpin e =
+      let there = routed_is_on_route config iface view Hairpin e in
+      let ports = ports_are_some bytes view is in
+      fine-hairpin config s.rules s.sessions s.clock view is_one sound.sessions (bounded config s.text s.rules sound.in_force) there.1.1 (external-is config view.dst.addr there.1.2) ports.0 ports.1
+
+  on_route-by : (iface : Iface) (bytes : List ℕ) (view : View) → fields bytes ≡ Ok view → (r : Result Route RouteFault) → route config iface view ≡ r → P (on_route config s bytes view r)
+  on_route-by iface bytes view is (Err fault) e = stays (answer.Dropped (route_fault_number fault))
+  on_route-by iface bytes view is (Ok r) e = sent-by bytes (leg config s view r) (leg-fine iface bytes view is r e)
+
+  with_fields-by : (iface : Iface) (bytes : List ℕ) (r : Result View Fault) → fields bytes ≡ r → P (with_fields config s iface bytes r)
+  with_fields-by iface bytes (Err fault) e = stays (answer.Dropped (fault_number fault))
+  with_fields-by iface bytes (Ok view) e = on_route-by iface bytes view e (route config iface view) refl
+
+  pub act-by : (d : Deed) → ((text : List ℕ) (rules : Spelled) → d ≡ deed.Take text rules → P (record s { text = text; rules = rules }, answer.Loaded)) → P (act config s d)
+  act-by (deed.Take text rules) takes = takes text rules refl
+  act-by (deed.Refuse text) takes = stays answer.Refused
+  act-by (deed.Packet iface bytes) takes = with_fields-by iface bytes (fields bytes) refl
+  act-by deed.Moment takes = stays answer.Ticked
+
+-- where all that is put in was seen at this moment
+pub put_all-member : (ts sessions : List Session) (u : Session) → Member u (put_all ts sessions) → Member u ts ⊎ Member u sessions
+put_all-member [] sessions u is = inr is
+put_all-member (t ∷ ts) sessions u is = elim (put_all-member ts (put t sessions) u is) [
+  | inl later ↦ inl (inr later)
+  | inr now ↦ elim (In-insert t (filter (λ v. not (same_flow t v)) sessions) u now) [
+    | inl e ↦ inl (inl e)
+    | inr old ↦ inr (In-filter (λ v. not (same_flow t v)) sessions u old).0
+  ]
+]
+
+module _ (config : Config) (is_one : is_config config ≡ true) where
+  pub aged-sound : (s : State) → IsSound config s → (now : ℕ) → s.clock ≤ now → IsSound config (aged now s)
+  aged-sound s sound now le = record {
+    sessions = filter-sound config s.sessions sound.sessions (alive now);
+    latest = λ t is. omega (arith, sound.latest t (In-filter (alive now) s.sessions t is).0);
+    in_force = sound.in_force;
+  }
+
+  act-sound : (s : State) → IsSound config s → (d : Deed) → IsRight config d → IsSound config (act config s d).0
+  act-sound s sound d right = act-by config is_one s sound (λ p. IsSound config p.0) (λ a. sound)
+      (λ ts iface bytes joins. record {
+        sessions = joins.sound;
+        latest = λ u is. elim (put_all-member ts s.sessions u is) [
+          | inl new ↦ omega (arith, joins.last u new)
+          | inr old ↦ sound.latest u old
+        ];
+        in_force = sound.in_force;
+      })
+      d
+      (λ text rules e. record { sessions = sound.sessions; latest = sound.latest; in_force = inr (subst (IsRight config) e right) })
+
+  pub step-sound : (s : State) (judged : Judged) → IsRight config judged.deed → IsSound config s → IsSound config (step config s judged).0
+  unfolding step
+  step-sound s judged right sound =
+      let now = later s.clock judged.moment in
+      act-sound (aged now s) (aged-sound s sound now (later-above s.clock judged.moment)) judged.deed right
+
+  pub run-sound : (s : State) (events : List Event) (judged : List Judged) → AreJudged config events judged → IsSound config s → IsSound config (after config s judged)
+  run-sound s [] [] are sound = sound
+  run-sound s [] (j ∷ more) are sound = absurd are
+  run-sound s (event ∷ events) [] are sound = absurd are
+  run-sound s (event ∷ events) (j ∷ more) are sound = run-sound (step config s j).0 events more are.1 (step-sound s j are.0.right sound)
+
+pub start-sound : (config : Config) (moment : ℕ) → IsSound config (empty_at moment)
+start-sound config moment = record {
+  sessions = record {
+    rises = tt;
+    apart = λ s t not_in. absurd not_in;
+    at_most = omega arith;
+    placed = λ s not_in. absurd not_in;
+    seen = λ s not_in. absurd not_in;
+  };
+  latest = λ s not_in. absurd not_in;
+  in_force = inl (refl, refl);
+}

@@ -1,0 +1,97 @@
+-- What is done at the sessions that are held is what the machine does.
+use Rattle.std.proofs.Common.{◌≡◌, ℕ, ◌+◌, ◌≤◌, List, [], ◌∷◌, suc, get_or, Option, Some, None, Result, Ok, Err, refl, sym, ap, ◌∙◌, subst, arith}
+use Rattle.std.specs.List.{filter}
+use Rattle.std.proofs.lemmas.Option.{none-some}
+use Rattle.packet.specs.Config.{Config}
+use Rattle.packet.specs.Fields.{fields}
+use Rattle.packet.specs.Route.{route}
+use Rattle.packet.specs.Translated.{translated}
+use Rattle.packet.specs.declared.endpoint.Endpoint.{Endpoint}
+use Rattle.packet.specs.declared.endpoint.Iface.{Iface}
+use Rattle.packet.specs.declared.route.Route.{Route}
+use Rattle.packet.specs.declared.view.View.{View}
+use Rattle.rulesyntax.specs.declared.tree.Spelled.{Spelled}
+use Rattle.sessions.specs.Life.{alive}
+use Rattle.sessions.specs.Listing.{listing}
+use Rattle.sessions.specs.declared.session.Session.{Session}
+use Rattle.sessions.specs.Table.{IsSound as IsHeldSound}
+use Rattle.sessions.proofs.Sets.{Apart-sound, listing-In}
+use Rattle.sessions.specs.Sound.{AreSound}
+use Rattle.hairpin.proofs.Beginning.{listing-none}
+use Rattle.hairpin.proofs.Soundness.{filter-sound}
+use Rattle.hairpin.specs.Legs.{Passage, put_all}
+use Rattle.hairpin.specs.Plans.{GiveAll, Plans}
+use Rattle.hairpin.specs.declared.cause.Cause.{Cause}
+use Rattle.hairpin.specs.declared.plan.Plan.{Plan}
+use Rattle.machine.specs.Core.{Core, IsCore, Leads, LeadsFew, state_of}
+use Rattle.machine.specs.Judged.{Judged}
+use Rattle.machine.specs.Machine.{State, AddsNone, act, aged, later, no_tables, on_route, pass, sent, step, with_fields}
+use Rattle.machine.specs.Sound.{IsSound}
+use Rattle.machine.specs.Flows.{Flows, IsLatest, adds, adds_second}
+use Rattle.machine.specs.declared.deed.Deed.{Deed}
+use Rattle.machine.specs.declared.event.Answer.{Answer}
+use Rattle.machine.specs.declared.event.Answer.TheVariants as answer
+use Rattle.machine.proofs.Later.{plan-adds}
+use Rattle.machine.proofs.Soundness.{later-above, start-sound}
+
+-- a plan that leads to no more sessions adds none
+pub plans-few : (external : ℕ) (held : List (Option Session)) (now : ℕ) (bytes : List ℕ) (plan : Plan) (way : Result Passage Cause) → IsHeldSound held → Plans external held now (Ok plan) way
+    → LeadsFew (λ s. sent s bytes way) held now → adds plan.first + adds_second plan.second ≡ 0
+plans-few external held now bytes plan (Ok passage) sound is few =
+    omega (arith, plan-adds external held now plan.first plan.second passage.sessions (Apart-sound held sound) is.sessions, few [] no_tables)
+plans-few external held now bytes plan (Err cause) sound is few = absurd is
+
+-- what is held once a plan is carried out is what its leg comes to
+pub plan-leads : (external : ℕ) (old new : List (Option Session)) (now : ℕ) (bytes : List ℕ) (plan : Plan)
+    → ((ts : List Session) → GiveAll external old now plan.first plan.second ts → listing new ≡ put_all ts (listing old))
+    → (way : Result Passage Cause) → Plans external old now (Ok plan) way
+    → Leads (λ s. sent s bytes way) old new now (answer.Forward plan.iface (translated bytes plan.src plan.dst))
+plan-leads external old new now bytes plan made (Ok passage) is = λ text rules.
+    let at : List Session → State = λ xs. record { text = text; rules = rules; sessions = xs; clock = now } in
+    let said : Iface → Endpoint → Endpoint → Answer = λ iface src dst. answer.Forward iface (translated bytes src dst) in
+    ap (λ xs. (at xs, said passage.iface passage.src passage.dst)) (sym (made passage.sessions is.sessions))
+    ∙ ap (λ iface. (at (listing new), said iface passage.src passage.dst)) (sym is.iface)
+    ∙ ap (λ src. (at (listing new), said plan.iface src passage.dst)) (sym is.src)
+    ∙ ap (λ dst. (at (listing new), said plan.iface plan.src dst)) (sym is.dst)
+plan-leads external old new now bytes plan made (Err cause) is = absurd is
+
+-- a packet whose fields and route are known
+pub pass-is : (config : Config) (iface : Iface) (bytes : List ℕ) (view : View) (r : Route) → fields bytes ≡ Ok view → route config iface view ≡ Ok r
+    → (s : State) → pass config s iface bytes ≡ on_route config s bytes view (Ok r)
+pass-is config iface bytes view r is on s = ap (with_fields config s iface bytes) is ∙ ap (on_route config s bytes view) on
+
+-- what is held once the sessions that are alive no longer have ended
+pub live-sound : (config : Config) (old new : List (Option Session)) (now : ℕ) → listing new ≡ filter (alive now) (listing old) → AreSound config (listing old) → AreSound config (listing new)
+live-sound config old new now e sound = subst (AreSound config) (sym e) (filter-sound config (listing old) sound (alive now))
+
+-- what a sound state says of the slots
+pub latest_held : (config : Config) (text : List ℕ) (rules : Spelled) (clock now : ℕ) (held : List (Option Session)) → IsSound config (state_of text rules held clock) → clock ≤ now → IsLatest held now
+latest_held config text rules clock now held sound le = λ slot s is. omega (arith, sound.latest s (listing-In held s slot is))
+
+pub latest_later : (config : Config) (text : List ℕ) (rules : Spelled) (clock moment now : ℕ) (held : List (Option Session)) → IsSound config (state_of text rules held clock) → now ≡ later clock moment → IsLatest held now
+latest_later config text rules clock moment now held sound e = latest_held config text rules clock now held sound (omega (arith, later-above clock moment, e))
+
+pub step-is : (config : Config) (s : State) (judged : Judged) (now : ℕ) (done : State × Answer) → now ≡ later s.clock judged.moment → act config (aged now s) judged.deed ≡ done → step config s judged ≡ done
+unfolding step
+step-is config s judged now done is e = subst (λ n. act config (aged n s) judged.deed ≡ done) is e
+
+pub few-acts : (config : Config) (s : State) (judged : Judged) (now : ℕ) (d : Deed) → now ≡ later s.clock judged.moment → judged.deed ≡ d → AddsNone s (step config s judged) → AddsNone s (act config (aged now s) d)
+unfolding step
+few-acts config s judged now d e is few =
+    subst (λ n. AddsNone s (act config (aged n s) d)) (sym e) (subst (λ x. AddsNone s (act config (aged (later s.clock judged.moment) s) x)) is few)
+
+abbrev core_at : Config → List ℕ → Spelled → List Session → ℕ → Core
+core_at config text rules sessions clock = record { config = config; state = record { text = text; rules = rules; sessions = sessions; clock = clock } }
+
+pub begins : (config : Config) (text : List ℕ) (rules : Spelled) (held : List (Option Session)) (moment : ℕ) → text ≡ [] → rules ≡ no_tables → ((slot : ℕ) → get_or held slot None ≡ None)
+    → core_at config text rules (listing held) moment ≡ core_at config [] no_tables [] moment
+begins config text rules held moment none_said none_ruled none =
+    ap (λ t. core_at config t rules (listing held) moment) none_said ∙ ap (λ r. core_at config [] r (listing held) moment) none_ruled
+    ∙ ap (λ ss. core_at config [] no_tables ss moment) (listing-none held none)
+
+pub started : (config : Config) (text : List ℕ) (rules : Spelled) (flows : Flows) (moment : ℕ) → flows.translations.external ≡ config.external → text ≡ [] → rules ≡ no_tables
+    → ((slot : ℕ) → get_or flows.table.held slot None ≡ None) → IsCore config text rules flows moment
+started config text rules flows moment external none_said none_ruled none = record {
+  external = external;
+  sound = subst (IsSound config) (sym (ap (λ (c : Core). c.state) (begins config text rules flows.table.held moment none_said none_ruled none))) (start-sound config moment);
+}

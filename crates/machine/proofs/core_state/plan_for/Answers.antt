@@ -1,0 +1,18 @@
+use Rattle.std.proofs.Common.{sym, subst, ◌∙◌}
+use Rattle.packet.specs.declared.route.Route.TheVariants.{Out, In, Hairpin}
+use Rattle.packet.proofs.Routes.{routed_is_on_route}
+use Rattle.hairpin.specs.Plans.{Plans}
+use Rattle.machine.proofs.Soundness.{comes-to, external-is}
+use Rattle.machine.proofs.core_state.plan_for.Goals as goal
+
+pub out_leg-requires-clause-inside : goal.out_leg-requires-clause-inside
+out_leg-requires-clause-inside c = (routed_is_on_route c.args.bounds.now c.requires.routed.0 c.args.view.now Out (rw c.in-Out.is at c.requires.routed.1)).1.1
+
+pub in_leg-requires-clause-routed : goal.in_leg-requires-clause-routed
+in_leg-requires-clause-routed c = comes-to c.args.bounds.now c.args.view.now.dst.addr (routed_is_on_route c.args.bounds.now c.requires.routed.0 c.args.view.now In (rw c.in-In.is at c.requires.routed.1)).1.3
+
+pub both-requires-clause-inside : goal.both-requires-clause-inside
+both-requires-clause-inside c = (routed_is_on_route c.args.bounds.now c.requires.routed.0 c.args.view.now Hairpin (rw c.in-Hairpin.is at c.requires.routed.1)).1.1
+
+pub both-requires-clause-external_destination : goal.both-requires-clause-external_destination
+both-requires-clause-external_destination c = external-is c.args.bounds.now c.args.view.now.dst.addr (routed_is_on_route c.args.bounds.now c.requires.routed.0 c.args.view.now Hairpin (rw c.in-Hairpin.is at c.requires.routed.1)).1.2

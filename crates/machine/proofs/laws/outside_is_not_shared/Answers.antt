@@ -1,0 +1,6 @@
+use Rattle.std.proofs.Common.{refl}
+use Rattle.machine.proofs.Lasting.{mappings-agree}
+use Rattle.machine.proofs.laws.outside_is_not_shared.Goals as goal
+
+pub returns : goal.returns
+returns c = λ config s proto inside inside' outside sound a b. (mappings-agree config s proto inside inside' outside outside sound a b).1 refl

@@ -1,0 +1,32 @@
+-- What contracts see of a core, and what it is made of.
+use Rattle.std.specs.Prelude.{◌≡◌, ℕ, List, Option}
+use Rattle.packet.specs.Config.{Config}
+use Rattle.rulesyntax.specs.declared.tree.Spelled.{Spelled}
+use Rattle.sessions.specs.Listing.{listing}
+use Rattle.sessions.specs.declared.session.Session.{Session}
+use Rattle.machine.specs.Machine.{State, AddsNone}
+use Rattle.machine.specs.Sound.{IsSound}
+use Rattle.machine.specs.Flows.{Flows}
+use Rattle.machine.specs.declared.event.Answer.{Answer}
+
+-- the configuration and the state
+pub record Core : Type 0 where
+  pub config : Config
+  pub state : State
+
+-- the state whose sessions are those that are held
+abbrev pub state_of : List ℕ → Spelled → List (Option Session) → ℕ → State
+state_of text rules held now = record { text = text; rules = rules; sessions = listing held; clock = now }
+
+-- the flows are those of a sound state, and translate at its external address
+pub record IsCore (config : Config) (text : List ℕ) (rules : Spelled) (flows : Flows) (clock : ℕ) : Type 0 where
+  pub external : flows.translations.external ≡ config.external
+  pub sound : IsSound config (state_of text rules flows.table.held clock)
+
+-- what is done leads from the sessions that were held to those that are held, whatever the rules
+abbrev pub Leads : (State → State × Answer) → List (Option Session) → List (Option Session) → ℕ → Answer → Type 0
+Leads does old new now answer = (text : List ℕ) (rules : Spelled) → does (state_of text rules old now) ≡ (state_of text rules new now, answer)
+
+-- what is done adds no session, whatever the rules
+abbrev pub LeadsFew : (State → State × Answer) → List (Option Session) → ℕ → Type 0
+LeadsFew does held now = (text : List ℕ) (rules : Spelled) → AddsNone (state_of text rules held now) (does (state_of text rules held now))

@@ -1,0 +1,6 @@
+pub mod Core
+pub mod Flows
+pub mod Judged
+pub mod Laws
+pub mod Machine
+pub mod Sound

@@ -1,0 +1,339 @@
+//! `Core`: all the state of a gateway (the text in force and its rules, the sessions, the clock), and the step
+//! that an event does to it. It gives no numbers and holds nothing: that is for the crates above.
+ghost use Rattle.std.specs.Prelude.{◌≡◌, ◌<◌, ◌≤◌, ℕ, List, Ok, Err, Result as Outcome, IsTrue, IfOk, IfErr, IsOk, IsOkAnd, OnErr};
+ghost use Rattle.packet.specs.Fields.{fields};
+ghost use Rattle.packet.specs.Route.{route as route_for};
+ghost use Rattle.packet.specs.Translated.{translated};
+ghost use Rattle.sessions.specs.Listing.{listing};
+ghost use Rattle.hairpin.specs.Causes.{number};
+ghost use Rattle.hairpin.specs.Legs.{Passage};
+ghost use Rattle.hairpin.specs.Plans.{Plans};
+ghost use Rattle.hairpin.specs.Sound.{KeepBounds};
+ghost use Rattle.sessions.specs.Sound.{AreSound};
+ghost use Rattle.hairpin.specs.declared.cause.Cause.{Cause as Reason};
+ghost use Rattle.machine.specs.Core.{Leads, LeadsFew, state_of};
+ghost use Rattle.machine.specs.Judged.{Judged, IsJudged, IsNoLoad, bringer};
+ghost use Rattle.machine.specs.Machine.{AddsNone, EndsNone, act, aged, empty_at, later, leg, on_route, pass, sent, step};
+ghost use Rattle.machine.specs.Sound.{IsInForce, IsSound};
+ghost use Rattle.machine.specs.Flows.{IsLatest, IsReady};
+ghost use Rattle.machine.specs.declared.event.Answer.TheVariants.{Dropped};
+
+use crate::bytes::Bytes;
+use crate::deed::{Deed, judge};
+use crate::event::{Answer, Event, NoMemory, What};
+use crate::flows::Flows;
+use hairpin::{Cause, Plan, both, in_leg, out_leg};
+use packet::bounds::Bounds;
+use packet::endpoint::{Endpoint, Iface};
+use packet::rewriting::rewrite;
+use packet::route::Route;
+use packet::view::View;
+use sessions::Session;
+use std::alloc::Global;
+use std::marker::Model;
+use verdict::Rules;
+
+/// The text that loaded last, and its rules.
+#[derive(Drop)]
+struct InForce {
+    text: Bytes,
+    rules: Rules,
+}
+
+/// A gateway without numbers and without a disk: its configuration, and the state that events change.
+#[derive(Drop)]
+pub struct Core {
+    alloc: Global,
+    bounds: Bounds,
+    in_force: InForce,
+    flows: Flows,
+    clock: u64,
+}
+
+impl Model for Core {
+    ghost use Rattle.machine.specs.Core.{Core as View, IsCore, state_of};
+
+    ghost Value = { View };
+
+    ghost view = { λ c. record { config = c.bounds; state = state_of c.in_force.text c.in_force.rules c.flows.table.held c.clock } };
+
+    ghost invariant = { λ c. IsCore c.bounds c.in_force.text c.in_force.rules c.flows c.clock };
+}
+
+fn later_of(a: u64, b: u64) -> u64
+    ensures { result ≡ later a b }
+{
+    if a <= b { b } else { a }
+}
+
+fn drop_for(cause: Cause) -> Answer
+    ensures { result ≡ Dropped (number cause) }
+{
+    Answer::Dropped(cause.number())
+}
+
+// The packet with other endpoints.
+fn translate(bytes: Bytes, src: Endpoint, dst: Endpoint) -> Bytes
+    requires { IsOkAnd (fields bytes) (λ view. 2 ≤ view.ttl) }
+    ensures { result ≡ translated bytes src dst }
+{
+    let mut frame = bytes.into_vec();
+    rewrite(&mut frame, src, dst);
+    Bytes::of(frame)
+}
+
+// What a plan comes to; `ready` says that there is room already.
+fn put_through(
+    flows: &mut Flows,
+    ready: bool,
+    plan: Result<Plan, Cause>,
+    bytes: Bytes,
+    now: u64,
+) -> Result<Answer, (Bytes, NoMemory)>
+    requires read { IsOkAnd (fields bytes) (λ view. 2 ≤ view.ttl) }
+    requires latest { IsLatest flows.old.table.held now }
+    requires ready { IsTrue ready → IsReady 2 flows.old }
+    requires planned { (way : Outcome Passage Reason) × Plans flows.old.translations.external flows.old.table.held now plan way }
+    ensures ok { IfOk result (λ answer. (way : Outcome Passage Reason) → Plans flows.old.translations.external flows.old.table.held now plan way
+        → Leads (λ s. sent s bytes way) flows.old.table.held flows.new.table.held now answer) }
+    ensures err { IfErr result (λ e. (e.0 ≡ bytes) × (flows.new.table.held ≡ flows.old.table.held)) }
+    ensures external { flows.new.translations.external ≡ flows.old.translations.external }
+    ensures ready { IsTrue ready → IsOk result }
+    ensures adds_none { (way : Outcome Passage Reason) → Plans flows.old.translations.external flows.old.table.held now plan way
+        → LeadsFew (λ s. sent s bytes way) flows.old.table.held now → IsOk result }
+{
+    match plan {
+        Err(cause) => Ok(drop_for(cause)),
+        Ok(plan) => {
+            flows.table().is_sound();
+            match flows.carry_out(ready, &plan, now) {
+                Ok(()) => Ok(Answer::Forward(plan.iface, translate(bytes, plan.src, plan.dst))),
+                Err(_) => Err((bytes, NoMemory)),
+            }
+        }
+    }
+}
+
+// The plan of a packet with these fields, on its route.
+fn plan_for(
+    flows: &Flows,
+    rules: &Rules,
+    bounds: &Bounds,
+    route: Route,
+    view: &View,
+    now: u64,
+) -> Result<Plan, Cause>
+    requires external { flows.now.translations.external ≡ bounds.now.external }
+    requires sound { AreSound bounds.now (listing flows.now.table.held) }
+    requires bounded { KeepBounds bounds.now rules.now }
+    requires ports { (0 < view.now.src.port) × (0 < view.now.dst.port) }
+    requires routed { (iface : Iface) × (route_for bounds.now iface view.now ≡ Ok route) }
+    ensures { (text : List ℕ) → Plans flows.now.translations.external flows.now.table.held now result
+        (leg bounds.now (state_of text rules.now flows.now.table.held now) view.now route) }
+{
+    flows.is_tied();
+    let table = flows.table();
+    let translations = flows.translations();
+    match route {
+        Route::Out => out_leg(bounds, rules, table, translations, view, now),
+        Route::In => in_leg(bounds, rules, table, translations, view, now),
+        Route::Hairpin => both(bounds, rules, table, translations, view, now),
+    }
+}
+
+// What a packet comes to, at sessions that are alive.
+fn pass_on(
+    flows: &mut Flows,
+    in_force: &InForce,
+    bounds: &Bounds,
+    ready: bool,
+    iface: Iface,
+    bytes: Bytes,
+    now: u64,
+) -> Result<Answer, (Bytes, NoMemory)>
+    requires external { flows.old.translations.external ≡ bounds.now.external }
+    requires sound { AreSound bounds.now (listing flows.old.table.held) }
+    requires in_force { IsInForce bounds.now in_force.now.text in_force.now.rules }
+    requires latest { IsLatest flows.old.table.held now }
+    requires ready { IsTrue ready → IsReady 2 flows.old }
+    ensures ok { IfOk result (λ answer. pass bounds.now (state_of in_force.now.text in_force.now.rules flows.old.table.held now) iface bytes
+        ≡ (state_of in_force.now.text in_force.now.rules flows.new.table.held now, answer)) }
+    ensures err { IfErr result (λ e. (e.0 ≡ bytes) × (flows.new.table.held ≡ flows.old.table.held)) }
+    ensures external { flows.new.translations.external ≡ flows.old.translations.external }
+    ensures ready { IsTrue ready → IsOk result }
+    ensures adds_none { let s = state_of in_force.now.text in_force.now.rules flows.old.table.held now in
+        AddsNone s (pass bounds.now s iface bytes) → IsOk result }
+{
+    bounds.facts();
+    match View::read(bytes.as_slice()) {
+        Err(fault) => Ok(drop_for(Cause::Packet(fault))),
+        Ok(view) => match bounds.route(iface, &view) {
+            Err(fault) => Ok(drop_for(Cause::Route(fault))),
+            Ok(route) => {
+                let plan = plan_for(flows, &in_force.rules, bounds, route, &view, now);
+                put_through(flows, ready, plan, bytes, now)
+            }
+        },
+    }
+}
+
+// What is done at sessions that are alive.
+fn act_on(
+    flows: &mut Flows,
+    in_force: &mut InForce,
+    bounds: &Bounds,
+    ready: bool,
+    deed: Deed,
+    now: u64,
+) -> Result<Answer, (What, NoMemory)>
+    requires external { flows.old.translations.external ≡ bounds.now.external }
+    requires sound { AreSound bounds.now (listing flows.old.table.held) }
+    requires in_force { IsInForce bounds.now in_force.old.text in_force.old.rules }
+    requires latest { IsLatest flows.old.table.held now }
+    requires ready { IsTrue ready → IsReady 2 flows.old }
+    ensures ok { IfOk result (λ answer. act bounds.now (state_of in_force.old.text in_force.old.rules flows.old.table.held now) deed
+        ≡ (state_of in_force.new.text in_force.new.rules flows.new.table.held now, answer)) }
+    ensures err { IfErr result (λ e. (e.0 ≡ bringer deed) × (flows.new.table.held ≡ flows.old.table.held)) }
+    ensures stays { OnErr result (in_force.new ≡ in_force.old) }
+    ensures external { flows.new.translations.external ≡ flows.old.translations.external }
+    ensures ready { IsTrue ready → IsOk result }
+    ensures adds_none { let s = state_of in_force.old.text in_force.old.rules flows.old.table.held now in
+        AddsNone s (act bounds.now s deed) → IsOk result }
+{
+    match deed {
+        Deed::Take(text, rules) => {
+            in_force.text = text;
+            in_force.rules = rules;
+            Ok(Answer::Loaded)
+        }
+        Deed::Refuse(_) => Ok(Answer::Refused),
+        Deed::Moment => Ok(Answer::Ticked),
+        Deed::Packet(iface, bytes) => {
+            match pass_on(flows, in_force, bounds, ready, iface, bytes, now) {
+                Ok(answer) => Ok(answer),
+                Err((bytes, e)) => Err((What::Packet(iface, bytes), e)),
+            }
+        }
+    }
+}
+
+// What is done, once the sessions that are alive no longer have ended.
+fn age_and_act(
+    flows: &mut Flows,
+    in_force: &mut InForce,
+    alloc: Global,
+    bounds: &Bounds,
+    deed: Deed,
+    clock: u64,
+    now: u64,
+) -> Result<Answer, (What, NoMemory)>
+    requires external { flows.old.translations.external ≡ bounds.now.external }
+    requires sound { AreSound bounds.now (listing flows.old.table.held) }
+    requires in_force { IsInForce bounds.now in_force.old.text in_force.old.rules }
+    requires latest { IsLatest flows.old.table.held now }
+    ensures ok { IfOk result (λ answer. act bounds.now (aged now (state_of in_force.old.text in_force.old.rules flows.old.table.held clock)) deed
+        ≡ (state_of in_force.new.text in_force.new.rules flows.new.table.held now, answer)) }
+    ensures err { IfErr result (λ e. (e.0 ≡ bringer deed) × (flows.new.table.held ≡ flows.old.table.held)) }
+    ensures stays { OnErr result (in_force.new ≡ in_force.old) }
+    ensures external { flows.new.translations.external ≡ flows.old.translations.external }
+    ensures succeeds { let s = state_of in_force.old.text in_force.old.rules flows.old.table.held clock in
+        EndsNone now s → AddsNone s (act bounds.now (aged now s) deed) → IsOk result }
+{
+    match flows.expire(alloc, now) {
+        Ok(ready) => act_on(flows, in_force, bounds, ready, deed, now),
+        Err(_) => Err((deed.into_what(), NoMemory)),
+    }
+}
+
+impl Core {
+    /// No rules and no session; the clock stands at the moment, in seconds.
+    ///
+    /// # Errors
+    ///
+    /// `NoMemory` where memory is refused; then there is no core.
+    pub fn start(alloc: Global, bounds: Bounds, moment: u64) -> Result<Core, NoMemory>
+        ensures { IfOk result (λ c. c ≡ record { config = bounds; state = empty_at moment }) }
+    {
+        match Flows::new(alloc, bounds.external()) {
+            Ok(flows) => Ok(Core {
+                alloc,
+                bounds,
+                in_force: InForce {
+                    text: Bytes::of(Vec::new(alloc)),
+                    rules: Rules::none(alloc),
+                },
+                flows,
+                clock: moment,
+            }),
+            Err(_) => Err(NoMemory),
+        }
+    }
+
+    /// The text that loaded last; before any has, the empty one.
+    pub fn rules(&self) -> &[u8]
+        ensures { result.now ≡ self.now.state.text }
+    {
+        self.in_force.text.as_slice()
+    }
+
+    /// The sessions, in the order of protocol number, inside and remote endpoint.
+    ///
+    /// # Errors
+    ///
+    /// `NoMemory` where memory for the list is refused. Nothing changes.
+    pub fn sessions(&self) -> Result<Vec<Session>, NoMemory>
+        ensures { IfOk result (λ sessions. sessions.items ≡ self.now.state.sessions) }
+    {
+        match self.flows.list(self.alloc) {
+            Ok(sessions) => Ok(sessions),
+            Err(_) => Err(NoMemory),
+        }
+    }
+
+    /// What every core keeps: its state is sound. It does nothing but carry this fact.
+    pub fn facts(&self)
+        ensures { IsSound self.now.config self.now.state }
+    {
+        let _flows = &self.flows;
+    }
+
+    /// Does a step: the clock rises to the event's moment, the sessions that are alive no longer end, and then
+    /// the text is taken or refused, or the packet passes or is dropped.
+    ///
+    /// # Errors
+    ///
+    /// `NoMemory` where memory is refused, which happens only where a text is read, or a session ends or begins.
+    /// The event comes back, and nothing has changed.
+    pub fn step(&mut self, event: Event) -> Result<Answer, (Event, NoMemory)>
+        ensures ok { IfOk result (λ answer. (judged : Judged) × IsJudged self.old.config event judged
+            × (step self.old.config self.old.state judged ≡ (self.new.state, answer))) }
+        ensures config { self.new.config ≡ self.old.config }
+        ensures err { IfErr result (λ e. (e.0 ≡ event) × (self.new ≡ self.old)) }
+        ensures succeeds { IsNoLoad event.what → (judged : Judged) → IsJudged self.old.config event judged
+            → EndsNone (later self.old.state.clock event.moment) self.old.state
+            → AddsNone self.old.state (step self.old.config self.old.state judged) → IsOk result }
+    {
+        let Event { moment, what } = event;
+        let now = later_of(self.clock, moment);
+        self.bounds.facts();
+        let deed = match judge(self.alloc, &self.bounds, what) {
+            Ok(deed) => deed,
+            Err((what, e)) => return Err((Event { moment, what }, e)),
+        };
+        match age_and_act(
+            &mut self.flows,
+            &mut self.in_force,
+            self.alloc,
+            &self.bounds,
+            deed,
+            self.clock,
+            now,
+        ) {
+            Ok(answer) => {
+                self.clock = now;
+                Ok(answer)
+            }
+            Err((what, e)) => Err((Event { moment, what }, e)),
+        }
+    }
+}

@@ -1,0 +1,79 @@
+//! What an event does, once its text is read.
+ghost use Rattle.std.specs.Prelude.{◌≡◌, IfOk, IfErr, IsOk};
+ghost use Rattle.machine.specs.Judged.{AreRulesOf, IsNoLoad, IsRight, bringer};
+
+use crate::bytes::Bytes;
+use crate::event::{NoMemory, What};
+use packet::bounds::Bounds;
+use packet::endpoint::Iface;
+use rulesyntax::fault::Kind;
+use ruletext::read;
+use std::alloc::Global;
+use verdict::Rules;
+
+/// What an event does, once its text is read.
+#[derive(Drop)]
+pub enum Deed {
+    /// The text loads, and these are its rules.
+    Take(Bytes, Rules),
+    /// The text doesn't load.
+    Refuse(Bytes),
+    /// A packet, and the interface that it came in on.
+    Packet(Iface, Bytes),
+    /// Nothing but its moment.
+    Moment,
+}
+
+impl Deed {
+    /// What the event brought: the text, the packet, or nothing.
+    pub fn into_what(self) -> What
+        ensures { result ≡ bringer self }
+    {
+        match self {
+            Deed::Take(text, _) => What::Load(text),
+            Deed::Refuse(text) => What::Load(text),
+            Deed::Packet(iface, bytes) => What::Packet(iface, bytes),
+            Deed::Moment => What::Moment,
+        }
+    }
+}
+
+// The rules of a text, if it loads.
+fn rules_of(alloc: Global, bounds: &Bounds, text: &[u8]) -> Result<Option<Rules>, NoMemory>
+    ensures { IfOk result (λ found. AreRulesOf bounds.now text.now found) }
+{
+    match read(alloc, text, bounds) {
+        Ok(loaded) => match Rules::of(alloc, loaded) {
+            Ok(rules) => Ok(Some(rules)),
+            Err(_) => Err(NoMemory),
+        },
+        Err(fault) => {
+            if fault.kind == Kind::NoMemory {
+                return Err(NoMemory);
+            }
+            Ok(None)
+        }
+    }
+}
+
+/// Reads the text, if the event brings one. Nothing but a text takes memory.
+///
+/// # Errors
+///
+/// `NoMemory` where memory to read the text is refused, with what the event brought.
+pub fn judge(alloc: Global, bounds: &Bounds, what: What) -> Result<Deed, (What, NoMemory)>
+    ensures brings { IfOk result (λ deed. what ≡ bringer deed) }
+    ensures right { IfOk result (λ deed. IsRight bounds.now deed) }
+    ensures err { IfErr result (λ e. e.0 ≡ what) }
+    ensures succeeds { IsNoLoad what → IsOk result }
+{
+    match what {
+        What::Load(text) => match rules_of(alloc, bounds, text.as_slice()) {
+            Ok(Some(rules)) => Ok(Deed::Take(text, rules)),
+            Ok(None) => Ok(Deed::Refuse(text)),
+            Err(e) => Err((What::Load(text), e)),
+        },
+        What::Packet(iface, bytes) => Ok(Deed::Packet(iface, bytes)),
+        What::Moment => Ok(Deed::Moment),
+    }
+}

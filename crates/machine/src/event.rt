@@ -1,0 +1,44 @@
+//! What comes in and what goes out: events, and their answers.
+use crate::bytes::Bytes;
+use packet::endpoint::Iface;
+use thiserror::Error;
+
+/// What an event brings.
+#[derive(Drop)]
+pub enum What {
+    /// The text of a ruleset, which takes the place of the one in force if it loads.
+    Load(Bytes),
+    /// A packet from its IPv4 header on, and the interface that it came in on.
+    Packet(Iface, Bytes),
+    /// Nothing but its moment.
+    Moment,
+}
+
+/// What comes in, and when.
+#[derive(Drop)]
+pub struct Event {
+    /// Its moment in seconds, from whatever zero the caller takes. One before the clock counts as the clock.
+    pub moment: u64,
+    /// What it brings.
+    pub what: What,
+}
+
+/// What an event is answered.
+#[derive(Drop)]
+pub enum Answer {
+    /// The ruleset is in force.
+    Loaded,
+    /// The text isn't taken, and the rules stay as they were.
+    Refused,
+    /// The translated packet, and the interface that it leaves on.
+    Forward(Iface, Bytes),
+    /// The packet is dropped; the number is that of a `Cause`, 1 to 20.
+    Dropped(u8),
+    /// The clock has come to the moment.
+    Ticked,
+}
+
+/// Memory was refused; nothing has changed.
+#[derive(Clone, Copy, Debug, PartialEq, Eq, Drop, Error)]
+#[error("no memory")]
+pub struct NoMemory;

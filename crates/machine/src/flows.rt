@@ -1,0 +1,338 @@
+//! The sessions with their timers and mappings, which change together.
+ghost use Rattle.std.specs.Prelude.{◌≡◌, ◌≢◌, ◌↔◌, ◌+◌, ◌-◌, ◌<◌, ◌≤◌, ℕ, List, false, IsTrue, Some, None, IfOk, OnOk, OnErr, IsOk, IfSome, IsSome, IsSomeAnd, length, slice_index};
+ghost use Rattle.std.specs.List.{Contains, filter};
+ghost use Rattle.std.specs.Option.{option_map};
+ghost use Rattle.sessions.specs.Life.{IsSeen, IsTimeout, alive, timeout_of};
+ghost use Rattle.sessions.specs.Listing.{listing};
+ghost use Rattle.sessions.specs.Table.{at, Updates, IsSound, seen as seen_with, restarted};
+ghost use Rattle.sessions.specs.declared.session.Session.{Session as Flow};
+ghost use Rattle.timers.specs.Due.{at as idle_at, IsLatest as IsLatestIdle, Updates as IdleUpdates};
+ghost use Rattle.mappings.specs.declared.map.Pair.{Pair as Mapping};
+ghost use Rattle.mappings.specs.Map.{times};
+ghost use Rattle.hairpin.specs.Legs.{put_all};
+ghost use Rattle.hairpin.specs.Plans.{Became, Gives, GiveAll, MayBegin};
+ghost use Rattle.hairpin.specs.Tallies.{tally};
+ghost use Rattle.machine.specs.Flows.{IsDue, IsLatest, IsReady, adds as adds_by, adds_second};
+
+use hairpin::Plan;
+use hairpin::translations::Translations;
+use sessions::{Change, Opener, Session, Slot, Table};
+use std::alloc::{AllocError, Global};
+use std::marker::Model;
+use timers::Due;
+
+/// The sessions that live, with their timers and mappings.
+#[derive(Drop)]
+pub struct Flows {
+    table: Table,
+    due: Due,
+    translations: Translations,
+}
+
+impl Model for Flows {
+    ghost use Rattle.machine.specs.Flows.{Flows as View, Tied};
+
+    ghost Value = { View };
+
+    ghost view = { λ f. record { table = f.table; watched = f.due.ready; translations = f.translations } };
+
+    ghost invariant = { λ f. Tied f.table f.due f.translations.pairs };
+}
+
+impl Flows {
+    /// No session. `external` is the external address as a number.
+    ///
+    /// # Errors
+    ///
+    /// `AllocError` where memory is refused.
+    pub fn new(alloc: Global, external: u32) -> Result<Flows, AllocError>
+        ensures none { IfOk result (λ f. (slot : ℕ) → at f.table slot ≡ None) }
+        ensures external { IfOk result (λ f. f.translations.external ≡ external) }
+    {
+        let translations = Translations::new(alloc, external)?;
+        Ok(Flows {
+            table: Table::new(alloc),
+            due: Due::new(alloc),
+            translations,
+        })
+    }
+
+    /// The sessions, each under its slot.
+    pub fn table(&self) -> &Table
+        ensures { result.now ≡ self.now.table }
+    {
+        &self.table
+    }
+
+    /// The mappings, and the outside ports that they take.
+    pub fn translations(&self) -> &Translations
+        ensures { result.now ≡ self.now.translations }
+    {
+        &self.translations
+    }
+
+    /// What the flows always keep: each mapping is held as often as sessions have it.
+    pub fn is_tied(&self)
+        ensures counts { (p : Mapping) → times self.now.translations.pairs p ≡ tally p self.now.table.held }
+    {
+        // What they keep is known once a field is read.
+        let _table = &self.table;
+    }
+
+    /// The sessions, in the order of protocol number, inside and remote endpoint.
+    ///
+    /// # Errors
+    ///
+    /// `AllocError` where memory for the list is refused.
+    pub fn list(&self, alloc: Global) -> Result<Vec<Session>, AllocError>
+        ensures { IfOk result (λ sessions. sessions.items ≡ listing self.now.table.held) }
+    {
+        self.table.list(alloc)
+    }
+
+    /// Makes room for two more sessions.
+    ///
+    /// # Errors
+    ///
+    /// `AllocError` where memory is refused. The sessions stay as they are.
+    pub fn reserve(&mut self) -> Result<(), AllocError>
+        ensures ok { OnOk result (IsReady 2 self.new) }
+        ensures held { self.new.table.held ≡ self.old.table.held }
+        ensures external { self.new.translations.external ≡ self.old.translations.external }
+    {
+        self.table.reserve()?;
+        self.due.reserve(self.table.slots())?;
+        self.translations.reserve()
+    }
+
+    /// The slots of the sessions that are alive no longer, each once.
+    fn due(&self, alloc: Global, now: u64) -> Result<Vec<Slot>, AllocError>
+        requires { IsLatest self.now.table.held now }
+        ensures exactly { IfOk result (λ slots. (slot : ℕ) → Contains slots.items slot ↔ IsSomeAnd (at self.now.table slot) (IsDue now)) }
+        ensures once { IfOk result (λ slots. (i j : ℕ) → i < j → j < length slots.items → slice_index slots.items i ≢ slice_index slots.items j) }
+        ensures sound { IsSound self.now.table.held }
+        ensures succeeds { ((slot : ℕ) → ¬ IsSomeAnd (at self.now.table slot) (IsDue now)) → IsOk result }
+    {
+        self.table.is_sound();
+        self.due.due(alloc, now)
+    }
+
+    /// A packet of the session of the slot passed.
+    fn see(&mut self, slot: Slot, bits: u8, last: u64)
+        requires held { IsSome (at self.old.table slot) }
+        requires bits { IfSome (at self.old.table slot) (λ s. IsSeen s.proto bits) }
+        requires latest { IsLatest self.old.table.held last }
+        ensures became { (s : Flow) → at self.old.table slot ≡ Some s
+            → Became self.old.table.held (Change.Seen slot bits) (seen_with s bits last) self.new.table.held }
+        ensures latest { IsLatest self.new.table.held last }
+        ensures ready { (n : ℕ) → IsReady n self.old → IsReady n self.new }
+        ensures external { self.new.translations.external ≡ self.old.translations.external }
+    {
+        self.table.is_sound();
+        self.table.see(slot, bits, last);
+        touch(&self.table, &mut self.due, slot, last);
+        self.table.is_sound();
+    }
+
+    /// Begins the session of the slot anew.
+    fn restart(&mut self, slot: Slot, opener: Opener, last: u64)
+        requires held { IsSome (at self.old.table slot) }
+        requires latest { IsLatest self.old.table.held last }
+        ensures became { (s : Flow) → at self.old.table slot ≡ Some s
+            → Became self.old.table.held (Change.Restart slot opener) (restarted s opener last) self.new.table.held }
+        ensures latest { IsLatest self.new.table.held last }
+        ensures ready { (n : ℕ) → IsReady n self.old → IsReady n self.new }
+        ensures external { self.new.translations.external ≡ self.old.translations.external }
+    {
+        self.table.is_sound();
+        self.table.restart(slot, opener, last);
+        touch(&self.table, &mut self.due, slot, last);
+        self.table.is_sound();
+    }
+
+    /// Takes the session, for which there is room.
+    fn begin(&mut self, session: Session)
+        requires may { MayBegin self.old.translations.external self.old.table.held session.last session }
+        requires ready { IsReady 1 self.old }
+        requires latest { IsLatest self.old.table.held session.last }
+        ensures became { Became self.old.table.held (Change.Begin session) session self.new.table.held }
+        ensures latest { IsLatest self.new.table.held session.last }
+        ensures ready { (n : ℕ) → IsReady (n + 1) self.old → IsReady n self.new }
+        ensures external { self.new.translations.external ≡ self.old.translations.external }
+    {
+        self.table.is_sound();
+        match self.table.add(session) {
+            Ok(slot) => {
+                watch(&mut self.due, slot, session.last, session.timeout());
+                self.translations.hold(&session);
+                self.table.is_sound();
+            }
+            Err(_) => unreachable!(),
+        }
+    }
+
+    /// Does what a change says, for which there is room.
+    fn apply(&mut self, change: Change, now: u64)
+        requires latest { IsLatest self.old.table.held now }
+        requires gives { (t : Flow) × Gives self.old.translations.external self.old.table.held now change t }
+        requires ready { 0 < adds_by change → IsReady 1 self.old }
+        ensures became { (t : Flow) → Gives self.old.translations.external self.old.table.held now change t
+            → Became self.old.table.held change t self.new.table.held }
+        ensures latest { IsLatest self.new.table.held now }
+        ensures ready { (n : ℕ) → IsReady (n + adds_by change) self.old → IsReady n self.new }
+        ensures external { self.new.translations.external ≡ self.old.translations.external }
+    {
+        match change {
+            Change::Begin(session) => self.begin(session),
+            Change::Seen(slot, bits) => self.see(slot, bits, now),
+            Change::Restart(slot, opener) => self.restart(slot, opener, now),
+            Change::End(_) => unreachable!(),
+        }
+    }
+
+    /// Does what a plan says, one change after the other, for which there is room.
+    fn apply_all(&mut self, plan: &Plan, now: u64)
+        requires latest { IsLatest self.old.table.held now }
+        requires give { (ts : List Flow) × GiveAll self.old.translations.external self.old.table.held now plan.now.first plan.now.second ts }
+        requires ready { 0 < adds_by plan.now.first + adds_second plan.now.second → IsReady 2 self.old }
+        ensures listing { (ts : List Flow) → GiveAll self.old.translations.external self.old.table.held now plan.now.first plan.now.second ts
+            → listing self.new.table.held ≡ put_all ts (listing self.old.table.held) }
+        ensures latest { IsLatest self.new.table.held now }
+        ensures external { self.new.translations.external ≡ self.old.translations.external }
+    {
+        self.apply(plan.first, now);
+        if let Some(second) = plan.second {
+            self.apply(second, now);
+        }
+    }
+
+    /// Does what a plan says, at the second `now`; `ready` says that there is room for two sessions already.
+    ///
+    /// # Errors
+    ///
+    /// `AllocError` where a session is added, there is no room for it, and memory is refused. The sessions stay
+    /// as they are.
+    pub fn carry_out(&mut self, ready: bool, plan: &Plan, now: u64) -> Result<(), AllocError>
+        requires latest { IsLatest self.old.table.held now }
+        requires give { (ts : List Flow) × GiveAll self.old.translations.external self.old.table.held now plan.now.first plan.now.second ts }
+        requires ready { IsTrue ready → IsReady 2 self.old }
+        ensures ok { OnOk result ((ts : List Flow) → GiveAll self.old.translations.external self.old.table.held now plan.now.first plan.now.second ts
+            → listing self.new.table.held ≡ put_all ts (listing self.old.table.held)) }
+        ensures err { OnErr result (self.new.table.held ≡ self.old.table.held) }
+        ensures latest { IsLatest self.new.table.held now }
+        ensures external { self.new.translations.external ≡ self.old.translations.external }
+        ensures succeeds { IsTrue ready → IsOk result }
+        ensures adds_none { adds_by plan.now.first + adds_second plan.now.second ≡ 0 → IsOk result }
+    {
+        if !ready && adds_any(plan) {
+            self.reserve()?;
+        }
+        self.apply_all(plan, now);
+        Ok(())
+    }
+
+    /// Ends the session of the slot.
+    fn end(&mut self, slot: Slot)
+        requires { IsSome (at self.old.table slot) }
+        ensures updates { Updates self.old.table self.new.table slot None }
+        ensures ready { (n : ℕ) → IsReady n self.old → IsReady n self.new }
+        ensures external { self.new.translations.external ≡ self.old.translations.external }
+    {
+        if let Some(session) = self.table.get(slot) {
+            self.translations.release(&session);
+            self.due.remove(slot);
+            self.table.end(slot);
+        }
+    }
+
+    /// Ends the sessions of the slots.
+    fn end_all(&mut self, slots: &[Slot])
+        requires held { (k : ℕ) → k < length slots.now → IsSome (at self.old.table (slice_index slots.now k)) }
+        requires once { (i j : ℕ) → i < j → j < length slots.now → slice_index slots.now i ≢ slice_index slots.now j }
+        ensures ended { (k : ℕ) → k < length slots.now → at self.new.table (slice_index slots.now k) ≡ None }
+        ensures others { (slot : ℕ) → ¬ Contains slots.now slot → at self.new.table slot ≡ at self.old.table slot }
+        ensures sound { IsSound self.new.table.held }
+        ensures ready { (n : ℕ) → IsReady n self.old → IsReady n self.new }
+        ensures external { self.new.translations.external ≡ self.old.translations.external }
+    {
+        for slot in slots {
+            self.end(*slot);
+        }
+        self.table.is_sound();
+    }
+
+    /// Ends the sessions that are alive no longer at the second `now`, and says whether there were any; then
+    /// there is room for two more.
+    ///
+    /// # Errors
+    ///
+    /// `AllocError` where there are any and memory is refused. The sessions stay as they are.
+    pub fn expire(&mut self, alloc: Global, now: u64) -> Result<bool, AllocError>
+        requires { IsLatest self.old.table.held now }
+        ensures ok { OnOk result (listing self.new.table.held ≡ filter (alive now) (listing self.old.table.held)) }
+        ensures err { OnErr result (self.new.table.held ≡ self.old.table.held) }
+        ensures external { self.new.translations.external ≡ self.old.translations.external }
+        ensures ready { IfOk result (λ any. IsTrue any → IsReady 2 self.new) }
+        ensures none { IfOk result (λ any. any ≡ false → self.new.table.held ≡ self.old.table.held) }
+        ensures succeeds { ((slot : ℕ) → ¬ IsSomeAnd (at self.old.table slot) (IsDue now)) → IsOk result }
+    {
+        let slots = self.due(alloc, now)?;
+        if slots.is_empty() {
+            return Ok(false);
+        }
+        self.reserve()?;
+        self.end_all(&slots);
+        Ok(true)
+    }
+}
+
+// How many sessions the change adds, 0 or 1.
+fn adds(change: &Change) -> usize
+    ensures { result ≡ adds_by change.now }
+{
+    match change {
+        Change::Begin(_) => 1,
+        Change::Seen(_, _) => 0,
+        Change::Restart(_, _) => 0,
+        Change::End(_) => 0,
+    }
+}
+
+// Whether the plan adds a session.
+fn adds_any(plan: &Plan) -> bool
+    ensures { IsTrue result ↔ (0 < adds_by plan.now.first + adds_second plan.now.second) }
+{
+    if let Some(second) = &plan.second
+        && adds(second) > 0
+    {
+        return true;
+    }
+    adds(&plan.first) > 0
+}
+
+fn watch(due: &mut Due, slot: Slot, last: u64, timeout: u64)
+    requires free { idle_at due.old slot ≡ None }
+    requires timeout { IsTimeout timeout }
+    requires latest { IsLatestIdle due.old last }
+    requires ready { slot < due.old.ready }
+    ensures updates { IdleUpdates due.old due.new slot (Some (record { last = last; timeout = timeout })) }
+    ensures ready { due.old.ready ≤ due.new.ready }
+{
+    match due.add(slot, last, timeout) {
+        Ok(()) => {}
+        Err(_) => unreachable!(),
+    }
+}
+
+// A packet of the session that the slot holds passed.
+fn touch(table: &Table, due: &mut Due, slot: Slot, last: u64)
+    requires held { IsSome (at table.now slot) }
+    requires watched { IsSome (idle_at due.old slot) }
+    requires latest { IsLatestIdle due.old last }
+    ensures updates { IdleUpdates due.old due.new slot (option_map (λ s. record { last = last; timeout = timeout_of s }) (at table.now slot)) }
+    ensures ready { due.new.ready ≡ due.old.ready }
+{
+    if let Some(session) = table.get(slot) {
+        due.touch(slot, last, session.timeout());
+    }
+}

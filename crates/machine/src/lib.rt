@@ -1,0 +1,26 @@
+//! The machine: the state of a gateway, and the step that an event does to it.
+//!
+//! An event is a ruleset to load, a packet from one of two interfaces, or a moment. `specs/Machine` says
+//! what a step is, on plain lists; `Core::step` is proved to be it.
+//!
+//! - `event`, `bytes`: what comes in, and what it is answered.
+//! - `flows`: the sessions with their timers and mappings, which change together. What a packet changes is
+//!   the plan of its leg (crate `hairpin`).
+//! - `deed`: what an event does, once its text is read.
+//! - `core_state`: `Core`, which has all the state and takes a step for each event.
+//! - `laws`: what holds of every step, and of every state that is reached.
+#![tactic(auto)]
+
+mod bytes;
+mod core_state;
+mod deed;
+mod event;
+mod flows;
+pub mod laws;
+
+pub use bytes::Bytes;
+pub use core_state::Core;
+pub use event::{Answer, Event, NoMemory, What};
+pub use hairpin::Cause;
+pub use packet::endpoint::Iface;
+pub use sessions::Session;
