@@ -30,7 +30,8 @@ use Rattle.verdict.specs.declared.hook.Source.TheVariants as sources
 use Rattle.verdict.proofs.Bounded.{source_external, destination_inside, port_above_zero}
 use Rattle.hairpin.specs.Causes.{number}
 use Rattle.hairpin.specs.Legs.{Passage, hairpin, in_leg, out_leg, put_all}
-use Rattle.hairpin.specs.Sound.{AreSound, KeepBounds}
+use Rattle.hairpin.specs.Sound.{KeepBounds}
+use Rattle.sessions.specs.Sound.{AreSound}
 use Rattle.hairpin.specs.declared.cause.Cause.{Cause}
 use Rattle.hairpin.proofs.Beginning.{none-from, none-to}
 use Rattle.hairpin.proofs.Doubling.{fine-hairpin}
@@ -84,7 +85,7 @@ module _ (config : Config) (is_one : is_config config ≡ true) (s : State) (sou
   sent-by bytes (Err cause) fine = stays (answer.Dropped (number cause))
   sent-by bytes (Ok passage) fine = puts passage.sessions passage.iface (translated bytes passage.src passage.dst) fine
 
-  leg-fine : (iface : Iface) (bytes : List ℕ) (view : View) → fields bytes ≡ Ok view → (r : Route) → route config iface view ≡ Ok r → IsFine config s.sessions s.clock (leg config s view r)
+  pub leg-fine : (iface : Iface) (bytes : List ℕ) (view : View) → fields bytes ≡ Ok view → (r : Route) → route config iface view ≡ Ok r → IsFine config s.sessions s.clock (leg config s view r)
   leg-fine iface bytes view is Out e =
       let there = routed_is_on_route config iface view Out e in
       let ports = ports_are_some bytes view is in
