@@ -12,7 +12,7 @@ use Rattle.durable.specs.Reading.{heading_at}
 use Rattle.durable.specs.Entering.{Durable, IsDurable}
 use Rattle.durable.specs.Laws.{RecoversOnce}
 use Rattle.durable.specs.Leading.{StateLeads}
-use Rattle.durable.specs.Recovery.{Active, Finds, Holds, IsActive, IsFound, IsHeaded, IsOlder, IsOpen, NoneOpen, Recovers, begun, behind, other, pair}
+use Rattle.durable.specs.Recovery.{Active, Finds, Holds, IsActive, IsFound, IsHeaded, IsOlder, IsOpen, NoneOpen, Recovers, begun, behind, other}
 use Rattle.durable.proofs.Coded.{once}
 use Rattle.durable.proofs.Stored_values.{coded-heading}
 use Rattle.durable.proofs.Leads.{lead_once}

@@ -1,20 +1,20 @@
 -- Entries keep a state one that a gateway may have.
-use Rattle.std.proofs.Common.{◌≡◌, ◌≢◌, ℕ, ◌≤◌, List, [], ◌∷◌, Bool, true, false, cond, not, map, length, refl, sym, ap, ◌∙◌, subst, inl, inr, arith}
+use Rattle.std.proofs.Common.{◌≡◌, ℕ, ◌≤◌, List, [], ◌∷◌, Bool, true, cond, not, map, length, refl, sym, ap, ◌∙◌, subst, inl, inr, arith}
 use Rattle.std.specs.List.{filter}
-use Rattle.std.proofs.lemmas.Bool.{cases_Bool, false≢true}
+use Rattle.std.proofs.lemmas.Bool.{cases_Bool}
 use Rattle.std.proofs.lemmas.List.{length-map}
 use Rattle.packet.specs.Config.{Config}
 use Rattle.sessions.specs.Life.{IsSeen}
-use Rattle.sessions.specs.Listing.{key, below, In, Rises, insert}
+use Rattle.sessions.specs.Listing.{key, below, In, Rises}
 use Rattle.sessions.specs.Sound.{AreSound, IsPlaced}
-use Rattle.sessions.specs.Table.{Clash, amended, most_sessions}
+use Rattle.sessions.specs.Table.{Clash, amended}
 use Rattle.sessions.specs.declared.session.Opener.{Opener}
 use Rattle.sessions.specs.declared.session.Session.{Session}
-use Rattle.sessions.proofs.Sets.{In-filter, Rises-filter, below-keys, below-itself}
-use Rattle.sessions.proofs.Puts.{has_inside-true, keys-from}
+use Rattle.sessions.proofs.Sets.{In-filter, Rises-filter, below-keys}
+use Rattle.sessions.proofs.Puts.{has_inside-true}
 use Rattle.durable.specs.declared.coding.Flow.{Flow}
 use Rattle.durable.specs.Coding.{Entry, Load, Begin, Seen, Restart, End, IsEntry, AreEntries}
-use Rattle.durable.specs.Entering.{Durable, IsDurable, is_of, changed, ended, seen_so, begun_anew, entered, Admits, Enters, BodyEnters, Changed}
+use Rattle.durable.specs.Entering.{Durable, IsDurable, is_of, changed, ended, seen_so, begun_anew, entered, Admits, Enters, Changed}
 use Rattle.durable.specs.Laws.{KeepsDurable}
 
 -- a list of sessions, each of them changed

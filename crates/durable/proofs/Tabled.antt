@@ -1,14 +1,12 @@
 -- A table against the list of the sessions that it holds.
-use Rattle.std.proofs.Common.{◌≡◌, ◌≢◌, ℕ, zero, suc, ◌+◌, ◌≤◌, List, [], ◌∷◌, Option, Some, None, IsSome, IfSome, IsSomeAnd, Bool, true, false, cond, not, map, length, get_or, count_by, is_some, refl, sym, ap, ◌∙◌, subst, inl, inr, arith}
+use Rattle.std.proofs.Common.{◌≡◌, ◌≢◌, ℕ, zero, suc, List, [], ◌∷◌, Option, Some, None, IfSome, IsSomeAnd, Bool, true, false, cond, not, map, get_or, refl, sym, ap, ◌∙◌, subst, inl, inr, arith}
 use Rattle.std.specs.List.{filter}
 use Rattle.std.proofs.lemmas.Bool.{cases_Bool, cases_eq, false≢true, not-true, not_from_false, false_from_ne_true}
 use Rattle.std.proofs.lemmas.Option.{none-some, same_Some}
 use Rattle.packet.specs.Config.{Config}
-use Rattle.sessions.specs.Life.{IsSeen}
 use Rattle.sessions.specs.Listing.{key, below, In, Rises, insert, listing}
 use Rattle.sessions.specs.Sound.{AreSound, IsPlaced}
-use Rattle.sessions.specs.Table.{Sessions, Updates, HasInside, Clash, ClashesWith, IsSound, at, count, most_sessions, amended}
-use Rattle.sessions.specs.declared.session.Opener.{Opener}
+use Rattle.sessions.specs.Table.{Sessions, Updates, HasInside, ClashesWith, IsSound, at, count, most_sessions}
 use Rattle.sessions.specs.declared.session.Session.{Session}
 use Rattle.sessions.proofs.Sets.{Apart-sound, In-filter, In-insert, In-listing, Rises-filter, Rises-insert, Rises-listing, below-itself, filter-In, insert-In, listing-In, listing-is}
 use Rattle.sessions.proofs.Puts.{has_inside-true, has_inside-from, keys-from, length-insert, length-listing}

@@ -6,9 +6,9 @@ use Rattle.sessions.specs.declared.session.Session.{Session}
 use Rattle.disk_model.specs.Disk.{Files, Same, Elsewhere}
 use Rattle.disk_model.specs.declared.disk.FileId.{FileId}
 use Rattle.journal.specs.Groups.{Groups, Appended}
-use Rattle.durable.specs.Coding.{Entry, AreEntries, IsEntry, body_bytes, Kept, Heading, heading_bytes, IsHeading}
+use Rattle.durable.specs.Coding.{Entry, AreEntries, IsEntry, body_bytes, Heading, heading_bytes, IsHeading}
 use Rattle.durable.specs.Entering.{Durable, entered, IsDurable, Admits, Enters, BodyEnters}
-use Rattle.durable.specs.Recovery.{arranged, begun, behind, IsOpen, Holds, IsActive, NoneOpen, Recovers, other}
+use Rattle.durable.specs.Recovery.{arranged, begun, behind, IsOpen, Holds, IsActive, Recovers, other}
 
 -- A code at the front of bytes determines the value and the rest.
 abbrev pub CodedOnce : {X : Type 0} → (X → Type 0) → (X → List ℕ) → Type 0
@@ -58,25 +58,20 @@ pub record Grows : Type 0 where
 pub record Renews : Type 0 where
   -- a rising list is in order
   pub in_order : (ss : List Session) → Rises ss → arranged ss ≡ ss
-
   -- while the other file stands closed the active one stays
   pub beside : (old new : Files) (file : FileId) (h : Heading) (d : Durable) (end : ℕ) → IsActive old file h d end → new file ≡ old file
       → ¬ IsOpen (new (other file)) → IsActive new file h d end
-
   -- once it stands open, made anew for the same state with a greater generation, it is the active one
   pub renewed : (old new : Files) (file : FileId) (h : Heading) (generation : ℕ) (config : Config) (d : Durable) (end : ℕ) → IsActive old file h d end → new file ≡ old file
       → IsFresh (new (other file)) (anew generation config d) → IsHeading (anew generation config d) → IsTrue (is_config config) → IsDurable config d
       → h.generation < generation → IsActive new (other file) (anew generation config d) d (behind (anew generation config d))
-
   -- so is a file that was made where none was open
   pub first : (files : Files) (file : FileId) (generation : ℕ) (config : Config) (d : Durable) → ¬ IsOpen (files (other file))
       → IsFresh (files file) (anew generation config d) → IsHeading (anew generation config d) → IsTrue (is_config config) → IsDurable config d
       → IsActive files file (anew generation config d) d (behind (anew generation config d))
-
   -- a group stands behind the others, or a crash has left the state as it was
   pub appended : (old new : Files) (file : FileId) (body : List ℕ) (h : Heading) (d e : Durable) (end : ℕ) → IsActive old file h d end → Appended file end body old new
       → BodyEnters h.config body d e → IsActive new file h d end ⊎ IsActive new file h e (end + length body + 5)
-
   -- a group stands behind the others
   pub stood : (old new : Files) (file : FileId) (body : List ℕ) (h : Heading) (d e : Durable) (end next : ℕ) → IsActive old file h d end → Elsewhere file old new
       → take end (new file) ≡ take end (old file)

@@ -6,6 +6,7 @@ ghost use Rattle.durable.specs.Viewing.{config_view};
 use crate::DurableFault;
 use crate::heading::StoredConfig;
 use packet::bounds::Bounds;
+use packet::endpoint::Prefix;
 use std::alloc::Global;
 
 // The name as a string; what is no ASCII is no name.
@@ -35,4 +36,36 @@ pub fn bounds_of(alloc: Global, config: StoredConfig<'_>) -> Result<Bounds, Dura
         Ok(bounds) => Ok(bounds),
         Err(_) => Err(DurableFault::Damaged),
     }
+}
+
+fn same_prefixes(a: &[Prefix], b: &[Prefix]) -> bool
+    ensures is { IsTrue result → a.now ≡ b.now }
+    ensures differs { a.now ≡ b.now → IsTrue result }
+{
+    if a.len() != b.len() {
+        return false;
+    }
+    for number in 0..a.len() {
+        if a[number] != b[number] {
+            return false;
+        }
+    }
+    true
+}
+
+/// Whether the two are one configuration.
+pub fn same_bounds(a: &Bounds, b: &Bounds) -> bool
+    ensures is { IsTrue result → a.now ≡ b.now }
+    ensures differs { a.now ≡ b.now → IsTrue result }
+{
+    if a.lan() != b.lan() {
+        return false;
+    }
+    if a.wan() != b.wan() {
+        return false;
+    }
+    if !same_prefixes(a.inside(), b.inside()) {
+        return false;
+    }
+    a.external() == b.external()
 }

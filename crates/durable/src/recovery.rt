@@ -12,7 +12,7 @@ ghost use Rattle.durable.specs.Recovery.{Active, Finds, Holds, IsHeaded, IsOpen,
 ghost use Rattle.durable.specs.Viewing.{headed_view};
 
 use crate::DurableFault;
-use crate::bounds::bounds_of;
+use crate::bounds::{bounds_of, same_bounds};
 use crate::entering::begin;
 use crate::groups::{behind_gate, enter_groups};
 use crate::heading::{Stored, heading_of};
@@ -43,19 +43,9 @@ pub struct Recovered<'a> {
 impl Recovered<'_> {
     /// Whether these bounds are those that the file stores.
     pub fn is_configured(&self, bounds: &Bounds) -> bool
-        ensures is { IsTrue result → self.now.bounds ≡ bounds.now }
-        ensures differs { self.now.bounds ≡ bounds.now → IsTrue result }
+        ensures { IsTrue result ↔ (self.now.bounds ≡ bounds.now) }
     {
-        if self.bounds.lan() != bounds.lan() {
-            return false;
-        }
-        if self.bounds.wan() != bounds.wan() {
-            return false;
-        }
-        if self.bounds.inside() != bounds.inside() {
-            return false;
-        }
-        self.bounds.external() == bounds.external()
+        same_bounds(&self.bounds, bounds)
     }
 }
 

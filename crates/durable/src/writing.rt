@@ -61,7 +61,28 @@ pub fn begin_code(session: &Session) -> [u8; 22]
     let proto = session.proto.number();
     let opener = number_of(session.opener);
     [
-        2, proto, a, b, c, d, e, f, g, h, i, j, k, l, m, n, o, p, q, r, opener, session.seen,
+        2,
+        proto,
+        a,
+        b,
+        c,
+        d,
+        e,
+        f,
+        g,
+        h,
+        i,
+        j,
+        k,
+        l,
+        m,
+        n,
+        o,
+        p,
+        q,
+        r,
+        opener,
+        session.seen,
     ]
 }
 
@@ -71,9 +92,7 @@ fn flow_code(flow: &Flow) -> [u8; 13]
 {
     let [a, b, c, d, e, f] = endpoint_code(flow.inside);
     let [g, h, i, j, k, l] = endpoint_code(flow.remote);
-    [
-        flow.proto.number(), a, b, c, d, e, f, g, h, i, j, k, l,
-    ]
+    [flow.proto.number(), a, b, c, d, e, f, g, h, i, j, k, l]
 }
 
 /// The entry of what a session's packets have shown, as a sum of bits that its protocol has.

@@ -1,4 +1,4 @@
-use Rattle.std.proofs.Common.{rules, ◌∙◌, sym}
+use Rattle.std.proofs.Common.{rules}
 use Rattle.sessions.specs.Sound.{IsPlaced}
 use Rattle.sessions.specs.Table.{ClashesWith, count, most_sessions}
 use Rattle.std.proofs.Common.{◌≡◌}
@@ -16,8 +16,7 @@ returns-in-Ok-clause-ok c =
     let old = c.args.table.now in
     let new = c.add.new.self in
     let s = c.args.session in
-    let placed : IsPlaced c.args.bounds.now s = search rules in
-    (
+    let placed : IsPlaced c.args.bounds.now s = search rules in (
       sound-begun old new c.in-Ok.field-0 s c.is_sound.ensures c.is_sound-in-Ok.ensures c.in-Ok.ensures.updates c.in-Ok.ensures.was_free c.args.bounds.now placed c.requires.sound,
       listing-begun old new c.in-Ok.field-0 s c.is_sound.ensures c.is_sound-in-Ok.ensures c.in-Ok.ensures.updates c.in-Ok.ensures.was_free,
     )

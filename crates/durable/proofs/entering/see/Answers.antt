@@ -1,4 +1,4 @@
-use Rattle.std.proofs.Common.{rules, ◌≡◌, ◌∙◌, ℕ, List, Option, Some, None, IfSome, true, refl, sym, subst}
+use Rattle.std.proofs.Common.{rules, ◌≡◌, ◌∙◌, ℕ, List, Option, Some, IfSome, true, refl, sym, subst}
 use Rattle.std.specs.Option.{option_map}
 use Rattle.std.proofs.lemmas.Bool.{false≢true}
 use Rattle.std.proofs.lemmas.Option.{same_Some}
@@ -6,9 +6,9 @@ use Rattle.sessions.specs.Listing.{listing}
 use Rattle.sessions.specs.Sound.{AreSound}
 use Rattle.sessions.specs.Table.{HasInside, Updates, amended, at}
 use Rattle.sessions.specs.declared.session.Session.{Session}
-use Rattle.durable.specs.Entering.{begun_anew, changed, ended, is_of, seen_so}
-use Rattle.durable.proofs.Keeping.{amends-anew, amends-seen, sound-anew, sound-ended, sound-seen}
-use Rattle.durable.proofs.Tabled.{is-named, listing-changed, listing-ended, named-at, not-named}
+use Rattle.durable.specs.Entering.{is_of, seen_so}
+use Rattle.durable.proofs.Keeping.{amends-seen, sound-seen}
+use Rattle.durable.proofs.Tabled.{is-named, listing-changed, named-at, not-named}
 use Rattle.durable.proofs.entering.see.Goals as goal
 
 pub returns-in_default-clause-named : goal.returns-in_default-clause-named

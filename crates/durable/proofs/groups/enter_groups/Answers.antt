@@ -1,12 +1,10 @@
 use Rattle.sessions.specs.Listing.{listing}
-use Rattle.sessions.specs.Sound.{AreSound}
 use Rattle.std.proofs.Common.{rules, ◌≡◌, ◌∷◌, ◌++◌, ◌∙◌, ℕ, List, length, sym, ap, subst}
 use Rattle.std.specs.Prelude.{Err}
 use Rattle.std.proofs.lemmas.Result.{err_from_is_err_and}
 use Rattle.durable.specs.Coding.{text_bytes, NoneBegins}
 use Rattle.durable.specs.Entering.{Durable, durable}
 use Rattle.durable.specs.Leading.{GroupsLead}
-use Rattle.durable.specs.Viewing.{config_view}
 use Rattle.durable.proofs.Leads.{IsText, lead_on, lead_back, lead_torn, lead_cut}
 use Rattle.durable.proofs.Bodies.{body_once}
 use Rattle.durable.proofs.Errors.{same_error}

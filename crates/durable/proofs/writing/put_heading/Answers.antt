@@ -1,6 +1,5 @@
 use Rattle.byteorder.specs.Endian.{big_bytes}
 use Rattle.durable.specs.Coding.{Kept, config_bytes, snapshot_bytes, heading_bytes, mark}
-use Rattle.durable.specs.Viewing.{config_view}
 use Rattle.durable.proofs.Appending.{four}
 use Rattle.durable.proofs.writing.put_heading.Goals as goal
 
