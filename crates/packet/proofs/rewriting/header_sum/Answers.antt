@@ -1,4 +1,4 @@
-use Rattle.std.proofs.Common.{◌<◌, sym, arith}
+use Rattle.std.proofs.Common.{sym, arith}
 use Rattle.packet.proofs.Touched.{FitsEndpoint, header_missing}
 use Rattle.packet.proofs.rewriting.header_sum.Goals as goal
 

@@ -1,4 +1,4 @@
-use Rattle.std.proofs.Common.{◌≡◌, ◌≤◌, ◌<◌, false, refl, sym, ◌∙◌, arith}
+use Rattle.std.proofs.Common.{◌≡◌, false, refl, sym, ◌∙◌, arith}
 use Rattle.packet.specs.Fields.{protocol}
 use Rattle.packet.specs.Translated.{put_u16, transport_total, missing, moved, with_header_sum, checksum_at, written, with_transport_sum, HasNoSum, translated}
 use Rattle.packet.proofs.Puts.{keeps-moved, keeps-with_header_sum}

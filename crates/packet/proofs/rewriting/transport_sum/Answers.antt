@@ -1,4 +1,4 @@
-use Rattle.std.proofs.Common.{◌<◌, sym, arith}
+use Rattle.std.proofs.Common.{sym, arith}
 use Rattle.packet.proofs.Touched.{FitsEndpoint, transport_missing}
 use Rattle.packet.proofs.rewriting.transport_sum.Goals as goal
 
