@@ -3,9 +3,11 @@ pub mod Puts
 pub mod Accepted
 pub mod Words
 pub mod Windows
+pub mod Parts
 pub mod Bytes
 pub mod Places
 pub mod Kept
+pub mod Touched
 pub mod Reread
 pub mod Only
 pub mod Names

@@ -72,7 +72,7 @@ header_field m long =
     let same = u16_at-put_u16 10 s m (omega arith) (omega (arith, small)) in
     omega (arith, same, small)
 
-chosen : (t : Bool) (y w : List ℕ) → t ≡ false → (if t then y else w) ≡ w
+pub chosen : (t : Bool) (y w : List ℕ) → t ≡ false → (if t then y else w) ≡ w
 chosen true y w h = cc
 chosen false y w h = refl
 

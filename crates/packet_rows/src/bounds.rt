@@ -1,0 +1,202 @@
+//! Configurations, the routes between their interfaces, and counted steps.
+use crate::shared::{EXTERNAL, HOST, SERVER, endpoint};
+use packet::bounds::{Bounds, ConfigFault};
+use packet::endpoint::{Flags, Iface, Prefix, Proto};
+use packet::route::{Route, RouteFault};
+use packet::steps::Steps;
+use packet::view::View;
+use std::alloc::Global;
+use std::test::*;
+
+fn bounds(
+    alloc: Global,
+    names: (&str, &str),
+    inside: &[Prefix],
+    external: u32,
+) -> Result<Result<Bounds, ConfigFault>, Fail> {
+    let lan = String::from_str(alloc, names.0)?;
+    let wan = String::from_str(alloc, names.1)?;
+    let mut prefixes = Vec::new(alloc);
+    for prefix in inside {
+        prefixes.push(*prefix)?;
+    }
+    Ok(Bounds::new(lan, wan, prefixes, external))
+}
+
+const INSIDE: [Prefix; 1] = [Prefix {
+    addr: 0xc0a80000,
+    len: 16,
+}];
+
+const HOST_BITS: [Prefix; 1] = [Prefix {
+    addr: 0xc0a80100,
+    len: 16,
+}];
+
+const TOO_LONG: [Prefix; 1] = [Prefix { addr: 0, len: 33 }];
+
+const MANY: [Prefix; 17] = [Prefix {
+    addr: 0xc0a80000,
+    len: 16,
+}; 17];
+
+const NONE: [Prefix; 0] = [];
+
+#[test]
+fn configurations_are_refused(rt: HostRuntime) -> Result<(), Fail> {
+    let alloc = rt.alloc();
+    let both = ("lan", "wan");
+    let cases: [(&str, (&str, &str), &[Prefix], u32, ConfigFault); 9] = [
+        (
+            "empty name",
+            ("", "wan"),
+            &NONE,
+            EXTERNAL,
+            ConfigFault::BadName,
+        ),
+        (
+            "16 bytes",
+            ("lan", "0123456789abcdef"),
+            &INSIDE,
+            EXTERNAL,
+            ConfigFault::BadName,
+        ),
+        (
+            "a space",
+            ("lan", "w an"),
+            &INSIDE,
+            EXTERNAL,
+            ConfigFault::BadName,
+        ),
+        (
+            "equal names",
+            ("lan", "lan"),
+            &NONE,
+            EXTERNAL,
+            ConfigFault::EqualNames,
+        ),
+        ("no prefix", both, &NONE, EXTERNAL, ConfigFault::PrefixCount),
+        ("17 prefixes", both, &MANY, HOST, ConfigFault::PrefixCount),
+        ("host bits", both, &HOST_BITS, HOST, ConfigFault::BadPrefix),
+        ("33 bits", both, &TOO_LONG, HOST, ConfigFault::BadPrefix),
+        (
+            "external inside",
+            both,
+            &INSIDE,
+            HOST,
+            ConfigFault::ExternalInside,
+        ),
+    ];
+    for (case, names, inside, external, expected) in cases {
+        let found = bounds(alloc, names, inside, external)?;
+        assert_eq!(rt; found.err(), Some(expected), "at {case}");
+    }
+    Ok(())
+}
+
+#[test]
+fn packets_are_routed(rt: HostRuntime) -> Result<(), Fail> {
+    let bounds = bounds(
+        rt.alloc(),
+        ("en-0.a_B", "0123456789abcde"),
+        &INSIDE,
+        EXTERNAL,
+    )?;
+    let Ok(bounds) = bounds else {
+        return Err("refused".into());
+    };
+    bounds.facts();
+    assert_eq!(rt; bounds.lan(), b"en-0.a_B".as_slice());
+    assert_eq!(rt; bounds.wan(), b"0123456789abcde".as_slice());
+    assert_eq!(rt; bounds.inside(), INSIDE.as_slice());
+    assert_eq!(rt; bounds.external(), EXTERNAL);
+    assert!(rt; bounds.is_inside(0xc0a8ffff) && !bounds.is_inside(0xc0a90000));
+    assert!(rt; bounds.is_external(EXTERNAL) && !bounds.is_external(HOST));
+
+    let cases = [
+        ("out", Iface::Lan, HOST, SERVER, 2, Ok(Route::Out)),
+        ("in", Iface::Wan, SERVER, EXTERNAL, 2, Ok(Route::In)),
+        (
+            "in, untranslated",
+            Iface::Wan,
+            SERVER,
+            HOST,
+            2,
+            Ok(Route::In),
+        ),
+        ("hairpin", Iface::Lan, HOST, EXTERNAL, 2, Ok(Route::Hairpin)),
+        (
+            "last hop",
+            Iface::Lan,
+            SERVER,
+            HOST,
+            1,
+            Err(RouteFault::Ttl),
+        ),
+        (
+            "foreign source",
+            Iface::Lan,
+            SERVER,
+            HOST,
+            2,
+            Err(RouteFault::Spoofed),
+        ),
+        (
+            "inside source",
+            Iface::Wan,
+            HOST,
+            SERVER,
+            2,
+            Err(RouteFault::Spoofed),
+        ),
+        (
+            "own source",
+            Iface::Wan,
+            EXTERNAL,
+            SERVER,
+            2,
+            Err(RouteFault::Spoofed),
+        ),
+        (
+            "lan to lan",
+            Iface::Lan,
+            HOST,
+            HOST,
+            2,
+            Err(RouteFault::NoRoute),
+        ),
+        (
+            "wan to wan",
+            Iface::Wan,
+            SERVER,
+            SERVER,
+            2,
+            Err(RouteFault::NoRoute),
+        ),
+    ];
+    for (case, from, src, dst, ttl, expected) in cases {
+        let view = View {
+            src: endpoint(src, 5000),
+            dst: endpoint(dst, 53),
+            proto: Proto::Udp,
+            ttl,
+            flags: Flags::none(),
+        };
+        assert_eq!(rt; bounds.route(from, &view), expected, "at {case}");
+    }
+    assert_eq!(rt;
+        (RouteFault::Ttl.number(), RouteFault::NoRoute.number()),
+        (10, 12)
+    );
+    Ok(())
+}
+
+#[test]
+fn steps_are_counted(rt: HostRuntime) {
+    let mut steps = Steps::none();
+    let before = steps;
+    steps.tick();
+    steps.tick();
+    assert_eq!(rt; (before.count(), steps.count()), (0, 2));
+    assert!(rt; before != steps);
+}
