@@ -1,6 +1,5 @@
 -- What a contract sees of the mappings.
 use Rattle.std.specs.Prelude.{◌≡◌, ◌↔◌, ℕ, ◌+◌, ◌<◌, List, [], ◌∷◌, Bool, cond, ◌&&◌}
-use Rattle.std.specs.List.{All}
 use Rattle.packet.specs.declared.endpoint.Proto.{Proto}
 use Rattle.packet.specs.declared.endpoint.Endpoint.{Endpoint}
 use Rattle.packet.specs.Same.{same_proto, same_endpoint}
@@ -57,12 +56,3 @@ pub record AreOneToOne (times_of : Pair → ℕ) : Type 0 where
 
 abbrev pub IsOneToOne : Pairs → Type 0
 IsOneToOne m = AreOneToOne (times m)
-
--- each entry holds its pair
-abbrev pub AreHeld : List Counted → Type 0
-AreHeld entries = All (λ (entry : Counted). 0 < entry.count) entries
-
--- what holds of the entries of every map
-pub record AreSound (entries : List Counted) : Type 0 where
-  pub held : AreHeld entries
-  pub one_to_one : AreOneToOne (times_in entries)

@@ -2,8 +2,10 @@ use Rattle.std.proofs.Common.{ap, refl}
 use Rattle.std.proofs.lemmas.Option.{IfSome_then}
 use Rattle.mappings.specs.declared.map.Pair.{Pair}
 use Rattle.mappings.specs.Map.{pair}
+use Rattle.mappings.proofs.Found.{one_to_one}
 use Rattle.mappings.proofs.map.Map.inside_of.Goals as goal
 
 pub returns-clause-only : goal.returns-clause-only
 returns-clause-only c =
-    rw (← c.self.view_is) (IfSome_then c.find_inside.result c.find_inside.ensures.found (λ q found other held. ap (λ (p : Pair). p.inside) (c.self.invariant.one_to_one.by_outside (pair c.args.proto other c.args.outside) (pair c.args.proto q c.args.outside) held (rw c.deref.ensures.value at found) refl refl)))
+    rw (← c.self.view_is) (IfSome_then c.find_inside.result c.find_inside.ensures.found (λ q found other held. ap (λ (p : Pair). p.inside)
+    ((one_to_one _ _ _ c.self.invariant).by_outside (pair c.args.proto other c.args.outside) (pair c.args.proto q c.args.outside) held found refl refl)))

@@ -1,4 +1,5 @@
+use Rattle.mappings.proofs.Found.{one_to_one}
 use Rattle.mappings.proofs.map.Map.is_one_to_one.Goals as goal
 
 pub returns : goal.returns
-returns c = rw (← c.self.view_is) c.self.invariant.one_to_one
+returns c = rw (← c.self.view_is) (one_to_one _ _ _ c.self.invariant)

@@ -1,0 +1,92 @@
+-- What a change of one slot makes of the pairs, and of how often they are held.
+use Rattle.std.proofs.Common.{◌≡◌, ℕ, ◌+◌, ◌<◌, List, Some, None, IsSome, IsSomeAnd, refl, sym, ap, ◌∙◌, inl, inr, subst, arith}
+use Rattle.std.proofs.lemmas.Bool.{cases_eq}
+use Rattle.std.proofs.lemmas.Option.{none-some, same_Some}
+use Rattle.rows.specs.declared.Entry.{Entry}
+use Rattle.rows.specs.Held.{value_at, Puts}
+use Rattle.slab.specs.Slab.{Slab, get, with_value, Updates}
+use Rattle.slab.proofs.SlabLemmas.{Updates-with_value}
+use Rattle.mappings.specs.declared.map.Pair.{Pair}
+use Rattle.mappings.specs.declared.map.Counted.{Counted}
+use Rattle.mappings.specs.Map.{times_at, GainsIn}
+use Rattle.mappings.specs.Indexed.{pairs_in, key_by, inside_of, outside_of, IsSmall, IsEntry, AreIndexed}
+use Rattle.mappings.proofs.Led.{IsRow-counts, IsRow-more, IsRow-less}
+use Rattle.mappings.proofs.Slots.{times-update, weight}
+use Rattle.mappings.proofs.Times.{entry-more, entry-same}
+
+-- a write into a slot that has a pair
+pub Updates-write : (old new : Slab Counted) (slot : ℕ) (f : Counted → Counted) (was : Counted) → get old slot ≡ Some was → IsSomeAnd (get old slot) (λ e. new ≡ with_value old slot (f e))
+    → Updates old new slot (Some (f was))
+Updates-write old new slot f was before written =
+    let is : new ≡ with_value old slot (f was) = subst (λ o. IsSomeAnd o (λ e. new ≡ with_value old slot (f e))) before written in
+    subst (λ n. Updates old n slot (Some (f was))) (sym is) (Updates-with_value old slot (f was) (subst IsSome (sym before) refl))
+
+module _ (old new : Slab Counted) (slot : ℕ) where
+  -- the pair of the slot is held once more
+  pub Gains-up : (was is : Counted) (q : Pair) → Updates old new slot (Some is) → get old slot ≡ Some was → was.pair ≡ q → is.pair ≡ q → is.count ≡ was.count + 1 → GainsIn (pairs_in old.slots) (pairs_in new.slots) q
+  Gains-up was is q updates before was_q is_q more = λ p.
+      let total = times-update p old.slots new.slots slot (Some is) updates.changed updates.others in
+      let w : weight p (get old slot) ≡ times_at p was = ap (weight p) before in
+      omega (arith, total, w, entry-more p q was.count is is_q more, entry-same p q was.count was was_q refl)
+
+  -- or once less
+  pub Gains-down : (was is : Counted) (q : Pair) → Updates old new slot (Some is) → get old slot ≡ Some was → was.pair ≡ q → is.pair ≡ q → was.count ≡ is.count + 1 → GainsIn (pairs_in new.slots) (pairs_in old.slots) q
+  Gains-down was is q updates before was_q is_q less = λ p.
+      let total = times-update p old.slots new.slots slot (Some is) updates.changed updates.others in
+      let w : weight p (get old slot) ≡ times_at p was = ap (weight p) before in
+      omega (arith, total, w, entry-more p q is.count was was_q less, entry-same p q is.count is is_q refl)
+
+  -- a pair that comes is held once
+  pub Gains-new : (is : Counted) → Updates old new slot (Some is) → get old slot ≡ None → is.count ≡ 1 → GainsIn (pairs_in old.slots) (pairs_in new.slots) is.pair
+  Gains-new is updates before one = λ p.
+      let total = times-update p old.slots new.slots slot (Some is) updates.changed updates.others in
+      let w : weight p (get old slot) ≡ 0 = ap (weight p) before in
+      omega (arith, total, w, entry-same p is.pair 1 is refl one)
+
+  -- and one that goes was held once
+  pub Gains-gone : (was : Counted) → Updates old new slot None → get old slot ≡ Some was → was.count ≡ 1 → GainsIn (pairs_in new.slots) (pairs_in old.slots) was.pair
+  Gains-gone was updates before one = λ p.
+      let total = times-update p old.slots new.slots slot None updates.changed updates.others in
+      let w : weight p (get old slot) ≡ times_at p was = ap (weight p) before in
+      omega (arith, total, w, entry-same p was.pair 1 was refl one)
+
+  module _ (inside outside : List Entry) (indexed : AreIndexed old.slots inside outside) where
+    pub AreIndexed-counts : (was is : Counted) → Updates old new slot (Some is) → get old slot ≡ Some was → is.pair ≡ was.pair → 0 < is.count → AreIndexed new.slots inside outside
+    AreIndexed-counts was is updates before same held = record {
+      entries = λ k entry there. elim (cases_eq k slot) [
+        | inl here ↦
+            let one : is ≡ entry = same_Some is entry (sym updates.changed ∙ ap (get new) (sym here) ∙ there) in
+            let old_one = indexed.entries slot was before in
+            subst IsEntry one (record {
+              held = held;
+              inside = subst (λ (q : Pair). IsSmall q.inside) (sym same) old_one.inside;
+              outside = subst (λ (q : Pair). IsSmall q.outside) (sym same) old_one.outside;
+            })
+        | inr away ↦ indexed.entries k entry (sym (updates.others k away) ∙ there)
+      ];
+      by_inside = IsRow-counts inside_of old.slots new.slots slot updates.others inside was is before updates.changed same indexed.by_inside;
+      by_outside = IsRow-counts outside_of old.slots new.slots slot updates.others outside was is before updates.changed same indexed.by_outside;
+    }
+
+    module _ (inside' outside' : List Entry) (e : Counted) where
+      pub AreIndexed-more : Updates old new slot (Some e) → get old slot ≡ None → value_at inside (key_by inside_of e.pair) ≡ None → value_at outside (key_by outside_of e.pair) ≡ None
+          → Puts inside inside' (key_by inside_of e.pair) (Some slot) → Puts outside outside' (key_by outside_of e.pair) (Some slot) → IsEntry e → AreIndexed new.slots inside' outside'
+      AreIndexed-more updates empty free_in free_out puts_in puts_out good = record {
+        entries = λ k entry there. elim (cases_eq k slot) [
+          | inl here ↦ subst IsEntry (same_Some e entry (sym updates.changed ∙ ap (get new) (sym here) ∙ there)) good
+          | inr away ↦ indexed.entries k entry (sym (updates.others k away) ∙ there)
+        ];
+        by_inside = IsRow-more inside_of old.slots new.slots slot updates.others inside inside' e empty updates.changed free_in puts_in indexed.by_inside;
+        by_outside = IsRow-more outside_of old.slots new.slots slot updates.others outside outside' e empty updates.changed free_out puts_out indexed.by_outside;
+      }
+
+      pub AreIndexed-less : Updates old new slot None → get old slot ≡ Some e → Puts inside inside' (key_by inside_of e.pair) None → Puts outside outside' (key_by outside_of e.pair) None
+          → AreIndexed new.slots inside' outside'
+      AreIndexed-less updates there puts_in puts_out = record {
+        entries = λ k entry is. elim (cases_eq k slot) [
+          | inl here ↦ absurd (none-some entry (sym updates.changed ∙ ap (get new) (sym here) ∙ is))
+          | inr away ↦ indexed.entries k entry (sym (updates.others k away) ∙ is)
+        ];
+        by_inside = IsRow-less inside_of old.slots new.slots slot updates.others inside inside' e there updates.changed puts_in indexed.by_inside;
+        by_outside = IsRow-less outside_of old.slots new.slots slot updates.others outside outside' e there updates.changed puts_out indexed.by_outside;
+      }

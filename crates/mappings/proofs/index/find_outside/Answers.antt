@@ -1,0 +1,25 @@
+use Rattle.std.proofs.Common.{◌≡◌, Option, Some, None, IfNone, sym, ap, ◌∙◌}
+use Rattle.packet.specs.declared.endpoint.Endpoint.{Endpoint}
+use Rattle.rows.specs.Held.{value_at}
+use Rattle.mappings.specs.Indexed.{key, pairs_in, inside_of}
+use Rattle.mappings.specs.Map.{pair, times_in}
+use Rattle.mappings.proofs.Found.{not_held, inside_held}
+use Rattle.mappings.proofs.index.find_outside.Goals as goal
+
+-- a fact holds also where there is nothing
+if_none_from : {A P : Type 0} (o : Option A) → P → IfNone o P
+if_none_from None p = p
+if_none_from (Some x) p = tt
+
+pub returns-in_err-slot-clause-absent : goal.returns-in_err-slot-clause-absent
+returns-in_err-slot-clause-absent c =
+    let row = c.args.index.now.inside.held in
+    let free : value_at row (key c.args.proto c.args.inside) ≡ None = ap (value_at row) (sym c.key.ensures.key) ∙ sym c.get.ensures ∙ c.in_err-slot.was in
+    let none : (q : Endpoint) → times_in (pairs_in c.args.index.now.pairs.slots) (pair c.args.proto c.args.inside q) ≡ 0 = λ q. not_held inside_of c.args.index.now.pairs.slots row c.requires.by_inside (pair c.args.proto c.args.inside q) free in
+    if_none_from _ none
+
+pub returns-clause-found : goal.returns-clause-found
+returns-clause-found c =
+    let row = c.args.index.now.inside.held in
+    let found : value_at row (key c.args.proto c.args.inside) ≡ Some c.in_ok-slot.slot = ap (value_at row) (sym c.key.ensures.key) ∙ sym c.get.ensures ∙ c.in_ok-slot.was in
+    inside_held _ _ _ c.requires c.args.proto c.args.inside c.in_ok-slot.slot c.index.result.now c.key.ensures.small found c.index.ensures

@@ -1,0 +1,184 @@
+//! The pairs, each in a slot of its own, and the two rows that lead to it.
+ghost use Rattle.std.specs.Prelude.{◌≡◌, ◌⊎◌, ℕ, ◌+◌, ◌-◌, ◌*◌, ◌<◌, ◌≤◌, Some, None, OnOk, OnErr, IsOk, IfSome, IfNone, IsSomeAnd};
+ghost use Rattle.packet.specs.declared.endpoint.Endpoint.{Endpoint as Place};
+ghost use Rattle.slab.specs.Slab.{get, with_value, slab_len};
+ghost use Rattle.rows.specs.Held.{at, value_at, Puts};
+ghost use Rattle.mappings.specs.declared.map.Counted.{Counted as Entry};
+ghost use Rattle.mappings.specs.Map.{times_in, pair, GainsIn};
+ghost use Rattle.mappings.specs.Indexed.{key, IsSmall, IsIndexed, KeepsOneToOneIn, held_in, room_in};
+
+use crate::map::{Counted, Pair};
+use packet::endpoint::{Endpoint, Proto};
+use rows::Rows;
+use slab::Slab;
+use std::alloc::AllocError;
+
+/// The pairs that are held. From the protocol and either endpoint a row leads to the slot of the pair.
+#[derive(Drop)]
+pub struct Index {
+    pub inside: Rows,
+    pub outside: Rows,
+    pub pairs: Slab<Counted>,
+}
+
+// Protocol, address and port, one behind another: a number of 56 bits.
+fn key(proto: Proto, endpoint: Endpoint) -> u128
+    ensures key { result ≡ key proto endpoint }
+    ensures small { IsSmall endpoint }
+{
+    let addr = u128::from(endpoint.addr) * 0x1_0000;
+    u128::from(proto.number()) * 0x1_0000_0000_0000 + addr + u128::from(endpoint.port)
+}
+
+/// The outside endpoint of the pair with this inside endpoint.
+pub fn find_outside(index: &Index, proto: Proto, inside: Endpoint) -> Option<Endpoint>
+    requires { IsIndexed index.now }
+    ensures found { IfSome result (λ outside. 0 < times_in (held_in index.now) (pair proto inside outside)) }
+    ensures absent { IfNone result ((outside : Place) → times_in (held_in index.now) (pair proto inside outside) ≡ 0) }
+{
+    let slot = index.inside.get(key(proto, inside))?;
+    Some(index.pairs[slot].pair.outside)
+}
+
+/// The inside endpoint of the pair with this outside endpoint.
+pub fn find_inside(index: &Index, proto: Proto, outside: Endpoint) -> Option<Endpoint>
+    requires { IsIndexed index.now }
+    ensures found { IfSome result (λ inside. 0 < times_in (held_in index.now) (pair proto inside outside)) }
+    ensures absent { IfNone result ((inside : Place) → times_in (held_in index.now) (pair proto inside outside) ≡ 0) }
+{
+    let slot = index.outside.get(key(proto, outside))?;
+    Some(index.pairs[slot].pair.inside)
+}
+
+/// Holds the pair once more.
+pub fn add(index: &mut Index, pair: Pair) -> Result<(), AllocError>
+    requires indexed { IsIndexed index.old }
+    requires one_to_one { KeepsOneToOneIn (held_in index.old) pair }
+    requires few { times_in (held_in index.old) pair < 65536 }
+    ensures indexed { IsIndexed index.new }
+    ensures ok { OnOk result (GainsIn (held_in index.old) (held_in index.new) pair) }
+    ensures err { OnErr result (held_in index.new ≡ held_in index.old) }
+    ensures succeeds { 0 < room_in index.old → IsOk result }
+    ensures again { 0 < times_in (held_in index.old) pair → IsOk result }
+    ensures room_ok { OnOk result (room_in index.old ≤ room_in index.new + 1) }
+    ensures room_again { 0 < times_in (held_in index.old) pair → room_in index.old ≤ room_in index.new }
+    ensures room_err { OnErr result (room_in index.old ≤ room_in index.new) }
+{
+    match index.inside.get(key(pair.proto, pair.inside)) {
+        Some(slot) => {
+            count_up(&mut index.pairs, slot);
+            Ok(())
+        }
+        None => add_new(index, pair),
+    }
+}
+
+// Takes a pair in to which no row leads.
+fn add_new(index: &mut Index, pair: Pair) -> Result<(), AllocError>
+    requires indexed { IsIndexed index.old }
+    requires one_to_one { KeepsOneToOneIn (held_in index.old) pair }
+    requires absent { at index.old.inside (key pair.proto pair.inside) ≡ None }
+    ensures indexed { IsIndexed index.new }
+    ensures ok { OnOk result (GainsIn (held_in index.old) (held_in index.new) pair) }
+    ensures err { OnErr result (held_in index.new ≡ held_in index.old) }
+    ensures succeeds { 0 < room_in index.old → IsOk result }
+    ensures room_ok { OnOk result (room_in index.old ≤ room_in index.new + 1) }
+    ensures room_err { OnErr result (room_in index.old ≤ room_in index.new) }
+{
+    let near = key(pair.proto, pair.inside);
+    let far = key(pair.proto, pair.outside);
+    index.pairs.reserve(1)?;
+    let slot = index.pairs.vacant_key();
+    insert(&mut index.inside, &mut index.outside, near, far, slot)?;
+    index.pairs.insert_reserved(Counted { pair, count: 1 });
+    Ok(())
+}
+
+// Lets the first row lead from one number to the slot, and the second from the other one, or neither.
+fn insert(
+    inside: &mut Rows,
+    outside: &mut Rows,
+    near: u128,
+    far: u128,
+    slot: usize,
+) -> Result<(), AllocError>
+    requires inside { at inside.old near ≡ None }
+    requires outside { at outside.old far ≡ None }
+    ensures inside { OnOk result (Puts inside.old.held inside.new.held near (Some slot)) }
+    ensures outside { OnOk result (Puts outside.old.held outside.new.held far (Some slot)) }
+    ensures err_inside { OnErr result ((number : ℕ) → at inside.new number ≡ at inside.old number) }
+    ensures err_outside { OnErr result (outside.new.held ≡ outside.old.held) }
+    ensures succeeds { 0 < inside.old.room → 0 < outside.old.room → IsOk result }
+    ensures room_inside { inside.old.room ≤ inside.new.room + 1 }
+    ensures room_outside { OnOk result (outside.old.room ≤ outside.new.room + 1) }
+    ensures room_err { OnErr result ((inside.old.room ≤ inside.new.room) ⊎ (outside.old.room ≡ 0)) }
+    ensures room_err_outside { OnErr result (outside.old.room ≤ outside.new.room) }
+{
+    inside.insert(near, slot)?;
+    if outside.insert(far, slot).is_err() {
+        inside.remove(near);
+        return Err(AllocError);
+    }
+    Ok(())
+}
+
+/// Makes room for two more pairs.
+pub fn reserve(index: &mut Index) -> Result<(), AllocError>
+    requires { IsIndexed index.old }
+    ensures indexed { IsIndexed index.new }
+    ensures ok { OnOk result (2 ≤ room_in index.new) }
+    ensures succeeds { 2 ≤ room_in index.old → IsOk result }
+    ensures same { held_in index.new ≡ held_in index.old }
+    ensures room { room_in index.old ≤ room_in index.new }
+{
+    index.pairs.reserve(2)?;
+    index.inside.reserve()?;
+    index.outside.reserve()
+}
+
+// The pair in the slot is held once more.
+fn count_up(pairs: &mut Slab<Counted>, slot: usize)
+    requires { IsSomeAnd (get pairs.old slot) (λ entry. entry.count < 65536) }
+    ensures { IsSomeAnd (get pairs.old slot) (λ entry. pairs.new ≡ with_value pairs.old slot (record entry { count = entry.count + 1 })) }
+{
+    pairs[slot].count += 1;
+}
+
+// The pair in the slot is held once less, and still held.
+fn count_down(pairs: &mut Slab<Counted>, slot: usize)
+    requires { IsSomeAnd (get pairs.old slot) (λ entry. 0 < entry.count) }
+    ensures { IsSomeAnd (get pairs.old slot) (λ entry. pairs.new ≡ with_value pairs.old slot (record entry { count = entry.count - 1 })) }
+{
+    pairs[slot].count -= 1;
+}
+
+/// The pair is held once less, and with its last hold it is gone from both rows.
+pub fn take_one(index: &mut Index, pair: Pair)
+    requires indexed { IsIndexed index.old }
+    requires some { 0 < times_in (held_in index.old) pair }
+    ensures indexed { IsIndexed index.new }
+    ensures loses { GainsIn (held_in index.new) (held_in index.old) pair }
+    ensures room { room_in index.old ≤ room_in index.new }
+{
+    let Some(slot) = index.inside.get(key(pair.proto, pair.inside)) else {
+        return;
+    };
+    if index.pairs[slot].count == 1 {
+        take_out(index, slot, pair);
+    } else {
+        count_down(&mut index.pairs, slot);
+    }
+}
+
+// Takes a pair out that is held once.
+fn take_out(index: &mut Index, slot: usize, pair: Pair)
+    requires indexed { IsIndexed index.old }
+    requires held { get index.old.pairs slot ≡ Some (record { pair = pair; count = 1 }) }
+    ensures indexed { IsIndexed index.new }
+    ensures loses { GainsIn (held_in index.new) (held_in index.old) pair }
+    ensures room { room_in index.old ≤ room_in index.new }
+{
+    index.pairs.remove(slot);
+    index.inside.remove(key(pair.proto, pair.inside));
+    index.outside.remove(key(pair.proto, pair.outside));
+}
