@@ -1,5 +1,5 @@
 -- The first translated session of an endpoint tells its mapping.
-use Rattle.std.proofs.Common.{◌≡◌, ◌≢◌, ℕ, zero, suc, ◌+◌, ◌<◌, ◌≤◌, Bool, true, false, cond, eqb, ltb, not, List, [], ◌∷◌, length, get_or, Option, Some, None, IfSome, refl, sym, ap, ◌∙◌, subst, inl, inr, arith}
+use Rattle.std.proofs.Common.{◌≡◌, ◌≢◌, ℕ, zero, suc, ◌+◌, ◌<◌, ◌≤◌, Bool, true, false, cond, eqb, ltb, not, List, [], ◌∷◌, length, get_or, Option, Some, None, IfNone, IfSome, refl, sym, ap, ◌∙◌, subst, inl, inr, arith}
 use Rattle.std.proofs.lemmas.Bool.{cases_Bool, cases_eq, eq-eqb, ne_eqb, ltb-true, ltb-false, not-true}
 use Rattle.std.proofs.lemmas.Option.{none-some, same_Some}
 use Rattle.packet.specs.declared.endpoint.Proto.{Proto}
@@ -106,8 +106,8 @@ module _ (near : Session → Endpoint) (near-fits : (s : Session) → AreEndpoin
       let from = key_number s.proto (near s) least in
       let key = key_number s.proto (near s) u.remote in
       let named : name u ≡ Some key =
-          name_is u ∙ ap (λ b. cond b (Some (key_number u.proto (near u) u.remote)) None) (translated-from u apart)
-          ∙ ap (λ p. Some (key_number p (near u) u.remote)) proto ∙ ap (λ e. Some (key_number s.proto e u.remote)) same in
+      name_is u ∙ ap (λ b. cond b (Some (key_number u.proto (near u) u.remote)) None) (translated-from u apart)
+      ∙ ap (λ p. Some (key_number p (near u) u.remote)) proto ∙ ap (λ e. Some (key_number s.proto e u.remote)) same in
       let first = first_is entries from key j rising (finds.slot_of j key u is named) (key-least s.proto (near s) u.remote least none) in
       let at = finds.session_of first.entry.key first.entry.value first.found in
       let t = at.0 in
@@ -116,7 +116,7 @@ module _ (near : Session → Endpoint) (near-fits : (s : Session) → AreEndpoin
       let fits_t = endpoints first.entry.value t at.1 in
       let fits_u = endpoints j u is in
       let one = key-between s.proto t.proto (near s) (near t) u.remote t.remote least fits (near-fits t fits_t) fits_u.2 fits_t.2 none
-          (subst (λ k. from ≤ k) key_is first.low) (subst (λ k. k ≤ key) key_is first.high) in
+      (subst (λ k. from ≤ k) key_is first.low) (subst (λ k. k ≤ key) key_is first.high) in
       record {
         slot = first.entry.value;
         session = t;
@@ -183,3 +183,7 @@ module _ (held : List (Option Session)) (index : Index) (indexed : IsIndexed hel
 pub where-held : (P : Session → Type 0) (o : Option Session) → ((u : Session) → o ≡ Some u → P u) → IfSome o P
 where-held P None h = tt
 where-held P (Some u) h = h u refl
+
+pub where-none : (P : Type 0) (o : Option ℕ) → P → IfNone o P
+where-none P None h = h
+where-none P (Some n) h = tt

@@ -7,6 +7,8 @@
 //! - `laws`: what the definitions promise, as functions without a body
 #![tactic(auto)]
 
+#[cfg(test)]
+mod churn;
 mod index;
 mod keys;
 mod laws;

@@ -247,9 +247,12 @@ impl Table {
         ensures slots { self.new.slots ≡ self.old.slots }
     {
         let session = &mut self.sessions[slot.number()];
-        session.opener = opener;
-        session.seen = 0;
-        session.last = last;
+        *session = Session {
+            opener,
+            seen: 0,
+            last,
+            ..*session
+        };
     }
 
     /// Sets who began the session of the slot, which must hold one, and what its packets have shown, bits of

@@ -4,6 +4,7 @@ use Rattle.rows.specs.Held.{value_at}
 use Rattle.sessions.specs.declared.session.Session.{Session}
 use Rattle.sessions.specs.Index.{key_number}
 use Rattle.sessions.proofs.Indexed.{no-outside}
+use Rattle.sessions.proofs.Mapped.{where-none}
 use Rattle.sessions.proofs.index.find_outside.Goals as goal
 
 pub returns-in_err-slot-clause-absent : goal.returns-in_err-slot-clause-absent
@@ -13,8 +14,8 @@ returns-in_err-slot-clause-absent c =
     let key = key_number c.args.proto c.args.outside c.args.remote in
     let absent : value_at index.outsides.held key ≡ None = grind arith in
     let none : value_at index.flows.held key ≡ None = grind arith in
-    let all = no-outside held index c.args.proto c.args.outside c.args.remote c.requires absent (λ slot s is at. none-some slot (sym none ∙ is)) in
-    grind arith
+    where-none _ c.from_residual.result
+    (λ slot. no-outside held index c.args.proto c.args.outside c.args.remote c.requires absent (λ slot s is at same. none-some slot (sym none ∙ is)) slot (get_or held slot None) refl)
 
 pub returns-else-eq-clause-absent : goal.returns-else-eq-clause-absent
 returns-else-eq-clause-absent c =
@@ -24,7 +25,8 @@ returns-else-eq-clause-absent c =
     let absent : value_at index.outsides.held key ≡ None = grind arith in
     let found : value_at index.flows.held key ≡ Some c.in_ok-slot.slot = grind arith in
     let differs : (slot : ℕ) (s : Session) → value_at index.flows.held key ≡ Some slot → get_or held slot None ≡ Some s → s.outside ≢ c.args.outside = λ slot s is at same.
-        let here : c.in_ok-slot.slot ≡ slot = same_Some c.in_ok-slot.slot slot (sym found ∙ is) in
-        let one : c.index.result.now ≡ s = same_Some c.index.result.now s (sym c.index.ensures ∙ ap (λ k. get_or held k None) here ∙ at) in
-        c.if-eq.false (ap (λ (t : Session). t.outside) one ∙ same) in
+    let here : c.in_ok-slot.slot ≡ slot = same_Some c.in_ok-slot.slot slot (sym found ∙ is) in
+    let one : c.index.result.now ≡ s = same_Some c.index.result.now s (sym c.index.ensures ∙ ap (λ k. get_or held k None) here ∙ at) in
+    let e : c.index.result.now.outside ≡ c.args.outside = ap (λ (t : Session). t.outside) one ∙ same in
+    grind (arith, e) in
     λ slot. no-outside held index c.args.proto c.args.outside c.args.remote c.requires absent differs slot (get_or held slot None) refl

@@ -1,18 +1,11 @@
 use Rattle.std.proofs.Common.{◌≡◌, refl, ap, arith}
-use Rattle.sessions.specs.Table.{AnyClash}
-use Rattle.sessions.specs.Index.{IsIndexed}
 use Rattle.sessions.proofs.Indexed.{IsIndexed-add, IsIndexed-kept, IsIndexed-lacks}
 use Rattle.sessions.proofs.table.Table.add.Goals as goal
 
--- no session clashes, and the rows have the same sessions once there is room
-none : (c : goal.After-insert_reserved-slot) → ¬ AnyClash c.self.inside.sessions.slots c.args.session
-none c a = let b = c.clashes.ensures.1 a in grind arith
-
-kept : (c : goal.After-insert_reserved-slot) → IsIndexed c.self.inside.sessions.slots c.reserve_one.new.self
-kept c = IsIndexed-kept _ _ _ _ refl c.reserve_one.ensures.flows c.reserve_one.ensures.insides c.reserve_one.ensures.outsides c.self.invariant
-
 pub insert-requires-clause-absent : goal.insert-requires-clause-absent
-insert-requires-clause-absent c = IsIndexed-lacks _ _ _ (kept c) c.has_endpoints.ensures (none c)
+insert-requires-clause-absent c = IsIndexed-lacks c.self.inside.sessions.slots _ _
+    (IsIndexed-kept _ _ _ _ refl c.reserve_one.ensures.flows c.reserve_one.ensures.insides c.reserve_one.ensures.outsides c.self.invariant)
+    c.has_endpoints.ensures (λ a. let b = c.clashes.ensures.1 a in grind arith)
 
 pub invariant_of-self-2 : goal.invariant_of-self-2
 invariant_of-self-2 c =
