@@ -137,6 +137,25 @@ impl Rows {
         Ok(())
     }
 
+    /// Makes room for one more entry, so that the next insertion takes no memory, whatever is removed
+    /// before it.
+    ///
+    /// # Errors
+    ///
+    /// `AllocError` where memory is refused, and never where there is room. The same entries are held in
+    /// any case, and no room is lost.
+    pub fn reserve_one(&mut self) -> Result<(), AllocError>
+        ensures ok { OnOk result (0 < self.new.room) }
+        ensures succeeds { 0 < self.old.room → IsOk result }
+        ensures held { self.new.held ≡ self.old.held }
+        ensures room { self.old.room ≤ self.new.room }
+    {
+        if self.spare.is_empty() {
+            add_spare(self.alloc, &mut self.runs, &mut self.spare)?;
+        }
+        Ok(())
+    }
+
     /// The entries in rising order, each once.
     pub fn iter(&self) -> Walk<'_>
         ensures { rest result ≡ self.now.held }

@@ -86,7 +86,7 @@ pub IsSound-set : (xs : List (Option Session)) (k : ℕ) (s t : Session) → get
 IsSound-set xs k s t is same fits sound = IsSound-kept xs _ sound (KeepsKeys-set xs k s t is same) (omega (arith, count-set_held xs k s t is)) (HasSeen-more xs _ k t fits (get_or-set_same xs k (Some t) None (held_in_range xs k s is)) (λ j away. get_or-set_other xs k j (Some t) None away) sound.seen)
 
 -- at each place the new list has what the old has, but for the one session, which none clashes with
-IsSound-more : (old new : List (Option Session)) (k : ℕ) (t : Session) → ¬ AnyClash old t → get_or new k None ≡ Some t → ((j : ℕ) → j ≢ k → get_or new j None ≡ get_or old j None) → count_by is_some new ≤ 65536 → IsSeen t.proto t.seen → IsSound old → IsSound new
+pub IsSound-more : (old new : List (Option Session)) (k : ℕ) (t : Session) → ¬ AnyClash old t → get_or new k None ≡ Some t → ((j : ℕ) → j ≢ k → get_or new j None ≡ get_or old j None) → count_by is_some new ≤ 65536 → IsSeen t.proto t.seen → IsSound old → IsSound new
 IsSound-more old new k t none here away few fits sound = record {
   apart = λ i j a b differ at_i at_j clash.
       let clash_sym : Clash b a = Clash-sym a b clash in

@@ -7,6 +7,10 @@
 //! - `laws`: what the definitions promise, as functions without a body
 #![tactic(auto)]
 
+#[cfg(test)]
+mod churn;
+mod index;
+mod keys;
 mod laws;
 mod life;
 mod session;
