@@ -14,6 +14,6 @@
 mod lanes;
 pub mod laws;
 pub mod ports;
-mod words;
 #[cfg(test)]
 mod tests;
+mod words;
