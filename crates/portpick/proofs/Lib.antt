@@ -1,3 +1,5 @@
 pub mod Steps
-pub mod Chosen
+pub mod Bits
+pub mod PortBits
 pub mod TakenLemmas
+pub mod Chosen

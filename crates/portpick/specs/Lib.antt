@@ -1,3 +1,4 @@
 pub mod Taken
 pub mod Choice
+pub mod Words
 pub mod Laws

@@ -1,22 +1,31 @@
 -- What a contract sees of the ports that are taken.
-use Rattle.std.specs.Prelude.{◌≡◌, ◌⊎◌, ◌↔◌, ℕ, List, Bool, ◌&&◌}
-use Rattle.std.specs.List.{Contains}
+use Rattle.std.specs.Prelude.{◌≡◌, ◌⊎◌, ◌↔◌, ℕ, ◌+◌, ◌*◌, ◌<◌, List, length, if◌then◌else◌, ◌==◌}
+use Rattle.std.specs.List.{position_or_len}
 use Rattle.packet.specs.declared.endpoint.Proto.{Proto}
-use Rattle.packet.specs.Same.{same_proto, same_endpoint}
-use Rattle.portpick.specs.declared.ports.Outside.{Outside}
+use Rattle.packet.specs.declared.endpoint.Proto.TheVariants.{Tcp, Udp}
+use Rattle.portpick.specs.Words.{IsSet, HasPort, spare}
 
--- the external addresses, the outside endpoints that are taken, and how many more fit with no memory
+-- the external addresses, the words that tell which ports are taken, and how many more can be taken with no memory
 pub record TakenPorts : Type 0 where
   pub external : List ℕ
-  pub taken : List Outside
+  pub words : List ℕ
   pub room : ℕ
 
-abbrev pub outside : Proto → ℕ → ℕ → Outside
-outside proto addr port = record { proto = proto; endpoint = record { addr = addr; port = port } }
+-- how many addresses come before this one
+abbrev pub place_among : List ℕ → ℕ → ℕ
+place_among addresses addr = position_or_len (λ x. x == addr) addresses
+
+abbrev pub half : Proto → ℕ
+half Tcp = 0
+half Udp = 1
+
+-- the first of the 1,024 words of a protocol at an address
+abbrev pub start : List ℕ → Proto → ℕ → ℕ
+start external proto addr = 1024 * (2 * place_among external addr + half proto)
 
 -- the port is taken at this address
 abbrev pub IsTaken : TakenPorts → Proto → ℕ → ℕ → Type 0
-IsTaken ports proto addr port = Contains ports.taken (outside proto addr port)
+IsTaken ports proto addr port = HasPort ports.words (start ports.external proto addr) port
 
 -- the new ports have this one taken, and otherwise what the old have
 abbrev pub Takes : TakenPorts → TakenPorts → Proto → ℕ → ℕ → Type 0
@@ -27,6 +36,11 @@ Takes old new proto addr port =
 abbrev pub SameTaken : TakenPorts → TakenPorts → Type 0
 SameTaken old new = (p : Proto) (a q : ℕ) → IsTaken new p a q ↔ IsTaken old p a q
 
--- whether the two are one
-unfoldable pub is_same : Outside → Outside → Bool
-is_same a b = same_proto a.proto b.proto && same_endpoint a.endpoint b.endpoint
+-- with no words yet there is room for none; then a port takes no memory, and there is room for each that a protocol has
+abbrev pub room_of : List ℕ → List ℕ → ℕ
+room_of external words = if length words == 2048 * length external then 65535 else 0
+
+-- there are no words yet, or those of each address; the bits that no port has are set
+pub record AreLaid (external words : List ℕ) : Type 0 where
+  pub size : (length words ≡ 0) ⊎ (length words ≡ 2048 * length external)
+  pub spares : (k : ℕ) → 1024 * k < length words → IsSet words (64 * (1024 * k) + spare)

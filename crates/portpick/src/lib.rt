@@ -11,7 +11,9 @@
 //! - `specs/Taken`: what a contract sees of the ports that are taken
 #![tactic(auto)]
 
+mod lanes;
 pub mod laws;
 pub mod ports;
 #[cfg(test)]
 mod tests;
+mod words;

@@ -1,22 +1,19 @@
 //! The ports that are taken, and the nearest free one.
-ghost use Rattle.std.specs.Prelude.{◌≡◌, ◌↔◌, ◌+◌, ◌*◌, ◌^◌, ◌<◌, ◌≤◌, ℕ, Bool, IsTrue, IsOk, OnOk, OnErr, IfSome, IfNone};
-ghost use Rattle.std.specs.List.{Contains};
+ghost use Rattle.std.specs.Prelude.{◌≡◌, ◌↔◌, ◌+◌, ◌*◌, ◌^◌, ◌<◌, ◌≤◌, ◌==◌, ℕ, Bool, IsTrue, IsOk, IsSome, OnOk, OnErr, IfOk, IfSome, IfNone, length};
+ghost use Rattle.std.specs.List.{Contains, position};
 ghost use Rattle.packet.specs.declared.endpoint.Proto.{Proto as Protocol};
-ghost use Rattle.portpick.specs.Taken.{IsTaken, Takes, SameTaken, outside, is_same};
-ghost use Rattle.portpick.specs.Choice.{IsAlike, IsNearest, AllTaken, IsFirstFree, IsTestOf, least, greatest, port_choice};
+ghost use Rattle.portpick.specs.Taken.{IsTaken, Takes, SameTaken, start};
+ghost use Rattle.portpick.specs.Choice.{IsAlike, IsNearest, AllTaken, IsTestOf, port_choice};
+ghost use Rattle.portpick.specs.Words.{AreFresh, fresh_word, lane_words};
 
-use packet::endpoint::{Endpoint, Proto};
+use crate::lanes::{clear_port, has_port, nearest_free, set_port};
+use packet::endpoint::Proto;
+use packet::steps::Steps;
 use std::alloc::{AllocError, Global};
 use std::marker::Model;
 
-/// An outside endpoint of a protocol.
-#[derive(Clone, Copy, Debug, PartialEq, Eq)]
-pub struct Outside {
-    /// Each protocol has ports of its own.
-    pub proto: Proto,
-    /// An external address, and a port from 1 on.
-    pub endpoint: Endpoint,
-}
+/// How many words an address has: 512 for each of the two protocols and parities.
+const WORDS: usize = 2048;
 
 /// The ports that are taken at the external addresses; each protocol has ports of its own.
 ///
@@ -24,23 +21,28 @@ pub struct Outside {
 /// ports of its own too. Which address an inside endpoint gets isn't chosen here: `pick` is asked at
 /// one. A gateway with one external address hands in that one alone. Addresses are numbers whose most
 /// significant byte is the first octet.
+///
+/// The first `reserve` or `take` asks for 16 KiB of memory for each address. From then on no call takes
+/// any.
 #[derive(Drop)]
 pub struct Ports {
+    alloc: Global,
     external: Vec<u32>,
-    taken: Vec<Outside>,
+    words: Vec<u64>,
 }
 
 impl Model for Ports {
-    ghost use Rattle.std.specs.Prelude.{◌-◌, length, vec_capacity};
-    ghost use Rattle.portpick.specs.Taken.{TakenPorts};
+    ghost use Rattle.portpick.specs.Taken.{TakenPorts, AreLaid, room_of};
 
     ghost Value = { TakenPorts };
 
     ghost view = { λ p. record {
       external = p.external.items;
-      taken = p.taken.items;
-      room = vec_capacity p.taken - length p.taken.items;
+      words = p.words.items;
+      room = room_of p.external.items p.words.items;
     } };
+
+    ghost invariant = { λ p. AreLaid p.external.items p.words.items };
 }
 
 impl Ports {
@@ -50,8 +52,9 @@ impl Ports {
         ensures none { (proto : Protocol) (addr port : ℕ) → ¬ IsTaken result proto addr port }
     {
         Ports {
+            alloc,
             external,
-            taken: Vec::new(alloc),
+            words: Vec::new(alloc),
         }
     }
 
@@ -59,7 +62,10 @@ impl Ports {
     pub fn is_taken(&self, proto: Proto, addr: u32, port: u16) -> bool
         ensures { IsTrue result ↔ IsTaken self.now proto addr port }
     {
-        self.taken.contains(&outside_at(proto, addr, port))
+        match self.start_of(proto, addr) {
+            Some(start) => has_port(&self.words, start, port),
+            None => false,
+        }
     }
 
     /// The free port that the fewest steps of two upwards reach from `port`, in its class (1..1023 or
@@ -76,7 +82,25 @@ impl Ports {
         ensures choice { (taken : ℕ → Bool) → IsTestOf taken (IsTaken self.now proto addr)
             → result ≡ port_choice taken port }
     {
-        self.nearest_free(proto, addr, port)
+        self.pick_counted(proto, addr, port).0
+    }
+
+    /// What `pick` answers, and how many words it looks at for it: at most 9 for a port below 1024, and
+    /// at most 505 for the others.
+    pub fn pick_counted(&self, proto: Proto, addr: u32, port: u16) -> (Option<u16>, Steps)
+        requires external { Contains self.now.external addr }
+        requires not_zero { 0 < port }
+        ensures nearest { IfSome result.0 (IsNearest (IsTaken self.now proto addr) port) }
+        ensures none { IfNone result.0 (AllTaken (IsTaken self.now proto addr) port) }
+        ensures keeps_class { IfSome result.0 (IsAlike port) }
+        ensures choice { (taken : ℕ → Bool) → IsTestOf taken (IsTaken self.now proto addr)
+            → result.0 ≡ port_choice taken port }
+        ensures steps_low { port < 1024 → result.1 ≤ 9 }
+        ensures steps { result.1 ≤ 505 }
+    {
+        let mut steps = Steps::none();
+        let chosen = self.nearest(proto, addr, port, &mut steps);
+        (chosen, steps)
     }
 
     /// Takes a free port of this protocol, not 0, at one of the external addresses.
@@ -96,11 +120,12 @@ impl Ports {
         ensures room_err { OnErr result (self.old.room ≤ self.new.room) }
         ensures addresses { self.new.external ≡ self.old.external }
     {
-        self.taken.push(outside_at(proto, addr, port))?;
+        self.lay_out()?;
+        self.set(proto, addr, port);
         Ok(())
     }
 
-    /// Gives a taken port of this protocol back. This takes no memory.
+    /// Gives a taken port of this protocol back. There is room then to take it again. This takes no memory.
     pub fn free(&mut self, proto: Proto, addr: u32, port: u16)
         requires external { Contains self.old.external addr }
         requires not_zero { 0 < port }
@@ -108,80 +133,121 @@ impl Ports {
         ensures others { Takes self.new self.old proto addr port }
         ensures is_free { ¬ IsTaken self.new proto addr port }
         ensures room { self.old.room ≤ self.new.room }
+        ensures room_again { 0 < self.new.room }
         ensures addresses { self.new.external ≡ self.old.external }
     {
-        let freed = outside_at(proto, addr, port);
-        self.taken
-            .retain(|outside| !is_same_outside(outside, freed));
+        match self.start_of(proto, addr) {
+            Some(start) => clear_port(&mut self.words, start, port),
+            None => unreachable!(),
+        }
     }
 
     /// Makes room for two more ports, which can then be taken without memory.
     ///
     /// # Errors
     ///
-    /// `AllocError` where memory is refused. The same ports are taken then, and no room is lost.
+    /// `AllocError` where memory is refused, and never where there is room for two already. The same
+    /// ports are taken then, and no room is lost.
     pub fn reserve(&mut self) -> Result<(), AllocError>
         ensures ok { OnOk result (2 ≤ self.new.room) }
+        ensures succeeds { 2 ≤ self.old.room → IsOk result }
         ensures same { SameTaken self.old self.new }
         ensures room { self.old.room ≤ self.new.room }
         ensures addresses { self.new.external ≡ self.old.external }
     {
-        self.taken.reserve(2)
+        self.lay_out()
     }
 
-    // The nearest free port: up from `port`, and then up from the least.
-    fn nearest_free(&self, proto: Proto, addr: u32, port: u16) -> Option<u16>
-        requires { 0 < port }
+    // Lays out the words of all addresses, if they aren't there yet.
+    fn lay_out(&mut self) -> Result<(), AllocError>
+        ensures ok { OnOk result (2 ≤ self.new.room) }
+        ensures succeeds { 0 < self.old.room → IsOk result }
+        ensures same { SameTaken self.old self.new }
+        ensures room { self.old.room ≤ self.new.room }
+        ensures addresses { self.new.external ≡ self.old.external }
+    {
+        if !self.words.is_empty() || self.external.is_empty() {
+            return Ok(());
+        }
+        let Some(count) = self.external.len().checked_mul(WORDS) else {
+            return Err(AllocError);
+        };
+        self.words = fresh_words(self.alloc, count)?;
+        Ok(())
+    }
+
+    // Takes a port once the words are there.
+    fn set(&mut self, proto: Proto, addr: u32, port: u16)
+        requires external { Contains self.old.external addr }
+        requires not_zero { 0 < port }
+        requires room { 0 < self.old.room }
+        ensures takes { Takes self.old self.new proto addr port }
+        ensures room { self.new.room ≡ self.old.room }
+        ensures addresses { self.new.external ≡ self.old.external }
+    {
+        match self.start_of(proto, addr) {
+            Some(start) => set_port(&mut self.words, start, port),
+            None => unreachable!(),
+        }
+    }
+
+    // The nearest free port. Where there are no words yet, it is the port itself.
+    fn nearest(&self, proto: Proto, addr: u32, port: u16, steps: &mut Steps) -> Option<u16>
+        requires external { Contains self.now.external addr }
+        requires not_zero { 0 < port }
+        requires none { steps.old ≡ 0 }
         ensures nearest { IfSome result (IsNearest (IsTaken self.now proto addr) port) }
         ensures none { IfNone result (AllTaken (IsTaken self.now proto addr) port) }
+        ensures steps { steps.new ≤ lane_words port + 1 }
     {
-        let (low, high) = bounds(port);
-        if let Some(found) = self.first_free(proto, addr, port, (high - port) / 2 + 1) {
-            return Some(found);
+        match self.start_of(proto, addr) {
+            Some(start) => nearest_free(&self.words, start, port, steps),
+            None => Some(port),
         }
-        self.first_free(proto, addr, low, (port - low) / 2)
     }
 
-    // The first free port of `count` ports, two apart.
-    fn first_free(&self, proto: Proto, addr: u32, low: u16, count: u16) -> Option<u16>
-        requires { low + 2 * count < 2 ^ 16 + 2 }
-        ensures found { IfSome result (IsFirstFree (IsTaken self.now proto addr) low count) }
-        ensures none { IfNone result ((n : ℕ) → n < count → IsTaken self.now proto addr (low + 2 * n)) }
+    // The first word of the protocol at the address, where there are words.
+    fn start_of(&self, proto: Proto, addr: u32) -> Option<usize>
+        ensures found { IfSome result (λ at. at ≡ start self.now.external proto addr) }
+        ensures fits { IfSome result (λ at. at + 1024 ≤ length self.now.words) }
+        ensures none { IfNone result ((port : ℕ) → ¬ IsTaken self.now proto addr port) }
+        ensures room { Contains self.now.external addr → 0 < self.now.room → IsSome result }
     {
-        for n in 0..count {
-            let port = low + 2 * n;
-            if !self.is_taken(proto, addr, port) {
-                return Some(port);
-            }
+        if self.words.is_empty() {
+            return None;
         }
-        None
+        let index = place_among(&self.external, addr)?;
+        match proto {
+            Proto::Tcp => Some(index * WORDS),
+            Proto::Udp => Some(index * WORDS + WORDS / 2),
+        }
     }
 }
 
-fn outside_at(proto: Proto, addr: u32, port: u16) -> Outside
-    ensures { result ≡ outside proto addr port }
+// Where the address comes first among these.
+fn place_among(addresses: &[u32], addr: u32) -> Option<usize>
+    ensures { result ≡ position (λ x. x == addr) addresses.now }
 {
-    let endpoint = Endpoint { addr, port };
-    Outside { proto, endpoint }
+    addresses.iter().position(|other| *other == addr)
 }
 
-// The least and the greatest port of the class and parity.
-fn bounds(port: u16) -> (u16, u16)
-    requires { 0 < port }
-    ensures low { result.0 ≡ least port }
-    ensures high { result.1 ≡ greatest port }
+fn fresh_words(alloc: Global, count: usize) -> Result<Vec<u64>, AllocError>
+    ensures { IfOk result (λ words. AreFresh words.items count) }
 {
-    let odd = port % 2;
-    if port < 1024 {
-        (2 - odd, 1022 + odd)
+    let mut words = Vec::with_capacity(alloc, count)?;
+    for number in 0..count {
+        words.push(fresh_word(number))?;
+    }
+    Ok(words)
+}
+
+// Bit 63 of the sixteenth of 1,024 words stands for no port.
+fn fresh_word(number: usize) -> u64
+    ensures { result ≡ fresh_word number }
+{
+    if number % (WORDS / 2) == 15 {
+        1 << 63
     } else {
-        (1024 + odd, 65_534 + odd)
+        0
     }
-}
-
-#[tactic(auto, unfolding(crate::specs::Taken::is_same))]
-fn is_same_outside(a: &Outside, b: Outside) -> bool
-    ensures { result ≡ is_same a.now b }
-{
-    *a == b
 }
