@@ -57,6 +57,17 @@ fn assign_two(
     Ok((first, second))
 }
 
+// Frees the port, if it is taken.
+fn give_back(ports: &mut Ports, port: u16)
+    requires external { Contains ports.old.external 3405803777 }
+    requires not_zero { 0 < port }
+    ensures addresses { ports.new.external ≡ ports.old.external }
+{
+    if ports.is_taken(Proto::Udp, FIRST, port) {
+        ports.free(Proto::Udp, FIRST, port);
+    }
+}
+
 #[test]
 fn second_host_gets_the_next_port(rt: HostRuntime) -> Result<(), AllocError> {
     let mut ports = two_addresses(rt.alloc())?;
@@ -84,9 +95,7 @@ fn all_odd_low_ports_taken(rt: HostRuntime) -> Result<(), AllocError> {
     let even = assign(&rt, &mut ports, Proto::Udp, FIRST, 8)?;
     assert_eq!(rt; none, None);
     assert_eq!(rt; even, Some(8));
-    if ports.is_taken(Proto::Udp, FIRST, 9) {
-        ports.free(Proto::Udp, FIRST, 9);
-    }
+    give_back(&mut ports, 9);
     let freed = assign(&rt, &mut ports, Proto::Udp, FIRST, 7)?;
     assert_eq!(rt; freed, Some(9));
     Ok(())
