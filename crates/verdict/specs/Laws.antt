@@ -14,7 +14,7 @@ use Rattle.ruletext.specs.Calls.{OfSome}
 use Rattle.ruletext.specs.Runnable.{IsRunnable}
 use Rattle.ruletext.specs.Texts.{Loads}
 use Rattle.verdict.specs.declared.facts.Facts.{Facts}
-use Rattle.verdict.specs.declared.hook.Filtering.TheVariants as filterings
+use Rattle.verdict.specs.declared.hook.Forwarding.TheVariants as forwardings
 use Rattle.verdict.specs.declared.hook.Destination.TheVariants as destinations
 use Rattle.verdict.specs.declared.hook.Source.TheVariants as sources
 use Rattle.rulesyntax.specs.declared.tree.Hook.TheVariants.{Forward}
@@ -28,7 +28,7 @@ use Rattle.verdict.specs.Hooks.{bases_of, base_outcome, forward_verdict, prerout
 abbrev pub NoRulesPass : Type 0
 NoRulesPass =
     (config : Config) (facts : Facts) (text : Spelled) → text.tables ≡ []
-    → (forward_verdict config facts text ≡ filterings.Pass)
+    → (forward_verdict config facts text ≡ forwardings.Pass)
     × (prerouting_verdict config facts text ≡ destinations.None)
     × (postrouting_verdict config facts text ≡ sources.None)
 
@@ -36,7 +36,7 @@ NoRulesPass =
 abbrev pub PassesWhereAllAccept : Type 0
 PassesWhereAllAccept =
     (config : Config) (facts : Facts) (text : Spelled)
-    → (forward_verdict config facts text ≡ filterings.Pass) ↔ OfEach (λ base. base_outcome config facts base ≡ Accepts) (bases_of Forward text.tables)
+    → (forward_verdict config facts text ≡ forwardings.Pass) ↔ OfEach (λ base. base_outcome config facts base ≡ Accepts) (bases_of Forward text.tables)
 
 -- a rule of the chain may jump or go to this name
 abbrev pub Calls : Chain → List ℕ → Type 0
