@@ -61,7 +61,7 @@ impl Set {
     pub fn intervals(&self) -> &[Element]
         ensures { result.now ≡ self.now }
     {
-        &self.intervals
+        self.intervals.as_slice()
     }
 
     /// Whether the value lies in one of the elements. Takes no memory.
