@@ -17,8 +17,8 @@ use Rattle.verdict.specs.Hooks.{forward_verdict, prerouting_verdict}
 use Rattle.verdict.specs.declared.facts.State.TheVariants.{New}
 use Rattle.verdict.specs.declared.hook.Destination.{Destination}
 use Rattle.verdict.specs.declared.hook.Destination.TheVariants as destination
-use Rattle.verdict.specs.declared.hook.Filtering.{Filtering}
-use Rattle.verdict.specs.declared.hook.Filtering.TheVariants as filtering
+use Rattle.verdict.specs.declared.hook.Forwarding.{Forwarding}
+use Rattle.verdict.specs.declared.hook.Forwarding.TheVariants as forwarding
 use Rattle.hairpin.specs.Legs.{Passage, begun_in, counted, facts_of, in_by, in_leg, inside_by_rules, inside_for, inward, maps_outside, needs_session, new_session, or_no_mapping, passed_by, state_of, then_with, unless_dropped}
 use Rattle.hairpin.specs.Plans.{IsPlanOf, MayBegin}
 use Rattle.hairpin.specs.Sound.{KeepBounds}
@@ -65,7 +65,7 @@ module _ (config : Config) (rules : Spelled) (held : List (Option Session)) (now
   abbrev pub plan : Plan
   plan = record { first = Begin begun; second = None; src = view.src; dst = inside; iface = Lan }
 
-  abbrev pub filtered : Filtering
+  abbrev pub filtered : Forwarding
   filtered = forward_verdict config (facts_of config rules (listing held) now view Wan (Some Lan) view.src inside New) rules
 
   abbrev pub way : Result Passage Cause
@@ -81,18 +81,18 @@ module _ (config : Config) (rules : Spelled) (held : List (Option Session)) (now
     asked : way ≡ unless_dropped filtered behind
     asked = ap (λ b. if b then Err Clash else unless_dropped filtered behind) (ap is_some (none_found held begun apart))
 
-    pub begun-dropped : filtered ≡ filtering.Drop → way ≡ Err Rule
+    pub begun-dropped : filtered ≡ forwarding.Drop → way ≡ Err Rule
     begun-dropped is = asked ∙ ap (λ f. unless_dropped f behind) is
 
     counts : length (put begun (listing held)) ≡ count_by is_some held + 1
     counts = put-more begun (listing held) (no_clash begun (listing held) (none_found held begun apart)) ∙ ap (λ n. n + 1) (length-listing held)
 
-    pub begun-full : filtered ≡ filtering.Pass → count_by is_some held ≡ 65536 → way ≡ Err TableFull
+    pub begun-full : filtered ≡ forwarding.Pass → count_by is_some held ≡ 65536 → way ≡ Err TableFull
     begun-full is full =
         let many : nat_lt 65536 (length (put begun (listing held))) ≡ true = lt-ltb 65536 (length (put begun (listing held))) (omega (arith, counts, full)) in
         asked ∙ ap (λ f. unless_dropped f behind) is ∙ ap (λ b. if b then Err TableFull else Ok (inward begun)) many
 
-    pub begun-passes : filtered ≡ filtering.Pass → length (listing held) ≤ 65536 → count_by is_some held ≢ 65536 → way ≡ Ok (inward begun)
+    pub begun-passes : filtered ≡ forwarding.Pass → length (listing held) ≤ 65536 → count_by is_some held ≢ 65536 → way ≡ Ok (inward begun)
     begun-passes is most few =
         let same = length-listing held in
         let below : count_by is_some held < 65536 = omega (arith, same, most, few) in

@@ -26,8 +26,8 @@ use Rattle.sessions.proofs.Puts.{has_inside-true, length-listing}
 use Rattle.sessions.proofs.Sets.{In-filter, In-insert, In-listing, filter-In, insert-In, listing-In}
 use Rattle.verdict.specs.Hooks.{forward_verdict, prerouting_verdict}
 use Rattle.verdict.specs.declared.facts.State.TheVariants.{New}
-use Rattle.verdict.specs.declared.hook.Filtering.{Filtering}
-use Rattle.verdict.specs.declared.hook.Filtering.TheVariants as filtering
+use Rattle.verdict.specs.declared.hook.Forwarding.{Forwarding}
+use Rattle.verdict.specs.declared.hook.Forwarding.TheVariants as forwarding
 use Rattle.hairpin.specs.Legs.{Passage, begun_second, counted, facts_of, first_by, first_state, forwarded, inside_by_rules, inside_far, is_taken, maps_inside, maps_outside, needs_session, new_session, or_no_port, outside_near, passed_by, second, second_by, then_with, through, unless_dropped}
 use Rattle.hairpin.specs.Plans.{Gives, GivesThen, IsOf, Plans}
 use Rattle.sessions.specs.Sound.{AreSound}
@@ -210,9 +210,9 @@ news-is : (b : Option Held) → option_map_or (λ (h : Held). 0) b 1 ≡ fresh (
 news-is None = refl
 news-is (Some h) = refl
 
-dropped : (d : Filtering) → d ≢ filtering.Pass → d ≡ filtering.Drop
-dropped filtering.Pass away = absurd (away refl)
-dropped filtering.Drop away = refl
+dropped : (d : Forwarding) → d ≢ forwarding.Pass → d ≡ forwarding.Drop
+dropped forwarding.Pass away = absurd (away refl)
+dropped forwarding.Drop away = refl
 
 module _ (config : Config) (rules : Spelled) (held : List (Option Session)) (now : ℕ) (view : View) (is_one : is_config config ≡ true) (sound : AreSound config (listing held))
     (inside : is_inside config view.src.addr ≡ true) (at : view.dst.addr ≡ config.external) (ports : (0 < view.src.port) × (0 < view.dst.port)) (first : Session) (b1 : Option Held)
@@ -246,21 +246,21 @@ module _ (config : Config) (rules : Spelled) (held : List (Option Session)) (now
     drops_second cause e = other_way (Err cause) (subst (λ r. Plans config.external held now (Err cause) (then_with r next)) (sym e) refl)
 
     module _ (t : Session) (ok2 : second_by config rules L now view first (put first L) found2 ≡ Ok t) where
-      abbrev decided : Filtering
+      abbrev decided : Forwarding
       decided = forward_verdict config (facts_of config rules L now view Lan (Some Lan) view.src t.inside (first_state config rules L now view (option_map (λ (h : Held). h.session) b1))) rules
 
       abbrev end : Result Passage Cause
       end = counted config rules L now view (through first t)
 
-      behind : (result : Result Plan Cause) (d : Filtering) → decided ≡ d → Plans config.external held now result (unless_dropped d end) → Plans config.external held now result way
+      behind : (result : Result Plan Cause) (d : Forwarding) → decided ≡ d → Plans config.external held now result (unless_dropped d end) → Plans config.external held now result way
       behind result d e plans = other_way result (subst (λ r. Plans config.external held now result (then_with r next)) (sym ok2)
           (subst (λ o. Plans config.external held now result (forwarded config rules L now view Lan Lan view.src t.inside (first_state config rules L now view o) end)) e1
           (subst (λ v. Plans config.external held now result (unless_dropped v end)) (sym e) plans)))
 
-      pub drops_rule : decided ≢ filtering.Pass → Plans config.external held now (Err Rule) way
-      drops_rule other = behind (Err Rule) filtering.Drop (dropped decided other) refl
+      pub drops_rule : decided ≢ forwarding.Pass → Plans config.external held now (Err Rule) way
+      drops_rule other = behind (Err Rule) forwarding.Drop (dropped decided other) refl
 
-      module _ (passes : decided ≡ filtering.Pass) (b2 : Option Held) (e2 : option_map (λ (h : Held). h.session) b2 ≡ find (has_outside view.proto view.dst first.outside) L) where
+      module _ (passes : decided ≡ forwarding.Pass) (b2 : Option Held) (e2 : option_map (λ (h : Held). h.session) b2 ≡ find (has_outside view.proto view.dst first.outside) L) where
         is-second : IsSecond config rules (put first L) view now (option_map (λ (h : Held). h.session) b2) t
         is-second = subst (λ o. IsSecond config rules (put first L) view now o t) (has-other first L is-first.keeps view.proto view.dst first.outside away ∙ sym e2)
             (second-is config rules L now view at ports.1 first (put first L) (Rises-put first L sound.rises) (put-In first L) found2 refl t ok2)
@@ -271,7 +271,7 @@ module _ (config : Config) (rules : Spelled) (held : List (Option Session)) (now
             omega (arith, one, is-second.many, length-listing held, news-is b1, news-is b2)
 
         pub drops_full : 65536 < count_by is_some held + option_map_or (λ (h : Held). 0) b1 1 + option_map_or (λ (h : Held). 0) b2 1 → Plans config.external held now (Err TableFull) way
-        drops_full many = behind (Err TableFull) filtering.Pass passes
+        drops_full many = behind (Err TableFull) forwarding.Pass passes
             (subst (λ b. Plans config.external held now (Err TableFull) (if b then Err TableFull else Ok (through first t))) (sym (lt-ltb 65536 (length (put t (put first L))) (omega (arith, many, total)))) refl)
 
         module _ (change1 change2 : Change) (slot1 : IfSome b1 (λ h. get_or held h.slot None ≡ Some h.session)) (slot2 : IfSome b2 (λ h. get_or held h.slot None ≡ Some h.session))
@@ -284,7 +284,7 @@ module _ (config : Config) (rules : Spelled) (held : List (Option Session)) (now
               let less : length (put first L) ≤ 65536 = omega (arith, most, is-second.many) in
               let gives = first-gives config held now view first change1 b1 (subst (λ o. IsFirst config L view now o first) (sym e1) is-first) slot1 goes1 begins1 less in
               let gives2 = second-gives config rules held now view first t change2 change1 b2 at ports.1 away e2 is-second slot2 goes2 begins2 most gives in
-              behind (Ok (record { first = change1; second = Some change2; src = first.outside; dst = t.inside; iface = Lan })) filtering.Pass passes
+              behind (Ok (record { first = change1; second = Some change2; src = first.outside; dst = t.inside; iface = Lan })) forwarding.Pass passes
               (subst (λ b. Plans config.external held now (Ok (record { first = change1; second = Some change2; src = first.outside; dst = t.inside; iface = Lan })) (if b then Err TableFull else Ok (through first t)))
               (sym (le-ltb 65536 (length (put t (put first L))) most))
               (record { sessions = (first, t, gives, gives2, refl); src = refl; dst = refl; iface = refl }))

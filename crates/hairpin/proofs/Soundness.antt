@@ -17,8 +17,8 @@ use Rattle.sessions.proofs.Held.{Clash-sym}
 use Rattle.sessions.proofs.LifeLemmas.{IsSeen-or}
 use Rattle.sessions.proofs.Puts.{flow-keys, has_inside-true, keys-flow, length-insert}
 use Rattle.sessions.proofs.Sets.{same_key, In-filter, In-insert, Rises-filter, Rises-insert, below-itself, below-keys, filter-In, insert-In}
-use Rattle.verdict.specs.declared.hook.Filtering.{Filtering}
-use Rattle.verdict.specs.declared.hook.Filtering.TheVariants as filtering
+use Rattle.verdict.specs.declared.hook.Forwarding.{Forwarding}
+use Rattle.verdict.specs.declared.hook.Forwarding.TheVariants as forwarding
 use Rattle.hairpin.specs.Legs.{Passage, passed_by, put_all, unless_dropped}
 use Rattle.sessions.specs.Sound.{AreSound, IsPlaced}
 use Rattle.hairpin.specs.declared.cause.Cause.{Cause}
@@ -198,9 +198,9 @@ IsFine config sessions now (Err cause) = Unit {0}
 IsFine config sessions now (Ok passage) = JoinAll config sessions now passage.sessions
 
 -- what passes or is dropped is fine where what passes is
-pub fine-filtered : (config : Config) (sessions : List Session) (now : ℕ) (verdict : Filtering) (way : Result Passage Cause) → IsFine config sessions now way → IsFine config sessions now (unless_dropped verdict way)
-fine-filtered config sessions now filtering.Drop way fine = tt
-fine-filtered config sessions now filtering.Pass way fine = fine
+pub fine-filtered : (config : Config) (sessions : List Session) (now : ℕ) (verdict : Forwarding) (way : Result Passage Cause) → IsFine config sessions now way → IsFine config sessions now (unless_dropped verdict way)
+fine-filtered config sessions now forwarding.Drop way fine = tt
+fine-filtered config sessions now forwarding.Pass way fine = fine
 
 module _ (config : Config) (sessions : List Session) (now : ℕ) (t : Session) (joins : Joins config sessions now t) where
   keeps-each : (u : Session) → Member u sessions → (v : Session) × Member v (put t sessions) × (v.proto ≡ u.proto) × (v.inside ≡ u.inside) × (v.outside ≡ u.outside)

@@ -24,8 +24,8 @@ use Rattle.verdict.specs.declared.facts.State.{State}
 use Rattle.verdict.specs.declared.facts.State.TheVariants.{New, Established}
 use Rattle.verdict.specs.declared.hook.Destination.{Destination}
 use Rattle.verdict.specs.declared.hook.Destination.TheVariants as destination
-use Rattle.verdict.specs.declared.hook.Filtering.{Filtering}
-use Rattle.verdict.specs.declared.hook.Filtering.TheVariants as filtering
+use Rattle.verdict.specs.declared.hook.Forwarding.{Forwarding}
+use Rattle.verdict.specs.declared.hook.Forwarding.TheVariants as forwarding
 use Rattle.verdict.specs.declared.hook.Source.{Source}
 use Rattle.verdict.specs.declared.hook.Source.TheVariants as source
 use Rattle.hairpin.specs.Translations.{endpoint}
@@ -88,9 +88,9 @@ put_all (t ∷ ts) sessions = put_all ts (put t sessions)
 
 -- ---- what the rules are asked
 
-abbrev pub unless_dropped : {A : Type 0} → Filtering → Result A Cause → Result A Cause
-unless_dropped filtering.Drop way = Err Rule
-unless_dropped filtering.Pass way = way
+abbrev pub unless_dropped : {A : Type 0} → Forwarding → Result A Cause → Result A Cause
+unless_dropped forwarding.Drop way = Err Rule
+unless_dropped forwarding.Pass way = way
 
 abbrev pub or_no_port : Option Endpoint → Result Endpoint Cause
 or_no_port None = Err NoPort

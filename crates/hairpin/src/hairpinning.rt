@@ -26,7 +26,7 @@ use packet::bounds::Bounds;
 use packet::endpoint::{Endpoint, Flags, Iface};
 use packet::view::View;
 use sessions::{Change, MOST_SESSIONS, Opener, Session, Table};
-use verdict::{Destination, Filtering, Rules, State, forward, prerouting};
+use verdict::{Destination, Forwarding, Rules, State, forward, prerouting};
 
 /// How a packet passes from an inside endpoint (its source) to an outside endpoint of the gateway (its
 /// destination, at the external address) and on to the inside endpoint that this stands for, at a moment in
@@ -307,12 +307,12 @@ fn second_leg(
 }
 
 fn is_forwarded(bounds: &Bounds, rules: &Rules, view: &View, dst: Endpoint, state: State) -> bool
-    ensures { IsTrue result ↔ (forward_verdict bounds.now (record { iif = Iface.Lan; oif = Some Iface.Lan; src = view.now.src; dst = dst; proto = view.now.proto; state = state }) rules.now ≡ Filtering.Pass) }
+    ensures { IsTrue result ↔ (forward_verdict bounds.now (record { iif = Iface.Lan; oif = Some Iface.Lan; src = view.now.src; dst = dst; proto = view.now.proto; state = state }) rules.now ≡ Forwarding.Pass) }
 {
     let facts = facts_of(view, Iface::Lan, Some(Iface::Lan), dst, state);
     match forward(rules, bounds, &facts) {
-        Filtering::Pass => true,
-        Filtering::Drop => false,
+        Forwarding::Pass => true,
+        Forwarding::Drop => false,
     }
 }
 

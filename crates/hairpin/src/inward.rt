@@ -20,7 +20,7 @@ use packet::bounds::Bounds;
 use packet::endpoint::{Endpoint, Iface};
 use packet::view::View;
 use sessions::{Change, MOST_SESSIONS, Opener, Table};
-use verdict::{Destination, Filtering, Rules, State, forward, prerouting};
+use verdict::{Destination, Forwarding, Rules, State, forward, prerouting};
 
 // How a packet of a session comes in.
 fn known_in(bounds: &Bounds, rules: &Rules, found: &Held, view: &View) -> Result<Plan, Cause>
@@ -31,8 +31,8 @@ fn known_in(bounds: &Bounds, rules: &Rules, found: &Held, view: &View) -> Result
     let state = state_of(session, Opener::Remote, view.flags);
     let facts = facts_of(view, Iface::Wan, Some(Iface::Lan), session.inside, state);
     match forward(rules, bounds, &facts) {
-        Filtering::Drop => Err(Cause::Rule),
-        Filtering::Pass => Ok(Plan {
+        Forwarding::Drop => Err(Cause::Rule),
+        Forwarding::Pass => Ok(Plan {
             first: change_of(found, Opener::Remote, view.flags),
             second: None,
             src: session.remote,
@@ -87,8 +87,8 @@ fn begins(
     }
     let facts = facts_of(view, Iface::Wan, Some(Iface::Lan), inside, State::New);
     match forward(rules, bounds, &facts) {
-        Filtering::Drop => Err(Cause::Rule),
-        Filtering::Pass => {
+        Forwarding::Drop => Err(Cause::Rule),
+        Forwarding::Pass => {
             if table.count() == MOST_SESSIONS {
                 return Err(Cause::TableFull);
             }

@@ -19,7 +19,7 @@ use packet::bounds::Bounds;
 use packet::endpoint::{Endpoint, Flags, Iface};
 use packet::view::View;
 use sessions::{Change, MOST_SESSIONS, Opener, Session, Table};
-use verdict::{Facts, Filtering, Rules, Source, State, forward, postrouting};
+use verdict::{Facts, Forwarding, Rules, Source, State, forward, postrouting};
 
 /// How a packet goes out from an inside endpoint (its source) to a remote one, at a moment in seconds.
 ///
@@ -60,8 +60,8 @@ fn known_out(bounds: &Bounds, rules: &Rules, found: &Held, view: &View) -> Resul
 {
     let state = state_of(&found.session, Opener::Inside, view.flags);
     match forward(rules, bounds, &facts_out(view, state)) {
-        Filtering::Drop => Err(Cause::Rule),
-        Filtering::Pass => Ok(plan_of(found, view.flags)),
+        Forwarding::Drop => Err(Cause::Rule),
+        Forwarding::Pass => Ok(plan_of(found, view.flags)),
     }
 }
 
@@ -85,8 +85,8 @@ fn new_out(
         return Err(Cause::NoSession);
     }
     match forward(rules, bounds, &facts_out(view, State::New)) {
-        Filtering::Drop => Err(Cause::Rule),
-        Filtering::Pass => begun_out(bounds, rules, table, translations, view, now),
+        Forwarding::Drop => Err(Cause::Rule),
+        Forwarding::Pass => begun_out(bounds, rules, table, translations, view, now),
     }
 }
 

@@ -22,7 +22,7 @@ use Rattle.sessions.specs.declared.session.Opener.TheVariants.{Inside, Remote}
 use Rattle.verdict.specs.Hooks.{forward_verdict}
 use Rattle.verdict.specs.declared.facts.State.{State as Connection}
 use Rattle.verdict.specs.declared.facts.State.TheVariants.{New}
-use Rattle.verdict.specs.declared.hook.Filtering.TheVariants.{Pass}
+use Rattle.verdict.specs.declared.hook.Forwarding.TheVariants.{Pass}
 use Rattle.hairpin.specs.Legs.{Passage, needs_session, put_all, state_of}
 use Rattle.machine.specs.Judged.{Judged, AreJudged, IsJudged, IsNoLoad}
 use Rattle.machine.specs.Machine.{State, aged, empty_at, later, leg, step, after}

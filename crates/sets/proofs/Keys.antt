@@ -46,7 +46,7 @@ kinds_differ_too a b (Fact.Name n, p, q) = absurd q
 
 module _ {V : Type 0} (fact : Fact) where
   -- of two keys that hold a fact one is the other
-  one_key : (pairs : List (Pair V)) → ¬ Overlaps pairs → (i j : ℕ) (p q : Pair V) → i < length pairs → j < length pairs
+  pub one_key : (pairs : List (Pair V)) → ¬ Overlaps pairs → (i j : ℕ) (p q : Pair V) → i < length pairs → j < length pairs
       → slice_index_or pairs i p ≡ p → slice_index_or pairs j q ≡ q → IsIn fact p.key → IsIn fact q.key → p ≡ q
   unfolding Share
   one_key [] apart i j p q li lj pi qj hp hq = absurd (omega arith)

@@ -23,14 +23,14 @@ then_equal Less = refl
 then_equal Equal = refl
 then_equal Greater = refl
 
-not_less : (x y : ℕ) → is_lt (ordering_then (nat_cmp x y) Equal) ≡ false → y ≤ x
+pub not_less : (x y : ℕ) → is_lt (ordering_then (nat_cmp x y) Equal) ≡ false → y ≤ x
 not_less x y h = by_ranked (x < y) (x ≡ y) (y < x) (nat_cmp x y) (ranked x y _ refl)
     (λ e lt. absurd (false≢true (sym h ∙ ap (λ o. is_lt (ordering_then o Equal)) e)))
     (λ e eq. omega arith)
     (λ e gt. omega arith)
 
 -- lists of which none stands before the other are the same
-neither_less : (xs ys : List ℕ) → is_lt (slice_cmp nat_cmp xs ys) ≡ false → is_lt (slice_cmp nat_cmp ys xs) ≡ false → xs ≡ ys
+pub neither_less : (xs ys : List ℕ) → is_lt (slice_cmp nat_cmp xs ys) ≡ false → is_lt (slice_cmp nat_cmp ys xs) ≡ false → xs ≡ ys
 neither_less [] [] h k = refl
 neither_less [] (y ∷ ys) h k = absurd (false≢true (sym h))
 neither_less (x ∷ xs) [] h k = absurd (false≢true (sym k))
@@ -94,7 +94,7 @@ moved_below a b i n la lb li = elim (moved_cases a b i) [
   | inr (inr (na, nb, m)) ↦ rw m li
 ]
 
-same_in_range : {X : Type 0} (xs : List X) (k : ℕ) (d e : X) → k < length xs → slice_index_or xs k d ≡ slice_index_or xs k e
+pub same_in_range : {X : Type 0} (xs : List X) (k : ℕ) (d e : X) → k < length xs → slice_index_or xs k d ≡ slice_index_or xs k e
 same_in_range [] k d e lt = absurd (omega arith)
 same_in_range (x ∷ xs) zero d e lt = refl
 same_in_range (x ∷ xs) (suc k) d e lt = same_in_range xs k d e (omega arith)
@@ -107,7 +107,7 @@ module _ {V : Type 0} where
   places (x ∷ xs) (inl (k, q, lt, is, s)) = (0, suc k, x, q, omega arith, omega arith, refl, is, s)
   places (x ∷ xs) (inr o) = let (i, j, p, q, lt, lj, pi, qj, s) = places xs o in (suc i, suc j, p, q, omega arith, omega arith, pi, qj, s)
 
-  at_places : (xs : List (Pair V)) (i j : ℕ) (p q : Pair V) → i < j → j < length xs → slice_index_or xs i p ≡ p → slice_index_or xs j q ≡ q → Share p.key q.key → Overlaps xs
+  pub at_places : (xs : List (Pair V)) (i j : ℕ) (p q : Pair V) → i < j → j < length xs → slice_index_or xs i p ≡ p → slice_index_or xs j q ≡ q → Share p.key q.key → Overlaps xs
   at_places [] i j p q lt lj pi qj s = absurd (omega arith)
   at_places (x ∷ xs) i zero p q lt lj pi qj s = absurd (omega arith)
   at_places (x ∷ xs) zero (suc j) p q lt lj pi qj s = inl (j, q, omega arith, qj, subst (λ (y : Pair V). Share y.key q.key) (sym pi) s)

@@ -1,8 +1,9 @@
--- What follows for unions and for ranges.
+-- What follows for unions, for ranges and for keys.
 use Rattle.std.specs.Prelude.{◌≡◌, ◌⊎◌, ◌↔◌, ℕ, ◌+◌, ◌≤◌, List, [], ◌++◌}
 use Rattle.sets.specs.declared.element.Range.{Range}
 use Rattle.sets.specs.declared.element.Element.{Element}
-use Rattle.sets.specs.Members.{Fact, IsWithin, IsMember, Share}
+use Rattle.sets.specs.declared.element.Pair.{Pair}
+use Rattle.sets.specs.Members.{Fact, IsWithin, IsMember, Share, Leads, Overlaps}
 
 abbrev pub NoneHoldNothing : Type 0
 NoneHoldNothing = (fact : Fact) → ¬ IsMember fact []
@@ -16,3 +17,7 @@ AdjoiningIsJoined = (one next joined : Range) → next.low ≡ one.high + 1 → 
 
 abbrev pub RangesShare : Type 0
 RangesShare = (one other : Range) → Share (Element.Numbers one) (Element.Numbers other) ↔ ((one.low ≤ other.high) × (other.low ≤ one.high))
+
+module _ (V : Type 0) where
+  abbrev pub LeadsToOne : Type 0
+  LeadsToOne = (pairs : List (Pair V)) → ¬ Overlaps pairs → (fact : Fact) (one other : V) → Leads fact one pairs → Leads fact other pairs → one ≡ other

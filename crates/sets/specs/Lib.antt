@@ -1,3 +1,5 @@
+pub mod Intervals
+pub mod Joining
 pub mod Laws
 pub mod Members
 pub mod Order

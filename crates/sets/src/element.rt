@@ -1,9 +1,10 @@
 //! Values, and the ranges and names that they are compared with.
 ghost use Rattle.std.specs.Prelude.{◌≤◌};
 
-use crate::parts::{are_same, meet};
+use crate::parts::{are_same, beside, meet};
 use packet::bounds::size_of_prefix;
 use packet::endpoint::Prefix;
+use std::cmp::Ordering;
 
 /// What a packet has where a match looks.
 #[derive(Clone, Copy, Debug, PartialEq, Eq, Drop)]
@@ -82,20 +83,27 @@ impl Range {
 
 impl Element {
     ghost use Rattle.std.specs.Prelude.{◌↔◌, IsTrue};
+    ghost use Rattle.sets.specs.Intervals.{Stands};
     ghost use Rattle.sets.specs.Members.{fact_of, IsIn, Share};
 
+    /// Where the value stands beside the element: before it (`Less`), in it (`Equal`) or behind it. Numbers
+    /// stand before names, and names by their bytes.
+    pub fn compare(&self, value: Value<'_>) -> Ordering
+        ensures { Stands result (fact_of value.entry) self.now }
+    {
+        match (value, self) {
+            (Value::Number(number), Element::Numbers(range)) => beside(number, *range),
+            (Value::Number(_), Element::Name(_)) => Ordering::Less,
+            (Value::Name(_), Element::Numbers(_)) => Ordering::Greater,
+            (Value::Name(name), Element::Name(own)) => name.cmp(own.as_slice()),
+        }
+    }
+
     /// Whether the value lies in the element. Names are compared by their bytes.
-    #[tactic(auto, unfolding(crate::specs::Members::fact_of, crate::specs::Members::IsIn))]
     pub fn holds(&self, value: Value<'_>) -> bool
         ensures { IsTrue result ↔ IsIn (fact_of value.entry) self.now }
     {
-        match (value, self) {
-            (Value::Number(number), Element::Numbers(range)) => {
-                range.low <= number && number <= range.high
-            }
-            (Value::Name(name), Element::Name(own)) => name == own.as_slice(),
-            _ => false,
-        }
+        matches!(self.compare(value), Ordering::Equal)
     }
 
     /// Whether some value lies in both. A number and a name never share one.

@@ -1,5 +1,5 @@
 //! What follows from the definitions: each function is proved to meet its clause.
-ghost use Rattle.sets.specs.Laws.{NoneHoldNothing, UnionHoldsBoth, AdjoiningIsJoined, RangesShare};
+ghost use Rattle.sets.specs.Laws.{NoneHoldNothing, UnionHoldsBoth, AdjoiningIsJoined, RangesShare, LeadsToOne};
 
 /// The union of no elements holds nothing.
 pub fn none_hold_nothing()
@@ -19,4 +19,9 @@ pub fn adjoining_is_joined()
 /// Two ranges share a number exactly where neither ends before the other begins.
 pub fn ranges_share()
     ensures { RangesShare }
+{}
+
+/// Where no two keys share a value, a value leads to one verdict.
+pub fn leads_to_one<V>()
+    ensures { LeadsToOne V }
 {}

@@ -5,16 +5,19 @@
 //! verdict map leads each of its keys, of which no two share a value, to a verdict.
 //!
 //! - `element`: values, ranges, prefixes as ranges, and elements; `parts`: what these are tested by.
-//! - `set`: `Set`, a union of elements.
-//! - `vmap`: `Vmap`, keys with their verdicts.
+//! - `set`: `Set`, a union of elements, kept as intervals in order; `joining`: how touching ones become one.
+//! - `vmap`: `Vmap`, keys with their verdicts, in order.
+//! - `search`: the search by halving in either.
 //! - `fault`: why a set or a map can't be made.
 //! - `laws`: what follows for unions and keys.
 #![tactic(auto)]
 
 pub mod element;
 pub mod fault;
+mod joining;
 pub mod laws;
 mod parts;
+mod search;
 pub mod set;
 #[cfg(test)]
 mod tests;

@@ -1,7 +1,22 @@
 //! The tests that elements are compared by.
 ghost use Rattle.std.specs.Prelude.{◌≡◌, ◌↔◌, ◌≤◌, IsTrue};
+ghost use Rattle.sets.specs.Intervals.{StandsBeside};
 
 use crate::element::Range;
+use std::cmp::Ordering;
+
+/// Where the number stands beside the range: `Equal` within it.
+pub fn beside(number: u32, range: Range) -> Ordering
+    ensures { StandsBeside result number range }
+{
+    if number < range.low {
+        return Ordering::Less;
+    }
+    if range.high < number {
+        return Ordering::Greater;
+    }
+    Ordering::Equal
+}
 
 /// Neither range ends before the other begins.
 pub fn meet(one: Range, other: Range) -> bool

@@ -82,6 +82,22 @@ fn ports_of_a_union(rt: HostRuntime) -> Result<(), Fail> {
         assert_eq!(rt; set.contains(Value::Number(port)), wanted, "port {port}");
     }
     assert!(rt; !set.contains(Value::Name(b"lan")));
+    assert_eq!(rt;
+        set.intervals(),
+        [numbers(1, 21), numbers(30, 30)].as_slice()
+    );
+    Ok(())
+}
+
+// Three intervals: the middle one is compared with first.
+#[test]
+fn probes_of_three(rt: HostRuntime) -> Result<(), Fail> {
+    let elements = vec![in rt.alloc(); numbers(22, 30), numbers(1, 10), numbers(12, 20)]?;
+    let set = Set::union_of(elements)?;
+    for (port, wanted, probes) in [(15, true, 1), (5, true, 2), (25, true, 2), (11, false, 2)] {
+        let (found, steps) = set.contains_counted(Value::Number(port));
+        assert_eq!(rt; (found, steps.count()), (wanted, probes), "port {port}");
+    }
     Ok(())
 }
 

@@ -1,5 +1,5 @@
 //! Verdict maps: keys, each with a verdict.
-ghost use Rattle.std.specs.Prelude.{◌≡◌, ◌↔◌, ◌<◌, ◌≤◌, ℕ, IsTrue, IfOk, OnOk, IfSome, IfNone, length};
+ghost use Rattle.std.specs.Prelude.{◌≡◌, ◌≢◌, ◌↔◌, ◌<◌, ◌≤◌, ◌^◌, ℕ, IsTrue, IfOk, OnOk, IfSome, IfNone, length};
 ghost use Rattle.std.specs.Cmp.Lexicographic.{slice_cmp};
 ghost use Rattle.std.specs.List.Sorted.{IsSortedBy};
 ghost use Rattle.std.specs.Ordering.{nat_cmp};
@@ -8,11 +8,13 @@ ghost use Rattle.sets.specs.Members.{Fact, fact_of, Leads, Overlaps, limit};
 
 use crate::element::{Element, Pair, Value};
 use crate::fault::SetFault;
+use crate::search::search;
 use crate::set::LIMIT;
+use packet::steps::Steps;
 use std::cmp::Ordering;
 use std::marker::Model;
 
-/// Keys with the verdict of each; no two keys share a value.
+/// Keys with the verdict of each, in order; no two keys share a value.
 #[derive(Drop)]
 pub struct Vmap<V> {
     pairs: Vec<Pair<V>>,
@@ -21,27 +23,30 @@ pub struct Vmap<V> {
 impl<V> Model for Vmap<V> {
     ghost use Rattle.std.specs.Prelude.{List};
     ghost use Rattle.sets.specs.declared.element.Pair.{Pair as Keyed};
+    ghost use Rattle.std.specs.List.Sorted.{IsSortedBy};
     ghost use Rattle.sets.specs.Members.{Overlaps};
+    ghost use Rattle.sets.specs.Order.{is_key_before};
 
     ghost Value = { List (Keyed V) };
 
     ghost view = { λ m. m.pairs.items };
 
-    ghost invariant = { λ m. ¬ Overlaps m.pairs.items };
+    ghost invariant = { λ m. ¬ Overlaps m.pairs.items × IsSortedBy is_key_before m.pairs.items };
 }
 
 impl<V: Drop> Vmap<V> {
-    /// The map of these keys, at most `LIMIT` in any order, to their verdicts.
+    /// The map of these keys, at most `LIMIT` in any order, to their verdicts. Takes no memory.
     ///
     /// # Errors
     ///
-    /// `Limit` exactly where there are more; otherwise `Overlap` where two keys share a value; `NoMemory`
-    /// only where a growth was refused. The pairs are dropped then.
+    /// `Limit` exactly where there are more; otherwise `Overlap` exactly where two keys share a value; no
+    /// other. The pairs are dropped then.
     pub fn of(mut pairs: Vec<Pair<V>>) -> Result<Vmap<V>, SetFault>
         ensures ok { IfOk result (λ vmap. (fact : Fact) (verdict : V) → Leads fact verdict vmap ↔ Leads fact verdict pairs.items) }
         ensures apart { OnOk result (¬ Overlaps pairs.items) }
         ensures limit { (result ≡ Err SetFault.Limit) ↔ (limit < length pairs.items) }
-        ensures overlap { result ≡ Err SetFault.Overlap → (length pairs.items ≤ limit) × Overlaps pairs.items }
+        ensures overlap { (result ≡ Err SetFault.Overlap) ↔ ((length pairs.items ≤ limit) × Overlaps pairs.items) }
+        ensures no_memory { result ≢ Err SetFault.NoMemory }
     {
         if pairs.len() > LIMIT {
             return Err(SetFault::Limit);
@@ -58,17 +63,26 @@ impl<V: Drop> Vmap<V> {
         ensures found { IfSome result (λ verdict. (other : V) → Leads (fact_of value.entry) other self.now ↔ (other ≡ verdict.now)) }
         ensures absent { IfNone result ((verdict : V) → ¬ Leads (fact_of value.entry) verdict self.now) }
     {
-        for pair in &self.pairs {
-            if pair.key.holds(value) {
-                return Some(&pair.verdict);
-            }
+        self.look_up_counted(value).0
+    }
+
+    /// The verdict of the one key in which the value lies, if there is one, and with how many probes it was
+    /// found. A probe is one key compared with the value. Takes no memory.
+    pub fn look_up_counted(&self, value: Value<'_>) -> (Option<&V>, Steps)
+        ensures found { IfSome result.0 (λ verdict. (other : V) → Leads (fact_of value.entry) other self.now ↔ (other ≡ verdict.now)) }
+        ensures absent { IfNone result.0 ((verdict : V) → ¬ Leads (fact_of value.entry) verdict self.now) }
+        ensures probes { (digits : ℕ) → length self.now < 2 ^ digits → result.1 ≤ digits }
+    {
+        let (found, steps) = search(&self.pairs, value);
+        match found {
+            Some(pair) => (Some(&pair.verdict), steps),
+            None => (None, steps),
         }
-        None
     }
 }
 
 // Where a key is looked for: ranges by where they begin, and behind them names by their bytes.
-fn order(one: &Element, other: &Element) -> Ordering
+pub(crate) fn order(one: &Element, other: &Element) -> Ordering
     ensures { result ≡ slice_cmp nat_cmp (place_of one.now) (place_of other.now) }
 {
     match (one, other) {

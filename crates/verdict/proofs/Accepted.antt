@@ -7,7 +7,7 @@ use Rattle.rulesyntax.specs.declared.tree.Spelled.{Spelled}
 use Rattle.verdict.specs.declared.facts.Facts.{Facts}
 use Rattle.verdict.specs.declared.chain.Outcome.{Outcome}
 use Rattle.verdict.specs.declared.chain.Outcome.TheVariants.{Accepts, Drops, To, From, Ends}
-use Rattle.verdict.specs.declared.hook.Filtering.TheVariants as filterings
+use Rattle.verdict.specs.declared.hook.Forwarding.TheVariants as forwardings
 use Rattle.verdict.specs.Targets.{OfEach}
 use Rattle.verdict.specs.Hooks.{BaseChain, put, in_order, bases_of, base_outcome, handed_on, asked_in_turn, filtered_by, hook_outcome, forward_verdict}
 
@@ -18,7 +18,7 @@ handed (To x) next = (λ is. cc, λ both. both.0)
 handed (From x) next = (λ is. cc, λ both. both.0)
 handed Ends next = (λ is. cc, λ both. both.0)
 
-filtered : (o : Outcome) → (filtered_by o ≡ filterings.Pass) ↔ (o ≡ Accepts)
+filtered : (o : Outcome) → (filtered_by o ≡ forwardings.Pass) ↔ (o ≡ Accepts)
 filtered Accepts = (λ is. refl, λ is. refl)
 filtered Drops = (λ is. cc, λ is. cc)
 filtered (To x) = (λ is. cc, λ is. cc)
@@ -51,7 +51,7 @@ module _ (config : Config) (facts : Facts) where
     λ all. (handed (base_outcome config facts x) (asked_in_turn config facts xs)).1 (all.0, (turns xs).1 all.1),
   )
 
-  pub passes : (text : Spelled) → (forward_verdict config facts text ≡ filterings.Pass) ↔ OfEach (λ base. base_outcome config facts base ≡ Accepts) (bases_of Forward text.tables)
+  pub passes : (text : Spelled) → (forward_verdict config facts text ≡ forwardings.Pass) ↔ OfEach (λ base. base_outcome config facts base ≡ Accepts) (bases_of Forward text.tables)
   unfolding forward_verdict hook_outcome
   passes text =
       let bases = bases_of Forward text.tables in

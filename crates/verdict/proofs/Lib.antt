@@ -7,3 +7,4 @@ pub mod Accepted
 pub mod Said
 pub mod PortsSpelled
 pub mod Bounded
+pub mod Turns

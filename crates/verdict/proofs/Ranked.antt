@@ -67,6 +67,37 @@ asked_first p (To x) rest next low same = ap outcome_of (kept (record { priority
 asked_first p (From x) rest next low same = ap outcome_of (kept (record { priority = p; outcome = From x }) rest low)
 asked_first p Ends rest next low same = ap outcome_of (kept (record { priority = p; outcome = Ends }) rest low)
 
+-- each of these has this priority at least
+abbrev pub AreFrom : ℤ → List BaseChain → Type 0
+AreFrom low [] = Unit {0}
+AreFrom low (x ∷ xs) = (int_le low x.base.priority ≡ true) × AreFrom low xs
+
+abbrev pub AreSorted : List BaseChain → Type 0
+AreSorted [] = Unit {0}
+AreSorted (x ∷ xs) = AreFrom x.base.priority xs × AreSorted xs
+
+lower : (low high : ℤ) (xs : List BaseChain) → int_le low high ≡ true → AreFrom high xs → AreFrom low xs
+lower low high [] le from = tt
+lower low high (x ∷ xs) le from = (le_trans low high x.base.priority le from.0, lower low high xs le from.1)
+
+put_from : (low : ℤ) (x : BaseChain) (ys : List BaseChain) → int_le low x.base.priority ≡ true → AreFrom low ys → AreFrom low (put x ys)
+put_from low x [] le from = (le, tt)
+put_from low x (y ∷ ys) le from = elim (cases_Bool (int_le x.base.priority y.base.priority)) [
+  | inl first ↦ rw first (le, from)
+  | inr behind ↦ rw behind (from.0, put_from low x ys le from.1)
+]
+
+put_sorted : (x : BaseChain) (ys : List BaseChain) → AreSorted ys → AreSorted (put x ys)
+put_sorted x [] sorted = (tt, tt)
+put_sorted x (y ∷ ys) sorted = elim (cases_Bool (int_le x.base.priority y.base.priority)) [
+  | inl first ↦ rw first ((first, lower x.base.priority y.base.priority ys first sorted.0), sorted)
+  | inr behind ↦ rw behind (put_from y.base.priority x ys (le_total x.base.priority y.base.priority behind) sorted.0, put_sorted x ys sorted.1)
+]
+
+pub order_sorted : (xs : List BaseChain) → AreSorted (in_order xs)
+order_sorted [] = tt
+order_sorted (x ∷ xs) = put_sorted x (in_order xs) (order_sorted xs)
+
 module _ (config : Config) (facts : Facts) where
   pub first_joined : (xs ys : List BaseChain) → first_final config facts (xs ++ ys) ≡ preferred (first_final config facts xs) (first_final config facts ys)
   first_joined [] ys = refl
@@ -85,37 +116,6 @@ module _ (config : Config) (facts : Facts) where
       ∙ ap (λ ys. preferred before (first_final config facts ys)) (sym split)
       ∙ ap (λ ys. preferred before (first_final config facts (parts ys))) (sym here)
       ∙ old
-
-  -- each of these has this priority at least
-  abbrev AreFrom : ℤ → List BaseChain → Type 0
-  AreFrom low [] = Unit {0}
-  AreFrom low (x ∷ xs) = (int_le low x.base.priority ≡ true) × AreFrom low xs
-
-  abbrev AreSorted : List BaseChain → Type 0
-  AreSorted [] = Unit {0}
-  AreSorted (x ∷ xs) = AreFrom x.base.priority xs × AreSorted xs
-
-  lower : (low high : ℤ) (xs : List BaseChain) → int_le low high ≡ true → AreFrom high xs → AreFrom low xs
-  lower low high [] le from = tt
-  lower low high (x ∷ xs) le from = (le_trans low high x.base.priority le from.0, lower low high xs le from.1)
-
-  put_from : (low : ℤ) (x : BaseChain) (ys : List BaseChain) → int_le low x.base.priority ≡ true → AreFrom low ys → AreFrom low (put x ys)
-  put_from low x [] le from = (le, tt)
-  put_from low x (y ∷ ys) le from = elim (cases_Bool (int_le x.base.priority y.base.priority)) [
-    | inl first ↦ rw first (le, from)
-    | inr behind ↦ rw behind (from.0, put_from low x ys le from.1)
-  ]
-
-  put_sorted : (x : BaseChain) (ys : List BaseChain) → AreSorted ys → AreSorted (put x ys)
-  put_sorted x [] sorted = (tt, tt)
-  put_sorted x (y ∷ ys) sorted = elim (cases_Bool (int_le x.base.priority y.base.priority)) [
-    | inl first ↦ rw first ((first, lower x.base.priority y.base.priority ys first sorted.0), sorted)
-    | inr behind ↦ rw behind (put_from y.base.priority x ys (le_total x.base.priority y.base.priority behind) sorted.0, put_sorted x ys sorted.1)
-  ]
-
-  order_sorted : (xs : List BaseChain) → AreSorted (in_order xs)
-  order_sorted [] = tt
-  order_sorted (x ∷ xs) = put_sorted x (in_order xs) (order_sorted xs)
 
   -- what is found among base chains of some priority at least
   found_from : (low : ℤ) (xs : List BaseChain) → AreFrom low xs → (f : Final) → first_final config facts xs ≡ Some f → int_le low f.priority ≡ true

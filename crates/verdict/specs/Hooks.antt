@@ -13,8 +13,8 @@ use Rattle.rulesyntax.specs.declared.tree.Spelled.{Spelled}
 use Rattle.verdict.specs.declared.facts.Facts.{Facts}
 use Rattle.verdict.specs.declared.chain.Outcome.{Outcome}
 use Rattle.verdict.specs.declared.chain.Outcome.TheVariants.{Accepts, Drops, To, From, Ends}
-use Rattle.verdict.specs.declared.hook.Filtering.{Filtering}
-use Rattle.verdict.specs.declared.hook.Filtering.TheVariants as filterings
+use Rattle.verdict.specs.declared.hook.Forwarding.{Forwarding}
+use Rattle.verdict.specs.declared.hook.Forwarding.TheVariants as forwardings
 use Rattle.verdict.specs.declared.hook.Destination.{Destination}
 use Rattle.verdict.specs.declared.hook.Destination.TheVariants as destinations
 use Rattle.verdict.specs.declared.hook.Source.{Source}
@@ -85,9 +85,9 @@ unfoldable pub hook_outcome : Config → Facts → Hook → Spelled → Outcome
 hook_outcome config facts hook text = asked_in_turn config facts (in_order (bases_of hook text.tables))
 
 -- a packet passes where every base chain accepts
-abbrev pub filtered_by : Outcome → Filtering
-filtered_by Accepts = filterings.Pass
-filtered_by _ = filterings.Drop
+abbrev pub filtered_by : Outcome → Forwarding
+filtered_by Accepts = forwardings.Pass
+filtered_by _ = forwardings.Drop
 
 abbrev pub destination_by : Outcome → Destination
 destination_by (To endpoint) = destinations.To endpoint
@@ -99,7 +99,7 @@ source_by (From addr) = sources.From addr
 source_by Drops = sources.Drop
 source_by _ = sources.None
 
-unfoldable pub forward_verdict : Config → Facts → Spelled → Filtering
+unfoldable pub forward_verdict : Config → Facts → Spelled → Forwarding
 forward_verdict config facts text = filtered_by (hook_outcome config facts Forward text)
 
 unfoldable pub prerouting_verdict : Config → Facts → Spelled → Destination

@@ -1,5 +1,8 @@
 -- What follows from how rules are read.
-use Rattle.std.specs.Prelude.{◌≡◌, ◌↔◌, ◌<◌, ℕ, List, [], Some, slice_get, IsTrue}
+use Rattle.std.specs.Prelude.{◌≡◌, ◌≢◌, ◌↔◌, ◌<◌, ℕ, ℤ, int_le, List, [], ◌∷◌, ◌++◌, Some, slice_get, IsTrue}
+use Rattle.std.specs.List.{AllPairs, filter}
+use Rattle.std.specs.List.Sorted.{IsPermutation}
+use Rattle.std.specs.Ordering.{int_eq}
 use Rattle.packet.specs.Config.{Config, is_inside}
 use Rattle.packet.specs.declared.endpoint.Endpoint.{Endpoint}
 use Rattle.sets.specs.Members.{Fact}
@@ -14,21 +17,22 @@ use Rattle.ruletext.specs.Calls.{OfSome}
 use Rattle.ruletext.specs.Runnable.{IsRunnable}
 use Rattle.ruletext.specs.Texts.{Loads}
 use Rattle.verdict.specs.declared.facts.Facts.{Facts}
-use Rattle.verdict.specs.declared.hook.Filtering.TheVariants as filterings
+use Rattle.verdict.specs.declared.hook.Forwarding.TheVariants as forwardings
 use Rattle.verdict.specs.declared.hook.Destination.TheVariants as destinations
 use Rattle.verdict.specs.declared.hook.Source.TheVariants as sources
+use Rattle.rulesyntax.specs.declared.tree.Hook.{Hook}
 use Rattle.rulesyntax.specs.declared.tree.Hook.TheVariants.{Forward}
 use Rattle.verdict.specs.declared.chain.Outcome.TheVariants.{Accepts}
 use Rattle.verdict.specs.Targets.{OfEach}
 use Rattle.verdict.specs.Matching.{lies}
 use Rattle.verdict.specs.Evaluation.{walk, rules_of, called}
-use Rattle.verdict.specs.Hooks.{bases_of, base_outcome, forward_verdict, prerouting_verdict, postrouting_verdict}
+use Rattle.verdict.specs.Hooks.{BaseChain, bases_of, base_outcome, in_order, hook_outcome, forward_verdict, prerouting_verdict, postrouting_verdict}
 
 -- a ruleset of no tables passes everything and translates nothing
 abbrev pub NoRulesPass : Type 0
 NoRulesPass =
     (config : Config) (facts : Facts) (text : Spelled) → text.tables ≡ []
-    → (forward_verdict config facts text ≡ filterings.Pass)
+    → (forward_verdict config facts text ≡ forwardings.Pass)
     × (prerouting_verdict config facts text ≡ destinations.None)
     × (postrouting_verdict config facts text ≡ sources.None)
 
@@ -36,7 +40,36 @@ NoRulesPass =
 abbrev pub PassesWhereAllAccept : Type 0
 PassesWhereAllAccept =
     (config : Config) (facts : Facts) (text : Spelled)
-    → (forward_verdict config facts text ≡ filterings.Pass) ↔ OfEach (λ base. base_outcome config facts base ≡ Accepts) (bases_of Forward text.tables)
+    → (forward_verdict config facts text ≡ forwardings.Pass) ↔ OfEach (λ base. base_outcome config facts base ≡ Accepts) (bases_of Forward text.tables)
+
+-- base chains in order are the same ones
+abbrev pub OrderKeepsAll : Type 0
+OrderKeepsAll = (bases : List BaseChain) → IsPermutation bases (in_order bases)
+
+-- their priorities rise
+abbrev pub OrderRises : Type 0
+OrderRises = (bases : List BaseChain) → AllPairs (λ one later. IsTrue (int_le one.base.priority later.base.priority)) (in_order bases)
+
+-- those of one priority stand as they stood
+abbrev pub OrderKeepsTies : Type 0
+OrderKeepsTies =
+    (bases : List BaseChain) (priority : ℤ)
+    → filter (λ this. int_eq this.base.priority priority) (in_order bases) ≡ filter (λ this. int_eq this.base.priority priority) bases
+
+-- a hook comes to what the first base chain comes to that doesn't accept, however many accept before it
+abbrev pub FirstRefusalDecides : Type 0
+FirstRefusalDecides =
+    (config : Config) (facts : Facts) (hook : Hook) (text : Spelled) (before later : List BaseChain) (this : BaseChain)
+    → in_order (bases_of hook text.tables) ≡ before ++ this ∷ later
+    → OfEach (λ base. base_outcome config facts base ≡ Accepts) before → base_outcome config facts this ≢ Accepts
+    → hook_outcome config facts hook text ≡ base_outcome config facts this
+
+-- and it accepts where all of them do
+abbrev pub AcceptsWhereAllDo : Type 0
+AcceptsWhereAllDo =
+    (config : Config) (facts : Facts) (hook : Hook) (text : Spelled)
+    → OfEach (λ base. base_outcome config facts base ≡ Accepts) (in_order (bases_of hook text.tables))
+    → hook_outcome config facts hook text ≡ Accepts
 
 -- a rule of the chain may jump or go to this name
 abbrev pub Calls : Chain → List ℕ → Type 0

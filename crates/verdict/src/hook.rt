@@ -16,7 +16,7 @@ use rulesyntax::tree::{Chain, Hook, Policy, Table};
 
 /// What the forward chains decide about a packet.
 #[derive(Clone, Copy, Debug, PartialEq, Eq, Drop)]
-pub enum Filtering {
+pub enum Forwarding {
     /// Every base chain accepts, or there is none.
     Pass,
     /// The packet is dropped.
@@ -174,12 +174,12 @@ fn hook_outcome(rules: &Rules, bounds: &Bounds, facts: &Facts, hook: Hook) -> Ou
 
 /// Whether a packet passes: where every base chain at forward accepts, or there is none. Takes no memory.
 #[tactic(auto, unfolding(crate::specs::Hooks::forward_verdict))]
-pub fn forward(rules: &Rules, bounds: &Bounds, facts: &Facts) -> Filtering
+pub fn forward(rules: &Rules, bounds: &Bounds, facts: &Facts) -> Forwarding
     ensures { result ≡ forward_verdict bounds.now facts.now rules.now }
 {
     match hook_outcome(rules, bounds, facts, Hook::Forward) {
-        Outcome::Accepts => Filtering::Pass,
-        _ => Filtering::Drop,
+        Outcome::Accepts => Forwarding::Pass,
+        _ => Forwarding::Drop,
     }
 }
 

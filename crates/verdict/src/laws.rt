@@ -1,6 +1,6 @@
 //! What follows from how rules are read: each function does nothing, and is proved to meet its clause.
 
-ghost use Rattle.verdict.specs.Laws.{NoRulesPass, PassesWhereAllAccept, CallsUnfold, LiesIsExact, SourcesAreExternal, DestinationsAreInside, PortsStayAboveZero};
+ghost use Rattle.verdict.specs.Laws.{NoRulesPass, PassesWhereAllAccept, OrderKeepsAll, OrderRises, OrderKeepsTies, FirstRefusalDecides, AcceptsWhereAllDo, CallsUnfold, LiesIsExact, SourcesAreExternal, DestinationsAreInside, PortsStayAboveZero};
 
 /// A ruleset of no tables passes everything and translates nothing.
 pub fn no_rules_pass()
@@ -10,6 +10,20 @@ pub fn no_rules_pass()
 /// A packet passes exactly where every base chain at forward accepts, in whatever order they stand.
 pub fn passes_where_all_accept()
     ensures { PassesWhereAllAccept }
+{}
+
+/// The base chains of a hook stand by rising priority, equal ones in the order of the text, and none is lost
+/// or comes twice.
+pub fn bases_in_order()
+    ensures same { OrderKeepsAll }
+    ensures rises { OrderRises }
+    ensures ties { OrderKeepsTies }
+{}
+
+/// A hook comes to what the first base chain in order comes to that doesn't accept.
+pub fn first_refusal_decides()
+    ensures refusal { FirstRefusalDecides }
+    ensures acceptance { AcceptsWhereAllDo }
 {}
 
 /// In a text that has loaded, what a chain that is jumped or gone to comes to is the plain recursion:

@@ -26,5 +26,5 @@ mod tests;
 mod value;
 
 pub use facts::{Facts, State};
-pub use hook::{Destination, Filtering, Source, forward, postrouting, prerouting};
+pub use hook::{Destination, Forwarding, Source, forward, postrouting, prerouting};
 pub use rules::Rules;

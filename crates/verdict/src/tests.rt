@@ -1,6 +1,6 @@
 //! Texts of one's own, packets, and what they come to by the rules of reading.
 use crate::facts::{Facts, State};
-use crate::hook::{Destination, Filtering, Source, forward, postrouting, prerouting};
+use crate::hook::{Destination, Forwarding, Source, forward, postrouting, prerouting};
 use crate::rules::Rules;
 use packet::bounds::{Bounds, ConfigFault};
 use packet::endpoint::{Endpoint, Iface, Prefix, Proto};
@@ -92,49 +92,49 @@ fn inward(port: u16) -> Facts {
     }
 }
 
-fn filtered(alloc: Global, chains: &str, facts: &Facts) -> Result<Filtering, Fail> {
+fn filtered(alloc: Global, chains: &str, facts: &Facts) -> Result<Forwarding, Fail> {
     let text = format!(in alloc; "table ip f {{ {chains} }}")?;
     let rules = rules(alloc, text.as_bytes())?;
     Ok(forward(&rules, &bounds(alloc)?, facts))
 }
 
-const ROWS: [(&str, u16, Filtering); 8] = [
+const ROWS: [(&str, u16, Forwarding); 8] = [
     (
         "chain sub { return; } chain fw { type filter hook forward priority 0; jump sub; drop; }",
         53,
-        Filtering::Drop,
+        Forwarding::Drop,
     ),
     (
         "chain sub { return; } chain fw { type filter hook forward priority 0; goto sub; drop; }",
         53,
-        Filtering::Pass,
+        Forwarding::Pass,
     ),
     (
         "chain fw { type filter hook forward priority 0; accept; } chain late { type filter hook forward priority 10; drop; }",
         53,
-        Filtering::Drop,
+        Forwarding::Drop,
     ),
     (
         "chain fw { type filter hook forward priority 0; tcp dport != 22 drop; }",
         53,
-        Filtering::Pass,
+        Forwarding::Pass,
     ),
     (
         "chain fw { type filter hook forward priority 0; udp dport vmap { 53 : accept }; drop; }",
         53,
-        Filtering::Pass,
+        Forwarding::Pass,
     ),
     (
         "chain fw { type filter hook forward priority 0; udp dport vmap { 53 : accept }; drop; }",
         54,
-        Filtering::Drop,
+        Forwarding::Drop,
     ),
     (
         "chain fw { type filter hook forward priority 0; policy drop; udp dport vmap { 53 : continue }; }",
         53,
-        Filtering::Drop,
+        Forwarding::Drop,
     ),
-    ("", 53, Filtering::Pass),
+    ("", 53, Forwarding::Pass),
 ];
 
 #[test]
@@ -189,7 +189,7 @@ fn holds(alloc: Global, test: &str) -> Result<bool, Fail> {
         "set high {{ type inet_service; elements = {{ 4000-5000, 6000 }} }}
         chain fw {{ type filter hook forward priority 0; {test} drop; }}"
     )?;
-    Ok(filtered(alloc, chains.as_str(), &outward(53))? == Filtering::Drop)
+    Ok(filtered(alloc, chains.as_str(), &outward(53))? == Forwarding::Drop)
 }
 
 #[test]
@@ -251,7 +251,7 @@ fn translations(rt: HostRuntime) -> Result<(), Fail> {
     );
     other.src.addr = 0xc0a80104;
     assert_eq!(rt; postrouting(&rules, &bounds, &other), Source::Drop);
-    assert_eq!(rt; forward(&rules, &bounds, &other), Filtering::Pass);
+    assert_eq!(rt; forward(&rules, &bounds, &other), Forwarding::Pass);
     let none = self::rules(rt.alloc(), b"")?;
     assert_eq!(rt; prerouting(&none, &bounds, &inward(80)), Destination::None);
     assert_eq!(rt; postrouting(&none, &bounds, &other), Source::None);
@@ -285,7 +285,7 @@ fn branching(rt: HostRuntime) -> Result<(), Fail> {
     let chains = levels(rt.alloc(), 15, 250, "jump")?;
     assert_eq!(rt;
         filtered(rt.alloc(), chains.as_str(), &outward(53))?,
-        Filtering::Pass
+        Forwarding::Pass
     );
     Ok(())
 }
@@ -296,7 +296,7 @@ fn deep(rt: HostRuntime) -> Result<(), Fail> {
         let chains = levels(rt.alloc(), 15, 1, verdict)?;
         assert_eq!(rt;
             filtered(rt.alloc(), chains.as_str(), &outward(53))?,
-            Filtering::Pass
+            Forwarding::Pass
         );
     }
     Ok(())

@@ -4,7 +4,7 @@ use Rattle.packet.specs.declared.endpoint.Iface.TheVariants.{Lan}
 use Rattle.sessions.specs.Listing.{listing}
 use Rattle.sessions.proofs.Clashing.{same_endpoint-from}
 use Rattle.verdict.specs.Hooks.{forward_verdict}
-use Rattle.verdict.specs.declared.hook.Filtering.TheVariants.{Pass}
+use Rattle.verdict.specs.declared.hook.Forwarding.TheVariants.{Pass}
 use Rattle.hairpin.specs.Legs.{facts_of}
 use Rattle.hairpin.proofs.Planned.{drops_full, drops_rule, is-first, plans}
 use Rattle.hairpin.proofs.hairpinning.after_first.Goals as goal
