@@ -1,5 +1,5 @@
 use Rattle.std.proofs.Common.{refl}
-use Rattle.durable.specs.Coding.{endpoint_bytes, IsEndpoint}
+use Rattle.durable.specs.Coding.{endpoint_bytes}
 use Rattle.durable.proofs.writing.endpoint_code.Goals as goal
 
 pub returns-clause-code : goal.returns-clause-code

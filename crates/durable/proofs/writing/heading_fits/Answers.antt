@@ -1,5 +1,5 @@
-use Rattle.std.proofs.Common.{rules, ◌≡◌, ◌<◌, ◌^◌, List, length, arith, subst}
-use Rattle.std.specs.List.{All, AllByRecursion}
+use Rattle.std.proofs.Common.{rules, ◌<◌, ◌^◌, List, arith, subst}
+use Rattle.std.specs.List.{All}
 use Rattle.packet.specs.declared.endpoint.Prefix.{Prefix}
 use Rattle.durable.specs.Coding.{IsPrefix, IsSession}
 use Rattle.durable.proofs.Fitting.{each_fits}
