@@ -28,12 +28,7 @@ pub(crate) fn place(port: u16) -> usize
 
 /// The nearest free port, by the 1,024 words from `start` on: first the port's own word from its bit on,
 /// then the words above it, then those from the least port of the class and parity up to that word.
-pub(crate) fn nearest_free(
-    words: &[u64],
-    start: usize,
-    port: u16,
-    steps: &mut Steps,
-) -> Option<u16>
+pub(crate) fn nearest_free(words: &[u64], start: usize, port: u16, steps: &mut Steps) -> Option<u16>
     requires fits { start + 1024 ≤ length words.now }
     requires spare { IsSet words.now (64 * start + spare) }
     requires not_zero { 0 < port }

@@ -7,13 +7,16 @@
 //!
 //! - `ports`: the ports that are taken, and `Ports::pick`, which chooses a free one
 //! - `laws`: what holds of every choice
+//! - `lanes`: which words have the ports of a class and parity, and the nearest free port by them
+//! - `words`: bits of words
 //! - `specs/Choice`: which port is the nearest, and `port_choice`, the same as a function
 //! - `specs/Taken`: what a contract sees of the ports that are taken
+//! - `specs/Words`: which bit stands for which port
 #![tactic(auto)]
 
 mod lanes;
 pub mod laws;
 pub mod ports;
-mod words;
 #[cfg(test)]
 mod tests;
+mod words;
