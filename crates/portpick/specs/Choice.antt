@@ -37,14 +37,6 @@ module _ (Taken : ℕ → Type 0) (port : ℕ) where
   abbrev pub AllTaken : Type 0
   AllTaken = (other : ℕ) → IsAlike port other → Taken other
 
--- the port is the first free one of so many, two apart, from the lowest up
-pub record IsFirstFree (Taken : ℕ → Type 0) (lowest count chosen : ℕ) : Type 0 where
-  pub number : ℕ
-  pub in_range : number < count
-  pub reached : chosen ≡ lowest + 2 * number
-  pub is_free : ¬ Taken chosen
-  pub before_taken : (n : ℕ) → n < number → Taken (lowest + 2 * n)
-
 -- how many ports the class and parity of a port have
 abbrev pub size_of_class : ℕ → ℕ
 size_of_class port = (greatest port - least port) / 2 + 1
