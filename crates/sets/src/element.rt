@@ -1,7 +1,7 @@
 //! Values, and the ranges and names that they are compared with.
 ghost use Rattle.std.specs.Prelude.{◌≤◌};
 
-use crate::parts::{are_same, beside, meet};
+use crate::parts::{are_same, beside, by_bytes, meet};
 use packet::bounds::size_of_prefix;
 use packet::endpoint::Prefix;
 use std::cmp::Ordering;
@@ -88,14 +88,14 @@ impl Element {
 
     /// Where the value stands beside the element: before it (`Less`), in it (`Equal`) or behind it. Numbers
     /// stand before names, and names by their bytes.
-    pub fn compare(&self, value: Value<'_>) -> Ordering
+    pub(crate) fn compare(&self, value: Value<'_>) -> Ordering
         ensures { Stands result (fact_of value.entry) self.now }
     {
         match (value, self) {
             (Value::Number(number), Element::Numbers(range)) => beside(number, *range),
             (Value::Number(_), Element::Name(_)) => Ordering::Less,
             (Value::Name(_), Element::Numbers(_)) => Ordering::Greater,
-            (Value::Name(name), Element::Name(own)) => name.cmp(own.as_slice()),
+            (Value::Name(name), Element::Name(own)) => by_bytes(name, own.as_slice()),
         }
     }
 

@@ -1,5 +1,7 @@
 //! The tests that elements are compared by.
 ghost use Rattle.std.specs.Prelude.{◌≡◌, ◌↔◌, ◌≤◌, IsTrue};
+ghost use Rattle.std.specs.Cmp.Lexicographic.{slice_cmp};
+ghost use Rattle.std.specs.Ordering.{nat_cmp};
 ghost use Rattle.sets.specs.Intervals.{StandsBeside};
 
 use crate::element::Range;
@@ -30,4 +32,11 @@ pub fn are_same(one: &[u8], other: &[u8]) -> bool
     ensures { IsTrue result ↔ (one.now ≡ other.now) }
 {
     one == other
+}
+
+/// Where the one name stands beside the other: by the first byte in which they differ, and a front before the whole.
+pub fn by_bytes(one: &[u8], other: &[u8]) -> Ordering
+    ensures { result ≡ slice_cmp nat_cmp one.now other.now }
+{
+    one.cmp(other)
 }

@@ -122,6 +122,7 @@ fn prefixes(rt: HostRuntime) {
     assert_eq!(rt; (all.low, all.high), (0, 0xffff_ffff));
     let one = Range::of_prefix(Prefix { addr, len: 32 });
     assert_eq!(rt; one, Range::one(addr));
+    assert!(rt; Element::Numbers(net).holds(Value::Number(0xc0a8_01ff)));
 }
 
 #[test]
@@ -132,6 +133,8 @@ fn verdict_of_a_key(rt: HostRuntime) -> Result<(), Fail> {
         pair(numbers(1, 21), 3),
     ]?;
     let vmap = Vmap::of(pairs)?;
+    let (found, probes) = vmap.look_up_counted(Value::Number(22));
+    assert_eq!(rt; (found.copied(), probes.count()), (Some(1), 1));
     for (port, wanted) in [
         (22, Some(1)),
         (80, Some(2)),

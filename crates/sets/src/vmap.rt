@@ -8,6 +8,7 @@ ghost use Rattle.sets.specs.Members.{Fact, fact_of, Leads, Overlaps, limit};
 
 use crate::element::{Element, Pair, Value};
 use crate::fault::SetFault;
+use crate::parts::by_bytes;
 use crate::search::search;
 use crate::set::LIMIT;
 use packet::steps::Steps;
@@ -89,7 +90,7 @@ pub(crate) fn order(one: &Element, other: &Element) -> Ordering
         (Element::Numbers(range), Element::Numbers(later)) => range.low.cmp(&later.low),
         (Element::Numbers(_), Element::Name(_)) => Ordering::Less,
         (Element::Name(_), Element::Numbers(_)) => Ordering::Greater,
-        (Element::Name(name), Element::Name(later)) => name.as_slice().cmp(later.as_slice()),
+        (Element::Name(name), Element::Name(later)) => by_bytes(name.as_slice(), later.as_slice()),
     }
 }
 

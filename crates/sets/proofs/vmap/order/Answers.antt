@@ -17,4 +17,4 @@ returns-in-Name-Numbers c = rw (c.in-Name-Numbers.is-0, c.in-Name-Numbers.is-1) 
 
 pub returns-in-Name-Name : goal.returns-in-Name-Name
 unfolding place_of
-returns-in-Name-Name c = rw (c.in-Name-Name.is-0, c.in-Name-Name.is-1, ← c.as_slice.ensures.value, ← c.as_slice-in-Name-Name.ensures.value) c.cmp-in-Name-Name.ensures
+returns-in-Name-Name c = rw (c.in-Name-Name.is-0, c.in-Name-Name.is-1, ← c.as_slice.ensures.value, ← c.as_slice-in-Name-Name.ensures.value) c.by_bytes.ensures

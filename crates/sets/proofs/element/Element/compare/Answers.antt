@@ -17,4 +17,4 @@ returns-in-Name-Numbers c = rw (c.in-Name-Numbers.is-0, c.in-Name-Numbers.is-1) 
 
 pub returns-in-Name-Name : goal.returns-in-Name-Name
 unfolding Stands fact_of
-returns-in-Name-Name c = rw (c.in-Name-Name.is-0, c.in-Name-Name.is-1, ← c.as_slice.ensures.value) c.cmp.ensures
+returns-in-Name-Name c = rw (c.in-Name-Name.is-0, c.in-Name-Name.is-1, ← c.as_slice.ensures.value) c.by_bytes.ensures
