@@ -96,9 +96,7 @@ impl Rows {
         ensures room_ok { OnOk result (self.old.room ≤ self.new.room + 1) }
         ensures room_err { OnErr result (self.old.room ≤ self.new.room) }
     {
-        if self.spare.is_empty() {
-            add_spare(self.alloc, &mut self.runs, &mut self.spare)?;
-        }
+        self.reserve_one()?;
         add(&mut self.runs, &mut self.spare, Entry { key, value });
         Ok(())
     }
@@ -128,10 +126,27 @@ impl Rows {
         ensures held { self.new.held ≡ self.old.held }
         ensures room { self.old.room ≤ self.new.room }
     {
-        if self.spare.is_empty() {
+        self.reserve_one()?;
+        if self.spare.len() < 2 {
             add_spare(self.alloc, &mut self.runs, &mut self.spare)?;
         }
-        if self.spare.len() < 2 {
+        Ok(())
+    }
+
+    /// Makes room for one more entry, so that the next insertion takes no memory, whatever is removed
+    /// before it.
+    ///
+    /// # Errors
+    ///
+    /// `AllocError` where memory is refused, and never where there is room. The same entries are held in
+    /// any case, and no room is lost.
+    pub fn reserve_one(&mut self) -> Result<(), AllocError>
+        ensures ok { OnOk result (0 < self.new.room) }
+        ensures succeeds { 0 < self.old.room → IsOk result }
+        ensures held { self.new.held ≡ self.old.held }
+        ensures room { self.old.room ≤ self.new.room }
+    {
+        if self.spare.is_empty() {
             add_spare(self.alloc, &mut self.runs, &mut self.spare)?;
         }
         Ok(())
