@@ -1,8 +1,13 @@
+pub mod Along
 pub mod Clashing
+pub mod Finding
 pub mod Found
 pub mod Held
+pub mod Indexed
+pub mod KeyNumbers
 pub mod LifeLemmas
 pub mod Listed
+pub mod Mapped
 pub mod OneToOne
 pub mod Puts
 pub mod Sets

@@ -13,7 +13,7 @@ use Rattle.sessions.specs.Listing.{listing}
 use Rattle.sessions.proofs.Sets.{In-listing}
 
 -- two endpoints are one where they aren't two
-one_endpoint : (e f : Endpoint) → ¬ (e ≢ f) → e ≡ f
+pub one_endpoint : (e f : Endpoint) → ¬ (e ≢ f) → e ≡ f
 one_endpoint e f not_two = elim (cases_Bool (same_endpoint e f)) [
   | inl same ↦ same_endpoint-true e f same
   | inr differ ↦ absurd (not_two (λ is. false≢true (sym differ ∙ subst (λ g. same_endpoint e g ≡ true) is (same_endpoint-itself e))))

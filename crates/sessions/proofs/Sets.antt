@@ -206,13 +206,13 @@ listing-is held xs apart rises from to = rising-unique (listing held) xs (Rises-
     (λ s is. let old = In-listing held s is in to old.0 s old.1)
     (λ s is. let old = from s is in listing-In held s old.0 old.1)
 
-number-same : (p q : Proto) → proto_number p ≡ proto_number q → p ≡ q
+pub number-same : (p q : Proto) → proto_number p ≡ proto_number q → p ≡ q
 number-same Tcp Tcp e = refl
 number-same Tcp Udp e = absurd (omega (arith, e))
 number-same Udp Tcp e = absurd (omega (arith, e))
 number-same Udp Udp e = refl
 
-same_endpoints : (a b : Endpoint) → a.addr ≡ b.addr → a.port ≡ b.port → a ≡ b
+pub same_endpoints : (a b : Endpoint) → a.addr ≡ b.addr → a.port ≡ b.port → a ≡ b
 same_endpoints a b x y = let f : ℕ → Endpoint = λ n. record { addr = n; port = a.port } in let g : ℕ → Endpoint = λ n. record { addr = b.addr; port = n } in ap f x ∙ ap g y
 
 pub same_key : (s t : Session) → key s ≡ key t → HasInside s.proto s.inside s.remote t

@@ -1,3 +1,4 @@
+pub mod Index
 pub mod Laws
 pub mod Life
 pub mod Listing

@@ -3,7 +3,7 @@ ghost use Rattle.std.specs.Prelude.{◌≡◌, ◌≢◌, ◌⊎◌, ◌↔◌, 
 ghost use Rattle.sessions.specs.Life.{opener_code};
 ghost use Rattle.sessions.specs.Listing.{key, order};
 ghost use Rattle.sessions.specs.Sound.{IsPlaced};
-ghost use Rattle.sessions.specs.Table.{Clash, HasInside, HasOutside};
+ghost use Rattle.sessions.specs.Table.{Clash};
 
 use crate::table::Slot;
 use packet::bounds::Bounds;
@@ -108,20 +108,6 @@ pub fn clash(new: &Session, held: &Session) -> bool
     }
     let both_translated = new.inside != new.outside && held.inside != held.outside;
     both_translated && same_inside != same_outside
-}
-
-/// Whether the session has this protocol, inside and remote endpoint.
-pub fn has_inside(session: &Session, proto: Proto, inside: Endpoint, remote: Endpoint) -> bool
-    ensures { IsTrue result ↔ HasInside proto inside remote session.now }
-{
-    session.proto == proto && session.inside == inside && session.remote == remote
-}
-
-/// Whether the session has this protocol, outside and remote endpoint.
-pub fn has_outside(session: &Session, proto: Proto, outside: Endpoint, remote: Endpoint) -> bool
-    ensures { IsTrue result ↔ HasOutside proto outside remote session.now }
-{
-    session.proto == proto && session.outside == outside && session.remote == remote
 }
 
 // What the order of sessions goes by, in turn.

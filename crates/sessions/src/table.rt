@@ -1,14 +1,15 @@
 //! The table of the sessions that live.
-ghost use Rattle.std.specs.Prelude.{◌≡◌, ◌≢◌, ◌⊎◌, ◌↔◌, ◌+◌, ◌^◌, ◌<◌, ◌≤◌, ℕ, IsTrue, Some, None, Err, IfOk, IfErr, OnOk, OnErr, IsOk, IfSome, IfNone, IsSome, IsSomeAnd, length, count_by, is_some, slice_index_or, vec_capacity};
+ghost use Rattle.std.specs.Prelude.{◌≡◌, ◌≢◌, ◌⊎◌, ◌↔◌, ◌+◌, ◌^◌, ◌<◌, ◌≤◌, ℕ, IsTrue, Some, None, Err, IfOk, IfErr, OnOk, OnErr, IsOk, IfSome, IfNone, IsSome, IsSomeAnd};
 ghost use Rattle.std.specs.Option.{option_map};
-ghost use Rattle.std.specs.List.Sorted.{IsPermutation, IsSorted};
 ghost use Rattle.sessions.specs.Life.{IsSeen};
-ghost use Rattle.sessions.specs.Listing.{listing, order, sessions_of};
+ghost use Rattle.sessions.specs.Listing.{listing};
 ghost use Rattle.sessions.specs.Table.{at, count, most_sessions, Updates, HasInside, HasOutside, Clash, ClashesWith, AnyClash, IsSound, amended, seen as seen_with, restarted};
 
-use crate::session::{clash, has_inside, has_outside, order};
+use crate::index::{Index, clashes, find_inside, find_outside, listed};
+use crate::keys::has_endpoints;
 use crate::{Opener, Session};
 use packet::endpoint::{Endpoint, Proto};
+use slab::Slab;
 use std::alloc::{AllocError, Global};
 use std::marker::Model;
 
@@ -56,22 +57,25 @@ pub enum AddFault {
 /// the translated ones map inside endpoints to outside ones, for each protocol, one to one.
 #[derive(Drop)]
 pub struct Table {
-    places: Vec<Option<Session>>,
+    sessions: Slab<Session>,
+    index: Index,
 }
 
 impl Model for Table {
-    ghost use Rattle.std.specs.Prelude.{◌-◌, count_by, is_some, vec_capacity};
-    ghost use Rattle.sessions.specs.Table.{Sessions, IsSound};
+    ghost use Rattle.std.specs.Prelude.{◌-◌, min};
+    ghost use Rattle.slab.specs.Slab.{slab_len};
+    ghost use Rattle.sessions.specs.Index.{IsIndexed, room_of};
+    ghost use Rattle.sessions.specs.Table.{Sessions};
 
     ghost Value = { Sessions };
 
     ghost view = { λ t. record {
-      held = t.places.items;
-      room = vec_capacity t.places - count_by is_some t.places.items;
-      slots = vec_capacity t.places;
+      held = t.sessions.slots;
+      room = min (t.sessions.capacity - slab_len t.sessions) (room_of t.index);
+      slots = t.sessions.capacity;
     } };
 
-    ghost invariant = { λ t. IsSound t.places.items };
+    ghost invariant = { λ t. IsIndexed t.sessions.slots t.index };
 }
 
 impl Table {
@@ -81,7 +85,8 @@ impl Table {
         ensures counted { count result ≡ 0 }
     {
         Table {
-            places: Vec::new(alloc),
+            sessions: Slab::new(alloc),
+            index: Index::new(alloc),
         }
     }
 
@@ -90,12 +95,7 @@ impl Table {
         ensures value { result ≡ at self.now slot }
         ensures sound { IsSound self.now.held }
     {
-        let number = slot.number();
-        if number < self.places.len() {
-            self.places[number]
-        } else {
-            None
-        }
+        self.sessions.get(slot.number()).copied()
     }
 
     /// What every table keeps: no two sessions clash, they aren't too many, and each has seen bits of
@@ -104,14 +104,14 @@ impl Table {
         ensures { IsSound self.now.held }
     {
         // What a table keeps is known once a field of it is read.
-        let _places = &self.places;
+        let _sessions = &self.sessions;
     }
 
     /// How many sessions are held.
     pub fn count(&self) -> usize
         ensures { result ≡ count self.now }
     {
-        count_held(&self.places)
+        self.sessions.len()
     }
 
     /// The slot of the one session of this protocol, inside and remote endpoint, where it is held.
@@ -119,14 +119,8 @@ impl Table {
         ensures found { IfSome result (λ slot. IsSomeAnd (at self.now slot) (HasInside proto inside remote)) }
         ensures absent { IfNone result ((slot : ℕ) → IfSome (at self.now slot) (λ s. ¬ HasInside proto inside remote s)) }
     {
-        for number in 0..self.places.len() {
-            if let Some(session) = &self.places[number]
-                && has_inside(session, proto, inside, remote)
-            {
-                return Some(Slot(number));
-            }
-        }
-        None
+        let slot = find_inside(&self.sessions, &self.index, proto, inside, remote)?;
+        Some(Slot(slot))
     }
 
     /// The slot of the one session of this protocol, outside and remote endpoint, where it is held.
@@ -134,14 +128,8 @@ impl Table {
         ensures found { IfSome result (λ slot. IsSomeAnd (at self.now slot) (HasOutside proto outside remote)) }
         ensures absent { IfNone result ((slot : ℕ) → IfSome (at self.now slot) (λ s. ¬ HasOutside proto outside remote s)) }
     {
-        for number in 0..self.places.len() {
-            if let Some(session) = &self.places[number]
-                && has_outside(session, proto, outside, remote)
-            {
-                return Some(Slot(number));
-            }
-        }
-        None
+        let slot = find_outside(&self.sessions, &self.index, proto, outside, remote)?;
+        Some(Slot(slot))
     }
 
     /// Whether the session clashes with one that is held: it shares protocol, remote endpoint and one more
@@ -149,7 +137,7 @@ impl Table {
     pub fn clashes_with(&self, session: &Session) -> bool
         ensures { IsTrue result ↔ ClashesWith self.now session.now }
     {
-        any_clash(&self.places, session)
+        clashes(&self.sessions, &self.index, session)
     }
 
     /// Takes the session into a slot that holds none. What it has seen must be bits of its protocol.
@@ -181,26 +169,19 @@ impl Table {
         ensures slots { self.old.slots ≤ self.new.slots }
         ensures had_room { 0 < self.old.room → self.new.slots ≡ self.old.slots }
     {
-        if any_clash(&self.places, &session) {
+        if clashes(&self.sessions, &self.index, &session) {
             return Err(AddFault::Clash);
         }
-        if count_held(&self.places) >= MOST_SESSIONS {
+        if self.sessions.len() >= MOST_SESSIONS {
             return Err(AddFault::TableFull);
         }
-        match first_free(&self.places) {
-            Some(number) => {
-                self.places[number] = Some(session);
-                Ok(Slot(number))
-            }
-            None => {
-                let number = self.places.len();
-                if reserve_place(&mut self.places).is_err() {
-                    return Err(AddFault::NoMemory);
-                }
-                self.places.push_reserved(Some(session));
-                Ok(Slot(number))
-            }
+        if self.sessions.reserve(1).is_err() || self.index.reserve_one().is_err() {
+            return Err(AddFault::NoMemory);
         }
+        has_endpoints(&session);
+        let slot = self.sessions.insert_reserved(session);
+        self.index.insert(&session, slot);
+        Ok(Slot(slot))
     }
 
     /// A number above that of every slot that is held or reserved. It never falls.
@@ -208,7 +189,7 @@ impl Table {
         ensures value { result ≡ self.now.slots }
         ensures above { (slot : ℕ) → IsSome (at self.now slot) → slot < result }
     {
-        self.places.capacity()
+        self.sessions.capacity()
     }
 
     /// Makes room for two more sessions, so that the next two additions take no memory, whatever
@@ -225,10 +206,8 @@ impl Table {
         ensures room { self.old.room ≤ self.new.room }
         ensures slots { self.old.slots ≤ self.new.slots }
     {
-        if self.slots() - self.count() >= 2 {
-            return Ok(());
-        }
-        self.places.reserve(2)
+        self.sessions.reserve(2)?;
+        self.index.reserve()
     }
 
     /// Ends the session of the slot, which must hold one. This takes no memory.
@@ -239,7 +218,8 @@ impl Table {
         ensures room { self.old.room ≤ self.new.room }
         ensures slots { self.new.slots ≡ self.old.slots }
     {
-        self.places[slot.number()] = None;
+        let session = self.sessions.remove(slot.number());
+        self.index.remove(&session);
     }
 
     /// Puts the bits that a packet showed, and the second in which it passed, into the session of the slot,
@@ -252,14 +232,9 @@ impl Table {
         ensures room { self.new.room ≡ self.old.room }
         ensures slots { self.new.slots ≡ self.old.slots }
     {
-        let number = slot.number();
-        if let Some(session) = self.places[number] {
-            self.places[number] = Some(Session {
-                seen: session.seen | bits,
-                last,
-                ..session
-            });
-        }
+        let session = &mut self.sessions[slot.number()];
+        session.seen |= bits;
+        session.last = last;
     }
 
     /// Begins the session of the slot, which must hold one, anew from this side and at this second, with
@@ -271,15 +246,13 @@ impl Table {
         ensures room { self.new.room ≡ self.old.room }
         ensures slots { self.new.slots ≡ self.old.slots }
     {
-        let number = slot.number();
-        if let Some(session) = self.places[number] {
-            self.places[number] = Some(Session {
-                opener,
-                seen: 0,
-                last,
-                ..session
-            });
-        }
+        let session = &mut self.sessions[slot.number()];
+        *session = Session {
+            opener,
+            seen: 0,
+            last,
+            ..*session
+        };
     }
 
     /// Sets who began the session of the slot, which must hold one, and what its packets have shown, bits of
@@ -292,12 +265,9 @@ impl Table {
         ensures room { self.new.room ≡ self.old.room }
         ensures slots { self.new.slots ≡ self.old.slots }
     {
-        let number = slot.number();
-        if let Some(mut session) = self.places[number] {
-            session.opener = opener;
-            session.seen = seen;
-            self.places[number] = Some(session);
-        }
+        let session = &mut self.sessions[slot.number()];
+        session.opener = opener;
+        session.seen = seen;
     }
 
     /// The sessions, rising by protocol number, inside and remote endpoint.
@@ -308,72 +278,6 @@ impl Table {
     pub fn list(&self, alloc: Global) -> Result<Vec<Session>, AllocError>
         ensures { IfOk result (λ sessions. sessions.items ≡ listing self.now.held) }
     {
-        let mut sessions = held_sessions(alloc, &self.places)?;
-        sort_by_flow(&mut sessions);
-        Ok(sessions)
+        listed(alloc, &self.sessions, &self.index.flows)
     }
-}
-
-fn held_sessions(alloc: Global, places: &[Option<Session>]) -> Result<Vec<Session>, AllocError>
-    ensures { IfOk result (λ sessions. sessions.items ≡ sessions_of places.now) }
-{
-    let mut sessions = Vec::new(alloc);
-    for place in places {
-        if let Some(session) = place {
-            sessions.push(*session)?;
-        }
-    }
-    Ok(sessions)
-}
-
-fn sort_by_flow(sessions: &mut [Session])
-    ensures permutation { IsPermutation sessions.old sessions.new }
-    ensures sorted { IsSorted order sessions.new }
-{
-    sessions.sort_unstable_by(|a, b| order(a, b));
-}
-
-fn any_clash(places: &[Option<Session>], session: &Session) -> bool
-    ensures { IsTrue result ↔ AnyClash places.now session.now }
-{
-    for place in places {
-        if let Some(held) = place
-            && clash(session, held)
-        {
-            return true;
-        }
-    }
-    false
-}
-
-fn count_held(places: &[Option<Session>]) -> usize
-    ensures { result ≡ count_by is_some places.now }
-{
-    places.iter().filter(|place| place.is_some()).count()
-}
-
-fn first_free(places: &[Option<Session>]) -> Option<usize>
-    ensures free { IfSome result (λ number. (number < length places.now) × (slice_index_or places.now number None ≡ None)) }
-    ensures all_held { IfNone result (count_by is_some places.now ≡ length places.now) }
-{
-    for number in 0..places.len() {
-        if places[number].is_none() {
-            return Some(number);
-        }
-    }
-    None
-}
-
-// Makes room for one more place, where there is none.
-fn reserve_place(places: &mut Vec<Option<Session>>) -> Result<(), AllocError>
-    ensures items { places.new.items ≡ places.old.items }
-    ensures ok { OnOk result (length places.new.items < vec_capacity places.new) }
-    ensures err { OnErr result (vec_capacity places.old ≤ length places.old.items) }
-    ensures capacity { vec_capacity places.old ≤ vec_capacity places.new }
-    ensures had_room { length places.old.items < vec_capacity places.old → vec_capacity places.new ≡ vec_capacity places.old }
-{
-    if places.len() < places.capacity() {
-        return Ok(());
-    }
-    places.reserve(1)
 }

@@ -1,15 +1,13 @@
-use Rattle.std.proofs.Common.{◌≡◌, None, refl, sym, arith, get_or, Some}
-use Rattle.std.proofs.lemmas.Grind.{common_steps}
-use Rattle.std.proofs.lemmas.List.{get_or_default}
-use Rattle.sessions.proofs.Held.{IsSound-set}
-use Rattle.sessions.proofs.LifeLemmas.{IsSeen-or}
+use Rattle.std.proofs.Common.{refl, sym, arith}
 use Rattle.sessions.specs.Life.{IsSeen}
+use Rattle.sessions.proofs.Indexed.{IsIndexed-set}
+use Rattle.sessions.proofs.LifeLemmas.{IsSeen-or}
 use Rattle.sessions.proofs.table.Table.see.Goals as goal
 
 pub invariant_of-self : goal.invariant_of-self
 invariant_of-self c =
-    let is : get_or c.self.inside.places.items c.number-number.result None ≡ Some c.in-Some.session = grind (arith, common_steps, get_or_default c.self.inside.places.items c.number-number.result None) in
-    let fits : IsSeen c.in-Some.session.proto c.args.bits = rw (sym c.number-number.ensures, ← c.self.view_is, is) at c.requires.bits in
-    IsSound-set _ _ c.in-Some.session _ is (record { proto = refl; inside = refl; outside = refl; remote = refl })
-    (IsSeen-or _ _ _ (c.self.invariant.seen _ _ is) fits)
-    c.self.invariant
+    let session = c.index_mut-session.result.now in
+    let is = c.index_mut-session.ensures.value in
+    let fits : IsSeen session.proto c.args.bits = rw (sym c.number.ensures, ← c.self.view_is, is) at c.requires.bits in
+    IsIndexed-set _ _ c.number.result session _ is (record { proto = refl; inside = refl; outside = refl; remote = refl })
+    (IsSeen-or _ _ _ (c.self.invariant.sound.seen _ _ is) fits) c.self.invariant

@@ -1,0 +1,72 @@
+//! The numbers by which sessions are found.
+ghost use Rattle.std.specs.Prelude.{◌≡◌, ◌+◌, ◌*◌, ◌<◌, IsTrue, true};
+ghost use Rattle.sessions.specs.Index.{AreEndpoints, IsEndpoint, endpoint_number, flow_name, inside_name, key_number, outside_name};
+ghost use Rattle.sessions.specs.Listing.{is_translated as translates};
+
+use crate::Session;
+use packet::endpoint::{Endpoint, Proto};
+
+// One more than the number of the last endpoint.
+const ENDPOINTS: u128 = 0x1_0000_0000_0000;
+
+/// Protocol, an endpoint and the remote one behind one another, as a number of 104 bits. Keys of inside
+/// endpoints rise as sessions are ordered.
+pub fn key(proto: Proto, near: Endpoint, remote: Endpoint) -> u128
+    ensures value { result ≡ key_number proto near remote }
+    ensures near { IsEndpoint near }
+    ensures remote { IsEndpoint remote }
+{
+    let front = proto.number() as u128 * ENDPOINTS + number_of(near);
+    front * ENDPOINTS + number_of(remote)
+}
+
+fn number_of(endpoint: Endpoint) -> u128
+    ensures value { result ≡ endpoint_number endpoint }
+    ensures few { result < 281474976710656 }
+    ensures endpoint { IsEndpoint endpoint }
+{
+    endpoint.addr as u128 * 65_536 + endpoint.port as u128
+}
+
+/// The key by which each session is found from inside.
+pub fn flow_key(session: &Session) -> Option<u128>
+    ensures { result ≡ flow_name session.now }
+{
+    Some(key(session.proto, session.inside, session.remote))
+}
+
+/// The key by which a translated session is found among its like from inside.
+pub fn inside_key(session: &Session) -> Option<u128>
+    ensures { result ≡ inside_name session.now }
+{
+    if !is_translated(session) {
+        return None;
+    }
+    Some(key(session.proto, session.inside, session.remote))
+}
+
+/// The key by which a translated session is found among its like from outside.
+pub fn outside_key(session: &Session) -> Option<u128>
+    ensures { result ≡ outside_name session.now }
+{
+    if !is_translated(session) {
+        return None;
+    }
+    Some(key(session.proto, session.outside, session.remote))
+}
+
+/// Whether the session is called something else outside.
+pub fn is_translated(session: &Session) -> bool
+    ensures { result ≡ translates session.now }
+{
+    session.inside != session.outside
+}
+
+/// The addresses and ports of a session are numbers of 32 and of 16 bits.
+pub fn has_endpoints(session: &Session)
+    ensures { AreEndpoints session.now }
+{
+    number_of(session.inside);
+    number_of(session.outside);
+    number_of(session.remote);
+}
