@@ -96,9 +96,7 @@ impl Rows {
         ensures room_ok { OnOk result (self.old.room ≤ self.new.room + 1) }
         ensures room_err { OnErr result (self.old.room ≤ self.new.room) }
     {
-        if self.spare.is_empty() {
-            add_spare(self.alloc, &mut self.runs, &mut self.spare)?;
-        }
+        self.reserve_one()?;
         add(&mut self.runs, &mut self.spare, Entry { key, value });
         Ok(())
     }
@@ -128,9 +126,7 @@ impl Rows {
         ensures held { self.new.held ≡ self.old.held }
         ensures room { self.old.room ≤ self.new.room }
     {
-        if self.spare.is_empty() {
-            add_spare(self.alloc, &mut self.runs, &mut self.spare)?;
-        }
+        self.reserve_one()?;
         if self.spare.len() < 2 {
             add_spare(self.alloc, &mut self.runs, &mut self.spare)?;
         }

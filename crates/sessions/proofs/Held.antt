@@ -104,16 +104,3 @@ IsSound-more old new k t none here away few fits sound = record {
   at_most = few;
   seen = HasSeen-more old new k t fits here away sound.seen;
 }
-
-pub IsSound-set_free : (xs : List (Option Session)) (k : ℕ) (t : Session) → k < length xs → ¬ AnyClash xs t → count_by is_some (set xs k (Some t)) ≤ 65536 → IsSeen t.proto t.seen → IsSound xs → IsSound (set xs k (Some t))
-IsSound-set_free xs k t lt none few fits sound = IsSound-more xs _ k t none (get_or-set_same xs k (Some t) None lt) (λ j away. get_or-set_other xs k j (Some t) None away) few fits sound
-
-pub IsSound-push : (xs : List (Option Session)) (t : Session) → ¬ AnyClash xs t → count_by is_some (xs ++ Some t ∷ []) ≤ 65536 → IsSeen t.proto t.seen → IsSound xs → IsSound (xs ++ Some t ∷ [])
-IsSound-push xs t none few fits sound = IsSound-more xs _ (length xs) t none (get_or-append_seam xs (Some t) [] None) (λ j away. at_pushed xs t j away) few fits sound
-
--- a new session in a free place, or behind the last place, counts as one more
-pub count-set_free : (xs : List (Option Session)) (k : ℕ) (t : Session) → k < length xs → get_or xs k None ≡ None → count_by is_some (set xs k (Some t)) ≡ count_by is_some xs + 1
-count-set_free xs k t lt is = grind (arith, common_steps)
-
-pub count-push : (xs : List (Option Session)) (t : Session) → count_by is_some (xs ++ Some t ∷ []) ≡ count_by is_some xs + 1
-count-push xs t = grind (arith, common_steps)

@@ -101,31 +101,41 @@ module _ (near : Session → Endpoint) (near-fits : (s : Session) → AreEndpoin
     (name_is : (s : Session) → name s ≡ cond (is_translated s) (Some (key_number s.proto (near s) s.remote)) None)
     (held : List (Option Session)) (entries : List Entry) (finds : Finds name held entries) (rising : Climbs entries)
     (endpoints : (slot : ℕ) (s : Session) → get_or held slot None ≡ Some s → AreEndpoints s) where
-  pub met : (s : Session) (least : Endpoint) → IsEndpoint (near s) → endpoint_number least ≡ 0 → (j : ℕ) (u : Session) → get_or held j None ≡ Some u → u.inside ≢ u.outside → u.proto ≡ s.proto → near u ≡ near s → IsMet held entries near s least
-  met s least fits none j u is apart proto same =
-      let from = key_number s.proto (near s) least in
-      let key = key_number s.proto (near s) u.remote in
-      let named : name u ≡ Some key =
-      name_is u ∙ ap (λ b. cond b (Some (key_number u.proto (near u) u.remote)) None) (translated-from u apart)
-      ∙ ap (λ p. Some (key_number p (near u) u.remote)) proto ∙ ap (λ e. Some (key_number s.proto e u.remote)) same in
-      let first = first_is entries from key j rising (finds.slot_of j key u is named) (key-least s.proto (near s) u.remote least none) in
-      let at = finds.session_of first.entry.key first.entry.value first.found in
-      let t = at.0 in
-      let parts = cond-some (is_translated t) (key_number t.proto (near t) t.remote) first.entry.key (sym (name_is t) ∙ at.2) in
-      let key_is : first.entry.key ≡ key_number t.proto (near t) t.remote = sym parts.1 in
-      let fits_t = endpoints first.entry.value t at.1 in
-      let fits_u = endpoints j u is in
+  -- a session whose key lies between the least one of an endpoint and another of its own is of that endpoint
+  own : (s t u : Session) (least : Endpoint) (key : ℕ) → IsEndpoint (near s) → AreEndpoints t → AreEndpoints u → endpoint_number least ≡ 0 → name t ≡ Some key
+      → key_number s.proto (near s) least ≤ key → key ≤ key_number s.proto (near s) u.remote → (is_translated t ≡ true) × (t.proto ≡ s.proto) × (near t ≡ near s)
+  own s t u least key fits fits_t fits_u none named low high =
+      let mine = key_number t.proto (near t) t.remote in
+      let parts = cond-some (is_translated t) mine key (sym (name_is t) ∙ named) in
+      let is : key ≡ mine = sym parts.1 in
       let one = key-between s.proto t.proto (near s) (near t) u.remote t.remote least fits (near-fits t fits_t) fits_u.2 fits_t.2 none
-      (subst (λ k. from ≤ k) key_is first.low) (subst (λ k. k ≤ key) key_is first.high) in
+          (subst (λ k. key_number s.proto (near s) least ≤ k) is low) (subst (λ k. k ≤ key_number s.proto (near s) u.remote) is high) in
+      (parts.0, one.0, one.1)
+
+  named : (s u : Session) → u.inside ≢ u.outside → u.proto ≡ s.proto → near u ≡ near s → name u ≡ Some (key_number s.proto (near s) u.remote)
+  named s u apart proto same =
+      name_is u ∙ ap (λ b. cond b (Some (key_number u.proto (near u) u.remote)) None) (translated-from u apart)
+      ∙ ap (λ p. Some (key_number p (near u) u.remote)) proto ∙ ap (λ e. Some (key_number s.proto e u.remote)) same
+
+  met-at : (s u : Session) (least : Endpoint) → IsEndpoint (near s) → AreEndpoints u → endpoint_number least ≡ 0
+      → IsFirst entries (key_number s.proto (near s) least) (key_number s.proto (near s) u.remote) → IsMet held entries near s least
+  met-at s u least fits fits_u none first =
+      let at = finds.session_of first.entry.key first.entry.value first.found in
+      let is = own s at.0 u least first.entry.key fits (endpoints first.entry.value at.0 at.1) fits_u none at.2 first.low first.high in
       record {
         slot = first.entry.value;
-        session = t;
+        session = at.0;
         first = first.first;
         is_held = at.1;
-        translated = translated-apart t parts.0;
-        proto = one.0;
-        same = one.1;
+        translated = translated-apart at.0 is.0;
+        proto = is.1;
+        same = is.2;
       }
+
+  pub met : (s : Session) (least : Endpoint) → IsEndpoint (near s) → endpoint_number least ≡ 0 → (j : ℕ) (u : Session) → get_or held j None ≡ Some u → u.inside ≢ u.outside → u.proto ≡ s.proto → near u ≡ near s → IsMet held entries near s least
+  met s least fits none j u is apart proto same =
+      met-at s u least fits (endpoints j u is) none
+      (first_is entries (key_number s.proto (near s) least) (key_number s.proto (near s) u.remote) j rising (finds.slot_of j _ u is (named s u apart proto same)) (key-least s.proto (near s) u.remote least none))
 
 -- in a sound table a translated session of an endpoint has the far endpoint of any other
 module _ (held : List (Option Session)) (sound : IsSound held) (i j : ℕ) (t u : Session) (at_i : get_or held i None ≡ Some t) (at_j : get_or held j None ≡ Some u)

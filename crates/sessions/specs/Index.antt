@@ -1,5 +1,5 @@
 -- How a table finds its sessions. No public clause cites this module.
-use Rattle.std.specs.Prelude.{◌≡◌, ℕ, ◌+◌, ◌*◌, ◌^◌, ◌<◌, min, List, [], ◌∷◌, Option, Some, None, cond, slice_index_or, filter_map}
+use Rattle.std.specs.Prelude.{◌≡◌, ℕ, ◌+◌, ◌*◌, ◌^◌, ◌<◌, min, List, [], ◌∷◌, Option, Some, None, cond, IfSome, IsSomeAnd, slice_index_or, filter_map}
 use Rattle.packet.specs.declared.endpoint.Proto.{Proto}
 use Rattle.packet.specs.declared.endpoint.Endpoint.{Endpoint}
 use Rattle.packet.specs.Numbers.{proto_number}
@@ -92,3 +92,11 @@ ClashesAtHeld (Some t) s = Clash s t
 abbrev pub ClashesAt : List (Option Session) → Option ℕ → Session → Type 0
 ClashesAt held None s = ⊥
 ClashesAt held (Some slot) s = ClashesAtHeld (slice_index_or held slot None) s
+
+-- the slot holds a session that has it
+abbrev pub IsAt : List (Option Session) → (Session → Type 0) → ℕ → Type 0
+IsAt held Has slot = IsSomeAnd (slice_index_or held slot None) Has
+
+-- no slot holds a session that has it
+abbrev pub IsNowhere : List (Option Session) → (Session → Type 0) → Type 0
+IsNowhere held Has = (slot : ℕ) → IfSome (slice_index_or held slot None) (λ s. ¬ Has s)

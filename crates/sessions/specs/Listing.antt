@@ -42,12 +42,6 @@ listing [] = []
 listing (None ∷ held) = listing held
 listing (Some s ∷ held) = insert s (listing held)
 
--- the sessions that are held, by rising slot
-abbrev pub sessions_of : List (Option Session) → List Session
-sessions_of [] = []
-sessions_of (None ∷ held) = sessions_of held
-sessions_of (Some s ∷ held) = s ∷ sessions_of held
-
 -- some slot holds the session
 abbrev pub Holds : List (Option Session) → Session → Type 0
 Holds held s = (slot : ℕ) × (slice_index_or held slot None ≡ Some s)

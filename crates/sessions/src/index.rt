@@ -2,9 +2,9 @@
 //!
 //! A translated session stands in two rows more than any other, which have its like alone: so whichever
 //! entry of an endpoint comes first tells the mapping of that endpoint.
-ghost use Rattle.std.specs.Prelude.{◌≡◌, ◌↔◌, ◌+◌, ◌<◌, ◌≤◌, ℕ, [], IsTrue, IsOk, None, Some, IfSome, IfNone, OnOk, OnErr, IsSomeAnd, IfOk, slice_index_or};
+ghost use Rattle.std.specs.Prelude.{◌≡◌, ◌↔◌, ◌+◌, ◌<◌, ◌≤◌, [], IsTrue, IsOk, None, Some, IfSome, IfNone, OnOk, IfOk};
 ghost use Rattle.rows.specs.Held.{AreRising, entries_from};
-ghost use Rattle.sessions.specs.Index.{ClashesAt, Finds, IsIndexed, LacksName, LacksNames, PutsName, PutsNames, along, first_value, flow_name, inside_name, outside_name, room_of};
+ghost use Rattle.sessions.specs.Index.{ClashesAt, IsAt, IsIndexed, IsNowhere, LacksName, LacksNames, PutsName, PutsNames, along, first_value, room_of};
 ghost use Rattle.sessions.specs.Table.{AnyClash, BreakMapping, HasInside, HasOutside};
 
 use crate::Session;
@@ -123,8 +123,8 @@ pub fn find_inside(
     remote: Endpoint,
 ) -> Option<usize>
     requires { IsIndexed sessions.now.slots index.now }
-    ensures found { IfSome result (λ slot. IsSomeAnd (slice_index_or sessions.now.slots slot None) (HasInside proto inside remote)) }
-    ensures absent { IfNone result ((slot : ℕ) → IfSome (slice_index_or sessions.now.slots slot None) (λ s. ¬ HasInside proto inside remote s)) }
+    ensures found { IfSome result (IsAt sessions.now.slots (HasInside proto inside remote)) }
+    ensures absent { IfNone result (IsNowhere sessions.now.slots (HasInside proto inside remote)) }
 {
     index.flows.get(key(proto, inside, remote))
 }
@@ -138,8 +138,8 @@ pub fn find_outside(
     remote: Endpoint,
 ) -> Option<usize>
     requires { IsIndexed sessions.now.slots index.now }
-    ensures found { IfSome result (λ slot. IsSomeAnd (slice_index_or sessions.now.slots slot None) (HasOutside proto outside remote)) }
-    ensures absent { IfNone result ((slot : ℕ) → IfSome (slice_index_or sessions.now.slots slot None) (λ s. ¬ HasOutside proto outside remote s)) }
+    ensures found { IfSome result (IsAt sessions.now.slots (HasOutside proto outside remote)) }
+    ensures absent { IfNone result (IsNowhere sessions.now.slots (HasOutside proto outside remote)) }
 {
     let wanted = key(proto, outside, remote);
     if let Some(slot) = index.outsides.get(wanted) {
@@ -173,7 +173,7 @@ pub fn clashes(sessions: &Slab<Session>, index: &Index, session: &Session) -> bo
 fn breaks_mapping(sessions: &Slab<Session>, index: &Index, session: &Session) -> bool
     requires { IsIndexed sessions.now.slots index.now }
     ensures broken { IsTrue result → AnyClash sessions.now.slots session.now }
-    ensures kept { ¬ IsTrue result → (slot : ℕ) → IfSome (slice_index_or sessions.now.slots slot None) (λ held. ¬ BreakMapping session.now held) }
+    ensures kept { ¬ IsTrue result → IsNowhere sessions.now.slots (BreakMapping session.now) }
 {
     if !is_translated(session) {
         return false;

@@ -4,11 +4,11 @@
 //! - `session`: what a session is, and what may happen to it
 //! - `life`: what its packets have shown, its phase, and how long it may be idle
 //! - `table`: the sessions that are held, each in a slot that stays until the session ends
+//! - `index`: the rows of slots by which a table finds its sessions
+//! - `keys`: the numbers that those rows go by
 //! - `laws`: what the definitions promise, as functions without a body
 #![tactic(auto)]
 
-#[cfg(test)]
-mod churn;
 mod index;
 mod keys;
 mod laws;
