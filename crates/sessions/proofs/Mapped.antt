@@ -109,7 +109,7 @@ module _ (near : Session → Endpoint) (near-fits : (s : Session) → AreEndpoin
       let parts = cond-some (is_translated t) mine key (sym (name_is t) ∙ named) in
       let is : key ≡ mine = sym parts.1 in
       let one = key-between s.proto t.proto (near s) (near t) u.remote t.remote least fits (near-fits t fits_t) fits_u.2 fits_t.2 none
-          (subst (λ k. key_number s.proto (near s) least ≤ k) is low) (subst (λ k. k ≤ key_number s.proto (near s) u.remote) is high) in
+      (subst (λ k. key_number s.proto (near s) least ≤ k) is low) (subst (λ k. k ≤ key_number s.proto (near s) u.remote) is high) in
       (parts.0, one.0, one.1)
 
   named : (s u : Session) → u.inside ≢ u.outside → u.proto ≡ s.proto → near u ≡ near s → name u ≡ Some (key_number s.proto (near s) u.remote)
