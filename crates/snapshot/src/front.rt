@@ -1,5 +1,5 @@
 //! The front of a file that is made anew.
-ghost use Rattle.std.specs.Prelude.{◌≡◌, ◌<◌, ◌^◌, ◌∷◌, ◌++◌, [], length, IfOk};
+ghost use Rattle.std.specs.Prelude.{◌≡◌, ◌≤◌, ◌∷◌, ◌++◌, [], length, IfOk};
 ghost use Rattle.durable.specs.Coding.{heading_bytes};
 ghost use Rattle.durable.specs.Entering.{durable};
 ghost use Rattle.durable.specs.Laws.{anew};
@@ -10,7 +10,7 @@ use sessions::Session;
 use std::alloc::{AllocError, Global};
 
 /// What stands behind the gate of a file that is made anew: its heading, with the text and the sessions as the
-/// snapshot, and a closed gate.
+/// snapshot, and a closed gate. The text has at most 262,144 bytes, and there are at most 65,536 sessions.
 ///
 /// # Errors
 ///
@@ -22,10 +22,12 @@ pub(crate) fn front_of(
     text: &[u8],
     sessions: &[Session],
 ) -> Result<Vec<u8>, AllocError>
-    requires text { length text.now < 2 ^ 32 }
-    requires count { length sessions.now < 2 ^ 32 }
-    ensures { IfOk result (λ bytes. bytes.items ≡ heading_bytes (anew generation bounds.now (durable text.now sessions.now)) ++ 0 ∷ []) }
+    requires text { length text.now ≤ 262144 }
+    requires count { length sessions.now ≤ 65536 }
+    ensures small { IfOk result (λ bytes. length bytes.items ≤ 1638538) }
+    ensures code { IfOk result (λ bytes. bytes.items ≡ heading_bytes (anew generation bounds.now (durable text.now sessions.now)) ++ 0 ∷ []) }
 {
+    bounds.facts();
     let mut bytes = Vec::new(alloc);
     put_heading(&mut bytes, generation, bounds, text, sessions)?;
     bytes.push(0)?;

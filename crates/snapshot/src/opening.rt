@@ -41,7 +41,8 @@ fn settle<D: Disk>(disk: &mut D) -> Result<(), DiskFault>
     ensures cause { HasCause (D.failed disk.old) (D.failed disk.new) result }
 {
     disk.sync(FileId::A)?;
-    disk.sync(FileId::B)
+    disk.sync(FileId::B)?;
+    Ok(())
 }
 
 // The bytes of a file.
@@ -82,7 +83,7 @@ fn look<D: Disk>(alloc: Global, disk: &mut D) -> Result<(Vec<u8>, Vec<u8>), Open
 
 // What was recovered from two files, for a store of these bounds.
 fn keep(alloc: Global, found: Recovered<'_>) -> Result<Ready, OpenFault>
-    ensures ok { IfOk result (λ r. IsKept found r) }
+    ensures ok { IfOk result (λ r. IsKept found.entry r) }
     ensures device { IsErrOf result OpenFault.Device → ⊥ }
     ensures damaged { IsErrOf result OpenFault.Damaged → ⊥ }
     ensures differs { IsErrOf result OpenFault.ConfigDiffers → ⊥ }

@@ -33,5 +33,6 @@ pub(crate) fn remake<D: Disk>(disk: &mut D, file: FileId, bytes: &[u8]) -> Resul
 {
     write_synced(disk, file, 0, &[0])?;
     write_synced(disk, file, 1, bytes)?;
-    write_synced(disk, file, 0, &[1])
+    write_synced(disk, file, 0, &[1])?;
+    Ok(())
 }

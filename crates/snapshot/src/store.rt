@@ -287,14 +287,18 @@ impl<D: Disk + Drop> Store<D> {
             return Err(CompactFault::NoMemory);
         };
         let file = beside(self.active);
-        if remake(&mut self.disk, file, &bytes).is_err() {
-            self.fallen = true;
-            return Err(CompactFault::Device);
+        match remake(&mut self.disk, file, &bytes) {
+            Ok(()) => {
+                self.active = file;
+                self.generation = generation;
+                self.start = bytes.len() as u64;
+                self.end = self.start;
+                Ok(())
+            }
+            Err(_) => {
+                self.fallen = true;
+                Err(CompactFault::Device)
+            }
         }
-        self.active = file;
-        self.generation = generation;
-        self.start = bytes.len() as u64;
-        self.end = self.start;
-        Ok(())
     }
 }
