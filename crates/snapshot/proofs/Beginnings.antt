@@ -1,6 +1,6 @@
 -- Opening, over what two files stand for.
 use Rattle.std.proofs.Common.{◌≡◌, ◌≢◌, ◌⊎◌, inl, inr, ⊎_elim, ℕ, ◌+◌, ◌<◌, ◌≤◌, ◌^◌, List, [], ◌∷◌, ◌++◌, length, take, refl, sym, ◌∙◌, ap, subst, arith}
-use Rattle.std.specs.Prelude.{IsTrue}
+use Rattle.std.specs.Prelude.{IsTrue, Option, Some, None}
 use Rattle.packet.specs.Config.{Config, is_config}
 use Rattle.disk_model.specs.Disk.{Files, Same, Goes, Leaves, LeavesNow, LeavesOnly, Synced, Elsewhere}
 use Rattle.disk_model.specs.declared.disk.FileId.{FileId}
@@ -9,7 +9,7 @@ use Rattle.disk_model.proofs.Moments.{called, follows, at_end, narrows, only_the
 use Rattle.durable.specs.Coding.{heading_bytes, IsCodedConfig, IsHeading}
 use Rattle.durable.specs.Entering.{Durable, IsDurable, empty}
 use Rattle.durable.specs.Laws.{anew}
-use Rattle.durable.specs.Recovery.{Alike, IsConfigured, NoneOpen, Recovers, behind, pair}
+use Rattle.durable.specs.Recovery.{Active, Finds, Alike, IsConfigured, NoneOpen, Recovers, behind, pair}
 use Rattle.snapshot.specs.Remaking.{Remade}
 use Rattle.snapshot.specs.Opening.{IsReady}
 use Rattle.snapshot.specs.declared.opening.Ready.{Ready}
@@ -19,6 +19,12 @@ use Rattle.snapshot.proofs.Making.{first_active, begun_stands}
 pub pair_same : (files : Files) (a b : List ℕ) → a ≡ files A → b ≡ files B → Same files (pair a b)
 pair_same files a b one two A = one
 pair_same files a b one two B = two
+
+-- what files stand for is found in them
+pub found_of : (files : Files) (d : Durable) → Recovers files d → (found : Option Active) × Finds files found
+found_of files d (inl none) = (None, none.0)
+found_of files d (inr (f, h, end, active)) =
+    (Some (record { file = f; generation = h.generation; config = h.config; state = d; start = behind h; end = end }), record { heading = h; active = active; generation = refl; config = refl; start = refl })
 
 pub ready_same : (config : Config) (old new : Files) (r : Ready) → Same old new → IsReady config old r → IsReady config new r
 ready_same config old new r same is = record {

@@ -37,18 +37,16 @@ pub(crate) fn copy_of(alloc: Global, bounds: &Bounds) -> Result<Bounds, AllocErr
 }
 
 #[tactic(auto, unfolding(durable::specs::Coding::IsPrefix))]
-fn has_a_code(prefix: &Prefix)
-    ensures { IsPrefix prefix.now }
-{
-    let _value = *prefix;
-}
+fn has_a_code(prefix: Prefix)
+    ensures { IsPrefix prefix }
+{}
 
 fn prefixes_have_a_code(prefixes: &[Prefix])
     ensures { AllByRecursion IsPrefix prefixes.now }
 {
     let mut rest = prefixes;
     while let [prefix, more @ ..] = rest {
-        has_a_code(prefix);
+        has_a_code(*prefix);
         rest = more;
     }
 }

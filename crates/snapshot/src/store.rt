@@ -83,29 +83,29 @@ impl<D: Disk + Drop> Store<D> {
     ///   They are not changed.
     /// - `NoMemory` where memory is refused. They are not changed.
     pub fn open(alloc: Global, disk: D, bounds: &Bounds) -> Result<Opened<D>, (D, OpenFault)>
-        ensures honest { MatchResult result (λ o. D.honest disk.entry ↔ D.honest o.store.disk) (λ e. D.honest disk.entry ↔ D.honest e.0) }
+        ensures honest { MatchResult result (λ o. D.honest disk ↔ D.honest o.store.disk) (λ e. D.honest disk ↔ D.honest e.0) }
 
         // Whatever a crash leaves since the entry stands for what some pair left at the entry stands for.
-        ensures any_moment { D.honest disk.entry → MatchResult result (λ o. Leaves D.moment D.left disk.entry o.store.disk Alike)
-            (λ e. Leaves D.moment D.left disk.entry e.0 Alike) }
+        ensures any_moment { D.honest disk → MatchResult result (λ o. Leaves D.moment D.left disk o.store.disk Alike)
+            (λ e. Leaves D.moment D.left disk e.0 Alike) }
 
         // Where each pair left at the entry has this configuration in its active file, if it has one, so has each since.
-        ensures configured { D.honest disk.entry → LeavesNow D.moment D.left disk.entry (IsConfigured bounds.now)
-            → MatchResult result (λ o. LeavesOnly D.moment D.left disk.entry o.store.disk (IsConfigured bounds.now))
-            (λ e. LeavesOnly D.moment D.left disk.entry e.0 (IsConfigured bounds.now)) }
+        ensures configured { D.honest disk → LeavesNow D.moment D.left disk (IsConfigured bounds.now)
+            → MatchResult result (λ o. LeavesOnly D.moment D.left disk o.store.disk (IsConfigured bounds.now))
+            (λ e. LeavesOnly D.moment D.left disk e.0 (IsConfigured bounds.now)) }
 
         // It is kept what the files stood for as they read, and that is what is answered.
-        ensures ok { D.honest disk.entry → IfOk result (λ o. Recovers (D.seen disk.entry) (durable o.text.items o.sessions.items)
+        ensures ok { D.honest disk → IfOk result (λ o. Recovers (D.seen disk) (durable o.text.items o.sessions.items)
             × Keeps D.moment D.left D.seen o.store.disk (durable o.text.items o.sessions.items)) }
-        ensures taken { D.honest disk.entry → OnOk result (IsConfigured bounds.now (D.seen disk.entry)) }
+        ensures taken { D.honest disk → OnOk result (IsConfigured bounds.now (D.seen disk)) }
         ensures stands { IfOk result (λ o. o.store.fallen ≡ false) }
         ensures config { IfOk result (λ o. o.store.config ≡ bounds.now) }
-        ensures damaged { D.honest disk.entry → IfErr result (λ e. e.1 ≡ OpenFault.Damaged → (d : Durable) → ¬ Recovers (D.seen disk.entry) d) }
-        ensures differs { D.honest disk.entry → IfErr result (λ e. e.1 ≡ OpenFault.ConfigDiffers
-            → (d : Durable) × Recovers (D.seen disk.entry) d × ¬ IsConfigured bounds.now (D.seen disk.entry)) }
-        ensures looks { D.honest disk.entry → IfErr result (λ e. ¬ (e.1 ≡ OpenFault.Device) → Looks D.moment D.left D.seen disk.entry e.0) }
-        ensures failures { MatchResult result (λ o. D.failed o.store.disk ≡ D.failed disk.entry) (λ e. D.failed disk.entry ≤ D.failed e.0) }
-        ensures device { IfErr result (λ e. e.1 ≡ OpenFault.Device → Grew (D.failed disk.entry) (D.failed e.0)) }
+        ensures damaged { D.honest disk → IfErr result (λ e. e.1 ≡ OpenFault.Damaged → (d : Durable) → ¬ Recovers (D.seen disk) d) }
+        ensures differs { D.honest disk → IfErr result (λ e. e.1 ≡ OpenFault.ConfigDiffers
+            → (d : Durable) × Recovers (D.seen disk) d × ¬ IsConfigured bounds.now (D.seen disk)) }
+        ensures looks { D.honest disk → IfErr result (λ e. ¬ (e.1 ≡ OpenFault.Device) → Looks D.moment D.left D.seen disk e.0) }
+        ensures failures { MatchResult result (λ o. D.failed o.store.disk ≡ D.failed disk) (λ e. D.failed disk ≤ D.failed e.0) }
+        ensures device { IfErr result (λ e. e.1 ≡ OpenFault.Device → Grew (D.failed disk) (D.failed e.0)) }
     {
         let mut disk = disk;
         match make_ready(alloc, &mut disk, bounds) {

@@ -6,6 +6,7 @@ use Rattle.disk_model.specs.declared.disk.FileId.TheVariants.{A, B}
 use Rattle.durable.specs.Recovery.{IsConfigured, NoneOpen, Recovers, pair}
 use Rattle.durable.proofs.Errors.{same_error}
 use Rattle.durable.proofs.Headed.{recovers_once}
+use Rattle.snapshot.specs.Opening.{IsReady}
 use Rattle.snapshot.proofs.States.{same_back, none_same, configured_by, configured_same}
 use Rattle.snapshot.proofs.Beginnings.{pair_same, ready_same, alike_of, alike_on, configured_of, configured_on, begun_alike}
 use Rattle.snapshot.proofs.opening.make_ready.Goals as goal
@@ -49,7 +50,7 @@ returns-in-Some-clause-recovers g c = λ h.
     let files = g.D.Disk.seen c.args.disk.now in
     let read = pair_same files c.deref.result.now c.deref-2.result.now (c.deref.ensures.value ∙ (c.in_ok-a.ensures.ok h).0) (c.deref-2.ensures.value ∙ (c.in_ok-a.ensures.ok h).1) in
     let other = pair c.deref.result.now c.deref-2.result.now in
-    let is = c.in-Some.ensures.ok in
+    let is : IsReady c.args.bounds.now (pair c.deref.result.now c.deref-2.result.now) c.in-Some.found = search rules in
     recovers_once.same other files _ (same_back files other read) (inr (c.in-Some.found.file, is.heading, c.in-Some.found.end, is.active))
 
 pub returns-in-Some-clause-taken : goal.returns-in-Some-clause-taken
@@ -57,7 +58,7 @@ returns-in-Some-clause-taken g c = λ h.
     let files = g.D.Disk.seen c.args.disk.now in
     let read = pair_same files c.deref.result.now c.deref-2.result.now (c.deref.ensures.value ∙ (c.in_ok-a.ensures.ok h).0) (c.deref-2.ensures.value ∙ (c.in_ok-a.ensures.ok h).1) in
     let other = pair c.deref.result.now c.deref-2.result.now in
-    let is = c.in-Some.ensures.ok in
+    let is : IsReady c.args.bounds.now (pair c.deref.result.now c.deref-2.result.now) c.in-Some.found = search rules in
     configured_same c.args.bounds.now other files (same_back files other read) (configured_by c.args.bounds.now other c.in-Some.found.file is.heading _ c.in-Some.found.end is.active is.configured)
 
 pub returns-clause-any_moment : goal.returns-clause-any_moment

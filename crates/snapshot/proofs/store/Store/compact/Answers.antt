@@ -88,8 +88,8 @@ returns-in-Ok-remake-clause-configured g c = rw (← c.self.view_is) (λ honest.
     let leaves = subst (λ (x : FileId). Leaves m left i.disk c.remake.new.disk (Remade x c.deref.result.now)) c.beside-file.ensures (c.remake.ensures.any_moment honest) in
     compact_configured m left seen _ i.active d rest.0 c.remake.new.disk c.deref.result.now fits are leaves)
 
-pub returns-in-Err-clause-any_moment : goal.returns-in-Err-clause-any_moment
-returns-in-Err-clause-any_moment g c = rw (← c.self.view_is) (λ honest.
+pub returns-clause-any_moment : goal.returns-clause-any_moment
+returns-clause-any_moment g c = rw (← c.self.view_is) (λ honest.
     let m = g.D.Disk.moment in
     let left = g.D.Disk.left in
     let seen = g.D.Disk.seen in
@@ -103,8 +103,8 @@ returns-in-Err-clause-any_moment g c = rw (← c.self.view_is) (λ honest.
     let leaves = subst (λ (x : FileId). Leaves m left i.disk c.remake.new.disk (Remade x c.deref.result.now)) c.beside-file.ensures (c.remake.ensures.any_moment honest) in
     compact_leaves m left seen _ i.active d rest.0 c.remake.new.disk c.deref.result.now fits are leaves)
 
-pub returns-in-Err-clause-configured : goal.returns-in-Err-clause-configured
-returns-in-Err-clause-configured g c = rw (← c.self.view_is) (λ honest.
+pub returns-clause-configured : goal.returns-clause-configured
+returns-clause-configured g c = rw (← c.self.view_is) (λ honest.
     let m = g.D.Disk.moment in
     let left = g.D.Disk.left in
     let seen = g.D.Disk.seen in
