@@ -10,18 +10,21 @@ use Rattle.snapshot.specs.Remaking.{Renewed, Remade}
 
 closed : (bytes old new : List ℕ) → Torn 0 (0 ∷ []) old new → Renewed bytes old new
 closed bytes old new torn = elim (cases_eq (get_or new 0 0) 1) [
-    | inl one ↦
+  | inl one ↦
       let was = torn.closing refl one in
       let long = torn.no_shorter in
       let size = length-take-le (length old) new long in
-      inr (inl (was, ext_get_or 0 (take (length old) new) old size (λ i lt.
-        let below : i < length old = omega (arith, size, lt) in
-        get_or-take (length old) new i 0 below ∙ (elim (cases_eq i 0) [
-          | inl zero ↦ ap (λ k. get_or new k 0) zero ∙ one ∙ sym was ∙ ap (λ k. get_or old k 0) (sym zero)
-          | inr more ↦ torn.outside i below (inr (omega (arith, more)))
-        ]))))
-    | inr shut ↦ inl shut
-  ]
+      inr (inl (
+        was,
+        ext_get_or 0 (take (length old) new) old size (λ i lt.
+            let below : i < length old = omega (arith, size, lt) in
+            get_or-take (length old) new i 0 below ∙ (elim (cases_eq i 0) [
+              | inl zero ↦ ap (λ k. get_or new k 0) zero ∙ one ∙ sym was ∙ ap (λ k. get_or old k 0) (sym zero)
+              | inr more ↦ torn.outside i below (inr (omega (arith, more)))
+            ])),
+      ))
+  | inr shut ↦ inl shut
+]
 
 stays_closed : (bytes old new x : List ℕ) → 1 ≤ length old → get_or old 0 0 ≢ 1 → Torn 1 bytes old new → Renewed bytes x new
 stays_closed bytes old new x within shut torn = inl (λ one. shut (sym (torn.outside 0 within (inl (omega arith))) ∙ one))
@@ -33,11 +36,11 @@ front_of bytes tail file one within is =
 
 opened : (bytes tail old new x : List ℕ) → 1 ≤ length old → drop 1 old ≡ bytes ++ tail → Torn 0 (1 ∷ []) old new → Renewed bytes x new
 opened bytes tail old new x within is torn = elim (cases_eq (get_or new 0 0) 1) [
-    | inl one ↦
+  | inl one ↦
       let behind : drop 1 new ≡ bytes ++ (tail ++ drop (length old) new) = torn_behind 0 1 (1 ∷ []) old new torn (omega arith) within ∙ ap (λ l. l ++ drop (length old) new) is ∙ append_assoc bytes tail (drop (length old) new) in
       inr (inr (front_of bytes (tail ++ drop (length old) new) new one (omega (arith, within, torn.no_shorter)) behind))
-    | inr shut ↦ inl shut
-  ]
+  | inr shut ↦ inl shut
+]
 
 module _ {D : Type 0} (moment : D → ℕ) (left : D → ℕ → Files → Type 0) (seen : D → Files) (file : FileId) (bytes : List ℕ) where
   pub first_write : (old mid : D) → Leaves moment left old mid (Written file 0 (0 ∷ [])) → Leaves moment left old mid (Remade file bytes)
@@ -53,11 +56,14 @@ module _ {D : Type 0} (moment : D → ℕ) (left : D → ℕ → Files → Type 
       follows moment left old mid new (Remade file bytes) (Written file at b) (Remade file bytes) first next
       (λ before files was r. r)
       (λ files from.
-        let origin = at_end moment left old mid (Remade file bytes) earlier first from.0 from.1 in
-        (origin.0, origin.1, record {
+      let origin = at_end moment left old mid (Remade file bytes) earlier first from.0 from.1 in (
+        origin.0,
+        origin.1,
+        record {
           here = renews (from.0 file) (files file) (origin.0 file) (synced from.0 from.1) from.2.here;
           elsewhere = λ other ne. from.2.elsewhere other ne ∙ origin.2.elsewhere other ne;
-        }))
+        },
+      ))
 
   shut_there : (old mid : D) → Put file 0 (0 ∷ []) (seen old) (seen mid) → (1 ≤ length (seen mid file)) × (get_or (seen mid file) 0 0 ≡ 0)
   shut_there old mid stored =

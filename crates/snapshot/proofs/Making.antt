@@ -21,9 +21,9 @@ fresh_of file bytes h are is =
     let rest = drop (1 + length bytes) file in (
       rest,
       sym (take-append-drop (1 + length bytes) file)
-      ∙ ap (λ (l : List ℕ). l ++ rest) is
-      ∙ ap (λ (b : List ℕ). 1 ∷ (b ++ rest)) are
-      ∙ ap (λ (l : List ℕ). 1 ∷ l) (append_assoc (heading_bytes h) (0 ∷ []) rest),
+          ∙ ap (λ (l : List ℕ). l ++ rest) is
+          ∙ ap (λ (b : List ℕ). 1 ∷ (b ++ rest)) are
+          ∙ ap (λ (l : List ℕ). 1 ∷ l) (append_assoc (heading_bytes h) (0 ∷ []) rest),
     )
 
 -- a file that has become longer
@@ -63,9 +63,9 @@ remade_stands old files f h d end bytes active fits are remade =
       anew (h.generation + 1) h.config d,
       behind (anew (h.generation + 1) h.config d),
       renews.renewed old files f h (h.generation + 1) h.config d end active here
-      (fresh_of (files (other f)) bytes (anew (h.generation + 1) h.config d) are fresh)
-      (anew_whole (h.generation + 1) old f h d end fits active)
-      active.0.headed.config (recovers_once.sound old f h d end active) (omega arith),
+          (fresh_of (files (other f)) bytes (anew (h.generation + 1) h.config d) are fresh)
+          (anew_whole (h.generation + 1) old f h d end fits active)
+          active.0.headed.config (recovers_once.sound old f h d end active) (omega arith),
       refl,
     ))
     rest)

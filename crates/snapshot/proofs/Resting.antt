@@ -82,21 +82,24 @@ module _ {D : Type 0} (moment : D → ℕ) (left : D → ℕ → Files → Type 
           → ((a b : ℕ) (files : Files) → a ≤ b → left new b files → left new a files)
           → Stands moment left seen s.disk new f s.end body t.end → (r : Rests moment left seen t f e) × (r.heading ≡ rest.heading)
       unfolding own
-      commit_rests t disk config generation grown earlier stands = (record {
-        synced = λ each. subst (λ (x : D). Synced moment left seen x each) (sym disk) (λ files now.
-            ⊎_elim
-            (λ is. subst (λ (g : FileId). files g ≡ seen new g) (sym is) (stands.resting.synced files now))
-            (λ ne.
-            let origin = at_end moment left s.disk new (Appended f s.end body) earlier leaves files now in
-            origin.2.elsewhere each ne ∙ rest.synced each origin.0 origin.1 ∙ sym (stands.elsewhere each ne))
-            (same_file each f));
-        heading = rest.heading;
-        active = subst (λ (x : D). IsActive (seen x) f rest.heading e t.end) (sym disk)
-            (renews.stood (seen s.disk) (seen new) f body rest.heading d e s.end t.end rest.active stands.elsewhere stands.before stands.groups own);
-        configured = rest.configured ∙ sym config;
-        numbered = rest.numbered ∙ sym generation;
-        filled = grown;
-      }, refl)
+      commit_rests t disk config generation grown earlier stands = (
+        record {
+          synced = λ each. subst (λ (x : D). Synced moment left seen x each) (sym disk) (λ files now.
+              ⊎_elim
+              (λ is. subst (λ (g : FileId). files g ≡ seen new g) (sym is) (stands.resting.synced files now))
+              (λ ne.
+              let origin = at_end moment left s.disk new (Appended f s.end body) earlier leaves files now in
+              origin.2.elsewhere each ne ∙ rest.synced each origin.0 origin.1 ∙ sym (stands.elsewhere each ne))
+              (same_file each f));
+          heading = rest.heading;
+          active = subst (λ (x : D). IsActive (seen x) f rest.heading e t.end) (sym disk)
+              (renews.stood (seen s.disk) (seen new) f body rest.heading d e s.end t.end rest.active stands.elsewhere stands.before stands.groups own);
+          configured = rest.configured ∙ sym config;
+          numbered = rest.numbered ∙ sym generation;
+          filled = grown;
+        },
+        refl,
+      )
 
     -- ---- the other file is made anew
 
@@ -128,19 +131,21 @@ module _ {D : Type 0} (moment : D → ℕ) (left : D → ℕ → Files → Type 
       compact_rests t g disk config generation end grown file earlier fresh synced elsewhere =
           let k = anew (rest.heading.generation + 1) rest.heading.config d in
           let size : length bytes ≡ behind k = behind_is k bytes own_are in
-          let active : IsActive (seen new) (other f) k d (behind k) = remade_active (seen s.disk) (seen new) f rest.heading d s.end bytes rest.active own_fits own_are elsewhere fresh in
-          (record {
-            synced = λ each. subst (λ (x : D). Synced moment left seen x each) (sym disk) (λ files now.
-                ⊎_elim
-                (λ is. subst (λ (h : FileId). files h ≡ seen new h) (sym is) (synced files now))
-                (λ ne.
-                let origin = at_end moment left s.disk new (Remade (other f) bytes) earlier leaves files now in
-                origin.2.elsewhere each ne ∙ rest.synced each origin.0 origin.1 ∙ sym (elsewhere each ne))
-                (same_file each (other f)));
-            heading = k;
-            active = subst (λ (x : D). IsActive (seen x) g k d t.end) (sym disk) (subst (λ (h : FileId). IsActive (seen new) h k d t.end) (sym file)
-                (subst (λ (n : ℕ). IsActive (seen new) (other f) k d n) (sym (end ∙ size)) active));
-            configured = rest.configured ∙ sym config;
-            numbered = ap (λ (n : ℕ). n + 1) rest.numbered ∙ sym generation;
-            filled = let e : t.end ≡ behind k + t.grown = omega (arith, end, size, grown) in e;
-          }, size)
+          let active : IsActive (seen new) (other f) k d (behind k) = remade_active (seen s.disk) (seen new) f rest.heading d s.end bytes rest.active own_fits own_are elsewhere fresh in (
+            record {
+              synced = λ each. subst (λ (x : D). Synced moment left seen x each) (sym disk) (λ files now.
+                  ⊎_elim
+                  (λ is. subst (λ (h : FileId). files h ≡ seen new h) (sym is) (synced files now))
+                  (λ ne.
+                  let origin = at_end moment left s.disk new (Remade (other f) bytes) earlier leaves files now in
+                  origin.2.elsewhere each ne ∙ rest.synced each origin.0 origin.1 ∙ sym (elsewhere each ne))
+                  (same_file each (other f)));
+              heading = k;
+              active = subst (λ (x : D). IsActive (seen x) g k d t.end) (sym disk) (subst (λ (h : FileId). IsActive (seen new) h k d t.end) (sym file)
+                  (subst (λ (n : ℕ). IsActive (seen new) (other f) k d n) (sym (end ∙ size)) active));
+              configured = rest.configured ∙ sym config;
+              numbered = ap (λ (n : ℕ). n + 1) rest.numbered ∙ sym generation;
+              filled = let e : t.end ≡ behind k + t.grown = omega (arith, end, size, grown) in e;
+            },
+            size,
+          )

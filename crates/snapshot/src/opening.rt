@@ -101,12 +101,7 @@ fn keep(alloc: Global, found: Recovered<'_>) -> Result<Ready, OpenFault>
 }
 
 // What two files hold, by their bytes, for a store of these bounds.
-fn judge(
-    alloc: Global,
-    a: &[u8],
-    b: &[u8],
-    bounds: &Bounds,
-) -> Result<Option<Ready>, OpenFault>
+fn judge(alloc: Global, a: &[u8], b: &[u8], bounds: &Bounds) -> Result<Option<Ready>, OpenFault>
     ensures ok { IfOk result (λ found. IsJudged bounds.now (pair a.now b.now) found) }
     ensures bounds { IfOk result (λ found. IfSome found (λ r. r.bounds ≡ bounds.now)) }
     ensures damaged { IsErrOf result OpenFault.Damaged → (d : Durable) → ¬ Recovers (pair a.now b.now) d }

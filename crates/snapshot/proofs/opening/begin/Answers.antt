@@ -43,7 +43,7 @@ returns-clause-ok g c = λ honest.
     let bytes = c.deref.result.now in
     let are = c.deref.ensures.value ∙ c.in_ok-bytes.ensures.code in
     let active = first_active config bytes (empty_whole config c.have_a_code.ensures) c.facts.ensures.valid (empty_durable config) are (g.D.Disk.seen c.args.disk.now) (g.D.Disk.seen c.remake.new.disk)
-        (c.requires.none honest) (c.in_ok-remake.ensures.elsewhere honest) (c.in_ok-remake.ensures.fresh honest) in
+    (c.requires.none honest) (c.in_ok-remake.ensures.elsewhere honest) (c.in_ok-remake.ensures.fresh honest) in
     let size : c.len-end.result ≡ behind k = (let e : c.len-end.result ≡ length bytes = omega (arith, c.len-end.ensures, c.deref.ensures.len) in e) ∙ behind_is k bytes are in
     let state : durable c.new.result.items c.new-2.result.items ≡ empty = ap (λ (t : List ℕ). durable t c.new-2.result.items) c.new.ensures.items ∙ ap (λ ss. durable [] ss) c.new-2.ensures.items in
     record {

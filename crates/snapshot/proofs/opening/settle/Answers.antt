@@ -28,8 +28,8 @@ returns-clause-looks g c = λ h0.
     record {
       stays = λ file. c.in_ok-sync-2.ensures.seen h1 file ∙ c.in_ok-sync.ensures.seen h0 file;
       leaves = same_then g.D.Disk.moment g.D.Disk.left c.args.disk.now c.sync.new.self c.sync-2.new.self (λ s t files le since. g.met.D.Disk.earlier c.sync.new.self s t files h1 le since)
-      (same_call g.D.Disk.moment g.D.Disk.left c.args.disk.now c.sync.new.self (c.sync.ensures.crash h0))
-      (same_call g.D.Disk.moment g.D.Disk.left c.sync.new.self c.sync-2.new.self (c.sync-2.ensures.crash h1));
+          (same_call g.D.Disk.moment g.D.Disk.left c.args.disk.now c.sync.new.self (c.sync.ensures.crash h0))
+          (same_call g.D.Disk.moment g.D.Disk.left c.sync.new.self c.sync-2.new.self (c.sync-2.ensures.crash h1));
     }
 
 pub returns-clause-synced : goal.returns-clause-synced

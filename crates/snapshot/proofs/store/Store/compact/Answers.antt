@@ -140,7 +140,7 @@ invariant_of-self g c = λ stands after.
     let synced = subst (λ (x : FileId). Synced m left seen c.remake.new.disk x) there (c.in-Ok-remake.ensures.synced honest) in
     let elsewhere = subst (λ (x : FileId). Elsewhere x (seen i.disk) (seen c.remake.new.disk)) there (c.in-Ok-remake.ensures.elsewhere honest) in
     let made = compact_rests m left seen _ i.active d rest.0 c.remake.new.disk c.deref.result.now fits are leaves t c.beside-file.result refl refl refl size none there
-        (λ s t files le since. g.met.D.Disk.earlier c.remake.new.disk s t files (c.remake.ensures.honest.0 honest) le since) fresh synced elsewhere in
+    (λ s t files le since. g.met.D.Disk.earlier c.remake.new.disk s t files (c.remake.ensures.honest.0 honest) le since) fresh synced elsewhere in
     (d, made.0, size ∙ made.1)
 
 pub returns-in-Ok-remake-clause-ok : goal.returns-in-Ok-remake-clause-ok
@@ -164,5 +164,5 @@ returns-in-Ok-remake-clause-ok g c = rw (← c.self.view_is) (λ honest.
     let synced = subst (λ (x : FileId). Synced m left seen c.remake.new.disk x) there (c.in-Ok-remake.ensures.synced honest) in
     let elsewhere = subst (λ (x : FileId). Elsewhere x (seen i.disk) (seen c.remake.new.disk)) there (c.in-Ok-remake.ensures.elsewhere honest) in
     let made = compact_rests m left seen _ i.active d rest.0 c.remake.new.disk c.deref.result.now fits are leaves t c.beside-file.result refl refl refl size none there
-        (λ s t files le since. g.met.D.Disk.earlier c.remake.new.disk s t files (c.remake.ensures.honest.0 honest) le since) fresh synced elsewhere in
+    (λ s t files le since. g.met.D.Disk.earlier c.remake.new.disk s t files (c.remake.ensures.honest.0 honest) le since) fresh synced elsewhere in
     keeps m left seen t c.beside-file.result d made.0)
