@@ -1,0 +1,117 @@
+-- Opening, over what two files stand for.
+use Rattle.std.proofs.Common.{◌≡◌, ◌≢◌, ◌⊎◌, inl, inr, ⊎_elim, ℕ, ◌+◌, ◌<◌, ◌≤◌, ◌^◌, List, [], ◌∷◌, ◌++◌, length, take, refl, sym, ◌∙◌, ap, subst, arith}
+use Rattle.std.specs.Prelude.{IsTrue, Option, Some, None}
+use Rattle.packet.specs.Config.{Config, is_config}
+use Rattle.disk_model.specs.Disk.{Files, Same, Goes, Leaves, LeavesNow, LeavesOnly, Synced, Elsewhere}
+use Rattle.disk_model.specs.declared.disk.FileId.{FileId}
+use Rattle.disk_model.specs.declared.disk.FileId.TheVariants.{A, B}
+use Rattle.disk_model.proofs.Moments.{called, follows, at_end, narrows, only_then}
+use Rattle.durable.specs.Coding.{heading_bytes, IsCodedConfig, IsHeading}
+use Rattle.durable.specs.Entering.{Durable, IsDurable, empty}
+use Rattle.durable.specs.Laws.{anew}
+use Rattle.durable.specs.Recovery.{Active, Finds, Alike, IsConfigured, NoneOpen, Recovers, behind, pair}
+use Rattle.snapshot.specs.Remaking.{Remade}
+use Rattle.snapshot.specs.Opening.{IsReady}
+use Rattle.snapshot.specs.declared.opening.Ready.{Ready}
+use Rattle.snapshot.proofs.States.{same_file, active_same, none_same, configured_by, configured_none, configured_same, alike, alike_same, alike_then}
+use Rattle.snapshot.proofs.Making.{first_active, begun_stands}
+
+pub pair_same : (files : Files) (a b : List ℕ) → a ≡ files A → b ≡ files B → Same files (pair a b)
+pair_same files a b one two A = one
+pair_same files a b one two B = two
+
+-- what files stand for is found in them
+pub found_of : (files : Files) (d : Durable) → Recovers files d → (found : Option Active) × Finds files found
+found_of files d (inl none) = (None, none.0)
+found_of files d (inr (f, h, end, active)) =
+    (Some (record { file = f; generation = h.generation; config = h.config; state = d; start = behind h; end = end }), record { heading = h; active = active; generation = refl; config = refl; start = refl })
+
+pub ready_same : (config : Config) (old new : Files) (r : Ready) → Same old new → IsReady config old r → IsReady config new r
+ready_same config old new r same is = record {
+  heading = is.heading;
+  active = active_same old new r.file is.heading _ r.end same is.active;
+  configured = is.configured;
+  numbered = is.numbered;
+  starts = is.starts;
+}
+
+pub empty_whole : (config : Config) → IsCodedConfig config → IsHeading (anew 1 config empty)
+empty_whole config coded = record { generation = omega arith; config = coded; kept = record { text = omega arith; count = omega arith; sessions = tt } }
+
+pub empty_durable : (config : Config) → IsDurable config empty
+empty_durable config = record {
+  text = inl refl;
+  sessions = record {
+    rises = tt;
+    apart = λ s t is. absurd is;
+    at_most = omega arith;
+    placed = λ s is. absurd is;
+    seen = λ s is. absurd is;
+  };
+}
+
+module _ {D : Type 0} (moment : D → ℕ) (left : D → ℕ → Files → Type 0) where
+  pub same_call : (old new : D) → Goes moment left old new Same → Leaves moment left old new Same
+  same_call old new goes = called moment left old new Same (λ files was file. refl) goes
+
+  module _ (old mid new : D) (earlier : (s t : ℕ) (files : Files) → s ≤ t → left mid t files → left mid s files) (first : Leaves moment left old mid Same) where
+    pub same_then : Leaves moment left mid new Same → Leaves moment left old new Same
+    same_then next = follows moment left old mid new Same Same Same first next
+        (λ before files was s. s)
+        (λ files from. let origin = at_end moment left old mid Same earlier first from.0 from.1 in (origin.0, origin.1, λ file. from.2 file ∙ origin.2 file))
+
+    pub alike_on : Leaves moment left mid new Alike → Leaves moment left old new Alike
+    alike_on next = follows moment left old mid new Same Alike Alike first next
+        (λ before files was same. alike_same before files same)
+        (λ files from.
+        let origin = at_end moment left old mid Same earlier first from.0 from.1 in
+        (origin.0, origin.1, alike_then origin.0 from.0 files (alike_same origin.0 from.0 origin.2) from.2))
+
+  pub both_synced : (seen : D → Files) (disk : D) → Synced moment left seen disk A → Synced moment left seen disk B → (file : FileId) → Synced moment left seen disk file
+  both_synced seen disk a b A = a
+  both_synced seen disk a b B = b
+
+  pub alike_of : (old new : D) → Leaves moment left old new Same → Leaves moment left old new Alike
+  alike_of old new first = narrows moment left old new Same Alike first (λ before files was same. alike_same before files same)
+
+  pub configured_of : (config : Config) (old new : D) → Leaves moment left old new Same → LeavesNow moment left old (IsConfigured config) → LeavesOnly moment left old new (IsConfigured config)
+  configured_of config old new first now =
+      narrows moment left old new Same (λ before files. IsConfigured config files) first (λ before files was same. configured_same config before files same (now before was))
+
+  pub configured_on : (config : Config) (old mid new : D) → ((s t : ℕ) (files : Files) → s ≤ t → left mid t files → left mid s files) → Leaves moment left old mid Same
+      → LeavesNow moment left old (IsConfigured config) → LeavesOnly moment left mid new (IsConfigured config) → LeavesOnly moment left old new (IsConfigured config)
+  configured_on config old mid new earlier first now next =
+      only_then moment left old mid new (IsConfigured config) (IsConfigured config) (IsConfigured config) earlier (configured_of config old mid first now) next (λ files p. p) (λ files p. p)
+
+  module _ (seen : D → Files) (old new : D) (none : NoneOpen (seen old)) (synced : (file : FileId) → Synced moment left seen old file) where
+    pub begun_alike : LeavesOnly moment left old new (λ files. Recovers files empty) → Leaves moment left old new Alike
+    begun_alike leaves = narrows moment left old new (λ before files. Recovers files empty) Alike leaves
+        (λ before files was r. alike before files empty (inl (none_same (seen old) before (λ file. synced file before was) none, refl)) r)
+
+    module _ (config : Config) (bytes : List ℕ) (coded : IsCodedConfig config) (is : IsTrue (is_config config))
+        (are : bytes ≡ heading_bytes (anew 1 config empty) ++ 0 ∷ []) (leaves : Leaves moment left old new (Remade A bytes)) where
+      pub begun_leaves : LeavesOnly moment left old new (λ files. Recovers files empty)
+      begun_leaves = narrows moment left old new (Remade A bytes) (λ before files. Recovers files empty) leaves
+          (λ before files was remade.
+          ⊎_elim
+          (λ (shut : NoneOpen files). inl (shut, refl))
+          (λ active. inr (A, anew 1 config empty, behind (anew 1 config empty), active))
+          (begun_stands config bytes (empty_whole config coded) is (empty_durable config) are before files (none_same (seen old) before (λ file. synced file before was) none) remade))
+
+      pub begun_configured : LeavesOnly moment left old new (IsConfigured config)
+      begun_configured = narrows moment left old new (Remade A bytes) (λ before files. IsConfigured config files) leaves
+          (λ before files was remade.
+          ⊎_elim
+          (λ (shut : NoneOpen files). configured_none config files shut)
+          (λ active. configured_by config files A (anew 1 config empty) empty (behind (anew 1 config empty)) active refl)
+          (begun_stands config bytes (empty_whole config coded) is (empty_durable config) are before files (none_same (seen old) before (λ file. synced file before was) none) remade))
+
+      pub begun_synced : ((s t : ℕ) (files : Files) → s ≤ t → left new t files → left new s files) → Synced moment left seen new A → Elsewhere A (seen old) (seen new)
+          → (file : FileId) → Synced moment left seen new file
+      begun_synced earlier made elsewhere file files now =
+          ⊎_elim
+          (λ here. subst (λ (f : FileId). files f ≡ seen new f) (sym here) (made files now))
+          (λ ne.
+          let origin = at_end moment left old new (Remade A bytes) earlier leaves files now in
+          origin.2.elsewhere file ne ∙ synced file origin.0 origin.1 ∙ sym (elsewhere file ne))
+          (same_file file A)

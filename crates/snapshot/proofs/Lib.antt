@@ -1,0 +1,7 @@
+pub mod Anew
+pub mod States
+pub mod Codes
+pub mod Making
+pub mod Resting
+pub mod Sizes
+pub mod Beginnings

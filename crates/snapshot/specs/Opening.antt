@@ -1,0 +1,35 @@
+-- How far an opening has come.
+use Rattle.std.specs.Prelude.{◌≡◌, Option, Some, None, List, ℕ}
+use Rattle.packet.specs.Config.{Config}
+use Rattle.disk_model.specs.Disk.{Files}
+use Rattle.durable.specs.Coding.{Heading}
+use Rattle.durable.specs.Entering.{Durable, durable}
+use Rattle.durable.specs.Recovery.{IsActive, NoneOpen, behind}
+use Rattle.durable.specs.declared.recovery.Recovered as recovery
+use Rattle.snapshot.specs.declared.opening.Ready as opening
+
+abbrev pub state_of : opening.Ready → Durable
+state_of r = durable r.text.items r.sessions.items
+
+-- an active file of this configuration
+pub record IsReady (config : Config) (files : Files) (r : opening.Ready) : Type 0 where
+  pub heading : Heading
+  pub active : IsActive files r.file heading (state_of r) r.end
+  pub configured : heading.config ≡ config
+  pub numbered : heading.generation ≡ r.generation
+  pub starts : r.start ≡ behind heading
+
+-- what was found in two files
+abbrev pub IsJudged : Config → Files → Option opening.Ready → Type 0
+IsJudged config files None = NoneOpen files
+IsJudged config files (Some r) = IsReady config files r
+
+-- the same, with a text of its own
+pub record IsKept (found : recovery.Recovered) (r : opening.Ready) : Type 0 where
+  pub file : r.file ≡ found.file
+  pub generation : r.generation ≡ found.generation
+  pub bounds : r.bounds ≡ found.bounds
+  pub start : r.start ≡ found.start
+  pub end : r.end ≡ found.end
+  pub text : r.text.items ≡ found.text.now
+  pub sessions : r.sessions.items ≡ found.sessions.items

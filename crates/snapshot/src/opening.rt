@@ -1,0 +1,193 @@
+//! What two files hold.
+ghost use Rattle.std.specs.Prelude.{◌≡◌, ◌≢◌, ◌+◌, ◌<◌, ◌≤◌, ◌↔◌, List, ℕ, [], length, IfOk, IfSome, OnOk, OnErr, IsErrOf};
+ghost use Rattle.packet.specs.Config.{Config};
+ghost use Rattle.disk_model.specs.declared.disk.FileId.{FileId};
+ghost use Rattle.disk_model.specs.declared.disk.FileId.TheVariants.{A, B};
+ghost use Rattle.disk_model.specs.Disk.{Files, Same, Leaves, LeavesNow, LeavesOnly, Looks, Synced, Grew, HasCause};
+ghost use Rattle.durable.specs.Entering.{Durable, durable, empty};
+ghost use Rattle.durable.specs.Recovery.{Alike, IsConfigured, NoneOpen, Recovers, pair};
+ghost use Rattle.snapshot.specs.Opening.{IsReady, IsJudged, IsKept, state_of};
+
+use crate::OpenFault;
+use crate::bounds::{copy_of, have_a_code};
+use crate::front::front_of;
+use crate::remaking::remake;
+use disk_model::{Disk, DiskFault, FileId};
+use durable::{DurableFault, Recovered, recover};
+use packet::bounds::Bounds;
+use sessions::Session;
+use std::alloc::{AllocError, Global};
+
+/// The active file, and what it holds.
+#[derive(Drop)]
+pub(crate) struct Ready {
+    pub(crate) file: FileId,
+    pub(crate) generation: u64,
+    pub(crate) bounds: Bounds,
+    /// The place behind the heading, where the groups begin.
+    pub(crate) start: u64,
+    /// The place of the closed gate behind the groups.
+    pub(crate) end: u64,
+    pub(crate) text: Vec<u8>,
+    pub(crate) sessions: Vec<Session>,
+}
+
+// Syncs both files: from then on a crash leaves what they read.
+fn settle<D: Disk>(disk: &mut D) -> Result<(), DiskFault>
+    ensures honest { D.honest disk.old ↔ D.honest disk.new }
+    ensures leaves { D.honest disk.old → Leaves D.moment D.left disk.old disk.new Same }
+    ensures looks { D.honest disk.old → OnOk result (Looks D.moment D.left D.seen disk.old disk.new) }
+    ensures synced { D.honest disk.old → OnOk result ((file : FileId) → Synced D.moment D.left D.seen disk.new file) }
+    ensures cause { HasCause (D.failed disk.old) (D.failed disk.new) result }
+{
+    disk.sync(FileId::A)?;
+    disk.sync(FileId::B)?;
+    Ok(())
+}
+
+// The bytes of a file.
+fn contents<D: Disk>(alloc: Global, disk: &mut D, file: FileId) -> Result<Vec<u8>, OpenFault>
+    ensures honest { D.honest disk.old ↔ D.honest disk.new }
+    ensures ok { D.honest disk.old → IfOk result (λ bytes. bytes.items ≡ D.seen disk.old file) }
+    ensures looks { D.honest disk.old → Looks D.moment D.left D.seen disk.old disk.new }
+    ensures failures { D.failed disk.old ≤ D.failed disk.new }
+    ensures no_failure { OnOk result (D.failed disk.new ≡ D.failed disk.old) }
+    ensures device { IsErrOf result OpenFault.Device → Grew (D.failed disk.old) (D.failed disk.new) }
+    ensures damaged { IsErrOf result OpenFault.Damaged → ⊥ }
+    ensures differs { IsErrOf result OpenFault.ConfigDiffers → ⊥ }
+{
+    let len = disk.len(file)?;
+    let mut bytes = vec![in alloc; 0; len as usize]?;
+    disk.read_at(file, 0, &mut bytes)?;
+    Ok(bytes)
+}
+
+// Syncs both files, and reads them.
+fn look<D: Disk>(alloc: Global, disk: &mut D) -> Result<(Vec<u8>, Vec<u8>), OpenFault>
+    ensures honest { D.honest disk.old ↔ D.honest disk.new }
+    ensures ok { D.honest disk.old → IfOk result (λ read. (read.0.items ≡ D.seen disk.old A) × (read.1.items ≡ D.seen disk.old B)) }
+    ensures synced { D.honest disk.old → OnOk result ((file : FileId) → Synced D.moment D.left D.seen disk.new file) }
+    ensures leaves { D.honest disk.old → Leaves D.moment D.left disk.old disk.new Same }
+    ensures looks { D.honest disk.old → ¬ IsErrOf result OpenFault.Device → Looks D.moment D.left D.seen disk.old disk.new }
+    ensures failures { D.failed disk.old ≤ D.failed disk.new }
+    ensures no_failure { OnOk result (D.failed disk.new ≡ D.failed disk.old) }
+    ensures device { IsErrOf result OpenFault.Device → Grew (D.failed disk.old) (D.failed disk.new) }
+    ensures damaged { IsErrOf result OpenFault.Damaged → ⊥ }
+    ensures differs { IsErrOf result OpenFault.ConfigDiffers → ⊥ }
+{
+    settle(disk)?;
+    let a = contents(alloc, disk, FileId::A)?;
+    let b = contents(alloc, disk, FileId::B)?;
+    Ok((a, b))
+}
+
+// What was recovered from two files, for a store of these bounds.
+fn keep(alloc: Global, found: Recovered<'_>) -> Result<Ready, OpenFault>
+    ensures ok { IfOk result (λ r. IsKept found.entry r) }
+    ensures device { IsErrOf result OpenFault.Device → ⊥ }
+    ensures damaged { IsErrOf result OpenFault.Damaged → ⊥ }
+    ensures differs { IsErrOf result OpenFault.ConfigDiffers → ⊥ }
+{
+    let text = Vec::from_slice(alloc, found.text)?;
+    Ok(Ready {
+        file: found.file,
+        generation: found.generation,
+        bounds: found.bounds,
+        start: found.start as u64,
+        end: found.end as u64,
+        text,
+        sessions: found.sessions,
+    })
+}
+
+// What two files hold, by their bytes, for a store of these bounds.
+fn judge(alloc: Global, a: &[u8], b: &[u8], bounds: &Bounds) -> Result<Option<Ready>, OpenFault>
+    ensures ok { IfOk result (λ found. IsJudged bounds.now (pair a.now b.now) found) }
+    ensures bounds { IfOk result (λ found. IfSome found (λ r. r.bounds ≡ bounds.now)) }
+    ensures damaged { IsErrOf result OpenFault.Damaged → (d : Durable) → ¬ Recovers (pair a.now b.now) d }
+    ensures differs { IsErrOf result OpenFault.ConfigDiffers
+        → (d : Durable) × Recovers (pair a.now b.now) d × ¬ IsConfigured bounds.now (pair a.now b.now) }
+    ensures device { IsErrOf result OpenFault.Device → ⊥ }
+{
+    match recover(alloc, a, b) {
+        Ok(None) => Ok(None),
+        Ok(Some(found)) => {
+            if !found.is_configured(bounds) {
+                return Err(OpenFault::ConfigDiffers);
+            }
+            let ready = keep(alloc, found)?;
+            Ok(Some(ready))
+        }
+        Err(DurableFault::Damaged) => Err(OpenFault::Damaged),
+        Err(DurableFault::NoMemory) => Err(OpenFault::NoMemory),
+    }
+}
+
+// Makes file A, where no file is open: it holds no text and no session.
+fn begin<D: Disk>(alloc: Global, disk: &mut D, bounds: &Bounds) -> Result<Ready, OpenFault>
+    requires none { D.honest disk.old → NoneOpen (D.seen disk.old) }
+    requires synced { D.honest disk.old → (file : FileId) → Synced D.moment D.left D.seen disk.old file }
+    ensures honest { D.honest disk.old ↔ D.honest disk.new }
+    ensures any_moment { D.honest disk.old → LeavesOnly D.moment D.left disk.old disk.new (λ files. Recovers files empty) }
+    ensures configured { D.honest disk.old → LeavesOnly D.moment D.left disk.old disk.new (IsConfigured bounds.now) }
+    ensures ok { D.honest disk.old → IfOk result (λ r. IsReady bounds.now (D.seen disk.new) r) }
+    ensures synced { D.honest disk.old → OnOk result ((file : FileId) → Synced D.moment D.left D.seen disk.new file) }
+    ensures empty { IfOk result (λ r. state_of r ≡ empty) }
+    ensures bounds { IfOk result (λ r. r.bounds ≡ bounds.now) }
+    ensures stays { ¬ IsErrOf result OpenFault.Device → OnErr result (disk.new ≡ disk.old) }
+    ensures failures { D.failed disk.old ≤ D.failed disk.new }
+    ensures no_failure { OnOk result (D.failed disk.new ≡ D.failed disk.old) }
+    ensures device { IsErrOf result OpenFault.Device → Grew (D.failed disk.old) (D.failed disk.new) }
+    ensures damaged { IsErrOf result OpenFault.Damaged → ⊥ }
+    ensures differs { IsErrOf result OpenFault.ConfigDiffers → ⊥ }
+{
+    have_a_code(bounds);
+    bounds.facts();
+    let kept = copy_of(alloc, bounds)?;
+    let bytes = front_of(alloc, 1, bounds, &[], &[])?;
+    remake(disk, FileId::A, &bytes)?;
+    let end = bytes.len() as u64;
+    Ok(Ready {
+        file: FileId::A,
+        generation: 1,
+        bounds: kept,
+        start: end,
+        end,
+        text: Vec::new(alloc),
+        sessions: Vec::new(alloc),
+    })
+}
+
+/// What two files hold, for a store of these bounds, with both synced. Where none is open, file A is made.
+///
+/// # Errors
+///
+/// Those of `Store::open`.
+pub(crate) fn make_ready<D: Disk>(
+    alloc: Global,
+    disk: &mut D,
+    bounds: &Bounds,
+) -> Result<Ready, OpenFault>
+    ensures honest { D.honest disk.old ↔ D.honest disk.new }
+    ensures any_moment { D.honest disk.old → Leaves D.moment D.left disk.old disk.new Alike }
+    ensures configured { D.honest disk.old → LeavesNow D.moment D.left disk.old (IsConfigured bounds.now)
+        → LeavesOnly D.moment D.left disk.old disk.new (IsConfigured bounds.now) }
+    ensures ok { D.honest disk.old → IfOk result (λ r. IsReady bounds.now (D.seen disk.new) r) }
+    ensures recovers { D.honest disk.old → IfOk result (λ r. Recovers (D.seen disk.old) (state_of r)) }
+    ensures taken { D.honest disk.old → OnOk result (IsConfigured bounds.now (D.seen disk.old)) }
+    ensures synced { D.honest disk.old → OnOk result ((file : FileId) → Synced D.moment D.left D.seen disk.new file) }
+    ensures bounds { IfOk result (λ r. r.bounds ≡ bounds.now) }
+    ensures damaged { D.honest disk.old → IsErrOf result OpenFault.Damaged → (d : Durable) → ¬ Recovers (D.seen disk.old) d }
+    ensures differs { D.honest disk.old → IsErrOf result OpenFault.ConfigDiffers
+        → (d : Durable) × Recovers (D.seen disk.old) d × ¬ IsConfigured bounds.now (D.seen disk.old) }
+    ensures looks { D.honest disk.old → ¬ IsErrOf result OpenFault.Device → OnErr result (Looks D.moment D.left D.seen disk.old disk.new) }
+    ensures failures { D.failed disk.old ≤ D.failed disk.new }
+    ensures no_failure { OnOk result (D.failed disk.new ≡ D.failed disk.old) }
+    ensures device { IsErrOf result OpenFault.Device → Grew (D.failed disk.old) (D.failed disk.new) }
+{
+    let (a, b) = look(alloc, disk)?;
+    match judge(alloc, &a, &b, bounds)? {
+        Some(found) => Ok(found),
+        None => begin(alloc, disk, bounds),
+    }
+}
