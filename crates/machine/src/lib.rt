@@ -17,10 +17,12 @@ mod deed;
 mod event;
 mod flows;
 pub mod laws;
+mod notes;
 
 pub use bytes::Bytes;
 pub use core_state::Core;
 pub use event::{Answer, Event, NoMemory, What};
 pub use hairpin::Cause;
+pub use notes::{Notes, StepFault, Unkept};
 pub use packet::endpoint::Iface;
 pub use sessions::Session;

@@ -1,0 +1,4 @@
+//! stub
+#![tactic(auto)]
+mod coding;
+pub use coding::{Entry, Flow};
