@@ -1,4 +1,7 @@
+-- Of the model
 pub mod Moments
+-- Of the disk in memory
+pub mod Metering
 pub mod Laid
 pub mod Steps
 pub mod Histories

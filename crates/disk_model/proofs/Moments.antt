@@ -1,6 +1,7 @@
 -- How a run of device calls goes on.
-use Rattle.std.proofs.Common.{inl, inr, ⊎_elim, ℕ, ◌≤◌, List, refl, sym, ◌∙◌, subst, arith}
-use Rattle.disk_model.specs.Disk.{Files, Same, Torn, Written, LeftNow, FromEntry, Goes, Leaves, LeavesOnly, LeavesNow, Looks}
+use Rattle.std.proofs.Common.{◌≢◌, inl, inr, ⊎_elim, ℕ, ◌≤◌, List, refl, sym, ◌∙◌, subst, arith}
+use Rattle.disk_model.specs.declared.disk.FileId.{FileId}
+use Rattle.disk_model.specs.Disk.{Files, Same, Elsewhere, Torn, Written, LeftNow, FromEntry, Goes, Leaves, LeavesOnly, LeavesNow, Synced, Looks}
 
 pub torn_nothing : (at : ℕ) (bytes old : List ℕ) → Torn at bytes old old
 torn_nothing at bytes old = record { no_shorter = omega arith; outside = λ k lt out. refl; closing = λ one is. is }
@@ -104,3 +105,18 @@ module _ {D : Type 0} (moment : D → ℕ) (left : D → ℕ → Files → Type 
           (λ before files was s. s)
           (λ files from. let origin = at_end old mid Same earlier first.leaves from.0 from.1 in (origin.0, origin.1, λ file. from.2 file ∙ origin.2 file));
     }
+
+    -- a synced file stays synced under calls that only look
+    pub synced_looks : (old new : D) (file : _) → ((s t : ℕ) (files : Files) → s ≤ t → left new t files → left new s files)
+        → Looks moment left seen old new → Synced moment left seen old file → Synced moment left seen new file
+    synced_looks old new file earlier looked synced files now =
+        let from = at_end old new Same earlier looked.leaves files now in
+        from.2 file ∙ synced from.0 from.1 ∙ sym (looked.stays file)
+
+    -- and under calls that write another
+    pub synced_elsewhere : (old new : D) (file written : FileId) → ((s t : ℕ) (files : Files) → s ≤ t → left new t files → left new s files)
+        → file ≢ written → Leaves moment left old new (Elsewhere written) → Elsewhere written (seen old) (seen new)
+        → Synced moment left seen old file → Synced moment left seen new file
+    synced_elsewhere old new file written earlier apart leaves elsewhere synced files now =
+        let from = at_end old new (Elsewhere written) earlier leaves files now in
+        from.2 file apart ∙ synced from.0 from.1 ∙ sym (elsewhere file apart)

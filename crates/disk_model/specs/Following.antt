@@ -1,4 +1,4 @@
--- How far a reading of a record has come.
+-- The invariant of a loop: how far a reading of a record has come.
 use Rattle.std.specs.Prelude.{◌≡◌, ℕ, ◌%◌, List, length}
 use Rattle.disk_model.specs.Recorded.{Since, read_after}
 use Rattle.disk_model.specs.Choices.{chosen}

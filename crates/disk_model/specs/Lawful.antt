@@ -1,4 +1,4 @@
--- The two laws of a disk, for one that keeps a record of its calls: what a read gives may be left by a crash, and what a
+-- Proofs, no definitions: for a disk that keeps a record of its calls, what a read gives may be left by a crash, and what a
 -- crash since a moment might have left, one since an earlier moment might have left too.
 use Rattle.std.specs.Prelude.{◌≡◌, ◌⊎◌, ℕ, ◌+◌, ◌-◌, ◌<◌, ◌≤◌, List, [], ◌∷◌, ◌++◌, length, take, drop, get_or, refl}
 use Rattle.std.proofs.Common.{inl, inr, sym, ◌∙◌, ap, subst, arith, length-append, length-take, length-drop, append_assoc}

@@ -1,5 +1,5 @@
 -- How the disk in memory counts its calls, and which of them fail.
-use Rattle.std.specs.Prelude.{ℕ, ◌+◌, ◌-◌, ◌^◌, min, Bool, false, if◌then◌else◌, nat_eq, Option, Some, None}
+use Rattle.std.specs.Prelude.{◌≡◌, ◌≢◌, ◌⊎◌, ℕ, zero, suc, ◌<◌, ◌≤◌, ◌+◌, ◌-◌, ◌^◌, min, Bool, false, if◌then◌else◌, nat_eq, Option, Some, None}
 use Rattle.disk_model.specs.declared.meter.Turn.{Turn}
 use Rattle.disk_model.specs.declared.meter.Turn.TheVariants.{Passes, Refused, Cut}
 
@@ -41,3 +41,19 @@ ticked m = record { calls = one_more m.calls; failures = m.failures; fuse = burn
 -- a failure is counted
 abbrev pub failed : Metered → Metered
 failed m = record { calls = m.calls; failures = one_more m.failures; fuse = m.fuse; once = m.once }
+
+-- After so many calls, each of which has failed or hasn't.
+abbrev pub AfterCalls : ℕ → Metered → Metered → Type 0
+AfterCalls zero old new = new ≡ old
+AfterCalls (suc calls) old new = (mid : Metered) × AfterCalls calls old mid × ((new ≡ ticked mid) ⊎ (new ≡ failed (ticked mid)))
+
+-- With a fuse and nothing else set, the call behind the first n is refused where the fuse's calls are over, and passes
+-- before.
+abbrev pub FuseBlows : Type 0
+FuseBlows = (calls n : ℕ) (set now : Metered) → set.fuse ≡ Some calls → set.once ≡ None → AfterCalls n set now
+    → (n < calls → turn_of now ≡ Passes) × (calls ≤ n → turn_of now ≡ Refused)
+
+-- With one call and nothing else set to fail, that one fails and each other passes.
+abbrev pub FailsOnce : Type 0
+FailsOnce = (calls n : ℕ) (set now : Metered) → set.fuse ≡ None → set.once ≡ Some calls → AfterCalls n set now
+    → (n ≡ calls → turn_of now ≡ Cut) × (n ≢ calls → turn_of now ≡ Passes)

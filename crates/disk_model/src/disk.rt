@@ -92,11 +92,12 @@ pub trait Disk {
     ///
     /// # Errors
     ///
-    /// `DiskFault` where the call fails. The file reads as before, and a crash may leave what it could leave before.
+    /// `DiskFault` where the call fails. What a crash may leave now it could leave before; what a read gives is one of
+    /// these outcomes (`reads`), and no more is said of it.
     fn sync(&mut self, file: FileId) -> Result<(), DiskFault>
         ensures honest { honest self.old ↔ honest self.new }
         ensures durable { honest self.old → OnOk result (Synced moment left seen self.new file) }
-        ensures seen { honest self.old → Same (seen self.old) (seen self.new) }
+        ensures seen { honest self.old → OnOk result (Same (seen self.old) (seen self.new)) }
         ensures crash { honest self.old → Goes moment left self.old self.new Same }
         ensures called { honest self.old → Called 1 (called self.old) (called self.new) }
         ensures cause { HasCause (failed self.old) (failed self.new) result };

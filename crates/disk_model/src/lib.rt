@@ -1,18 +1,19 @@
-//! Two files on a device that may stop at any moment: what a read gives, and what a crash may leave. Today nothing
-//! but the crate `journal` and tests use it.
+//! Two files on a device that may stop at any moment: what a read gives, and what a crash may leave.
 //!
 //! - `disk`: the trait `Disk`, whose clauses and laws are the disk model.
 //! - `store`: a write that is synced.
+//! - `laws`: what follows for every disk.
 //! - `sim`: `SimDisk`, two files in memory that behave as the model says. It keeps a record of all its writes and syncs
 //!   (`record`, `call`), from which follows what a crash may leave, and fails where it is told to (`meter`).
 //! - `replay`, `place`: what a crash of it leaves.
 //!
-//! In `specs/`, `Disk` has the words of the model, `Recorded` what a record says of two files, and `Choices` the
-//! outcomes that a crash of the disk in memory chooses from.
+//! In `specs/`, `Disk` has the words of the model and `Laws` those of its laws. The other files are of the disk in
+//! memory alone: what a record says of two files, the outcomes that a crash of it chooses from, and the calls that fail.
 #![tactic(auto)]
 
 mod call;
 mod disk;
+pub mod laws;
 mod meter;
 mod place;
 mod record;

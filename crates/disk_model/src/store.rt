@@ -1,6 +1,6 @@
 //! A write that is synced.
 ghost use Rattle.std.specs.Prelude.{◌≡◌, ◌+◌, ◌≤◌, ◌↔◌, List, ℕ, length, IfOk, OnOk};
-ghost use Rattle.disk_model.specs.Disk.{Files, Leaves, Written, Synced, Put, Called, HasCause};
+ghost use Rattle.disk_model.specs.Disk.{Files, FromEntry, Leaves, Written, Synced, Put, Called, HasCause};
 
 use crate::{Disk, DiskFault, FileId};
 
@@ -22,7 +22,7 @@ pub fn write_synced<D: Disk>(
     ensures written { D.honest disk.old → OnOk result (Put file at bytes.now (D.seen disk.old) (D.seen disk.new)) }
     ensures durable { D.honest disk.old → OnOk result (Synced D.moment D.left D.seen disk.new file) }
     ensures any_moment { D.honest disk.old → Leaves D.moment D.left disk.old disk.new (Written file at bytes.now) }
-    ensures range { D.honest disk.old → Written file at bytes.now (D.seen disk.old) (D.seen disk.new) }
+    ensures range { D.honest disk.old → FromEntry D.moment D.left disk.old (Written file at bytes.now) (D.seen disk.new) }
     ensures called { D.honest disk.old → OnOk result (Called 2 (D.called disk.old) (D.called disk.new)) }
     ensures calls { D.honest disk.old → D.called disk.new ≤ D.called disk.old + 2 }
     ensures cause { HasCause (D.failed disk.old) (D.failed disk.new) result }

@@ -5,7 +5,7 @@ use Rattle.std.proofs.lemmas.List.{take_at, drop_at, drop-drop, drop_more, get_o
 use Rattle.std.proofs.lemmas.List.Elements.{All-push}
 use Rattle.byteorder.specs.Endian.{big_bytes, big_number}
 use Rattle.byteorder.specs.Numbers.{length-bytes_high_first, big_number-reads_back}
-use Rattle.journal.specs.Groups.{Groups, GroupAt, IsTornAt, open_groups}
+use Rattle.journal.specs.Groups.{Groups, GroupsOnce, GroupAt, IsTornAt, open_groups}
 use Rattle.journal.proofs.Behind.{open_groups-push, length-open_groups-push}
 
 abbrev pub Fit : List (List ℕ) → Type 0
@@ -54,8 +54,8 @@ size_of : List ℕ → List ℕ
 size_of body = big_bytes 4 (length body)
 
 -- two bodies with equal fronts
-same_front : (a b s t : List ℕ) → length a < 2 ^ 32 → length b < 2 ^ 32 → big_bytes 4 (length a) ++ (a ++ s) ≡ big_bytes 4 (length b) ++ (b ++ t) → s ≡ t
-same_front a b s t fit_a fit_b e =
+same_body : (a b s t : List ℕ) → length a < 2 ^ 32 → length b < 2 ^ 32 → big_bytes 4 (length a) ++ (a ++ s) ≡ big_bytes 4 (length b) ++ (b ++ t) → (a ≡ b) × (s ≡ t)
+same_body a b s t fit_a fit_b e =
     let four_a = length-bytes_high_first 4 (length a) in
     let four_b = length-bytes_high_first 4 (length b) in
     let front : big_bytes 4 (length a) ≡ big_bytes 4 (length b) =
@@ -63,8 +63,18 @@ same_front a b s t fit_a fit_b e =
     let same : length a ≡ length b =
     sym (big_number-reads_back 4 (length a) [] fit_a) ∙ ap (λ l. big_number 4 (l ++ [])) front ∙ big_number-reads_back 4 (length b) [] fit_b in
     let back : a ++ s ≡ b ++ t =
-    sym (drop_at (big_bytes 4 (length a)) (a ++ s) 4 four_a) ∙ ap (λ l. drop 4 l) e ∙ drop_at (big_bytes 4 (length b)) (b ++ t) 4 four_b in
-    sym (drop_at a s (length a) refl) ∙ ap (λ l. drop (length a) l) back ∙ drop_at b t (length a) (sym same)
+    sym (drop_at (big_bytes 4 (length a)) (a ++ s) 4 four_a) ∙ ap (λ l. drop 4 l) e ∙ drop_at (big_bytes 4 (length b)) (b ++ t) 4 four_b in (
+      sym (take_at a s (length a) refl) ∙ ap (λ l. take (length a) l) back ∙ take_at b t (length a) (sym same),
+      sym (drop_at a s (length a) refl) ∙ ap (λ l. drop (length a) l) back ∙ drop_at b t (length a) (sym same),
+    )
+
+-- what stands behind the first gates of two equal runs of groups
+two_fronts : (b c : List ℕ) (bs cs : List (List ℕ)) (tail end : List ℕ) → open_groups (b ∷ bs) ++ tail ≡ open_groups (c ∷ cs) ++ end
+    → big_bytes 4 (length b) ++ (b ++ (open_groups bs ++ tail)) ≡ big_bytes 4 (length c) ++ (c ++ (open_groups cs ++ end))
+two_fronts b c bs cs tail end e = sym (spread b bs tail) ∙ ap (λ (l : List ℕ). drop 1 l) e ∙ spread c cs end
+  where
+    spread : (x : List ℕ) (xs : List (List ℕ)) (more : List ℕ) → (big_bytes 4 (length x) ++ (x ++ open_groups xs)) ++ more ≡ big_bytes 4 (length x) ++ (x ++ (open_groups xs ++ more))
+    spread x xs more = append_assoc (big_bytes 4 (length x)) (x ++ open_groups xs) more ∙ ap (λ l. big_bytes 4 (length x) ++ l) (append_assoc x (open_groups xs) more)
 
 -- what is left of groups when those read so far are taken off
 pub peel : (bs cs : List (List ℕ)) (tail : List ℕ) (gate : ℕ) (rest : List ℕ) → gate ≢ 1 → Fit bs → Fit cs
@@ -73,11 +83,8 @@ peel [] cs tail gate rest shut fb fc e = (cs, fc, e)
 peel (b ∷ bs) [] tail gate rest shut fb fc e = absurd (shut (sym (ap (λ (l : List ℕ). get_or l 0 0) e)))
 peel (b ∷ bs) (c ∷ cs) tail gate rest shut fb fc e =
     let end = gate ∷ rest in
-    let left = append_assoc (big_bytes 4 (length b)) (b ++ open_groups bs) tail ∙ ap (λ l. big_bytes 4 (length b) ++ l) (append_assoc b (open_groups bs) tail) in
-    let right = append_assoc (big_bytes 4 (length c)) (c ++ open_groups cs) end ∙ ap (λ l. big_bytes 4 (length c) ++ l) (append_assoc c (open_groups cs) end) in
-    let behind = sym left ∙ ap (λ (l : List ℕ). drop 1 l) e ∙ right in
-    let next = same_front b c (open_groups bs ++ tail) (open_groups cs ++ end) (fb 0 [] (omega arith)) (fc 0 [] (omega arith)) behind in
-    peel bs cs tail gate rest shut (λ k d lt. fb (suc k) d (omega (arith, lt))) (λ k d lt. fc (suc k) d (omega (arith, lt))) next
+    let next = same_body b c (open_groups bs ++ tail) (open_groups cs ++ end) (fb 0 [] (omega arith)) (fc 0 [] (omega arith)) (two_fronts b c bs cs tail end e) in
+    peel bs cs tail gate rest shut (λ k d lt. fb (suc k) d (omega (arith, lt))) (λ k d lt. fc (suc k) d (omega (arith, lt))) next.1
 
 first_of_more : (file : List ℕ) (place gate : ℕ) (rest : List ℕ) (more : List (List ℕ)) → gate ≢ 1 → Fit more → drop place file ≡ open_groups more ++ gate ∷ rest → IsTornAt file place → ⊥
 first_of_more file place gate rest [] shut fit e torn =
@@ -101,3 +108,19 @@ pub torn_there : (file : List ℕ) (at place : ℕ) (bodies : List (List ℕ)) �
 torn_there file at place bodies r torn others end g =
     let more = peel bodies others (drop place file) g.gate g.rest g.closed r.fit g.fit (sym r.split ∙ g.split) in
     first_of_more file place g.gate g.rest more.0 g.closed more.1 more.2 torn
+
+-- two readings that agree on the bytes agree on the groups
+pub same_groups : (bs cs : List (List ℕ)) (g h : ℕ) (r q : List ℕ) → g ≢ 1 → h ≢ 1 → Fit bs → Fit cs → open_groups bs ++ g ∷ r ≡ open_groups cs ++ h ∷ q → bs ≡ cs
+same_groups [] [] g h r q ng nh fb fc e = refl
+same_groups [] (c ∷ cs) g h r q ng nh fb fc e = absurd (ng (ap (λ (l : List ℕ). get_or l 0 0) e))
+same_groups (b ∷ bs) [] g h r q ng nh fb fc e = absurd (nh (sym (ap (λ (l : List ℕ). get_or l 0 0) e)))
+same_groups (b ∷ bs) (c ∷ cs) g h r q ng nh fb fc e =
+    let behind = two_fronts b c bs cs (g ∷ r) (h ∷ q) e in
+    let next = same_body b c (open_groups bs ++ g ∷ r) (open_groups cs ++ h ∷ q) (fb 0 [] (omega arith)) (fc 0 [] (omega arith)) behind in
+    let more = same_groups bs cs g h r q ng nh (λ k d lt. fb (suc k) d (omega (arith, lt))) (λ k d lt. fc (suc k) d (omega (arith, lt))) next.1 in
+    ap (λ x. x ∷ bs) next.0 ∙ ap (λ l. c ∷ l) more
+
+pub groups_once : GroupsOnce
+groups_once file at end other bodies others a b =
+    let same = same_groups bodies others a.gate b.gate a.rest b.rest a.closed b.closed a.fit b.fit (sym a.split ∙ b.split) in
+    (same, a.end_is ∙ ap (λ l. at + length (open_groups l)) same ∙ sym b.end_is)

@@ -38,22 +38,6 @@ module _ {D : Type 0} (moment : D → ℕ) (left : D → ℕ → Files → Type 
         },
       ))
 
-  -- how the files read after the first write, and after both, whole or torn
-  pub body_seen : (old mid : D) → Resting moment left seen old file at → Written file (at + 1) buffer (seen old) (seen mid) → Appended file at body (seen old) (seen mid)
-  body_seen old mid rest written = record {
-    here = torn_body at buffer (seen old file) (seen mid file) body rest.within rest.closed written.here;
-    elsewhere = written.elsewhere;
-  }
-
-  pub gate_seen : (old mid new : D) → buffer ≡ framed body → length body < 2 ^ 32 → Resting moment left seen old file at
-      → Put file (at + 1) buffer (seen old) (seen mid) → Written file at (1 ∷ []) (seen mid) (seen new) → Appended file at body (seen old) (seen new)
-  gate_seen old mid new is fits rest stored written =
-      let staged : seen mid file ≡ put (at + 1) (framed body) (seen old file) = stored.here ∙ ap (λ b. put (at + 1) b (seen old file)) is in
-      record {
-        here = torn_gate at body (seen old file) rest.within (seen new file) fits (subst (λ l. Torn at (1 ∷ []) l (seen new file)) staged written.here);
-        elsewhere = λ other ne. written.elsewhere other ne ∙ stored.elsewhere other ne;
-      }
-
   pub reads_group : (old mid new : D) → buffer ≡ framed body → Resting moment left seen old file at
       → Put file (at + 1) buffer (seen old) (seen mid) → Put file at (1 ∷ []) (seen mid) (seen new) → Put file at (1 ∷ framed body) (seen old) (seen new)
   reads_group old mid new is rest stored opens =

@@ -10,6 +10,11 @@ use Rattle.disk_model.specs.Disk.{Files, Elsewhere, Synced}
 abbrev pub framed : List ℕ → List ℕ
 framed body = big_bytes 4 (length body) ++ (body ++ 0 ∷ [])
 
+-- a body that grows, and how many bytes can be put behind it without memory
+pub record Growing : Type 0 where
+  pub body : List ℕ
+  pub room : ℕ
+
 abbrev pub body_of : List ℕ → List ℕ
 body_of bytes = take (length bytes - 5) (drop 4 bytes)
 
@@ -74,3 +79,8 @@ module _ {D : Type 0} (moment : D → ℕ) (left : D → ℕ → Files → Type 
     pub before : take at (seen new file) ≡ take at (seen old file)
     pub groups : (start : ℕ) (bodies : List (List ℕ)) → Groups (seen old file) start bodies at → Groups (seen new file) start (bodies ++ body ∷ []) next
     pub elsewhere : Elsewhere file (seen old) (seen new)
+
+-- A file has one reading from a place on as open groups with a closed gate behind them.
+abbrev pub GroupsOnce : Type 0
+GroupsOnce = (file : List ℕ) (at end other : ℕ) (bodies others : List (List ℕ)) → Groups file at bodies end → Groups file at others other
+    → (bodies ≡ others) × (end ≡ other)

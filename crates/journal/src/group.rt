@@ -1,5 +1,5 @@
 //! The buffer in which the body of a group grows.
-ghost use Rattle.std.specs.Prelude.{◌≡◌, ◌+◌, ◌-◌, ◌<◌, ◌≤◌, ◌^◌, List, ℕ, [], ◌∷◌, ◌++◌, length, take, drop, IfOk, OnOk, OnErr, nat_eq};
+ghost use Rattle.std.specs.Prelude.{◌≡◌, ◌+◌, ◌-◌, ◌<◌, ◌≤◌, ◌^◌, List, ℕ, [], ◌∷◌, ◌++◌, length, take, drop, IfOk, OnOk, OnErr, IsOk, nat_eq, vec_capacity};
 ghost use Rattle.byteorder.specs.Endian.{big_bytes};
 ghost use Rattle.disk_model.specs.Disk.{put};
 ghost use Rattle.journal.specs.Groups.{body_of, framed, IsFramed};
@@ -10,19 +10,19 @@ use std::marker::Model;
 
 /// A growing body of entries, in one buffer with its length before it and the byte 00 behind it.
 ///
-/// Contracts see it as its body.
+/// Contracts see it as its body, and the number of bytes that can be put behind it without memory.
 #[derive(Drop)]
 pub struct Group {
     bytes: Vec<u8>,
 }
 
 impl Model for Group {
-    ghost use Rattle.std.specs.Prelude.{List, ℕ};
-    ghost use Rattle.journal.specs.Groups.{body_of, IsFramed};
+    ghost use Rattle.std.specs.Prelude.{◌-◌, length, vec_capacity};
+    ghost use Rattle.journal.specs.Groups.{Growing, body_of, IsFramed};
 
-    ghost Value = { List ℕ };
+    ghost Value = { Growing };
 
-    ghost view = { λ g. body_of g.bytes.items };
+    ghost view = { λ g. record { body = body_of g.bytes.items; room = vec_capacity g.bytes - length g.bytes.items } };
 
     ghost invariant = { λ g. IsFramed g.bytes.items };
 }
@@ -34,7 +34,7 @@ impl Group {
     ///
     /// `AllocError` where memory is refused.
     pub fn new(alloc: Global) -> Result<Group, AllocError>
-        ensures { IfOk result (λ group. group ≡ []) }
+        ensures { IfOk result (λ group. group.body ≡ []) }
     {
         let bytes = Vec::from_slice(alloc, &[0; 5])?;
         Ok(Group { bytes })
@@ -42,51 +42,80 @@ impl Group {
 
     /// The bytes that follow the gate in a file: the length of the body (4 bytes, big-endian), the body, and 00.
     pub fn as_bytes(&self) -> &[u8]
-        ensures bytes { result.now ≡ framed self.now }
-        ensures fits { length self.now < 2 ^ 32 }
+        ensures bytes { result.now ≡ framed self.now.body }
+        ensures fits { length self.now.body < 2 ^ 32 }
     {
         &self.bytes
     }
 
     /// The length of the body, in bytes.
     pub fn len(&self) -> usize
-        ensures { result ≡ length self.now }
+        ensures { result ≡ length self.now.body }
     {
         self.bytes.len() - 5
     }
 
     /// Whether the body has no byte.
     pub fn is_empty(&self) -> bool
-        ensures { result ≡ nat_eq (length self.now) 0 }
+        ensures { result ≡ nat_eq (length self.now.body) 0 }
     {
         self.bytes.len() == 5
     }
 
-    /// Puts the bytes of an entry behind the body, which then has fewer than 2^32.
+    /// Makes room for so many bytes more, which can then be put without memory.
     ///
     /// # Errors
     ///
-    /// `AllocError` where memory is refused. Nothing changes.
+    /// `AllocError` where memory is refused, and never where there is room already. The body stays, and no room is lost.
+    pub fn reserve(&mut self, bytes: usize) -> Result<(), AllocError>
+        ensures body { self.new.body ≡ self.old.body }
+        ensures ok { OnOk result (bytes ≤ self.new.room) }
+        ensures succeeds { bytes ≤ self.old.room → IsOk result }
+        ensures room { self.old.room ≤ self.new.room }
+    {
+        self.bytes.reserve(bytes)
+    }
+
+    /// Puts the bytes of an entry behind the body, for which there is room. The body then has fewer than 2^32 bytes.
+    pub fn put(&mut self, entry: &[u8])
+        requires room { length entry.now ≤ self.old.room }
+        requires fits { length self.old.body + length entry.now < 2 ^ 32 }
+        ensures body { self.new.body ≡ self.old.body ++ entry.now }
+        ensures room { self.old.room ≤ self.new.room + length entry.now }
+    {
+        match grow(&mut self.bytes, entry) {
+            Ok(()) => {}
+            Err(_) => unreachable!(),
+        }
+    }
+
+    /// Makes room for the bytes of an entry, and puts them behind the body, which then has fewer than 2^32.
+    ///
+    /// # Errors
+    ///
+    /// `AllocError` where memory is refused. The body stays.
     pub fn extend(&mut self, entry: &[u8]) -> Result<(), AllocError>
-        requires { length self.old + length entry.now < 2 ^ 32 }
-        ensures ok { OnOk result (self.new ≡ self.old ++ entry.now) }
-        ensures err { OnErr result (self.new ≡ self.old) }
+        requires { length self.old.body + length entry.now < 2 ^ 32 }
+        ensures ok { OnOk result (self.new.body ≡ self.old.body ++ entry.now) }
+        ensures err { OnErr result (self.new.body ≡ self.old.body) }
     {
         grow(&mut self.bytes, entry)
     }
 
-    /// Keeps the first `len` bytes of the body.
+    /// Keeps the first `len` bytes of the body. The others become room.
     pub fn truncate(&mut self, len: usize)
-        requires { len ≤ length self.old }
-        ensures { self.new ≡ take len self.old }
+        requires { len ≤ length self.old.body }
+        ensures body { self.new.body ≡ take len self.old.body }
+        ensures room { self.old.room + (length self.old.body - len) ≤ self.new.room }
     {
         self.bytes.truncate(len + 5);
         seal(&mut self.bytes);
     }
 
-    /// Takes all entries out.
+    /// Takes all entries out. The whole body becomes room.
     pub fn clear(&mut self)
-        ensures { self.new ≡ [] }
+        ensures body { self.new.body ≡ [] }
+        ensures room { self.old.room + length self.old.body ≤ self.new.room }
     {
         self.truncate(0);
     }
@@ -98,6 +127,9 @@ fn grow(bytes: &mut Vec<u8>, entry: &[u8]) -> Result<(), AllocError>
     requires fits { length bytes.old.items + length entry.now < 2 ^ 32 + 5 }
     ensures ok { OnOk result (bytes.new.items ≡ framed (body_of bytes.old.items ++ entry.now)) }
     ensures err { OnErr result (bytes.new.items ≡ bytes.old.items) }
+    ensures succeeds { length bytes.old.items + length entry.now ≤ vec_capacity bytes.old → IsOk result }
+    ensures capacity { vec_capacity bytes.old ≤ vec_capacity bytes.new }
+    ensures len { OnOk result (length bytes.new.items ≡ length bytes.old.items + length entry.now) }
 {
     let end = bytes.len() - 1;
     bytes.extend_from_slice(entry)?;

@@ -1,4 +1,4 @@
-//! Groups of entries in a file, each whole on the disk before it counts. Today nothing but tests use it.
+//! Groups of entries in a file, each whole on the disk before it counts.
 //!
 //! A file has groups one behind the other. A group is its gate (one byte, open at 01 and closed at any other value),
 //! the length of its body (4 bytes, big-endian) and its body; behind the last open group stands a closed gate. A group
@@ -7,7 +7,7 @@
 //!
 //! - `group`: the buffer in which a group's body grows.
 //! - `appending`: a group is put behind the others.
-//! - `reading`: the bodies of the leading open groups.
+//! - `reading`: the bodies of the leading open groups, and that they are read in one way only.
 //! - `fault`: why a call is refused.
 #![tactic(auto)]
 
@@ -21,4 +21,4 @@ mod tests;
 pub use appending::{LIMIT, append};
 pub use fault::JournalFault;
 pub use group::Group;
-pub use reading::groups;
+pub use reading::{groups, groups_once};

@@ -2,7 +2,7 @@
 ghost use Rattle.std.specs.Prelude.{◌≡◌, ◌+◌, ◌<◌, ◌≤◌, ◌↔◌, List, ℕ, length, get_or, IfOk, OnOk, IfSome, IsErrOf};
 ghost use Rattle.byteorder.specs.Endian.{big_bytes};
 ghost use Rattle.disk_model.specs.Disk.{Looks, Grew};
-ghost use Rattle.journal.specs.Groups.{Groups, GroupAt, IsRead, IsTornAt, bodies_of};
+ghost use Rattle.journal.specs.Groups.{Groups, GroupsOnce, GroupAt, IsRead, IsTornAt, bodies_of};
 
 use crate::JournalFault;
 use byteorder::{BigEndian, ByteOrder};
@@ -64,8 +64,8 @@ fn read_group<D: Disk>(
 ///
 /// # Errors
 ///
-/// - `Damaged` only where one of the leading open groups isn't whole: its length goes past the end of the file, or no
-///   gate stands behind it.
+/// - `Damaged` where one of the leading open groups isn't whole: its length goes past the end of the file, or no gate
+///   stands behind it. Unless memory is refused or a call of the disk fails, it comes exactly there.
 /// - `Device` only where a call of the disk has failed.
 /// - `NoMemory` where memory for the bodies is refused.
 pub fn groups<D: Disk>(
@@ -100,3 +100,8 @@ pub fn groups<D: Disk>(
     }
     Ok((bodies, place))
 }
+
+/// A file reads as open groups with a closed gate behind them in one way only.
+pub fn groups_once()
+    ensures { GroupsOnce }
+{}

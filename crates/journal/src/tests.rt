@@ -181,6 +181,9 @@ fn growing(rt: HostRuntime) -> Result<(), Fail> {
     assert_eq!(rt; group.as_bytes(), b"\x00\x00\x00\x02ab\x00".as_slice());
     group.clear();
     assert_eq!(rt; group.as_bytes(), [0; 5].as_slice());
+    group.reserve(3)?;
+    group.put(b"fgh");
+    assert_eq!(rt; group.as_bytes(), b"\x00\x00\x00\x03fgh\x00".as_slice());
     Ok(())
 }
 

@@ -2,8 +2,10 @@
 ghost use Rattle.std.specs.Prelude.{◌≡◌, ◌≢◌, ◌⊎◌, ◌↔◌, ◌+◌, ◌-◌, ◌^◌, ◌<◌, ◌≤◌, ℕ, Some, None, IfOk, OnOk, OnErr, IsOk, IsSome, IsSomeAnd, IfSome, IfNone, IsTrue, length, slice_index_or, slice_set};
 ghost use Rattle.sessions.specs.Life.{IsTimeout};
 ghost use Rattle.timers.specs.Due.{at, Updates, IsLatest, IsNoneOver, IsOver, AreDue};
-ghost use Rattle.timers.specs.Places.{idles, IsDueBelow, IsPlaced};
+ghost use Rattle.timers.specs.Links.{IsRow};
 
+use crate::links::{Link, append, cut, grow, grow_past, renew};
+use crate::walk::slots_over;
 use sessions::Slot;
 use std::alloc::{AllocError, Global};
 use std::marker::Model;
@@ -17,35 +19,28 @@ pub struct Idle {
     pub timeout: u64,
 }
 
-// What is watched of a slot, with the slot, since none can be made from its number.
-#[derive(Clone, Copy, Drop)]
-struct Watch {
-    slot: Slot,
-    idle: Idle,
-}
-
 /// The idle times of the sessions that are watched, each under its slot.
 ///
 /// The moments that are handed in, in seconds, never fall. `add`, for a slot below what `reserve` was
 /// given, `touch`, `remove`, and `due` where all are alive take no memory.
 #[derive(Drop)]
 pub struct Due {
-    places: Vec<Option<Watch>>,
+    links: Vec<Link>,
 }
 
 impl Model for Due {
-    ghost use Rattle.std.specs.Prelude.{length};
+    ghost use Rattle.std.specs.Prelude.{◌-◌, length};
     ghost use Rattle.timers.specs.Due.{Watched};
-    ghost use Rattle.timers.specs.Places.{idles, IsPlaced};
+    ghost use Rattle.timers.specs.Links.{idles, IsRow};
 
     ghost Value = { Watched };
 
     ghost view = { λ d. record {
-      idle = idles d.places.items;
-      ready = length d.places.items;
+      idle = idles d.links.items;
+      ready = length d.links.items - 3;
     } };
 
-    ghost invariant = { λ d. IsPlaced d.places.items };
+    ghost invariant = { λ d. IsRow d.links.items };
 }
 
 impl Due {
@@ -54,11 +49,12 @@ impl Due {
         ensures { (slot : ℕ) → at result slot ≡ None }
     {
         Due {
-            places: Vec::new(alloc),
+            links: Vec::new(alloc),
         }
     }
 
-    /// Makes room for each slot below `slots`.
+    /// Makes room for each slot below `slots`. This takes time by the number of slots that are new, or, where
+    /// the row moves, by the number of all.
     ///
     /// # Errors
     ///
@@ -70,11 +66,11 @@ impl Due {
         ensures same { (slot : ℕ) → at self.new slot ≡ at self.old slot }
         ensures ready { self.old.ready ≤ self.new.ready }
     {
-        grow(&mut self.places, slots)
+        grow(&mut self.links, slots)
     }
 
     /// Watches a slot that isn't watched, with the second of its session's last packet and the seconds
-    /// that it may be idle.
+    /// that it may be idle. This takes constant time for a slot for which there is room.
     ///
     /// # Errors
     ///
@@ -89,13 +85,13 @@ impl Due {
         ensures succeeds { slot < self.old.ready → IsOk result }
         ensures ready { self.old.ready ≤ self.new.ready }
     {
-        grow_past(&mut self.places, slot.number())?;
-        set_place(&mut self.places, slot, Idle { last, timeout });
+        grow_past(&mut self.links, slot.number())?;
+        append(&mut self.links, slot, Idle { last, timeout });
         Ok(())
     }
 
     /// A packet of a watched slot passed at this second; its session may be idle for so many from then
-    /// on.
+    /// on. This takes constant time.
     pub fn touch(&mut self, slot: Slot, last: u64, timeout: u64)
         requires held { IsSome (at self.old slot) }
         requires timeout { IsTimeout timeout }
@@ -103,21 +99,20 @@ impl Due {
         ensures updates { Updates self.old self.new slot (Some (record { last = last; timeout = timeout })) }
         ensures ready { self.new.ready ≡ self.old.ready }
     {
-        let idle = Idle { last, timeout };
-        set_place(&mut self.places, slot, idle);
+        renew(&mut self.links, slot, Idle { last, timeout });
     }
 
-    /// Watches a watched slot no longer.
+    /// Watches a watched slot no longer. This takes constant time.
     pub fn remove(&mut self, slot: Slot)
         requires { IsSome (at self.old slot) }
         ensures updates { Updates self.old self.new slot None }
         ensures ready { self.new.ready ≡ self.old.ready }
     {
-        clear_place(&mut self.places, slot);
+        cut(&mut self.links, slot);
     }
 
     /// The slots of the sessions that are alive no longer at this second, each once, in any order. They
-    /// stay watched.
+    /// stay watched. This takes time by their number, and looks at one session more of each timeout.
     ///
     /// # Errors
     ///
@@ -127,79 +122,6 @@ impl Due {
         ensures due { IfOk result (λ slots. AreDue self.now now slots.items) }
         ensures succeeds { IsNoneOver self.now now → IsOk result }
     {
-        slots_over(alloc, &self.places, now)
+        slots_over(alloc, &self.links, now)
     }
-}
-
-fn slots_over(alloc: Global, places: &[Option<Watch>], now: u64) -> Result<Vec<Slot>, AllocError>
-    requires { IsPlaced places.now }
-    ensures due { IfOk result (λ slots. IsDueBelow (idles places.now) now (length places.now) slots.items) }
-    ensures succeeds { ((slot : ℕ) → ¬ IsSomeAnd (slice_index_or (idles places.now) slot None) (IsOver now)) → IsOk result }
-{
-    let mut slots = Vec::new(alloc);
-    for place in places {
-        let Some(slot) = slot_over(place, now) else {
-            continue;
-        };
-        slots.push(slot)?;
-    }
-    Ok(slots)
-}
-
-// The slot of the place, where its session is alive no longer.
-fn slot_over(place: &Option<Watch>, now: u64) -> Option<Slot>
-    ensures over { IfSome result (λ slot. IsSomeAnd place.now (λ w. (w.slot ≡ slot) × IsOver now w.idle)) }
-    ensures alive { IfNone result (¬ IsSomeAnd place.now (λ w. IsOver now w.idle)) }
-{
-    match place {
-        Some(watch) if is_over(watch.idle, now) => Some(watch.slot),
-        _ => None,
-    }
-}
-
-// Makes it as long, with nothing watched in the new places.
-fn grow(places: &mut Vec<Option<Watch>>, slots: usize) -> Result<(), AllocError>
-    ensures ok { OnOk result (slots ≤ length places.new.items) }
-    ensures same { (slot : ℕ) → slice_index_or places.new.items slot None ≡ slice_index_or places.old.items slot None }
-    ensures longer { length places.old.items ≤ length places.new.items }
-    ensures succeeds { slots ≤ length places.old.items → IsOk result }
-{
-    while places.len() < slots {
-        places.push(None)?;
-    }
-    Ok(())
-}
-
-// Makes it long enough for a place of this number.
-fn grow_past(places: &mut Vec<Option<Watch>>, number: usize) -> Result<(), AllocError>
-    ensures ok { OnOk result (number < length places.new.items) }
-    ensures same { (slot : ℕ) → slice_index_or places.new.items slot None ≡ slice_index_or places.old.items slot None }
-    ensures longer { length places.old.items ≤ length places.new.items }
-    ensures succeeds { number < length places.old.items → IsOk result }
-{
-    grow(places, number)?;
-    if number == places.len() {
-        places.push(None)?;
-    }
-    Ok(())
-}
-
-fn set_place(places: &mut Vec<Option<Watch>>, slot: Slot, idle: Idle)
-    requires { slot < length places.old.items }
-    ensures { places.new.items ≡ slice_set places.old.items slot (Some (record { slot = slot; idle = idle })) }
-{
-    places[slot.number()] = Some(Watch { slot, idle });
-}
-
-fn clear_place(places: &mut Vec<Option<Watch>>, slot: Slot)
-    requires { slot < length places.old.items }
-    ensures { places.new.items ≡ slice_set places.old.items slot None }
-{
-    places[slot.number()] = None;
-}
-
-fn is_over(idle: Idle, now: u64) -> bool
-    ensures { IsTrue result ↔ IsOver now idle }
-{
-    idle.timeout <= now.saturating_sub(idle.last)
 }

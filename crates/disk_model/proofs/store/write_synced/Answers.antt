@@ -21,9 +21,15 @@ returns-clause-any_moment g c =
     (λ before files was w. w)
     (λ files from. let first = wrote.now from.0 from.1 in (first.0, first.1, written_same file c.args.at c.args.bytes.now first.0 from.0 files first.2 from.2))
 
+pub returns-in_err-write_at-clause-range : goal.returns-in_err-write_at-clause-range
+returns-in_err-write_at-clause-range g c = λ honest. (g.D.Disk.seen c.args.disk.now, g.met.D.Disk.reads c.args.disk.now honest, c.write_at.ensures.range honest)
+
 pub returns-clause-range : goal.returns-clause-range
 returns-clause-range g c =
     λ honest.
-    let seen = g.D.Disk.seen in
-    written_same c.args.file c.args.at c.args.bytes.now (seen c.args.disk.now) (seen c.write_at.new.self) (seen c.sync.new.self)
-    (c.write_at.ensures.range honest) (c.sync.ensures.seen (c.write_at.ensures.honest.0 honest))
+    let wrote = c.write_at.ensures.crash honest in
+    let mid = c.write_at.ensures.honest.0 honest in
+    let last = c.sync.ensures.crash mid in
+    let from = last.now (g.D.Disk.seen c.sync.new.self) (g.met.D.Disk.reads c.sync.new.self (c.sync.ensures.honest.0 mid)) in
+    let first = wrote.now from.0 from.1 in
+    (first.0, first.1, written_same c.args.file c.args.at c.args.bytes.now first.0 from.0 (g.D.Disk.seen c.sync.new.self) first.2 from.2)

@@ -1,13 +1,10 @@
-use Rattle.std.proofs.Common.{None, refl, ap}
-use Rattle.timers.specs.Places.{idles}
-use Rattle.timers.proofs.Placed.{held_in_range, IsPlaced-unset, Updates-set}
+use Rattle.std.proofs.Common.{None, refl}
+use Rattle.timers.proofs.Shown.{held_watch, IsPut-idle, Updates-idle}
 use Rattle.timers.proofs.due.Due.remove.Goals as goal
 
-pub clear_place-requires : goal.clear_place-requires
-clear_place-requires c = held_in_range _ _ (rw (← c.self.view_is) at c.requires)
-
-pub invariant_of-self : goal.invariant_of-self
-invariant_of-self c = rw c.clear_place.ensures (IsPlaced-unset _ _ (held_in_range _ _ (rw (← c.self.view_is) at c.requires)) c.self.invariant)
+pub cut-requires-clause-held : goal.cut-requires-clause-held
+cut-requires-clause-held c = held_watch c.self.inside.links.items c.args.slot (rw (← c.self.view_is) at c.requires)
 
 pub returns-clause-updates : goal.returns-clause-updates
-returns-clause-updates c = rw (← c.self.view_is) (Updates-set _ _ c.self.inside.places.items c.args.slot None (held_in_range _ _ (rw (← c.self.view_is) at c.requires)) (λ j. refl) (ap idles c.clear_place.ensures))
+returns-clause-updates c =
+    rw (← c.self.view_is) (Updates-idle _ _ c.self.inside.links.items c.cut.new.links.items c.args.slot None refl refl (IsPut-idle _ _ c.args.slot None c.cut.ensures.watch))

@@ -1,0 +1,26 @@
+-- What holds of every disk.
+use Rattle.std.specs.Prelude.{◌≢◌, ◌⊎◌, ℕ, ◌≤◌, List}
+use Rattle.disk_model.specs.declared.disk.FileId.{FileId}
+use Rattle.disk_model.specs.Disk.{Files, Same, Written, Elsewhere, Goes, Leaves, Looks, Synced}
+
+module _ {D : Type 0} (honest : D → Type 0) (moment : D → ℕ) (left : D → ℕ → Files → Type 0) where
+  -- one call: it looks or syncs, or it writes
+  abbrev pub IsCall : D → D → Type 0
+  IsCall old new = Goes moment left old new Same ⊎ ((file : FileId) × (at : ℕ) × (bytes : List ℕ) × Goes moment left old new (Written file at bytes))
+
+  -- A call keeps what might have been left since a moment, and of two moments the earlier has all that the later has.
+  pub record OnlyWidens : Type 0 where
+    pub with_calls : (old new : D) (t : ℕ) (files : Files) → IsCall old new → t ≤ moment old → left old t files → left new t files
+    pub with_moments : (disk : D) (s t : ℕ) (files : Files) → honest disk → s ≤ t → left disk t files → left disk s files
+
+  module _ (seen : D → Files) where
+    -- after calls that only look
+    abbrev pub StaysSynced : Type 0
+    StaysSynced = (old new : D) (file : FileId) → honest new → Looks moment left seen old new
+        → Synced moment left seen old file → Synced moment left seen new file
+
+    -- after calls that leave each file but another as it was, on the disk and as it reads
+    abbrev pub StaysSyncedElsewhere : Type 0
+    StaysSyncedElsewhere = (old new : D) (file written : FileId) → honest new → file ≢ written
+        → Leaves moment left old new (Elsewhere written) → Elsewhere written (seen old) (seen new)
+        → Synced moment left seen old file → Synced moment left seen new file

@@ -1,0 +1,32 @@
+//! What follows for every disk from the clauses of its calls, and what the meter of the disk in memory counts. Each
+//! function does nothing: its clause is a theorem, which is proved.
+ghost use Rattle.disk_model.specs.Laws.{StaysSynced, StaysSyncedElsewhere, OnlyWidens};
+ghost use Rattle.disk_model.specs.Metered.{FuseBlows, FailsOnce};
+
+use crate::Disk;
+
+/// A synced file stays synced under calls that only look.
+pub fn synced_looks<D: Disk>(_: &D)
+    ensures { StaysSynced D.honest D.moment D.left D.seen }
+{}
+
+/// A synced file stays synced while the other one is written.
+pub fn synced_elsewhere<D: Disk>(_: &D)
+    ensures { StaysSyncedElsewhere D.honest D.moment D.left D.seen }
+{}
+
+/// What a crash at any moment since an earlier one might have left only widens: with each call it keeps what it had,
+/// and of two moments the earlier has all that the later has.
+pub fn only_widens<D: Disk>(_: &D)
+    ensures { OnlyWidens D.honest D.moment D.left }
+{}
+
+/// After `SimDisk::fuse_after(k)`, where no single call is set to fail, exactly the first `k` calls pass.
+pub fn fuse_blows()
+    ensures { FuseBlows }
+{}
+
+/// After `SimDisk::fail_once(k)`, where no fuse is set, each call passes but the one behind the first `k`.
+pub fn fails_once()
+    ensures { FailsOnce }
+{}

@@ -1,0 +1,6 @@
+pub mod Numbers
+pub mod Lookups
+pub mod Pieces
+pub mod Changes
+pub mod Cuts
+pub mod Froms
