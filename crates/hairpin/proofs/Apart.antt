@@ -17,7 +17,7 @@ use Rattle.sessions.specs.declared.session.Session.{Session}
 use Rattle.sessions.proofs.Clashing.{apart-from, differ, same_endpoint-from, same_proto-from}
 use Rattle.sessions.proofs.Puts.{find-some, has_inside-from}
 use Rattle.hairpin.specs.Legs.{is_at, is_taken, maps_inside, maps_outside, or_no_port}
-use Rattle.hairpin.specs.Sound.{IsPlaced}
+use Rattle.sessions.specs.Sound.{IsPlaced}
 use Rattle.hairpin.specs.Translations.{endpoint}
 use Rattle.hairpin.specs.declared.cause.Cause.{Cause}
 use Rattle.hairpin.specs.declared.cause.Cause.TheVariants.{NoPort}

@@ -26,7 +26,8 @@ use Rattle.verdict.specs.declared.facts.State.TheVariants.{New}
 use Rattle.verdict.specs.declared.hook.Destination.{Destination}
 use Rattle.verdict.specs.declared.hook.Destination.TheVariants as destination
 use Rattle.hairpin.specs.Legs.{Passage, begun_second, counted, facts_of, first_by, first_state, forwarded, hairpin, inside_by_rules, inside_far, is_taken, maps_inside, maps_outside, needs_session, new_session, or_no_mapping, outside_near, passed_by, second, second_by, then_with, through}
-use Rattle.hairpin.specs.Sound.{AreSound, KeepBounds}
+use Rattle.hairpin.specs.Sound.{KeepBounds}
+use Rattle.sessions.specs.Sound.{AreSound}
 use Rattle.hairpin.specs.Translations.{endpoint}
 use Rattle.hairpin.specs.declared.cause.Cause.{Cause}
 use Rattle.hairpin.specs.declared.cause.Cause.TheVariants.{Clash, NoMapping, NoSession, Rule, SelfMapped, TableFull}

@@ -13,7 +13,7 @@ use Rattle.mappings.specs.declared.map.Pair.{Pair}
 use Rattle.mappings.specs.Map.{Pairs, times, pair}
 use Rattle.mappings.proofs.Times.{one_at-itself}
 use Rattle.hairpin.specs.Legs.{is_taken, maps_inside, maps_outside}
-use Rattle.hairpin.specs.Sound.{AreSound}
+use Rattle.sessions.specs.Sound.{AreSound}
 use Rattle.hairpin.specs.Tallies.{tally, pair_of}
 use Rattle.hairpin.specs.Translations.{IsOutside, endpoint}
 use Rattle.hairpin.proofs.Apart.{agree, maps-from, maps-parts, maps_outside-from, maps_outside-parts, taken-by, taken-from, translated_at}

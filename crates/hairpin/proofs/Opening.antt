@@ -24,7 +24,8 @@ use Rattle.verdict.specs.declared.hook.Source.{Source}
 use Rattle.verdict.specs.declared.hook.Source.TheVariants as source
 use Rattle.hairpin.specs.Legs.{begun_out, chosen, counted, facts_of, forwarded, is_taken, maps_inside, needs_session, new_session, or_no_port, out_by, out_leg, outside_by_rules, outside_for, outward, passed_by, state_of, then_with}
 use Rattle.hairpin.specs.Plans.{IsPlanOf, MayBegin}
-use Rattle.hairpin.specs.Sound.{AreSound, KeepBounds}
+use Rattle.hairpin.specs.Sound.{KeepBounds}
+use Rattle.sessions.specs.Sound.{AreSound}
 use Rattle.hairpin.specs.Translations.{endpoint}
 use Rattle.hairpin.specs.declared.cause.Cause.{Cause}
 use Rattle.hairpin.specs.declared.cause.Cause.TheVariants.{NoSession, Rule, TableFull}

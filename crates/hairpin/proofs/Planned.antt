@@ -30,7 +30,7 @@ use Rattle.verdict.specs.declared.hook.Filtering.{Filtering}
 use Rattle.verdict.specs.declared.hook.Filtering.TheVariants as filtering
 use Rattle.hairpin.specs.Legs.{Passage, begun_second, counted, facts_of, first_by, first_state, forwarded, inside_by_rules, inside_far, is_taken, maps_inside, maps_outside, needs_session, new_session, or_no_port, outside_near, passed_by, second, second_by, then_with, through, unless_dropped}
 use Rattle.hairpin.specs.Plans.{Gives, GivesThen, IsOf, Plans}
-use Rattle.hairpin.specs.Sound.{AreSound}
+use Rattle.sessions.specs.Sound.{AreSound}
 use Rattle.hairpin.specs.Tallies.{tally}
 use Rattle.hairpin.specs.Translations.{IsOutside, endpoint}
 use Rattle.hairpin.specs.declared.cause.Cause.{Cause}

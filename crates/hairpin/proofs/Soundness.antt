@@ -20,7 +20,7 @@ use Rattle.sessions.proofs.Sets.{same_key, In-filter, In-insert, Rises-filter, R
 use Rattle.verdict.specs.declared.hook.Filtering.{Filtering}
 use Rattle.verdict.specs.declared.hook.Filtering.TheVariants as filtering
 use Rattle.hairpin.specs.Legs.{Passage, passed_by, put_all, unless_dropped}
-use Rattle.hairpin.specs.Sound.{AreSound, IsPlaced}
+use Rattle.sessions.specs.Sound.{AreSound, IsPlaced}
 use Rattle.hairpin.specs.declared.cause.Cause.{Cause}
 use Rattle.hairpin.proofs.Apart.{cases_endpoint}
 

@@ -11,7 +11,8 @@ ghost use Rattle.sessions.specs.declared.session.Session.{Session as Flow};
 ghost use Rattle.verdict.specs.Hooks.{forward_verdict};
 ghost use Rattle.hairpin.specs.Legs.{begun_second as begun_far, counted, first_by, first_state, forwarded, hairpin as hairpin_way, inside_far as far_inside, maps_inside, maps_outside, or_no_mapping, outside_near as near_outside, passed_by, second as second_way, second_by, then_with, through};
 ghost use Rattle.hairpin.specs.Plans.{Gives, Plans};
-ghost use Rattle.hairpin.specs.Sound.{AreSound, KeepBounds};
+ghost use Rattle.hairpin.specs.Sound.{KeepBounds};
+ghost use Rattle.sessions.specs.Sound.{AreSound};
 ghost use Rattle.hairpin.specs.Tallies.{tally};
 ghost use Rattle.hairpin.specs.declared.held.Held.{Held as Known};
 

@@ -8,7 +8,8 @@ ghost use Rattle.sessions.specs.Table.{most_sessions};
 ghost use Rattle.sessions.specs.declared.session.Session.{Session as Flow};
 ghost use Rattle.hairpin.specs.Legs.{begun_in, in_by, in_leg as in_way, inside_for};
 ghost use Rattle.hairpin.specs.Plans.{Plans};
-ghost use Rattle.hairpin.specs.Sound.{AreSound, KeepBounds};
+ghost use Rattle.hairpin.specs.Sound.{KeepBounds};
+ghost use Rattle.sessions.specs.Sound.{AreSound};
 ghost use Rattle.hairpin.specs.Tallies.{tally};
 
 use crate::cause::Cause;

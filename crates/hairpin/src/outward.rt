@@ -7,7 +7,8 @@ ghost use Rattle.sessions.specs.Listing.{find, has_inside, listing};
 ghost use Rattle.sessions.specs.declared.session.Session.{Session as Flow};
 ghost use Rattle.hairpin.specs.Legs.{begun_out as begun_way, maps_inside, out_by, out_leg as out_way, outside_for, outward, passed_by};
 ghost use Rattle.hairpin.specs.Plans.{Plans};
-ghost use Rattle.hairpin.specs.Sound.{AreSound, KeepBounds};
+ghost use Rattle.hairpin.specs.Sound.{KeepBounds};
+ghost use Rattle.sessions.specs.Sound.{AreSound};
 ghost use Rattle.hairpin.specs.Tallies.{tally};
 
 use crate::cause::Cause;

@@ -30,7 +30,8 @@ use Rattle.verdict.specs.declared.hook.Source.TheVariants as sources
 use Rattle.verdict.proofs.Bounded.{source_external, destination_inside, port_above_zero}
 use Rattle.hairpin.specs.Causes.{number}
 use Rattle.hairpin.specs.Legs.{Passage, hairpin, in_leg, out_leg, put_all}
-use Rattle.hairpin.specs.Sound.{AreSound, KeepBounds}
+use Rattle.hairpin.specs.Sound.{KeepBounds}
+use Rattle.sessions.specs.Sound.{AreSound}
 use Rattle.hairpin.specs.declared.cause.Cause.{Cause}
 use Rattle.hairpin.proofs.Beginning.{none-from, none-to}
 use Rattle.hairpin.proofs.Doubling.{fine-hairpin}

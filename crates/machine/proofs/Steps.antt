@@ -16,7 +16,7 @@ use Rattle.sessions.specs.Listing.{listing}
 use Rattle.sessions.specs.declared.session.Session.{Session}
 use Rattle.sessions.specs.Table.{IsSound as IsHeldSound}
 use Rattle.sessions.proofs.Sets.{Apart-sound, listing-In}
-use Rattle.hairpin.specs.Sound.{AreSound}
+use Rattle.sessions.specs.Sound.{AreSound}
 use Rattle.hairpin.proofs.Beginning.{listing-none}
 use Rattle.hairpin.proofs.Soundness.{filter-sound}
 use Rattle.hairpin.specs.Legs.{Passage, put_all}

@@ -5,7 +5,7 @@ use Rattle.rulesyntax.specs.declared.tree.Spelled.{Spelled}
 use Rattle.ruletext.specs.Texts.{Loads}
 use Rattle.sessions.specs.Listing.{In}
 use Rattle.sessions.specs.declared.session.Session.{Session}
-use Rattle.hairpin.specs.Sound.{AreSound}
+use Rattle.sessions.specs.Sound.{AreSound}
 use Rattle.machine.specs.Machine.{State, no_tables}
 
 -- the rules are those that the text loads; before a text has loaded there are none

@@ -2,7 +2,7 @@
 //!
 //! Addresses and ports are numbers in host byte order: the most significant byte of an address is its
 //! first octet.
-ghost use Rattle.std.specs.Prelude.{◌≡◌, false};
+ghost use Rattle.std.specs.Prelude.{◌≡◌, ◌≢◌, IfSome, IfNone, false};
 ghost use Rattle.packet.specs.Numbers.{proto_number};
 
 /// A transport protocol: TCP (RFC 9293) or UDP (RFC 768).
@@ -20,6 +20,18 @@ impl Proto {
         match self {
             Proto::Tcp => 6,
             Proto::Udp => 17,
+        }
+    }
+
+    /// The protocol that has this number, if one has it.
+    pub fn of_number(number: u8) -> Option<Proto>
+        ensures found { IfSome result (λ proto. proto_number proto ≡ number) }
+        ensures none { IfNone result ((proto : Proto) → proto_number proto ≢ number) }
+    {
+        match number {
+            6 => Some(Proto::Tcp),
+            17 => Some(Proto::Udp),
+            _ => None,
         }
     }
 }

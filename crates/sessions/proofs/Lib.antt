@@ -6,3 +6,4 @@ pub mod Listed
 pub mod OneToOne
 pub mod Puts
 pub mod Sets
+pub mod Stilled

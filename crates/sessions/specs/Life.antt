@@ -10,6 +10,11 @@ use Rattle.sessions.specs.declared.session.Opener.TheVariants.{Inside, Remote}
 use Rattle.sessions.specs.declared.life.Phase.{Phase}
 use Rattle.sessions.specs.declared.life.Phase.TheVariants.{Partial, Established, Closing}
 
+-- the number of a side where sessions are stored
+abbrev pub opener_code : Opener → ℕ
+opener_code Inside = 0
+opener_code Remote = 1
+
 -- the bit of a packet that the side which isn't the opener sent
 abbrev pub reply_bit : ℕ
 reply_bit = 1

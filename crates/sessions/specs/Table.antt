@@ -71,3 +71,7 @@ seen s bits last = record s { seen = bit_or s.seen bits; last = last }
 -- the session begun anew by this side at this moment
 abbrev pub restarted : Session → Opener → ℕ → Session
 restarted s opener last = record s { opener = opener; seen = 0; last = last }
+
+-- the session with this side as the one that began it, and with just these bits seen
+abbrev pub amended : Session → Opener → ℕ → Session
+amended s opener seen = record s { opener = opener; seen = seen }

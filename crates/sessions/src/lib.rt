@@ -15,8 +15,9 @@ mod table;
 mod tests;
 
 pub use laws::{
-    clashes_tells_clash, listing_is_the_set, mappings_are_one_to_one, restarted_awaits_reply,
+    clashes_tells_clash, listing_is_the_set, mappings_are_one_to_one, moments_do_not_count,
+    restarted_awaits_reply,
 };
-pub use life::{Phase, is_syn_alone};
-pub use session::{Change, Opener, Session};
+pub use life::{Phase, are_known_bits, is_syn_alone};
+pub use session::{Change, Opener, Session, clash, order};
 pub use table::{AddFault, MOST_SESSIONS, Slot, Table};

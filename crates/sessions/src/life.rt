@@ -86,6 +86,17 @@ impl Session {
     }
 }
 
+/// Whether packets of this protocol can have shown just these bits of a session's `seen`: at most 63 for TCP,
+/// and 1 for UDP.
+pub fn are_known_bits(proto: Proto, seen: u8) -> bool
+    ensures { IsTrue result ↔ IsSeen proto seen }
+{
+    match proto {
+        Proto::Tcp => seen <= 63,
+        Proto::Udp => seen <= 1,
+    }
+}
+
 /// Whether SYN is set, and ACK, FIN and RST are clear, as where a connection begins (RFC 9293, section 3.5).
 pub fn is_syn_alone(flags: Flags) -> bool
     ensures { result ≡ is_syn_alone_of flags }

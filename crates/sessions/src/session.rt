@@ -1,9 +1,12 @@
 //! Sessions, and how two of them compare.
-ghost use Rattle.std.specs.Prelude.{◌≡◌, ◌≢◌, ◌⊎◌, ◌↔◌, IsTrue};
+ghost use Rattle.std.specs.Prelude.{◌≡◌, ◌≢◌, ◌⊎◌, ◌↔◌, IfSome, IfNone, IsTrue};
+ghost use Rattle.sessions.specs.Life.{opener_code};
 ghost use Rattle.sessions.specs.Listing.{key, order};
+ghost use Rattle.sessions.specs.Sound.{IsPlaced};
 ghost use Rattle.sessions.specs.Table.{Clash, HasInside, HasOutside};
 
 use crate::table::Slot;
+use packet::bounds::Bounds;
 use packet::endpoint::{Endpoint, Proto};
 use std::cmp::Ordering;
 
@@ -14,6 +17,30 @@ pub enum Opener {
     Inside,
     /// The other one.
     Remote,
+}
+
+impl Opener {
+    /// The number that stands for the side where sessions are stored: 0 for inside, 1 for remote.
+    pub fn code(self) -> u8
+        ensures { result ≡ opener_code self }
+    {
+        match self {
+            Opener::Inside => 0,
+            Opener::Remote => 1,
+        }
+    }
+
+    /// The side that has this code, if one has it.
+    pub fn of_code(code: u8) -> Option<Opener>
+        ensures found { IfSome result (λ opener. opener_code opener ≡ code) }
+        ensures none { IfNone result ((opener : Opener) → opener_code opener ≢ code) }
+    {
+        match code {
+            0 => Some(Opener::Inside),
+            1 => Some(Opener::Remote),
+            _ => None,
+        }
+    }
 }
 
 /// One flow through the gateway.
@@ -37,6 +64,20 @@ pub struct Session {
     pub seen: u8,
     /// When the last packet passed, in seconds of the clock that events bring.
     pub last: u64,
+}
+
+impl Session {
+    /// Whether a gateway between these bounds may hold the session: its inside endpoint is inside, its
+    /// outside endpoint the same or at the external address, and no port is 0.
+    pub fn is_placed(&self, bounds: &Bounds) -> bool
+        ensures { IsTrue result ↔ IsPlaced bounds.now self.now }
+    {
+        bounds.is_inside(self.inside.addr)
+            && (self.outside == self.inside || bounds.is_external(self.outside.addr))
+            && self.inside.port != 0
+            && self.outside.port != 0
+            && self.remote.port != 0
+    }
 }
 
 /// What happens to a session.

@@ -4,7 +4,7 @@ ghost use Rattle.std.specs.Option.{option_map};
 ghost use Rattle.std.specs.List.Sorted.{IsPermutation, IsSorted};
 ghost use Rattle.sessions.specs.Life.{IsSeen};
 ghost use Rattle.sessions.specs.Listing.{listing, order, sessions_of};
-ghost use Rattle.sessions.specs.Table.{at, count, most_sessions, Updates, HasInside, HasOutside, Clash, ClashesWith, AnyClash, IsSound, seen as seen_with, restarted};
+ghost use Rattle.sessions.specs.Table.{at, count, most_sessions, Updates, HasInside, HasOutside, Clash, ClashesWith, AnyClash, IsSound, amended, seen as seen_with, restarted};
 
 use crate::session::{clash, has_inside, has_outside, order};
 use crate::{Opener, Session};
@@ -279,6 +279,24 @@ impl Table {
                 last,
                 ..session
             });
+        }
+    }
+
+    /// Sets who began the session of the slot, which must hold one, and what its packets have shown, bits of
+    /// its protocol. This takes no memory.
+    pub fn amend(&mut self, slot: Slot, opener: Opener, seen: u8)
+        requires held { IsSome (at self.old slot) }
+        requires bits { IfSome (at self.old slot) (λ s. IsSeen s.proto seen) }
+        ensures updates { Updates self.old self.new slot (option_map (λ s. amended s opener seen) (at self.old slot)) }
+        ensures counted { count self.new ≡ count self.old }
+        ensures room { self.new.room ≡ self.old.room }
+        ensures slots { self.new.slots ≡ self.old.slots }
+    {
+        let number = slot.number();
+        if let Some(mut session) = self.places[number] {
+            session.opener = opener;
+            session.seen = seen;
+            self.places[number] = Some(session);
         }
     }
 

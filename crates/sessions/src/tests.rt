@@ -2,8 +2,9 @@ ghost use Rattle.std.specs.Prelude.{◌≡◌};
 
 use crate::life::Phase::{self, Closing, Established, Partial};
 use crate::session::Opener::{self, Inside, Remote};
-use crate::{AddFault, Session, Table};
-use packet::endpoint::{Endpoint, Flags, Proto};
+use crate::{AddFault, Session, Table, are_known_bits};
+use packet::bounds::Bounds;
+use packet::endpoint::{Endpoint, Flags, Prefix, Proto};
 use std::process::Abort;
 use std::test::*;
 
@@ -158,7 +159,46 @@ fn one_table(rt: HostRuntime) -> Result<(), Fail> {
         ..query
     };
     assert_eq!(rt; table.get(slot), Some(anew));
+    table.amend(slot, Inside, 1);
+    let amended = Session {
+        seen: 1,
+        last: 1002,
+        ..query
+    };
+    assert_eq!(rt; table.get(slot), Some(amended));
     table.end(slot);
     assert_eq!(rt; table.get(slot), None);
+    Ok(())
+}
+
+#[test]
+fn stored_values(rt: HostRuntime) -> Result<(), Fail> {
+    assert_eq!(rt; (Inside.code(), Remote.code()), (0, 1));
+    assert_eq!(rt; Opener::of_code(1), Some(Remote));
+    assert_eq!(rt; Opener::of_code(2), None);
+    assert!(rt; are_known_bits(Proto::Tcp, 63));
+    assert!(rt; !are_known_bits(Proto::Udp, 2));
+
+    let alloc = rt.alloc();
+    let mut inside = Vec::new(alloc);
+    inside.push(Prefix {
+        addr: 0xc0a8_0100,
+        len: 24,
+    })?;
+    let lan = String::from_str(alloc, "lan")?;
+    let wan = String::from_str(alloc, "wan")?;
+    let bounds = Bounds::new(lan, wan, inside, OUTSIDE.addr)?;
+    let query = begun(Proto::Udp, SERVER);
+    assert!(rt; query.is_placed(&bounds));
+    let within = Session {
+        outside: HOST,
+        ..query
+    };
+    assert!(rt; within.is_placed(&bounds));
+    let elsewhere = Session {
+        outside: SERVER,
+        ..query
+    };
+    assert!(rt; !elsewhere.is_placed(&bounds));
     Ok(())
 }
