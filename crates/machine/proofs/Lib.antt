@@ -7,4 +7,5 @@ pub mod Passing
 pub mod Reading
 pub mod Soundness
 pub mod Steps
+pub mod Telling
 pub mod Updated

@@ -8,8 +8,10 @@ use Rattle.packet.specs.declared.fault.Fault.{Fault}
 use Rattle.packet.specs.declared.route.Route.{Route}
 use Rattle.packet.specs.declared.route.RouteFault.{RouteFault}
 use Rattle.packet.specs.declared.view.View.{View}
+use Rattle.rulesyntax.specs.declared.tree.Spelled.{Spelled}
 use Rattle.sessions.specs.Life.{alive, same_side}
 use Rattle.sessions.specs.Listing.{In, find, put, same_flow}
+use Rattle.sessions.specs.Stilled.{moved, stilled}
 use Rattle.sessions.specs.declared.session.Session.{Session}
 use Rattle.hairpin.specs.Legs.{Passage}
 use Rattle.hairpin.specs.declared.cause.Cause.{Cause}
@@ -20,13 +22,6 @@ use Rattle.machine.specs.declared.deed.Deed.{Deed}
 use Rattle.machine.specs.declared.deed.Deed.TheVariants as deed
 use Rattle.durable.specs.Coding.{Entry, Load, Begin, Seen, Restart, End}
 use Rattle.durable.specs.Entering.{Durable, durable, flow_of}
-
--- a session at another moment, and without one
-abbrev pub moved : ℕ → Session → Session
-moved moment s = record s { last = moment }
-
-abbrev pub stilled : Session → Session
-stilled s = moved 0 s
 
 -- what is durable of a state
 abbrev pub lasting : State → Durable

@@ -1,6 +1,8 @@
 -- The room that the entries of an event take.
-use Rattle.std.specs.Prelude.{ℕ, ◌+◌, ◌*◌, List, [], ◌∷◌, length}
+use Rattle.std.specs.Prelude.{ℕ, ◌+◌, ◌*◌, List, [], ◌∷◌, length, Option, Some, None}
+use Rattle.durable.specs.declared.coding.Entry as declared
 use Rattle.durable.specs.Coding.{Entry, entry_bytes}
+use Rattle.durable.specs.Viewing.{view}
 use Rattle.machine.specs.declared.event.What.{What}
 use Rattle.machine.specs.declared.event.What.TheVariants as what
 
@@ -18,3 +20,8 @@ most_bytes what.Moment = 0
 -- and how many an event, in which so many sessions end
 abbrev pub cost : ℕ → What → ℕ
 cost ends brought = 14 * ends + most_bytes brought
+
+-- the entry that there is, if there is one
+abbrev pub listed : Option declared.Entry → List Entry
+listed None = []
+listed (Some entry) = view entry ∷ []

@@ -18,6 +18,7 @@ mod event;
 mod flows;
 pub mod laws;
 mod notes;
+mod noting;
 
 pub use bytes::Bytes;
 pub use core_state::Core;
