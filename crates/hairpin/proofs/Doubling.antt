@@ -2,7 +2,7 @@
 use Rattle.std.proofs.Common.{◌≡◌, ℕ, ◌+◌, ◌<◌, ◌≤◌, List, [], ◌∷◌, length, Option, Some, None, is_some, Result, Ok, Err, Bool, true, false, cond, not, nat_lt, if◌then◌else◌, refl, sym, ap, ◌∙◌, subst, inl, inr, arith}
 use Rattle.std.specs.List.{filter}
 use Rattle.std.specs.Option.{option_map}
-use Rattle.std.proofs.lemmas.Bool.{cases_Bool, cases_lt, false≢true, lt-ltb, not-false, not-true}
+use Rattle.std.proofs.lemmas.Bool.{cases_Bool, cases_lt, false≢true, lt-ltb, not-false, not-true, false_from_ne_true}
 use Rattle.std.proofs.lemmas.Option.{none-some, same_Some}
 use Rattle.packet.specs.Config.{Config, is_config, is_inside}
 use Rattle.packet.specs.Same.{same_endpoint}
@@ -19,6 +19,8 @@ use Rattle.sessions.specs.declared.session.Opener.{Opener}
 use Rattle.sessions.specs.declared.session.Opener.TheVariants.{Inside, Remote}
 use Rattle.sessions.specs.declared.session.Session.{Session}
 use Rattle.sessions.proofs.Held.{SameKeys}
+use Rattle.packet.proofs.SameLemmas.{same_endpoint-itself}
+use Rattle.sessions.proofs.Found.{has_outside-true}
 use Rattle.sessions.proofs.Puts.{has_inside-from, has_inside-true, keys-flow, length-insert}
 use Rattle.sessions.proofs.Sets.{In-filter, Rises-filter, Rises-insert, insert-In}
 use Rattle.verdict.specs.Hooks.{forward_verdict, prerouting_verdict}
@@ -248,6 +250,18 @@ module _ (config : Config) (rules : Spelled) (sessions : List Session) (now : �
       let free = unless (is_some (find (clashes (far_of new.0)) held)) Clash (far_of new.0) t new.2 in
       subst (IsSecond config rules held view now None) free.1 (new-second new.0 new.1 (gone (find (clashes (far_of new.0)) held) free.0))
 
+  -- it has the first one's outside endpoint for its remote one
+  pub second-remote : (found : Option Session) → find (has_outside view.proto view.dst first.outside) held ≡ found → (t : Session) → second_by config rules sessions now view first held found ≡ Ok t
+      → t.remote ≡ first.outside
+  second-remote (Some s) e t h =
+      let is = find-In (has_outside view.proto view.dst first.outside) held s e in
+      let has = has_outside-true view.proto view.dst first.outside s is.1 in
+      ap (λ (u : Session). u.remote) (sym (same_Ok _ _ h)) ∙ sym (passed-keys s Remote view.flags now).remote ∙ has.2
+  second-remote None e t h =
+      let new = made (needs_session view) NoSession (inside_far config rules sessions now view first held) (begun_second config rules sessions now view first held) t h in
+      let free = unless (is_some (find (clashes (far_of new.0)) held)) Clash (far_of new.0) t new.2 in
+      ap (λ (u : Session). u.remote) (sym free.1)
+
 -- ---- what both legs come to
 
 module _ (config : Config) (rules : Spelled) (sessions : List Session) (now : ℕ) (view : View) (is_one : is_config config ≡ true) (sound : AreSound config sessions) (bounds : KeepBounds config rules)
@@ -261,35 +275,43 @@ module _ (config : Config) (rules : Spelled) (sessions : List Session) (now : �
   abbrev behind_both : Session → Session → Result Passage Cause
   behind_both first t = forwarded config rules sessions now view Lan Lan view.src t.inside (first_state config rules sessions now view found_near) (counted config rules sessions now view (through first t))
 
-  fine-counted : (first t : Session) → IsFirst config sessions view now found_near first → IsSecond config rules (put first sessions) view now (found_far first) t
+  fine-counted : (first t : Session) → IsFirst config sessions view now found_near first → IsSecond config rules (put first sessions) view now (found_far first) t → same_flow t first ≡ false
       → (b : Bool) → nat_lt 65536 (length (put t (put first sessions))) ≡ b → IsFine config sessions now (if b then Err TableFull else Ok (through first t))
-  fine-counted first t f s true e = tt
-  fine-counted first t f s false e = elim (cases_lt 65536 (length (put t (put first sessions)))) [
+  fine-counted first t f s own true e = tt
+  fine-counted first t f s own false e = elim (cases_lt 65536 (length (put t (put first sessions)))) [
     | inl many ↦ absurd (false≢true (sym e ∙ lt-ltb 65536 (length (put t (put first sessions))) many))
     | inr few ↦
         let joins = f.joins (omega (arith, few, s.many)) in
-        two-join config sessions now first t joins (s.joins joins.sound bounds (omega (arith, few)))
+        two-join config sessions now first t joins (s.joins joins.sound bounds (omega (arith, few))) own
   ]
 
-  fine-second : (first : Session) → IsFirst config sessions view now found_near first → (r : Result Session Cause) → second_by config rules sessions now view first (put first sessions) (found_far first) ≡ r
-      → IsFine config sessions now (then_with r (behind_both first))
-  fine-second first f (Err cause) e = tt
-  fine-second first f (Ok t) e =
-      let s = second-is config rules sessions now view at dst_port first (put first sessions) (Rises-put first sessions sound.rises) (put-In first sessions) (found_far first) refl t e in
-      fine-filtered config sessions now (forward_verdict config (facts_of config rules sessions now view Lan (Some Lan) view.src t.inside (first_state config rules sessions now view found_near)) rules)
-      (counted config rules sessions now view (through first t)) (fine-counted first t f s (nat_lt 65536 (length (put t (put first sessions)))) refl)
+  -- the two have different remote endpoints
+  own-flows : (first t : Session) → first.remote ≡ view.dst → t.remote ≡ first.outside → same_endpoint first.outside view.dst ≡ false → same_flow t first ≡ false
+  own-flows first t near far other = false_from_ne_true _ (λ h.
+      let has = has_inside-true t.proto t.inside t.remote first h in
+      false≢true (sym other ∙ subst (λ (e : Endpoint). same_endpoint first.outside e ≡ true) (sym far ∙ sym has.2 ∙ near) (same_endpoint-itself first.outside)))
 
-  fine-other : (first : Session) → IsFirst config sessions view now found_near first → (b : Bool)
+  fine-second : (first : Session) → IsFirst config sessions view now found_near first → same_endpoint first.outside view.dst ≡ false → (r : Result Session Cause) → second_by config rules sessions now view first (put first sessions) (found_far first) ≡ r
+      → IsFine config sessions now (then_with r (behind_both first))
+  fine-second first f other (Err cause) e = tt
+  fine-second first f other (Ok t) e =
+      let s = second-is config rules sessions now view at dst_port first (put first sessions) (Rises-put first sessions sound.rises) (put-In first sessions) (found_far first) refl t e in
+      let far = second-remote config rules sessions now view at dst_port first (put first sessions) (Rises-put first sessions sound.rises) (put-In first sessions) (found_far first) refl t e in
+      let own = own-flows first t f.remote far other in
+      fine-filtered config sessions now (forward_verdict config (facts_of config rules sessions now view Lan (Some Lan) view.src t.inside (first_state config rules sessions now view found_near)) rules)
+      (counted config rules sessions now view (through first t)) (fine-counted first t f s own (nat_lt 65536 (length (put t (put first sessions)))) refl)
+
+  fine-other : (first : Session) → IsFirst config sessions view now found_near first → (b : Bool) → same_endpoint first.outside view.dst ≡ b
       → IsFine config sessions now (then_with (if b then Err SelfMapped else second_by config rules sessions now view first (put first sessions) (found_far first)) (behind_both first))
-  fine-other first f true = tt
-  fine-other first f false = fine-second first f (second_by config rules sessions now view first (put first sessions) (found_far first)) refl
+  fine-other first f true e = tt
+  fine-other first f false e = fine-second first f e (second_by config rules sessions now view first (put first sessions) (found_far first)) refl
 
   fine-first : (r : Result Session Cause) → first_by config rules sessions now view found_near ≡ r
       → IsFine config sessions now (then_with r (λ first. then_with (second config rules sessions now view first (put first sessions)) (behind_both first)))
   fine-first (Err cause) e = tt
   fine-first (Ok first) e =
       let f = first-is config rules sessions now view is_one sound inside at src_port dst_port found_near refl first e in
-      fine-other first f (same_endpoint first.outside view.dst)
+      fine-other first f (same_endpoint first.outside view.dst) refl
 
   -- a packet that hairpins leaves the sessions sound
   pub fine-hairpin : IsFine config sessions now (hairpin config rules sessions now view)

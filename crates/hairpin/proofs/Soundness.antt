@@ -173,9 +173,21 @@ module _ (config : Config) (sessions : List Session) (sound : AreSound config se
         })
   ]
 
+-- each may be put in where those before it are
+abbrev pub JoinEach : Config → List Session → ℕ → List Session → Type 0
+JoinEach config sessions now [] = Unit {0}
+JoinEach config sessions now (t ∷ ts) = Joins config sessions now t × JoinEach config (put t sessions) now ts
+
+-- none is of the flow of another
+abbrev pub HaveOwnFlows : List Session → Type 0
+HaveOwnFlows [] = Unit {0}
+HaveOwnFlows (t ∷ ts) = ((u : Session) → Member u ts → same_flow u t ≡ false) × HaveOwnFlows ts
+
 -- the sessions may be put in, in turn, and no mapping is lost
 pub record JoinAll (config : Config) (sessions : List Session) (now : ℕ) (ts : List Session) : Type 0 where
   pub sound : AreSound config (put_all ts sessions)
+  pub each : JoinEach config sessions now ts
+  pub flows : HaveOwnFlows ts
   pub last : (t : Session) → Member t ts → t.last ≡ now
   pub keeps : (u : Session) → Member u sessions
       → (v : Session) × Member v (put_all ts sessions) × (v.proto ≡ u.proto) × (v.inside ≡ u.inside) × (v.outside ≡ u.outside)
@@ -203,13 +215,20 @@ module _ (config : Config) (sessions : List Session) (now : ℕ) (t : Session) (
   pub one-joins : JoinAll config sessions now (t ∷ [])
   one-joins = record {
     sound = joins.sound;
+    each = (joins, tt);
+    flows = (λ u not_in. absurd not_in, tt);
     last = λ u is. elim is [ inl e ↦ subst (λ (v : Session). v.last ≡ now) (sym e) joins.last | inr not_in ↦ absurd not_in ];
     keeps = keeps-each;
   }
 
-pub two-join : (config : Config) (sessions : List Session) (now : ℕ) (t u : Session) → Joins config sessions now t → Joins config (put t sessions) now u → JoinAll config sessions now (t ∷ u ∷ [])
-two-join config sessions now t u joins more = record {
+pub two-join : (config : Config) (sessions : List Session) (now : ℕ) (t u : Session) → Joins config sessions now t → Joins config (put t sessions) now u → same_flow u t ≡ false → JoinAll config sessions now (t ∷ u ∷ [])
+two-join config sessions now t u joins more own = record {
   sound = more.sound;
+  each = (joins, (more, tt));
+  flows = (
+    (λ v is. elim is [ inl e ↦ ap (λ (x : Session). same_flow x t) e ∙ own | inr not_in ↦ absurd not_in ]),
+    ((λ v not_in. absurd not_in), tt),
+  );
   last = λ w is. elim is [
     | inl e ↦ subst (λ (v : Session). v.last ≡ now) (sym e) joins.last
     | inr later ↦ elim later [ inl e ↦ subst (λ (v : Session). v.last ≡ now) (sym e) more.last | inr not_in ↦ absurd not_in ]

@@ -85,7 +85,7 @@ module _ (config : Config) (is_one : is_config config ≡ true) (s : State) (sou
   sent-by bytes (Err cause) fine = stays (answer.Dropped (number cause))
   sent-by bytes (Ok passage) fine = puts passage.sessions passage.iface (translated bytes passage.src passage.dst) fine
 
-  leg-fine : (iface : Iface) (bytes : List ℕ) (view : View) → fields bytes ≡ Ok view → (r : Route) → route config iface view ≡ Ok r → IsFine config s.sessions s.clock (leg config s view r)
+  pub leg-fine : (iface : Iface) (bytes : List ℕ) (view : View) → fields bytes ≡ Ok view → (r : Route) → route config iface view ≡ Ok r → IsFine config s.sessions s.clock (leg config s view r)
   leg-fine iface bytes view is Out e =
       let there = routed_is_on_route config iface view Out e in
       let ports = ports_are_some bytes view is in
