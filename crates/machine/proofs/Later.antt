@@ -128,10 +128,10 @@ plan-adds external held now first (Some second) ts apart all =
     let t = all.0 in
     let u = all.1 in
     let leads = change-leads external held now first t apart all.2 in
-    let gives = all.3 leads.later leads.became in
+    let gives = all.4 leads.later leads.became in
     let count = change-adds external held now first t apart all.2 in
     let more = change-adds external leads.later now second u leads.apart gives in
     let there = ap (λ (xs : List Session). length (put u xs)) leads.became.listing in
     let here = ap (λ (xs : List Session). length xs) leads.became.listing in
-    let same = ap (λ (us : List Session). length (put_all us (listing held))) all.4 in
+    let same = ap (λ (us : List Session). length (put_all us (listing held))) all.5 in
     omega (arith, count, more, there, here, same)

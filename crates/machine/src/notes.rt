@@ -1,5 +1,5 @@
 //! Where a step notes what it changes of what must survive.
-ghost use Rattle.std.specs.Prelude.{◌≡◌, ◌↔◌, ◌+◌, ◌≤◌, ◌++◌, ◌∷◌, [], ℕ, List, length, OnOk, OnErr, IsOk, IsErrOf};
+ghost use Rattle.std.specs.Prelude.{◌≡◌, ◌↔◌, ◌+◌, ◌*◌, ◌≤◌, ◌++◌, ◌∷◌, [], ℕ, List, length, OnOk, OnErr, IsOk, IsErrOf};
 ghost use Rattle.durable.specs.Coding.{Entry as Noted, entry_bytes};
 ghost use Rattle.durable.specs.Viewing.{view};
 ghost use Rattle.machine.specs.declared.notes.StepFault.{StepFault};
@@ -37,16 +37,16 @@ pub trait Notes {
     /// So many bytes more would not fit, however much memory there is.
     ghost too_many: { Self → ℕ → Type 0 };
 
-    /// Makes room for entries of so many bytes.
+    /// Makes room for the entries of so many sessions that end, 14 bytes each, and for so many bytes of others.
     ///
     /// # Errors
     ///
-    /// `Full` only where so many bytes don't fit, and `NoMemory` where memory is refused. What is noted stays.
-    fn reserve(&mut self, bytes: u64) -> Result<(), StepFault>
+    /// `Full` only where these don't fit, and `NoMemory` where memory is refused. What is noted stays.
+    fn reserve(&mut self, ends: usize, others: u64) -> Result<(), StepFault>
         ensures keeps { keeps self.old ↔ keeps self.new }
-        ensures ok { keeps self.old → OnOk result (bytes ≤ room self.new) }
+        ensures ok { keeps self.old → OnOk result (14 * ends + others ≤ room self.new) }
         ensures noted { noted self.new ≡ noted self.old }
-        ensures full { IsErrOf result StepFault.Full → too_many self.old bytes }
+        ensures full { IsErrOf result StepFault.Full → too_many self.old (14 * ends + others) }
         ensures succeeds { grants self.old → IsOk result };
 
     /// Notes an entry, for which there is room. This takes no memory.
@@ -74,7 +74,7 @@ impl Notes for Unkept {
 
     ghost too_many = { λ _ _. ⊥ };
 
-    fn reserve(&mut self, bytes: u64) -> Result<(), StepFault> {
+    fn reserve(&mut self, ends: usize, others: u64) -> Result<(), StepFault> {
         Ok(())
     }
 
