@@ -1,4 +1,5 @@
 pub mod Changed
+pub mod Costs
 pub mod Expiry
 pub mod Judging
 pub mod Lasting

@@ -81,13 +81,13 @@ noted_all (t ∷ ts) sessions = noted sessions t ++ noted_all ts (put t sessions
 
 -- ---- what is done
 
-abbrev pub of_way : State → Result Passage Cause → List Entry
-of_way s (Err why) = []
-of_way s (Ok passage) = noted_all passage.sessions s.sessions
+abbrev pub of_way : List Session → Result Passage Cause → List Entry
+of_way sessions (Err why) = []
+of_way sessions (Ok passage) = noted_all passage.sessions sessions
 
 abbrev pub of_route : Config → State → View → Result Route RouteFault → List Entry
 of_route config s view (Err fault) = []
-of_route config s view (Ok r) = of_way s (leg config s view r)
+of_route config s view (Ok r) = of_way s.sessions (leg config s view r)
 
 abbrev pub of_fields : Config → State → Iface → Result View Fault → List Entry
 of_fields config s iface (Err fault) = []

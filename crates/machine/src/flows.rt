@@ -261,6 +261,7 @@ impl Flows {
         ensures quiet { (ts : List Flow) → GiveAll self.old.translations.external self.old.table.held now plan.now.first plan.now.second ts
             → noted_all ts (listing self.old.table.held) ≡ [] → IsOk result }
     {
+        self.table.is_sound();
         if ready {
             return Ok(());
         }
@@ -418,12 +419,17 @@ fn is_noted(table: &Table, plan: &Plan, now: u64) -> bool
     ensures { (external : ℕ) (ts : List Flow) → GiveAll external table.now.held now plan.now.first plan.now.second ts
         → IsTrue result ↔ (noted_all ts (listing table.now.held) ≢ []) }
 {
+    table.is_sound();
     if entry_of(table, &plan.first, now).is_some() {
         return true;
     }
     match &plan.second {
-        Some(Change::Begin(_)) => true,
-        Some(second) => entry_of(table, second, now).is_some(),
+        Some(second) => {
+            if adds(second) > 0 {
+                return true;
+            }
+            entry_of(table, second, now).is_some()
+        }
         None => false,
     }
 }
