@@ -1,7 +1,12 @@
--- stub
+-- Values without where their texts lie in memory.
+use Rattle.packet.specs.Config.{Config}
 use Rattle.durable.specs.declared.coding.Entry as declared
 use Rattle.durable.specs.declared.coding.Entry.TheVariants as variants
-use Rattle.durable.specs.Coding.{Entry, Load, Begin, Seen, Restart, End}
+use Rattle.durable.specs.declared.heading.StoredConfig as stored_config
+use Rattle.durable.specs.declared.heading.StoredSnapshot as stored_snapshot
+use Rattle.durable.specs.declared.heading.Stored as stored
+use Rattle.durable.specs.declared.recovery.Headed as headed
+use Rattle.durable.specs.Coding.{Entry, Load, Begin, Seen, Restart, End, Kept, Heading}
 
 abbrev pub view : declared.Entry → Entry
 view (variants.Load text) = Load text.now
@@ -9,3 +14,15 @@ view (variants.Begin s) = Begin s
 view (variants.Seen f seen) = Seen f seen
 view (variants.Restart f opener seen) = Restart f opener seen
 view (variants.End f) = End f
+
+abbrev pub config_view : stored_config.StoredConfig → Config
+config_view c = record { lan = c.lan.now; wan = c.wan.now; inside = c.inside.items; external = c.external }
+
+abbrev pub kept_view : stored_snapshot.StoredSnapshot → Kept
+kept_view k = record { text = k.text.now; sessions = k.sessions.items }
+
+abbrev pub heading_view : stored.Stored → Heading
+heading_view h = record { generation = h.generation; config = config_view h.config; kept = kept_view h.snapshot }
+
+abbrev pub headed_view : headed.Headed → Heading
+headed_view h = record { generation = h.generation; config = h.bounds; kept = record { text = h.text.now; sessions = h.sessions.items } }

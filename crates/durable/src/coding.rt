@@ -1,4 +1,11 @@
-//! stub
+//! Sessions and entries at the front of bytes.
+ghost use Rattle.std.specs.Prelude.{◌≡◌, IfSome, IfNone};
+ghost use Rattle.sessions.specs.Life.{most_seen};
+ghost use Rattle.durable.specs.Coding.{IsSession, session_bytes, Begins, NoneBegins, IsEntry, entry_bytes};
+ghost use Rattle.durable.specs.Reading.{Gives, flow_at, session_at, seen_at, restart_at, entry_at};
+ghost use Rattle.durable.specs.Viewing.{view};
+
+use crate::fields::{byte_of, endpoint_of, opener_of, proto_of, text_of};
 use packet::endpoint::{Endpoint, Proto};
 use sessions::{Opener, Session};
 
@@ -10,7 +17,7 @@ pub struct Flow {
     pub remote: Endpoint,
 }
 
-/// What changes the durable state.
+/// What changes the durable state. The bits of `seen` are those of `Session`.
 #[derive(Clone, Copy, Debug, PartialEq, Eq, Drop)]
 pub enum Entry<'a> {
     /// A ruleset's text is loaded.
@@ -23,4 +30,126 @@ pub enum Entry<'a> {
     Restart(Flow, Opener, u8),
     /// A session ends.
     End(Flow),
+}
+
+fn most_of(proto: Proto) -> u8
+    ensures { result ≡ most_seen proto }
+{
+    match proto {
+        Proto::Tcp => 63,
+        Proto::Udp => 1,
+    }
+}
+
+#[tactic(auto, unfolding(crate::specs::Reading::flow_at))]
+fn read_flow(bytes: &[u8]) -> Option<(Flow, &[u8])>
+    ensures { Gives (λ x. (x.0, x.1.now)) result (flow_at bytes.now) }
+{
+    let (proto, rest) = proto_of(bytes)?;
+    let (inside, rest) = endpoint_of(rest)?;
+    let (remote, rest) = endpoint_of(rest)?;
+    Some((
+        Flow {
+            proto,
+            inside,
+            remote,
+        },
+        rest,
+    ))
+}
+
+#[tactic(auto, unfolding(crate::specs::Reading::session_at))]
+pub fn read_session(bytes: &[u8]) -> Option<(Session, &[u8])>
+    ensures { Gives (λ x. (x.0, x.1.now)) result (session_at bytes.now) }
+{
+    let (proto, rest) = proto_of(bytes)?;
+    let (inside, rest) = endpoint_of(rest)?;
+    let (outside, rest) = endpoint_of(rest)?;
+    let (remote, rest) = endpoint_of(rest)?;
+    let (opener, rest) = opener_of(rest)?;
+    let (seen, rest) = byte_of(rest)?;
+    if most_of(proto) < seen {
+        return None;
+    }
+    let session = Session {
+        proto,
+        inside,
+        outside,
+        remote,
+        opener,
+        seen,
+        last: 0,
+    };
+    Some((session, rest))
+}
+
+#[tactic(auto, unfolding(crate::specs::Reading::seen_at))]
+fn read_seen(bytes: &[u8]) -> Option<(Entry<'_>, &[u8])>
+    ensures { Gives (λ x. (view x.0, x.1.now)) result (seen_at bytes.now) }
+{
+    let (flow, rest) = read_flow(bytes)?;
+    let (seen, rest) = byte_of(rest)?;
+    if most_of(flow.proto) < seen {
+        return None;
+    }
+    Some((Entry::Seen(flow, seen), rest))
+}
+
+#[tactic(auto, unfolding(crate::specs::Reading::restart_at))]
+fn read_restart(bytes: &[u8]) -> Option<(Entry<'_>, &[u8])>
+    ensures { Gives (λ x. (view x.0, x.1.now)) result (restart_at bytes.now) }
+{
+    let (flow, rest) = read_flow(bytes)?;
+    let (opener, rest) = opener_of(rest)?;
+    let (seen, rest) = byte_of(rest)?;
+    if most_of(flow.proto) < seen {
+        return None;
+    }
+    Some((Entry::Restart(flow, opener, seen), rest))
+}
+
+#[tactic(auto, unfolding(crate::specs::Reading::entry_at))]
+fn read_entry(bytes: &[u8]) -> Option<(Entry<'_>, &[u8])>
+    ensures { Gives (λ x. (view x.0, x.1.now)) result (entry_at bytes.now) }
+{
+    let (tag, rest) = byte_of(bytes)?;
+    if tag == 1 {
+        let (text, rest) = text_of(rest)?;
+        return Some((Entry::Load(text), rest));
+    }
+    if tag == 2 {
+        let (session, rest) = read_session(rest)?;
+        return Some((Entry::Begin(session), rest));
+    }
+    if tag == 3 {
+        return read_seen(rest);
+    }
+    if tag == 4 {
+        return read_restart(rest);
+    }
+    if tag == 5 {
+        let (flow, rest) = read_flow(rest)?;
+        return Some((Entry::End(flow), rest));
+    }
+    None
+}
+
+/// The session whose code is the front of the bytes, and what stands behind it.
+///
+/// There is none exactly where no session's code is a front of the bytes.
+pub fn session_of(bytes: &[u8]) -> Option<(Session, &[u8])>
+    ensures ok { IfSome result (λ x. Begins IsSession session_bytes bytes.now x.0 x.1.now) }
+    ensures none { IfNone result (NoneBegins IsSession session_bytes bytes.now) }
+{
+    read_session(bytes)
+}
+
+/// The entry whose code is the front of the bytes, and what stands behind it.
+///
+/// There is none exactly where no entry's code is a front of the bytes.
+pub fn entry_of(bytes: &[u8]) -> Option<(Entry<'_>, &[u8])>
+    ensures ok { IfSome result (λ x. Begins IsEntry entry_bytes bytes.now (view x.0) x.1.now) }
+    ensures none { IfNone result (NoneBegins IsEntry entry_bytes bytes.now) }
+{
+    read_entry(bytes)
 }

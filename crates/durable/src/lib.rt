@@ -1,4 +1,32 @@
-//! stub
+//! The durable state: the text that was loaded last, and the sessions without when their last packets passed. What
+//! changes it, how all of it stands in bytes, and what two files stand for.
+//!
+//! - `coding`: the entries that change the state; sessions and entries read from bytes.
+//! - `writing`: entries and headings of files put into bytes.
+//! - `recovery`: the state that two files stand for, or why they stand for none.
+//! - `heading`: what stands in front of a file: generation, configuration and snapshot.
+//! - `bounds`, `texts`: whether a stored configuration is one, and whether a stored text loads under it.
+//! - `entering`, `groups`: entries, and groups of them, that change the state which is read.
+//! - `fields`: numbers, texts and endpoints in bytes.
+//! - `laws`: what the definitions promise, as functions without a body.
 #![tactic(auto)]
+
+mod bounds;
 mod coding;
+mod entering;
+mod fault;
+mod fields;
+mod groups;
+mod heading;
+mod laws;
+mod recovery;
+mod texts;
+mod writing;
+
 pub use coding::{Entry, Flow};
+pub use fault::DurableFault;
+pub use laws::{
+    coded_once, entering_laws, growing_laws, heading_once, recovers_once, renewing_laws,
+};
+pub use recovery::{Recovered, recover};
+pub use writing::{begin_code, end_code, load_front, put_heading, restart_code, seen_code};

@@ -1,9 +1,13 @@
 -- How often the sessions that are held have a mapping.
-use Rattle.std.specs.Prelude.{ℕ, ◌+◌, List, [], ◌∷◌, Option, Some, None, cond}
+use Rattle.std.specs.Prelude.{◌≡◌, ℕ, ◌+◌, List, [], ◌∷◌, Option, Some, None, cond}
+use Rattle.packet.specs.Config.{Config}
 use Rattle.packet.specs.Same.{same_endpoint}
+use Rattle.sessions.specs.Listing.{listing}
+use Rattle.sessions.specs.Sound.{AreSound}
 use Rattle.sessions.specs.declared.session.Session.{Session}
 use Rattle.mappings.specs.declared.map.Pair.{Pair}
-use Rattle.mappings.specs.Map.{one_at, pair}
+use Rattle.mappings.specs.Map.{one_at, pair, times}
+use Rattle.hairpin.specs.Translations.{Translations}
 
 -- the pair of a session
 abbrev pub pair_of : Session → Pair
@@ -18,3 +22,9 @@ weight p (Some s) = cond (same_endpoint s.inside s.outside) 0 (one_at p (pair_of
 abbrev pub tally : Pair → List (Option Session) → ℕ
 tally p [] = 0
 tally p (place ∷ places) = weight p place + tally p places
+
+-- the sessions that are held are sound, and the translations are theirs, at the external address
+pub record AreOf (config : Config) (held : List (Option Session)) (t : Translations) : Type 0 where
+  pub external : t.external ≡ config.external
+  pub counts : (p : Pair) → times t.pairs p ≡ tally p held
+  pub sound : AreSound config (listing held)

@@ -13,7 +13,7 @@ ghost use Rattle.hairpin.specs.Legs.{begun_second as begun_far, counted, first_b
 ghost use Rattle.hairpin.specs.Plans.{Gives, IsOf, Plans};
 ghost use Rattle.hairpin.specs.Sound.{KeepBounds};
 ghost use Rattle.sessions.specs.Sound.{AreSound};
-ghost use Rattle.hairpin.specs.Tallies.{tally};
+ghost use Rattle.hairpin.specs.Tallies.{AreOf, tally};
 ghost use Rattle.hairpin.specs.declared.held.Held.{Held as Known};
 
 use crate::cause::Cause;
@@ -125,9 +125,7 @@ fn outside_near(
     translations: &Translations,
     view: &View,
 ) -> Result<Endpoint, Cause>
-    requires external { translations.now.external ≡ bounds.now.external }
-    requires counts { (p : Mapping) → times translations.now.pairs p ≡ tally p table.now.held }
-    requires sound { AreSound bounds.now (listing table.now.held) }
+    requires translations { AreOf bounds.now table.now.held translations.now }
     requires port { 0 < view.now.src.port }
     requires external_destination { view.now.dst.addr ≡ bounds.now.external }
     ensures { (rules : Spelled) (now : ℕ) → let sessions = listing table.now.held in
@@ -151,9 +149,7 @@ fn first_session(
     before: &Option<Held>,
     now: u64,
 ) -> Result<Session, Cause>
-    requires external { translations.now.external ≡ bounds.now.external }
-    requires counts { (p : Mapping) → times translations.now.pairs p ≡ tally p table.now.held }
-    requires sound { AreSound bounds.now (listing table.now.held) }
+    requires translations { AreOf bounds.now table.now.held translations.now }
     requires port { 0 < view.now.src.port }
     requires external_destination { view.now.dst.addr ≡ bounds.now.external }
     ensures { (rules : Spelled) → result ≡ first_by bounds.now rules (listing table.now.held) now view.now (option_map (λ (h : Known). h.session) before.now) }
@@ -185,8 +181,7 @@ fn mapped_far(
     translations: &Translations,
     view: &View,
 ) -> Result<Endpoint, Cause>
-    requires counts { (p : Mapping) → times translations.now.pairs p ≡ tally p table.now.held }
-    requires sound { AreSound bounds.now (listing table.now.held) }
+    requires { AreOf bounds.now table.now.held translations.now }
     ensures { result ≡ or_no_mapping (find (maps_outside view.now.proto view.now.dst) (listing table.now.held)) }
 {
     bounds.facts();
@@ -204,8 +199,7 @@ fn inside_far(
     translations: &Translations,
     view: &View,
 ) -> Result<Endpoint, Cause>
-    requires counts { (p : Mapping) → times translations.now.pairs p ≡ tally p table.now.held }
-    requires sound { AreSound bounds.now (listing table.now.held) }
+    requires { AreOf bounds.now table.now.held translations.now }
     ensures { (now : ℕ) (first : Flow) → let sessions = listing table.now.held in
         result ≡ far_inside bounds.now rules.now sessions now view.now first sessions }
 {
@@ -259,8 +253,7 @@ fn second_session(
     first: &Session,
     now: u64,
 ) -> Result<Session, Cause>
-    requires counts { (p : Mapping) → times translations.now.pairs p ≡ tally p table.now.held }
-    requires sound { AreSound bounds.now (listing table.now.held) }
+    requires translations { AreOf bounds.now table.now.held translations.now }
     requires keeps { (u : Flow) → In u (listing table.now.held) → same_flow first.now u ≡ true → u.outside ≡ first.now.outside }
     requires remote { first.now.remote ≡ view.now.dst }
     requires away { first.now.outside ≢ view.now.dst }
@@ -285,8 +278,7 @@ fn second_leg(
     first: &Session,
     now: u64,
 ) -> Result<Leg, Cause>
-    requires counts { (p : Mapping) → times translations.now.pairs p ≡ tally p table.now.held }
-    requires sound { AreSound bounds.now (listing table.now.held) }
+    requires translations { AreOf bounds.now table.now.held translations.now }
     requires keeps { (u : Flow) → In u (listing table.now.held) → same_flow first.now u ≡ true → u.outside ≡ first.now.outside }
     requires remote { first.now.remote ≡ view.now.dst }
     requires away { first.now.outside ≢ view.now.dst }
@@ -353,8 +345,7 @@ fn after_first(
     first: &Leg,
     now: u64,
 ) -> Result<Plan, Cause>
-    requires counts { (p : Mapping) → times translations.now.pairs p ≡ tally p table.now.held }
-    requires sound { AreSound bounds.now (listing table.now.held) }
+    requires translations { AreOf bounds.now table.now.held translations.now }
     requires ports { (0 < view.now.src.port) × (0 < view.now.dst.port) }
     requires inside { IsTrue (is_inside bounds.now view.now.src.addr) }
     requires external_destination { view.now.dst.addr ≡ bounds.now.external }

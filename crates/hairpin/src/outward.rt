@@ -9,7 +9,7 @@ ghost use Rattle.hairpin.specs.Legs.{begun_out as begun_way, maps_inside, out_by
 ghost use Rattle.hairpin.specs.Plans.{Plans};
 ghost use Rattle.hairpin.specs.Sound.{KeepBounds};
 ghost use Rattle.sessions.specs.Sound.{AreSound};
-ghost use Rattle.hairpin.specs.Tallies.{tally};
+ghost use Rattle.hairpin.specs.Tallies.{AreOf, tally};
 
 use crate::cause::Cause;
 use crate::held::{Held, change_of, facts_of, held_inside, needs_session, new_session, state_of};
@@ -74,9 +74,7 @@ fn new_out(
     view: &View,
     now: u64,
 ) -> Result<Plan, Cause>
-    requires external { translations.now.external ≡ bounds.now.external }
-    requires counts { (p : Mapping) → times translations.now.pairs p ≡ tally p table.now.held }
-    requires sound { AreSound bounds.now (listing table.now.held) }
+    requires translations { AreOf bounds.now table.now.held translations.now }
     requires bounded { KeepBounds bounds.now rules.now }
     requires inside { IsTrue (is_inside bounds.now view.now.src.addr) }
     requires port { 0 < view.now.src.port }
@@ -101,9 +99,7 @@ fn begun_out(
     view: &View,
     now: u64,
 ) -> Result<Plan, Cause>
-    requires external { translations.now.external ≡ bounds.now.external }
-    requires counts { (p : Mapping) → times translations.now.pairs p ≡ tally p table.now.held }
-    requires sound { AreSound bounds.now (listing table.now.held) }
+    requires translations { AreOf bounds.now table.now.held translations.now }
     requires bounded { KeepBounds bounds.now rules.now }
     requires inside { IsTrue (is_inside bounds.now view.now.src.addr) }
     requires port { 0 < view.now.src.port }
@@ -131,9 +127,7 @@ fn outside_of(
     translations: &Translations,
     view: &View,
 ) -> Result<Endpoint, Cause>
-    requires external { translations.now.external ≡ bounds.now.external }
-    requires counts { (p : Mapping) → times translations.now.pairs p ≡ tally p table.now.held }
-    requires sound { AreSound bounds.now (listing table.now.held) }
+    requires translations { AreOf bounds.now table.now.held translations.now }
     requires bounded { KeepBounds bounds.now rules.now }
     requires port { 0 < view.now.src.port }
     ensures { (now : ℕ) → let sessions = listing table.now.held in
@@ -154,9 +148,7 @@ fn outside_by_rules(
     translations: &Translations,
     view: &View,
 ) -> Result<Endpoint, Cause>
-    requires external { translations.now.external ≡ bounds.now.external }
-    requires counts { (p : Mapping) → times translations.now.pairs p ≡ tally p table.now.held }
-    requires sound { AreSound bounds.now (listing table.now.held) }
+    requires translations { AreOf bounds.now table.now.held translations.now }
     requires bounded { KeepBounds bounds.now rules.now }
     requires port { 0 < view.now.src.port }
     ensures { (now : ℕ) → result ≡ outside_for bounds.now rules.now (listing table.now.held) now view.now None }

@@ -46,7 +46,7 @@ one-of-key (x ∷ xs) rises s t (inr in_s) (inr in_t) k = one-of-key xs rises.1 
 
 -- ---- moments
 
-insert-moved : (n : ℕ) (t : Session) (ss : List Session) → insert (moved n t) (map (moved n) ss) ≡ map (moved n) (insert t ss)
+pub insert-moved : (n : ℕ) (t : Session) (ss : List Session) → insert (moved n t) (map (moved n) ss) ≡ map (moved n) (insert t ss)
 insert-moved n t [] = refl
 insert-moved n t (s ∷ ss) =
     let same : below (moved n t) (moved n s) ≡ below t s = below-keys t s (moved n t) (moved n s) refl refl in
@@ -58,7 +58,7 @@ insert-moved n t (s ∷ ss) =
           ∙ sym (ap (λ (b : Bool). map (moved n) (cond b (t ∷ s ∷ ss) (s ∷ insert t ss))) isnt)
     ]
 
-filter-moved : (n : ℕ) (test : Session → Bool) → ((s : Session) → test (moved n s) ≡ test s) → (ss : List Session) → filter test (map (moved n) ss) ≡ map (moved n) (filter test ss)
+pub filter-moved : (n : ℕ) (test : Session → Bool) → ((s : Session) → test (moved n s) ≡ test s) → (ss : List Session) → filter test (map (moved n) ss) ≡ map (moved n) (filter test ss)
 filter-moved n test same [] = refl
 filter-moved n test same (s ∷ ss) = elim (cases_Bool (test s)) [
   | inl is ↦ ap (λ (b : Bool). cond b (moved n s ∷ filter test (map (moved n) ss)) (filter test (map (moved n) ss))) (same s ∙ is)

@@ -9,15 +9,15 @@ pub returns-in-Some : goal.returns-in-Some
 returns-in-Some c = λ rules now.
     let view = c.args.view.now in
     let held = c.args.table.now.held in
-    let m = mapped held c.args.translations.now.pairs c.requires.counts c.args.bounds.now c.facts.ensures.valid c.requires.sound view.proto view.src c.in-Some.mapped c.in-Some.ensures.found in
+    let m = mapped held c.args.translations.now.pairs c.requires.translations.counts c.args.bounds.now c.facts.ensures.valid c.requires.translations.sound view.proto view.src c.in-Some.mapped c.in-Some.ensures.found in
     sym (ap (outside_near c.args.bounds.now rules (listing held) now view) m.1 ∙ ap (λ e. Ok e) m.2)
 
 pub returns-in-Some-choose : goal.returns-in-Some-choose
 returns-in-Some-choose c = λ rules now.
     ap or_no_port (sym c.in-Some-choose.is)
-    ∙ near_chosen c.args.bounds.now rules c.args.table.now.held c.args.translations.now.pairs c.requires.counts c.facts.ensures.valid c.requires.sound now c.args.view.now c.args.translations.now.external c.choose.result c.requires.external c.requires.external_destination c.in-None.ensures.absent c.choose.ensures
+    ∙ near_chosen c.args.bounds.now rules c.args.table.now.held c.args.translations.now.pairs c.requires.translations.counts c.facts.ensures.valid c.requires.translations.sound now c.args.view.now c.args.translations.now.external c.choose.result c.requires.translations.external c.requires.external_destination c.in-None.ensures.absent c.choose.ensures
 
 pub returns-in-None-choose : goal.returns-in-None-choose
 returns-in-None-choose c = λ rules now.
     ap or_no_port (sym c.in-None-choose.is)
-    ∙ near_chosen c.args.bounds.now rules c.args.table.now.held c.args.translations.now.pairs c.requires.counts c.facts.ensures.valid c.requires.sound now c.args.view.now c.args.translations.now.external c.choose.result c.requires.external c.requires.external_destination c.in-None.ensures.absent c.choose.ensures
+    ∙ near_chosen c.args.bounds.now rules c.args.table.now.held c.args.translations.now.pairs c.requires.translations.counts c.facts.ensures.valid c.requires.translations.sound now c.args.view.now c.args.translations.now.external c.choose.result c.requires.translations.external c.requires.external_destination c.in-None.ensures.absent c.choose.ensures

@@ -1,0 +1,15 @@
+pub mod Coded
+pub mod Widths
+pub mod Values
+pub mod Loops
+pub mod Stored_values
+pub mod Tabled
+pub mod Named
+pub mod Arranging
+pub mod Keeping
+pub mod Bodies
+pub mod Errors
+pub mod Leads
+pub mod Headed
+pub mod Growing
+pub mod Appending

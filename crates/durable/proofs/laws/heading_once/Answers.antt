@@ -1,0 +1,14 @@
+use Rattle.durable.specs.Coding.{IsHeading, heading_bytes, IsCodedConfig, config_bytes, IsKept, snapshot_bytes}
+use Rattle.durable.specs.Reading.{heading_at, config_at, snapshot_at}
+use Rattle.durable.proofs.Coded.{once}
+use Rattle.durable.proofs.Stored_values.{coded-heading, coded-config, coded-snapshot}
+use Rattle.durable.proofs.laws.heading_once.Goals as goal
+
+pub returns-clause-headings : goal.returns-clause-headings
+returns-clause-headings c = once IsHeading heading_bytes heading_at coded-heading
+
+pub returns-clause-configs : goal.returns-clause-configs
+returns-clause-configs c = once IsCodedConfig config_bytes config_at coded-config
+
+pub returns-clause-snapshots : goal.returns-clause-snapshots
+returns-clause-snapshots c = once IsKept snapshot_bytes snapshot_at coded-snapshot

@@ -1,0 +1,121 @@
+//! Numbers, texts and endpoints at the front of bytes.
+ghost use Rattle.std.specs.Prelude.{◌≡◌};
+ghost use Rattle.durable.specs.Reading.{Gives, byte_at, number_at, text_at, proto_at, opener_at, endpoint_at};
+
+use byteorder::{BigEndian, ByteOrder};
+use packet::endpoint::{Endpoint, Proto};
+use sessions::Opener;
+
+pub fn byte_of(bytes: &[u8]) -> Option<(u8, &[u8])>
+    ensures { Gives (λ x. (x.0, x.1.now)) result (byte_at bytes.now) }
+{
+    match bytes {
+        [] => None,
+        [byte, rest @ ..] => Some((*byte, rest)),
+    }
+}
+
+#[tactic(auto, unfolding(crate::specs::Reading::number_at))]
+pub fn u16_of(bytes: &[u8]) -> Option<(u16, &[u8])>
+    ensures { Gives (λ x. (x.0, x.1.now)) result (number_at 2 bytes.now) }
+{
+    if bytes.len() < 2 {
+        return None;
+    }
+    let (_, rest) = bytes.split_at(2);
+    Some((BigEndian::read_u16(bytes), rest))
+}
+
+#[tactic(auto, unfolding(crate::specs::Reading::number_at))]
+pub fn u32_of(bytes: &[u8]) -> Option<(u32, &[u8])>
+    ensures { Gives (λ x. (x.0, x.1.now)) result (number_at 4 bytes.now) }
+{
+    if bytes.len() < 4 {
+        return None;
+    }
+    let (_, rest) = bytes.split_at(4);
+    Some((BigEndian::read_u32(bytes), rest))
+}
+
+#[tactic(auto, unfolding(crate::specs::Reading::text_at, crate::specs::Reading::front_at))]
+pub fn text_of(bytes: &[u8]) -> Option<(&[u8], &[u8])>
+    ensures { Gives (λ x. (x.0.now, x.1.now)) result (text_at 4 bytes.now) }
+{
+    let (len, rest) = u32_of(bytes)?;
+    let len = len as usize;
+    if rest.len() < len {
+        return None;
+    }
+    Some(rest.split_at(len))
+}
+
+#[tactic(auto, unfolding(crate::specs::Reading::proto_at))]
+pub fn proto_of(bytes: &[u8]) -> Option<(Proto, &[u8])>
+    ensures { Gives (λ x. (x.0, x.1.now)) result (proto_at bytes.now) }
+{
+    let (number, rest) = byte_of(bytes)?;
+    if number == 6 {
+        return Some((Proto::Tcp, rest));
+    }
+    if number == 17 {
+        return Some((Proto::Udp, rest));
+    }
+    None
+}
+
+#[tactic(auto, unfolding(crate::specs::Reading::opener_at))]
+pub fn opener_of(bytes: &[u8]) -> Option<(Opener, &[u8])>
+    ensures { Gives (λ x. (x.0, x.1.now)) result (opener_at bytes.now) }
+{
+    let (number, rest) = byte_of(bytes)?;
+    if number == 0 {
+        return Some((Opener::Inside, rest));
+    }
+    if number == 1 {
+        return Some((Opener::Remote, rest));
+    }
+    None
+}
+
+#[tactic(auto, unfolding(crate::specs::Reading::endpoint_at))]
+pub fn endpoint_of(bytes: &[u8]) -> Option<(Endpoint, &[u8])>
+    ensures { Gives (λ x. (x.0, x.1.now)) result (endpoint_at bytes.now) }
+{
+    let (addr, rest) = u32_of(bytes)?;
+    let (port, rest) = u16_of(rest)?;
+    Some((Endpoint { addr, port }, rest))
+}
+
+#[tactic(auto, unfolding(crate::specs::Reading::number_at))]
+pub fn u8_of(bytes: &[u8]) -> Option<(u8, &[u8])>
+    ensures { Gives (λ x. (x.0, x.1.now)) result (number_at 1 bytes.now) }
+{
+    if bytes.len() < 1 {
+        return None;
+    }
+    let (_, rest) = bytes.split_at(1);
+    Some((bytes[0], rest))
+}
+
+#[tactic(auto, unfolding(crate::specs::Reading::number_at))]
+pub fn u64_of(bytes: &[u8]) -> Option<(u64, &[u8])>
+    ensures { Gives (λ x. (x.0, x.1.now)) result (number_at 8 bytes.now) }
+{
+    if bytes.len() < 8 {
+        return None;
+    }
+    let (_, rest) = bytes.split_at(8);
+    Some((BigEndian::read_u64(bytes), rest))
+}
+
+#[tactic(auto, unfolding(crate::specs::Reading::text_at, crate::specs::Reading::front_at))]
+pub fn name_of(bytes: &[u8]) -> Option<(&[u8], &[u8])>
+    ensures { Gives (λ x. (x.0.now, x.1.now)) result (text_at 1 bytes.now) }
+{
+    let (len, rest) = u8_of(bytes)?;
+    let len = len as usize;
+    if rest.len() < len {
+        return None;
+    }
+    Some(rest.split_at(len))
+}

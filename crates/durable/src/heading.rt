@@ -1,0 +1,181 @@
+//! What stands behind an open file gate: mark, generation, configuration and snapshot.
+ghost use Rattle.std.specs.Prelude.{◌≡◌, IfOk, IsErrOf};
+ghost use Rattle.durable.specs.Coding.{Begins, NoneBegins, IsCodedConfig, config_bytes, IsKept, snapshot_bytes, IsHeading, heading_bytes};
+ghost use Rattle.durable.specs.Reading.{Gives, Yields, items_at, prefix_at, session_at, prefixes_at, sessions_at, config_at, snapshot_at, mark_at, heading_at};
+ghost use Rattle.durable.specs.Viewing.{config_view, kept_view, heading_view};
+
+use crate::DurableFault;
+use crate::coding::read_session;
+use crate::fields::{byte_of, name_of, text_of, u8_of, u32_of, u64_of};
+use packet::endpoint::Prefix;
+use sessions::Session;
+use std::alloc::Global;
+
+/// A configuration as it is stored.
+#[derive(Drop)]
+pub struct StoredConfig<'a> {
+    pub lan: &'a [u8],
+    pub wan: &'a [u8],
+    pub inside: Vec<Prefix>,
+    pub external: u32,
+}
+
+/// A text, and sessions in some order.
+#[derive(Drop)]
+pub struct StoredSnapshot<'a> {
+    pub text: &'a [u8],
+    pub sessions: Vec<Session>,
+}
+
+/// What stands behind an open file gate.
+#[derive(Drop)]
+pub struct Stored<'a> {
+    pub generation: u64,
+    pub config: StoredConfig<'a>,
+    pub snapshot: StoredSnapshot<'a>,
+}
+
+#[tactic(auto, unfolding(crate::specs::Reading::prefix_at))]
+fn read_prefix(bytes: &[u8]) -> Option<(Prefix, &[u8])>
+    ensures { Gives (λ x. (x.0, x.1.now)) result (prefix_at bytes.now) }
+{
+    let (addr, rest) = u32_of(bytes)?;
+    let (len, rest) = byte_of(rest)?;
+    Some((Prefix { addr, len }, rest))
+}
+
+fn count_prefixes(
+    alloc: Global,
+    count: u8,
+    bytes: &[u8],
+) -> Result<(Vec<Prefix>, &[u8]), DurableFault>
+    ensures { Yields (λ x. (x.0.items, x.1.now)) result (items_at prefix_at count bytes.now) }
+{
+    let mut items = Vec::new(alloc);
+    let mut rest = bytes;
+    for _ in 0..count {
+        let Some((item, after)) = read_prefix(rest) else {
+            return Err(DurableFault::Damaged);
+        };
+        items.push(item)?;
+        rest = after;
+    }
+    Ok((items, rest))
+}
+
+fn count_sessions(
+    alloc: Global,
+    count: u32,
+    bytes: &[u8],
+) -> Result<(Vec<Session>, &[u8]), DurableFault>
+    ensures { Yields (λ x. (x.0.items, x.1.now)) result (items_at session_at count bytes.now) }
+{
+    let mut items = Vec::new(alloc);
+    let mut rest = bytes;
+    for _ in 0..count {
+        let Some((item, after)) = read_session(rest) else {
+            return Err(DurableFault::Damaged);
+        };
+        items.push(item)?;
+        rest = after;
+    }
+    Ok((items, rest))
+}
+
+#[tactic(auto, unfolding(crate::specs::Reading::prefixes_at))]
+fn read_prefixes(alloc: Global, bytes: &[u8]) -> Result<(Vec<Prefix>, &[u8]), DurableFault>
+    ensures { Yields (λ x. (x.0.items, x.1.now)) result (prefixes_at bytes.now) }
+{
+    let Some((count, rest)) = u8_of(bytes) else {
+        return Err(DurableFault::Damaged);
+    };
+    count_prefixes(alloc, count, rest)
+}
+
+#[tactic(auto, unfolding(crate::specs::Reading::sessions_at))]
+fn read_sessions(alloc: Global, bytes: &[u8]) -> Result<(Vec<Session>, &[u8]), DurableFault>
+    ensures { Yields (λ x. (x.0.items, x.1.now)) result (sessions_at bytes.now) }
+{
+    let Some((count, rest)) = u32_of(bytes) else {
+        return Err(DurableFault::Damaged);
+    };
+    count_sessions(alloc, count, rest)
+}
+
+#[tactic(auto, unfolding(crate::specs::Reading::config_at))]
+fn read_config(alloc: Global, bytes: &[u8]) -> Result<(StoredConfig<'_>, &[u8]), DurableFault>
+    ensures { Yields (λ x. (config_view x.0, x.1.now)) result (config_at bytes.now) }
+{
+    let Some((lan, rest)) = name_of(bytes) else {
+        return Err(DurableFault::Damaged);
+    };
+    let Some((wan, rest)) = name_of(rest) else {
+        return Err(DurableFault::Damaged);
+    };
+    let (inside, rest) = read_prefixes(alloc, rest)?;
+    let Some((external, rest)) = u32_of(rest) else {
+        return Err(DurableFault::Damaged);
+    };
+    let config = StoredConfig {
+        lan,
+        wan,
+        inside,
+        external,
+    };
+    Ok((config, rest))
+}
+
+#[tactic(auto, unfolding(crate::specs::Reading::snapshot_at))]
+fn read_snapshot(alloc: Global, bytes: &[u8]) -> Result<(StoredSnapshot<'_>, &[u8]), DurableFault>
+    ensures { Yields (λ x. (kept_view x.0, x.1.now)) result (snapshot_at bytes.now) }
+{
+    let Some((text, rest)) = text_of(bytes) else {
+        return Err(DurableFault::Damaged);
+    };
+    let (sessions, rest) = read_sessions(alloc, rest)?;
+    Ok((StoredSnapshot { text, sessions }, rest))
+}
+
+#[tactic(auto, unfolding(crate::specs::Reading::mark_at))]
+fn skip_mark(bytes: &[u8]) -> Option<&[u8]>
+    ensures { Gives (λ x. (tt, x.now)) result (mark_at bytes.now) }
+{
+    let (number, rest) = u32_of(bytes)?;
+    if number == 0x4e47_5731 {
+        return Some(rest);
+    }
+    None
+}
+
+#[tactic(auto, unfolding(crate::specs::Reading::heading_at))]
+fn read_heading(alloc: Global, bytes: &[u8]) -> Result<(Stored<'_>, &[u8]), DurableFault>
+    ensures { Yields (λ x. (heading_view x.0, x.1.now)) result (heading_at bytes.now) }
+{
+    let Some(rest) = skip_mark(bytes) else {
+        return Err(DurableFault::Damaged);
+    };
+    let Some((generation, rest)) = u64_of(rest) else {
+        return Err(DurableFault::Damaged);
+    };
+    let (config, rest) = read_config(alloc, rest)?;
+    let (snapshot, rest) = read_snapshot(alloc, rest)?;
+    let stored = Stored {
+        generation,
+        config,
+        snapshot,
+    };
+    Ok((stored, rest))
+}
+
+/// The heading whose code is the front of the bytes, and what stands behind it.
+///
+/// # Errors
+///
+/// - `Damaged` exactly where no heading's code is a front of the bytes.
+/// - `NoMemory` where memory is refused.
+pub fn heading_of(alloc: Global, bytes: &[u8]) -> Result<(Stored<'_>, &[u8]), DurableFault>
+    ensures ok { IfOk result (λ x. Begins IsHeading heading_bytes bytes.now (heading_view x.0) x.1.now) }
+    ensures damaged { IsErrOf result DurableFault.Damaged → NoneBegins IsHeading heading_bytes bytes.now }
+{
+    read_heading(alloc, bytes)
+}

@@ -1,0 +1,42 @@
+//! What follows from the definitions: each function is proved to meet its clauses.
+ghost use Rattle.packet.specs.Config.{Config};
+ghost use Rattle.durable.specs.Coding.{IsSession, session_bytes, IsEntry, entry_bytes, IsCodedConfig, config_bytes, IsKept, snapshot_bytes, IsHeading, heading_bytes};
+ghost use Rattle.durable.specs.Laws.{CodedOnce, BodiesOnce, EntersOnce, KeepsDurable, RecoversOnce, Grows, Renews};
+
+/// A code at the front of bytes determines the session, or the entry, and the rest; and a body its entries.
+pub fn coded_once()
+    ensures sessions { CodedOnce IsSession session_bytes }
+    ensures entries { CodedOnce IsEntry entry_bytes }
+    ensures bodies { BodiesOnce }
+{}
+
+/// A code at the front of bytes determines the heading, the configuration or the snapshot, and the rest.
+pub fn heading_once()
+    ensures headings { CodedOnce IsHeading heading_bytes }
+    ensures configs { CodedOnce IsCodedConfig config_bytes }
+    ensures snapshots { CodedOnce IsKept snapshot_bytes }
+{}
+
+/// Entering is a function of the entries and the state; it splits where the list of entries does; no entries change
+/// nothing; and a state that a gateway may have stays one.
+pub fn entering_laws()
+    ensures once { (config : Config) → EntersOnce config }
+    ensures kept { (config : Config) → KeepsDurable config }
+{}
+
+/// Two files stand for one state at most, by one active file, and a gateway with the stored configuration may have
+/// that state.
+pub fn recovers_once()
+    ensures { RecoversOnce }
+{}
+
+/// A file made anew holds its snapshot's state, and a group put behind the others leads to the next state.
+pub fn growing_laws()
+    ensures { Grows }
+{}
+
+/// What two files stand for stays while the other file is made anew, and after it is open; and a group put behind the
+/// others leads to the next state, or, where a crash tore it, leaves the state as it was.
+pub fn renewing_laws()
+    ensures { Renews }
+{}

@@ -1,0 +1,202 @@
+//! What two files stand for.
+ghost use Rattle.std.specs.Prelude.{◌≡◌, ◌<◌, ◌↔◌, IsTrue, List, ℕ, Option, length, drop, IfOk, OnOk, IsErrOf};
+ghost use Rattle.std.specs.List.{All};
+ghost use Rattle.sessions.specs.Life.{IsSeen};
+ghost use Rattle.sessions.specs.Listing.{listing};
+ghost use Rattle.sessions.specs.Sound.{AreSound};
+ghost use Rattle.durable.specs.Coding.{Heading, IsHeading};
+ghost use Rattle.durable.specs.Entering.{Durable, durable};
+ghost use Rattle.durable.specs.Found.{HeldBy, IsReadOpen, found_view};
+ghost use Rattle.durable.specs.Leading.{StateLeads};
+ghost use Rattle.durable.specs.Recovery.{Active, Finds, Holds, IsHeaded, IsOpen, arranged, behind, pair};
+ghost use Rattle.durable.specs.Viewing.{headed_view};
+
+use crate::DurableFault;
+use crate::bounds::{bounds_of, same_bounds};
+use crate::entering::begin;
+use crate::groups::{behind_gate, enter_groups};
+use crate::heading::{Stored, heading_of};
+use crate::texts::check_text;
+use disk_model::FileId;
+use packet::bounds::Bounds;
+use sessions::{Session, Table};
+use std::alloc::Global;
+
+/// The active one of two files, and the state that it holds.
+#[derive(Drop)]
+pub struct Recovered<'a> {
+    /// Which file is active.
+    pub file: FileId,
+    pub generation: u64,
+    /// The configuration that is stored in the file.
+    pub bounds: Bounds,
+    /// The text that was loaded last, empty where none was.
+    pub text: &'a [u8],
+    /// The sessions, rising by protocol number, inside and remote endpoint. `last` is 0 in each of them.
+    pub sessions: Vec<Session>,
+    /// The place in the file behind its heading, where the groups begin.
+    pub start: usize,
+    /// The place in the file of the closed gate behind its open groups.
+    pub end: usize,
+}
+
+impl Recovered<'_> {
+    /// Whether these bounds are those that the file stores.
+    pub fn is_configured(&self, bounds: &Bounds) -> bool
+        ensures { IsTrue result ↔ (self.now.bounds ≡ bounds.now) }
+    {
+        same_bounds(&self.bounds, bounds)
+    }
+}
+
+// The front of an open file, its configuration checked.
+#[derive(Drop)]
+struct Headed<'a> {
+    generation: u64,
+    bounds: Bounds,
+    text: &'a [u8],
+    sessions: Vec<Session>,
+}
+
+// The heading of a file and what stands behind it, or none where the file gate is closed.
+fn read_open<'a>(
+    alloc: Global,
+    file: &'a [u8],
+) -> Result<Option<(Headed<'a>, &'a [u8])>, DurableFault>
+    ensures ok { IfOk result (IsReadOpen file.now) }
+    ensures damaged { IsErrOf result DurableFault.Damaged → IsOpen file.now × ((h : Heading) → ¬ IsHeaded file.now h) }
+{
+    let Some(rest) = behind_gate(file) else {
+        return Ok(None);
+    };
+    let (stored, after) = heading_of(alloc, rest)?;
+    let Stored {
+        generation,
+        config,
+        snapshot,
+    } = stored;
+    let bounds = bounds_of(alloc, config)?;
+    let headed = Headed {
+        generation,
+        bounds,
+        text: snapshot.text,
+        sessions: snapshot.sessions,
+    };
+    Ok(Some((headed, after)))
+}
+
+// A table of these sessions, which may stand in any order.
+fn table_of(alloc: Global, bounds: &Bounds, sessions: &[Session]) -> Result<Table, DurableFault>
+    requires bits { All (λ s. IsSeen s.proto s.seen) sessions.now }
+    ensures ok { IfOk result (λ table. (listing table.held ≡ arranged sessions.now) × AreSound bounds.now (arranged sessions.now)) }
+    ensures damaged { IsErrOf result DurableFault.Damaged → ¬ AreSound bounds.now (arranged sessions.now) }
+{
+    let mut table = Table::new(alloc);
+    for session in sessions {
+        begin(bounds, &mut table, *session)?;
+    }
+    Ok(table)
+}
+
+// The text and the sessions of a file's state, and what stands from the closed gate on.
+fn settle<'a>(
+    alloc: Global,
+    headed: &Headed<'a>,
+    rest: &'a [u8],
+) -> Result<(&'a [u8], Vec<Session>, &'a [u8]), DurableFault>
+    requires { IsHeading (headed_view headed.now) }
+    ensures ok { IfOk result (λ x. StateLeads (headed_view headed.now) rest.now (durable x.0.now x.1.items) x.2.now) }
+    ensures damaged { IsErrOf result DurableFault.Damaged → (d : Durable) (tail : List ℕ) → ¬ StateLeads (headed_view headed.now) rest.now d tail }
+{
+    check_text(alloc, &headed.bounds, headed.text)?;
+    let mut table = table_of(alloc, &headed.bounds, &headed.sessions)?;
+    let (text, tail) = enter_groups(alloc, &headed.bounds, headed.text, &mut table, rest)?;
+    let sessions = table.list(alloc)?;
+    Ok((text, sessions, tail))
+}
+
+// The state that a file holds.
+fn active<'a>(
+    alloc: Global,
+    file: FileId,
+    bytes: &'a [u8],
+    headed: Headed<'a>,
+    rest: &'a [u8],
+) -> Result<Option<Recovered<'a>>, DurableFault>
+    requires headed { IsHeaded bytes.now (headed_view headed) }
+    requires rest { rest.now ≡ drop (behind (headed_view headed)) bytes.now }
+    ensures ok { IfOk result (HeldBy file bytes.now (headed_view headed.entry)) }
+    ensures damaged { IsErrOf result DurableFault.Damaged → (d : Durable) (end : ℕ) → ¬ Holds bytes.now (headed_view headed.entry) d end }
+{
+    let (text, sessions, tail) = settle(alloc, &headed, rest)?;
+    let start = bytes.len().saturating_sub(rest.len());
+    let end = bytes.len().saturating_sub(tail.len());
+    Ok(Some(Recovered {
+        file,
+        generation: headed.generation,
+        bounds: headed.bounds,
+        text,
+        sessions,
+        start,
+        end,
+    }))
+}
+
+// The active one of two files whose headings were read.
+fn choose<'a>(
+    alloc: Global,
+    a: &'a [u8],
+    b: &'a [u8],
+    first: Option<(Headed<'a>, &'a [u8])>,
+    second: Option<(Headed<'a>, &'a [u8])>,
+) -> Result<Option<Recovered<'a>>, DurableFault>
+    requires a { IsReadOpen a.now first }
+    requires b { IsReadOpen b.now second }
+    ensures ok { IfOk result (λ found. Finds (pair a.now b.now) (found_view found)) }
+    ensures damaged { IsErrOf result DurableFault.Damaged → (found : Option Active) → ¬ Finds (pair a.now b.now) found }
+{
+    match first {
+        None => match second {
+            None => Ok(None),
+            Some((headed, rest)) => active(alloc, FileId::B, b, headed, rest),
+        },
+        Some((headed, rest)) => match second {
+            None => active(alloc, FileId::A, a, headed, rest),
+            Some((other, behind)) => {
+                if other.generation < headed.generation {
+                    return active(alloc, FileId::A, a, headed, rest);
+                }
+                if headed.generation < other.generation {
+                    return active(alloc, FileId::B, b, other, behind);
+                }
+                Err(DurableFault::Damaged)
+            }
+        },
+    }
+}
+
+/// What two files stand for, by their bytes: the active one with its state, or none where no file is open, which
+/// stands for the empty state.
+///
+/// It takes time in proportion to the bytes, apart from the texts in them that are loaded.
+///
+/// # Errors
+///
+/// - `Damaged` exactly where the files stand for no state: an open file has no whole heading, or a configuration that
+///   `Bounds::new` doesn't take; both are open with one generation; the snapshot of the active one isn't sound, or its
+///   text doesn't load; or its leading open groups aren't whole, or an entry in them doesn't fit the state.
+///   All of it is judged by the configuration that is stored.
+/// - `NoMemory` where memory is refused.
+pub fn recover<'a>(
+    alloc: Global,
+    a: &'a [u8],
+    b: &'a [u8],
+) -> Result<Option<Recovered<'a>>, DurableFault>
+    ensures ok { IfOk result (λ found. Finds (pair a.now b.now) (found_view found)) }
+    ensures only { (found : Option Active) → Finds (pair a.now b.now) found → IfOk result (λ x. found_view x ≡ found) }
+    ensures damaged { IsErrOf result DurableFault.Damaged → (found : Option Active) → ¬ Finds (pair a.now b.now) found }
+{
+    let first = read_open(alloc, a)?;
+    let second = read_open(alloc, b)?;
+    choose(alloc, a, b, first, second)
+}

@@ -1,0 +1,261 @@
+//! Entries and headings as bytes. All numbers are big-endian.
+ghost use Rattle.std.specs.Prelude.{◌≡◌, ◌<◌, ◌^◌, ◌∷◌, ◌++◌, [], length, OnOk};
+ghost use Rattle.std.specs.List.{flat_map};
+ghost use Rattle.byteorder.specs.Endian.{big_bytes};
+ghost use Rattle.sessions.specs.Life.{IsSeen};
+ghost use Rattle.durable.specs.Coding.{Begin, End, Load, Restart, Seen, opener_number, endpoint_bytes, session_bytes, flow_bytes, entry_bytes, text_bytes, prefix_bytes, config_bytes, snapshot_bytes, heading_bytes, mark, IsEndpoint, IsFlow, IsEntry};
+ghost use Rattle.durable.specs.Entering.{durable};
+ghost use Rattle.durable.specs.Laws.{anew};
+
+use crate::coding::Flow;
+use packet::bounds::Bounds;
+use packet::endpoint::{Endpoint, Prefix};
+use sessions::{Opener, Session};
+use std::alloc::AllocError;
+
+fn number_of(opener: Opener) -> u8
+    ensures { result ≡ opener_number opener }
+{
+    match opener {
+        Opener::Inside => 0,
+        Opener::Remote => 1,
+    }
+}
+
+fn address_fits(address: u32)
+    ensures { address < 2 ^ 32 }
+{}
+
+fn port_fits(port: u16)
+    ensures { port < 2 ^ 16 }
+{}
+
+fn endpoint_code(endpoint: Endpoint) -> [u8; 6]
+    ensures code { result ≡ endpoint_bytes endpoint }
+    ensures fits { IsEndpoint endpoint }
+{
+    address_fits(endpoint.addr);
+    port_fits(endpoint.port);
+    let [a, b, c, d] = endpoint.addr.to_be_bytes();
+    let [e, f] = endpoint.port.to_be_bytes();
+    [a, b, c, d, e, f]
+}
+
+/// What stands before the text in the entry of a load. The text has fewer than 2^32 bytes.
+pub fn load_front(text: &[u8]) -> [u8; 5]
+    requires { length text.now < 2 ^ 32 }
+    ensures { result ++ text.now ≡ entry_bytes (Load text.now) }
+{
+    let [a, b, c, d] = (text.len() as u32).to_be_bytes();
+    [1, a, b, c, d]
+}
+
+/// The entry of a session that begins.
+pub fn begin_code(session: &Session) -> [u8; 22]
+    ensures code { result ≡ entry_bytes (Begin session.now) }
+    ensures fits { IsSeen session.now.proto session.now.seen → session.now.last ≡ 0 → IsEntry (Begin session.now) }
+{
+    let [a, b, c, d, e, f] = endpoint_code(session.inside);
+    let [g, h, i, j, k, l] = endpoint_code(session.outside);
+    let [m, n, o, p, q, r] = endpoint_code(session.remote);
+    let proto = session.proto.number();
+    let opener = number_of(session.opener);
+    [
+        2,
+        proto,
+        a,
+        b,
+        c,
+        d,
+        e,
+        f,
+        g,
+        h,
+        i,
+        j,
+        k,
+        l,
+        m,
+        n,
+        o,
+        p,
+        q,
+        r,
+        opener,
+        session.seen,
+    ]
+}
+
+fn flow_code(flow: &Flow) -> [u8; 13]
+    ensures code { result ≡ flow_bytes flow.now }
+    ensures fits { IsFlow flow.now }
+{
+    let [a, b, c, d, e, f] = endpoint_code(flow.inside);
+    let [g, h, i, j, k, l] = endpoint_code(flow.remote);
+    [flow.proto.number(), a, b, c, d, e, f, g, h, i, j, k, l]
+}
+
+/// The entry of what a session's packets have shown, as a sum of bits that its protocol has.
+pub fn seen_code(flow: &Flow, seen: u8) -> [u8; 15]
+    ensures code { result ≡ entry_bytes (Seen flow.now seen) }
+    ensures fits { IsSeen flow.now.proto seen → IsEntry (Seen flow.now seen) }
+{
+    let [a, b, c, d, e, f, g, h, i, j, k, l, m] = flow_code(flow);
+    [3, a, b, c, d, e, f, g, h, i, j, k, l, m, seen]
+}
+
+/// The entry of a session that is begun anew by this side.
+pub fn restart_code(flow: &Flow, opener: Opener, seen: u8) -> [u8; 16]
+    ensures code { result ≡ entry_bytes (Restart flow.now opener seen) }
+    ensures fits { IsSeen flow.now.proto seen → IsEntry (Restart flow.now opener seen) }
+{
+    let [a, b, c, d, e, f, g, h, i, j, k, l, m] = flow_code(flow);
+    let opener = number_of(opener);
+    [4, a, b, c, d, e, f, g, h, i, j, k, l, m, opener, seen]
+}
+
+/// The entry of a session that ends.
+pub fn end_code(flow: &Flow) -> [u8; 14]
+    ensures code { result ≡ entry_bytes (End flow.now) }
+    ensures fits { IsEntry (End flow.now) }
+{
+    let [a, b, c, d, e, f, g, h, i, j, k, l, m] = flow_code(flow);
+    [5, a, b, c, d, e, f, g, h, i, j, k, l, m]
+}
+
+fn put_byte(out: &mut Vec<u8>, byte: u8) -> Result<(), AllocError>
+    ensures { OnOk result (out.new.items ≡ out.old.items ++ byte ∷ []) }
+{
+    out.extend_from_slice(&[byte])
+}
+
+#[tactic(auto, unfolding(crate::specs::Coding::endpoint_bytes))]
+fn put_endpoint(out: &mut Vec<u8>, endpoint: Endpoint) -> Result<(), AllocError>
+    ensures { OnOk result (out.new.items ≡ out.old.items ++ endpoint_bytes endpoint) }
+{
+    out.extend_from_slice(&endpoint.addr.to_be_bytes())?;
+    out.extend_from_slice(&endpoint.port.to_be_bytes())?;
+    Ok(())
+}
+
+#[tactic(auto, unfolding(crate::specs::Coding::session_bytes))]
+fn put_session(out: &mut Vec<u8>, session: &Session) -> Result<(), AllocError>
+    ensures { OnOk result (out.new.items ≡ out.old.items ++ session_bytes session.now) }
+{
+    put_byte(out, session.proto.number())?;
+    put_endpoint(out, session.inside)?;
+    put_endpoint(out, session.outside)?;
+    put_endpoint(out, session.remote)?;
+    put_byte(out, number_of(session.opener))?;
+    put_byte(out, session.seen)?;
+    Ok(())
+}
+
+fn put_text(out: &mut Vec<u8>, text: &[u8]) -> Result<(), AllocError>
+    requires { length text.now < 2 ^ 32 }
+    ensures { OnOk result (out.new.items ≡ out.old.items ++ text_bytes 4 text.now) }
+{
+    let count = text.len() as u32;
+    out.extend_from_slice(&count.to_be_bytes())?;
+    out.extend_from_slice(text)?;
+    Ok(())
+}
+
+fn put_sessions(out: &mut Vec<u8>, sessions: &[Session]) -> Result<(), AllocError>
+    ensures { OnOk result (out.new.items ≡ out.old.items ++ flat_map session_bytes sessions.now) }
+{
+    for session in sessions {
+        put_session(out, session)?;
+    }
+    Ok(())
+}
+
+#[tactic(auto, unfolding(crate::specs::Coding::prefix_bytes))]
+fn put_prefix(out: &mut Vec<u8>, prefix: &Prefix) -> Result<(), AllocError>
+    ensures { OnOk result (out.new.items ≡ out.old.items ++ prefix_bytes prefix.now) }
+{
+    out.extend_from_slice(&prefix.addr.to_be_bytes())?;
+    put_byte(out, prefix.len)?;
+    Ok(())
+}
+
+fn put_prefixes(out: &mut Vec<u8>, prefixes: &[Prefix]) -> Result<(), AllocError>
+    ensures { OnOk result (out.new.items ≡ out.old.items ++ flat_map prefix_bytes prefixes.now) }
+{
+    for prefix in prefixes {
+        put_prefix(out, prefix)?;
+    }
+    Ok(())
+}
+
+fn put_name(out: &mut Vec<u8>, name: &[u8]) -> Result<(), AllocError>
+    requires { length name.now < 256 }
+    ensures { OnOk result (out.new.items ≡ out.old.items ++ text_bytes 1 name.now) }
+{
+    put_byte(out, name.len() as u8)?;
+    out.extend_from_slice(name)?;
+    Ok(())
+}
+
+#[tactic(auto, unfolding(crate::specs::Coding::config_bytes))]
+fn put_config(out: &mut Vec<u8>, bounds: &Bounds) -> Result<(), AllocError>
+    ensures { OnOk result (out.new.items ≡ out.old.items ++ config_bytes bounds.now) }
+{
+    bounds.facts();
+    put_name(out, bounds.lan())?;
+    put_name(out, bounds.wan())?;
+    put_byte(out, bounds.inside().len() as u8)?;
+    put_prefixes(out, bounds.inside())?;
+    out.extend_from_slice(&bounds.external().to_be_bytes())?;
+    Ok(())
+}
+
+#[tactic(auto, unfolding(crate::specs::Coding::snapshot_bytes))]
+fn put_snapshot(out: &mut Vec<u8>, text: &[u8], sessions: &[Session]) -> Result<(), AllocError>
+    requires text { length text.now < 2 ^ 32 }
+    requires count { length sessions.now < 2 ^ 32 }
+    ensures { OnOk result (out.new.items ≡ out.old.items ++ snapshot_bytes (record { text = text.now; sessions = sessions.now })) }
+{
+    put_text(out, text)?;
+    let count = sessions.len() as u32;
+    out.extend_from_slice(&count.to_be_bytes())?;
+    put_sessions(out, sessions)?;
+    Ok(())
+}
+
+fn put_mark(out: &mut Vec<u8>) -> Result<(), AllocError>
+    ensures { OnOk result (out.new.items ≡ out.old.items ++ mark) }
+{
+    out.extend_from_slice(&[0x4e, 0x47, 0x57, 0x31])
+}
+
+fn put_generation(out: &mut Vec<u8>, generation: u64) -> Result<(), AllocError>
+    ensures { OnOk result (out.new.items ≡ out.old.items ++ big_bytes 8 generation) }
+{
+    out.extend_from_slice(&generation.to_be_bytes())
+}
+
+/// Puts what stands behind the gate of a file in front of its groups behind the bytes: mark, generation, configuration,
+/// and a snapshot of the text and the sessions. Both must be fewer than 2^32.
+///
+/// # Errors
+///
+/// `AllocError` where a growth was refused.
+#[tactic(auto, unfolding(crate::specs::Coding::heading_bytes))]
+pub fn put_heading(
+    out: &mut Vec<u8>,
+    generation: u64,
+    bounds: &Bounds,
+    text: &[u8],
+    sessions: &[Session],
+) -> Result<(), AllocError>
+    requires text { length text.now < 2 ^ 32 }
+    requires count { length sessions.now < 2 ^ 32 }
+    ensures { OnOk result (out.new.items ≡ out.old.items ++ heading_bytes (anew generation bounds.now (durable text.now sessions.now))) }
+{
+    put_mark(out)?;
+    put_generation(out, generation)?;
+    put_config(out, bounds)?;
+    put_snapshot(out, text, sessions)?;
+    Ok(())
+}
