@@ -67,11 +67,11 @@ pub ends-more : (first before : List (Option Session)) (slots : List ℕ) (k : �
     → get_or before (slice_index slots k) None ≡ get_or first (slice_index slots k) None
     → noted1 ≡ noted0 ++ ends (sessions_at first (take k slots)) → noted2 ≡ noted1 ++ ends (sessions_at before (slice_index slots k ∷ []))
     → noted2 ≡ noted0 ++ ends (sessions_at first (take (k + 1) slots))
-ends-more first before slots k noted0 noted1 noted2 lt same was then =
+ends-more first before slots k noted0 noted1 noted2 lt same was more =
     let slot = slice_index slots k in
     let one : k + 1 ≡ suc k = omega arith in
     let cut : take (k + 1) slots ≡ take k slots ++ slot ∷ [] = ap (λ n. take n slots) one ∙ take-suc slots k 0 lt in
-    then ∙ ap (λ (es : List Entry). es ++ ends (sessions_at before (slot ∷ []))) was
+    more ∙ ap (λ (es : List Entry). es ++ ends (sessions_at before (slot ∷ []))) was
     ∙ append_assoc noted0 (ends (sessions_at first (take k slots))) (ends (sessions_at before (slot ∷ [])))
     ∙ ap (λ (o : Option Session). noted0 ++ (ends (sessions_at first (take k slots)) ++ ends (with_it o []))) same
     ∙ ap (λ es. noted0 ++ es) (sym (ends-append (sessions_at first (take k slots)) (sessions_at first (slot ∷ []))))
@@ -79,6 +79,6 @@ ends-more first before slots k noted0 noted1 noted2 lt same was then =
     ∙ ap (λ l. noted0 ++ ends (sessions_at first l)) (sym cut)
 
 -- what is said under a premise
-pub ok_under : {T E K P : Type 0} (r : Result T E) → (K → OnOk r P) → OnOk r (K → P)
-ok_under (Ok x) h = h
-ok_under (Err e) h = tt
+pub ok_under : {T E K : Type 0} (P : Type 0) (r : Result T E) → (K → OnOk r P) → OnOk r (K → P)
+ok_under P (Ok x) h = h
+ok_under P (Err e) h = tt

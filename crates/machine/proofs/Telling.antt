@@ -160,7 +160,9 @@ module _ (held : List (Option Session)) (sound : IsSoundTable held) (external no
 -- where no entry is made, no session begins
 pub quiet-adds : (held : List (Option Session)) → IsSoundTable held → (external now : ℕ) (first : changes.Change) (second : Option changes.Change) (ts : List Session)
     → GiveAll external held now first second ts → noted_all ts (listing held) ≡ [] → adds first + adds_second second ≡ 0
-quiet-adds held sound external now first None ts gives none = first-adds held (Apart-sound held sound) external now first gives.0 gives.1 [] (sym (ap (λ us. noted_all us (listing held)) gives.2) ∙ none)
+quiet-adds held sound external now first None ts gives none =
+    let one = first-adds held (Apart-sound held sound) external now first gives.0 gives.1 [] (sym (ap (λ us. noted_all us (listing held)) gives.2) ∙ none) in
+    omega (arith, one)
 quiet-adds held sound external now first (Some second) ts gives none =
     let one = first-adds held (Apart-sound held sound) external now first gives.0 gives.2 (noted (put gives.0 (listing held)) gives.1 ++ [])
       (sym (both-noted held sound external now first second ts gives) ∙ none) in

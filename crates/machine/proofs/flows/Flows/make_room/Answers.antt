@@ -20,9 +20,8 @@ returns-then-not-is_noted-clause-ready g c = λ some.
     let first = c.args.plan.now.first in
     let second = c.args.plan.now.second in
     let ts = c.requires.give.0 in
-    let give = rw c.self.view_is at c.requires.give.1 in
-    let noted = rw c.self.view_is at c.is_noted.ensures in
-    let none : noted_all ts (listing held) ≡ [] = nil-unless (noted_all ts (listing held)) (λ away. false≢true (sym c.if-not-is_noted.true ∙ (noted external ts give).1 away)) in
+    let give = rw (← c.self.view_is) at c.requires.give.1 in
+    let none : noted_all ts (listing held) ≡ [] = nil-unless (noted_all ts (listing held)) (λ away. false≢true (sym c.if-not-is_noted.true ∙ (c.is_noted.ensures external ts give).1 away)) in
     absurd (omega (arith, some, quiet-adds held c.is_sound.ensures external c.args.now first second ts give none))
 
 pub returns-clause-room : goal.returns-clause-room
@@ -30,4 +29,4 @@ returns-clause-room g c = on_ok_weaker {P = g.N.Notes.keeps c.args.notes.now →
     (λ made ts gives keeps.
     let few = plan-few c.args.self.now.translations.external c.args.self.now.table.held c.args.now c.args.plan.now.first c.args.plan.now.second ts gives in
     omega (arith, few, made keeps))
-    (ok_under c.reserve-2.result c.reserve-2.ensures.ok)
+    (ok_under (14 * 0 + 44 ≤ g.N.Notes.room c.reserve-2.new.self) c.reserve-2.result c.reserve-2.ensures.ok)
