@@ -90,4 +90,10 @@ length-at held (x ∷ more) some =
 -- the slots of the sessions that end hold them
 pub some-at : (held : List (Option Session)) (now : ℕ) (slots : List ℕ) → ((slot : ℕ) → Contains slots slot ↔ IsSomeAnd (get_or held slot None) (IsDue now))
     → (k : ℕ) → k < length slots → IsSome (get_or held (slice_index slots k) None)
-some-at held now slots exactly k lt = due_held (get_or held (slice_index slots k) None) now ((exactly (slice_index slots k)).0 (k, lt, refl))
+some-at held now slots exactly k lt = due_held (get_or held (slice_index slots k) None) now ((exactly (slice_index slots k)).0 (k, lt, get_or_default slots k (slice_index slots k) 0 lt))
+
+-- where no slot is due, none ends
+pub none-over : (held : List (Option Session)) → IsSound held → (now : ℕ) (slots : List ℕ) → ((slot : ℕ) → Contains slots slot ↔ IsSomeAnd (get_or held slot None) (IsDue now))
+    → ((i j : ℕ) → i < j → j < length slots → slice_index slots i ≢ slice_index slots j) → length slots ≡ 0 → AreOver now (listing held) []
+none-over held sound now [] exactly once none = slots-over held sound now [] exactly once
+none-over held sound now (x ∷ more) exactly once none = absurd (omega (arith, none))
