@@ -1,5 +1,6 @@
 -- How many bytes entries have.
-use Rattle.std.proofs.Common.{◌≡◌, ℕ, suc, ◌+◌, ◌<◌, ◌≤◌, Result, Ok, Err, OnOk, append_assoc, get_or, slice_index, take, List, [], ◌∷◌, ◌++◌, length, Option, Some, None, true, false, Bool, if◌then◌else◌, refl, sym, ap, subst, ◌∙◌, arith}
+use Rattle.std.proofs.Common.{◌≡◌, ℕ, suc, ◌+◌, ◌<◌, ◌≤◌, Result, Ok, Err, OnOk, append_assoc, length_append, get_or, slice_index, take, List, [], ◌∷◌, ◌++◌, length, Option, Some, None, true, false, Bool, if◌then◌else◌, refl, sym, ap, subst, ◌∙◌, arith}
+use Rattle.std.specs.Prelude.{big_bytes}
 use Rattle.std.proofs.Math.Seq.{take-suc}
 use Rattle.sessions.specs.declared.session.Opener.{Opener}
 use Rattle.sessions.specs.declared.session.Session.{Session}
@@ -26,6 +27,10 @@ cost-restart f opener seen = refl
 pub cost-end : (f : Flow) → length (entry_bytes (End f)) ≡ 14
 unfolding entry_bytes flow_bytes endpoint_bytes
 cost-end f = refl
+
+pub cost-load : (text : List ℕ) → length (entry_bytes (Load text)) ≡ 5 + length text
+unfolding entry_bytes
+cost-load text = let both = length_append (big_bytes 4 (length text)) text in omega (arith, both)
 
 between-few : (b c : Bool) (s t : Session) → bytes_of (if b then [] else (if c then Seen (flow_of t) t.seen ∷ [] else Restart (flow_of t) t.opener t.seen ∷ [])) ≤ 22
 between-few true c s t = omega arith

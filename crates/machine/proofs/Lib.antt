@@ -8,6 +8,7 @@ pub mod Passing
 pub mod Reading
 pub mod Slots
 pub mod Soundness
+pub mod Stepping
 pub mod Steps
 pub mod Telling
 pub mod Updated

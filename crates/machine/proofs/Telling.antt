@@ -97,7 +97,7 @@ module _ (held : List (Option Session)) (apart : Apart held) (external now : ℕ
 
 -- ---- whether there is one
 
-cons≢nil : (x : Entry) (xs : List Entry) → x ∷ xs ≢ []
+pub cons≢nil : (x : Entry) (xs : List Entry) → x ∷ xs ≢ []
 cons≢nil x xs e = absurd cc
 
 pub some-told : (o : Option declared.Entry) (es more : List Entry) → listed o ≡ es → is_some o ≡ true → es ++ more ≢ []
@@ -107,7 +107,6 @@ some-told (Some x) es more e some = λ none. absurd (cons≢nil (view x) more (a
 pub none-told : (o : Option declared.Entry) (es : List Entry) → listed o ≡ es → is_some o ≡ false → es ≡ []
 none-told None es e none = sym e
 none-told (Some x) es e none = absurd (false≢true (sym none))
-
 
 some-behind : (es : List Entry) (x : Entry) (xs : List Entry) → es ++ x ∷ xs ≢ []
 some-behind [] x xs e = absurd cc
