@@ -1,6 +1,5 @@
 -- How many bytes entries have.
-use Rattle.std.proofs.Common.{◌≡◌, ℕ, suc, ◌+◌, ◌<◌, ◌≤◌, Result, Ok, Err, OnOk, append_assoc, length_append, get_or, slice_index, take, List, [], ◌∷◌, ◌++◌, length, Option, Some, None, true, false, Bool, if◌then◌else◌, refl, sym, ap, subst, ◌∙◌, arith}
-use Rattle.std.specs.Prelude.{big_bytes}
+use Rattle.std.proofs.Common.{◌≡◌, ℕ, suc, ◌+◌, ◌<◌, ◌≤◌, Result, Ok, Err, OnOk, append_assoc, get_or, slice_index, take, List, [], ◌∷◌, ◌++◌, length, Option, Some, None, true, false, Bool, if◌then◌else◌, refl, sym, ap, ◌∙◌, arith}
 use Rattle.std.proofs.Math.Seq.{take-suc}
 use Rattle.sessions.specs.declared.session.Opener.{Opener}
 use Rattle.sessions.specs.declared.session.Session.{Session}
@@ -9,7 +8,7 @@ use Rattle.sessions.specs.Stilled.{stilled}
 use Rattle.durable.specs.Entering.{flow_of}
 use Rattle.durable.specs.declared.coding.Flow.{Flow}
 use Rattle.durable.specs.Coding.{Entry, Begin, End, Restart, Seen, Load, endpoint_bytes, entry_bytes, flow_bytes, session_bytes}
-use Rattle.machine.specs.Noted.{ends, sessions_at, with_it, between, goes_on, is_same, noted, noted_all, noted_by}
+use Rattle.machine.specs.Noted.{ends, sessions_at, with_it, goes_on, is_same, noted, noted_all, noted_by}
 use Rattle.machine.specs.Notes.{bytes_of}
 
 cost-begin : (s : Session) → length (entry_bytes (Begin s)) ≡ 22
@@ -30,7 +29,7 @@ cost-end f = refl
 
 pub cost-load : (text : List ℕ) → length (entry_bytes (Load text)) ≡ 5 + length text
 unfolding entry_bytes
-cost-load text = let both = length_append (big_bytes 4 (length text)) text in omega (arith, both)
+cost-load text = omega arith
 
 between-few : (b c : Bool) (s t : Session) → bytes_of (if b then [] else (if c then Seen (flow_of t) t.seen ∷ [] else Restart (flow_of t) t.opener t.seen ∷ [])) ≤ 22
 between-few true c s t = omega arith

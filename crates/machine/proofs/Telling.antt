@@ -1,6 +1,6 @@
 -- The entry of a change, as the table tells it.
 use Rattle.std.proofs.Common.{◌≡◌, ◌≢◌, ◌<◌, ◌≤◌, ◌+◌, arith, inr, inl, ◌++◌, is_some, ℕ, List, [], ◌∷◌, Option, Some, None, true, false, get_or, refl, sym, ap, subst, ◌∙◌}
-use Rattle.std.proofs.lemmas.Bool.{cases_lt, false≢true, false_from_ne_true}
+use Rattle.std.proofs.lemmas.Bool.{cases_lt, false≢true}
 use Rattle.std.proofs.lemmas.Option.{same_Some}
 use Rattle.sessions.specs.declared.session.Session.{Session}
 use Rattle.sessions.specs.Listing.{Rises, find, key, listing, put, same_flow}
@@ -164,7 +164,7 @@ quiet-adds held sound external now first None ts gives none =
     omega (arith, one)
 quiet-adds held sound external now first (Some second) ts gives none =
     let one = first-adds held (Apart-sound held sound) external now first gives.0 gives.2 (noted (put gives.0 (listing held)) gives.1 ++ [])
-      (sym (both-noted held sound external now first second ts gives) ∙ none) in
+    (sym (both-noted held sound external now first second ts gives) ∙ none) in
     elim (cases_lt 0 (adds second)) [
       | inl some ↦ absurd (begin-is-noted held sound external now first second ts gives some none)
       | inr le ↦ omega (arith, one, le)

@@ -294,7 +294,7 @@ fn age_and_act<N: Notes>(
     ensures keeps { N.keeps notes.old ↔ N.keeps notes.new }
     ensures noted { OnOk result (N.keeps notes.old → (gone : List Flow) × AreOver now (listing flows.old.table.held) gone
         × (N.noted notes.new ≡ N.noted notes.old
-            ++ (ends gone ++ of_deed bounds.now (aged now (state_of in_force.old.text in_force.old.rules flows.old.table.held clock)) deed))) }
+        ++ (ends gone ++ of_deed bounds.now (aged now (state_of in_force.old.text in_force.old.rules flows.old.table.held clock)) deed))) }
     ensures err_noted { OnErr result (N.noted notes.new ≡ N.noted notes.old) }
     ensures full { IfErr result (λ e. e.1 ≡ StepFault.Full → (gone : List Flow) × AreOver now (listing flows.old.table.held) gone
         × N.too_many notes.old (14 * length gone + most_bytes deed)) }

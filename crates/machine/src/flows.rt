@@ -16,8 +16,8 @@ ghost use Rattle.machine.specs.Noted.{AreOver, ends, noted, noted_all, sessions_
 ghost use Rattle.machine.specs.Notes.{bytes_of};
 ghost use Rattle.machine.specs.Flows.{IsDue, IsLatest, IsReady, adds as adds_by, adds_second};
 
-use crate::noting::{entry_of, flow_of, note};
 use crate::notes::{Notes, StepFault};
+use crate::noting::{entry_of, flow_of, note};
 use durable::Entry;
 use hairpin::Plan;
 use hairpin::translations::Translations;

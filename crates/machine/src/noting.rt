@@ -27,7 +27,10 @@ pub fn flow_of(session: &Session) -> Flow
 pub fn stilled(session: &Session) -> Session
     ensures { result ≡ without_moment session.now }
 {
-    Session { last: 0, ..*session }
+    Session {
+        last: 0,
+        ..*session
+    }
 }
 
 /// The entry that makes the one session the other, which is of the same flow and outside endpoint; none where they
@@ -56,12 +59,27 @@ pub fn entry_of(table: &Table, change: &Change, now: u64) -> Option<Entry<'stati
         Change::Seen(slot, bits) => {
             let session = table.get(*slot)?;
             let seen = session.seen | *bits;
-            between(&session, &Session { seen, last: now, ..session })
+            between(
+                &session,
+                &Session {
+                    seen,
+                    last: now,
+                    ..session
+                },
+            )
         }
         Change::Restart(slot, opener) => {
             let session = table.get(*slot)?;
             let opener = *opener;
-            between(&session, &Session { opener, seen: 0, last: now, ..session })
+            between(
+                &session,
+                &Session {
+                    opener,
+                    seen: 0,
+                    last: now,
+                    ..session
+                },
+            )
         }
         Change::End(_) => None,
     }

@@ -1,8 +1,7 @@
-use Rattle.std.proofs.Common.{◌≡◌, ◌+◌, ◌*◌, ℕ, [], length, sym, ap, subst, ◌∙◌, arith}
+use Rattle.std.proofs.Common.{◌≡◌, ◌+◌, ◌*◌, [], sym, ap, subst, ◌∙◌, arith}
 use Rattle.std.specs.List.{filter}
 use Rattle.sessions.specs.Life.{alive}
 use Rattle.sessions.specs.Listing.{listing}
-use Rattle.machine.specs.Noted.{AreOver}
 use Rattle.machine.specs.Notes.{most_bytes}
 use Rattle.machine.specs.declared.notes.StepFault.TheVariants.{Full}
 use Rattle.machine.proofs.Stepping.{if_err_unready, none-ended}

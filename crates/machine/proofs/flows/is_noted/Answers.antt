@@ -1,4 +1,4 @@
-use Rattle.std.proofs.Common.{[], ◌++◌, Some, inl, inr, is_some, ap, refl, sym, ◌∙◌, arith, ◌≡◌, true, false}
+use Rattle.std.proofs.Common.{[], ◌++◌, Some, inl, inr, is_some, ap, refl, sym, ◌∙◌, arith, ◌≡◌}
 use Rattle.std.proofs.lemmas.Bool.{cases_Bool}
 use Rattle.sessions.specs.Listing.{listing}
 use Rattle.hairpin.specs.Plans.{GiveAll}

@@ -1,5 +1,4 @@
-use Rattle.std.proofs.Common.{◌≡◌, ◌++◌, ◌∙◌, List, ap, refl, subst, sym}
-use Rattle.sessions.specs.declared.session.Session.{Session}
+use Rattle.std.proofs.Common.{◌∙◌, ap, refl, subst, sym}
 use Rattle.machine.specs.Judged.{Judged, IsNoLoad}
 use Rattle.machine.specs.Machine.{State, EndsNone, later}
 use Rattle.machine.specs.Core.{state_of}

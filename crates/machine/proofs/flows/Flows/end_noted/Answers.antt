@@ -1,4 +1,4 @@
-use Rattle.std.proofs.Common.{◌≤◌, ◌+◌, arith}
+use Rattle.std.proofs.Common.{arith}
 use Rattle.machine.proofs.Costs.{cost-end}
 use Rattle.machine.proofs.flows.Flows.end_noted.Goals as goal
 

@@ -1,5 +1,4 @@
-use Rattle.std.proofs.Common.{◌≡◌, ◌<◌, ◌+◌, ◌*◌, ◌++◌, [], ◌∷◌, List, length, Err, refl, sym, ap, subst, ◌∙◌, append-nil, arith}
-use Rattle.std.proofs.lemmas.Bool.{false≢true}
+use Rattle.std.proofs.Common.{◌≡◌, ◌<◌, ◌+◌, ◌*◌, ◌++◌, [], length, Err, refl, sym, ap, subst, ◌∙◌, append-nil, arith}
 use Rattle.std.proofs.lemmas.Grind.{common_steps}
 use Rattle.std.proofs.lemmas.Result.{err_from_is_err_and}
 use Rattle.durable.proofs.Errors.{same_error}
@@ -42,9 +41,11 @@ returns-in_err-reserve-clause-full g c = λ full.
     let items = c.in-Ok.slots.items in
     let b = c.len.ensures in
     let count : c.len.result ≡ length items = grind (arith, common_steps) in
-    let many = length-at held items (some-at held c.args.now items c.in-Ok.ensures.exactly) in
-    (sessions_at held items, slots-over held c.due.ensures.sound c.args.now items c.in-Ok.ensures.exactly c.in-Ok.ensures.once,
-      subst (λ n. g.N.Notes.too_many c.args.notes.now (14 * n + c.args.others)) (count ∙ sym many) (c.in_err-reserve.ensures.full (ap Err (sym p.2 ∙ same_error _ _ _ p.1 full))))
+    let many = length-at held items (some-at held c.args.now items c.in-Ok.ensures.exactly) in (
+      sessions_at held items,
+      slots-over held c.due.ensures.sound c.args.now items c.in-Ok.ensures.exactly c.in-Ok.ensures.once,
+      subst (λ n. g.N.Notes.too_many c.args.notes.now (14 * n + c.args.others)) (count ∙ sym many) (c.in_err-reserve.ensures.full (ap Err (sym p.2 ∙ same_error _ _ _ p.1 full))),
+    )
 
 pub returns-in_err-reserve-clause-succeeds : goal.returns-in_err-reserve-clause-succeeds
 returns-in_err-reserve-clause-succeeds g c = λ none.
@@ -69,6 +70,8 @@ returns-clause-noted g c = λ keeps.
     let held = c.args.self.now.table.held in
     let same : c.reserve.new.self.table.held ≡ held = c.reserve.ensures.held in
     let items = c.in-Ok.slots.items in
-    let noted = rw (c.deref.ensures.value, same) at c.end_all.ensures.noted in
-    (sessions_at held items, slots-over held c.due.ensures.sound c.args.now items c.in-Ok.ensures.exactly c.in-Ok.ensures.once,
-      noted (c.reserve-2.ensures.keeps.0 keeps) ∙ ap (λ es. es ++ ends (sessions_at held items)) c.reserve-2.ensures.noted)
+    let noted = rw (c.deref.ensures.value, same) at c.end_all.ensures.noted in (
+      sessions_at held items,
+      slots-over held c.due.ensures.sound c.args.now items c.in-Ok.ensures.exactly c.in-Ok.ensures.once,
+      noted (c.reserve-2.ensures.keeps.0 keeps) ∙ ap (λ es. es ++ ends (sessions_at held items)) c.reserve-2.ensures.noted,
+    )
