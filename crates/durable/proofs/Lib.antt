@@ -5,6 +5,7 @@ pub mod Loops
 pub mod Stored_values
 pub mod Tabled
 pub mod Named
+pub mod Fitting
 pub mod Arranging
 pub mod Keeping
 pub mod Bodies

@@ -29,4 +29,6 @@ pub use laws::{
     coded_once, entering_laws, growing_laws, heading_once, recovers_once, renewing_laws,
 };
 pub use recovery::{Recovered, recover};
-pub use writing::{begin_code, end_code, load_front, put_heading, restart_code, seen_code};
+pub use writing::{
+    begin_code, end_code, heading_fits, load_front, put_heading, restart_code, seen_code,
+};

@@ -1,9 +1,9 @@
 //! Entries and headings as bytes. All numbers are big-endian.
 ghost use Rattle.std.specs.Prelude.{◌≡◌, ◌<◌, ◌^◌, ◌∷◌, ◌++◌, [], length, OnOk};
-ghost use Rattle.std.specs.List.{flat_map};
+ghost use Rattle.std.specs.List.{All, flat_map};
 ghost use Rattle.byteorder.specs.Endian.{big_bytes};
 ghost use Rattle.sessions.specs.Life.{IsSeen};
-ghost use Rattle.durable.specs.Coding.{Begin, End, Load, Restart, Seen, opener_number, endpoint_bytes, session_bytes, flow_bytes, entry_bytes, text_bytes, prefix_bytes, config_bytes, snapshot_bytes, heading_bytes, mark, IsEndpoint, IsFlow, IsEntry};
+ghost use Rattle.durable.specs.Coding.{Begin, End, Load, Restart, Seen, opener_number, endpoint_bytes, session_bytes, flow_bytes, entry_bytes, text_bytes, prefix_bytes, config_bytes, snapshot_bytes, heading_bytes, mark, IsEndpoint, IsEntry, IsFlow, IsHeading, IsPrefix, IsSession};
 ghost use Rattle.durable.specs.Entering.{durable};
 ghost use Rattle.durable.specs.Laws.{anew};
 
@@ -30,12 +30,18 @@ fn port_fits(port: u16)
     ensures { port < 2 ^ 16 }
 {}
 
+fn endpoint_fits(endpoint: Endpoint)
+    ensures { IsEndpoint endpoint }
+{
+    address_fits(endpoint.addr);
+    port_fits(endpoint.port);
+}
+
 fn endpoint_code(endpoint: Endpoint) -> [u8; 6]
     ensures code { result ≡ endpoint_bytes endpoint }
     ensures fits { IsEndpoint endpoint }
 {
-    address_fits(endpoint.addr);
-    port_fits(endpoint.port);
+    endpoint_fits(endpoint);
     let [a, b, c, d] = endpoint.addr.to_be_bytes();
     let [e, f] = endpoint.port.to_be_bytes();
     [a, b, c, d, e, f]
@@ -258,4 +264,62 @@ pub fn put_heading(
     put_config(out, bounds)?;
     put_snapshot(out, text, sessions)?;
     Ok(())
+}
+
+fn length_fits(length: u8)
+    ensures { length < 2 ^ 8 }
+{}
+
+fn generation_fits(generation: u64)
+    ensures { generation < 2 ^ 64 }
+{}
+
+fn prefix_fits(prefix: Prefix)
+    ensures { IsPrefix prefix }
+{
+    address_fits(prefix.addr);
+    length_fits(prefix.len);
+}
+
+fn prefixes_fit(prefixes: &[Prefix])
+    ensures { All IsPrefix prefixes.now }
+{
+    for number in 0..prefixes.len() {
+        prefix_fits(prefixes[number]);
+    }
+}
+
+fn session_fits(session: Session)
+    requires bits { IsSeen session.proto session.seen }
+    requires still { session.last ≡ 0 }
+    ensures { IsSession session }
+{
+    endpoint_fits(session.inside);
+    endpoint_fits(session.outside);
+    endpoint_fits(session.remote);
+}
+
+fn sessions_fit(sessions: &[Session])
+    requires bits { All (λ s. IsSeen s.proto s.seen) sessions.now }
+    requires still { All (λ s. s.last ≡ 0) sessions.now }
+    ensures { All IsSession sessions.now }
+{
+    for number in 0..sessions.len() {
+        session_fits(sessions[number]);
+    }
+}
+
+/// A heading of these has a code. The sessions have seen bits of their protocols, and `last` is 0 in each.
+pub fn heading_fits(generation: u64, bounds: &Bounds, text: &[u8], sessions: &[Session])
+    requires text { length text.now < 2 ^ 32 }
+    requires count { length sessions.now < 2 ^ 32 }
+    requires bits { All (λ s. IsSeen s.proto s.seen) sessions.now }
+    requires still { All (λ s. s.last ≡ 0) sessions.now }
+    ensures { IsHeading (anew generation bounds.now (durable text.now sessions.now)) }
+{
+    bounds.facts();
+    generation_fits(generation);
+    prefixes_fit(bounds.inside());
+    address_fits(bounds.external());
+    sessions_fit(sessions);
 }

@@ -39,12 +39,13 @@ MappingsAreOneToOne = (held : List (Option Session)) (proto : Proto) (inside ins
 abbrev pub RestartedAwaitsReply : Type 0
 RestartedAwaitsReply = (s : Session) (sender : Opener) (last : ℕ) → awaits_reply (restarted s sender last) sender ≡ true
 
--- order, flow, clash, soundness and what is put in or left out: none looks at the moment of a session's last packet
+-- order, flow, clash, soundness, and what is put in or left out: none looks at when a session's last packet passed
 pub record MomentsDoNotCount : Type 0 where
   pub order : (n m : ℕ) (s t : Session) → order (moved n s) (moved m t) ≡ order s t
   pub flow : (n m : ℕ) (s t : Session) → same_flow (moved n s) (moved m t) ≡ same_flow s t
   pub clash : (n m : ℕ) (s t : Session) → Clash (moved n s) (moved m t) ↔ Clash s t
-  pub parts : (n : ℕ) (test : Session → Bool) → ((s : Session) → test (moved n s) ≡ test s) → (ss : List Session) → filter test (map (moved n) ss) ≡ map (moved n) (filter test ss)
+  pub parts : (n : ℕ) (test : Session → Bool) → ((s : Session) → test (moved n s) ≡ test s)
+      → (ss : List Session) → filter test (map (moved n) ss) ≡ map (moved n) (filter test ss)
   pub put : (n : ℕ) (t : Session) (ss : List Session) → put (moved n t) (map (moved n) ss) ≡ map (moved n) (put t ss)
   pub rises : (n : ℕ) (ss : List Session) → Rises (map (moved n) ss) ↔ Rises ss
   pub sound : (config : Config) (n : ℕ) (ss : List Session) → AreSound config (map (moved n) ss) ↔ AreSound config ss

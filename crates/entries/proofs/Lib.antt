@@ -1,0 +1,9 @@
+pub mod Again
+pub mod Changing
+pub mod Needed
+pub mod Over
+pub mod Pinned
+pub mod Slots
+pub mod Stilled
+pub mod Tables
+pub mod Whole

@@ -1,0 +1,96 @@
+-- What entries promise.
+use Rattle.std.specs.Prelude.{◌≡◌, ◌≢◌, ◌↔◌, ℕ, List, [], Option, Some, None, slice_index, slice_index_or, ◌<◌, length, IsSomeAnd, true, false, bit_or, IsTrue}
+use Rattle.std.specs.List.{Contains}
+use Rattle.packet.specs.Config.{Config, is_config}
+use Rattle.packet.specs.declared.endpoint.Flags.{Flags}
+use Rattle.sessions.specs.Life.{restarts, shown}
+use Rattle.sessions.specs.Listing.{In, listing, put, same_flow}
+use Rattle.sessions.specs.Table.{AnyClash, IsSound as IsSoundTable}
+use Rattle.sessions.specs.declared.session.Opener.{Opener}
+use Rattle.sessions.specs.declared.session.Session.{Session}
+use Rattle.hairpin.specs.Legs.{passed_by}
+use Rattle.sessions.specs.Sound.{AreSound}
+use Rattle.sessions.specs.Stilled.{AreStilled, stilled}
+use Rattle.machine.specs.Flows.{IsDue}
+use Rattle.machine.specs.Judged.{Judged, AreJudged, IsJudged}
+use Rattle.machine.specs.Machine.{State, after, step}
+use Rattle.machine.specs.Sound.{IsSound}
+use Rattle.machine.specs.declared.event.Event.{Event}
+use Rattle.durable.specs.Coding.{Begin, Entry, Restart, Seen}
+use Rattle.durable.specs.Entering.{Durable, Enters, IsDurable, flow_of}
+use Rattle.entries.specs.Noted.{AreEntriesOf, AreEntriesOfAll, AreOver, HasEntry, Restarted, between, lasting, noted, sessions_at}
+
+-- the entries of an event do to what must survive what its step does to the state
+abbrev pub EntriesAreTheStep : Type 0
+EntriesAreTheStep =
+    (config : Config) (s : State) (event : Event) (judged : Judged) (entries : List Entry)
+    → IsTrue (is_config config) → IsSound config s → IsJudged config event judged → AreEntriesOf config s judged entries
+    → Enters config entries (lasting s) (lasting (step config s judged).0)
+
+-- so do those of a run, in turn
+abbrev pub RunsAreEntered : Type 0
+RunsAreEntered =
+    (config : Config) (s : State) (events : List Event) (judged : List Judged) (entries : List Entry)
+    → IsTrue (is_config config) → IsSound config s → AreJudged config events judged → AreEntriesOfAll config s judged entries
+    → Enters config entries (lasting s) (lasting (after config s judged))
+
+-- an event has no entries exactly where none is needed
+abbrev pub EntriesAreNeeded : Type 0
+EntriesAreNeeded =
+    (config : Config) (s : State) (event : Event) (judged : Judged) (entries : List Entry)
+    → IsTrue (is_config config) → IsSound config s → IsJudged config event judged → AreEntriesOf config s judged entries
+    → (entries ≡ []) ↔ ¬ HasEntry config s judged
+
+-- every event has entries
+abbrev pub EntriesAreThere : Type 0
+EntriesAreThere = (config : Config) (s : State) (judged : Judged) → IsSound config s → (entries : List Entry) × AreEntriesOf config s judged entries
+
+-- The entry of a packet of a session that is held: a restart where a SYN alone begins a closing session anew, else what
+-- was seen where a bit of it is new, else none.
+pub record ArePinned (sessions : List Session) (s : Session) (sender : Opener) (flags : Flags) (now : ℕ) : Type 0 where
+  pub anew : restarts s flags ≡ true → noted sessions (passed_by s sender flags now) ≡ Some (Restart (flow_of s) sender 0)
+  pub nothing : restarts s flags ≡ false → bit_or s.seen (shown s.proto s.opener sender flags) ≡ s.seen
+      → noted sessions (passed_by s sender flags now) ≡ None
+  pub seen : restarts s flags ≡ false → bit_or s.seen (shown s.proto s.opener sender flags) ≢ s.seen
+      → noted sessions (passed_by s sender flags now) ≡ Some (Seen (flow_of s) (bit_or s.seen (shown s.proto s.opener sender flags)))
+
+abbrev pub EntriesArePinned : Type 0
+EntriesArePinned =
+    (config : Config) (sessions : List Session) (s : Session) (sender : Opener) (flags : Flags) (now : ℕ)
+    → AreSound config sessions → In s sessions → ArePinned sessions s sender flags now
+
+-- A table tells the entry of a session that takes its place there: by the session of its flow that a slot holds, or it
+-- begins, where it clashes with none.
+pub record TellsEntries (held : List (Option Session)) : Type 0 where
+  pub goes_on : (slot : ℕ) (s t : Session) → slice_index_or held slot None ≡ Some s → same_flow t s ≡ true
+      → noted (listing held) t ≡ between s t
+  pub begins : (t : Session) → ¬ AnyClash held t → noted (listing held) t ≡ Some (Begin (stilled t))
+
+abbrev pub TablesTellEntries : Type 0
+TablesTellEntries = (held : List (Option Session)) → IsSoundTable held → TellsEntries held
+
+-- a session of another flow makes no difference to an entry
+abbrev pub FlowsAreNotedApart : Type 0
+FlowsAreNotedApart = (sessions : List Session) (t u : Session) → same_flow u t ≡ false → noted (put t sessions) u ≡ noted sessions u
+
+-- the slots whose sessions are due, each once, hold the sessions that end
+abbrev pub DueSlotsAreOver : Type 0
+DueSlotsAreOver =
+    (held : List (Option Session)) (now : ℕ) (slots : List ℕ) → IsSoundTable held
+    → ((slot : ℕ) → Contains slots slot ↔ IsSomeAnd (slice_index_or held slot None) (IsDue now))
+    → ((i j : ℕ) → i < j → j < length slots → slice_index slots i ≢ slice_index slots j)
+    → AreOver now (listing held) (sessions_at held slots)
+
+-- what must survive of a sound state is what a gateway may have, without moments
+abbrev pub LastingIsSound : Type 0
+LastingIsSound = (config : Config) (s : State) → IsSound config s → IsDurable config (lasting s) × AreStilled (lasting s).sessions
+
+-- from whatever a gateway may have a state can be begun again
+abbrev pub RestartsAreThere : Type 0
+RestartsAreThere = (config : Config) (d : Durable) (moment : ℕ) → IsDurable config d → (s : State) × Restarted config d moment s
+
+-- a state that is begun again is sound, and just what it was begun from must survive of it
+abbrev pub RestartsAreSound : Type 0
+RestartsAreSound =
+    (config : Config) (d : Durable) (moment : ℕ) (s : State) → IsDurable config d → AreStilled d.sessions
+    → Restarted config d moment s → IsSound config s × (lasting s ≡ d)

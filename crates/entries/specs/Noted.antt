@@ -1,0 +1,145 @@
+-- The entries of an event.
+use Rattle.std.specs.Prelude.{◌≡◌, ◌≢◌, ◌⊎◌, ℕ, List, [], ◌∷◌, ◌++◌, Option, Some, None, Result, Ok, Err, Bool, false, ◌&&◌, ◌==◌, nat_lt, if◌then◌else◌, map, slice_index_or}
+use Rattle.packet.specs.Config.{Config}
+use Rattle.packet.specs.Fields.{fields}
+use Rattle.packet.specs.Route.{route}
+use Rattle.packet.specs.declared.endpoint.Iface.{Iface}
+use Rattle.packet.specs.declared.fault.Fault.{Fault}
+use Rattle.packet.specs.declared.route.Route.{Route}
+use Rattle.packet.specs.declared.route.RouteFault.{RouteFault}
+use Rattle.packet.specs.declared.view.View.{View}
+use Rattle.rulesyntax.specs.declared.tree.Spelled.{Spelled}
+use Rattle.sessions.specs.Life.{alive, same_side}
+use Rattle.sessions.specs.Listing.{In, find, put, same_flow}
+use Rattle.sessions.specs.Stilled.{moved, stilled}
+use Rattle.sessions.specs.declared.session.Session.{Session}
+use Rattle.hairpin.specs.Legs.{Passage}
+use Rattle.hairpin.specs.declared.cause.Cause.{Cause}
+use Rattle.machine.specs.Judged.{Judged}
+use Rattle.machine.specs.Machine.{State, aged, later, leg, step}
+use Rattle.machine.specs.Sound.{IsInForce}
+use Rattle.machine.specs.declared.deed.Deed.{Deed}
+use Rattle.machine.specs.declared.deed.Deed.TheVariants as deed
+use Rattle.durable.specs.Coding.{Entry, Load, Begin, Seen, Restart, End}
+use Rattle.durable.specs.Entering.{Durable, durable, flow_of}
+
+-- what must survive of a state
+abbrev pub lasting : State → Durable
+lasting s = durable s.text (map stilled s.sessions)
+
+-- ---- sessions that end
+
+abbrev pub AreDistinct : List Session → Type 0
+AreDistinct [] = Unit {0}
+AreDistinct (s ∷ ss) = ¬ In s ss × AreDistinct ss
+
+-- these are the sessions that are alive no longer, each once, in any order
+pub record AreOver (now : ℕ) (sessions gone : List Session) : Type 0 where
+  pub distinct : AreDistinct gone
+  pub over : (t : Session) → In t gone → In t sessions × (alive now t ≡ false)
+  pub all : (t : Session) → In t sessions → alive now t ≡ false → In t gone
+
+abbrev pub ends : List Session → List Entry
+ends [] = []
+ends (t ∷ ts) = End (flow_of t) ∷ ends ts
+
+-- the sessions that these slots hold
+abbrev pub with_it : Option Session → List Session → List Session
+with_it None ss = ss
+with_it (Some s) ss = s ∷ ss
+
+abbrev pub sessions_at : List (Option Session) → List ℕ → List Session
+sessions_at held [] = []
+sessions_at held (slot ∷ slots) = with_it (slice_index_or held slot None) (sessions_at held slots)
+
+-- ---- sessions that a packet changes
+
+-- two sessions of one flow and one outside endpoint differ at most in their moments
+abbrev pub is_same : Session → Session → Bool
+is_same s t = same_side s.opener t.opener && s.seen == t.seen
+
+-- the session goes on, and has seen something
+abbrev pub goes_on : Session → Session → Bool
+goes_on s t = same_side s.opener t.opener && nat_lt 0 t.seen
+
+-- what makes the one session the other: more that was seen, or a beginning anew
+abbrev pub change_to : Session → Session → Entry
+change_to s t = if goes_on s t then Seen (flow_of t) t.seen else Restart (flow_of t) t.opener t.seen
+
+-- the entry that makes the one session the other, if one is needed
+abbrev pub between : Session → Session → Option Entry
+between s t = if is_same s t then None else Some (change_to s t)
+
+abbrev pub noted_by : Option Session → Session → Option Entry
+noted_by None t = Some (Begin (stilled t))
+noted_by (Some s) t = between s t
+
+-- the entry by which a session takes its place among these, if one is needed
+abbrev pub noted : List Session → Session → Option Entry
+noted sessions t = noted_by (find (same_flow t) sessions) t
+
+abbrev pub with_entry : Option Entry → List Entry → List Entry
+with_entry None entries = entries
+with_entry (Some e) entries = e ∷ entries
+
+-- and the entries by which several do, in turn
+abbrev pub noted_all : List Session → List Session → List Entry
+noted_all [] sessions = []
+noted_all (t ∷ ts) sessions = with_entry (noted sessions t) (noted_all ts (put t sessions))
+
+-- ---- what is done
+
+abbrev pub of_way : State → Result Passage Cause → List Entry
+of_way s (Err why) = []
+of_way s (Ok passage) = noted_all passage.sessions s.sessions
+
+abbrev pub of_route : Config → State → View → Result Route RouteFault → List Entry
+of_route config s view (Err fault) = []
+of_route config s view (Ok r) = of_way s (leg config s view r)
+
+abbrev pub of_fields : Config → State → Iface → Result View Fault → List Entry
+of_fields config s iface (Err fault) = []
+of_fields config s iface (Ok view) = of_route config s view (route config iface view)
+
+-- the entries of what is done at the clock's moment
+abbrev pub of_deed : Config → State → Deed → List Entry
+of_deed config s (deed.Take text rules) = Load text ∷ []
+of_deed config s (deed.Refuse text) = []
+of_deed config s (deed.Packet iface bytes) = of_fields config s iface (fields bytes)
+of_deed config s deed.Moment = []
+
+-- these are the entries of an event in a state
+pub record AreEntriesOf (config : Config) (s : State) (judged : Judged) (entries : List Entry) : Type 0 where
+  pub gone : List Session
+  pub are_over : AreOver (later s.clock judged.moment) s.sessions gone
+  pub are : entries ≡ ends gone ++ of_deed config (aged (later s.clock judged.moment) s) judged.deed
+
+-- these are those of a run of events, in turn
+abbrev pub AreEntriesOfAll : Config → State → List Judged → List Entry → Type 0
+AreEntriesOfAll config s [] entries = entries ≡ []
+AreEntriesOfAll config s (judged ∷ more) entries =
+    (now later : List Entry) × AreEntriesOf config s judged now
+    × AreEntriesOfAll config (step config s judged).0 more later × (entries ≡ now ++ later)
+
+-- ---- whether an event has an entry
+
+abbrev pub EndsSome : ℕ → State → Type 0
+EndsSome now s = (t : Session) × In t s.sessions × (alive now t ≡ false)
+
+abbrev pub TakesText : Deed → Type 0
+TakesText d = (text : List ℕ) × (rules : Spelled) × (d ≡ deed.Take text rules)
+
+-- some session ends, or a text is taken, or what is done changes what must survive
+abbrev pub HasEntry : Config → State → Judged → Type 0
+HasEntry config s judged =
+    let now = later s.clock judged.moment in
+    EndsSome now s ⊎ TakesText judged.deed ⊎ (lasting (step config s judged).0 ≢ lasting (aged now s))
+
+-- ---- a state that is begun again from what survived
+
+-- every session's last packet passed at this moment, which is the clock's, and the rules are those of the text
+pub record Restarted (config : Config) (d : Durable) (moment : ℕ) (s : State) : Type 0 where
+  pub sessions : s.sessions ≡ map (moved moment) d.sessions
+  pub text : s.text ≡ d.text
+  pub clock : s.clock ≡ moment
+  pub rules : IsInForce config s.text s.rules
