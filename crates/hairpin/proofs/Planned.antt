@@ -29,7 +29,7 @@ use Rattle.verdict.specs.declared.facts.State.TheVariants.{New}
 use Rattle.verdict.specs.declared.hook.Forwarding.{Forwarding}
 use Rattle.verdict.specs.declared.hook.Forwarding.TheVariants as forwarding
 use Rattle.hairpin.specs.Legs.{Passage, begun_second, counted, facts_of, first_by, first_state, forwarded, inside_by_rules, inside_far, is_taken, maps_inside, maps_outside, needs_session, new_session, or_no_port, outside_near, passed_by, second, second_by, then_with, through, unless_dropped}
-use Rattle.hairpin.specs.Plans.{Gives, GivesThen, IsOf, Plans}
+use Rattle.hairpin.specs.Plans.{Gives, GivesThen, IsApart, IsOf, Plans}
 use Rattle.sessions.specs.Sound.{AreSound}
 use Rattle.hairpin.specs.Tallies.{tally}
 use Rattle.hairpin.specs.Translations.{IsOutside, endpoint}
@@ -204,6 +204,19 @@ second-gives config rules held now view first t change before (Some h) at port a
     let other = not_of config.external held now before first gives h.slot h.session slot (λ e. away (sym e ∙ outside)) in
     subst (Gives config.external later now change) (f.goes h.session refl) (goes config.external later now (became.kept h.slot h.session slot other))
 
+second-apart : (config : Config) (rules : Spelled) (held : List (Option Session)) (now : ℕ) (view : View) (first t : Session) (change before : Change) (b : Option Held)
+    → first.outside ≢ view.dst
+    → option_map (λ (h : Held). h.session) b ≡ find (has_outside view.proto view.dst first.outside) (listing held)
+    → IfSome b (λ h. get_or held h.slot None ≡ Some h.session)
+    → IfSome b (λ h. (slot : ℕ) → IsOf change slot → slot ≡ h.slot)
+    → IfNone b (change ≡ Begin t) → Gives config.external held now before first → IsApart held before change
+second-apart config rules held now view first t change before None away found slot own begins gives k of = absurd (subst (λ c. IsOf c k) begins of)
+second-apart config rules held now view first t change before (Some h) away found slot own begins gives k of =
+    let is = find-In (has_outside view.proto view.dst first.outside) (listing held) h.session (sym found) in
+    let outside = (has_outside-true view.proto view.dst first.outside h.session is.1).1 in
+    let at : get_or held k None ≡ Some h.session = subst (λ j. get_or held j None ≡ Some h.session) (sym (own k of)) slot in
+    (not_of config.external held now before first gives k h.session at (λ e. away (sym e ∙ outside)), h.session, at)
+
 -- ---- the way behind the first session
 
 news-is : (b : Option Held) → option_map_or (λ (h : Held). 0) b 1 ≡ fresh (option_map (λ (h : Held). h.session) b)
@@ -276,7 +289,8 @@ module _ (config : Config) (rules : Spelled) (held : List (Option Session)) (now
 
         module _ (change1 change2 : Change) (slot1 : IfSome b1 (λ h. get_or held h.slot None ≡ Some h.session)) (slot2 : IfSome b2 (λ h. get_or held h.slot None ≡ Some h.session))
             (goes1 : IfSome b1 (GivesHeld change1 (λ s now. passed_by s Inside view.flags now))) (begins1 : IfNone b1 (change1 ≡ Begin first))
-            (goes2 : IfSome b2 (GivesHeld change2 (λ s now. passed_by s Remote view.flags now))) (begins2 : IfNone b2 (change2 ≡ Begin t)) where
+            (goes2 : IfSome b2 (GivesHeld change2 (λ s now. passed_by s Remote view.flags now))) (own2 : IfSome b2 (λ h. (slot : ℕ) → IsOf change2 slot → slot ≡ h.slot))
+            (begins2 : IfNone b2 (change2 ≡ Begin t)) where
           pub plans : count_by is_some held + option_map_or (λ (h : Held). 0) b1 1 + option_map_or (λ (h : Held). 0) b2 1 ≤ 65536
               → Plans config.external held now (Ok (record { first = change1; second = Some change2; src = first.outside; dst = t.inside; iface = Lan })) way
           plans few =
@@ -284,7 +298,8 @@ module _ (config : Config) (rules : Spelled) (held : List (Option Session)) (now
               let less : length (put first L) ≤ 65536 = omega (arith, most, is-second.many) in
               let gives = first-gives config held now view first change1 b1 (subst (λ o. IsFirst config L view now o first) (sym e1) is-first) slot1 goes1 begins1 less in
               let gives2 = second-gives config rules held now view first t change2 change1 b2 at ports.1 away e2 is-second slot2 goes2 begins2 most gives in
+              let apart = second-apart config rules held now view first t change2 change1 b2 away e2 slot2 own2 begins2 gives in
               behind (Ok (record { first = change1; second = Some change2; src = first.outside; dst = t.inside; iface = Lan })) forwarding.Pass passes
               (subst (λ b. Plans config.external held now (Ok (record { first = change1; second = Some change2; src = first.outside; dst = t.inside; iface = Lan })) (if b then Err TableFull else Ok (through first t)))
               (sym (le-ltb 65536 (length (put t (put first L))) most))
-              (record { sessions = (first, t, gives, gives2, refl); src = refl; dst = refl; iface = refl }))
+              (record { sessions = (first, t, gives, apart, gives2, refl); src = refl; dst = refl; iface = refl }))

@@ -43,11 +43,16 @@ module _ (external : ℕ) (held : List (Option Session)) (now : ℕ) where
 abbrev pub GivesThen : ℕ → List (Option Session) → ℕ → Change → Session → Change → Session → Type 0
 GivesThen external held now first t second u = (later : List (Option Session)) → Became held first t later → Gives external later now second u
 
+-- a second change that begins no session is of one that is held already, and that the first change leaves alone
+abbrev pub IsApart : List (Option Session) → Change → Change → Type 0
+IsApart held first second = (slot : ℕ) → IsOf second slot → (¬ IsOf first slot) × (s : Session) × (slice_index_or held slot None ≡ Some s)
+
 module _ (external : ℕ) (held : List (Option Session)) (now : ℕ) where
   -- the changes give these sessions, in turn
   abbrev pub GiveAll : Change → Option Change → List Session → Type 0
   GiveAll first None sessions = (t : Session) × Gives external held now first t × (sessions ≡ t ∷ [])
-  GiveAll first (Some second) sessions = (t : Session) × (u : Session) × Gives external held now first t × GivesThen external held now first t second u × (sessions ≡ t ∷ u ∷ [])
+  GiveAll first (Some second) sessions =
+      (t : Session) × (u : Session) × Gives external held now first t × IsApart held first second × GivesThen external held now first t second u × (sessions ≡ t ∷ u ∷ [])
 
   -- the plan is the way on which the packet passes
   pub record IsPlanOf (plan : Plan) (passage : Passage) : Type 0 where

@@ -10,7 +10,7 @@ ghost use Rattle.sessions.specs.Table.{at, count};
 ghost use Rattle.sessions.specs.declared.session.Session.{Session as Flow};
 ghost use Rattle.verdict.specs.Hooks.{forward_verdict};
 ghost use Rattle.hairpin.specs.Legs.{begun_second as begun_far, counted, first_by, first_state, forwarded, hairpin as hairpin_way, inside_far as far_inside, maps_inside, maps_outside, or_no_mapping, outside_near as near_outside, passed_by, second as second_way, second_by, then_with, through};
-ghost use Rattle.hairpin.specs.Plans.{Gives, Plans};
+ghost use Rattle.hairpin.specs.Plans.{Gives, IsOf, Plans};
 ghost use Rattle.hairpin.specs.Sound.{KeepBounds};
 ghost use Rattle.sessions.specs.Sound.{AreSound};
 ghost use Rattle.hairpin.specs.Tallies.{AreOf, tally};
@@ -109,6 +109,7 @@ fn state_of_first(before: &Option<Held>, view: &View) -> State
 fn change_of_leg(leg: &Leg, sender: Opener, flags: Flags) -> Change
     ensures held { IfSome leg.now.before (λ h. (external : ℕ) (places : List (Maybe Flow)) (now : ℕ) → slice_index_or places h.slot None ≡ Some h.session
         → Gives external places now result (passed_by h.session sender flags now)) }
+    ensures slot { IfSome leg.now.before (λ h. (slot : ℕ) → IsOf result slot → slot ≡ h.slot) }
     ensures new { IfNone leg.now.before (result ≡ Change.Begin leg.now.session) }
 {
     match &leg.before {

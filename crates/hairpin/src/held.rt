@@ -5,7 +5,7 @@ ghost use Rattle.sessions.specs.Listing.{find, has_inside, has_outside, listing}
 ghost use Rattle.sessions.specs.Table.{at};
 ghost use Rattle.sessions.specs.declared.session.Session.{Session as Flow};
 ghost use Rattle.hairpin.specs.Legs.{needs_session as has_need, passed_by, state_of as state_by};
-ghost use Rattle.hairpin.specs.Plans.{Gives};
+ghost use Rattle.hairpin.specs.Plans.{Gives, IsOf};
 ghost use Rattle.hairpin.specs.declared.held.Held.{Held as Known};
 
 use packet::endpoint::{Endpoint, Flags, Iface, Proto};
@@ -80,8 +80,9 @@ pub fn state_of(session: &Session, sender: Opener, flags: Flags) -> State
 
 /// What a packet from this side changes of the session that the slot holds.
 pub fn change_of(held: &Held, sender: Opener, flags: Flags) -> Change
-    ensures { (external : ℕ) (places : List (Maybe Flow)) (now : ℕ) → slice_index_or places held.now.slot None ≡ Some held.now.session
+    ensures gives { (external : ℕ) (places : List (Maybe Flow)) (now : ℕ) → slice_index_or places held.now.slot None ≡ Some held.now.session
         → Gives external places now result (passed_by held.now.session sender flags now) }
+    ensures slot { (slot : ℕ) → IsOf result slot → slot ≡ held.now.slot }
 {
     if held.session.restarts(flags) {
         Change::Restart(held.slot, sender)

@@ -1,7 +1,7 @@
 -- What is held once a change is made.
-use Rattle.std.proofs.Common.{◌≡◌, ◌≢◌, ℕ, ◌+◌, ◌<◌, List, [], ◌∷◌, ◌++◌, length, ◌-◌, get_or, set, Option, Some, None, refl, sym, ap, ◌∙◌, subst, inl, inr, arith}
+use Rattle.std.proofs.Common.{◌≡◌, ◌≢◌, ℕ, ◌+◌, ◌<◌, List, [], ◌∷◌, ◌++◌, length, get_or, set, Option, Some, None, sym, ap, ◌∙◌, subst, inl, inr, arith}
 use Rattle.std.proofs.lemmas.Bool.{cases_eq, cases_lt}
-use Rattle.std.proofs.lemmas.List.{get_or_append_left, get_or-append_right, get_or-set_same, get_or-set_other, get_or_past}
+use Rattle.std.proofs.lemmas.List.{get_or-set_same, get_or-set_other, get_or_past}
 use Rattle.std.proofs.Math.Seq.{get_or-append_seam}
 use Rattle.std.proofs.lemmas.Option.{none-some, same_Some}
 use Rattle.sessions.specs.Listing.{key, listing, put}
@@ -128,10 +128,10 @@ plan-adds external held now first (Some second) ts apart all =
     let t = all.0 in
     let u = all.1 in
     let leads = change-leads external held now first t apart all.2 in
-    let gives = all.3 leads.later leads.became in
+    let gives = all.4 leads.later leads.became in
     let count = change-adds external held now first t apart all.2 in
     let more = change-adds external leads.later now second u leads.apart gives in
     let there = ap (λ (xs : List Session). length (put u xs)) leads.became.listing in
     let here = ap (λ (xs : List Session). length xs) leads.became.listing in
-    let same = ap (λ (us : List Session). length (put_all us (listing held))) all.4 in
+    let same = ap (λ (us : List Session). length (put_all us (listing held))) all.5 in
     omega (arith, count, more, there, here, same)

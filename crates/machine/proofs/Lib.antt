@@ -1,10 +1,14 @@
 pub mod Changed
+pub mod Costs
 pub mod Expiry
 pub mod Judging
 pub mod Lasting
 pub mod Later
 pub mod Passing
 pub mod Reading
+pub mod Slots
 pub mod Soundness
+pub mod Stepping
 pub mod Steps
+pub mod Telling
 pub mod Updated

@@ -1,5 +1,5 @@
 -- What becomes of packets of living sessions and mappings.
-use Rattle.std.proofs.Common.{◌≡◌, ◌≢◌, ℕ, ◌+◌, ◌≤◌, List, [], ◌∷◌, length, Option, Some, None, Result, Ok, Err, true, false, not, nat_lt, if◌then◌else◌, refl, sym, ap, ◌∙◌, subst, inl, inr, arith}
+use Rattle.std.proofs.Common.{◌≡◌, ℕ, List, [], ◌∷◌, length, Some, Result, Ok, Err, true, false, not, nat_lt, if◌then◌else◌, refl, sym, ap, ◌∙◌, subst, inl, inr, arith}
 use Rattle.std.specs.List.{filter}
 use Rattle.std.proofs.lemmas.Bool.{cases_Bool, le-ltb, lt-ltb, ltb-true}
 use Rattle.packet.specs.Config.{Config}
@@ -16,10 +16,9 @@ use Rattle.packet.specs.declared.route.Route.TheVariants.{Out}
 use Rattle.packet.specs.declared.route.Route.TheVariants.{In as InRoute}
 use Rattle.packet.specs.declared.route.RouteFault.{RouteFault}
 use Rattle.packet.specs.declared.view.View.{View}
-use Rattle.rulesyntax.specs.declared.tree.Spelled.{Spelled}
 use Rattle.sessions.specs.Laws.{IsMapping}
 use Rattle.sessions.specs.Life.{IsAlive, alive, restarts, shown}
-use Rattle.sessions.specs.Listing.{In, Rises, below, find, has_inside, has_outside, insert, key, put, same_flow}
+use Rattle.sessions.specs.Listing.{In, Rises, below, find, has_inside, has_outside, key, put, same_flow}
 use Rattle.sessions.specs.Table.{HasInside, HasOutside, restarted, seen}
 use Rattle.sessions.specs.declared.session.Opener.TheVariants.{Inside, Remote}
 use Rattle.sessions.specs.declared.session.Session.{Session}
@@ -27,7 +26,6 @@ use Rattle.sessions.proofs.Found.{has_outside-true, has_outside-from}
 use Rattle.sessions.proofs.Puts.{find-is, find-none, find-some, has_inside-from, has_inside-true, keys-from, length-insert}
 use Rattle.sessions.proofs.Sets.{In-filter, below-itself, below-keys, filter-In}
 use Rattle.verdict.specs.Hooks.{forward_verdict}
-use Rattle.verdict.specs.declared.facts.State.{State as Connection}
 use Rattle.verdict.specs.declared.facts.State.TheVariants.{New}
 use Rattle.hairpin.specs.Legs.{Passage, begun_out, counted, in_by, inward, maps_inside, needs_session, new_session, out_by, outside_for, outward, passed_by, put_all, state_of, then_with, unless_dropped}
 use Rattle.hairpin.specs.declared.cause.Cause.{Cause}

@@ -1,5 +1,5 @@
 -- A step keeps a state sound.
-use Rattle.std.proofs.Common.{◌≡◌, ◌⊎◌, ℕ, ◌<◌, ◌≤◌, List, [], ◌∷◌, Result, Ok, Err, Bool, true, false, cond, nat_le, not, ◌||◌, refl, sym, ap, ◌∙◌, subst, inl, inr, arith}
+use Rattle.std.proofs.Common.{◌≡◌, ◌⊎◌, ℕ, ◌≤◌, List, [], ◌∷◌, Result, Ok, Err, true, cond, nat_le, not, ◌||◌, refl, sym, subst, inl, inr, arith}
 use Rattle.std.specs.List.{filter}
 use Rattle.std.proofs.lemmas.Bool.{cases_Bool, leb-true, or_cases}
 use Rattle.std.proofs.lemmas.Bool.Decides.{nat_tests}
@@ -8,7 +8,6 @@ use Rattle.packet.specs.Fields.{fields}
 use Rattle.packet.specs.Numbers.{fault_number, route_fault_number}
 use Rattle.packet.specs.Route.{route}
 use Rattle.packet.specs.Translated.{translated}
-use Rattle.packet.specs.declared.endpoint.Endpoint.{Endpoint}
 use Rattle.packet.specs.declared.endpoint.Iface.{Iface}
 use Rattle.packet.specs.declared.fault.Fault.{Fault}
 use Rattle.packet.specs.declared.route.Route.{Route}
@@ -17,21 +16,15 @@ use Rattle.packet.specs.declared.route.RouteFault.{RouteFault}
 use Rattle.packet.specs.declared.view.View.{View}
 use Rattle.packet.proofs.Routes.{routed_is_on_route}
 use Rattle.rulesyntax.specs.declared.tree.Spelled.{Spelled}
-use Rattle.ruletext.specs.Texts.{Loads}
 use Rattle.sessions.specs.Life.{alive}
 use Rattle.sessions.specs.Listing.{put, same_flow}
 use Rattle.sessions.specs.Listing.{In as Member}
 use Rattle.sessions.specs.declared.session.Session.{Session}
 use Rattle.sessions.proofs.Sets.{In-filter, In-insert}
-use Rattle.verdict.specs.Hooks.{hook_outcome, prerouting_verdict, postrouting_verdict}
-use Rattle.verdict.specs.declared.facts.Facts.{Facts}
-use Rattle.verdict.specs.declared.hook.Destination.TheVariants as destinations
-use Rattle.verdict.specs.declared.hook.Source.TheVariants as sources
 use Rattle.verdict.proofs.Bounded.{source_external, destination_inside, port_above_zero}
 use Rattle.hairpin.specs.Causes.{number}
-use Rattle.hairpin.specs.Legs.{Passage, hairpin, in_leg, out_leg, put_all}
+use Rattle.hairpin.specs.Legs.{Passage, put_all}
 use Rattle.hairpin.specs.Sound.{KeepBounds}
-use Rattle.sessions.specs.Sound.{AreSound}
 use Rattle.hairpin.specs.declared.cause.Cause.{Cause}
 use Rattle.hairpin.proofs.Beginning.{none-from, none-to}
 use Rattle.hairpin.proofs.Doubling.{fine-hairpin}
@@ -39,7 +32,7 @@ use Rattle.hairpin.proofs.Incoming.{fine-in}
 use Rattle.hairpin.proofs.Opening.{fine-out}
 use Rattle.hairpin.proofs.Soundness.{JoinAll, IsFine, filter-sound}
 use Rattle.machine.specs.Judged.{Judged, AreJudged, IsRight}
-use Rattle.machine.specs.Machine.{State, step, act, with_fields, on_route, leg, no_tables, sent, aged, later, after, empty_at}
+use Rattle.machine.specs.Machine.{State, step, act, with_fields, on_route, leg, sent, aged, later, after, empty_at}
 use Rattle.machine.specs.Sound.{IsInForce, IsSound}
 use Rattle.machine.specs.declared.deed.Deed.{Deed}
 use Rattle.machine.specs.declared.deed.Deed.TheVariants as deed

@@ -1,7 +1,6 @@
 -- What is done at the sessions that are held is what the machine does.
-use Rattle.std.proofs.Common.{◌≡◌, ℕ, ◌+◌, ◌≤◌, List, [], ◌∷◌, suc, get_or, Option, Some, None, Result, Ok, Err, refl, sym, ap, ◌∙◌, subst, arith}
+use Rattle.std.proofs.Common.{◌≡◌, ℕ, ◌+◌, ◌≤◌, List, [], get_or, Option, None, Result, Ok, Err, sym, ap, ◌∙◌, subst, arith}
 use Rattle.std.specs.List.{filter}
-use Rattle.std.proofs.lemmas.Option.{none-some}
 use Rattle.packet.specs.Config.{Config}
 use Rattle.packet.specs.Fields.{fields}
 use Rattle.packet.specs.Route.{route}

@@ -3,4 +3,6 @@ pub mod Flows
 pub mod Judged
 pub mod Laws
 pub mod Machine
+pub mod Noted
+pub mod Notes
 pub mod Sound

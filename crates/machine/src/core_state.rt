@@ -1,6 +1,6 @@
 //! `Core`: all the state of a gateway (the text in force and its rules, the sessions, the clock), and the step
 //! that an event does to it. It gives no numbers and holds nothing: that is for the crates above.
-ghost use Rattle.std.specs.Prelude.{◌≡◌, ◌<◌, ◌≤◌, ℕ, List, Ok, Err, Result as Outcome, IsTrue, IfOk, IfErr, IsOk, IsOkAnd, OnErr};
+ghost use Rattle.std.specs.Prelude.{◌≡◌, ◌↔◌, ◌<◌, ◌≤◌, ◌+◌, ◌*◌, ◌++◌, ◌∷◌, [], ℕ, List, length, IsErrOf, OnOk, Ok, Err, Result as Outcome, IsTrue, IfOk, IfErr, IsOk, IsOkAnd, OnErr};
 ghost use Rattle.packet.specs.Fields.{fields};
 ghost use Rattle.packet.specs.Route.{route as route_for};
 ghost use Rattle.packet.specs.Translated.{translated};
@@ -14,6 +14,10 @@ ghost use Rattle.hairpin.specs.declared.cause.Cause.{Cause as Reason};
 ghost use Rattle.machine.specs.Core.{Leads, LeadsFew, state_of};
 ghost use Rattle.machine.specs.Judged.{Judged, IsJudged, IsNoLoad, bringer};
 ghost use Rattle.machine.specs.Machine.{AddsNone, EndsNone, act, aged, empty_at, later, leg, on_route, pass, sent, step};
+ghost use Rattle.durable.specs.Coding.{Entry as Noted, Load};
+ghost use Rattle.machine.specs.Noted.{AreEntriesOf, AreOver, ends, of_deed, of_fields, of_way};
+ghost use Rattle.machine.specs.Notes.{most_bytes};
+ghost use Rattle.sessions.specs.declared.session.Session.{Session as Flow};
 ghost use Rattle.machine.specs.Sound.{IsInForce, IsSound};
 ghost use Rattle.machine.specs.Flows.{IsLatest, IsReady};
 ghost use Rattle.machine.specs.declared.event.Answer.TheVariants.{Dropped};
@@ -22,6 +26,8 @@ use crate::bytes::Bytes;
 use crate::deed::{Deed, judge};
 use crate::event::{Answer, Event, NoMemory, What};
 use crate::flows::Flows;
+use crate::notes::{Notes, StepFault, Unkept};
+use durable::Entry;
 use hairpin::{Cause, Plan, both, in_leg, out_leg};
 use packet::bounds::Bounds;
 use packet::endpoint::{Endpoint, Iface};
@@ -83,16 +89,18 @@ fn translate(bytes: Bytes, src: Endpoint, dst: Endpoint) -> Bytes
 }
 
 // What a plan comes to; `ready` says that there is room already.
-fn put_through(
+fn put_through<N: Notes>(
     flows: &mut Flows,
     ready: bool,
     plan: Result<Plan, Cause>,
     bytes: Bytes,
     now: u64,
-) -> Result<Answer, (Bytes, NoMemory)>
+    notes: &mut N,
+) -> Result<Answer, (Bytes, StepFault)>
     requires read { IsOkAnd (fields bytes) (λ view. 2 ≤ view.ttl) }
     requires latest { IsLatest flows.old.table.held now }
     requires ready { IsTrue ready → IsReady 2 flows.old }
+    requires room { IsTrue ready → N.keeps notes.old → 44 ≤ N.room notes.old }
     requires planned { (way : Outcome Passage Reason) × Plans flows.old.translations.external flows.old.table.held now plan way }
     ensures ok { IfOk result (λ answer. (way : Outcome Passage Reason) → Plans flows.old.translations.external flows.old.table.held now plan way
         → Leads (λ s. sent s bytes way) flows.old.table.held flows.new.table.held now answer) }
@@ -100,15 +108,22 @@ fn put_through(
     ensures external { flows.new.translations.external ≡ flows.old.translations.external }
     ensures ready { IsTrue ready → IsOk result }
     ensures adds_none { (way : Outcome Passage Reason) → Plans flows.old.translations.external flows.old.table.held now plan way
-        → LeadsFew (λ s. sent s bytes way) flows.old.table.held now → IsOk result }
+        → LeadsFew (λ s. sent s bytes way) flows.old.table.held now → N.grants notes.old → IsOk result }
+    ensures keeps { N.keeps notes.old ↔ N.keeps notes.new }
+    ensures noted { OnOk result ((way : Outcome Passage Reason) → Plans flows.old.translations.external flows.old.table.held now plan way
+        → N.keeps notes.old → N.noted notes.new ≡ N.noted notes.old ++ of_way (listing flows.old.table.held) way) }
+    ensures err_noted { OnErr result (N.noted notes.new ≡ N.noted notes.old) }
+    ensures full { IfErr result (λ e. e.1 ≡ StepFault.Full → N.too_many notes.old 44) }
+    ensures quiet { (way : Outcome Passage Reason) → Plans flows.old.translations.external flows.old.table.held now plan way
+        → of_way (listing flows.old.table.held) way ≡ [] → IsOk result }
 {
     match plan {
         Err(cause) => Ok(drop_for(cause)),
         Ok(plan) => {
             flows.table().is_sound();
-            match flows.carry_out(ready, &plan, now) {
+            match flows.carry_out(ready, &plan, now, notes) {
                 Ok(()) => Ok(Answer::Forward(plan.iface, translate(bytes, plan.src, plan.dst))),
-                Err(_) => Err((bytes, NoMemory)),
+                Err(fault) => Err((bytes, fault)),
             }
         }
     }
@@ -142,7 +157,7 @@ fn plan_for(
 }
 
 // What a packet comes to, at sessions that are alive.
-fn pass_on(
+fn pass_on<N: Notes>(
     flows: &mut Flows,
     in_force: &InForce,
     bounds: &Bounds,
@@ -150,19 +165,27 @@ fn pass_on(
     iface: Iface,
     bytes: Bytes,
     now: u64,
-) -> Result<Answer, (Bytes, NoMemory)>
+    notes: &mut N,
+) -> Result<Answer, (Bytes, StepFault)>
     requires external { flows.old.translations.external ≡ bounds.now.external }
     requires sound { AreSound bounds.now (listing flows.old.table.held) }
     requires in_force { IsInForce bounds.now in_force.now.text in_force.now.rules }
     requires latest { IsLatest flows.old.table.held now }
     requires ready { IsTrue ready → IsReady 2 flows.old }
+    requires room { IsTrue ready → N.keeps notes.old → 44 ≤ N.room notes.old }
     ensures ok { IfOk result (λ answer. pass bounds.now (state_of in_force.now.text in_force.now.rules flows.old.table.held now) iface bytes
         ≡ (state_of in_force.now.text in_force.now.rules flows.new.table.held now, answer)) }
     ensures err { IfErr result (λ e. (e.0 ≡ bytes) × (flows.new.table.held ≡ flows.old.table.held)) }
     ensures external { flows.new.translations.external ≡ flows.old.translations.external }
     ensures ready { IsTrue ready → IsOk result }
     ensures adds_none { let s = state_of in_force.now.text in_force.now.rules flows.old.table.held now in
-        AddsNone s (pass bounds.now s iface bytes) → IsOk result }
+        AddsNone s (pass bounds.now s iface bytes) → N.grants notes.old → IsOk result }
+    ensures keeps { N.keeps notes.old ↔ N.keeps notes.new }
+    ensures noted { OnOk result (N.keeps notes.old → N.noted notes.new ≡ N.noted notes.old
+        ++ of_fields bounds.now (state_of in_force.now.text in_force.now.rules flows.old.table.held now) iface (fields bytes)) }
+    ensures err_noted { OnErr result (N.noted notes.new ≡ N.noted notes.old) }
+    ensures full { IfErr result (λ e. e.1 ≡ StepFault.Full → N.too_many notes.old 44) }
+    ensures quiet { of_fields bounds.now (state_of in_force.now.text in_force.now.rules flows.old.table.held now) iface (fields bytes) ≡ [] → IsOk result }
 {
     bounds.facts();
     match View::read(bytes.as_slice()) {
@@ -171,26 +194,46 @@ fn pass_on(
             Err(fault) => Ok(drop_for(Cause::Route(fault))),
             Ok(route) => {
                 let plan = plan_for(flows, &in_force.rules, bounds, route, &view, now);
-                put_through(flows, ready, plan, bytes, now)
+                put_through(flows, ready, plan, bytes, now, notes)
             }
         },
     }
 }
 
+// Notes that a text is loaded; `ready` says that there is room already.
+fn note_load<N: Notes>(ready: bool, text: &Bytes, notes: &mut N) -> Result<(), StepFault>
+    requires { IsTrue ready → N.keeps notes.old → 5 + length text.now ≤ N.room notes.old }
+    ensures keeps { N.keeps notes.old ↔ N.keeps notes.new }
+    ensures noted { OnOk result (N.keeps notes.old → N.noted notes.new ≡ N.noted notes.old ++ Load text.now ∷ []) }
+    ensures err_noted { OnErr result (N.noted notes.new ≡ N.noted notes.old) }
+    ensures full { IsErrOf result StepFault.Full → N.too_many notes.old (5 + length text.now) }
+    ensures ready { IsTrue ready → IsOk result }
+    ensures grants { N.grants notes.old → IsOk result }
+{
+    let bytes = text.as_slice();
+    if !ready {
+        notes.reserve(0, 5 + bytes.len() as u64)?;
+    }
+    notes.note(Entry::Load(bytes));
+    Ok(())
+}
+
 // What is done at sessions that are alive.
-fn act_on(
+fn act_on<N: Notes>(
     flows: &mut Flows,
     in_force: &mut InForce,
     bounds: &Bounds,
     ready: bool,
     deed: Deed,
     now: u64,
-) -> Result<Answer, (What, NoMemory)>
+    notes: &mut N,
+) -> Result<Answer, (What, StepFault)>
     requires external { flows.old.translations.external ≡ bounds.now.external }
     requires sound { AreSound bounds.now (listing flows.old.table.held) }
     requires in_force { IsInForce bounds.now in_force.old.text in_force.old.rules }
     requires latest { IsLatest flows.old.table.held now }
     requires ready { IsTrue ready → IsReady 2 flows.old }
+    requires room { IsTrue ready → N.keeps notes.old → most_bytes deed ≤ N.room notes.old }
     ensures ok { IfOk result (λ answer. act bounds.now (state_of in_force.old.text in_force.old.rules flows.old.table.held now) deed
         ≡ (state_of in_force.new.text in_force.new.rules flows.new.table.held now, answer)) }
     ensures err { IfErr result (λ e. (e.0 ≡ bringer deed) × (flows.new.table.held ≡ flows.old.table.held)) }
@@ -198,10 +241,19 @@ fn act_on(
     ensures external { flows.new.translations.external ≡ flows.old.translations.external }
     ensures ready { IsTrue ready → IsOk result }
     ensures adds_none { let s = state_of in_force.old.text in_force.old.rules flows.old.table.held now in
-        AddsNone s (act bounds.now s deed) → IsOk result }
+        AddsNone s (act bounds.now s deed) → N.grants notes.old → IsOk result }
+    ensures keeps { N.keeps notes.old ↔ N.keeps notes.new }
+    ensures noted { OnOk result (N.keeps notes.old → N.noted notes.new ≡ N.noted notes.old
+        ++ of_deed bounds.now (state_of in_force.old.text in_force.old.rules flows.old.table.held now) deed) }
+    ensures err_noted { OnErr result (N.noted notes.new ≡ N.noted notes.old) }
+    ensures full { IfErr result (λ e. e.1 ≡ StepFault.Full → N.too_many notes.old (most_bytes deed)) }
+    ensures quiet { of_deed bounds.now (state_of in_force.old.text in_force.old.rules flows.old.table.held now) deed ≡ [] → IsOk result }
 {
     match deed {
         Deed::Take(text, rules) => {
+            if let Err(fault) = note_load(ready, &text, notes) {
+                return Err((What::Load(text), fault));
+            }
             in_force.text = text;
             in_force.rules = rules;
             Ok(Answer::Loaded)
@@ -209,7 +261,7 @@ fn act_on(
         Deed::Refuse(_) => Ok(Answer::Refused),
         Deed::Moment => Ok(Answer::Ticked),
         Deed::Packet(iface, bytes) => {
-            match pass_on(flows, in_force, bounds, ready, iface, bytes, now) {
+            match pass_on(flows, in_force, bounds, ready, iface, bytes, now, notes) {
                 Ok(answer) => Ok(answer),
                 Err((bytes, e)) => Err((What::Packet(iface, bytes), e)),
             }
@@ -218,7 +270,7 @@ fn act_on(
 }
 
 // What is done, once the sessions that are alive no longer have ended.
-fn age_and_act(
+fn age_and_act<N: Notes>(
     flows: &mut Flows,
     in_force: &mut InForce,
     alloc: Global,
@@ -226,7 +278,8 @@ fn age_and_act(
     deed: Deed,
     clock: u64,
     now: u64,
-) -> Result<Answer, (What, NoMemory)>
+    notes: &mut N,
+) -> Result<Answer, (What, StepFault)>
     requires external { flows.old.translations.external ≡ bounds.now.external }
     requires sound { AreSound bounds.now (listing flows.old.table.held) }
     requires in_force { IsInForce bounds.now in_force.old.text in_force.old.rules }
@@ -237,11 +290,20 @@ fn age_and_act(
     ensures stays { OnErr result (in_force.new ≡ in_force.old) }
     ensures external { flows.new.translations.external ≡ flows.old.translations.external }
     ensures succeeds { let s = state_of in_force.old.text in_force.old.rules flows.old.table.held clock in
-        EndsNone now s → AddsNone s (act bounds.now (aged now s) deed) → IsOk result }
+        EndsNone now s → AddsNone s (act bounds.now (aged now s) deed) → N.grants notes.old → IsOk result }
+    ensures keeps { N.keeps notes.old ↔ N.keeps notes.new }
+    ensures noted { OnOk result (N.keeps notes.old → (gone : List Flow) × AreOver now (listing flows.old.table.held) gone
+        × (N.noted notes.new ≡ N.noted notes.old
+        ++ (ends gone ++ of_deed bounds.now (aged now (state_of in_force.old.text in_force.old.rules flows.old.table.held clock)) deed))) }
+    ensures err_noted { OnErr result (N.noted notes.new ≡ N.noted notes.old) }
+    ensures full { IfErr result (λ e. e.1 ≡ StepFault.Full → (gone : List Flow) × AreOver now (listing flows.old.table.held) gone
+        × N.too_many notes.old (14 * length gone + most_bytes deed)) }
+    ensures quiet { let s = state_of in_force.old.text in_force.old.rules flows.old.table.held clock in
+        EndsNone now s → of_deed bounds.now (aged now s) deed ≡ [] → IsOk result }
 {
-    match flows.expire(alloc, now) {
-        Ok(ready) => act_on(flows, in_force, bounds, ready, deed, now),
-        Err(_) => Err((deed.into_what(), NoMemory)),
+    match flows.expire(alloc, now, deed.most_bytes(), notes) {
+        Ok(ready) => act_on(flows, in_force, bounds, ready, deed, now, notes),
+        Err(fault) => Err((deed.into_what(), fault)),
     }
 }
 
@@ -313,12 +375,47 @@ impl Core {
             → EndsNone (later self.old.state.clock event.moment) self.old.state
             → AddsNone self.old.state (step self.old.config self.old.state judged) → IsOk result }
     {
+        match self.step_noted(event, &mut Unkept) {
+            Ok(answer) => Ok(answer),
+            Err((event, _)) => Err((event, NoMemory)),
+        }
+    }
+
+    /// Does a step, as `step` does, and notes the entries by which it changes what must survive.
+    ///
+    /// # Errors
+    ///
+    /// `NoMemory` where memory is refused: for a text that is read, sessions that end or begin, or entries. `Full`
+    /// only where the entries don't fit: 14 bytes for each session that ends, and 44 for a packet, or 5 and the text
+    /// for a load. The event comes back, and nothing has changed; nor has what is noted.
+    pub fn step_noted<N: Notes>(
+        &mut self,
+        event: Event,
+        notes: &mut N,
+    ) -> Result<Answer, (Event, StepFault)>
+        ensures ok { IfOk result (λ answer. (judged : Judged) × IsJudged self.old.config event judged
+            × (step self.old.config self.old.state judged ≡ (self.new.state, answer))
+            × (N.keeps notes.old → (entries : List Noted) × AreEntriesOf self.old.config self.old.state judged entries
+            × (N.noted notes.new ≡ N.noted notes.old ++ entries))) }
+        ensures config { self.new.config ≡ self.old.config }
+        ensures keeps { N.keeps notes.old ↔ N.keeps notes.new }
+        ensures err { IfErr result (λ e. (e.0 ≡ event) × (self.new ≡ self.old)) }
+        ensures err_noted { OnErr result (N.noted notes.new ≡ N.noted notes.old) }
+        ensures full { IfErr result (λ e. e.1 ≡ StepFault.Full → (judged : Judged) × IsJudged self.old.config event judged
+            × (gone : List Flow) × AreOver (later self.old.state.clock event.moment) self.old.state.sessions gone
+            × N.too_many notes.old (14 * length gone + most_bytes judged.deed)) }
+        ensures succeeds { IsNoLoad event.what → (judged : Judged) → IsJudged self.old.config event judged
+            → EndsNone (later self.old.state.clock event.moment) self.old.state
+            → AddsNone self.old.state (step self.old.config self.old.state judged) → N.grants notes.old → IsOk result }
+        ensures quiet { IsNoLoad event.what → (judged : Judged) → IsJudged self.old.config event judged
+            → AreEntriesOf self.old.config self.old.state judged [] → IsOk result }
+    {
         let Event { moment, what } = event;
         let now = later_of(self.clock, moment);
         self.bounds.facts();
         let deed = match judge(self.alloc, &self.bounds, what) {
             Ok(deed) => deed,
-            Err((what, e)) => return Err((Event { moment, what }, e)),
+            Err((what, _)) => return Err((Event { moment, what }, StepFault::NoMemory)),
         };
         match age_and_act(
             &mut self.flows,
@@ -328,12 +425,13 @@ impl Core {
             deed,
             self.clock,
             now,
+            notes,
         ) {
             Ok(answer) => {
                 self.clock = now;
                 Ok(answer)
             }
-            Err((what, e)) => Err((Event { moment, what }, e)),
+            Err((what, fault)) => Err((Event { moment, what }, fault)),
         }
     }
 }

@@ -1,5 +1,6 @@
 //! What an event does, once its text is read.
 ghost use Rattle.std.specs.Prelude.{◌≡◌, IfOk, IfErr, IsOk};
+ghost use Rattle.machine.specs.Notes.{most_bytes as most_in};
 ghost use Rattle.machine.specs.Judged.{AreRulesOf, IsNoLoad, IsRight, bringer};
 
 use crate::bytes::Bytes;
@@ -34,6 +35,18 @@ impl Deed {
             Deed::Refuse(text) => What::Load(text),
             Deed::Packet(iface, bytes) => What::Packet(iface, bytes),
             Deed::Moment => What::Moment,
+        }
+    }
+
+    /// How many bytes its entries have at most.
+    pub fn most_bytes(&self) -> u64
+        ensures { result ≡ most_in self.now }
+    {
+        match self {
+            Deed::Take(text, _) => 5 + text.as_slice().len() as u64,
+            Deed::Refuse(_) => 0,
+            Deed::Packet(_, _) => 44,
+            Deed::Moment => 0,
         }
     }
 }

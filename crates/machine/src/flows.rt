@@ -1,5 +1,5 @@
 //! The sessions with their timers and mappings, which change together.
-ghost use Rattle.std.specs.Prelude.{◌≡◌, ◌≢◌, ◌↔◌, ◌+◌, ◌-◌, ◌<◌, ◌≤◌, ℕ, List, false, IsTrue, Some, None, IfOk, OnOk, OnErr, IsOk, IfSome, IsSome, IsSomeAnd, length, slice_index};
+ghost use Rattle.std.specs.Prelude.{◌≡◌, ◌≢◌, ◌↔◌, ◌+◌, ◌-◌, ◌*◌, ◌<◌, ◌≤◌, ◌++◌, ◌∷◌, [], ℕ, List, false, IsErrOf, IsTrue, Some, None, IfOk, OnOk, OnErr, IsOk, IfSome, IsSome, IsSomeAnd, length, slice_index};
 ghost use Rattle.std.specs.List.{Contains, filter};
 ghost use Rattle.std.specs.Option.{option_map};
 ghost use Rattle.sessions.specs.Life.{IsSeen, IsTimeout, alive, timeout_of};
@@ -12,8 +12,13 @@ ghost use Rattle.mappings.specs.Map.{times};
 ghost use Rattle.hairpin.specs.Legs.{put_all};
 ghost use Rattle.hairpin.specs.Plans.{Became, Gives, GiveAll, MayBegin};
 ghost use Rattle.hairpin.specs.Tallies.{tally};
+ghost use Rattle.machine.specs.Noted.{AreOver, ends, noted, noted_all, sessions_at};
+ghost use Rattle.machine.specs.Notes.{bytes_of};
 ghost use Rattle.machine.specs.Flows.{IsDue, IsLatest, IsReady, adds as adds_by, adds_second};
 
+use crate::notes::{Notes, StepFault};
+use crate::noting::{entry_of, flow_of, note};
+use durable::Entry;
 use hairpin::Plan;
 use hairpin::translations::Translations;
 use sessions::{Change, Opener, Session, Slot, Table};
@@ -190,45 +195,125 @@ impl Flows {
         }
     }
 
-    /// Does what a plan says, one change after the other, for which there is room.
-    fn apply_all(&mut self, plan: &Plan, now: u64)
+    /// Does what a change says, for which there is room, and notes it.
+    fn apply_noted<N: Notes>(&mut self, change: Change, now: u64, notes: &mut N)
         requires latest { IsLatest self.old.table.held now }
-        requires give { (ts : List Flow) × GiveAll self.old.translations.external self.old.table.held now plan.now.first plan.now.second ts }
+        requires gives { (t : Flow) × Gives self.old.translations.external self.old.table.held now change t
+            × (N.keeps notes.old → bytes_of (noted (listing self.old.table.held) t) ≤ N.room notes.old) }
+        requires ready { 0 < adds_by change → IsReady 1 self.old }
+        ensures became { (t : Flow) → Gives self.old.translations.external self.old.table.held now change t
+            → Became self.old.table.held change t self.new.table.held }
+        ensures latest { IsLatest self.new.table.held now }
+        ensures ready { (n : ℕ) → IsReady (n + adds_by change) self.old → IsReady n self.new }
+        ensures external { self.new.translations.external ≡ self.old.translations.external }
+        ensures keeps { N.keeps notes.old ↔ N.keeps notes.new }
+        ensures noted { (t : Flow) → Gives self.old.translations.external self.old.table.held now change t → N.keeps notes.old
+            → N.noted notes.new ≡ N.noted notes.old ++ noted (listing self.old.table.held) t }
+        ensures room { (t : Flow) → Gives self.old.translations.external self.old.table.held now change t → N.keeps notes.old
+            → N.room notes.old ≤ N.room notes.new + bytes_of (noted (listing self.old.table.held) t) }
+    {
+        let entry = entry_of(&self.table, &change, now);
+        self.apply(change, now);
+        note(notes, entry);
+    }
+
+    /// Does what a plan says, one change after the other, for which there is room, and notes it.
+    fn apply_all<N: Notes>(&mut self, plan: &Plan, now: u64, notes: &mut N)
+        requires latest { IsLatest self.old.table.held now }
+        requires give { (ts : List Flow) × GiveAll self.old.translations.external self.old.table.held now plan.now.first plan.now.second ts
+            × (N.keeps notes.old → bytes_of (noted_all ts (listing self.old.table.held)) ≤ N.room notes.old) }
         requires ready { 0 < adds_by plan.now.first + adds_second plan.now.second → IsReady 2 self.old }
+        ensures keeps { N.keeps notes.old ↔ N.keeps notes.new }
+        ensures noted { (ts : List Flow) → GiveAll self.old.translations.external self.old.table.held now plan.now.first plan.now.second ts
+            → N.keeps notes.old → N.noted notes.new ≡ N.noted notes.old ++ noted_all ts (listing self.old.table.held) }
         ensures listing { (ts : List Flow) → GiveAll self.old.translations.external self.old.table.held now plan.now.first plan.now.second ts
             → listing self.new.table.held ≡ put_all ts (listing self.old.table.held) }
         ensures latest { IsLatest self.new.table.held now }
         ensures external { self.new.translations.external ≡ self.old.translations.external }
     {
-        self.apply(plan.first, now);
+        self.apply_noted(plan.first, now, notes);
         if let Some(second) = plan.second {
-            self.apply(second, now);
+            self.apply_noted(second, now, notes);
         }
     }
 
-    /// Does what a plan says, at the second `now`; `ready` says that there is room for two sessions already.
+    // Makes room for what the plan says; `ready` says that there is room already.
+    fn make_room<N: Notes>(
+        &mut self,
+        ready: bool,
+        plan: &Plan,
+        now: u64,
+        notes: &mut N,
+    ) -> Result<(), StepFault>
+        requires give { (ts : List Flow) × GiveAll self.old.translations.external self.old.table.held now plan.now.first plan.now.second ts }
+        requires ready { IsTrue ready → IsReady 2 self.old }
+        requires room { IsTrue ready → N.keeps notes.old → 44 ≤ N.room notes.old }
+        ensures ready { OnOk result (0 < adds_by plan.now.first + adds_second plan.now.second → IsReady 2 self.new) }
+        ensures room { OnOk result ((ts : List Flow) → GiveAll self.old.translations.external self.old.table.held now plan.now.first plan.now.second ts
+            → N.keeps notes.old → bytes_of (noted_all ts (listing self.old.table.held)) ≤ N.room notes.new) }
+        ensures held { self.new.table.held ≡ self.old.table.held }
+        ensures external { self.new.translations.external ≡ self.old.translations.external }
+        ensures keeps { N.keeps notes.old ↔ N.keeps notes.new }
+        ensures noted { N.noted notes.new ≡ N.noted notes.old }
+        ensures full { IsErrOf result StepFault.Full → N.too_many notes.old 44 }
+        ensures succeeds { IsTrue ready → IsOk result }
+        ensures adds_none { adds_by plan.now.first + adds_second plan.now.second ≡ 0 → N.grants notes.old → IsOk result }
+        ensures quiet { (ts : List Flow) → GiveAll self.old.translations.external self.old.table.held now plan.now.first plan.now.second ts
+            → noted_all ts (listing self.old.table.held) ≡ [] → IsOk result }
+    {
+        self.table.is_sound();
+        if ready {
+            return Ok(());
+        }
+        if !is_noted(&self.table, plan, now) {
+            return Ok(());
+        }
+        if adds_any(plan) && self.reserve().is_err() {
+            return Err(StepFault::NoMemory);
+        }
+        notes.reserve(0, 44)
+    }
+
+    /// Does what a plan says, at the second `now`, and notes it; `ready` says that there is room for two sessions
+    /// and their entries already.
     ///
     /// # Errors
     ///
-    /// `AllocError` where a session is added, there is no room for it, and memory is refused. The sessions stay
-    /// as they are.
-    pub fn carry_out(&mut self, ready: bool, plan: &Plan, now: u64) -> Result<(), AllocError>
+    /// `NoMemory` where a session is added or something noted, there is no room for it, and memory is refused;
+    /// `Full` only where 44 bytes of entries don't fit. The sessions stay as they are, and what is noted too.
+    pub fn carry_out<N: Notes>(
+        &mut self,
+        ready: bool,
+        plan: &Plan,
+        now: u64,
+        notes: &mut N,
+    ) -> Result<(), StepFault>
         requires latest { IsLatest self.old.table.held now }
         requires give { (ts : List Flow) × GiveAll self.old.translations.external self.old.table.held now plan.now.first plan.now.second ts }
         requires ready { IsTrue ready → IsReady 2 self.old }
+        requires room { IsTrue ready → N.keeps notes.old → 44 ≤ N.room notes.old }
         ensures ok { OnOk result ((ts : List Flow) → GiveAll self.old.translations.external self.old.table.held now plan.now.first plan.now.second ts
             → listing self.new.table.held ≡ put_all ts (listing self.old.table.held)) }
         ensures err { OnErr result (self.new.table.held ≡ self.old.table.held) }
         ensures latest { IsLatest self.new.table.held now }
         ensures external { self.new.translations.external ≡ self.old.translations.external }
+        ensures keeps { N.keeps notes.old ↔ N.keeps notes.new }
+        ensures noted { OnOk result ((ts : List Flow) → GiveAll self.old.translations.external self.old.table.held now plan.now.first plan.now.second ts
+            → N.keeps notes.old → N.noted notes.new ≡ N.noted notes.old ++ noted_all ts (listing self.old.table.held)) }
+        ensures err_noted { OnErr result (N.noted notes.new ≡ N.noted notes.old) }
+        ensures full { IsErrOf result StepFault.Full → N.too_many notes.old 44 }
         ensures succeeds { IsTrue ready → IsOk result }
-        ensures adds_none { adds_by plan.now.first + adds_second plan.now.second ≡ 0 → IsOk result }
+        ensures adds_none { adds_by plan.now.first + adds_second plan.now.second ≡ 0 → N.grants notes.old → IsOk result }
+        ensures quiet { (ts : List Flow) → GiveAll self.old.translations.external self.old.table.held now plan.now.first plan.now.second ts
+            → noted_all ts (listing self.old.table.held) ≡ [] → IsOk result }
     {
-        if !ready && adds_any(plan) {
-            self.reserve()?;
+        match self.make_room(ready, plan, now, notes) {
+            Ok(()) => {
+                self.apply_all(plan, now, notes);
+                Ok(())
+            }
+            Err(fault) => Err(fault),
         }
-        self.apply_all(plan, now);
-        Ok(())
     }
 
     /// Ends the session of the slot.
@@ -245,44 +330,107 @@ impl Flows {
         }
     }
 
-    /// Ends the sessions of the slots.
-    fn end_all(&mut self, slots: &[Slot])
+    /// Ends the session of the slot, and notes it.
+    fn end_noted<N: Notes>(&mut self, slot: Slot, notes: &mut N)
+        requires held { IsSome (at self.old.table slot) }
+        requires room { N.keeps notes.old → 14 ≤ N.room notes.old }
+        ensures updates { Updates self.old.table self.new.table slot None }
+        ensures ready { (n : ℕ) → IsReady n self.old → IsReady n self.new }
+        ensures external { self.new.translations.external ≡ self.old.translations.external }
+        ensures keeps { N.keeps notes.old ↔ N.keeps notes.new }
+        ensures noted { N.keeps notes.old → N.noted notes.new ≡ N.noted notes.old ++ ends (sessions_at self.old.table.held (slot ∷ [])) }
+        ensures room { N.keeps notes.old → N.room notes.old ≤ N.room notes.new + 14 }
+    {
+        if let Some(session) = self.table.get(slot) {
+            notes.note(Entry::End(flow_of(&session)));
+            self.end(slot);
+        }
+    }
+
+    /// Ends the sessions of the slots, and notes them.
+    fn end_all<N: Notes>(&mut self, slots: &[Slot], notes: &mut N)
         requires held { (k : ℕ) → k < length slots.now → IsSome (at self.old.table (slice_index slots.now k)) }
         requires once { (i j : ℕ) → i < j → j < length slots.now → slice_index slots.now i ≢ slice_index slots.now j }
+        requires room { N.keeps notes.old → 14 * length slots.now ≤ N.room notes.old }
         ensures ended { (k : ℕ) → k < length slots.now → at self.new.table (slice_index slots.now k) ≡ None }
         ensures others { (slot : ℕ) → ¬ Contains slots.now slot → at self.new.table slot ≡ at self.old.table slot }
         ensures sound { IsSound self.new.table.held }
         ensures ready { (n : ℕ) → IsReady n self.old → IsReady n self.new }
         ensures external { self.new.translations.external ≡ self.old.translations.external }
+        ensures keeps { N.keeps notes.old ↔ N.keeps notes.new }
+        ensures noted { N.keeps notes.old → N.noted notes.new ≡ N.noted notes.old ++ ends (sessions_at self.old.table.held slots.now) }
+        ensures room { N.keeps notes.old → N.room notes.old ≤ N.room notes.new + 14 * length slots.now }
     {
         for slot in slots {
-            self.end(*slot);
+            self.end_noted(*slot, notes);
         }
         self.table.is_sound();
     }
 
-    /// Ends the sessions that are alive no longer at the second `now`, and says whether there were any; then
-    /// there is room for two more.
+    /// Ends the sessions that are alive no longer at the second `now`, notes them, and says whether there were any;
+    /// then there is room for two more, and for so many bytes of other entries.
     ///
     /// # Errors
     ///
-    /// `AllocError` where there are any and memory is refused. The sessions stay as they are.
-    pub fn expire(&mut self, alloc: Global, now: u64) -> Result<bool, AllocError>
+    /// `NoMemory` where there are any and memory is refused; `Full` only where the entries don't fit. The sessions
+    /// stay as they are, and what is noted too.
+    pub fn expire<N: Notes>(
+        &mut self,
+        alloc: Global,
+        now: u64,
+        others: u64,
+        notes: &mut N,
+    ) -> Result<bool, StepFault>
         requires { IsLatest self.old.table.held now }
         ensures ok { OnOk result (listing self.new.table.held ≡ filter (alive now) (listing self.old.table.held)) }
         ensures err { OnErr result (self.new.table.held ≡ self.old.table.held) }
         ensures external { self.new.translations.external ≡ self.old.translations.external }
         ensures ready { IfOk result (λ any. IsTrue any → IsReady 2 self.new) }
+        ensures room { IfOk result (λ any. IsTrue any → N.keeps notes.old → others ≤ N.room notes.new) }
         ensures none { IfOk result (λ any. any ≡ false → self.new.table.held ≡ self.old.table.held) }
+        ensures keeps { N.keeps notes.old ↔ N.keeps notes.new }
+        ensures noted { OnOk result (N.keeps notes.old → (gone : List Flow) × AreOver now (listing self.old.table.held) gone
+            × (N.noted notes.new ≡ N.noted notes.old ++ ends gone)) }
+        ensures unchanged { IfOk result (λ any. any ≡ false → notes.new ≡ notes.old) }
+        ensures err_noted { OnErr result (N.noted notes.new ≡ N.noted notes.old) }
+        ensures full { IsErrOf result StepFault.Full → (gone : List Flow) × AreOver now (listing self.old.table.held) gone
+            × N.too_many notes.old (14 * length gone + others) }
         ensures succeeds { ((slot : ℕ) → ¬ IsSomeAnd (at self.old.table slot) (IsDue now)) → IsOk result }
     {
-        let slots = self.due(alloc, now)?;
+        let slots = match self.due(alloc, now) {
+            Ok(slots) => slots,
+            Err(_) => return Err(StepFault::NoMemory),
+        };
         if slots.is_empty() {
             return Ok(false);
         }
-        self.reserve()?;
-        self.end_all(&slots);
+        if self.reserve().is_err() {
+            return Err(StepFault::NoMemory);
+        }
+        notes.reserve(slots.len(), others)?;
+        self.end_all(&slots, notes);
         Ok(true)
+    }
+}
+
+// Whether the plan makes an entry.
+fn is_noted(table: &Table, plan: &Plan, now: u64) -> bool
+    requires { (external : ℕ) × (ts : List Flow) × GiveAll external table.now.held now plan.now.first plan.now.second ts }
+    ensures { (external : ℕ) (ts : List Flow) → GiveAll external table.now.held now plan.now.first plan.now.second ts
+        → IsTrue result ↔ (noted_all ts (listing table.now.held) ≢ []) }
+{
+    table.is_sound();
+    if entry_of(table, &plan.first, now).is_some() {
+        return true;
+    }
+    match &plan.second {
+        Some(second) => {
+            if adds(second) > 0 {
+                return true;
+            }
+            entry_of(table, second, now).is_some()
+        }
+        None => false,
     }
 }
 

@@ -8,6 +8,8 @@
 //!   the plan of its leg (crate `hairpin`).
 //! - `deed`: what an event does, once its text is read.
 //! - `core_state`: `Core`, which has all the state and takes a step for each event.
+//! - `notes`: where a step notes the entries by which it changes what must survive (crate `durable`).
+//! - `noting`: the entries of changes. `specs/Noted` says which an event has, `specs/Notes` how many bytes.
 //! - `laws`: what holds of every step, and of every state that is reached.
 #![tactic(auto)]
 
@@ -17,10 +19,13 @@ mod deed;
 mod event;
 mod flows;
 pub mod laws;
+mod notes;
+mod noting;
 
 pub use bytes::Bytes;
 pub use core_state::Core;
 pub use event::{Answer, Event, NoMemory, What};
 pub use hairpin::Cause;
+pub use notes::{Notes, StepFault, Unkept};
 pub use packet::endpoint::Iface;
 pub use sessions::Session;

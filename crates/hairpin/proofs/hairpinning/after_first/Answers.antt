@@ -36,5 +36,5 @@ returns c =
     let says = subst (λ state. IsTrue c.is_forwarded.result ↔ (forward_verdict c.args.bounds.now (facts_of c.args.bounds.now c.args.rules.now (listing c.args.table.now.held) c.args.now c.args.view.now Lan (Some Lan) c.args.view.now.src c.in-Ok.leg.session.inside state) c.args.rules.now ≡ Pass))
     (c.state_of_first-state.ensures c.args.bounds.now c.args.rules.now (listing c.args.table.now.held) c.args.now) c.is_forwarded.ensures in
     plans c.args.bounds.now c.args.rules.now c.args.table.now.held c.args.now c.args.view.now c.facts.ensures.valid c.requires.translations.sound c.requires.inside c.requires.external_destination c.requires.ports c.args.first.now.session c.args.first.now.before c.requires.before c.requires.session away c.in-Ok.leg.session c.in-Ok.ensures.session (says.0 c.if-not-is_forwarded.false) c.in-Ok.leg.before c.in-Ok.ensures.before
-    c.change_of_leg.result c.change_of_leg-2.result c.requires.slot c.in-Ok.ensures.slot c.change_of_leg.ensures.held c.change_of_leg.ensures.new c.change_of_leg-2.ensures.held c.change_of_leg-2.ensures.new
+    c.change_of_leg.result c.change_of_leg-2.result c.requires.slot c.in-Ok.ensures.slot c.change_of_leg.ensures.held c.change_of_leg.ensures.new c.change_of_leg-2.ensures.held c.change_of_leg-2.ensures.slot c.change_of_leg-2.ensures.new
     (omega (arith, c.if-sessions_after-gt-MOST_SESSIONS.false, c.sessions_after.ensures))

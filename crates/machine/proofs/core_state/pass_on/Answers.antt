@@ -7,15 +7,15 @@ use Rattle.machine.proofs.Soundness.{bounded}
 use Rattle.machine.proofs.core_state.pass_on.Goals as goal
 
 pub plan_for-plan-requires-clause-bounded : goal.plan_for-plan-requires-clause-bounded
-plan_for-plan-requires-clause-bounded c = bounded c.args.bounds.now c.args.in_force.now.text c.args.in_force.now.rules c.requires.in_force
+plan_for-plan-requires-clause-bounded g c = bounded c.args.bounds.now c.args.in_force.now.text c.args.in_force.now.rules c.requires.in_force
 
 pub plan_for-plan-requires-clause-ports : goal.plan_for-plan-requires-clause-ports
-plan_for-plan-requires-clause-ports c = ports_are_some c.as_slice.result.now c.in-Ok.view (sym c.read.ensures ∙ c.in-Ok.is)
+plan_for-plan-requires-clause-ports g c = ports_are_some c.as_slice.result.now c.in-Ok.view (sym c.read.ensures ∙ c.in-Ok.is)
 
 pub put_through-requires-clause-read : goal.put_through-requires-clause-read
-put_through-requires-clause-read c =
+put_through-requires-clause-read g c =
     let is = rw c.as_slice.ensures.value at (sym c.read.ensures ∙ c.in-Ok.is) in
     subst (λ (r : Result View Fault). IsOkAnd r (λ (v : View). 2 ≤ v.ttl)) (sym is) (routed_is_on_route c.args.bounds.now c.args.iface c.in-Ok.view c.in-Ok-route.route (sym c.route.ensures ∙ c.in-Ok-route.is)).0
 
 pub put_through-requires-clause-planned : goal.put_through-requires-clause-planned
-put_through-requires-clause-planned c = (_, c.plan_for-plan.ensures c.args.in_force.now.text)
+put_through-requires-clause-planned g c = (_, c.plan_for-plan.ensures c.args.in_force.now.text)

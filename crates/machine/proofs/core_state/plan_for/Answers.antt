@@ -1,7 +1,5 @@
-use Rattle.std.proofs.Common.{sym, subst, ◌∙◌}
 use Rattle.packet.specs.declared.route.Route.TheVariants.{Out, In, Hairpin}
 use Rattle.packet.proofs.Routes.{routed_is_on_route}
-use Rattle.hairpin.specs.Plans.{Plans}
 use Rattle.machine.proofs.Soundness.{comes-to, external-is}
 use Rattle.machine.proofs.core_state.plan_for.Goals as goal
 

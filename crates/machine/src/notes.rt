@@ -1,0 +1,82 @@
+//! Where a step notes what it changes of what must survive.
+ghost use Rattle.std.specs.Prelude.{◌≡◌, ◌↔◌, ◌+◌, ◌*◌, ◌≤◌, ◌++◌, ◌∷◌, [], ℕ, List, length, OnOk, OnErr, IsOk, IsErrOf};
+ghost use Rattle.durable.specs.Coding.{Entry as Noted, entry_bytes};
+ghost use Rattle.durable.specs.Viewing.{view};
+ghost use Rattle.machine.specs.declared.notes.StepFault.{StepFault};
+
+use durable::Entry;
+use thiserror::Error;
+
+/// Why an event can't be stepped.
+#[derive(Clone, Copy, Debug, PartialEq, Eq, Drop, Error)]
+pub enum StepFault {
+    /// There is no room where the event's entries would stand.
+    #[error("no room for the entries of the event")]
+    Full,
+    /// Memory was refused.
+    #[error("no memory")]
+    NoMemory,
+}
+
+/// Takes the entries of events, for which it makes room beforehand.
+///
+/// What is said of the entries is said of notes that keep them; others let them go.
+pub trait Notes {
+    /// They keep what is noted.
+    ghost keeps: { Self → Type 0 };
+
+    /// The entries that were noted, in order.
+    ghost noted: { Self → List Noted };
+
+    /// How many more bytes of entries find room.
+    ghost room: { Self → ℕ };
+
+    /// There will be room for anything.
+    ghost grants: { Self → Type 0 };
+
+    /// So many bytes more would not fit, however much memory there is.
+    ghost too_many: { Self → ℕ → Type 0 };
+
+    /// Makes room for the entries of so many sessions that end, 14 bytes each, and for so many bytes of others.
+    ///
+    /// # Errors
+    ///
+    /// `Full` only where these don't fit, and `NoMemory` where memory is refused. What is noted stays.
+    fn reserve(&mut self, ends: usize, others: u64) -> Result<(), StepFault>
+        ensures keeps { keeps self.old ↔ keeps self.new }
+        ensures ok { keeps self.old → OnOk result (14 * ends + others ≤ room self.new) }
+        ensures noted { noted self.new ≡ noted self.old }
+        ensures full { IsErrOf result StepFault.Full → too_many self.old (14 * ends + others) }
+        ensures succeeds { grants self.old → IsOk result };
+
+    /// Notes an entry, for which there is room. This takes no memory.
+    fn note(&mut self, entry: Entry<'_>)
+        requires { keeps self.old → length (entry_bytes (view entry)) ≤ room self.old }
+        ensures keeps { keeps self.old ↔ keeps self.new }
+        ensures noted { keeps self.old → noted self.new ≡ noted self.old ++ view entry.entry ∷ [] }
+        ensures room { keeps self.old → room self.old ≤ room self.new + length (entry_bytes (view entry.entry)) };
+}
+
+/// Notes that let every entry go.
+#[derive(Drop)]
+pub struct Unkept;
+
+impl Notes for Unkept {
+    ghost use Rattle.std.specs.Prelude.{[]};
+
+    ghost keeps = { λ _. ⊥ };
+
+    ghost noted = { λ _. [] };
+
+    ghost room = { λ _. 0 };
+
+    ghost grants = { λ _. Unit {0} };
+
+    ghost too_many = { λ _ _. ⊥ };
+
+    fn reserve(&mut self, ends: usize, others: u64) -> Result<(), StepFault> {
+        Ok(())
+    }
+
+    fn note(&mut self, entry: Entry<'_>) {}
+}

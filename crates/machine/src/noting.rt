@@ -1,0 +1,98 @@
+//! The entries by which a change of a session is noted.
+ghost use Rattle.std.specs.Prelude.{◌≡◌, ◌↔◌, ◌+◌, ◌≤◌, ◌++◌, ℕ, List};
+ghost use Rattle.durable.specs.Entering.{flow_of as flow_in};
+ghost use Rattle.hairpin.specs.Plans.{Gives};
+ghost use Rattle.machine.specs.Noted.{between as entries_between, noted};
+ghost use Rattle.machine.specs.Notes.{bytes_of, listed};
+ghost use Rattle.sessions.specs.Listing.{listing};
+ghost use Rattle.sessions.specs.declared.session.Session.{Session as Flowing};
+ghost use Rattle.sessions.specs.Stilled.{stilled as without_moment};
+
+use crate::notes::Notes;
+use durable::{Entry, Flow};
+use sessions::{Change, Session, Table};
+
+/// The flow of a session.
+pub fn flow_of(session: &Session) -> Flow
+    ensures { result ≡ flow_in session.now }
+{
+    Flow {
+        proto: session.proto,
+        inside: session.inside,
+        remote: session.remote,
+    }
+}
+
+/// The session without the moment of its last packet.
+pub fn stilled(session: &Session) -> Session
+    ensures { result ≡ without_moment session.now }
+{
+    Session {
+        last: 0,
+        ..*session
+    }
+}
+
+/// The entry that makes the one session the other, which is of the same flow and outside endpoint; none where they
+/// differ at most in their moments.
+pub fn between(old: &Session, new: &Session) -> Option<Entry<'static>>
+    ensures { listed result ≡ entries_between old.now new.now }
+{
+    if old.opener == new.opener && old.seen == new.seen {
+        return None;
+    }
+    if old.opener == new.opener && new.seen > 0 {
+        return Some(Entry::Seen(flow_of(new), new.seen));
+    }
+    Some(Entry::Restart(flow_of(new), new.opener, new.seen))
+}
+
+/// The entry that a change of a session makes, if it makes one; the table is that before the change.
+pub fn entry_of(table: &Table, change: &Change, now: u64) -> Option<Entry<'static>>
+    requires { (external : ℕ) × (t : Flowing) × Gives external table.now.held now change.now t }
+    ensures { (external : ℕ) (t : Flowing) → Gives external table.now.held now change.now t
+        → listed result ≡ noted (listing table.now.held) t }
+{
+    table.is_sound();
+    match change {
+        Change::Begin(session) => Some(Entry::Begin(stilled(session))),
+        Change::Seen(slot, bits) => {
+            let session = table.get(*slot)?;
+            let seen = session.seen | *bits;
+            between(
+                &session,
+                &Session {
+                    seen,
+                    last: now,
+                    ..session
+                },
+            )
+        }
+        Change::Restart(slot, opener) => {
+            let session = table.get(*slot)?;
+            let opener = *opener;
+            between(
+                &session,
+                &Session {
+                    opener,
+                    seen: 0,
+                    last: now,
+                    ..session
+                },
+            )
+        }
+        Change::End(_) => None,
+    }
+}
+
+/// Notes an entry if there is one, for which there is room.
+pub fn note<N: Notes>(notes: &mut N, entry: Option<Entry<'_>>)
+    requires { N.keeps notes.old → bytes_of (listed entry) ≤ N.room notes.old }
+    ensures keeps { N.keeps notes.old ↔ N.keeps notes.new }
+    ensures noted { N.keeps notes.old → N.noted notes.new ≡ N.noted notes.old ++ listed entry.entry }
+    ensures room { N.keeps notes.old → N.room notes.old ≤ N.room notes.new + bytes_of (listed entry.entry) }
+{
+    if let Some(entry) = entry {
+        notes.note(entry);
+    }
+}
