@@ -145,6 +145,14 @@ fn one_table(rt: HostRuntime) -> Result<(), Fail> {
     assert_eq!(rt; table.by_inside(Proto::Udp, HOST, SERVER), Some(slot));
     assert_eq!(rt; table.by_outside(Proto::Udp, OUTSIDE, SERVER), Some(slot));
     assert_eq!(rt; table.by_outside(Proto::Udp, HOST, SERVER), None);
+    Ok(())
+}
+
+#[test]
+fn seen_and_begun_anew(rt: HostRuntime) -> Result<(), Fail> {
+    let mut table = Table::new(rt.alloc());
+    let query = begun(Proto::Udp, SERVER);
+    let slot = table.add(query)?;
     table.see(slot, 1, 1001);
     let seen = Session {
         seen: 1,
@@ -159,10 +167,18 @@ fn one_table(rt: HostRuntime) -> Result<(), Fail> {
         ..query
     };
     assert_eq!(rt; table.get(slot), Some(anew));
-    table.amend(slot, Inside, 1);
+    Ok(())
+}
+
+#[test]
+fn amended_and_ended(rt: HostRuntime) -> Result<(), Fail> {
+    let mut table = Table::new(rt.alloc());
+    let query = begun(Proto::Udp, SERVER);
+    let slot = table.add(query)?;
+    table.amend(slot, Remote, 1);
     let amended = Session {
+        opener: Remote,
         seen: 1,
-        last: 1002,
         ..query
     };
     assert_eq!(rt; table.get(slot), Some(amended));
