@@ -1,0 +1,426 @@
+//! What a store writes, and what it finds again.
+
+use crate::trial::Trial;
+use disk_model::{Disk, FileId};
+use durable::{Flow, begin_code, end_code, load_front};
+use journal::Group;
+use packet::bounds::Bounds;
+use packet::endpoint::{Endpoint, Prefix, Proto};
+use sessions::{Opener, Session};
+use snapshot::{CommitFault, CompactFault, OpenFault, Opened, Store};
+use std::alloc::{AllocError, Global};
+use std::process::Abort;
+use std::test::*;
+
+// A file that was just made: gate, mark, generation 1, `lan`, `wan`, 192.168.0.0/16, 203.0.113.1, no text, no session,
+// and a closed gate.
+const FRESH: [u8; 40] = [
+    0x01, 0x4e, 0x47, 0x57, 0x31, 0x00, 0x00, 0x00, 0x00, 0x00, 0x00, 0x00, 0x01, 0x03, 0x6c, 0x61,
+    0x6e, 0x03, 0x77, 0x61, 0x6e, 0x01, 0xc0, 0xa8, 0x00, 0x00, 0x10, 0xcb, 0x00, 0x71, 0x01, 0x00,
+    0x00, 0x00, 0x00, 0x00, 0x00, 0x00, 0x00, 0x00,
+];
+
+// The same with generation 2, up to the length of a text of 101 bytes.
+const NEWER: [u8; 35] = [
+    0x01, 0x4e, 0x47, 0x57, 0x31, 0x00, 0x00, 0x00, 0x00, 0x00, 0x00, 0x00, 0x02, 0x03, 0x6c, 0x61,
+    0x6e, 0x03, 0x77, 0x61, 0x6e, 0x01, 0xc0, 0xa8, 0x00, 0x00, 0x10, 0xcb, 0x00, 0x71, 0x01, 0x00,
+    0x00, 0x00, 0x65,
+];
+
+// An open gate, the length of a body of 128 bytes, and the front of a load of 101 bytes.
+const LOAD: [u8; 10] = [0x01, 0x00, 0x00, 0x00, 0x80, 0x01, 0x00, 0x00, 0x00, 0x65];
+
+// What goes out to wan leaves from the external address.
+const MASQUERADE: &[u8; 101] =
+    b"table ip nat { chain post { type nat hook postrouting priority srcnat; oifname \"wan\" masquerade; }; }";
+
+// UDP from 192.168.1.2:5000, outside 203.0.113.1:5000, to 198.51.100.7:53, begun from inside, nothing seen.
+const BEGIN: [u8; 22] = [
+    0x02, 0x11, 0xc0, 0xa8, 0x01, 0x02, 0x13, 0x88, 0xcb, 0x00, 0x71, 0x01, 0x13, 0x88, 0xc6, 0x33,
+    0x64, 0x07, 0x00, 0x35, 0x00, 0x00,
+];
+
+const QUERY: Session = Session {
+    proto: Proto::Udp,
+    inside: Endpoint {
+        addr: 0xc0a8_0102,
+        port: 5000,
+    },
+    outside: Endpoint {
+        addr: 0xcb00_7101,
+        port: 5000,
+    },
+    remote: Endpoint {
+        addr: 0xc633_6407,
+        port: 53,
+    },
+    opener: Opener::Inside,
+    seen: 0,
+    last: 0,
+};
+
+const FLOW: Flow = Flow {
+    proto: Proto::Udp,
+    inside: Endpoint {
+        addr: 0xc0a8_0102,
+        port: 5000,
+    },
+    remote: Endpoint {
+        addr: 0xc633_6407,
+        port: 53,
+    },
+};
+
+fn bounds(alloc: Global, wan: &str) -> Result<Bounds, AllocError> {
+    let lan = String::from_str(alloc, "lan")?;
+    let wan = String::from_str(alloc, wan)?;
+    let prefix = Prefix {
+        addr: 0xc0a8_0000,
+        len: 16,
+    };
+    let inside = vec![in alloc; prefix]?;
+    Bounds::new(lan, wan, inside, 0xcb00_7101).map_err(|_| AllocError)
+}
+
+// A load of the text, and the begin of the session.
+fn loaded(alloc: Global) -> Result<Group, AllocError> {
+    let mut group = Group::new(alloc)?;
+    group.extend(&load_front(MASQUERADE))?;
+    group.extend(MASQUERADE)?;
+    group.extend(&begin_code(&QUERY))?;
+    Ok(group)
+}
+
+// The end of the session.
+fn ended(alloc: Global) -> Result<Group, AllocError> {
+    let mut group = Group::new(alloc)?;
+    group.extend(&end_code(&FLOW))?;
+    Ok(group)
+}
+
+fn contents(alloc: Global, disk: &mut Trial, file: FileId) -> Result<Vec<u8>, Fail> {
+    let len = disk.len(file)?;
+    let mut bytes = vec![in alloc; 0; len as usize]?;
+    disk.read_at(file, 0, &mut bytes)?;
+    Ok(bytes)
+}
+
+fn open(alloc: Global, disk: Trial, bounds: &Bounds) -> Result<Opened<Trial>, (Trial, OpenFault)> {
+    Store::open(alloc, disk, bounds)
+}
+
+// Opens it, where nothing is to fail.
+fn opened(alloc: Global, disk: Trial, bounds: &Bounds) -> Result<Opened<Trial>, Fail> {
+    match open(alloc, disk, bounds) {
+        Ok(opened) => Ok(opened),
+        Err((_, fault)) => Err(fault.into()),
+    }
+}
+
+/// How calls of a store came to their end.
+#[derive(Clone, Copy, Debug, PartialEq, Eq, Drop)]
+enum Came {
+    /// Each passed.
+    Through,
+    /// A call of the disk failed, and the store has fallen.
+    ToDevice,
+    /// Anything else.
+    Elsewhere,
+}
+
+fn after_device(store: &Store<Trial>, is_device: bool) -> Came {
+    if is_device && store.has_fallen() {
+        Came::ToDevice
+    } else {
+        Came::Elsewhere
+    }
+}
+
+fn commit(store: &mut Store<Trial>, group: &Group) -> Came {
+    if store.has_fallen() {
+        return Came::Elsewhere;
+    }
+    match store.commit(group) {
+        Ok(()) => Came::Through,
+        Err(fault) => after_device(store, fault == CommitFault::Device),
+    }
+}
+
+fn compact(alloc: Global, store: &mut Store<Trial>) -> Came {
+    if store.has_fallen() {
+        return Came::Elsewhere;
+    }
+    match store.compact(alloc, MASQUERADE, &[QUERY]) {
+        Ok(()) => Came::Through,
+        Err(fault) => after_device(store, fault == CompactFault::Device),
+    }
+}
+
+// Looks at the bytes of both files, and whether each call was within its file.
+fn look(rt: &impl Abort, alloc: Global, disk: &mut Trial, a: &[u8], b: &[u8]) -> Result<(), Fail> {
+    assert_eq!(rt; contents(alloc, disk, FileId::A)?.as_slice(), a);
+    assert_eq!(rt; contents(alloc, disk, FileId::B)?.as_slice(), b);
+    assert!(rt; !disk.strayed);
+    Ok(())
+}
+
+// How much of loading the text with the session, and then ending the session, leads to this state, if some of it does.
+fn reached(opened: &Opened<Trial>) -> Option<u8> {
+    if opened.text.is_empty() && opened.sessions.is_empty() {
+        return Some(0);
+    }
+    if opened.text.as_slice() != MASQUERADE.as_slice() {
+        return None;
+    }
+    match opened.sessions.as_slice() {
+        [] => Some(2),
+        [session] if *session == QUERY => Some(1),
+        _ => None,
+    }
+}
+
+// Opens a file A with these bytes.
+fn started(alloc: Global, file: &[u8]) -> Result<Opened<Trial>, Fail> {
+    let disk = Trial::of(alloc, file, b"")?;
+    opened(alloc, disk, &bounds(alloc, "wan")?)
+}
+
+// Looks at the places of the active file, and gives the disk back.
+fn closed(rt: &impl Abort, store: Store<Trial>, grown: u64, end: u64) -> Trial {
+    assert_eq!(rt; store.grown(), grown);
+    assert_eq!(rt; store.end(), end);
+    store.into_disk()
+}
+
+#[test]
+fn fresh(rt: HostRuntime) -> Result<(), Fail> {
+    let alloc = rt.alloc();
+    let found = started(alloc, b"")?;
+    assert_eq!(rt; reached(&found), Some(0));
+    let mut disk = closed(&rt, found.store, 0, 39);
+    look(&rt, alloc, &mut disk, &FRESH, b"")
+}
+
+// The bytes of a file with a group in which the text is loaded and the session begins.
+fn with_group(alloc: Global) -> Result<Vec<u8>, AllocError> {
+    let mut file = Vec::from_slice(alloc, FRESH.split_at(39).0)?;
+    file.extend_from_slice(&LOAD)?;
+    file.extend_from_slice(MASQUERADE)?;
+    file.extend_from_slice(&BEGIN)?;
+    file.extend_from_slice(&[0])?;
+    Ok(file)
+}
+
+#[test]
+fn group(rt: HostRuntime) -> Result<(), Fail> {
+    let alloc = rt.alloc();
+    let file = with_group(alloc)?;
+    assert_eq!(rt; file.len(), 173);
+    let group = loaded(alloc)?;
+    let mut store = started(alloc, b"")?.store;
+    assert_eq!(rt; commit(&mut store, &group), Came::Through);
+    let mut disk = closed(&rt, store, 133, 172);
+    look(&rt, alloc, &mut disk, &file, b"")
+}
+
+// The bytes of a file with the text and the session as its snapshot.
+fn with_snapshot(alloc: Global) -> Result<Vec<u8>, AllocError> {
+    let mut file = Vec::from_slice(alloc, &NEWER)?;
+    file.extend_from_slice(MASQUERADE)?;
+    file.extend_from_slice(&[0, 0, 0, 1])?;
+    file.extend_from_slice(BEGIN.split_at(1).1)?;
+    file.extend_from_slice(&[0])?;
+    Ok(file)
+}
+
+#[test]
+fn compacted(rt: HostRuntime) -> Result<(), Fail> {
+    let alloc = rt.alloc();
+    let older = with_group(alloc)?;
+    let newer = with_snapshot(alloc)?;
+    assert_eq!(rt; newer.len(), 162);
+    let mut store = started(alloc, &older)?.store;
+    assert_eq!(rt; compact(alloc, &mut store), Came::Through);
+    let mut disk = closed(&rt, store, 0, 161);
+    look(&rt, alloc, &mut disk, &older, &newer)?;
+    let found = opened(alloc, disk, &bounds(alloc, "wan")?)?;
+    assert_eq!(rt; reached(&found), Some(1));
+    let _ = closed(&rt, found.store, 0, 161);
+    Ok(())
+}
+
+// Opens a store that is refused.
+fn refused(alloc: Global, a: &[u8], bounds: &Bounds) -> Result<(Trial, OpenFault), Fail> {
+    match open(alloc, Trial::of(alloc, a, b"")?, bounds) {
+        Ok(_) => Err(Fail::new("it was opened")),
+        Err(refused) => Ok(refused),
+    }
+}
+
+#[test]
+fn other_name(rt: HostRuntime) -> Result<(), Fail> {
+    let alloc = rt.alloc();
+    let file = with_group(alloc)?;
+    let (mut disk, fault) = refused(alloc, &file, &bounds(alloc, "dsl")?)?;
+    assert_eq!(rt; fault, OpenFault::ConfigDiffers);
+    look(&rt, alloc, &mut disk, &file, b"")?;
+    let found = opened(alloc, disk, &bounds(alloc, "wan")?)?;
+    assert_eq!(rt; reached(&found), Some(1));
+    let _ = closed(&rt, found.store, 133, 172);
+    Ok(())
+}
+
+#[test]
+fn other_mark(rt: HostRuntime) -> Result<(), Fail> {
+    let alloc = rt.alloc();
+    let mut file = FRESH;
+    file[1] = b'M';
+    let (mut disk, fault) = refused(alloc, &file, &bounds(alloc, "wan")?)?;
+    assert_eq!(rt; fault, OpenFault::Damaged);
+    look(&rt, alloc, &mut disk, &file, b"")
+}
+
+/// What the script needs.
+#[derive(Drop)]
+struct Script {
+    bounds: Bounds,
+    loaded: Group,
+    ended: Group,
+}
+
+fn make_script(alloc: Global) -> Result<Script, AllocError> {
+    Ok(Script {
+        bounds: bounds(alloc, "wan")?,
+        loaded: loaded(alloc)?,
+        ended: ended(alloc)?,
+    })
+}
+
+// Commits the one group, compacts, and commits the other, up to the first fault; and how many commits were acknowledged.
+fn commits(alloc: Global, store: &mut Store<Trial>, script: &Script) -> (Came, u8) {
+    let came = commit(store, &script.loaded);
+    if came != Came::Through {
+        return (came, 0);
+    }
+    let came = compact(alloc, store);
+    if came != Came::Through {
+        return (came, 1);
+    }
+    let came = commit(store, &script.ended);
+    (came, if came == Came::Through { 2 } else { 1 })
+}
+
+// The same with two empty files.
+fn run(alloc: Global, disk: Trial, script: &Script) -> (Trial, Came, u8) {
+    match open(alloc, disk, &script.bounds) {
+        Ok(opened) => {
+            let mut store = opened.store;
+            let (came, acknowledged) = commits(alloc, &mut store, script);
+            (store.into_disk(), came, acknowledged)
+        }
+        Err((disk, OpenFault::Device)) => (disk, Came::ToDevice, 0),
+        Err((disk, _)) => (disk, Came::Elsewhere, 0),
+    }
+}
+
+// Opens the store again, where nothing is to fail: no acknowledged commit is lost, and none is there in part.
+fn check(
+    rt: &impl Abort,
+    alloc: Global,
+    disk: Trial,
+    script: &Script,
+    acknowledged: u8,
+) -> Result<(), Fail> {
+    assert!(rt; !disk.strayed);
+    let found = opened(alloc, disk, &script.bounds)?;
+    let Some(reached) = reached(&found) else {
+        return Err(Fail::new("another state"));
+    };
+    assert!(rt; acknowledged <= reached);
+    assert!(rt; reached <= acknowledged.saturating_add(1));
+    Ok(())
+}
+
+// Calls of the disk in memory: 17 to make the first file, 6 for a commit, 9 to compact, and 6 for the other commit.
+const CALLS: u64 = 38;
+
+// How the script ends where this call of it is stopped or fails, and how many commits are acknowledged.
+fn expected(call: u64) -> (Came, u8) {
+    if call < 23 {
+        (Came::ToDevice, 0)
+    } else if call < CALLS {
+        (Came::ToDevice, 1)
+    } else {
+        (Came::Through, 2)
+    }
+}
+
+#[test]
+fn each_fault(rt: HostRuntime) -> Result<(), Fail> {
+    let alloc = rt.alloc();
+    let script = make_script(alloc)?;
+    for call in 0..CALLS {
+        let mut disk = Trial::of(alloc, b"", b"")?;
+        disk.disk.fail_once(call);
+        let (disk, came, acknowledged) = run(alloc, disk, &script);
+        assert_eq!(rt; (came, acknowledged), expected(call), "call {call}");
+        assert_eq!(rt; disk.failures(), 1, "call {call}");
+        check(&rt, alloc, disk, &script, acknowledged)?;
+    }
+    Ok(())
+}
+
+/// The script is stopped behind so many calls of the disk, and the opening after it too.
+#[derive(Clone, Copy, Debug)]
+struct Stops {
+    first: u64,
+    second: u64,
+    choice: u64,
+}
+
+// Opens the store, where it may be stopped.
+fn reopen(rt: &impl Abort, alloc: Global, disk: Trial, bounds: &Bounds) -> Trial {
+    match open(alloc, disk, bounds) {
+        Ok(opened) => opened.store.into_disk(),
+        Err((disk, fault)) => {
+            assert_eq!(rt; fault, OpenFault::Device);
+            disk
+        }
+    }
+}
+
+// Each stop is a loss of power.
+fn stop(rt: &impl Abort, alloc: Global, script: &Script, stops: Stops) -> Result<(), Fail> {
+    let mut disk = Trial::of(alloc, b"", b"")?;
+    disk.disk.fuse_after(stops.first);
+    let (mut disk, came, acknowledged) = run(alloc, disk, script);
+    assert_eq!(rt; (came, acknowledged), expected(stops.first), "{stops:?}");
+    disk.disk.crash(stops.choice)?;
+    disk.disk.fuse_after(stops.second);
+    let mut disk = reopen(rt, alloc, disk, &script.bounds);
+    disk.disk.crash(stops.choice)?;
+    check(rt, alloc, disk, script, acknowledged)
+}
+
+#[test]
+fn each_stop(rt: HostRuntime) -> Result<(), Fail> {
+    let alloc = rt.alloc();
+    let script = make_script(alloc)?;
+    for first in 0..=CALLS {
+        for second in 0..18 {
+            for choice in [0, 1, 2, 3, 5, 10] {
+                stop(
+                    &rt,
+                    alloc,
+                    &script,
+                    Stops {
+                        first,
+                        second,
+                        choice,
+                    },
+                )?;
+            }
+        }
+    }
+    Ok(())
+}
