@@ -10,10 +10,11 @@ use Rattle.durable.specs.Coding.{heading_bytes, IsCodedConfig, IsHeading}
 use Rattle.durable.specs.Entering.{Durable, IsDurable, empty}
 use Rattle.durable.specs.Laws.{anew}
 use Rattle.durable.specs.Recovery.{Active, Finds, Alike, IsConfigured, NoneOpen, Recovers, behind, pair}
+use Rattle.durable.proofs.Headed.{headed_open}
 use Rattle.snapshot.specs.Remaking.{Remade}
 use Rattle.snapshot.specs.Opening.{IsReady}
 use Rattle.snapshot.specs.declared.opening.Ready.{Ready}
-use Rattle.snapshot.proofs.States.{same_file, active_same, none_same, configured_by, configured_none, configured_same, alike, alike_same, alike_then}
+use Rattle.snapshot.proofs.States.{none_open, same_file, active_same, none_same, configured_by, configured_none, configured_same, alike, alike_same, alike_then}
 use Rattle.snapshot.proofs.Making.{first_active, begun_stands}
 
 pub pair_same : (files : Files) (a b : List ℕ) → a ≡ files A → b ≡ files B → Same files (pair a b)
@@ -34,6 +35,10 @@ ready_same config old new r same is = record {
   numbered = is.numbered;
   starts = is.starts;
 }
+
+-- files that hold something aren't all closed
+pub ready_open : (config : Config) (files : Files) (r : Ready) → IsReady config files r → ¬ NoneOpen files
+ready_open config files r is none = none_open files r.file none (headed_open (files r.file) is.heading is.active.0.headed)
 
 pub empty_whole : (config : Config) → IsCodedConfig config → IsHeading (anew 1 config empty)
 empty_whole config coded = record { generation = omega arith; config = coded; kept = record { text = omega arith; count = omega arith; sessions = tt } }

@@ -25,8 +25,8 @@ module _ {D : Type 0} (moment : D → ℕ) (left : D → ℕ → Files → Type 
     pub recovers_now : Recovers (seen s.disk) d
     recovers_now = inr (f, rest.heading, s.end, rest.active)
 
-    pub keeps : Keeps moment left seen s.disk d
-    keeps = record { reads = recovers_now; leaves = λ files now. inr (f, rest.heading, s.end, active_left files now) }
+    pub keeps : Keeps moment left seen s d
+    keeps = record { reads = recovers_now; leaves = λ files now. inr (f, rest.heading, s.end, active_left files now); rests = (f, rest) }
 
     pub configured_now : LeavesNow moment left s.disk (IsConfigured s.config)
     configured_now files now = configured_by s.config files f rest.heading d s.end (active_left files now) rest.configured

@@ -7,6 +7,7 @@ ghost use Rattle.disk_model.specs.Disk.{Files, Same, Leaves, LeavesNow, LeavesOn
 ghost use Rattle.durable.specs.Entering.{Durable, durable, empty};
 ghost use Rattle.durable.specs.Recovery.{Alike, IsConfigured, NoneOpen, Recovers, pair};
 ghost use Rattle.snapshot.specs.Opening.{IsReady, IsJudged, IsKept, state_of};
+ghost use Rattle.snapshot.specs.Store.{IsFirst};
 
 use crate::OpenFault;
 use crate::bounds::{copy_of, have_a_code};
@@ -132,6 +133,8 @@ fn begin<D: Disk>(alloc: Global, disk: &mut D, bounds: &Bounds) -> Result<Ready,
     ensures configured { D.honest disk.old → LeavesOnly D.moment D.left disk.old disk.new (IsConfigured bounds.now) }
     ensures ok { D.honest disk.old → IfOk result (λ r. IsReady bounds.now (D.seen disk.new) r) }
     ensures synced { D.honest disk.old → OnOk result ((file : FileId) → Synced D.moment D.left D.seen disk.new file) }
+    ensures fresh { D.honest disk.old → OnOk result (IsFirst bounds.now (D.seen disk.old) (D.seen disk.new)) }
+    ensures first { IfOk result (λ r. r.generation ≡ 1) }
     ensures empty { IfOk result (λ r. state_of r ≡ empty) }
     ensures bounds { IfOk result (λ r. r.bounds ≡ bounds.now) }
     ensures stays { ¬ IsErrOf result OpenFault.Device → OnErr result (disk.new ≡ disk.old) }
@@ -175,6 +178,11 @@ pub(crate) fn make_ready<D: Disk>(
     ensures ok { D.honest disk.old → IfOk result (λ r. IsReady bounds.now (D.seen disk.new) r) }
     ensures recovers { D.honest disk.old → IfOk result (λ r. Recovers (D.seen disk.old) (state_of r)) }
     ensures taken { D.honest disk.old → OnOk result (IsConfigured bounds.now (D.seen disk.old)) }
+    ensures fresh { D.honest disk.old → NoneOpen (D.seen disk.old)
+        → OnOk result (IsFirst bounds.now (D.seen disk.old) (D.seen disk.new)) }
+    ensures first { D.honest disk.old → NoneOpen (D.seen disk.old) → IfOk result (λ r. r.generation ≡ 1) }
+    ensures only_looks { D.honest disk.old → ¬ NoneOpen (D.seen disk.old)
+        → OnOk result (Looks D.moment D.left D.seen disk.old disk.new) }
     ensures synced { D.honest disk.old → OnOk result ((file : FileId) → Synced D.moment D.left D.seen disk.new file) }
     ensures bounds { IfOk result (λ r. r.bounds ≡ bounds.now) }
     ensures damaged { D.honest disk.old → IsErrOf result OpenFault.Damaged → (d : Durable) → ¬ Recovers (D.seen disk.old) d }

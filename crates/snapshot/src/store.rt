@@ -4,8 +4,8 @@ ghost use Rattle.disk_model.specs.Disk.{Files, Leaves, LeavesNow, LeavesOnly, Lo
 ghost use Rattle.durable.specs.Coding.{heading_bytes};
 ghost use Rattle.durable.specs.Entering.{Durable, durable, BodyEnters};
 ghost use Rattle.durable.specs.Laws.{anew};
-ghost use Rattle.durable.specs.Recovery.{Alike, IsConfigured, Recovers};
-ghost use Rattle.snapshot.specs.Store.{Keeps, RecoversEither, Fits};
+ghost use Rattle.durable.specs.Recovery.{Alike, IsConfigured, NoneOpen, Recovers};
+ghost use Rattle.snapshot.specs.Store.{Keeps, RecoversEither, IsFirst, Fits};
 
 use crate::front::front_of;
 use crate::opening::{Ready, make_ready};
@@ -71,7 +71,7 @@ pub struct Opened<D: Disk + Drop> {
 
 impl<D: Disk + Drop> Store<D> {
     /// Opens the store that two files hold. Both are synced, then read. Where none is open, file A is made, and holds no
-    /// text and no session.
+    /// text and no session; else neither is written.
     ///
     /// # Errors
     ///
@@ -96,8 +96,15 @@ impl<D: Disk + Drop> Store<D> {
 
         // It is kept what the files stood for as they read, and that is what is answered.
         ensures ok { D.honest disk → IfOk result (λ o. Recovers (D.seen disk) (durable o.text.items o.sessions.items)
-            × Keeps D.moment D.left D.seen o.store.disk (durable o.text.items o.sessions.items)) }
+            × Keeps D.moment D.left D.seen o.store (durable o.text.items o.sessions.items)) }
         ensures taken { D.honest disk → OnOk result (IsConfigured bounds.now (D.seen disk)) }
+
+        // Where no file is open, file A is made, of the first generation; else the files aren't changed.
+        ensures fresh { D.honest disk → NoneOpen (D.seen disk)
+            → IfOk result (λ o. IsFirst bounds.now (D.seen disk) (D.seen o.store.disk)) }
+        ensures first { D.honest disk → NoneOpen (D.seen disk) → IfOk result (λ o. o.store.generation ≡ 1) }
+        ensures only_looks { D.honest disk → ¬ NoneOpen (D.seen disk)
+            → IfOk result (λ o. Looks D.moment D.left D.seen disk o.store.disk) }
         ensures stands { IfOk result (λ o. o.store.fallen ≡ false) }
         ensures config { IfOk result (λ o. o.store.config ≡ bounds.now) }
         ensures damaged { D.honest disk → IfErr result (λ e. e.1 ≡ OpenFault.Damaged → (d : Durable) → ¬ Recovers (D.seen disk) d) }
@@ -143,7 +150,7 @@ impl<D: Disk + Drop> Store<D> {
         ensures value { result ≡ self.now.fallen }
 
         // Until then the store has a state and its place, and a crash leaves what the files read.
-        ensures stands { result ≡ false → D.honest self.now.disk → (d : Durable) × Keeps D.moment D.left D.seen self.now.disk d }
+        ensures stands { result ≡ false → D.honest self.now.disk → (d : Durable) × Keeps D.moment D.left D.seen self.now d }
         ensures configured { result ≡ false → D.honest self.now.disk → LeavesNow D.moment D.left self.now.disk (IsConfigured self.now.config) }
     {
         self.fallen
@@ -209,7 +216,7 @@ impl<D: Disk + Drop> Store<D> {
 
         // After Ok it is kept.
         ensures ok { D.honest self.old.disk → (d e : Durable) → Recovers (D.seen self.old.disk) d → BodyEnters self.old.config group.now.body d e
-            → OnOk result (Keeps D.moment D.left D.seen self.new.disk e) }
+            → OnOk result (Keeps D.moment D.left D.seen self.new e) }
         ensures config { self.new.config ≡ self.old.config }
         ensures generation { self.new.generation ≡ self.old.generation }
         ensures end { D.honest self.old.disk → OnOk result (self.new.end ≡ self.old.end + length group.now.body + 5) }
@@ -262,7 +269,7 @@ impl<D: Disk + Drop> Store<D> {
         ensures configured { D.honest self.old.disk → LeavesOnly D.moment D.left self.old.disk self.new.disk (IsConfigured self.old.config) }
 
         // After Ok it is kept.
-        ensures ok { D.honest self.old.disk → OnOk result (Keeps D.moment D.left D.seen self.new.disk (durable text.now sessions.now)) }
+        ensures ok { D.honest self.old.disk → OnOk result (Keeps D.moment D.left D.seen self.new (durable text.now sessions.now)) }
         ensures config { self.new.config ≡ self.old.config }
         ensures generation { OnOk result (self.new.generation ≡ self.old.generation + 1) }
         ensures grown { OnOk result (self.new.grown ≡ 0) }

@@ -1,11 +1,12 @@
 use Rattle.std.proofs.Common.{◌≡◌, ◌∙◌, ◌++◌, ◌∷◌, [], ℕ, List, sym, ap, subst, refl, length, arith}
 use Rattle.disk_model.specs.Disk.{Files}
-use Rattle.disk_model.specs.declared.disk.FileId.TheVariants.{A}
+use Rattle.disk_model.specs.declared.disk.FileId.TheVariants.{A, B}
 use Rattle.durable.specs.Coding.{heading_bytes}
 use Rattle.durable.specs.Entering.{empty, durable, Durable}
 use Rattle.durable.specs.Laws.{anew}
 use Rattle.durable.specs.Recovery.{IsActive, behind}
-use Rattle.snapshot.proofs.Making.{first_active, behind_is}
+use Rattle.snapshot.proofs.Making.{fresh_of, first_active, behind_is}
+use Rattle.snapshot.proofs.States.{apart}
 use Rattle.snapshot.proofs.Beginnings.{empty_whole, empty_durable, begun_leaves, begun_configured, begun_synced}
 use Rattle.snapshot.proofs.opening.begin.Goals as goal
 
@@ -35,6 +36,14 @@ returns-clause-synced g c = λ honest.
     (c.deref.ensures.value ∙ c.in_ok-bytes.ensures.code) (c.remake.ensures.any_moment honest)
     (λ s t files le since. g.met.D.Disk.earlier c.remake.new.disk s t files (c.remake.ensures.honest.0 honest) le since)
     (c.in_ok-remake.ensures.synced honest) (c.in_ok-remake.ensures.elsewhere honest)
+
+pub returns-clause-fresh : goal.returns-clause-fresh
+returns-clause-fresh g c = λ honest.
+    let are = c.deref.ensures.value ∙ c.in_ok-bytes.ensures.code in
+    record {
+      made = fresh_of (g.D.Disk.seen c.remake.new.disk A) c.deref.result.now (anew 1 c.args.bounds.now empty) are (c.in_ok-remake.ensures.fresh honest);
+      beside = c.in_ok-remake.ensures.elsewhere honest B (λ e. apart A (sym e));
+    }
 
 pub returns-clause-ok : goal.returns-clause-ok
 returns-clause-ok g c = λ honest.

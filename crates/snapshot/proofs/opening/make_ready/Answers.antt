@@ -1,14 +1,15 @@
 use Rattle.std.proofs.Common.{◌≡◌, ◌∙◌, ℕ, List, rules, inl, inr, refl, sym, ap, subst}
 use Rattle.std.specs.Prelude.{Err}
-use Rattle.std.proofs.lemmas.Result.{err_from_is_err_and}
+use Rattle.std.proofs.lemmas.Result.{err_from_is_err_and, on_ok_weaker}
 use Rattle.disk_model.specs.Disk.{Files, Same}
 use Rattle.disk_model.specs.declared.disk.FileId.TheVariants.{A, B}
 use Rattle.durable.specs.Recovery.{IsConfigured, NoneOpen, Recovers, pair}
 use Rattle.durable.proofs.Errors.{same_error}
 use Rattle.durable.proofs.Headed.{recovers_once}
 use Rattle.snapshot.specs.Opening.{IsReady}
+use Rattle.snapshot.specs.Store.{IsFirst}
 use Rattle.snapshot.proofs.States.{same_back, none_same, configured_by, configured_same}
-use Rattle.snapshot.proofs.Beginnings.{pair_same, ready_same, alike_of, alike_on, configured_of, configured_on, begun_alike}
+use Rattle.snapshot.proofs.Beginnings.{pair_same, ready_same, ready_open, alike_of, alike_on, configured_of, configured_on, begun_alike}
 use Rattle.snapshot.proofs.opening.make_ready.Goals as goal
 
 pub returns-in_err-a-clause-any_moment : goal.returns-in_err-a-clause-any_moment
@@ -73,3 +74,33 @@ returns-clause-configured g c = λ h now.
     let h1 = c.look.ensures.honest.0 h in
     configured_on g.D.Disk.moment g.D.Disk.left c.args.bounds.now c.args.disk.now c.look.new.disk c.begin.new.disk (λ s t files le since. g.met.D.Disk.earlier c.look.new.disk s t files h1 le since) (c.look.ensures.leaves h) now
     (c.begin.ensures.configured h1)
+
+-- a file was found open
+pub returns-in-Some-clause-fresh : goal.returns-in-Some-clause-fresh
+returns-in-Some-clause-fresh g c = λ h none.
+    let files = g.D.Disk.seen c.args.disk.now in
+    let read = pair_same files c.deref.result.now c.deref-2.result.now (c.deref.ensures.value ∙ (c.in_ok-a.ensures.ok h).0) (c.deref-2.ensures.value ∙ (c.in_ok-a.ensures.ok h).1) in
+    let is : IsReady c.args.bounds.now (pair c.deref.result.now c.deref-2.result.now) c.in-Some.found = search rules in
+    absurd (ready_open c.args.bounds.now (pair c.deref.result.now c.deref-2.result.now) c.in-Some.found is (none_same files (pair c.deref.result.now c.deref-2.result.now) read none))
+
+pub returns-in-Some-clause-first : goal.returns-in-Some-clause-first
+returns-in-Some-clause-first g c = λ h none.
+    let files = g.D.Disk.seen c.args.disk.now in
+    let read = pair_same files c.deref.result.now c.deref-2.result.now (c.deref.ensures.value ∙ (c.in_ok-a.ensures.ok h).0) (c.deref-2.ensures.value ∙ (c.in_ok-a.ensures.ok h).1) in
+    let is : IsReady c.args.bounds.now (pair c.deref.result.now c.deref-2.result.now) c.in-Some.found = search rules in
+    absurd (ready_open c.args.bounds.now (pair c.deref.result.now c.deref-2.result.now) c.in-Some.found is (none_same files (pair c.deref.result.now c.deref-2.result.now) read none))
+
+-- no file is open
+pub returns-clause-fresh : goal.returns-clause-fresh
+returns-clause-fresh g c = λ h none.
+    let h1 = c.look.ensures.honest.0 h in
+    let looked = c.in_ok-a.ensures.looks h (λ told. absurd cc) in
+    let read = g.D.Disk.seen c.look.new.disk in
+    on_ok_weaker c.begin.result (λ (is : IsFirst c.args.bounds.now read (g.D.Disk.seen c.begin.new.disk)). record { made = is.made; beside = is.beside ∙ looked.stays B }) (c.begin.ensures.fresh h1)
+
+pub returns-clause-only_looks : goal.returns-clause-only_looks
+returns-clause-only_looks g c = λ h open_so.
+    let files = g.D.Disk.seen c.args.disk.now in
+    let read = pair_same files c.deref.result.now c.deref-2.result.now (c.deref.ensures.value ∙ (c.in_ok-a.ensures.ok h).0) (c.deref-2.ensures.value ∙ (c.in_ok-a.ensures.ok h).1) in
+    let none : NoneOpen (pair c.deref.result.now c.deref-2.result.now) = search rules in
+    absurd (open_so (none_same (pair c.deref.result.now c.deref-2.result.now) files (same_back files (pair c.deref.result.now c.deref-2.result.now) read) none))
