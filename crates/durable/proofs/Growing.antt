@@ -1,13 +1,13 @@
 -- How what a file holds goes on.
-use Rattle.std.proofs.Common.{◌≡◌, ◌≢◌, ◌⊎◌, inl, inr, Bool, true, false, cond, append_assoc, ℕ, ◌+◌, ◌<◌, ◌≤◌, List, [], ◌∷◌, ◌++◌, length, take, drop, refl, sym, ap, subst, ◌∙◌, arith, take-append-drop}
-use Rattle.std.proofs.lemmas.List.{drop_at, take_at, take-take}
+use Rattle.std.proofs.Common.{◌≡◌, ◌≢◌, ◌⊎◌, inl, inr, Bool, true, false, cond, append_assoc, ℕ, ◌+◌, ◌<◌, ◌≤◌, List, [], ◌∷◌, ◌++◌, length, take, drop, refl, sym, ap, subst, ◌∙◌, arith, length-append, take-append-drop}
+use Rattle.std.proofs.lemmas.List.{drop_at, length-drop, take_at, take-take}
 use Rattle.packet.specs.Config.{Config, is_config}
 use Rattle.std.proofs.lemmas.Bool.{cases_Bool}
 use Rattle.std.proofs.lemmas.List.{append-nil}
 use Rattle.sessions.specs.declared.session.Session.{Session}
 use Rattle.sessions.specs.Listing.{below, In, Rises, insert}
 use Rattle.sessions.proofs.Sets.{below-itself, below-trans}
-use Rattle.journal.specs.Groups.{Groups, Extended, Appended}
+use Rattle.journal.specs.Groups.{Groups, Extended, Appended, open_groups}
 use Rattle.disk_model.specs.Disk.{Files, Elsewhere}
 use Rattle.disk_model.specs.declared.disk.FileId.{FileId}
 use Rattle.disk_model.specs.declared.disk.FileId.TheVariants.{A, B}
@@ -60,8 +60,9 @@ made file h fresh whole config sound =
     let rest = fresh.0 in
     let written : List ℕ = 1 ∷ (heading_bytes h ++ 0 ∷ rest) in
     let tail : drop (behind h) written ≡ 0 ∷ rest = drop_at (1 ∷ heading_bytes h) (0 ∷ rest) (behind h) (omega arith) in
+    let size : behind h < length written = omega (arith, length-append (heading_bytes h) (0 ∷ rest)) in
     let holds : Holds written h (begun h.kept) (behind h) = record {
-      headed = record { whole = whole; config = config; front = ap (λ (l : List ℕ). 1 ∷ (heading_bytes h ++ l)) (sym tail) };
+      headed = record { whole = whole; config = config; front = ap (λ (l : List ℕ). 1 ∷ (heading_bytes h ++ l)) (sym tail); gated = size };
       text = sound.text;
       sound = sound.sessions;
       bodies = [];
@@ -70,13 +71,18 @@ made file h fresh whole config sound =
     } in
     subst (λ (l : List ℕ). Holds l h (begun h.kept) (behind h)) (sym fresh.1) holds
 
+-- behind groups stands a gate
+gate_behind : (file : List ℕ) (start end : ℕ) (bodies : List (List ℕ)) → Groups file start bodies end → start < length file
+gate_behind file start end bodies groups =
+    omega (arith, ap length groups.split, length-append (open_groups bodies) (groups.gate ∷ groups.rest), length-drop start file)
+
 -- a file that begins as another one with this heading
-still_headed : (old new : List ℕ) (h : Heading) (end : ℕ) → IsHeaded old h → behind h ≤ end → take end new ≡ take end old → IsHeaded new h
-still_headed old new h end on le same =
+still_headed : (old new : List ℕ) (h : Heading) (end : ℕ) → IsHeaded old h → behind h ≤ end → take end new ≡ take end old → behind h < length new → IsHeaded new h
+still_headed old new h end on le same gated =
     let n = behind h in
     let front : take n old ≡ 1 ∷ heading_bytes h = ap (λ (l : List ℕ). take n l) on.front ∙ take_at (1 ∷ heading_bytes h) (drop n old) n (omega arith) in
     let also : take n new ≡ take n old = sym (take-take n end new le) ∙ ap (λ (l : List ℕ). take n l) same ∙ take-take n end old le in
-    record { whole = on.whole; config = on.config; front = sym (take-append-drop n new) ∙ ap (λ (l : List ℕ). l ++ drop n new) (also ∙ front) }
+    record { whole = on.whole; config = on.config; front = sym (take-append-drop n new) ∙ ap (λ (l : List ℕ). l ++ drop n new) (also ∙ front); gated = gated }
 
 changed_on : (config : Config) (bodies : List (List ℕ)) (body : List ℕ) (old mid new : Durable) → Changed config bodies old mid → BodyEnters config body mid new
     → Changed config (bodies ++ body ∷ []) old new
@@ -88,12 +94,13 @@ grown : (old new body : List ℕ) (h : Heading) (d e : Durable) (end next : ℕ)
     → BodyEnters h.config body d e → Holds new h e next
 grown old new body h d e end next holds same groups enters =
     let size = holds.groups.end_is in
+    let more = groups (behind h) holds.bodies holds.groups in
     record {
-      headed = still_headed old new h end holds.headed (omega (arith, size)) same;
+      headed = still_headed old new h end holds.headed (omega (arith, size)) same (gate_behind new (behind h) next (holds.bodies ++ body ∷ []) more);
       text = holds.text;
       sound = holds.sound;
       bodies = holds.bodies ++ body ∷ [];
-      groups = groups (behind h) holds.bodies holds.groups;
+      groups = more;
       changed = changed_on h.config holds.bodies body (begun h.kept) d e holds.changed enters;
     }
 
@@ -103,9 +110,9 @@ extended old new body h d e end holds ext enters =
     let size = holds.groups.end_is in
     let on = still_headed old new h end holds.headed (omega (arith, size)) ext.before in
     elim (ext.groups (behind h) holds.bodies holds.groups) [
-      | inl same ↦ inl (record { headed = on; text = holds.text; sound = holds.sound; bodies = holds.bodies; groups = same; changed = holds.changed })
+      | inl same ↦ inl (record { headed = on (gate_behind new (behind h) end holds.bodies same); text = holds.text; sound = holds.sound; bodies = holds.bodies; groups = same; changed = holds.changed })
       | inr more ↦ inr (record {
-        headed = on;
+        headed = on (gate_behind new (behind h) (end + length body + 5) (holds.bodies ++ body ∷ []) more);
         text = holds.text;
         sound = holds.sound;
         bodies = holds.bodies ++ body ∷ [];

@@ -1,6 +1,6 @@
 -- Headings of files, and what stands behind them.
 use Rattle.std.proofs.Common.{◌≡◌, ◌⊎◌, inl, inr, ℕ, ◌+◌, ◌-◌, ◌<◌, ◌≤◌, List, ◌∷◌, ◌++◌, length, get_or, drop, refl, sym, ap, subst, ◌∙◌, arith, length-append}
-use Rattle.std.proofs.lemmas.List.{drop_at}
+use Rattle.std.proofs.lemmas.List.{drop_at, length-drop}
 use Rattle.std.specs.Prelude.{IsTrue, Option, Some, None}
 use Rattle.packet.specs.Config.{Config, is_config}
 use Rattle.disk_model.specs.Disk.{Files, Same}
@@ -20,11 +20,12 @@ use Rattle.durable.proofs.Keeping.{bodies_durable}
 
 -- a heading that was read
 pub headed : (file rest after : List ℕ) (h : Heading) → file ≡ 1 ∷ rest → Begins IsHeading heading_bytes rest h after → IsTrue (is_config h.config)
-    → IsHeaded file h × (after ≡ drop (behind h) file)
-headed file rest after h is begins config =
+    → 0 < length after → IsHeaded file h × (after ≡ drop (behind h) file)
+headed file rest after h is begins config more =
     let whole : file ≡ 1 ∷ (heading_bytes h ++ after) = is ∙ ap (λ (l : List ℕ). 1 ∷ l) begins.1 in
     let tail : after ≡ drop (behind h) file = sym (drop_at (1 ∷ heading_bytes h) after (behind h) (omega arith)) ∙ ap (λ (l : List ℕ). drop (behind h) l) (sym whole) in
-    (record { whole = begins.0; config = config; front = whole ∙ ap (λ (l : List ℕ). 1 ∷ (heading_bytes h ++ l)) tail }, tail)
+    let size : behind h < length file = omega (arith, ap length whole, length-append (heading_bytes h) after, more) in
+    (record { whole = begins.0; config = config; front = whole ∙ ap (λ (l : List ℕ). 1 ∷ (heading_bytes h ++ l)) tail; gated = size }, tail)
 
 pub headed_begins : (file rest : List ℕ) (h : Heading) → file ≡ 1 ∷ rest → IsHeaded file h → Begins IsHeading heading_bytes rest h (drop (behind h) file)
 headed_begins file rest h is on = (on.whole, ap (λ (l : List ℕ). drop 1 l) (sym is ∙ on.front))
@@ -43,6 +44,15 @@ unheaded file rest after h k is begins refused on =
     let also = headed_begins file rest k is on in
     let same = (once IsHeading heading_bytes heading_at coded-heading k h (drop (behind k) file) after also.0 begins.0 (sym also.1 ∙ begins.1)).0 in
     refused (subst (λ (x : Heading). IsTrue (is_config x.config)) same on.config)
+
+-- a heading with nothing behind it
+pub ungated : (file rest after : List ℕ) (h k : Heading) → file ≡ 1 ∷ rest → Begins IsHeading heading_bytes rest h after → length after ≡ 0
+    → IsHeaded file k → ⊥
+ungated file rest after h k is begins none on =
+    let also = headed_begins file rest k is on in
+    let same = (once IsHeading heading_bytes heading_at coded-heading k h (drop (behind k) file) after also.0 begins.0 (sym also.1 ∙ begins.1)).1 in
+    let gone : length (drop (behind k) file) ≡ 0 = ap length same ∙ none in
+    omega (arith, on.gated, gone, length-drop (behind k) file)
 
 -- a state that a file holds, and what stands behind its heading
 pub leads_of : (file : List ℕ) (h : Heading) (d : Durable) (end : ℕ) (holds : Holds file h d end)

@@ -12,5 +12,6 @@ pub mod Bodies
 pub mod Errors
 pub mod Leads
 pub mod Headed
+pub mod Storable
 pub mod Growing
 pub mod Appending

@@ -2,13 +2,14 @@
 use Rattle.std.specs.Prelude.{◌≡◌, ◌⊎◌, ◌<◌, ◌+◌, ℕ, IsTrue, List, [], ◌∷◌, ◌++◌, length, take}
 use Rattle.packet.specs.Config.{Config, is_config}
 use Rattle.sessions.specs.Listing.{Rises}
+use Rattle.sessions.specs.Stilled.{AreStilled}
 use Rattle.sessions.specs.declared.session.Session.{Session}
 use Rattle.disk_model.specs.Disk.{Files, Same, Elsewhere}
 use Rattle.disk_model.specs.declared.disk.FileId.{FileId}
 use Rattle.journal.specs.Groups.{Groups, Appended}
 use Rattle.durable.specs.Coding.{Entry, AreEntries, IsEntry, body_bytes, Heading, heading_bytes, IsHeading}
 use Rattle.durable.specs.Entering.{Durable, entered, IsDurable, Admits, Enters, BodyEnters}
-use Rattle.durable.specs.Recovery.{arranged, begun, behind, IsOpen, Holds, IsActive, Recovers, other}
+use Rattle.durable.specs.Recovery.{arranged, begun, behind, IsOpen, Holds, IsActive, IsConfigured, Recovers, other}
 
 -- A code at the front of bytes determines the value and the rest.
 abbrev pub CodedOnce : {X : Type 0} → (X → Type 0) → (X → List ℕ) → Type 0
@@ -37,6 +38,12 @@ pub record RecoversOnce : Type 0 where
   pub state : (files : Files) (d e : Durable) → Recovers files d → Recovers files e → d ≡ e
   pub sound : (files : Files) (file : FileId) (h : Heading) (d : Durable) (end : ℕ) → IsActive files file h d end → IsDurable h.config d
   pub same : (old new : Files) (d : Durable) → Same old new → Recovers old d → Recovers new d
+
+-- What two files stand for is what a gateway with the stored configuration keeps: text and sessions are sound, and no
+-- session has a moment.
+pub record RecoversSound : Type 0 where
+  pub sound : (config : Config) (files : Files) (d : Durable) → IsConfigured config files → Recovers files d → IsDurable config d
+  pub stilled : (files : Files) (d : Durable) → Recovers files d → AreStilled d.sessions
 
 -- the heading of a file that is made anew for this state
 abbrev pub anew : ℕ → Config → Durable → Heading

@@ -32,11 +32,12 @@ IsOpen file = get_or file 0 0 ≡ 1
 abbrev pub behind : Heading → ℕ
 behind h = 1 + length (heading_bytes h)
 
--- An open file begins with this heading, whose configuration is one.
+-- An open file begins with this heading, whose configuration is one, and a gate stands behind it.
 pub record IsHeaded (file : List ℕ) (h : Heading) : Type 0 where
   pub whole : IsHeading h
   pub config : IsTrue (is_config h.config)
   pub front : file ≡ 1 ∷ (heading_bytes h ++ drop (behind h) file)
+  pub gated : behind h < length file
 
 -- An open file holds a state: that of its snapshot, changed by its leading open groups, whose closed gate stands at the end.
 pub record Holds (file : List ℕ) (h : Heading) (d : Durable) (end : ℕ) : Type 0 where

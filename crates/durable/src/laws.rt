@@ -1,7 +1,7 @@
 //! What follows from the definitions: each function is proved to meet its clauses.
 ghost use Rattle.packet.specs.Config.{Config};
 ghost use Rattle.durable.specs.Coding.{IsSession, session_bytes, IsEntry, entry_bytes, IsCodedConfig, config_bytes, IsKept, snapshot_bytes, IsHeading, heading_bytes};
-ghost use Rattle.durable.specs.Laws.{CodedOnce, BodiesOnce, EntersOnce, KeepsDurable, RecoversOnce, Grows, Renews};
+ghost use Rattle.durable.specs.Laws.{CodedOnce, BodiesOnce, EntersOnce, KeepsDurable, RecoversOnce, RecoversSound, Grows, Renews};
 
 /// A code at the front of bytes determines the session, or the entry, and the rest; and a body its entries.
 pub fn coded_once()
@@ -28,6 +28,12 @@ pub fn entering_laws()
 /// that state.
 pub fn recovers_once()
     ensures { RecoversOnce }
+{}
+
+/// A gateway with the stored configuration may have what two files stand for, also where none is stored, and no session in
+/// it has a moment.
+pub fn recovers_sound()
+    ensures { RecoversSound }
 {}
 
 /// A file made anew holds its snapshot's state, and a group put behind the others leads to the next state.

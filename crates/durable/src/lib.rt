@@ -26,7 +26,8 @@ mod writing;
 pub use coding::{Entry, Flow};
 pub use fault::DurableFault;
 pub use laws::{
-    coded_once, entering_laws, growing_laws, heading_once, recovers_once, renewing_laws,
+    coded_once, entering_laws, growing_laws, heading_once, recovers_once, recovers_sound,
+    renewing_laws,
 };
 pub use recovery::{Recovered, recover};
 pub use writing::{

@@ -70,6 +70,9 @@ fn read_open<'a>(
         return Ok(None);
     };
     let (stored, after) = heading_of(alloc, rest)?;
+    if after.is_empty() {
+        return Err(DurableFault::Damaged);
+    }
     let Stored {
         generation,
         config,
@@ -182,10 +185,10 @@ fn choose<'a>(
 ///
 /// # Errors
 ///
-/// - `Damaged` exactly where the files stand for no state: an open file has no whole heading, or a configuration that
-///   `Bounds::new` doesn't take; both are open with one generation; the snapshot of the active one isn't sound, or its
-///   text doesn't load; or its leading open groups aren't whole, or an entry in them doesn't fit the state.
-///   All of it is judged by the configuration that is stored.
+/// - `Damaged` exactly where the files stand for no state: an open file has no whole heading with a gate behind it, or a
+///   configuration that `Bounds::new` doesn't take; both are open with one generation; the snapshot of the active one
+///   isn't sound, or its text doesn't load; or its leading open groups aren't whole, or an entry in them doesn't fit the
+///   state. All of it is judged by the configuration that is stored.
 /// - `NoMemory` where memory is refused.
 pub fn recover<'a>(
     alloc: Global,

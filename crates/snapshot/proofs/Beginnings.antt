@@ -11,6 +11,7 @@ use Rattle.durable.specs.Entering.{Durable, IsDurable, empty}
 use Rattle.durable.specs.Laws.{anew}
 use Rattle.durable.specs.Recovery.{Active, Finds, Alike, IsConfigured, NoneOpen, Recovers, behind, pair}
 use Rattle.durable.proofs.Headed.{headed_open}
+use Rattle.durable.proofs.Storable.{empty_durable}
 use Rattle.snapshot.specs.Remaking.{Remade}
 use Rattle.snapshot.specs.Opening.{IsReady}
 use Rattle.snapshot.specs.declared.opening.Ready.{Ready}
@@ -42,18 +43,6 @@ ready_open config files r is none = none_open files r.file none (headed_open (fi
 
 pub empty_whole : (config : Config) → IsCodedConfig config → IsHeading (anew 1 config empty)
 empty_whole config coded = record { generation = omega arith; config = coded; kept = record { text = omega arith; count = omega arith; sessions = tt } }
-
-pub empty_durable : (config : Config) → IsDurable config empty
-empty_durable config = record {
-  text = inl refl;
-  sessions = record {
-    rises = tt;
-    apart = λ s t is. absurd is;
-    at_most = omega arith;
-    placed = λ s is. absurd is;
-    seen = λ s is. absurd is;
-  };
-}
 
 module _ {D : Type 0} (moment : D → ℕ) (left : D → ℕ → Files → Type 0) where
   pub same_call : (old new : D) → Goes moment left old new Same → Leaves moment left old new Same

@@ -1,6 +1,5 @@
 pub mod Anew
 pub mod States
-pub mod Codes
 pub mod Making
 pub mod Resting
 pub mod Sizes

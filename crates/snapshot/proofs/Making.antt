@@ -1,6 +1,6 @@
 -- A file is made anew, over what two files stand for.
 use Rattle.std.proofs.Common.{◌≡◌, ◌≢◌, ◌⊎◌, inl, inr, ⊎_elim, ℕ, ◌+◌, ◌<◌, ◌≤◌, ◌^◌, List, [], ◌∷◌, ◌++◌, length, get_or, take, drop, refl, sym, ◌∙◌, ap, subst, arith, length-append, append_assoc, take-append-drop}
-use Rattle.std.proofs.lemmas.List.{take_at, take-take}
+use Rattle.std.proofs.lemmas.List.{length-take, take_at, take-take}
 use Rattle.std.specs.Prelude.{IsTrue}
 use Rattle.packet.specs.Config.{Config, is_config}
 use Rattle.disk_model.specs.Disk.{Files, Elsewhere}
@@ -12,9 +12,9 @@ use Rattle.durable.specs.Laws.{anew, IsFresh}
 use Rattle.durable.specs.Recovery.{Holds, IsActive, IsHeaded, IsOpen, NoneOpen, behind, other}
 use Rattle.durable.proofs.Headed.{recovers_once}
 use Rattle.durable.proofs.Growing.{renews}
+use Rattle.durable.proofs.Storable.{active_kept}
 use Rattle.snapshot.specs.Remaking.{Remade}
 use Rattle.snapshot.proofs.States.{apart, none_open}
-use Rattle.snapshot.proofs.Codes.{active_kept}
 
 pub fresh_of : (file bytes : List ℕ) (h : Heading) → bytes ≡ heading_bytes h ++ 0 ∷ [] → take (1 + length bytes) file ≡ 1 ∷ bytes → IsFresh file h
 fresh_of file bytes h are is =
@@ -30,10 +30,11 @@ fresh_of file bytes h are is =
 longer_headed : (old new : List ℕ) (h : Heading) → IsHeaded old h → take (length old) new ≡ old → IsHeaded new h
 longer_headed old new h on same =
     let n = behind h in
-    let size : n ≤ length old = omega (arith, ap length on.front, length-append (heading_bytes h) (drop n old)) in
+    let size : n ≤ length old = omega (arith, on.gated) in
+    let more : n < length new = omega (arith, on.gated, ap length same, length-take (length old) new) in
     let front : take n old ≡ 1 ∷ heading_bytes h = ap (λ (l : List ℕ). take n l) on.front ∙ take_at (1 ∷ heading_bytes h) (drop n old) n (omega arith) in
     let also : take n new ≡ take n old = sym (take-take n (length old) new size) ∙ ap (λ (l : List ℕ). take n l) same in
-    record { whole = on.whole; config = on.config; front = sym (take-append-drop n new) ∙ ap (λ (l : List ℕ). l ++ drop n new) (also ∙ front) }
+    record { whole = on.whole; config = on.config; front = sym (take-append-drop n new) ∙ ap (λ (l : List ℕ). l ++ drop n new) (also ∙ front); gated = more }
 
 pub anew_whole : (generation : ℕ) (files : Files) (f : FileId) (h : Heading) (d : Durable) (end : ℕ) → generation < 2 ^ 64 → IsActive files f h d end → IsHeading (anew generation h.config d)
 anew_whole generation files f h d end fits active = record { generation = fits; config = active.0.headed.whole.config; kept = active_kept files f h d end active }

@@ -5,9 +5,10 @@ use Rattle.durable.specs.Coding.{heading_bytes}
 use Rattle.durable.specs.Entering.{empty, durable, Durable}
 use Rattle.durable.specs.Laws.{anew}
 use Rattle.durable.specs.Recovery.{IsActive, behind}
+use Rattle.durable.proofs.Storable.{empty_durable}
 use Rattle.snapshot.proofs.Making.{fresh_of, first_active, behind_is}
 use Rattle.snapshot.proofs.States.{apart}
-use Rattle.snapshot.proofs.Beginnings.{empty_whole, empty_durable, begun_leaves, begun_configured, begun_synced}
+use Rattle.snapshot.proofs.Beginnings.{empty_whole, begun_leaves, begun_configured, begun_synced}
 use Rattle.snapshot.proofs.opening.begin.Goals as goal
 
 pub returns-in_err-remake-clause-any_moment : goal.returns-in_err-remake-clause-any_moment

@@ -1,4 +1,4 @@
--- A state that files hold can be written.
+-- A state that files stand for can be written, has no moments, and is one that a gateway may have.
 use Rattle.std.proofs.Common.{◌≡◌, ◌⊎◌, inl, inr, ⊎_elim, ℕ, ◌<◌, ◌≤◌, ◌^◌, List, [], ◌∷◌, length, refl, sym, ◌∙◌, ap, subst, arith, not}
 use Rattle.std.specs.List.{AllByRecursion}
 use Rattle.packet.specs.Config.{Config}
@@ -8,12 +8,14 @@ use Rattle.sessions.specs.Life.{IsSeen}
 use Rattle.sessions.specs.Listing.{In, insert}
 use Rattle.sessions.specs.Sound.{AreSound}
 use Rattle.sessions.specs.Table.{amended}
+use Rattle.sessions.specs.Stilled.{AreStilled}
 use Rattle.sessions.specs.declared.session.Session.{Session}
 use Rattle.sessions.proofs.Sets.{In-insert, In-filter}
 use Rattle.durable.specs.declared.coding.Flow.{Flow}
 use Rattle.durable.specs.Coding.{Heading, Kept, Entry, Load, Begin, Seen, Restart, End, IsEntry, AreEntries, IsEndpoint, IsSession, IsKept}
-use Rattle.durable.specs.Entering.{Durable, is_of, seen_so, begun_anew, changed, ended, entered, Enters, BodyEnters, Changed}
-use Rattle.durable.specs.Recovery.{IsActive, Holds, arranged_on, begun}
+use Rattle.durable.specs.Entering.{Durable, IsDurable, empty, is_of, seen_so, begun_anew, changed, ended, entered, Enters, BodyEnters, Changed}
+use Rattle.durable.specs.Laws.{RecoversSound}
+use Rattle.durable.specs.Recovery.{IsActive, IsConfigured, Recovers, arranged_on, begun}
 use Rattle.durable.proofs.Keeping.{In-map, Amends, changes, amends-one, amends-seen, amends-anew}
 use Rattle.durable.proofs.Headed.{recovers_once}
 
@@ -77,6 +79,11 @@ all_sessions : (ss : List Session) → ((s : Session) → In s ss → IsSession 
 all_sessions [] each = tt
 all_sessions (s ∷ ss) each = (each s (inl refl), all_sessions ss (λ t is. each t (inr is)))
 
+coded_active : (files : Files) (f : FileId) (h : Heading) (d : Durable) (end : ℕ) → IsActive files f h d end → Coded d
+coded_active files f h d end active =
+    let holds = active.0 in
+    coded_bodies h.config holds.bodies (begun h.kept) d holds.changed (coded_begun h.kept holds.headed.whole.kept)
+
 kept_by : (config : Config) (d : Durable) → Coded d → AreSound config d.sessions → IsKept (record { text = d.text; sessions = d.sessions })
 unfolding AreBare
 kept_by config d coded sound = record {
@@ -89,7 +96,28 @@ kept_by config d coded sound = record {
 
 -- the state of an active file can stand in a snapshot
 pub active_kept : (files : Files) (f : FileId) (h : Heading) (d : Durable) (end : ℕ) → IsActive files f h d end → IsKept (record { text = d.text; sessions = d.sessions })
-active_kept files f h d end active =
-    let holds = active.0 in
-    kept_by h.config d (coded_bodies h.config holds.bodies (begun h.kept) d holds.changed (coded_begun h.kept holds.headed.whole.kept))
-    (recovers_once.sound files f h d end active).sessions
+active_kept files f h d end active = kept_by h.config d (coded_active files f h d end active) (recovers_once.sound files f h d end active).sessions
+
+pub empty_durable : (config : Config) → IsDurable config empty
+empty_durable config = record {
+  text = inl refl;
+  sessions = record {
+    rises = tt;
+    apart = λ s t is. absurd is;
+    at_most = omega arith;
+    placed = λ s is. absurd is;
+    seen = λ s is. absurd is;
+  };
+}
+
+sound : (config : Config) (files : Files) (d : Durable) → IsConfigured config files → Recovers files d → IsDurable config d
+sound config files d is (inl (none, same)) = subst (λ (x : Durable). IsDurable config x) (sym same) (empty_durable config)
+sound config files d is (inr (f, h, end, active)) = subst (λ (c : Config). IsDurable c d) (is f h d end active) (recovers_once.sound files f h d end active)
+
+stilled : (files : Files) (d : Durable) → Recovers files d → AreStilled d.sessions
+unfolding AreBare
+stilled files d (inl (none, same)) s is = absurd (subst (λ (x : Durable). In s x.sessions) same is)
+stilled files d (inr (f, h, end, active)) s is = ((coded_active files f h d end active).bare s is).last
+
+pub recovers_sound : RecoversSound
+recovers_sound = record { sound = sound; stilled = stilled }
