@@ -6,17 +6,17 @@ use Rattle.disk_model.specs.Disk.{Files, Same, Goes, Leaves, LeavesNow, LeavesOn
 use Rattle.disk_model.specs.declared.disk.FileId.{FileId}
 use Rattle.disk_model.specs.declared.disk.FileId.TheVariants.{A, B}
 use Rattle.disk_model.proofs.Moments.{called, follows, at_end, narrows, only_then}
-use Rattle.durable.specs.Coding.{heading_bytes, IsCodedConfig, IsHeading}
+use Rattle.durable.specs.Coding.{heading_bytes, IsHeading}
 use Rattle.durable.specs.Entering.{Durable, IsDurable, empty}
 use Rattle.durable.specs.Laws.{anew}
-use Rattle.durable.specs.Recovery.{Active, Finds, Alike, IsConfigured, NoneOpen, Recovers, behind, pair}
+use Rattle.durable.specs.Recovery.{Active, Finds, Alike, IsActive, IsConfigured, NoneOpen, Recovers, behind, pair}
 use Rattle.durable.proofs.Headed.{headed_open}
 use Rattle.durable.proofs.Storable.{empty_durable}
 use Rattle.snapshot.specs.Remaking.{Remade}
-use Rattle.snapshot.specs.Opening.{IsReady}
+use Rattle.snapshot.specs.Opening.{IsReady, state_of}
 use Rattle.snapshot.specs.declared.opening.Ready.{Ready}
 use Rattle.snapshot.proofs.States.{none_open, same_file, active_same, none_same, configured_by, configured_none, configured_same, alike, alike_same, alike_then}
-use Rattle.snapshot.proofs.Making.{first_active, begun_stands}
+use Rattle.snapshot.proofs.Making.{first_active, begun_stands, behind_is}
 
 pub pair_same : (files : Files) (a b : List ℕ) → a ≡ files A → b ≡ files B → Same files (pair a b)
 pair_same files a b one two A = one
@@ -41,8 +41,21 @@ ready_same config old new r same is = record {
 pub ready_open : (config : Config) (files : Files) (r : Ready) → IsReady config files r → ¬ NoneOpen files
 ready_open config files r is none = none_open files r.file none (headed_open (files r.file) is.heading is.active.0.headed)
 
-pub empty_whole : (config : Config) → IsCodedConfig config → IsHeading (anew 1 config empty)
-empty_whole config coded = record { generation = omega arith; config = coded; kept = record { text = omega arith; count = omega arith; sessions = tt } }
+-- a file that was made where none was open
+pub begun_ready : (config : Config) (bytes : List ℕ) (r : Ready) → IsHeading (anew r.generation config empty) → IsTrue (is_config config)
+    → bytes ≡ heading_bytes (anew r.generation config empty) ++ 0 ∷ [] → (old files : Files) → NoneOpen old → Elsewhere r.file old files
+    → take (1 + length bytes) (files r.file) ≡ 1 ∷ bytes → r.start ≡ length bytes → r.end ≡ length bytes → state_of r ≡ empty → IsReady config files r
+begun_ready config bytes r whole is are old files none elsewhere fresh start end state =
+    let k = anew r.generation config empty in
+    let active = first_active r.file r.generation config bytes whole is (empty_durable config) are old files none elsewhere fresh in
+    let size = behind_is k bytes are in
+    record {
+      heading = k;
+      active = subst (λ (n : ℕ). IsActive files r.file k (state_of r) n) (sym (end ∙ size)) (subst (λ (d : Durable). IsActive files r.file k d (behind k)) (sym state) active);
+      configured = refl;
+      numbered = refl;
+      starts = start ∙ size;
+    }
 
 module _ {D : Type 0} (moment : D → ℕ) (left : D → ℕ → Files → Type 0) where
   pub same_call : (old new : D) → Goes moment left old new Same → Leaves moment left old new Same
@@ -82,30 +95,30 @@ module _ {D : Type 0} (moment : D → ℕ) (left : D → ℕ → Files → Type 
     begun_alike leaves = narrows moment left old new (λ before files. Recovers files empty) Alike leaves
         (λ before files was r. alike before files empty (inl (none_same (seen old) before (λ file. synced file before was) none, refl)) r)
 
-    module _ (config : Config) (bytes : List ℕ) (coded : IsCodedConfig config) (is : IsTrue (is_config config))
-        (are : bytes ≡ heading_bytes (anew 1 config empty) ++ 0 ∷ []) (leaves : Leaves moment left old new (Remade A bytes)) where
+    module _ (made : FileId) (generation : ℕ) (config : Config) (bytes : List ℕ) (whole : IsHeading (anew generation config empty)) (is : IsTrue (is_config config))
+        (are : bytes ≡ heading_bytes (anew generation config empty) ++ 0 ∷ []) (leaves : Leaves moment left old new (Remade made bytes)) where
       pub begun_leaves : LeavesOnly moment left old new (λ files. Recovers files empty)
-      begun_leaves = narrows moment left old new (Remade A bytes) (λ before files. Recovers files empty) leaves
+      begun_leaves = narrows moment left old new (Remade made bytes) (λ before files. Recovers files empty) leaves
           (λ before files was remade.
           ⊎_elim
           (λ (shut : NoneOpen files). inl (shut, refl))
-          (λ active. inr (A, anew 1 config empty, behind (anew 1 config empty), active))
-          (begun_stands config bytes (empty_whole config coded) is (empty_durable config) are before files (none_same (seen old) before (λ file. synced file before was) none) remade))
+          (λ active. inr (made, anew generation config empty, behind (anew generation config empty), active))
+          (begun_stands made generation config bytes whole is (empty_durable config) are before files (none_same (seen old) before (λ file. synced file before was) none) remade))
 
       pub begun_configured : LeavesOnly moment left old new (IsConfigured config)
-      begun_configured = narrows moment left old new (Remade A bytes) (λ before files. IsConfigured config files) leaves
+      begun_configured = narrows moment left old new (Remade made bytes) (λ before files. IsConfigured config files) leaves
           (λ before files was remade.
           ⊎_elim
           (λ (shut : NoneOpen files). configured_none config files shut)
-          (λ active. configured_by config files A (anew 1 config empty) empty (behind (anew 1 config empty)) active refl)
-          (begun_stands config bytes (empty_whole config coded) is (empty_durable config) are before files (none_same (seen old) before (λ file. synced file before was) none) remade))
+          (λ active. configured_by config files made (anew generation config empty) empty (behind (anew generation config empty)) active refl)
+          (begun_stands made generation config bytes whole is (empty_durable config) are before files (none_same (seen old) before (λ file. synced file before was) none) remade))
 
-      pub begun_synced : ((s t : ℕ) (files : Files) → s ≤ t → left new t files → left new s files) → Synced moment left seen new A → Elsewhere A (seen old) (seen new)
+      pub begun_synced : ((s t : ℕ) (files : Files) → s ≤ t → left new t files → left new s files) → Synced moment left seen new made → Elsewhere made (seen old) (seen new)
           → (file : FileId) → Synced moment left seen new file
-      begun_synced earlier made elsewhere file files now =
+      begun_synced earlier there elsewhere file files now =
           ⊎_elim
-          (λ here. subst (λ (f : FileId). files f ≡ seen new f) (sym here) (made files now))
+          (λ here. subst (λ (f : FileId). files f ≡ seen new f) (sym here) (there files now))
           (λ ne.
-          let origin = at_end moment left old new (Remade A bytes) earlier leaves files now in
+          let origin = at_end moment left old new (Remade made bytes) earlier leaves files now in
           origin.2.elsewhere file ne ∙ synced file origin.0 origin.1 ∙ sym (elsewhere file ne))
-          (same_file file A)
+          (same_file file made)

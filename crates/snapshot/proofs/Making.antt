@@ -14,7 +14,7 @@ use Rattle.durable.proofs.Headed.{recovers_once}
 use Rattle.durable.proofs.Growing.{renews}
 use Rattle.durable.proofs.Storable.{active_kept}
 use Rattle.snapshot.specs.Remaking.{Remade}
-use Rattle.snapshot.proofs.States.{apart, none_open}
+use Rattle.snapshot.proofs.States.{apart, none_open, none_of}
 
 pub fresh_of : (file bytes : List ℕ) (h : Heading) → bytes ≡ heading_bytes h ++ 0 ∷ [] → take (1 + length bytes) file ≡ 1 ∷ bytes → IsFresh file h
 fresh_of file bytes h are is =
@@ -86,18 +86,20 @@ pub behind_is : (h : Heading) (bytes : List ℕ) → bytes ≡ heading_bytes h +
 behind_is h bytes are = ap length are ∙ length-append (heading_bytes h) (0 ∷ []) ∙ (let e : length (heading_bytes h) + 1 ≡ 1 + length (heading_bytes h) = omega arith in e)
 
 -- where no file is open
-module _ (config : Config) (bytes : List ℕ) (whole : IsHeading (anew 1 config empty)) (is : IsTrue (is_config config)) (sound : IsDurable config empty)
-    (are : bytes ≡ heading_bytes (anew 1 config empty) ++ 0 ∷ []) where
-  pub first_active : (old files : Files) → NoneOpen old → Elsewhere A old files → take (1 + length bytes) (files A) ≡ 1 ∷ bytes
-      → IsActive files A (anew 1 config empty) empty (behind (anew 1 config empty))
-  first_active old files none elsewhere fresh =
-      renews.first files A 1 config empty (λ open_so. none.1 (subst IsOpen (elsewhere B (λ e. apart A (sym e))) open_so))
-      (fresh_of (files A) bytes (anew 1 config empty) are fresh) whole is sound
+module _ (f : FileId) (generation : ℕ) (config : Config) (bytes : List ℕ) (whole : IsHeading (anew generation config empty)) (is : IsTrue (is_config config))
+    (sound : IsDurable config empty) (are : bytes ≡ heading_bytes (anew generation config empty) ++ 0 ∷ []) where
+  shut_beside : (old files : Files) → NoneOpen old → Elsewhere f old files → ¬ IsOpen (files (other f))
+  shut_beside old files none elsewhere open_so = none_open old (other f) none (subst IsOpen (elsewhere (other f) (λ e. apart f (sym e))) open_so)
 
-  pub begun_stands : (old files : Files) → NoneOpen old → Remade A bytes old files
-      → NoneOpen files ⊎ IsActive files A (anew 1 config empty) empty (behind (anew 1 config empty))
+  pub first_active : (old files : Files) → NoneOpen old → Elsewhere f old files → take (1 + length bytes) (files f) ≡ 1 ∷ bytes
+      → IsActive files f (anew generation config empty) empty (behind (anew generation config empty))
+  first_active old files none elsewhere fresh =
+      renews.first files f generation config empty (shut_beside old files none elsewhere) (fresh_of (files f) bytes (anew generation config empty) are fresh) whole is sound
+
+  pub begun_stands : (old files : Files) → NoneOpen old → Remade f bytes old files
+      → NoneOpen files ⊎ IsActive files f (anew generation config empty) empty (behind (anew generation config empty))
   begun_stands old files none remade =
       ⊎_elim
-      (λ shut. inl (shut, λ open_so. none.1 (subst IsOpen (remade.elsewhere B (λ e. apart A (sym e))) open_so)))
-      (λ rest. ⊎_elim (λ kept. absurd (none.0 kept.0)) (λ fresh. inr (first_active old files none remade.elsewhere fresh)) rest)
+      (λ shut. inl (none_of files f shut (shut_beside old files none remade.elsewhere)))
+      (λ rest. ⊎_elim (λ kept. absurd (none_open old f none kept.0)) (λ fresh. inr (first_active old files none remade.elsewhere fresh)) rest)
       remade.here

@@ -40,6 +40,10 @@ pub none_open : (files : Files) (f : FileId) → NoneOpen files → ¬ IsOpen (f
 none_open files A none = none.0
 none_open files B none = none.1
 
+pub none_of : (files : Files) (f : FileId) → ¬ IsOpen (files f) → ¬ IsOpen (files (other f)) → NoneOpen files
+none_of files A here beside = (here, beside)
+none_of files B here beside = (beside, here)
+
 pub none_same : (old new : Files) → Same old new → NoneOpen old → NoneOpen new
 none_same old new same none = ((λ o. none.0 (subst IsOpen (same A) o)), (λ o. none.1 (subst IsOpen (same B) o)))
 

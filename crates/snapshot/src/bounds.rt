@@ -1,11 +1,8 @@
-//! Bounds, to be kept and to be written.
+//! Bounds, to be kept.
 ghost use Rattle.std.specs.Prelude.{◌≡◌, IfOk, IsTrue, string_bytes};
-ghost use Rattle.std.specs.List.{AllByRecursion};
 ghost use Rattle.packet.specs.Config.{is_name};
-ghost use Rattle.durable.specs.Coding.{IsCodedConfig, IsPrefix};
 
 use packet::bounds::Bounds;
-use packet::endpoint::Prefix;
 use std::alloc::{AllocError, Global};
 
 fn name_of(alloc: Global, bytes: &[u8]) -> Result<String, AllocError>
@@ -34,28 +31,4 @@ pub(crate) fn copy_of(alloc: Global, bounds: &Bounds) -> Result<Bounds, AllocErr
         Ok(copy) => Ok(copy),
         Err(_) => unreachable!(),
     }
-}
-
-#[tactic(auto, unfolding(durable::specs::Coding::IsPrefix))]
-fn has_a_code(prefix: Prefix)
-    ensures { IsPrefix prefix }
-{}
-
-fn prefixes_have_a_code(prefixes: &[Prefix])
-    ensures { AllByRecursion IsPrefix prefixes.now }
-{
-    let mut rest = prefixes;
-    while let [prefix, more @ ..] = rest {
-        has_a_code(*prefix);
-        rest = more;
-    }
-}
-
-/// Bounds can be written. It does nothing but carry this.
-pub(crate) fn have_a_code(bounds: &Bounds)
-    ensures { IsCodedConfig bounds.now }
-{
-    bounds.facts();
-    prefixes_have_a_code(bounds.inside());
-    let _ = bounds.external();
 }

@@ -8,7 +8,7 @@
 //! - `opening`: what two files hold; where none is open, file A is made.
 //! - `remaking`: a file is made anew, in three synced writes.
 //! - `front`: what stands at the front of a file that is made anew.
-//! - `bounds`: the configuration, to be kept and to be written.
+//! - `bounds`: the configuration, to be kept.
 //! - `fault`: why a call is refused.
 #![tactic(auto)]
 

@@ -10,11 +10,11 @@ ghost use Rattle.snapshot.specs.Opening.{IsReady, IsJudged, IsKept, state_of};
 ghost use Rattle.snapshot.specs.Store.{IsFirst};
 
 use crate::OpenFault;
-use crate::bounds::{copy_of, have_a_code};
+use crate::bounds::copy_of;
 use crate::front::front_of;
 use crate::remaking::remake;
 use disk_model::{Disk, DiskFault, FileId};
-use durable::{DurableFault, Recovered, recover};
+use durable::{DurableFault, Recovered, heading_fits, recover};
 use packet::bounds::Bounds;
 use sessions::Session;
 use std::alloc::{AllocError, Global};
@@ -144,15 +144,17 @@ fn begin<D: Disk>(alloc: Global, disk: &mut D, bounds: &Bounds) -> Result<Ready,
     ensures damaged { IsErrOf result OpenFault.Damaged → ⊥ }
     ensures differs { IsErrOf result OpenFault.ConfigDiffers → ⊥ }
 {
-    have_a_code(bounds);
+    let file = FileId::A;
+    let generation = 1;
     bounds.facts();
+    heading_fits(generation, bounds, &[], &[]);
     let kept = copy_of(alloc, bounds)?;
-    let bytes = front_of(alloc, 1, bounds, &[], &[])?;
-    remake(disk, FileId::A, &bytes)?;
+    let bytes = front_of(alloc, generation, bounds, &[], &[])?;
+    remake(disk, file, &bytes)?;
     let end = bytes.len() as u64;
     Ok(Ready {
-        file: FileId::A,
-        generation: 1,
+        file,
+        generation,
         bounds: kept,
         start: end,
         end,
