@@ -1,6 +1,6 @@
 -- Sessions, flows and entries.
-use Rattle.std.proofs.Common.{◌≡◌, ◌⊎◌, ℕ, ◌^◌, ◌<◌, ◌≤◌, Bool, true, false, cond, eqb, leb, List, [], ◌∷◌, ◌++◌, length, Option, Some, None, refl, sym, ap, subst, ◌∙◌, arith, inl, inr}
-use Rattle.std.proofs.lemmas.Bool.{eqb-true, leb-true, le-leb}
+use Rattle.std.proofs.Common.{◌≡◌, ◌≢◌, ◌⊎◌, ℕ, ◌^◌, ◌<◌, ◌≤◌, Bool, true, false, cond, eqb, leb, List, [], ◌∷◌, ◌++◌, length, Option, Some, None, refl, sym, ap, subst, ◌∙◌, arith, inl, inr}
+use Rattle.std.proofs.lemmas.Bool.{cases_Bool, eqb-true, leb-true, le-leb}
 use Rattle.byteorder.specs.Endian.{big_bytes}
 use Rattle.packet.specs.declared.endpoint.Proto.{Proto}
 use Rattle.packet.specs.declared.endpoint.Proto.TheVariants.{Tcp, Udp}
@@ -9,9 +9,9 @@ use Rattle.packet.specs.Numbers.{proto_number}
 use Rattle.sessions.specs.declared.session.Session.{Session}
 use Rattle.sessions.specs.declared.session.Opener.{Opener}
 use Rattle.sessions.specs.declared.session.Opener.TheVariants.{Inside, Remote}
-use Rattle.sessions.specs.Life.{most_seen}
+use Rattle.sessions.specs.Life.{most_seen, opener_code}
 use Rattle.durable.specs.declared.coding.Flow.{Flow}
-use Rattle.durable.specs.Coding.{Entry, Load, Begin, Seen, Restart, End, opener_number, endpoint_bytes, session_bytes, flow_bytes, entry_bytes, text_bytes, IsEndpoint, IsSession, IsFlow, IsEntry, Begins}
+use Rattle.durable.specs.Coding.{Entry, Load, Begin, Seen, Restart, End, endpoint_bytes, session_bytes, flow_bytes, entry_bytes, text_bytes, IsEndpoint, IsSession, IsFlow, IsEntry, Begins}
 use Rattle.durable.specs.Reading.{Reader, both, chosen, byte_at, number_at, text_at, proto_of, opener_of, proto_at, opener_at, endpoint_from, endpoint_at, SessionParts, session_from, session_at, flow_from, flow_at, seen_from, restart_from, seen_at, restart_at, tagged_at, entry_at}
 use Rattle.durable.proofs.Coded.{IsBytes, Coded, some_is, guard_some, coded-both, coded-chosen, coded-into}
 use Rattle.durable.proofs.Widths.{coded-byte, coded-number, coded-text, width2, width4}
@@ -38,19 +38,31 @@ pub coded-proto : Coded Any (λ p. proto_number p ∷ []) proto_at
 unfolding proto_at
 coded-proto = coded-chosen (λ b. b < 256) (λ b. b ∷ []) byte_at Any proto_of proto_number proto_there proto_back coded-byte
 
-opener_there : (o : Opener) → Any o → (opener_of (opener_number o) ≡ Some o) × (opener_number o < 256)
+opener_there : (o : Opener) → Any o → (opener_of (opener_code o) ≡ Some o) × (opener_code o < 256)
 opener_there Inside is = (refl, omega arith)
 opener_there Remote is = (refl, omega arith)
 
-opener_back : (n : ℕ) (o : Opener) → n < 256 → opener_of n ≡ Some o → (n ≡ opener_number o) × Any o
+opener_back : (n : ℕ) (o : Opener) → n < 256 → opener_of n ≡ Some o → (n ≡ opener_code o) × Any o
 opener_back n o is e = elim (either (eqb n 0) (Some Inside) (cond (eqb n 1) (Some Remote) None) o e) [
-  | inl h ↦ (eqb-true n 0 h.0 ∙ ap opener_number (some_is Inside o h.1), tt)
-  | inr h ↦ let g = guard_some (eqb n 1) Remote o h.1 in (eqb-true n 1 g.0 ∙ ap opener_number g.1, tt)
+  | inl h ↦ (eqb-true n 0 h.0 ∙ ap opener_code (some_is Inside o h.1), tt)
+  | inr h ↦ let g = guard_some (eqb n 1) Remote o h.1 in (eqb-true n 1 g.0 ∙ ap opener_code g.1, tt)
 ]
 
-pub coded-opener : Coded Any (λ o. opener_number o ∷ []) opener_at
+pub opener_found : (n : ℕ) (o : Opener) → opener_code o ≡ n → opener_of n ≡ Some o
+opener_found n o is = subst (λ (k : ℕ). opener_of k ≡ Some o) is (opener_there o tt).0
+
+pub opener_none : (n : ℕ) → ((o : Opener) → opener_code o ≢ n) → opener_of n ≡ None
+opener_none n none = elim (cases_Bool (eqb n 0)) [
+  | inl h ↦ absurd (none Inside (sym (eqb-true n 0 h)))
+  | inr h ↦ elim (cases_Bool (eqb n 1)) [
+    | inl g ↦ absurd (none Remote (sym (eqb-true n 1 g)))
+    | inr g ↦ rw (h, g) refl
+  ]
+]
+
+pub coded-opener : Coded Any (λ o. opener_code o ∷ []) opener_at
 unfolding opener_at
-coded-opener = coded-chosen (λ b. b < 256) (λ b. b ∷ []) byte_at Any opener_of opener_number opener_there opener_back coded-byte
+coded-opener = coded-chosen (λ b. b < 256) (λ b. b ∷ []) byte_at Any opener_of opener_code opener_there opener_back coded-byte
 
 endpoint_back : (p : ℕ × ℕ) (e : Endpoint) → (p.0 < 256 ^ 4) × (p.1 < 256 ^ 2) → endpoint_from p ≡ Some e → (p ≡ (e.addr, e.port)) × IsEndpoint e
 unfolding IsEndpoint
@@ -103,7 +115,7 @@ pub coded-session : Coded IsSession session_bytes session_at
 unfolding session_at session_bytes
 coded-session =
     coded-chosen SessionFits
-    (λ p. (proto_number p.0 ∷ []) ++ (endpoint_bytes p.1.0 ++ (endpoint_bytes p.1.1.0 ++ (endpoint_bytes p.1.1.1.0 ++ ((opener_number p.1.1.1.1.0 ∷ []) ++ (p.1.1.1.1.1 ∷ []))))))
+    (λ p. (proto_number p.0 ∷ []) ++ (endpoint_bytes p.1.0 ++ (endpoint_bytes p.1.1.0 ++ (endpoint_bytes p.1.1.1.0 ++ ((opener_code p.1.1.1.1.0 ∷ []) ++ (p.1.1.1.1.1 ∷ []))))))
     (both proto_at (λ _. both endpoint_at (λ _. both endpoint_at (λ _. both endpoint_at (λ _. both opener_at (λ _. byte_at))))))
     IsSession session_from session_parts session_there session_back
     (pair coded-proto (pair coded-endpoint (pair coded-endpoint (pair coded-endpoint (pair coded-opener coded-byte)))))
@@ -140,7 +152,7 @@ abbrev pub payload : Entry → List ℕ
 payload (Load text) = text_bytes 4 text
 payload (Begin s) = session_bytes s
 payload (Seen f seen) = flow_bytes f ++ seen ∷ []
-payload (Restart f opener seen) = flow_bytes f ++ opener_number opener ∷ seen ∷ []
+payload (Restart f opener seen) = flow_bytes f ++ opener_code opener ∷ seen ∷ []
 payload (End f) = flow_bytes f
 
 pub entry_split : (e : Entry) → entry_bytes e ≡ tag_of e ∷ payload e
@@ -196,7 +208,7 @@ coded-seen = coded-into (λ (p : Flow × ℕ). IsFlow p.0 × (p.1 < 256)) (λ p.
     (pair coded-flow coded-byte)
 
 restart_there : (e : Entry) → Tagged 4 e
-    → (p : Flow × (Opener × ℕ)) × (payload e ≡ flow_bytes p.0 ++ ((opener_number p.1.0 ∷ []) ++ p.1.1 ∷ [])) × (restart_from p ≡ Some e) × (IsFlow p.0 × (Any p.1.0 × (p.1.1 < 256)))
+    → (p : Flow × (Opener × ℕ)) × (payload e ≡ flow_bytes p.0 ++ ((opener_code p.1.0 ∷ []) ++ p.1.1 ∷ [])) × (restart_from p ≡ Some e) × (IsFlow p.0 × (Any p.1.0 × (p.1.1 < 256)))
 restart_there (Load t) is = absurd (omega (arith, is.0))
 restart_there (Begin s) is = absurd (omega (arith, is.0))
 restart_there (Seen f n) is = absurd (omega (arith, is.0))
@@ -207,11 +219,11 @@ restart_there (End f) is = absurd (omega (arith, is.0))
 
 coded-restart : Coded (Tagged 4) payload restart_at
 unfolding restart_at
-coded-restart = coded-into (λ (p : Flow × (Opener × ℕ)). IsFlow p.0 × (Any p.1.0 × (p.1.1 < 256))) (λ p. flow_bytes p.0 ++ ((opener_number p.1.0 ∷ []) ++ p.1.1 ∷ []))
+coded-restart = coded-into (λ (p : Flow × (Opener × ℕ)). IsFlow p.0 × (Any p.1.0 × (p.1.1 < 256))) (λ p. flow_bytes p.0 ++ ((opener_code p.1.0 ∷ []) ++ p.1.1 ∷ []))
     (both flow_at (λ _. both opener_at (λ _. byte_at))) (Tagged 4) payload restart_from restart_there
     (λ p e is h.
     let g = guard_some (leb p.1.1 (most_seen p.0.proto)) (Restart p.0 p.1.0 p.1.1) e h in
-    subst (λ (x : Entry). (flow_bytes p.0 ++ ((opener_number p.1.0 ∷ []) ++ p.1.1 ∷ []) ≡ payload x) × Tagged 4 x) g.1 (refl, (refl, (is.0, leb-true _ _ g.0))))
+    subst (λ (x : Entry). (flow_bytes p.0 ++ ((opener_code p.1.0 ∷ []) ++ p.1.1 ∷ []) ≡ payload x) × Tagged 4 x) g.1 (refl, (refl, (is.0, leb-true _ _ g.0))))
     (pair coded-flow (pair coded-opener coded-byte))
 
 end_there : (e : Entry) → Tagged 5 e → (f : Flow) × (payload e ≡ flow_bytes f) × (Some (End f) ≡ Some e) × IsFlow f

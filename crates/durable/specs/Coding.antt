@@ -8,8 +8,7 @@ use Rattle.packet.specs.Config.{Config}
 use Rattle.packet.specs.Numbers.{proto_number}
 use Rattle.sessions.specs.declared.session.Session.{Session}
 use Rattle.sessions.specs.declared.session.Opener.{Opener}
-use Rattle.sessions.specs.declared.session.Opener.TheVariants.{Inside, Remote}
-use Rattle.sessions.specs.Life.{most_seen}
+use Rattle.sessions.specs.Life.{most_seen, opener_code}
 use Rattle.durable.specs.declared.coding.Flow.{Flow}
 
 -- a text behind its length, a number of so many bytes
@@ -20,10 +19,6 @@ text_bytes width text = big_bytes width (length text) ++ text
 abbrev pub list_bytes : {X : Type 0} → ℕ → (X → List ℕ) → List X → List ℕ
 list_bytes width code xs = big_bytes width (length xs) ++ flat_map code xs
 
-abbrev pub opener_number : Opener → ℕ
-opener_number Inside = 0
-opener_number Remote = 1
-
 -- address, port
 unfoldable pub endpoint_bytes : Endpoint → List ℕ
 endpoint_bytes e = big_bytes 4 e.addr ++ big_bytes 2 e.port
@@ -31,7 +26,7 @@ endpoint_bytes e = big_bytes 4 e.addr ++ big_bytes 2 e.port
 -- protocol, inside, outside, remote, opener, what was seen
 unfoldable pub session_bytes : Session → List ℕ
 session_bytes s =
-    proto_number s.proto ∷ (endpoint_bytes s.inside ++ (endpoint_bytes s.outside ++ (endpoint_bytes s.remote ++ opener_number s.opener ∷ s.seen ∷ [])))
+    proto_number s.proto ∷ (endpoint_bytes s.inside ++ (endpoint_bytes s.outside ++ (endpoint_bytes s.remote ++ opener_code s.opener ∷ s.seen ∷ [])))
 
 -- protocol, inside, remote
 unfoldable pub flow_bytes : Flow → List ℕ
@@ -49,7 +44,7 @@ unfoldable pub entry_bytes : Entry → List ℕ
 entry_bytes (Load text) = 1 ∷ text_bytes 4 text
 entry_bytes (Begin s) = 2 ∷ session_bytes s
 entry_bytes (Seen f seen) = 3 ∷ (flow_bytes f ++ seen ∷ [])
-entry_bytes (Restart f opener seen) = 4 ∷ (flow_bytes f ++ opener_number opener ∷ seen ∷ [])
+entry_bytes (Restart f opener seen) = 4 ∷ (flow_bytes f ++ opener_code opener ∷ seen ∷ [])
 entry_bytes (End f) = 5 ∷ flow_bytes f
 
 -- a body is its entries, one behind the other

@@ -1,19 +1,21 @@
 //! Sessions and entries at the front of bytes.
 ghost use Rattle.std.specs.Prelude.{◌≡◌, IfSome, IfNone};
-ghost use Rattle.sessions.specs.Life.{most_seen};
 ghost use Rattle.durable.specs.Coding.{IsSession, session_bytes, Begins, NoneBegins, IsEntry, entry_bytes};
 ghost use Rattle.durable.specs.Reading.{Gives, flow_at, session_at, seen_at, restart_at, entry_at};
 ghost use Rattle.durable.specs.Viewing.{view};
 
 use crate::fields::{byte_of, endpoint_of, opener_of, proto_of, text_of};
 use packet::endpoint::{Endpoint, Proto};
-use sessions::{Opener, Session};
+use sessions::{Opener, Session, are_known_bits};
 
 /// What names a session.
 #[derive(Clone, Copy, Debug, PartialEq, Eq, Drop)]
 pub struct Flow {
+    /// TCP and UDP have flows of their own.
     pub proto: Proto,
+    /// The endpoint behind the gateway.
     pub inside: Endpoint,
+    /// The endpoint that it speaks with.
     pub remote: Endpoint,
 }
 
@@ -30,15 +32,6 @@ pub enum Entry<'a> {
     Restart(Flow, Opener, u8),
     /// A session ends.
     End(Flow),
-}
-
-fn most_of(proto: Proto) -> u8
-    ensures { result ≡ most_seen proto }
-{
-    match proto {
-        Proto::Tcp => 63,
-        Proto::Udp => 1,
-    }
 }
 
 #[tactic(auto, unfolding(crate::specs::Reading::flow_at))]
@@ -68,7 +61,7 @@ pub fn read_session(bytes: &[u8]) -> Option<(Session, &[u8])>
     let (remote, rest) = endpoint_of(rest)?;
     let (opener, rest) = opener_of(rest)?;
     let (seen, rest) = byte_of(rest)?;
-    if most_of(proto) < seen {
+    if !are_known_bits(proto, seen) {
         return None;
     }
     let session = Session {
@@ -89,7 +82,7 @@ fn read_seen(bytes: &[u8]) -> Option<(Entry<'_>, &[u8])>
 {
     let (flow, rest) = read_flow(bytes)?;
     let (seen, rest) = byte_of(rest)?;
-    if most_of(flow.proto) < seen {
+    if !are_known_bits(flow.proto, seen) {
         return None;
     }
     Some((Entry::Seen(flow, seen), rest))
@@ -102,7 +95,7 @@ fn read_restart(bytes: &[u8]) -> Option<(Entry<'_>, &[u8])>
     let (flow, rest) = read_flow(bytes)?;
     let (opener, rest) = opener_of(rest)?;
     let (seen, rest) = byte_of(rest)?;
-    if most_of(flow.proto) < seen {
+    if !are_known_bits(flow.proto, seen) {
         return None;
     }
     Some((Entry::Restart(flow, opener, seen), rest))

@@ -67,14 +67,9 @@ pub fn proto_of(bytes: &[u8]) -> Option<(Proto, &[u8])>
 pub fn opener_of(bytes: &[u8]) -> Option<(Opener, &[u8])>
     ensures { Gives (λ x. (x.0, x.1.now)) result (opener_at bytes.now) }
 {
-    let (number, rest) = byte_of(bytes)?;
-    if number == 0 {
-        return Some((Opener::Inside, rest));
-    }
-    if number == 1 {
-        return Some((Opener::Remote, rest));
-    }
-    None
+    let (code, rest) = byte_of(bytes)?;
+    let opener = Opener::of_code(code)?;
+    Some((opener, rest))
 }
 
 #[tactic(auto, unfolding(crate::specs::Reading::endpoint_at))]

@@ -3,7 +3,7 @@ ghost use Rattle.std.specs.Prelude.{◌≡◌, ◌<◌, ◌^◌, ◌∷◌, ◌+
 ghost use Rattle.std.specs.List.{All, flat_map};
 ghost use Rattle.byteorder.specs.Endian.{big_bytes};
 ghost use Rattle.sessions.specs.Life.{IsSeen};
-ghost use Rattle.durable.specs.Coding.{Begin, End, Load, Restart, Seen, opener_number, endpoint_bytes, session_bytes, flow_bytes, entry_bytes, text_bytes, prefix_bytes, config_bytes, snapshot_bytes, heading_bytes, mark, IsEndpoint, IsEntry, IsFlow, IsHeading, IsPrefix, IsSession};
+ghost use Rattle.durable.specs.Coding.{Begin, End, Load, Restart, Seen, endpoint_bytes, session_bytes, flow_bytes, entry_bytes, text_bytes, prefix_bytes, config_bytes, snapshot_bytes, heading_bytes, mark, IsEndpoint, IsEntry, IsFlow, IsHeading, IsPrefix, IsSession};
 ghost use Rattle.durable.specs.Entering.{durable};
 ghost use Rattle.durable.specs.Laws.{anew};
 
@@ -12,15 +12,6 @@ use packet::bounds::Bounds;
 use packet::endpoint::{Endpoint, Prefix};
 use sessions::{Opener, Session};
 use std::alloc::AllocError;
-
-fn number_of(opener: Opener) -> u8
-    ensures { result ≡ opener_number opener }
-{
-    match opener {
-        Opener::Inside => 0,
-        Opener::Remote => 1,
-    }
-}
 
 fn address_fits(address: u32)
     ensures { address < 2 ^ 32 }
@@ -65,7 +56,7 @@ pub fn begin_code(session: &Session) -> [u8; 22]
     let [g, h, i, j, k, l] = endpoint_code(session.outside);
     let [m, n, o, p, q, r] = endpoint_code(session.remote);
     let proto = session.proto.number();
-    let opener = number_of(session.opener);
+    let opener = session.opener.code();
     [
         2,
         proto,
@@ -116,7 +107,7 @@ pub fn restart_code(flow: &Flow, opener: Opener, seen: u8) -> [u8; 16]
     ensures fits { IsSeen flow.now.proto seen → IsEntry (Restart flow.now opener seen) }
 {
     let [a, b, c, d, e, f, g, h, i, j, k, l, m] = flow_code(flow);
-    let opener = number_of(opener);
+    let opener = opener.code();
     [4, a, b, c, d, e, f, g, h, i, j, k, l, m, opener, seen]
 }
 
@@ -152,7 +143,7 @@ fn put_session(out: &mut Vec<u8>, session: &Session) -> Result<(), AllocError>
     put_endpoint(out, session.inside)?;
     put_endpoint(out, session.outside)?;
     put_endpoint(out, session.remote)?;
-    put_byte(out, number_of(session.opener))?;
+    put_byte(out, session.opener.code())?;
     put_byte(out, session.seen)?;
     Ok(())
 }

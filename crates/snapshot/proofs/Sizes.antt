@@ -7,8 +7,9 @@ use Rattle.packet.specs.Config.{Config, IsChecked}
 use Rattle.packet.specs.declared.endpoint.Endpoint.{Endpoint}
 use Rattle.packet.specs.declared.endpoint.Prefix.{Prefix}
 use Rattle.packet.specs.Numbers.{proto_number}
+use Rattle.sessions.specs.Life.{opener_code}
 use Rattle.sessions.specs.declared.session.Session.{Session}
-use Rattle.durable.specs.Coding.{Heading, Kept, mark, opener_number, endpoint_bytes, session_bytes, prefix_bytes, text_bytes, list_bytes, config_bytes, snapshot_bytes, heading_bytes}
+use Rattle.durable.specs.Coding.{Heading, Kept, mark, endpoint_bytes, session_bytes, prefix_bytes, text_bytes, list_bytes, config_bytes, snapshot_bytes, heading_bytes}
 
 length-endpoint : (e : Endpoint) → length (endpoint_bytes e) ≡ 6
 unfolding endpoint_bytes
@@ -17,7 +18,7 @@ length-endpoint e = length-append (big_bytes 4 e.addr) (big_bytes 2 e.port)
 length-session : (s : Session) → length (session_bytes s) ≡ 21
 unfolding session_bytes
 length-session s =
-    let last = opener_number s.opener ∷ s.seen ∷ [] in
+    let last = opener_code s.opener ∷ s.seen ∷ [] in
     let third = length-append (endpoint_bytes s.remote) last in
     let second = length-append (endpoint_bytes s.outside) (endpoint_bytes s.remote ++ last) in
     let first = length-append (endpoint_bytes s.inside) (endpoint_bytes s.outside ++ (endpoint_bytes s.remote ++ last)) in

@@ -4,7 +4,7 @@ use Rattle.durable.proofs.writing.begin_code.Goals as goal
 
 pub returns-clause-code : goal.returns-clause-code
 unfolding entry_bytes session_bytes endpoint_bytes
-returns-clause-code c = rw (c.endpoint_code.ensures.code, c.endpoint_code-2.ensures.code, c.endpoint_code-3.ensures.code, c.number-proto.ensures, c.number_of-opener.ensures) refl
+returns-clause-code c = rw (c.endpoint_code.ensures.code, c.endpoint_code-2.ensures.code, c.endpoint_code-3.ensures.code, c.number-proto.ensures, c.code-opener.ensures) refl
 
 pub returns-clause-fits : goal.returns-clause-fits
 returns-clause-fits c = λ bits last.

@@ -4,7 +4,7 @@ use Rattle.durable.proofs.writing.restart_code.Goals as goal
 
 pub returns-clause-code : goal.returns-clause-code
 unfolding entry_bytes flow_bytes endpoint_bytes
-returns-clause-code c = rw (c.flow_code.ensures.code, c.number_of-opener.ensures) refl
+returns-clause-code c = rw (c.flow_code.ensures.code, c.code-opener.ensures) refl
 
 pub returns-clause-fits : goal.returns-clause-fits
 returns-clause-fits c = λ bits. (c.flow_code.ensures.fits, bits)
