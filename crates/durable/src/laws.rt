@@ -30,8 +30,8 @@ pub fn recovers_once()
     ensures { RecoversOnce }
 {}
 
-/// A gateway with the stored configuration may have what two files stand for, also where none is stored, and no session in
-/// it has a moment.
+/// A gateway with the stored configuration may have what two files stand for, also where none is stored, and no session
+/// in it has a moment.
 pub fn recovers_sound()
     ensures { RecoversSound }
 {}

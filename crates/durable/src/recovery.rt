@@ -91,7 +91,8 @@ fn read_open<'a>(
 // A table of these sessions, which may stand in any order.
 fn table_of(alloc: Global, bounds: &Bounds, sessions: &[Session]) -> Result<Table, DurableFault>
     requires bits { All (λ s. IsSeen s.proto s.seen) sessions.now }
-    ensures ok { IfOk result (λ table. (listing table.held ≡ arranged sessions.now) × AreSound bounds.now (arranged sessions.now)) }
+    ensures ok { IfOk result (λ table. (listing table.held ≡ arranged sessions.now)
+        × AreSound bounds.now (arranged sessions.now)) }
     ensures damaged { IsErrOf result DurableFault.Damaged → ¬ AreSound bounds.now (arranged sessions.now) }
 {
     let mut table = Table::new(alloc);
@@ -109,7 +110,8 @@ fn settle<'a>(
 ) -> Result<(&'a [u8], Vec<Session>, &'a [u8]), DurableFault>
     requires { IsHeading (headed_view headed.now) }
     ensures ok { IfOk result (λ x. StateLeads (headed_view headed.now) rest.now (durable x.0.now x.1.items) x.2.now) }
-    ensures damaged { IsErrOf result DurableFault.Damaged → (d : Durable) (tail : List ℕ) → ¬ StateLeads (headed_view headed.now) rest.now d tail }
+    ensures damaged { IsErrOf result DurableFault.Damaged → (d : Durable) (tail : List ℕ)
+        → ¬ StateLeads (headed_view headed.now) rest.now d tail }
 {
     check_text(alloc, &headed.bounds, headed.text)?;
     let mut table = table_of(alloc, &headed.bounds, &headed.sessions)?;
@@ -129,7 +131,8 @@ fn active<'a>(
     requires headed { IsHeaded bytes.now (headed_view headed) }
     requires rest { rest.now ≡ drop (behind (headed_view headed)) bytes.now }
     ensures ok { IfOk result (HeldBy file bytes.now (headed_view headed.entry)) }
-    ensures damaged { IsErrOf result DurableFault.Damaged → (d : Durable) (end : ℕ) → ¬ Holds bytes.now (headed_view headed.entry) d end }
+    ensures damaged { IsErrOf result DurableFault.Damaged → (d : Durable) (end : ℕ)
+        → ¬ Holds bytes.now (headed_view headed.entry) d end }
 {
     let (text, sessions, tail) = settle(alloc, &headed, rest)?;
     let start = bytes.len().saturating_sub(rest.len());
@@ -185,10 +188,10 @@ fn choose<'a>(
 ///
 /// # Errors
 ///
-/// - `Damaged` exactly where the files stand for no state: an open file has no whole heading with a gate behind it, or a
-///   configuration that `Bounds::new` doesn't take; both are open with one generation; the snapshot of the active one
-///   isn't sound, or its text doesn't load; or its leading open groups aren't whole, or an entry in them doesn't fit the
-///   state. All of it is judged by the configuration that is stored.
+/// - `Damaged` exactly where the files stand for no state: an open file has no whole heading with a gate behind it, or
+///   a configuration that `Bounds::new` doesn't take; both are open with one generation; the snapshot of the active one
+///   isn't sound, or its text doesn't load; or its leading open groups aren't whole, or an entry in them doesn't fit
+///   the state. All of it is judged by the configuration that is stored.
 /// - `NoMemory` where memory is refused.
 pub fn recover<'a>(
     alloc: Global,

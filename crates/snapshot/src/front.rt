@@ -25,7 +25,8 @@ pub(crate) fn front_of(
     requires text { length text.now ≤ 262144 }
     requires count { length sessions.now ≤ 65536 }
     ensures small { IfOk result (λ bytes. length bytes.items ≤ 1638538) }
-    ensures code { IfOk result (λ bytes. bytes.items ≡ heading_bytes (anew generation bounds.now (durable text.now sessions.now)) ++ 0 ∷ []) }
+    ensures code { IfOk result (λ bytes. bytes.items
+        ≡ heading_bytes (anew generation bounds.now (durable text.now sessions.now)) ++ 0 ∷ []) }
 {
     bounds.facts();
     let mut bytes = Vec::new(alloc);

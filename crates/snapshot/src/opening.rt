@@ -66,10 +66,12 @@ fn contents<D: Disk>(alloc: Global, disk: &mut D, file: FileId) -> Result<Vec<u8
 // Syncs both files, and reads them.
 fn look<D: Disk>(alloc: Global, disk: &mut D) -> Result<(Vec<u8>, Vec<u8>), OpenFault>
     ensures honest { D.honest disk.old ↔ D.honest disk.new }
-    ensures ok { D.honest disk.old → IfOk result (λ read. (read.0.items ≡ D.seen disk.old A) × (read.1.items ≡ D.seen disk.old B)) }
+    ensures ok { D.honest disk.old → IfOk result (λ read. (read.0.items ≡ D.seen disk.old A)
+        × (read.1.items ≡ D.seen disk.old B)) }
     ensures synced { D.honest disk.old → OnOk result ((file : FileId) → Synced D.moment D.left D.seen disk.new file) }
     ensures leaves { D.honest disk.old → Leaves D.moment D.left disk.old disk.new Same }
-    ensures looks { D.honest disk.old → ¬ IsErrOf result OpenFault.Device → Looks D.moment D.left D.seen disk.old disk.new }
+    ensures looks { D.honest disk.old → ¬ IsErrOf result OpenFault.Device
+        → Looks D.moment D.left D.seen disk.old disk.new }
     ensures failures { D.failed disk.old ≤ D.failed disk.new }
     ensures no_failure { OnOk result (D.failed disk.new ≡ D.failed disk.old) }
     ensures device { IsErrOf result OpenFault.Device → Grew (D.failed disk.old) (D.failed disk.new) }
@@ -129,7 +131,8 @@ fn begin<D: Disk>(alloc: Global, disk: &mut D, bounds: &Bounds) -> Result<Ready,
     requires none { D.honest disk.old → NoneOpen (D.seen disk.old) }
     requires synced { D.honest disk.old → (file : FileId) → Synced D.moment D.left D.seen disk.old file }
     ensures honest { D.honest disk.old ↔ D.honest disk.new }
-    ensures any_moment { D.honest disk.old → LeavesOnly D.moment D.left disk.old disk.new (λ files. Recovers files empty) }
+    ensures any_moment { D.honest disk.old
+        → LeavesOnly D.moment D.left disk.old disk.new (λ files. Recovers files empty) }
     ensures configured { D.honest disk.old → LeavesOnly D.moment D.left disk.old disk.new (IsConfigured bounds.now) }
     ensures ok { D.honest disk.old → IfOk result (λ r. IsReady bounds.now (D.seen disk.new) r) }
     ensures synced { D.honest disk.old → OnOk result ((file : FileId) → Synced D.moment D.left D.seen disk.new file) }
@@ -187,10 +190,12 @@ pub(crate) fn make_ready<D: Disk>(
         → OnOk result (Looks D.moment D.left D.seen disk.old disk.new) }
     ensures synced { D.honest disk.old → OnOk result ((file : FileId) → Synced D.moment D.left D.seen disk.new file) }
     ensures bounds { IfOk result (λ r. r.bounds ≡ bounds.now) }
-    ensures damaged { D.honest disk.old → IsErrOf result OpenFault.Damaged → (d : Durable) → ¬ Recovers (D.seen disk.old) d }
+    ensures damaged { D.honest disk.old → IsErrOf result OpenFault.Damaged → (d : Durable)
+        → ¬ Recovers (D.seen disk.old) d }
     ensures differs { D.honest disk.old → IsErrOf result OpenFault.ConfigDiffers
         → (d : Durable) × Recovers (D.seen disk.old) d × ¬ IsConfigured bounds.now (D.seen disk.old) }
-    ensures looks { D.honest disk.old → ¬ IsErrOf result OpenFault.Device → OnErr result (Looks D.moment D.left D.seen disk.old disk.new) }
+    ensures looks { D.honest disk.old → ¬ IsErrOf result OpenFault.Device
+        → OnErr result (Looks D.moment D.left D.seen disk.old disk.new) }
     ensures failures { D.failed disk.old ≤ D.failed disk.new }
     ensures no_failure { OnOk result (D.failed disk.new ≡ D.failed disk.old) }
     ensures device { IsErrOf result OpenFault.Device → Grew (D.failed disk.old) (D.failed disk.new) }

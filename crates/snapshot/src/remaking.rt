@@ -16,8 +16,8 @@ pub(crate) fn beside(file: FileId) -> FileId
     }
 }
 
-/// Makes a file anew: closes its gate, puts these bytes behind the gate, and opens it, each on the disk before the next.
-/// It makes six calls of the disk.
+/// Makes a file anew: closes its gate, puts these bytes behind the gate, and opens it, each on the disk before the
+/// next. It makes six calls of the disk.
 ///
 /// # Errors
 ///
@@ -25,7 +25,8 @@ pub(crate) fn beside(file: FileId) -> FileId
 pub(crate) fn remake<D: Disk>(disk: &mut D, file: FileId, bytes: &[u8]) -> Result<(), DiskFault>
     ensures honest { D.honest disk.old ↔ D.honest disk.new }
     ensures any_moment { D.honest disk.old → Leaves D.moment D.left disk.old disk.new (Remade file bytes.now) }
-    ensures fresh { D.honest disk.old → OnOk result (take (1 + length bytes.now) (D.seen disk.new file) ≡ 1 ∷ bytes.now) }
+    ensures fresh { D.honest disk.old → OnOk result (take (1 + length bytes.now) (D.seen disk.new file)
+        ≡ 1 ∷ bytes.now) }
     ensures synced { D.honest disk.old → OnOk result (Synced D.moment D.left D.seen disk.new file) }
     ensures elsewhere { D.honest disk.old → OnOk result (Elsewhere file (D.seen disk.old) (D.seen disk.new)) }
     ensures called { D.honest disk.old → OnOk result (Called 6 (D.called disk.old) (D.called disk.new)) }

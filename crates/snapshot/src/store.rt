@@ -70,8 +70,8 @@ pub struct Opened<D: Disk + Drop> {
 }
 
 impl<D: Disk + Drop> Store<D> {
-    /// Opens the store that two files hold. Both are synced, then read. Where none is open, file A is made, and holds no
-    /// text and no session; else neither is written.
+    /// Opens the store that two files hold. Both are synced, then read. Where none is open, file A is made, and holds
+    /// no text and no session; else neither is written.
     ///
     /// # Errors
     ///
@@ -79,17 +79,19 @@ impl<D: Disk + Drop> Store<D> {
     ///
     /// - `Device` where a call of the disk has failed. The files stand for what they stood for.
     /// - `Damaged` exactly where the files, as they read, stand for no state. They are not changed.
-    /// - `ConfigDiffers` exactly where they stand for one, and the active file has another configuration than these bounds.
-    ///   They are not changed.
+    /// - `ConfigDiffers` exactly where they stand for one, and the active file has another configuration than these
+    ///   bounds. They are not changed.
     /// - `NoMemory` where memory is refused. They are not changed.
     pub fn open(alloc: Global, disk: D, bounds: &Bounds) -> Result<Opened<D>, (D, OpenFault)>
-        ensures honest { MatchResult result (λ o. D.honest disk ↔ D.honest o.store.disk) (λ e. D.honest disk ↔ D.honest e.0) }
+        ensures honest { MatchResult result (λ o. D.honest disk ↔ D.honest o.store.disk)
+            (λ e. D.honest disk ↔ D.honest e.0) }
 
         // Whatever a crash leaves since the entry stands for what some pair left at the entry stands for.
         ensures any_moment { D.honest disk → MatchResult result (λ o. Leaves D.moment D.left disk o.store.disk Alike)
             (λ e. Leaves D.moment D.left disk e.0 Alike) }
 
-        // Where each pair left at the entry has this configuration in its active file, if it has one, so has each since.
+        // Where each pair left at the entry has this configuration in its active file, if it has one, so has each
+        // since.
         ensures configured { D.honest disk → LeavesNow D.moment D.left disk (IsConfigured bounds.now)
             → MatchResult result (λ o. LeavesOnly D.moment D.left disk o.store.disk (IsConfigured bounds.now))
             (λ e. LeavesOnly D.moment D.left disk e.0 (IsConfigured bounds.now)) }
@@ -107,11 +109,14 @@ impl<D: Disk + Drop> Store<D> {
             → IfOk result (λ o. Looks D.moment D.left D.seen disk o.store.disk) }
         ensures stands { IfOk result (λ o. o.store.fallen ≡ false) }
         ensures config { IfOk result (λ o. o.store.config ≡ bounds.now) }
-        ensures damaged { D.honest disk → IfErr result (λ e. e.1 ≡ OpenFault.Damaged → (d : Durable) → ¬ Recovers (D.seen disk) d) }
+        ensures damaged { D.honest disk → IfErr result (λ e. e.1 ≡ OpenFault.Damaged → (d : Durable)
+            → ¬ Recovers (D.seen disk) d) }
         ensures differs { D.honest disk → IfErr result (λ e. e.1 ≡ OpenFault.ConfigDiffers
             → (d : Durable) × Recovers (D.seen disk) d × ¬ IsConfigured bounds.now (D.seen disk)) }
-        ensures looks { D.honest disk → IfErr result (λ e. ¬ (e.1 ≡ OpenFault.Device) → Looks D.moment D.left D.seen disk e.0) }
-        ensures failures { MatchResult result (λ o. D.failed o.store.disk ≡ D.failed disk) (λ e. D.failed disk ≤ D.failed e.0) }
+        ensures looks { D.honest disk → IfErr result (λ e. ¬ (e.1 ≡ OpenFault.Device)
+            → Looks D.moment D.left D.seen disk e.0) }
+        ensures failures { MatchResult result (λ o. D.failed o.store.disk ≡ D.failed disk)
+            (λ e. D.failed disk ≤ D.failed e.0) }
         ensures device { IfErr result (λ e. e.1 ≡ OpenFault.Device → Grew (D.failed disk) (D.failed e.0)) }
     {
         let mut disk = disk;
@@ -150,8 +155,10 @@ impl<D: Disk + Drop> Store<D> {
         ensures value { result ≡ self.now.fallen }
 
         // Until then the store has a state and its place, and a crash leaves what the files read.
-        ensures stands { result ≡ false → D.honest self.now.disk → (d : Durable) × Keeps D.moment D.left D.seen self.now d }
-        ensures configured { result ≡ false → D.honest self.now.disk → LeavesNow D.moment D.left self.now.disk (IsConfigured self.now.config) }
+        ensures stands { result ≡ false → D.honest self.now.disk
+            → (d : Durable) × Keeps D.moment D.left D.seen self.now d }
+        ensures configured { result ≡ false → D.honest self.now.disk
+            → LeavesNow D.moment D.left self.now.disk (IsConfigured self.now.config) }
     {
         self.fallen
     }
@@ -210,21 +217,26 @@ impl<D: Disk + Drop> Store<D> {
         ensures honest { D.honest self.old.disk ↔ D.honest self.new.disk }
 
         // A crash at any moment leaves the state from before, or the one with the group.
-        ensures any_moment { D.honest self.old.disk → (d e : Durable) → Recovers (D.seen self.old.disk) d → BodyEnters self.old.config group.now.body d e
+        ensures any_moment { D.honest self.old.disk → (d e : Durable) → Recovers (D.seen self.old.disk) d
+            → BodyEnters self.old.config group.now.body d e
             → LeavesOnly D.moment D.left self.old.disk self.new.disk (RecoversEither d e) }
-        ensures configured { D.honest self.old.disk → LeavesOnly D.moment D.left self.old.disk self.new.disk (IsConfigured self.old.config) }
+        ensures configured { D.honest self.old.disk
+            → LeavesOnly D.moment D.left self.old.disk self.new.disk (IsConfigured self.old.config) }
 
         // After Ok it is kept.
-        ensures ok { D.honest self.old.disk → (d e : Durable) → Recovers (D.seen self.old.disk) d → BodyEnters self.old.config group.now.body d e
+        ensures ok { D.honest self.old.disk → (d e : Durable) → Recovers (D.seen self.old.disk) d
+            → BodyEnters self.old.config group.now.body d e
             → OnOk result (Keeps D.moment D.left D.seen self.new e) }
         ensures config { self.new.config ≡ self.old.config }
         ensures generation { self.new.generation ≡ self.old.generation }
         ensures end { D.honest self.old.disk → OnOk result (self.new.end ≡ self.old.end + length group.now.body + 5) }
-        ensures grown { D.honest self.old.disk → OnOk result (self.new.grown ≡ self.old.grown + length group.now.body + 5) }
+        ensures grown { D.honest self.old.disk
+            → OnOk result (self.new.grown ≡ self.old.grown + length group.now.body + 5) }
         ensures full { IsErrOf result CommitFault.Full ↔ 67108864 < self.old.end + length group.now.body + 6 }
         ensures full_stays { IsErrOf result CommitFault.Full → self.new ≡ self.old }
         ensures fell { IsErrOf result CommitFault.Device ↔ self.new.fallen ≡ true }
-        ensures called { D.honest self.old.disk → OnOk result (Called 4 (D.called self.old.disk) (D.called self.new.disk)) }
+        ensures called { D.honest self.old.disk
+            → OnOk result (Called 4 (D.called self.old.disk) (D.called self.new.disk)) }
         ensures failures { D.failed self.old.disk ≤ D.failed self.new.disk }
         ensures no_failure { OnOk result (D.failed self.new.disk ≡ D.failed self.old.disk) }
         ensures device { IsErrOf result CommitFault.Device → Grew (D.failed self.old.disk) (D.failed self.new.disk) }
@@ -243,9 +255,9 @@ impl<D: Disk + Drop> Store<D> {
         }
     }
 
-    /// Makes the other file anew with the durable state as its snapshot, and no groups; then it is the active one. The text
-    /// is what was loaded last, and the sessions stand in the order of `Table::list`, `last` being 0 in each. It makes six
-    /// calls of the disk; all memory is taken before the first.
+    /// Makes the other file anew with the durable state as its snapshot, and no groups; then it is the active one. The
+    /// text is what was loaded last, and the sessions stand in the order of `Table::list`, `last` being 0 in each. It
+    /// makes six calls of the disk; all memory is taken before the first.
     ///
     /// # Errors
     ///
@@ -265,15 +277,21 @@ impl<D: Disk + Drop> Store<D> {
         ensures honest { D.honest self.old.disk ↔ D.honest self.new.disk }
 
         // A crash at any moment leaves the one state.
-        ensures any_moment { D.honest self.old.disk → LeavesOnly D.moment D.left self.old.disk self.new.disk (λ files. Recovers files (durable text.now sessions.now)) }
-        ensures configured { D.honest self.old.disk → LeavesOnly D.moment D.left self.old.disk self.new.disk (IsConfigured self.old.config) }
+        ensures any_moment { D.honest self.old.disk
+            → LeavesOnly D.moment D.left self.old.disk self.new.disk
+            (λ files. Recovers files (durable text.now sessions.now)) }
+        ensures configured { D.honest self.old.disk
+            → LeavesOnly D.moment D.left self.old.disk self.new.disk (IsConfigured self.old.config) }
 
         // After Ok it is kept.
-        ensures ok { D.honest self.old.disk → OnOk result (Keeps D.moment D.left D.seen self.new (durable text.now sessions.now)) }
+        ensures ok { D.honest self.old.disk
+            → OnOk result (Keeps D.moment D.left D.seen self.new (durable text.now sessions.now)) }
         ensures config { self.new.config ≡ self.old.config }
         ensures generation { OnOk result (self.new.generation ≡ self.old.generation + 1) }
         ensures grown { OnOk result (self.new.grown ≡ 0) }
-        ensures end { OnOk result (self.new.end ≡ 1 + length (heading_bytes (anew (self.old.generation + 1) self.old.config (durable text.now sessions.now)))) }
+        ensures end { OnOk result (self.new.end
+            ≡ 1 + length (heading_bytes
+            (anew (self.old.generation + 1) self.old.config (durable text.now sessions.now)))) }
 
         // A snapshot of the greatest text, and as many sessions as there may be, ends there.
         ensures small { OnOk result (self.new.end ≤ 1638538) }
@@ -281,7 +299,8 @@ impl<D: Disk + Drop> Store<D> {
         ensures generations_stay { IsErrOf result CompactFault.Generations → self.new ≡ self.old }
         ensures memory_stays { IsErrOf result CompactFault.NoMemory → self.new ≡ self.old }
         ensures fell { IsErrOf result CompactFault.Device ↔ self.new.fallen ≡ true }
-        ensures called { D.honest self.old.disk → OnOk result (Called 6 (D.called self.old.disk) (D.called self.new.disk)) }
+        ensures called { D.honest self.old.disk
+            → OnOk result (Called 6 (D.called self.old.disk) (D.called self.new.disk)) }
         ensures failures { D.failed self.old.disk ≤ D.failed self.new.disk }
         ensures no_failure { OnOk result (D.failed self.new.disk ≡ D.failed self.old.disk) }
         ensures device { IsErrOf result CompactFault.Device → Grew (D.failed self.old.disk) (D.failed self.new.disk) }
