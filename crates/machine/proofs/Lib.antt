@@ -6,6 +6,7 @@ pub mod Lasting
 pub mod Later
 pub mod Passing
 pub mod Reading
+pub mod Resuming
 pub mod Slots
 pub mod Soundness
 pub mod Stepping

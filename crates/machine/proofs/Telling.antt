@@ -1,14 +1,16 @@
 -- The entry of a change, as the table tells it.
-use Rattle.std.proofs.Common.{◌≡◌, ◌≢◌, ◌<◌, ◌≤◌, ◌+◌, arith, inr, inl, ◌++◌, is_some, ℕ, List, [], ◌∷◌, Option, Some, None, true, false, get_or, refl, sym, ap, subst, ◌∙◌}
+use Rattle.std.proofs.Common.{◌≡◌, ◌≢◌, ◌<◌, ◌≤◌, ◌+◌, arith, inr, inl, ◌++◌, is_some, ℕ, List, [], ◌∷◌, Option, Some, None, true, false, get_or, bit_or, refl, sym, ap, subst, ◌∙◌}
 use Rattle.std.proofs.lemmas.Bool.{cases_lt, false≢true}
 use Rattle.std.proofs.lemmas.Option.{same_Some}
 use Rattle.sessions.specs.declared.session.Session.{Session}
+use Rattle.sessions.specs.Life.{IsSeen}
 use Rattle.sessions.specs.Listing.{Rises, find, key, listing, put, same_flow}
 use Rattle.sessions.specs.declared.session.Change as changes
 use Rattle.sessions.specs.declared.session.Change.TheVariants as change
 use Rattle.sessions.specs.declared.session.Opener.{Opener}
 use Rattle.sessions.specs.Stilled.{stilled}
 use Rattle.sessions.specs.Table.{AnyClash, IsSound as IsSoundTable, restarted, seen}
+use Rattle.sessions.proofs.LifeLemmas.{IsSeen-or}
 use Rattle.sessions.proofs.Puts.{find-is, find-none, flow-keys, has_inside-true, keys-flow}
 use Rattle.sessions.proofs.Sets.{Apart, Apart-sound, In-listing, Rises-listing, listing-In}
 use Rattle.sessions.proofs.Stilled.{one-of-key}
@@ -59,6 +61,16 @@ module _ (held : List (Option Session)) (apart : Apart held) where
         let same : s ≡ gives.0 = same_Some s gives.0 (sym is ∙ gives.1) in
         let t_is : restarted s opener now ≡ t = ap (λ u. restarted u opener now) same ∙ sym gives.2 in
         ap (between s) t_is ∙ sym (noted-held slot s t is (keys-flow t s (ap key (sym t_is))))
+
+-- what a change makes of a session has seen bits of its protocol
+pub begin-fits : (external : ℕ) (held : List (Option Session)) (now : ℕ) (s t : Session) → Gives external held now (change.Begin s) t → IsSeen s.proto s.seen
+begin-fits external held now s t gives = omega (arith, gives.1.unseen)
+
+pub seen-fits : (external : ℕ) (held : List (Option Session)) (now slot bits : ℕ) (s t : Session) → IsSoundTable held → get_or held slot None ≡ Some s
+    → Gives external held now (change.Seen slot bits) t → IsSeen s.proto (bit_or s.seen bits)
+seen-fits external held now slot bits s t sound is gives =
+    let same : gives.0 ≡ s = same_Some gives.0 s (sym gives.1 ∙ is) in
+    IsSeen-or s.proto s.seen bits (sound.seen slot s is) (subst (λ (u : Session). IsSeen u.proto bits) same gives.2)
 
 -- the second change of a plan, told before the first is made
 module _ (held : List (Option Session)) (apart : Apart held) (external now : ℕ) (first : changes.Change) (t : Session) (gives : Gives external held now first t) where

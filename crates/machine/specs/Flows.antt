@@ -1,7 +1,8 @@
 -- What contracts see of the sessions with their timers and mappings, and what ties these to the sessions.
-use Rattle.std.specs.Prelude.{◌≡◌, ℕ, ◌-◌, ◌≤◌, List, Option, Some, None, slice_index_or}
+use Rattle.std.specs.Prelude.{◌≡◌, ◌≢◌, ℕ, ◌-◌, ◌<◌, ◌≤◌, List, Option, Some, None, count_by, is_some, false, slice_index_or}
 use Rattle.std.specs.Option.{option_map}
-use Rattle.sessions.specs.Life.{timeout_of}
+use Rattle.packet.specs.Same.{same_endpoint}
+use Rattle.sessions.specs.Life.{IsSeen, timeout_of}
 use Rattle.sessions.specs.Table as table
 use Rattle.sessions.specs.declared.session.Change.{Change}
 use Rattle.sessions.specs.declared.session.Change.TheVariants.{Begin, Seen, Restart, End}
@@ -39,6 +40,14 @@ pub record IsReady (n : ℕ) (f : Flows) : Type 0 where
 -- no session was seen after this moment
 abbrev pub IsLatest : List (Option Session) → ℕ → Type 0
 IsLatest held now = (slot : ℕ) (s : Session) → slice_index_or held slot None ≡ Some s → s.last ≤ now
+
+-- the session may join those that are held: it clashes with none, there are not too many, its bits are of its protocol,
+-- and where it is translated, its outside endpoint is at the external address
+pub record MayJoin (external : ℕ) (held : List (Option Session)) (s : Session) : Type 0 where
+  pub seen : IsSeen s.proto s.seen
+  pub apart : ¬ table.AnyClash held s
+  pub few : count_by is_some held ≢ table.most_sessions
+  pub placed : same_endpoint s.inside s.outside ≡ false → (s.outside.addr ≡ external) × (0 < s.outside.port)
 
 -- how many sessions the change adds
 abbrev pub adds : Change → ℕ

@@ -15,7 +15,8 @@ ghost use Rattle.machine.specs.Core.{Leads, LeadsFew, state_of};
 ghost use Rattle.machine.specs.Judged.{Judged, IsJudged, IsNoLoad, bringer};
 ghost use Rattle.machine.specs.Machine.{AddsNone, EndsNone, act, aged, empty_at, later, leg, on_route, pass, sent, step};
 ghost use Rattle.durable.specs.Coding.{Entry as Noted, Load};
-ghost use Rattle.machine.specs.Noted.{AreEntriesOf, AreOver, ends, of_deed, of_fields, of_way};
+ghost use Rattle.durable.specs.Entering.{IsDurable, IsRuleset, durable};
+ghost use Rattle.machine.specs.Noted.{AreEntriesOf, AreOver, IsRestarted, ends, of_deed, of_fields, of_way};
 ghost use Rattle.machine.specs.Notes.{most_bytes};
 ghost use Rattle.sessions.specs.declared.session.Session.{Session as Flow};
 ghost use Rattle.machine.specs.Sound.{IsInForce, IsSound};
@@ -23,7 +24,7 @@ ghost use Rattle.machine.specs.Flows.{IsLatest, IsReady};
 ghost use Rattle.machine.specs.declared.event.Answer.TheVariants.{Dropped};
 
 use crate::bytes::Bytes;
-use crate::deed::{Deed, judge};
+use crate::deed::{Deed, judge, rules_of};
 use crate::event::{Answer, Event, NoMemory, What};
 use crate::flows::Flows;
 use crate::notes::{Notes, StepFault, Unkept};
@@ -307,6 +308,27 @@ fn age_and_act<N: Notes>(
     }
 }
 
+// The text that survived, and its rules; there are none where it is empty.
+fn in_force_again(alloc: Global, bounds: &Bounds, text: Vec<u8>) -> Result<InForce, NoMemory>
+    requires { IsRuleset bounds.now text.items }
+    ensures text { IfOk result (λ f. f.text ≡ text.items) }
+    ensures rules { IfOk result (λ f. IsInForce bounds.now text.items f.rules) }
+{
+    if text.is_empty() {
+        return Ok(InForce {
+            text: Bytes::of(text),
+            rules: Rules::none(alloc),
+        });
+    }
+    match rules_of(alloc, bounds, &text)? {
+        Some(rules) => Ok(InForce {
+            text: Bytes::of(text),
+            rules,
+        }),
+        None => unreachable!(),
+    }
+}
+
 impl Core {
     /// No rules and no session; the clock stands at the moment, in seconds.
     ///
@@ -324,6 +346,36 @@ impl Core {
                     text: Bytes::of(Vec::new(alloc)),
                     rules: Rules::none(alloc),
                 },
+                flows,
+                clock: moment,
+            }),
+            Err(_) => Err(NoMemory),
+        }
+    }
+
+    /// Begins again from a text and sessions that survived: every session's last packet passed at the moment, in
+    /// seconds, which is the clock's.
+    ///
+    /// # Errors
+    ///
+    /// `NoMemory` where memory is refused; then there is no core.
+    pub fn resume(
+        alloc: Global,
+        bounds: Bounds,
+        text: Vec<u8>,
+        sessions: &[Session],
+        moment: u64,
+    ) -> Result<Core, NoMemory>
+        requires { IsDurable bounds (durable text.items sessions.now) }
+        ensures config { IfOk result (λ c. c.config ≡ bounds) }
+        ensures state { IfOk result (λ c. IsRestarted bounds (durable text.items sessions.now) moment c.state) }
+    {
+        let in_force = in_force_again(alloc, &bounds, text)?;
+        match Flows::of(alloc, &bounds, sessions, moment) {
+            Ok(flows) => Ok(Core {
+                alloc,
+                bounds,
+                in_force,
                 flows,
                 clock: moment,
             }),

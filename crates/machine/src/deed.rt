@@ -51,8 +51,12 @@ impl Deed {
     }
 }
 
-// The rules of a text, if it loads.
-fn rules_of(alloc: Global, bounds: &Bounds, text: &[u8]) -> Result<Option<Rules>, NoMemory>
+/// The rules of a text, if it loads.
+///
+/// # Errors
+///
+/// `NoMemory` where memory is refused.
+pub fn rules_of(alloc: Global, bounds: &Bounds, text: &[u8]) -> Result<Option<Rules>, NoMemory>
     ensures { IfOk result (λ found. AreRulesOf bounds.now text.now found) }
 {
     match read(alloc, text, bounds) {

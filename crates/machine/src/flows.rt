@@ -1,26 +1,29 @@
 //! The sessions with their timers and mappings, which change together.
-ghost use Rattle.std.specs.Prelude.{◌≡◌, ◌≢◌, ◌↔◌, ◌+◌, ◌-◌, ◌*◌, ◌<◌, ◌≤◌, ◌++◌, ◌∷◌, [], ℕ, List, false, IsErrOf, IsTrue, Some, None, IfOk, OnOk, OnErr, IsOk, IfSome, IsSome, IsSomeAnd, length, slice_index};
+ghost use Rattle.std.specs.Prelude.{◌≡◌, ◌≢◌, ◌↔◌, ◌+◌, ◌-◌, ◌*◌, ◌<◌, ◌≤◌, ◌++◌, ◌∷◌, [], ℕ, List, false, IsErrOf, IsTrue, Some, None, IfOk, OnOk, OnErr, IsOk, IfSome, IsSome, IsSomeAnd, length, map, slice_index};
 ghost use Rattle.std.specs.List.{Contains, filter};
 ghost use Rattle.std.specs.Option.{option_map};
 ghost use Rattle.sessions.specs.Life.{IsSeen, IsTimeout, alive, timeout_of};
-ghost use Rattle.sessions.specs.Listing.{listing};
+ghost use Rattle.sessions.specs.Listing.{listing, put};
+ghost use Rattle.sessions.specs.Sound.{AreSound};
+ghost use Rattle.sessions.specs.Stilled.{moved};
 ghost use Rattle.sessions.specs.Table.{at, Updates, IsSound, seen as seen_with, restarted};
 ghost use Rattle.sessions.specs.declared.session.Session.{Session as Flow};
 ghost use Rattle.timers.specs.Due.{at as idle_at, IsLatest as IsLatestIdle, Updates as IdleUpdates};
 ghost use Rattle.mappings.specs.declared.map.Pair.{Pair as Mapping};
 ghost use Rattle.mappings.specs.Map.{times};
 ghost use Rattle.hairpin.specs.Legs.{put_all};
-ghost use Rattle.hairpin.specs.Plans.{Became, Gives, GiveAll, MayBegin};
+ghost use Rattle.hairpin.specs.Plans.{Became, Gives, GiveAll};
 ghost use Rattle.hairpin.specs.Tallies.{tally};
 ghost use Rattle.machine.specs.Noted.{AreOver, ends, noted, noted_all, sessions_at};
 ghost use Rattle.machine.specs.Notes.{bytes_of};
-ghost use Rattle.machine.specs.Flows.{IsDue, IsLatest, IsReady, adds as adds_by, adds_second};
+ghost use Rattle.machine.specs.Flows.{IsDue, IsLatest, IsReady, MayJoin, adds as adds_by, adds_second};
 
 use crate::notes::{Notes, StepFault};
 use crate::noting::{entry_of, flow_of, note};
 use durable::Entry;
 use hairpin::Plan;
 use hairpin::translations::Translations;
+use packet::bounds::Bounds;
 use sessions::{Change, Opener, Session, Slot, Table};
 use std::alloc::{AllocError, Global};
 use std::marker::Model;
@@ -155,9 +158,50 @@ impl Flows {
         self.table.is_sound();
     }
 
+    /// The sessions, none of which clash, each with its last packet at the moment, in seconds.
+    ///
+    /// # Errors
+    ///
+    /// `AllocError` where memory is refused.
+    pub fn of(
+        alloc: Global,
+        bounds: &Bounds,
+        sessions: &[Session],
+        moment: u64,
+    ) -> Result<Flows, AllocError>
+        requires { AreSound bounds.now sessions.now }
+        ensures sessions { IfOk result (λ f. listing f.table.held ≡ map (moved moment) sessions.now) }
+        ensures external { IfOk result (λ f. f.translations.external ≡ bounds.now.external) }
+    {
+        let mut flows = Flows::new(alloc, bounds.external())?;
+        for session in sessions {
+            flows.place(Session {
+                last: moment,
+                ..*session
+            })?;
+        }
+        Ok(flows)
+    }
+
+    /// Takes the session.
+    ///
+    /// # Errors
+    ///
+    /// `AllocError` where memory is refused.
+    fn place(&mut self, session: Session) -> Result<(), AllocError>
+        requires may { MayJoin self.old.translations.external self.old.table.held session }
+        requires latest { IsLatest self.old.table.held session.last }
+        ensures placed { OnOk result (listing self.new.table.held ≡ put session (listing self.old.table.held)) }
+        ensures external { self.new.translations.external ≡ self.old.translations.external }
+    {
+        self.reserve()?;
+        self.begin(session);
+        Ok(())
+    }
+
     /// Takes the session, for which there is room.
     fn begin(&mut self, session: Session)
-        requires may { MayBegin self.old.translations.external self.old.table.held session.last session }
+        requires may { MayJoin self.old.translations.external self.old.table.held session }
         requires ready { IsReady 1 self.old }
         requires latest { IsLatest self.old.table.held session.last }
         ensures became { Became self.old.table.held (Change.Begin session) session self.new.table.held }

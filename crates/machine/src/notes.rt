@@ -1,6 +1,6 @@
 //! Where a step notes what it changes of what must survive.
 ghost use Rattle.std.specs.Prelude.{◌≡◌, ◌↔◌, ◌+◌, ◌*◌, ◌≤◌, ◌++◌, ◌∷◌, [], ℕ, List, length, OnOk, OnErr, IsOk, IsErrOf};
-ghost use Rattle.durable.specs.Coding.{Entry as Noted, entry_bytes};
+ghost use Rattle.durable.specs.Coding.{Entry as Noted, IsEntry, entry_bytes};
 ghost use Rattle.durable.specs.Viewing.{view};
 ghost use Rattle.machine.specs.declared.notes.StepFault.{StepFault};
 
@@ -49,9 +49,10 @@ pub trait Notes {
         ensures full { IsErrOf result StepFault.Full → too_many self.old (14 * ends + others) }
         ensures succeeds { grants self.old → IsOk result };
 
-    /// Notes an entry, for which there is room. This takes no memory.
+    /// Notes an entry, which has a code, and for which there is room. This takes no memory.
     fn note(&mut self, entry: Entry<'_>)
-        requires { keeps self.old → length (entry_bytes (view entry)) ≤ room self.old }
+        requires coded { keeps self.old → IsEntry (view entry) }
+        requires room { keeps self.old → length (entry_bytes (view entry)) ≤ room self.old }
         ensures keeps { keeps self.old ↔ keeps self.new }
         ensures noted { keeps self.old → noted self.new ≡ noted self.old ++ view entry.entry ∷ [] }
         ensures room { keeps self.old → room self.old ≤ room self.new + length (entry_bytes (view entry.entry)) };

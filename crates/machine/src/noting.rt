@@ -1,21 +1,43 @@
 //! The entries by which a change of a session is noted.
-ghost use Rattle.std.specs.Prelude.{◌≡◌, ◌↔◌, ◌+◌, ◌≤◌, ◌++◌, ℕ, List};
+ghost use Rattle.std.specs.Prelude.{◌≡◌, ◌↔◌, ◌+◌, ◌^◌, ◌<◌, ◌≤◌, ◌++◌, ℕ, List};
+ghost use Rattle.durable.specs.Coding.{AreEntries, IsEndpoint, IsFlow, IsSession};
 ghost use Rattle.durable.specs.Entering.{flow_of as flow_in};
 ghost use Rattle.hairpin.specs.Plans.{Gives};
 ghost use Rattle.machine.specs.Noted.{between as entries_between, noted};
 ghost use Rattle.machine.specs.Notes.{bytes_of, listed};
+ghost use Rattle.sessions.specs.Life.{IsSeen};
 ghost use Rattle.sessions.specs.Listing.{listing};
 ghost use Rattle.sessions.specs.declared.session.Session.{Session as Flowing};
 ghost use Rattle.sessions.specs.Stilled.{stilled as without_moment};
 
 use crate::notes::Notes;
 use durable::{Entry, Flow};
+use packet::endpoint::Endpoint;
 use sessions::{Change, Session, Table};
+
+fn address_fits(address: u32)
+    ensures { address < 2 ^ 32 }
+{}
+
+fn port_fits(port: u16)
+    ensures { port < 2 ^ 16 }
+{}
+
+// Every endpoint has a code.
+fn endpoint_fits(endpoint: Endpoint)
+    ensures { IsEndpoint endpoint }
+{
+    address_fits(endpoint.addr);
+    port_fits(endpoint.port);
+}
 
 /// The flow of a session.
 pub fn flow_of(session: &Session) -> Flow
-    ensures { result ≡ flow_in session.now }
+    ensures value { result ≡ flow_in session.now }
+    ensures coded { IsFlow result }
 {
+    endpoint_fits(session.inside);
+    endpoint_fits(session.remote);
     Flow {
         proto: session.proto,
         inside: session.inside,
@@ -25,8 +47,12 @@ pub fn flow_of(session: &Session) -> Flow
 
 /// The session without the moment of its last packet.
 pub fn stilled(session: &Session) -> Session
-    ensures { result ≡ without_moment session.now }
+    ensures value { result ≡ without_moment session.now }
+    ensures coded { IsSeen session.now.proto session.now.seen → IsSession result }
 {
+    endpoint_fits(session.inside);
+    endpoint_fits(session.outside);
+    endpoint_fits(session.remote);
     Session {
         last: 0,
         ..*session
@@ -36,7 +62,9 @@ pub fn stilled(session: &Session) -> Session
 /// The entry that makes the one session the other, which is of the same flow and outside endpoint; none where they
 /// differ at most in their moments.
 pub fn between(old: &Session, new: &Session) -> Option<Entry<'static>>
-    ensures { listed result ≡ entries_between old.now new.now }
+    requires { IsSeen new.now.proto new.now.seen }
+    ensures entry { listed result ≡ entries_between old.now new.now }
+    ensures coded { AreEntries (listed result) }
 {
     if old.opener == new.opener && old.seen == new.seen {
         return None;
@@ -50,8 +78,9 @@ pub fn between(old: &Session, new: &Session) -> Option<Entry<'static>>
 /// The entry that a change of a session makes, if it makes one; the table is that before the change.
 pub fn entry_of(table: &Table, change: &Change, now: u64) -> Option<Entry<'static>>
     requires { (external : ℕ) × (t : Flowing) × Gives external table.now.held now change.now t }
-    ensures { (external : ℕ) (t : Flowing) → Gives external table.now.held now change.now t
+    ensures entry { (external : ℕ) (t : Flowing) → Gives external table.now.held now change.now t
         → listed result ≡ noted (listing table.now.held) t }
+    ensures coded { AreEntries (listed result) }
 {
     table.is_sound();
     match change {
@@ -85,9 +114,10 @@ pub fn entry_of(table: &Table, change: &Change, now: u64) -> Option<Entry<'stati
     }
 }
 
-/// Notes an entry if there is one, for which there is room.
+/// Notes an entry if there is one, which has a code, and for which there is room.
 pub fn note<N: Notes>(notes: &mut N, entry: Option<Entry<'_>>)
-    requires { N.keeps notes.old → bytes_of (listed entry) ≤ N.room notes.old }
+    requires coded { AreEntries (listed entry) }
+    requires room { N.keeps notes.old → bytes_of (listed entry) ≤ N.room notes.old }
     ensures keeps { N.keeps notes.old ↔ N.keeps notes.new }
     ensures noted { N.keeps notes.old → N.noted notes.new ≡ N.noted notes.old ++ listed entry.entry }
     ensures room { N.keeps notes.old → N.room notes.old ≤ N.room notes.new + bytes_of (listed entry.entry) }

@@ -4,8 +4,8 @@ use Rattle.machine.proofs.Costs.{cost-load}
 use Rattle.machine.proofs.core_state.note_load.Goals.{then-not-ready+in_ok-reserve, else-not-ready}
 use Rattle.machine.proofs.core_state.note_load.Goals as goal
 
-pub note-requires : goal.note-requires
-note-requires g c = λ keeps.
+pub note-requires-clause-room : goal.note-requires-clause-room
+note-requires-clause-room g c = λ keeps.
     let text = c.as_slice-bytes.result.now in
     let cost = cost-load text in
     let same = ap length c.as_slice-bytes.ensures.value in

@@ -27,9 +27,9 @@ returns-else-adds-gt0 c = λ external ts all.
     let second = c.in-Some.second in
     let none : adds second ≡ 0 = omega (arith, c.if-adds-gt0.false, c.adds.ensures) in
     let gives : GiveAll external held c.args.now first (Some second) ts = rw c.in-Some.is at all in
-    let quiet : noted (listing held) gives.0 ≡ [] = none-told c.entry_of.result (noted (listing held) gives.0) (c.entry_of.ensures external gives.0 gives.2) (sym c.is_some.ensures ∙ c.if-is_some.false) in
+    let quiet : noted (listing held) gives.0 ≡ [] = none-told c.entry_of.result (noted (listing held) gives.0) (c.entry_of.ensures.entry external gives.0 gives.2) (sym c.is_some.ensures ∙ c.if-is_some.false) in
     let told = both-told held c.is_sound.ensures external c.args.now first second ts gives none quiet in
-    let entry = c.entry_of-in-Some.ensures external gives.1 (second-gives held c.is_sound.ensures external c.args.now first second ts gives none) in (
+    let entry = c.entry_of-in-Some.ensures.entry external gives.1 (second-gives held c.is_sound.ensures external c.args.now first second ts gives none) in (
       (λ some is. some-told c.entry_of-in-Some.result (noted (listing held) gives.1) [] entry (sym c.is_some-in-Some.ensures ∙ some) (sym told ∙ is)),
       (λ away. elim (cases_Bool (is_some c.entry_of-in-Some.result)) [
         | inl some ↦ c.is_some-in-Some.ensures ∙ some
