@@ -140,6 +140,15 @@ module _ (config : Config) (is_one : is_config config ≡ true) where
         ] in
         are.are ∙ ap (λ (g : List Session). ends g ++ of_deed config live judged.deed) no_over ∙ does
 
+-- two lists of the entries of an event are both empty where one is
+pub one-none : (config : Config) (s : State) (judged : Judged) (es fs : List Entry) → AreEntriesOf config s judged es → AreEntriesOf config s judged fs → es ≡ [] → fs ≡ []
+one-none config s judged es fs are others e =
+    let now = later s.clock judged.moment in
+    let does = of_deed config (aged now s) judged.deed in
+    let both = nothing are.gone does (sym are.are ∙ e) in
+    let none = gone-none now s others.gone others.are_over (λ over. subst (In over.0) both.0 (are.are_over.all over.0 over.1 over.2)) in
+    others.are ∙ ap (λ (g : List Session). ends g ++ does) none ∙ both.1
+
 -- ---- there are such entries
 
 rises-distinct : (ss : List Session) → Rises ss → AreDistinct ss

@@ -45,6 +45,19 @@ EntriesAreNeeded =
 abbrev pub EntriesAreThere : Type 0
 EntriesAreThere = (config : Config) (s : State) (judged : Judged) → IsSound config s → (entries : List Entry) × AreEntriesOf config s judged entries
 
+-- an event with no entries leaves what must survive as it is
+abbrev pub QuietStepsKeep : Type 0
+QuietStepsKeep =
+    (config : Config) (s : State) (event : Event) (judged : Judged)
+    → IsTrue (is_config config) → IsSound config s → IsJudged config event judged → AreEntriesOf config s judged []
+    → lasting (step config s judged).0 ≡ lasting s
+
+-- whether an event has entries does not depend on the order that the sessions which end are told in
+abbrev pub EntriesAreOne : Type 0
+EntriesAreOne =
+    (config : Config) (s : State) (judged : Judged) (entries others : List Entry)
+    → AreEntriesOf config s judged entries → AreEntriesOf config s judged others → (entries ≡ []) ↔ (others ≡ [])
+
 -- What makes one session another of its flow and outside endpoint: nothing where opener and bits are the same, the
 -- bits where only they differ and there are some, else a beginning anew.
 pub record TellsChange (s t : Session) : Type 0 where
