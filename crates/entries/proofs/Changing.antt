@@ -20,11 +20,11 @@ use Rattle.hairpin.specs.Legs.{put_all}
 use Rattle.sessions.specs.Sound.{AreSound}
 use Rattle.hairpin.proofs.Apart.{find-In}
 use Rattle.hairpin.proofs.Soundness.{Joins, JoinEach, filter-all}
+use Rattle.machine.specs.Noted.{goes_on, is_same, noted, noted_all, noted_by}
 use Rattle.durable.specs.Coding.{Entry, Begin, Seen, Restart}
-use Rattle.durable.specs.Entering.{Durable, durable, Enters, is_of, flow_of, changed, seen_so, begun_anew}
+use Rattle.durable.specs.Entering.{durable, Enters, is_of, flow_of, changed, seen_so, begun_anew}
 use Rattle.durable.specs.declared.coding.Flow.{Flow}
-use Rattle.entries.specs.Noted.{goes_on, is_same, noted, noted_all, noted_by, with_entry}
-use Rattle.entries.proofs.Stilled.{named-stilled, stilled-of}
+use Rattle.entries.proofs.Stilled.{join, named-stilled, stilled-of}
 
 -- ---- what makes one session
 
@@ -126,7 +126,7 @@ module _ (config : Config) (now : ℕ) (text : List ℕ) where
 
     module _ (s : Session) (in_s : In s ss) (own : same_flow t s ≡ true) where
       on-enters : (b c : Bool) → is_same s t ≡ b → goes_on s t ≡ c
-          → Leads (with_entry (if b then None else Some (if c then Seen (flow_of t) t.seen else Restart (flow_of t) t.opener t.seen)) []) ss (put t ss)
+          → Leads (if b then [] else (if c then Seen (flow_of t) t.seen ∷ [] else Restart (flow_of t) t.opener t.seen ∷ [])) ss (put t ss)
       on-enters true c same e =
           let has = has_inside-true t.proto t.inside t.remote s own in
           let parts = and_parts (same_side s.opener t.opener) (s.seen == t.seen) same in
@@ -142,21 +142,17 @@ module _ (config : Config) (now : ℕ) (text : List ℕ) where
           let fits : begun_anew t.opener t.seen (stilled s) ≡ stilled t = same-stilled (begun_anew t.opener t.seen s) t has.0 has.1 (joins.keeps s in_s own) has.2 refl refl in
           (named-stilled (flow_of t) ss s in_s own, ap (durable text) (sym (changed-put t s ss sound.rises joins.sound.rises in_s own (begun_anew t.opener t.seen) (λ x. refl) fits)))
 
-    by-enters : (o : Option Session) → find (same_flow t) ss ≡ o → Leads (with_entry (noted_by o t) []) ss (put t ss)
+    by-enters : (o : Option Session) → find (same_flow t) ss ≡ o → Leads (noted_by o t) ss (put t ss)
     by-enters None e = begin-enters e
     by-enters (Some s) e = let is = find-In (same_flow t) ss s e in on-enters s is.0 is.1 (is_same s t) (goes_on s t) refl refl
 
-    pub noted-enters : Leads (with_entry (noted ss t) []) ss (put t ss)
+    pub noted-enters : Leads (noted ss t) ss (put t ss)
     noted-enters = by-enters (find (same_flow t) ss) refl
-
-  -- one entry before others
-  before : (o : Option Entry) (es : List Entry) (old mid new : List Session) → Leads (with_entry o []) old mid → Leads es mid new → Leads (with_entry o es) old new
-  before None es old mid new first more = subst (λ (d : Durable). Enters config es d (durable text (map stilled new))) first more
-  before (Some e) es old mid new first more = (first.0, subst (λ (d : Durable). Enters config es d (durable text (map stilled new))) first.1 more)
 
   -- and of several
   pub all-enter : (ts ss : List Session) → AreSound config ss → JoinEach config ss now ts → Leads (noted_all ts ss) ss (put_all ts ss)
   all-enter [] ss sound joins = refl
   all-enter (t ∷ ts) ss sound joins =
-      before (noted ss t) (noted_all ts (put t ss)) ss (put t ss) (put_all ts (put t ss))
+      join config (noted ss t) (noted_all ts (put t ss))
+      (durable text (map stilled ss)) (durable text (map stilled (put t ss))) (durable text (map stilled (put_all ts (put t ss))))
       (noted-enters ss t sound joins.0) (all-enter ts (put t ss) joins.0.sound joins.1)

@@ -3,7 +3,6 @@ pub mod Changing
 pub mod Needed
 pub mod Over
 pub mod Pinned
-pub mod Slots
+pub mod Runs
 pub mod Stilled
-pub mod Tables
 pub mod Whole

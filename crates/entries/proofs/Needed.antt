@@ -1,5 +1,5 @@
 -- An event has entries just where one is needed.
-use Rattle.std.proofs.Common.{◌≡◌, ◌⊎◌, inl, inr, ℕ, List, [], ◌∷◌, ◌++◌, Option, Some, None, Result, Ok, Err, Bool, true, false, not, ◌==◌, if◌then◌else◌, refl, sym, ap, subst, ◌∙◌, map, arith}
+use Rattle.std.proofs.Common.{◌≡◌, ◌⊎◌, inl, inr, ℕ, List, [], ◌∷◌, ◌++◌, Some, Result, Ok, Err, Bool, true, false, not, ◌==◌, if◌then◌else◌, refl, sym, ap, subst, ◌∙◌, map, arith}
 use Rattle.std.specs.List.{filter}
 use Rattle.std.proofs.lemmas.Bool.{and_from, not-true}
 use Rattle.std.proofs.lemmas.Bool.Decides.{nat_tests}
@@ -26,13 +26,13 @@ use Rattle.hairpin.specs.declared.cause.Cause.{Cause}
 use Rattle.hairpin.proofs.Soundness.{HaveOwnFlows, IsFine, JoinEach}
 use Rattle.machine.specs.Judged.{Judged, IsRight}
 use Rattle.machine.specs.Machine.{State, act, aged, later, leg, on_route, sent, step, with_fields}
+use Rattle.machine.specs.Noted.{AreDistinct, AreEntriesOf, AreOver, EndsSome, HasEntry, TakesText, between, ends, goes_on, is_same, lasting, noted, noted_all, noted_by, of_deed, of_fields, of_route, of_way}
 use Rattle.machine.specs.Sound.{IsSound}
 use Rattle.machine.specs.declared.deed.Deed.{Deed}
 use Rattle.machine.specs.declared.deed.Deed.TheVariants as deed
 use Rattle.machine.proofs.Soundness.{aged-sound, later-above}
-use Rattle.durable.specs.Coding.{Entry, Load}
-use Rattle.durable.specs.Entering.{Durable, durable, Enters}
-use Rattle.entries.specs.Noted.{AreDistinct, AreEntriesOf, AreOver, EndsSome, HasEntry, TakesText, change_to, ends, is_same, lasting, noted, noted_all, noted_by, of_deed, of_fields, of_route, of_way, with_entry}
+use Rattle.durable.specs.Coding.{Entry, Load, Restart, Seen}
+use Rattle.durable.specs.Entering.{Durable, durable, Enters, flow_of}
 use Rattle.entries.proofs.Changing.{noted-enters}
 use Rattle.entries.proofs.Whole.{deed-enters, fine-leg}
 
@@ -45,7 +45,10 @@ side-itself Remote = refl
 pub number-itself : (n : ℕ) → (n == n) ≡ true
 number-itself n = grind (arith, nat_tests)
 
-noted-none : (ss : List Session) (t : Session) → Rises ss → In (stilled t) (map stilled ss) → noted ss t ≡ None
+pub nothing-between : (s t : Session) → is_same s t ≡ true → between s t ≡ []
+nothing-between s t same = ap (λ (b : Bool). if b then [] else (if goes_on s t then Seen (flow_of t) t.seen ∷ [] else Restart (flow_of t) t.opener t.seen ∷ [])) same
+
+noted-none : (ss : List Session) (t : Session) → Rises ss → In (stilled t) (map stilled ss) → noted ss t ≡ []
 noted-none ss t rises is =
     let u = In-map stilled ss (stilled t) is in
     let own : same_flow t u.0 ≡ true = keys-flow t u.0 (ap key u.2) in
@@ -53,8 +56,7 @@ noted-none ss t rises is =
     let same : is_same u.0 t ≡ true = and_from (same_side u.0.opener t.opener) (u.0.seen == t.seen)
     (ap (λ (x : Session). same_side u.0.opener x.opener) u.2 ∙ side-itself u.0.opener)
     (ap (λ (x : Session). u.0.seen == x.seen) u.2 ∙ number-itself u.0.seen) in
-    ap (λ o. noted_by o t) found
-    ∙ ap (λ (b : Bool). if b then None else Some (change_to u.0 t)) same
+    ap (λ o. noted_by o t) found ∙ nothing-between u.0 t same
 
 stays : (ts ss : List Session) (t : Session) → ((u : Session) → In u ts → same_flow u t ≡ false) → In t ss → In t (put_all ts ss)
 stays [] ss t own is = is
@@ -69,9 +71,9 @@ module _ (config : Config) (now : ℕ) where
       let in_put : In t (put t ss) = insert-In t (filter (λ v. not (same_flow t v)) ss) t (inl refl) in
       let there : In (stilled t) (map stilled ss) = subst (In (stilled t)) same (map-In stilled (put_all ts (put t ss)) t (stays ts (put t ss) t flows.0 in_put)) in
       let none = noted-none ss t sound.rises there in
-      let leads = subst (λ o. Enters config (with_entry o []) (durable [] (map stilled ss)) (durable [] (map stilled (put t ss)))) none (noted-enters config now [] ss t sound joins.0) in
+      let leads = subst (λ es. Enters config es (durable [] (map stilled ss)) (durable [] (map stilled (put t ss)))) none (noted-enters config now [] ss t sound joins.0) in
       let first : map stilled (put t ss) ≡ map stilled ss = ap (λ (d : Durable). d.sessions) leads in
-      ap (λ (o : Option Entry). with_entry o (noted_all ts (put t ss))) none ∙ all-none ts (put t ss) joins.0.sound joins.1 flows.1 (same ∙ sym first)
+      ap (λ es. es ++ noted_all ts (put t ss)) none ∙ all-none ts (put t ss) joins.0.sound joins.1 flows.1 (same ∙ sym first)
 
 nothing : (gone : List Session) (es : List Entry) → ends gone ++ es ≡ [] → (gone ≡ []) × (es ≡ [])
 nothing [] es h = (refl, h)
@@ -87,7 +89,7 @@ gone-none now s (t ∷ ts) are none = let over = are.over t (inl refl) in absurd
 
 module _ (config : Config) (is_one : is_config config ≡ true) where
   module _ (s : State) (sound : IsSound config s) where
-    way-none : (bytes : List ℕ) (way : Result Passage Cause) → IsFine config s.sessions s.clock way → lasting (sent s bytes way).0 ≡ lasting s → of_way s way ≡ []
+    way-none : (bytes : List ℕ) (way : Result Passage Cause) → IsFine config s.sessions s.clock way → lasting (sent s bytes way).0 ≡ lasting s → of_way s.sessions way ≡ []
     way-none bytes (Err why) fine same = refl
     way-none bytes (Ok passage) fine same = all-none config s.clock passage.sessions s.sessions sound.sessions fine.each fine.flows (ap (λ (d : Durable). d.sessions) same)
 
@@ -137,6 +139,15 @@ module _ (config : Config) (is_one : is_config config ≡ true) where
           | inr some ↦ absurd (none (inr (inr (λ same. some (deed-none live live-sound judged.deed (λ takes. none (inr (inl takes))) same)))))
         ] in
         are.are ∙ ap (λ (g : List Session). ends g ++ of_deed config live judged.deed) no_over ∙ does
+
+-- two lists of the entries of an event are both empty where one is
+pub one-none : (config : Config) (s : State) (judged : Judged) (es fs : List Entry) → AreEntriesOf config s judged es → AreEntriesOf config s judged fs → es ≡ [] → fs ≡ []
+one-none config s judged es fs are others e =
+    let now = later s.clock judged.moment in
+    let does = of_deed config (aged now s) judged.deed in
+    let both = nothing are.gone does (sym are.are ∙ e) in
+    let none = gone-none now s others.gone others.are_over (λ over. subst (In over.0) both.0 (are.are_over.all over.0 over.1 over.2)) in
+    others.are ∙ ap (λ (g : List Session). ends g ++ does) none ∙ both.1
 
 -- ---- there are such entries
 

@@ -11,8 +11,8 @@ use Rattle.sessions.proofs.Puts.{flow-keys, keys-flow}
 use Rattle.sessions.proofs.Stilled.{one-of-key}
 use Rattle.sessions.proofs.Sets.{rising-unique, Rises-filter, In-filter, filter-In}
 use Rattle.hairpin.proofs.Soundness.{filter-all}
+use Rattle.machine.specs.Noted.{AreOver, ends}
 use Rattle.durable.specs.Entering.{durable, Enters, flow_of, ended}
-use Rattle.entries.specs.Noted.{AreOver, ends}
 use Rattle.entries.proofs.Stilled.{ended-stilled, named-stilled}
 
 true_unless : (b : Bool) → (b ≡ false → ⊥) → b ≡ true

@@ -13,13 +13,13 @@ use Rattle.hairpin.specs.declared.cause.Cause.{Cause}
 use Rattle.hairpin.proofs.Soundness.{IsFine}
 use Rattle.machine.specs.Judged.{Judged, IsRight}
 use Rattle.machine.specs.Machine.{State, act, aged, later, leg, on_route, sent, step, with_fields}
+use Rattle.machine.specs.Noted.{AreEntriesOf, ends, lasting, of_deed, of_fields, of_route, of_way}
 use Rattle.machine.specs.Sound.{IsSound}
 use Rattle.machine.specs.declared.deed.Deed.{Deed}
 use Rattle.machine.specs.declared.deed.Deed.TheVariants as deed
 use Rattle.machine.proofs.Soundness.{aged-sound, later-above, leg-fine}
 use Rattle.durable.specs.Coding.{Entry}
 use Rattle.durable.specs.Entering.{Enters}
-use Rattle.entries.specs.Noted.{AreEntriesOf, ends, lasting, of_deed, of_fields, of_route, of_way}
 use Rattle.entries.proofs.Changing.{all-enter}
 use Rattle.entries.proofs.Over.{ends-enter}
 use Rattle.entries.proofs.Stilled.{join}
@@ -29,7 +29,7 @@ module _ (config : Config) (is_one : is_config config ≡ true) where
   Leads es old new = Enters config es (lasting old) (lasting new)
 
   module _ (s : State) (sound : IsSound config s) where
-    way-enters : (bytes : List ℕ) (way : Result Passage Cause) → IsFine config s.sessions s.clock way → Leads (of_way s way) s (sent s bytes way).0
+    way-enters : (bytes : List ℕ) (way : Result Passage Cause) → IsFine config s.sessions s.clock way → Leads (of_way s.sessions way) s (sent s bytes way).0
     way-enters bytes (Err why) fine = refl
     way-enters bytes (Ok passage) fine = all-enter config s.clock s.text passage.sessions s.sessions sound.sessions fine.each
 

@@ -1,5 +1,5 @@
 -- What entries promise.
-use Rattle.std.specs.Prelude.{◌≡◌, ◌≢◌, ◌↔◌, ℕ, List, [], Option, Some, None, slice_index, slice_index_or, ◌<◌, length, IsSomeAnd, true, false, bit_or, IsTrue}
+use Rattle.std.specs.Prelude.{◌≡◌, ◌≢◌, ◌↔◌, ℕ, List, [], ◌∷◌, Option, Some, None, slice_index, slice_index_or, ◌<◌, length, IsSomeAnd, true, false, bit_or, IsTrue}
 use Rattle.std.specs.List.{Contains}
 use Rattle.packet.specs.Config.{Config, is_config}
 use Rattle.packet.specs.declared.endpoint.Flags.{Flags}
@@ -14,11 +14,11 @@ use Rattle.sessions.specs.Stilled.{AreStilled, stilled}
 use Rattle.machine.specs.Flows.{IsDue}
 use Rattle.machine.specs.Judged.{Judged, AreJudged, IsJudged}
 use Rattle.machine.specs.Machine.{State, after, step}
+use Rattle.machine.specs.Noted.{AreEntriesOf, AreEntriesOfAll, AreOver, HasEntry, IsRestarted, between, lasting, noted, sessions_at}
 use Rattle.machine.specs.Sound.{IsSound}
 use Rattle.machine.specs.declared.event.Event.{Event}
 use Rattle.durable.specs.Coding.{Begin, Entry, Restart, Seen}
 use Rattle.durable.specs.Entering.{Durable, Enters, IsDurable, flow_of}
-use Rattle.entries.specs.Noted.{AreEntriesOf, AreEntriesOfAll, AreOver, HasEntry, Restarted, between, lasting, noted, sessions_at}
 
 -- the entries of an event do to what must survive what its step does to the state
 abbrev pub EntriesAreTheStep : Type 0
@@ -45,14 +45,38 @@ EntriesAreNeeded =
 abbrev pub EntriesAreThere : Type 0
 EntriesAreThere = (config : Config) (s : State) (judged : Judged) → IsSound config s → (entries : List Entry) × AreEntriesOf config s judged entries
 
+-- an event with no entries leaves what must survive as it is
+abbrev pub QuietStepsKeep : Type 0
+QuietStepsKeep =
+    (config : Config) (s : State) (event : Event) (judged : Judged)
+    → IsTrue (is_config config) → IsSound config s → IsJudged config event judged → AreEntriesOf config s judged []
+    → lasting (step config s judged).0 ≡ lasting s
+
+-- whether an event has entries does not depend on the order that the sessions which end are told in
+abbrev pub EntriesAreOne : Type 0
+EntriesAreOne =
+    (config : Config) (s : State) (judged : Judged) (entries others : List Entry)
+    → AreEntriesOf config s judged entries → AreEntriesOf config s judged others → (entries ≡ []) ↔ (others ≡ [])
+
+-- What makes one session another of its flow and outside endpoint: nothing where opener and bits are the same, the
+-- bits where only they differ and there are some, else a beginning anew.
+pub record TellsChange (s t : Session) : Type 0 where
+  pub nothing : s.opener ≡ t.opener → s.seen ≡ t.seen → between s t ≡ []
+  pub seen : s.opener ≡ t.opener → s.seen ≢ t.seen → 0 < t.seen → between s t ≡ Seen (flow_of t) t.seen ∷ []
+  pub emptied : s.seen ≢ t.seen → t.seen ≡ 0 → between s t ≡ Restart (flow_of t) t.opener t.seen ∷ []
+  pub turned : s.opener ≢ t.opener → between s t ≡ Restart (flow_of t) t.opener t.seen ∷ []
+
+abbrev pub ChangesAreTold : Type 0
+ChangesAreTold = (s t : Session) → TellsChange s t
+
 -- The entry of a packet of a session that is held: a restart where a SYN alone begins a closing session anew, else what
 -- was seen where a bit of it is new, else none.
 pub record ArePinned (sessions : List Session) (s : Session) (sender : Opener) (flags : Flags) (now : ℕ) : Type 0 where
-  pub anew : restarts s flags ≡ true → noted sessions (passed_by s sender flags now) ≡ Some (Restart (flow_of s) sender 0)
+  pub anew : restarts s flags ≡ true → noted sessions (passed_by s sender flags now) ≡ Restart (flow_of s) sender 0 ∷ []
   pub nothing : restarts s flags ≡ false → bit_or s.seen (shown s.proto s.opener sender flags) ≡ s.seen
-      → noted sessions (passed_by s sender flags now) ≡ None
+      → noted sessions (passed_by s sender flags now) ≡ []
   pub seen : restarts s flags ≡ false → bit_or s.seen (shown s.proto s.opener sender flags) ≢ s.seen
-      → noted sessions (passed_by s sender flags now) ≡ Some (Seen (flow_of s) (bit_or s.seen (shown s.proto s.opener sender flags)))
+      → noted sessions (passed_by s sender flags now) ≡ Seen (flow_of s) (bit_or s.seen (shown s.proto s.opener sender flags)) ∷ []
 
 abbrev pub EntriesArePinned : Type 0
 EntriesArePinned =
@@ -64,7 +88,7 @@ EntriesArePinned =
 pub record TellsEntries (held : List (Option Session)) : Type 0 where
   pub goes_on : (slot : ℕ) (s t : Session) → slice_index_or held slot None ≡ Some s → same_flow t s ≡ true
       → noted (listing held) t ≡ between s t
-  pub begins : (t : Session) → ¬ AnyClash held t → noted (listing held) t ≡ Some (Begin (stilled t))
+  pub begins : (t : Session) → ¬ AnyClash held t → noted (listing held) t ≡ Begin (stilled t) ∷ []
 
 abbrev pub TablesTellEntries : Type 0
 TablesTellEntries = (held : List (Option Session)) → IsSoundTable held → TellsEntries held
@@ -87,10 +111,10 @@ LastingIsSound = (config : Config) (s : State) → IsSound config s → IsDurabl
 
 -- from whatever a gateway may have a state can be begun again
 abbrev pub RestartsAreThere : Type 0
-RestartsAreThere = (config : Config) (d : Durable) (moment : ℕ) → IsDurable config d → (s : State) × Restarted config d moment s
+RestartsAreThere = (config : Config) (d : Durable) (moment : ℕ) → IsDurable config d → (s : State) × IsRestarted config d moment s
 
 -- a state that is begun again is sound, and just what it was begun from must survive of it
 abbrev pub RestartsAreSound : Type 0
 RestartsAreSound =
     (config : Config) (d : Durable) (moment : ℕ) (s : State) → IsDurable config d → AreStilled d.sessions
-    → Restarted config d moment s → IsSound config s × (lasting s ≡ d)
+    → IsRestarted config d moment s → IsSound config s × (lasting s ≡ d)

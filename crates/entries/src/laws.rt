@@ -1,5 +1,8 @@
 //! What follows from the definitions: each function is proved to meet its clause.
-ghost use Rattle.entries.specs.Laws.{DueSlotsAreOver, EntriesAreNeeded, EntriesArePinned, EntriesAreTheStep, EntriesAreThere, FlowsAreNotedApart, LastingIsSound, RestartsAreSound, RestartsAreThere, RunsAreEntered, TablesTellEntries};
+ghost use Rattle.entries.specs.Laws.{ChangesAreTold, DueSlotsAreOver, EntriesAreNeeded, EntriesAreOne};
+ghost use Rattle.entries.specs.Laws.{EntriesArePinned, EntriesAreTheStep, EntriesAreThere, FlowsAreNotedApart};
+ghost use Rattle.entries.specs.Laws.{LastingIsSound, QuietStepsKeep, RestartsAreSound, RestartsAreThere};
+ghost use Rattle.entries.specs.Laws.{RunsAreEntered, TablesTellEntries};
 
 /// The entries of an event do to what is durable what the event does to the state.
 pub fn entries_are_the_step()
@@ -15,6 +18,21 @@ pub fn entries_are_needed()
 /// Every event has entries.
 pub fn entries_are_there()
     ensures { EntriesAreThere }
+{}
+
+/// An event with no entries leaves what is durable as it is.
+pub fn quiet_steps_keep()
+    ensures { QuietStepsKeep }
+{}
+
+/// Of two lists of entries of an event both are empty or neither.
+pub fn entries_are_one()
+    ensures { EntriesAreOne }
+{}
+
+/// The entry that makes one session another is told by their openers and by what was seen of them.
+pub fn changes_are_told()
+    ensures { ChangesAreTold }
 {}
 
 /// A packet of a session that is held makes one entry or none, which session and packet tell.
