@@ -1,9 +1,9 @@
 //! The runs in which the entries lie.
-ghost use Rattle.std.specs.Prelude.{◌≡◌, ◌+◌, ◌<◌, ◌≤◌, ◌∷◌, ◌++◌, ◌↔◌, [], ℕ, IsTrue, None, Some, OnOk, OnErr, OnSome, ◌^◌, IfSome, IfNone, length, vec_capacity, slice_index_or, take, drop};
-ghost use Rattle.std.specs.List.{All, AllWithin, insert};
+ghost use Rattle.std.specs.Prelude.{◌≡◌, ◌+◌, ◌<◌, ◌≤◌, ◌++◌, ◌↔◌, [], ℕ, IsTrue, None, Some, OnOk, OnErr, OnSome, ◌^◌, IfSome, IfNone, length, vec_capacity, slice_index_or, slice_set, take, drop};
+ghost use Rattle.std.specs.List.{AllWithin, insert};
 ghost use Rattle.rows.specs.Held.{value_at, entries_from, Puts};
 ghost use Rattle.rows.specs.Walk.{rest};
-ghost use Rattle.rows.specs.Order.{held_in, AreOrdered, AreKeysRising, AreSound, KeepsSound, IsRunFor, IsPlaceFor, IsEntryAt, IsEntryOf, IsFoundAt, IsCut, most, half};
+ghost use Rattle.rows.specs.Order.{held_in, AreOrdered, AreKeysRising, AreSound, KeepsSound, IsRunFor, IsGap, IsPlaceFor, IsEntryAt, IsEntryOf, IsFoundAt, IsCut, most, half};
 ghost use Rattle.rows.specs.declared.runs.Run.{Run as Span};
 
 use crate::cell::Cell;
@@ -137,9 +137,9 @@ fn run_with_room(runs: &mut Vec<Run>, spare: &mut Vec<Vec<Cell>>, key: u128) -> 
     ensures room { length spare.old.items ≤ length spare.new.items + 1 }
 {
     let count = runs_up_to(runs, key);
-    if count == 0 {
-        open(runs, spare);
-        return 0;
+    if is_gap(runs, key, count) {
+        begin(runs, spare, count, key);
+        return count;
     }
     let number = count - 1;
     if runs[number].entries.len() < MOST {
@@ -153,19 +153,64 @@ fn run_with_room(runs: &mut Vec<Run>, spare: &mut Vec<Vec<Cell>>, key: u128) -> 
     }
 }
 
-// Puts a run with no entry before the others, all of which have a bound above 0.
-fn open(runs: &mut Vec<Run>, spare: &mut Vec<Vec<Cell>>)
+// Whether a run may begin at the key: so many runs have a bound no higher, and the last of them is full of
+// smaller keys. There it serves keys that come in rising or in falling order, whose runs thus get full.
+fn is_gap(runs: &[Run], key: u128, count: usize) -> bool
+    requires ordered { AreOrdered runs.now }
+    requires in_range { count ≤ length runs.now }
+    requires before { AllWithin (λ (r : Span). r.low ≤ key) runs.now 0 count }
+    requires after { AllWithin (λ (r : Span). key < r.low) runs.now count (length runs.now) }
+    ensures gap { IsTrue result → IsGap runs.now key count }
+    ensures some { ¬ IsTrue result → 0 < count }
+{
+    if count == 0 {
+        return true;
+    }
+    let entries = &runs[count - 1].entries;
+    entries.len() >= MOST && place_of(entries, key) == entries.len()
+}
+
+// Lets the run of this number begin at the bound, once it has room: the one that begins above it, or, where
+// that is full, a new one.
+fn begin(runs: &mut Vec<Run>, spare: &mut Vec<Vec<Cell>>, number: usize, low: u128)
     requires sound { AreSound runs.old spare.old }
     requires spare { 0 < length spare.old.items }
-    requires above { All (λ (r : Span). 0 < r.low) runs.old.items }
+    requires gap { IsGap runs.old.items low number }
     ensures sound { AreSound runs.new spare.new }
-    ensures runs { (run : Span) × (runs.new.items ≡ run ∷ runs.old.items) × (run.low ≡ 0) × (run.entries.items ≡ []) }
+    ensures held { held_in runs.new.items ≡ held_in runs.old.items }
+    ensures run { IsRunFor runs.new.items low number }
+    ensures few { (d : Span) → length (slice_index_or runs.new.items number d).entries.items < most }
+    ensures room { length spare.old.items ≤ length spare.new.items + 1 }
+{
+    if number < runs.len() && runs[number].entries.len() < MOST {
+        lower(runs, number, low);
+    } else {
+        open(runs, spare, number, low);
+    }
+}
+
+// Lowers the bound of a run.
+fn lower(runs: &mut Vec<Run>, number: usize, low: u128)
+    requires { number < length runs.old.items }
+    ensures runs { (run : Span) × (run ≡ slice_index_or runs.old.items number run) × (runs.new.items ≡ slice_set runs.old.items number (record run { low = low })) }
+    ensures capacity { vec_capacity runs.new ≡ vec_capacity runs.old }
+{
+    runs[number].low = low;
+}
+
+// Puts a run with no entry before the one of this number.
+fn open(runs: &mut Vec<Run>, spare: &mut Vec<Vec<Cell>>, number: usize, low: u128)
+    requires sound { AreSound runs.old spare.old }
+    requires spare { 0 < length spare.old.items }
+    requires gap { IsGap runs.old.items low number }
+    ensures sound { AreSound runs.new spare.new }
+    ensures runs { (run : Span) × (runs.new.items ≡ insert runs.old.items number run) × (run.low ≡ low) × (run.entries.items ≡ []) }
     ensures room { length spare.old.items ≡ length spare.new.items + 1 }
 {
     let Some(entries) = spare.pop() else {
         unreachable!();
     };
-    insert_run(runs, 0, Run { low: 0, entries });
+    insert_run(runs, number, Run { low, entries });
 }
 
 fn insert_run(runs: &mut Vec<Run>, number: usize, run: Run)
