@@ -1,4 +1,4 @@
--- A run that is cut in two, one that is put before the others, and one that goes.
+-- A run that is cut in two, and one that goes.
 use Rattle.std.proofs.Common.{◌≡◌, ℕ, suc, ◌+◌, ◌-◌, ◌*◌, ◌<◌, List, [], ◌∷◌, ◌++◌, map, length, get_or, set, take, drop, sym, ap, ◌∙◌, subst, arith}
 use Rattle.std.proofs.lemmas.List.{set_split, map-append, append_assoc, take_at, drop_at, length-append, length-take-le, get_or-append-add, set_at}
 use Rattle.std.proofs.lemmas.List.Edits.{get_or-remove_below, remove-append_right}
@@ -10,7 +10,7 @@ use Rattle.rows.specs.declared.Entry.{Entry}
 use Rattle.rows.specs.declared.runs.Run.{Run}
 use Rattle.rows.specs.Order.{Below, Rising, odd, even, numbers, numbers_in, held_in, AreOrdered, IsCut, most}
 use Rattle.rows.proofs.Numbers.{above-weaker, below-right, below-weaker, rising-right, rising-below, rising-above, rising-cut, rising-uncut, rising-end, rising-remove}
-use Rattle.rows.proofs.Pieces.{NextAbove, above_next, split_at}
+use Rattle.rows.proofs.Pieces.{split_at}
 
 -- ---- the numbers of a run that is cut
 
@@ -107,11 +107,6 @@ cut_is runs number lower higher inside =
 
 pub All-insert : (P : Run → Type 0) (runs : List Run) (number : ℕ) (run : Run) → P run → All P runs → All P (insert runs number run)
 All-insert P runs number run here all = All-append P (take number runs) (run ∷ drop number runs) (All-take P number runs all) (All-cons P run (drop number runs) here (All-drop P number runs all))
-
--- an empty run before the others
-pub opened : (runs : List Run) (run : Run) → run.low ≡ 0 → run.entries.items ≡ [] → NextAbove runs 0 → AreOrdered runs → AreOrdered (run ∷ runs)
-opened runs run low empty next ordered =
-    subst (λ k. Rising (even run ∷ (map odd k ++ numbers_in runs))) (sym empty) (above-weaker (even run) 1 (numbers_in runs) (omega (arith, low)) (above_next 0 runs ordered next), ordered)
 
 -- an empty run goes
 module _ (runs : List Run) (number : ℕ) (inside : number < length runs) (run : Run) (read : run ≡ get_or runs number run) (empty : run.entries.items ≡ []) where

@@ -3,4 +3,5 @@ pub mod Lookups
 pub mod Pieces
 pub mod Changes
 pub mod Cuts
+pub mod Gaps
 pub mod Froms

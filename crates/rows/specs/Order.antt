@@ -1,5 +1,5 @@
 -- How the entries lie in runs. No public clause cites this module.
-use Rattle.std.specs.Prelude.{◌≡◌, ⊤, ℕ, ◌+◌, ◌*◌, ◌<◌, ◌≤◌, List, [], ◌∷◌, ◌++◌, map, length, vec_capacity, slice_index_or, Some}
+use Rattle.std.specs.Prelude.{◌≡◌, ⊤, ℕ, ◌+◌, ◌*◌, ◌<◌, ◌≤◌, List, [], ◌∷◌, ◌++◌, map, length, take, vec_capacity, slice_index_or, Some}
 use Rattle.std.specs.List.{flat_map, All, AllWithin}
 use Rattle.std.specs.declared.vec.Vec.{Vec}
 use Rattle.std.specs.declared.alloc.Global.{Global}
@@ -100,6 +100,12 @@ pub record IsRunFor (runs : List Run) (key : ℕ) (number : ℕ) : Type 0 where
   pub in_range : number < length runs
   pub low : (d : Run) → (slice_index_or runs number d).low ≤ key
   pub next : (d : Run) → number + 1 < length runs → key < (slice_index_or runs (number + 1) d).low
+
+-- the key stands behind all runs before this number, and before all others
+pub record IsGap (runs : List Run) (key : ℕ) (number : ℕ) : Type 0 where
+  pub in_range : number ≤ length runs
+  pub below : Below (numbers_in (take number runs)) (2 * key)
+  pub above : AllWithin (λ (r : Run). key < r.low) runs number (length runs)
 
 -- the smaller keys of the run stand before this place, and no other
 pub record IsPlaceFor (entries : List Entry) (key : ℕ) (place : ℕ) : Type 0 where

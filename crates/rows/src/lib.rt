@@ -2,10 +2,12 @@
 //!
 //! The entries lie in runs of at most 64, rising by their keys. A look-up halves among the runs and then
 //! in one run. An insertion and a removal move the entries of one run alone; a full run is cut in two,
-//! and of two neighbours that are thin one takes the other in. A run that is no more needed is kept as a
-//! spare one, so that room once made stays. Short runs are what churn wants: a change moves at most
-//! 2 KiB, and the list of the runs, in which a cut puts one more, is short too.
+//! and of two neighbours that are thin one takes the other in. A key behind a full run goes into the next
+//! one, or a new one, so that keys that rise or fall leave full runs behind them. A run that is no more
+//! needed is kept as a spare one, so that room once made stays. Short runs are what churn wants: a change moves at most
+//! 1.5 KiB, and the list of the runs, in which a cut puts one more, is short too.
 //!
+//! - `cell`: an entry as the runs keep it
 //! - `runs`: the runs, and what is done to them
 //! - `walk`: the entries in order
 //! - `specs/Held`: the entries, as contracts see them
@@ -15,11 +17,13 @@ ghost use Rattle.std.specs.Prelude.{◌≡◌, [], ◌+◌, ◌^◌, ◌<◌, �
 ghost use Rattle.rows.specs.Held.{at, entries_from, Puts, AreRising};
 ghost use Rattle.rows.specs.Walk.{rest};
 
+mod cell;
 mod runs;
 #[cfg(test)]
 mod tests;
 mod walk;
 
+use crate::cell::Cell;
 use crate::runs::{Run, add, add_spare, find, take_out, walk_from};
 pub use crate::walk::Walk;
 use std::alloc::{AllocError, Global};
@@ -36,13 +40,13 @@ pub struct Entry {
 
 /// Entries, each key at most once, in rising order.
 ///
-/// A run takes 2 KiB. Two neighbours hold more than 32 entries, and where keys come in any order a run is
-/// some two thirds full.
+/// A run takes 1.5 KiB. Two neighbours hold more than 32 entries; where keys come in any order a run is some
+/// two thirds full, and where they rise or fall it is full.
 #[derive(Drop)]
 pub struct Rows {
     alloc: Global,
     runs: Vec<Run>,
-    spare: Vec<Vec<Entry>>,
+    spare: Vec<Vec<Cell>>,
 }
 
 impl Model for Rows {

@@ -1,22 +1,23 @@
 //! The runs in which the entries lie.
-ghost use Rattle.std.specs.Prelude.{◌≡◌, ◌+◌, ◌<◌, ◌≤◌, ◌∷◌, ◌++◌, ◌↔◌, [], ℕ, IsTrue, None, Some, OnOk, OnErr, OnSome, ◌^◌, IfSome, IfNone, length, vec_capacity, slice_index_or, take, drop};
-ghost use Rattle.std.specs.List.{All, AllWithin, insert};
+ghost use Rattle.std.specs.Prelude.{◌≡◌, ◌+◌, ◌<◌, ◌≤◌, ◌++◌, ◌↔◌, [], ℕ, IsTrue, None, Some, OnOk, OnErr, OnSome, ◌^◌, IfSome, IfNone, length, vec_capacity, slice_index_or, slice_set, take, drop};
+ghost use Rattle.std.specs.List.{AllWithin, insert};
 ghost use Rattle.rows.specs.Held.{value_at, entries_from, Puts};
 ghost use Rattle.rows.specs.Walk.{rest};
-ghost use Rattle.rows.specs.Order.{held_in, AreOrdered, AreKeysRising, AreSound, KeepsSound, IsRunFor, IsPlaceFor, IsEntryAt, IsEntryOf, IsFoundAt, IsCut, most, half};
+ghost use Rattle.rows.specs.Order.{held_in, AreOrdered, AreKeysRising, AreSound, KeepsSound, IsRunFor, IsGap, IsPlaceFor, IsEntryAt, IsEntryOf, IsFoundAt, IsCut, most, half};
 ghost use Rattle.rows.specs.declared.runs.Run.{Run as Span};
 
+use crate::cell::Cell;
 use crate::{Entry, Walk};
 use std::alloc::{AllocError, Global};
 
-/// The most entries of a run, 32 bytes each.
+/// The most entries of a run, 24 bytes each.
 const MOST: usize = 64;
 
 /// Entries that rise, and a bound that none of them is below and that all the earlier runs are below.
 #[derive(Drop)]
 pub struct Run {
     pub low: u128,
-    pub entries: Vec<Entry>,
+    pub entries: Vec<Cell>,
 }
 
 // How many runs have a bound no higher than the key.
@@ -30,21 +31,21 @@ fn runs_up_to(runs: &[Run], key: u128) -> usize
 }
 
 // How many entries have a smaller key.
-fn place_of(entries: &[Entry], key: u128) -> usize
+fn place_of(entries: &[Cell], key: u128) -> usize
     requires { AreKeysRising entries.now }
     ensures { IsPlaceFor entries.now key result }
 {
-    entries.partition_point(|entry| entry.key < key)
+    entries.partition_point(|entry| entry.key() < key)
 }
 
 // The place of the entry that has the key.
-fn find_place(entries: &[Entry], key: u128) -> Option<usize>
+fn find_place(entries: &[Cell], key: u128) -> Option<usize>
     requires { AreKeysRising entries.now }
     ensures found { IfSome result (IsEntryAt entries.now key) }
     ensures absent { IfNone result (value_at entries.now key ≡ None) }
 {
     let place = place_of(entries, key);
-    if place < entries.len() && entries[place].key == key {
+    if place < entries.len() && entries[place].key() == key {
         return Some(place);
     }
     None
@@ -73,7 +74,7 @@ pub fn find(runs: &[Run], key: u128) -> Option<usize>
     ensures { result ≡ value_at (held_in runs.now) key }
 {
     match locate(runs, key) {
-        Some((number, place)) => Some(runs[number].entries[place].value),
+        Some((number, place)) => Some(runs[number].entries[place].value()),
         None => None,
     }
 }
@@ -97,7 +98,7 @@ pub fn walk_from(runs: &[Run], key: u128) -> Walk<'_>
 }
 
 /// Puts the entry in, whose key no other has. A spare run is there, should one be needed.
-pub fn add(runs: &mut Vec<Run>, spare: &mut Vec<Vec<Entry>>, entry: Entry)
+pub fn add(runs: &mut Vec<Run>, spare: &mut Vec<Vec<Cell>>, entry: Entry)
     requires sound { AreSound runs.old spare.old }
     requires spare { 0 < length spare.old.items }
     requires absent { value_at (held_in runs.old.items) entry.key ≡ None }
@@ -111,7 +112,7 @@ pub fn add(runs: &mut Vec<Run>, spare: &mut Vec<Vec<Entry>>, entry: Entry)
 }
 
 // Puts the entry into a run.
-fn put(entries: &mut Vec<Entry>, entry: Entry)
+fn put(entries: &mut Vec<Cell>, entry: Entry)
     requires rising { AreKeysRising entries.old.items }
     requires few { length entries.old.items < most }
     requires wide { most ≤ vec_capacity entries.old }
@@ -119,14 +120,14 @@ fn put(entries: &mut Vec<Entry>, entry: Entry)
     ensures wide { most ≤ vec_capacity entries.new }
 {
     let place = place_of(entries, entry.key);
-    match entries.insert(place, entry) {
+    match entries.insert(place, Cell::of(entry)) {
         Ok(()) => {}
         Err(_) => unreachable!(),
     }
 }
 
 // The run for the key, once it has room.
-fn run_with_room(runs: &mut Vec<Run>, spare: &mut Vec<Vec<Entry>>, key: u128) -> usize
+fn run_with_room(runs: &mut Vec<Run>, spare: &mut Vec<Vec<Cell>>, key: u128) -> usize
     requires sound { AreSound runs.old spare.old }
     requires spare { 0 < length spare.old.items }
     ensures sound { AreSound runs.new spare.new }
@@ -136,9 +137,9 @@ fn run_with_room(runs: &mut Vec<Run>, spare: &mut Vec<Vec<Entry>>, key: u128) ->
     ensures room { length spare.old.items ≤ length spare.new.items + 1 }
 {
     let count = runs_up_to(runs, key);
-    if count == 0 {
-        open(runs, spare);
-        return 0;
+    if is_gap(runs, key, count) {
+        begin(runs, spare, count, key);
+        return count;
     }
     let number = count - 1;
     if runs[number].entries.len() < MOST {
@@ -152,19 +153,64 @@ fn run_with_room(runs: &mut Vec<Run>, spare: &mut Vec<Vec<Entry>>, key: u128) ->
     }
 }
 
-// Puts a run with no entry before the others, all of which have a bound above 0.
-fn open(runs: &mut Vec<Run>, spare: &mut Vec<Vec<Entry>>)
+// Whether a run may begin at the key: so many runs have a bound no higher, and the last of them is full of
+// smaller keys. There it serves keys that come in rising or in falling order, whose runs thus get full.
+fn is_gap(runs: &[Run], key: u128, count: usize) -> bool
+    requires ordered { AreOrdered runs.now }
+    requires in_range { count ≤ length runs.now }
+    requires before { AllWithin (λ (r : Span). r.low ≤ key) runs.now 0 count }
+    requires after { AllWithin (λ (r : Span). key < r.low) runs.now count (length runs.now) }
+    ensures gap { IsTrue result → IsGap runs.now key count }
+    ensures some { ¬ IsTrue result → 0 < count }
+{
+    if count == 0 {
+        return true;
+    }
+    let entries = &runs[count - 1].entries;
+    entries.len() >= MOST && place_of(entries, key) == entries.len()
+}
+
+// Lets the run of this number begin at the bound, once it has room: the one that begins above it, or, where
+// that is full, a new one.
+fn begin(runs: &mut Vec<Run>, spare: &mut Vec<Vec<Cell>>, number: usize, low: u128)
     requires sound { AreSound runs.old spare.old }
     requires spare { 0 < length spare.old.items }
-    requires above { All (λ (r : Span). 0 < r.low) runs.old.items }
+    requires gap { IsGap runs.old.items low number }
     ensures sound { AreSound runs.new spare.new }
-    ensures runs { (run : Span) × (runs.new.items ≡ run ∷ runs.old.items) × (run.low ≡ 0) × (run.entries.items ≡ []) }
+    ensures held { held_in runs.new.items ≡ held_in runs.old.items }
+    ensures run { IsRunFor runs.new.items low number }
+    ensures few { (d : Span) → length (slice_index_or runs.new.items number d).entries.items < most }
+    ensures room { length spare.old.items ≤ length spare.new.items + 1 }
+{
+    if number < runs.len() && runs[number].entries.len() < MOST {
+        lower(runs, number, low);
+    } else {
+        open(runs, spare, number, low);
+    }
+}
+
+// Lowers the bound of a run.
+fn lower(runs: &mut Vec<Run>, number: usize, low: u128)
+    requires { number < length runs.old.items }
+    ensures runs { (run : Span) × (run ≡ slice_index_or runs.old.items number run) × (runs.new.items ≡ slice_set runs.old.items number (record run { low = low })) }
+    ensures capacity { vec_capacity runs.new ≡ vec_capacity runs.old }
+{
+    runs[number].low = low;
+}
+
+// Puts a run with no entry before the one of this number.
+fn open(runs: &mut Vec<Run>, spare: &mut Vec<Vec<Cell>>, number: usize, low: u128)
+    requires sound { AreSound runs.old spare.old }
+    requires spare { 0 < length spare.old.items }
+    requires gap { IsGap runs.old.items low number }
+    ensures sound { AreSound runs.new spare.new }
+    ensures runs { (run : Span) × (runs.new.items ≡ insert runs.old.items number run) × (run.low ≡ low) × (run.entries.items ≡ []) }
     ensures room { length spare.old.items ≡ length spare.new.items + 1 }
 {
     let Some(entries) = spare.pop() else {
         unreachable!();
     };
-    insert_run(runs, 0, Run { low: 0, entries });
+    insert_run(runs, number, Run { low, entries });
 }
 
 fn insert_run(runs: &mut Vec<Run>, number: usize, run: Run)
@@ -180,7 +226,7 @@ fn insert_run(runs: &mut Vec<Run>, number: usize, run: Run)
 }
 
 // Cuts a full run in two.
-fn cut(runs: &mut Vec<Run>, spare: &mut Vec<Vec<Entry>>, number: usize)
+fn cut(runs: &mut Vec<Run>, spare: &mut Vec<Vec<Cell>>, number: usize)
     requires sound { AreSound runs.old spare.old }
     requires spare { 0 < length spare.old.items }
     requires in_range { number < length runs.old.items }
@@ -193,12 +239,12 @@ fn cut(runs: &mut Vec<Run>, spare: &mut Vec<Vec<Entry>>, number: usize)
         unreachable!();
     };
     move_high(&mut runs[number].entries, &mut high);
-    let low = high[0].key;
+    let low = high[0].key();
     insert_run(runs, number + 1, Run { low, entries: high });
 }
 
 // Moves the higher half of the entries.
-fn move_high(entries: &mut Vec<Entry>, high: &mut Vec<Entry>)
+fn move_high(entries: &mut Vec<Cell>, high: &mut Vec<Cell>)
     requires full { most ≡ length entries.old.items }
     requires wide { most ≤ vec_capacity entries.old }
     requires empty { high.old.items ≡ [] }
@@ -217,7 +263,7 @@ fn move_high(entries: &mut Vec<Entry>, high: &mut Vec<Entry>)
 }
 
 /// Takes the entry of the key out, if there is one. A run that is then empty becomes a spare one.
-pub fn take_out(runs: &mut Vec<Run>, spare: &mut Vec<Vec<Entry>>, key: u128) -> Option<usize>
+pub fn take_out(runs: &mut Vec<Run>, spare: &mut Vec<Vec<Cell>>, key: u128) -> Option<usize>
     requires sound { AreSound runs.old spare.old }
     ensures sound { AreSound runs.new spare.new }
     ensures value { result ≡ value_at (held_in runs.old.items) key }
@@ -245,12 +291,12 @@ fn take_at(runs: &mut Vec<Run>, number: usize, place: usize) -> Entry
     ensures counted { length (held_in runs.new.items) + 1 ≡ length (held_in runs.old.items) }
     ensures number { length runs.new.items ≡ length runs.old.items }
 {
-    runs[number].entries.remove(place)
+    runs[number].entries.remove(place).entry()
 }
 
 // Sees to a run from which an entry went: if it is empty it becomes a spare one, and if it and a neighbour
 // are no more than half a run they become one, so that many thin runs don't stay.
-fn settle(runs: &mut Vec<Run>, spare: &mut Vec<Vec<Entry>>, number: usize)
+fn settle(runs: &mut Vec<Run>, spare: &mut Vec<Vec<Cell>>, number: usize)
     requires sound { AreSound runs.old spare.old }
     requires in_range { number < length runs.old.items }
     ensures sound { AreSound runs.new spare.new }
@@ -279,7 +325,7 @@ fn are_few(lower: &Run, higher: &Run) -> bool
 }
 
 // Moves the entries of the next run into this one. The next one becomes a spare one.
-fn join(runs: &mut Vec<Run>, spare: &mut Vec<Vec<Entry>>, number: usize)
+fn join(runs: &mut Vec<Run>, spare: &mut Vec<Vec<Cell>>, number: usize)
     requires sound { AreSound runs.old spare.old }
     requires in_range { number + 1 < length runs.old.items }
     requires few { (d : Span) → length (slice_index_or runs.old.items number d).entries.items + length (slice_index_or runs.old.items (number + 1) d).entries.items ≤ half }
@@ -294,7 +340,7 @@ fn join(runs: &mut Vec<Run>, spare: &mut Vec<Vec<Entry>>, number: usize)
 }
 
 // Moves the entries of the second behind those of the first.
-fn append(entries: &mut Vec<Entry>, more: &mut Vec<Entry>)
+fn append(entries: &mut Vec<Cell>, more: &mut Vec<Cell>)
     requires { length entries.old.items + length more.old.items ≤ vec_capacity entries.old }
     ensures items { entries.new.items ≡ entries.old.items ++ more.old.items }
     ensures empty { more.new.items ≡ [] }
@@ -308,7 +354,7 @@ fn append(entries: &mut Vec<Entry>, more: &mut Vec<Entry>)
 }
 
 // Makes an empty run a spare one.
-fn free(runs: &mut Vec<Run>, spare: &mut Vec<Vec<Entry>>, number: usize)
+fn free(runs: &mut Vec<Run>, spare: &mut Vec<Vec<Cell>>, number: usize)
     requires sound { AreSound runs.old spare.old }
     requires in_range { number < length runs.old.items }
     requires empty { (d : Span) → (slice_index_or runs.old.items number d).entries.items ≡ [] }
@@ -324,7 +370,7 @@ fn free(runs: &mut Vec<Run>, spare: &mut Vec<Vec<Entry>>, number: usize)
 pub fn add_spare(
     alloc: Global,
     runs: &mut Vec<Run>,
-    spare: &mut Vec<Vec<Entry>>,
+    spare: &mut Vec<Vec<Cell>>,
 ) -> Result<(), AllocError>
     requires { AreSound runs.old spare.old }
     ensures sound { AreSound runs.new spare.new }

@@ -3,12 +3,13 @@ ghost use Rattle.std.specs.Iterator.{YieldsFirst, item_count};
 ghost use Rattle.rows.specs.Walk.{rest};
 
 use crate::Entry;
+use crate::cell::Cell;
 use crate::runs::Run;
 
 /// The entries of rows that are still to come, in rising order. A step takes the next entry of a run.
 #[derive(Drop)]
 pub struct Walk<'a> {
-    pub(crate) entries: &'a [Entry],
+    pub(crate) entries: &'a [Cell],
     pub(crate) runs: &'a [Run],
 }
 
@@ -27,6 +28,6 @@ impl Iterator for Walk<'_> {
         }
         let (entry, entries) = self.entries.split_first()?;
         self.entries = entries;
-        Some(*entry)
+        Some(entry.entry())
     }
 }

@@ -9,7 +9,7 @@ use Rattle.timers.specs.declared.due.Idle.{Idle}
 use Rattle.timers.specs.declared.links.Link.{Link}
 use Rattle.timers.specs.declared.links.Watch.{Watch}
 use Rattle.timers.specs.Due.{Watched, at, Updates, IsOver, AreDue}
-use Rattle.timers.specs.Links.{alone, link, watch, tag_by, last, last_by, idle_of, idle_in, idles, idles_by, timeout_in, IsPut, IsRing, IsRow, IsOverAt, IsFound}
+use Rattle.timers.specs.Links.{alone, most_places, link, watch, tag_by, last, last_by, idle_of, idle_in, idles, idles_by, timeout_in, IsPut, IsRing, IsRow, IsOverAt, IsFound}
 use Rattle.timers.proofs.Held.{above_heads, tag_held, inside_row}
 
 get_or-idles_by : (links : List Link) (k j : ℕ) → get_or (idles_by links) k None ≡ option_map idle_of (get_or links k (alone j)).watch
@@ -66,8 +66,9 @@ Updates-idle old new before after slot o was is put = record {
 
 module _ (old new : List Link) (same : (k : ℕ) → link new k ≡ link old k) where
   -- new places with nothing watched change nothing
-  pub IsRow-same : IsRow old → IsRow new
-  IsRow-same row = record {
+  pub IsRow-same : (length old ≤ most_places → length new ≤ most_places) → IsRow old → IsRow new
+  IsRow-same few row = record {
+    few = few row.few;
     placed = λ k w is. row.placed k w (ap (λ (l : Link). l.watch) (sym (same k)) ∙ is);
     ring = subst (λ (f : ℕ → Link). IsRing (λ k. (f k).next) (λ k. (f k).previous) (λ k. tag_by (f k).watch k) (λ k. last_by (f k).watch)) (fun_ext (λ k. sym (same k))) row.ring;
   }
@@ -78,6 +79,7 @@ module _ (old new : List Link) (same : (k : ℕ) → link new k ≡ link old k) 
 -- no place at all
 pub IsRow-none : IsRow []
 IsRow-none = record {
+  few = omega arith;
   placed = λ k w is. absurd (none-some w is);
   ring = record {
     rank = λ k. 0;

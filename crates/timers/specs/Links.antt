@@ -23,6 +23,10 @@ timeout_in Short = 240
 timeout_in Middle = 300
 timeout_in Long = 7440
 
+-- no row has more places, so that each is a number of 32 bits
+abbrev pub most_places : ℕ
+most_places = 4294967296
+
 -- a place with nothing watched, in no ring
 abbrev pub alone : ℕ → Link
 alone k = record { previous = k; next = k; watch = None }
@@ -88,8 +92,9 @@ pub record IsRing (next previous tag last : ℕ → ℕ) : Type 0 where
   pub up : (k : ℕ) → tag k < 3 → 3 ≤ k → 3 ≤ next k → (rank k < rank (next k)) × (last k ≤ last (next k))
   pub below : (k : ℕ) → tag k < 3 → rank k < top
 
--- each slot that is watched stands at its place, and the places are in three rings
+-- each slot that is watched stands at its place, the places are in three rings, and they aren't too many
 pub record IsRow (links : List Link) : Type 0 where
+  pub few : length links ≤ most_places
   pub placed : (k : ℕ) (w : Watch) → watch links k ≡ Some w → w.slot + 3 ≡ k
   pub ring : IsRing (next links) (previous links) (tag links) (last links)
 

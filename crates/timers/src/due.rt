@@ -4,7 +4,8 @@ ghost use Rattle.sessions.specs.Life.{IsTimeout};
 ghost use Rattle.timers.specs.Due.{at, Updates, IsLatest, IsNoneOver, IsOver, AreDue};
 ghost use Rattle.timers.specs.Links.{IsRow};
 
-use crate::links::{Link, append, cut, grow, grow_past, renew};
+use crate::cell::Cell;
+use crate::links::{append, cut, grow, grow_past, renew};
 use crate::walk::slots_over;
 use sessions::Slot;
 use std::alloc::{AllocError, Global};
@@ -25,7 +26,7 @@ pub struct Idle {
 /// given, `touch`, `remove`, and `due` where all are alive take no memory.
 #[derive(Drop)]
 pub struct Due {
-    links: Vec<Link>,
+    links: Vec<Cell>,
 }
 
 impl Model for Due {

@@ -4,11 +4,12 @@
 //! Moments never fall, and a session goes to the end of its queue with each packet; so a queue rises by the
 //! last moments, and the sessions that are over are the first ones of it. To watch a session, to touch it
 //! and to watch it no longer take constant time; to tell which are over takes time by their number, and
-//! looks at no session behind the first one of each queue that is alive. A slot takes 48 bytes, whether a
+//! looks at no session behind the first one of each queue that is alive. A slot takes 32 bytes, whether a
 //! session is watched there or not.
 //!
 //! - `due`: the sessions that are watched, each under its slot with its last moment and its timeout
 //! - `links`: the queues, in one row of links by slot numbers
+//! - `cell`: a link as the row keeps it
 //! - `walk`: the first ones of a queue, as far as they are over
 //! - `laws`: that a session is over exactly where it isn't alive
 //! - `specs/Due`: the idle times, as contracts see them
@@ -16,6 +17,7 @@
 //! The crate stores slots that a table of sessions gave, and makes none of its own.
 #![tactic(auto)]
 
+mod cell;
 mod due;
 mod laws;
 mod links;

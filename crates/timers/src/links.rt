@@ -1,9 +1,10 @@
 //! The row of links: three queues, each a ring of places from its head on and back to it.
 ghost use Rattle.std.specs.Prelude.{◌≡◌, ◌⊎◌, ◌↔◌, ◌+◌, ◌-◌, ◌<◌, ◌≤◌, ℕ, Some, None, OnOk, IsOk, IsSome, length, slice_set};
 ghost use Rattle.sessions.specs.Life.{IsTimeout};
-ghost use Rattle.timers.specs.Links.{head_of, timeout_in, link, next, previous, watch, tag, last as last_at, IsPut, IsRow, IsJoined, IsWatchPut, idle_in};
+ghost use Rattle.timers.specs.Links.{head_of, timeout_in, most_places, link, next, previous, watch, tag, last as last_at, IsPut, IsRow, IsJoined, IsWatchPut, idle_in};
 
 use crate::Idle;
+use crate::cell::Cell;
 use sessions::Slot;
 use std::alloc::{AllocError, Global};
 
@@ -36,8 +37,6 @@ pub struct Link {
     pub next: usize,
     pub watch: Option<Watch>,
 }
-
-const _: () = prove!(size_of::<Link>() == 48);
 
 impl Queue {
     /// The queue of this timeout.
@@ -77,10 +76,11 @@ impl Queue {
 
 /// Makes the row long enough for each slot below this number, and no longer than that, with nothing watched
 /// in the new places.
-pub fn grow(links: &mut Vec<Link>, slots: usize) -> Result<(), AllocError>
+pub fn grow(links: &mut Vec<Cell>, slots: usize) -> Result<(), AllocError>
     ensures ok { OnOk result (slots ≤ length links.new.items - 3) }
     ensures same { (k : ℕ) → link links.new.items k ≡ link links.old.items k }
     ensures longer { length links.old.items ≤ length links.new.items }
+    ensures few { length links.old.items ≤ most_places → length links.new.items ≤ most_places }
     ensures succeeds { slots ≤ length links.old.items - 3 → IsOk result }
 {
     if slots <= links.len().saturating_sub(HEADS) {
@@ -92,25 +92,25 @@ pub fn grow(links: &mut Vec<Link>, slots: usize) -> Result<(), AllocError>
 }
 
 /// Makes the row long enough for a slot of this number, with nothing watched in the new places.
-pub fn grow_past(links: &mut Vec<Link>, number: usize) -> Result<(), AllocError>
+pub fn grow_past(links: &mut Vec<Cell>, number: usize) -> Result<(), AllocError>
     ensures ok { OnOk result (number + 3 < length links.new.items) }
     ensures same { (k : ℕ) → link links.new.items k ≡ link links.old.items k }
     ensures longer { length links.old.items ≤ length links.new.items }
+    ensures few { length links.old.items ≤ most_places → length links.new.items ≤ most_places }
     ensures succeeds { number + 3 < length links.old.items → IsOk result }
 {
     while links.len().saturating_sub(HEADS) <= number {
         let place = links.len();
-        links.push(Link {
-            previous: place,
-            next: place,
-            watch: None,
-        })?;
+        let Ok(place) = u32::try_from(place) else {
+            return Err(AllocError);
+        };
+        links.push(Cell::alone(place))?;
     }
     Ok(())
 }
 
 /// Takes a watched slot out of its queue, in constant time.
-pub fn cut(links: &mut Vec<Link>, slot: Slot)
+pub fn cut(links: &mut Vec<Cell>, slot: Slot)
     requires row { IsRow links.old.items }
     requires held { IsSome (watch links.old.items (slot + 3)) }
     ensures row { IsRow links.new.items }
@@ -124,7 +124,7 @@ pub fn cut(links: &mut Vec<Link>, slot: Slot)
 }
 
 /// Puts a slot that isn't watched at the end of the queue of its timeout, in constant time.
-pub fn append(links: &mut Vec<Link>, slot: Slot, idle: Idle)
+pub fn append(links: &mut Vec<Cell>, slot: Slot, idle: Idle)
     requires row { IsRow links.old.items }
     requires inside { slot + 3 < length links.old.items }
     requires free { watch links.old.items (slot + 3) ≡ None }
@@ -142,7 +142,7 @@ pub fn append(links: &mut Vec<Link>, slot: Slot, idle: Idle)
 }
 
 /// Moves a watched slot to the end of the queue of its timeout from now on, in constant time.
-pub fn renew(links: &mut Vec<Link>, slot: Slot, idle: Idle)
+pub fn renew(links: &mut Vec<Cell>, slot: Slot, idle: Idle)
     requires row { IsRow links.old.items }
     requires held { IsSome (watch links.old.items (slot + 3)) }
     requires timeout { IsTimeout idle.timeout }
@@ -156,7 +156,7 @@ pub fn renew(links: &mut Vec<Link>, slot: Slot, idle: Idle)
 }
 
 // Takes a watched place out from between the two beside it.
-fn take_out(links: &mut Vec<Link>, place: usize, before: usize, behind: usize)
+fn take_out(links: &mut Vec<Cell>, place: usize, before: usize, behind: usize)
     requires row { IsRow links.old.items }
     requires held { IsSome (watch links.old.items place) }
     requires before { before ≡ previous links.old.items place }
@@ -170,7 +170,7 @@ fn take_out(links: &mut Vec<Link>, place: usize, before: usize, behind: usize)
 }
 
 // Puts a slot between the end of its queue and the head.
-fn put_at_end(links: &mut Vec<Link>, place: usize, end: usize, added: Watch)
+fn put_at_end(links: &mut Vec<Cell>, place: usize, end: usize, added: Watch)
     requires row { IsRow links.old.items }
     requires inside { place < length links.old.items }
     requires place { added.slot + 3 ≡ place }
@@ -188,7 +188,8 @@ fn put_at_end(links: &mut Vec<Link>, place: usize, end: usize, added: Watch)
 }
 
 // Lets the first place lead to the second, and the second back.
-fn join(links: &mut Vec<Link>, a: usize, b: usize)
+fn join(links: &mut Vec<Cell>, a: usize, b: usize)
+    requires few { length links.old.items ≤ most_places }
     requires a { a < length links.old.items }
     requires b { b < length links.old.items }
     ensures { IsJoined links.old.items links.new.items a b }
@@ -197,44 +198,46 @@ fn join(links: &mut Vec<Link>, a: usize, b: usize)
     set_previous(links, b, a);
 }
 
-fn set_next(links: &mut Vec<Link>, place: usize, to: usize)
-    requires { place < length links.old.items }
+fn set_next(links: &mut Vec<Cell>, place: usize, to: usize)
+    requires inside { place < length links.old.items }
+    requires to { to < most_places }
     ensures { links.new.items ≡ slice_set links.old.items place (record (link links.old.items place) { next = to }) }
 {
-    links[place].next = to;
+    links[place].set_next(to);
 }
 
-fn set_previous(links: &mut Vec<Link>, place: usize, to: usize)
-    requires { place < length links.old.items }
+fn set_previous(links: &mut Vec<Cell>, place: usize, to: usize)
+    requires inside { place < length links.old.items }
+    requires to { to < most_places }
     ensures { links.new.items ≡ slice_set links.old.items place (record (link links.old.items place) { previous = to }) }
 {
-    links[place].previous = to;
+    links[place].set_previous(to);
 }
 
-fn set_watch(links: &mut Vec<Link>, place: usize, watch: Option<Watch>)
+fn set_watch(links: &mut Vec<Cell>, place: usize, watch: Option<Watch>)
     requires { place < length links.old.items }
     ensures { IsWatchPut links.old.items links.new.items place watch }
 {
-    links[place].watch = watch;
+    links[place].set_watch(watch);
 }
 
 /// The place behind this one.
-pub fn next(links: &[Link], place: usize) -> usize
+pub fn next(links: &[Cell], place: usize) -> usize
     ensures { result ≡ next links.now place }
 {
     if place < links.len() {
-        links[place].next
+        links[place].next()
     } else {
         place
     }
 }
 
 // The place before this one.
-fn previous(links: &[Link], place: usize) -> usize
+fn previous(links: &[Cell], place: usize) -> usize
     ensures { result ≡ previous links.now place }
 {
     if place < links.len() {
-        links[place].previous
+        links[place].previous()
     } else {
         place
     }

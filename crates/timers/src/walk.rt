@@ -3,12 +3,13 @@ ghost use Rattle.std.specs.Prelude.{◌≡◌, ◌⊎◌, ◌↔◌, ◌+◌, �
 ghost use Rattle.timers.specs.Due.{IsOver};
 ghost use Rattle.timers.specs.Links.{head_of, timeout_in, next, watch, tag, IsRow, idle_of, IsOverAt, IsFound, IsWalked};
 
-use crate::links::{Link, Queue, Watch, next};
+use crate::cell::Cell;
+use crate::links::{Queue, Watch, next};
 use sessions::Slot;
 use std::alloc::{AllocError, Global};
 
 /// The slots of the sessions that are alive no longer, each once. It looks at one more of each queue.
-pub fn slots_over(alloc: Global, links: &[Link], now: u64) -> Result<Vec<Slot>, AllocError>
+pub fn slots_over(alloc: Global, links: &[Cell], now: u64) -> Result<Vec<Slot>, AllocError>
     requires { IsRow links.now }
     ensures due { IfOk result (λ slots. IsFound links.now now 3 slots.items) }
     ensures succeeds { ((k : ℕ) → ¬ IsOverAt links.now now k) → IsOk result }
@@ -23,7 +24,7 @@ pub fn slots_over(alloc: Global, links: &[Link], now: u64) -> Result<Vec<Slot>, 
 // Adds the slots of the queue whose sessions are alive no longer. It looks at one place more than it adds.
 fn push_over(
     slots: &mut Vec<Slot>,
-    links: &[Link],
+    links: &[Cell],
     queue: Queue,
     now: u64,
 ) -> Result<(), AllocError>
@@ -41,14 +42,14 @@ fn push_over(
 }
 
 // The slot of the place, where its session is alive no longer.
-fn slot_over(links: &[Link], place: usize, now: u64) -> Option<Slot>
+fn slot_over(links: &[Cell], place: usize, now: u64) -> Option<Slot>
     ensures over { IfSome result (λ slot. IsSomeAnd (watch links.now place) (λ w. (w.slot ≡ slot) × IsOver now (idle_of w))) }
     ensures alive { IfNone result (¬ IsOverAt links.now now place) }
 {
     if place >= links.len() {
         return None;
     }
-    watch_over(&links[place].watch, now)
+    watch_over(&links[place].watch(), now)
 }
 
 fn watch_over(watch: &Option<Watch>, now: u64) -> Option<Slot>

@@ -23,7 +23,7 @@ returns-clause-cut c =
     let run = c.index_mut.result.now in
     let items = run.entries.items in
     let lower : Run = record { low = run.low; entries = c.move_high.new.entries } in
-    let higher : Run = record { low = c.index.result.now.key; entries = c.move_high.new.high } in
+    let higher : Run = record { low = c.key-low.result; entries = c.move_high.new.high } in
     let sized : IsWide run = subst IsWide (sym c.index_mut.ensures.value) (All-get_or IsWide runs number run c.requires.in_range c.requires.sound.wide) in
     record {
       front = take number runs;
@@ -59,7 +59,7 @@ returns-clause-sound c =
     let runs_fit : length c.insert_run.new.runs.items + length c.pop.new.self.items ≤ vec_capacity c.insert_run.new.runs = omega (arith, long, fewer, c.requires.sound.runs_fit, c.insert_run.ensures.capacity) in
     let spares_fit : length c.insert_run.new.runs.items + length c.pop.new.self.items ≤ vec_capacity c.pop.new.self = omega (arith, long, fewer, c.requires.sound.spares_fit, c.pop.ensures.capacity) in
     record {
-      ordered = cut_ordered runs c.insert_run.new.runs.items number cut c.requires.sound.ordered some_low some_high (λ d. ap (λ (e : Entry). e.key) (c.index.ensures ∙ get_or_default c.move_high.new.high.items 0 c.index.result.now d some_high));
+      ordered = cut_ordered runs c.insert_run.new.runs.items number cut c.requires.sound.ordered some_low some_high (λ d. c.key-low.ensures ∙ ap (λ (e : Entry). e.key) (c.index.ensures ∙ get_or_default c.move_high.new.high.items 0 c.index.result.now d some_high));
       wide = rw c.insert_run.ensures.items (All-insert IsWide (set runs number cut.lower) (number + 1) cut.higher wide_high (All-set IsWide runs number cut.lower wide_low c.requires.sound.wide));
       spares = popped.0;
       runs_fit = runs_fit;

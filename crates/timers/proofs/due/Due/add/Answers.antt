@@ -12,13 +12,13 @@ on_err_from (Ok x) p = tt
 on_err_from (Err e) p = p
 
 pub invariant_of-self : goal.invariant_of-self
-invariant_of-self c = IsRow-same _ _ c.grow_past.ensures.same c.self.invariant
+invariant_of-self c = IsRow-same _ _ c.grow_past.ensures.same c.grow_past.ensures.few c.self.invariant
 
 pub returns-in_err-grow_past-clause-err : goal.returns-in_err-grow_past-clause-err
 returns-in_err-grow_past-clause-err c = rw (← c.self.view_is) (on_err_from _ (idles-same _ _ c.grow_past.ensures.same))
 
 pub append-requires-clause-row : goal.append-requires-clause-row
-append-requires-clause-row c = IsRow-same _ _ c.grow_past.ensures.same c.self.invariant
+append-requires-clause-row c = IsRow-same _ _ c.grow_past.ensures.same c.grow_past.ensures.few c.self.invariant
 
 pub append-requires-clause-free : goal.append-requires-clause-free
 append-requires-clause-free c =
