@@ -1,3 +1,4 @@
+pub mod Besides
 pub mod Core
 pub mod Flows
 pub mod Judged

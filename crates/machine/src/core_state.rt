@@ -111,6 +111,7 @@ fn put_through<N: Notes>(
     ensures adds_none { (way : Outcome Passage Reason) → Plans flows.old.translations.external flows.old.table.held now plan way
         → LeadsFew (λ s. sent s bytes way) flows.old.table.held now → N.grants notes.old → IsOk result }
     ensures keeps { N.keeps notes.old ↔ N.keeps notes.new }
+    ensures beside { N.beside notes.new ≡ N.beside notes.old }
     ensures noted { OnOk result ((way : Outcome Passage Reason) → Plans flows.old.translations.external flows.old.table.held now plan way
         → N.keeps notes.old → N.noted notes.new ≡ N.noted notes.old ++ of_way (listing flows.old.table.held) way) }
     ensures err_noted { OnErr result (N.noted notes.new ≡ N.noted notes.old) }
@@ -182,6 +183,7 @@ fn pass_on<N: Notes>(
     ensures adds_none { let s = state_of in_force.now.text in_force.now.rules flows.old.table.held now in
         AddsNone s (pass bounds.now s iface bytes) → N.grants notes.old → IsOk result }
     ensures keeps { N.keeps notes.old ↔ N.keeps notes.new }
+    ensures beside { N.beside notes.new ≡ N.beside notes.old }
     ensures noted { OnOk result (N.keeps notes.old → N.noted notes.new ≡ N.noted notes.old
         ++ of_fields bounds.now (state_of in_force.now.text in_force.now.rules flows.old.table.held now) iface (fields bytes)) }
     ensures err_noted { OnErr result (N.noted notes.new ≡ N.noted notes.old) }
@@ -205,6 +207,7 @@ fn pass_on<N: Notes>(
 fn note_load<N: Notes>(ready: bool, text: &Bytes, notes: &mut N) -> Result<(), StepFault>
     requires { IsTrue ready → N.keeps notes.old → 5 + length text.now ≤ N.room notes.old }
     ensures keeps { N.keeps notes.old ↔ N.keeps notes.new }
+    ensures beside { N.beside notes.new ≡ N.beside notes.old }
     ensures noted { OnOk result (N.keeps notes.old → N.noted notes.new ≡ N.noted notes.old ++ Load text.now ∷ []) }
     ensures err_noted { OnErr result (N.noted notes.new ≡ N.noted notes.old) }
     ensures full { IsErrOf result StepFault.Full → N.too_many notes.old (5 + length text.now) }
@@ -244,6 +247,7 @@ fn act_on<N: Notes>(
     ensures adds_none { let s = state_of in_force.old.text in_force.old.rules flows.old.table.held now in
         AddsNone s (act bounds.now s deed) → N.grants notes.old → IsOk result }
     ensures keeps { N.keeps notes.old ↔ N.keeps notes.new }
+    ensures beside { N.beside notes.new ≡ N.beside notes.old }
     ensures noted { OnOk result (N.keeps notes.old → N.noted notes.new ≡ N.noted notes.old
         ++ of_deed bounds.now (state_of in_force.old.text in_force.old.rules flows.old.table.held now) deed) }
     ensures err_noted { OnErr result (N.noted notes.new ≡ N.noted notes.old) }
@@ -293,6 +297,7 @@ fn age_and_act<N: Notes>(
     ensures succeeds { let s = state_of in_force.old.text in_force.old.rules flows.old.table.held clock in
         EndsNone now s → AddsNone s (act bounds.now (aged now s) deed) → N.grants notes.old → IsOk result }
     ensures keeps { N.keeps notes.old ↔ N.keeps notes.new }
+    ensures beside { N.beside notes.new ≡ N.beside notes.old }
     ensures noted { OnOk result (N.keeps notes.old → (gone : List Flow) × AreOver now (listing flows.old.table.held) gone
         × (N.noted notes.new ≡ N.noted notes.old
         ++ (ends gone ++ of_deed bounds.now (aged now (state_of in_force.old.text in_force.old.rules flows.old.table.held clock)) deed))) }
@@ -451,6 +456,7 @@ impl Core {
             × (N.noted notes.new ≡ N.noted notes.old ++ entries))) }
         ensures config { self.new.config ≡ self.old.config }
         ensures keeps { N.keeps notes.old ↔ N.keeps notes.new }
+        ensures beside { N.beside notes.new ≡ N.beside notes.old }
         ensures err { IfErr result (λ e. (e.0 ≡ event) × (self.new ≡ self.old)) }
         ensures err_noted { OnErr result (N.noted notes.new ≡ N.noted notes.old) }
         ensures full { IfErr result (λ e. e.1 ≡ StepFault.Full → (judged : Judged) × IsJudged self.old.config event judged

@@ -251,6 +251,7 @@ impl Flows {
         ensures ready { (n : ℕ) → IsReady (n + adds_by change) self.old → IsReady n self.new }
         ensures external { self.new.translations.external ≡ self.old.translations.external }
         ensures keeps { N.keeps notes.old ↔ N.keeps notes.new }
+        ensures beside { N.beside notes.new ≡ N.beside notes.old }
         ensures noted { (t : Flow) → Gives self.old.translations.external self.old.table.held now change t → N.keeps notes.old
             → N.noted notes.new ≡ N.noted notes.old ++ noted (listing self.old.table.held) t }
         ensures room { (t : Flow) → Gives self.old.translations.external self.old.table.held now change t → N.keeps notes.old
@@ -268,6 +269,7 @@ impl Flows {
             × (N.keeps notes.old → bytes_of (noted_all ts (listing self.old.table.held)) ≤ N.room notes.old) }
         requires ready { 0 < adds_by plan.now.first + adds_second plan.now.second → IsReady 2 self.old }
         ensures keeps { N.keeps notes.old ↔ N.keeps notes.new }
+        ensures beside { N.beside notes.new ≡ N.beside notes.old }
         ensures noted { (ts : List Flow) → GiveAll self.old.translations.external self.old.table.held now plan.now.first plan.now.second ts
             → N.keeps notes.old → N.noted notes.new ≡ N.noted notes.old ++ noted_all ts (listing self.old.table.held) }
         ensures listing { (ts : List Flow) → GiveAll self.old.translations.external self.old.table.held now plan.now.first plan.now.second ts
@@ -298,6 +300,7 @@ impl Flows {
         ensures held { self.new.table.held ≡ self.old.table.held }
         ensures external { self.new.translations.external ≡ self.old.translations.external }
         ensures keeps { N.keeps notes.old ↔ N.keeps notes.new }
+        ensures beside { N.beside notes.new ≡ N.beside notes.old }
         ensures noted { N.noted notes.new ≡ N.noted notes.old }
         ensures full { IsErrOf result StepFault.Full → N.too_many notes.old 44 }
         ensures succeeds { IsTrue ready → IsOk result }
@@ -342,6 +345,7 @@ impl Flows {
         ensures latest { IsLatest self.new.table.held now }
         ensures external { self.new.translations.external ≡ self.old.translations.external }
         ensures keeps { N.keeps notes.old ↔ N.keeps notes.new }
+        ensures beside { N.beside notes.new ≡ N.beside notes.old }
         ensures noted { OnOk result ((ts : List Flow) → GiveAll self.old.translations.external self.old.table.held now plan.now.first plan.now.second ts
             → N.keeps notes.old → N.noted notes.new ≡ N.noted notes.old ++ noted_all ts (listing self.old.table.held)) }
         ensures err_noted { OnErr result (N.noted notes.new ≡ N.noted notes.old) }
@@ -382,6 +386,7 @@ impl Flows {
         ensures ready { (n : ℕ) → IsReady n self.old → IsReady n self.new }
         ensures external { self.new.translations.external ≡ self.old.translations.external }
         ensures keeps { N.keeps notes.old ↔ N.keeps notes.new }
+        ensures beside { N.beside notes.new ≡ N.beside notes.old }
         ensures noted { N.keeps notes.old → N.noted notes.new ≡ N.noted notes.old ++ ends (sessions_at self.old.table.held (slot ∷ [])) }
         ensures room { N.keeps notes.old → N.room notes.old ≤ N.room notes.new + 14 }
     {
@@ -402,6 +407,7 @@ impl Flows {
         ensures ready { (n : ℕ) → IsReady n self.old → IsReady n self.new }
         ensures external { self.new.translations.external ≡ self.old.translations.external }
         ensures keeps { N.keeps notes.old ↔ N.keeps notes.new }
+        ensures beside { N.beside notes.new ≡ N.beside notes.old }
         ensures noted { N.keeps notes.old → N.noted notes.new ≡ N.noted notes.old ++ ends (sessions_at self.old.table.held slots.now) }
         ensures room { N.keeps notes.old → N.room notes.old ≤ N.room notes.new + 14 * length slots.now }
     {
@@ -433,6 +439,7 @@ impl Flows {
         ensures room { IfOk result (λ any. IsTrue any → N.keeps notes.old → others ≤ N.room notes.new) }
         ensures none { IfOk result (λ any. any ≡ false → self.new.table.held ≡ self.old.table.held) }
         ensures keeps { N.keeps notes.old ↔ N.keeps notes.new }
+        ensures beside { N.beside notes.new ≡ N.beside notes.old }
         ensures noted { OnOk result (N.keeps notes.old → (gone : List Flow) × AreOver now (listing self.old.table.held) gone
             × (N.noted notes.new ≡ N.noted notes.old ++ ends gone)) }
         ensures unchanged { IfOk result (λ any. any ≡ false → notes.new ≡ notes.old) }

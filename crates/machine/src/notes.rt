@@ -2,6 +2,7 @@
 ghost use Rattle.std.specs.Prelude.{◌≡◌, ◌↔◌, ◌+◌, ◌*◌, ◌≤◌, ◌++◌, ◌∷◌, [], ℕ, List, length, OnOk, OnErr, IsOk, IsErrOf};
 ghost use Rattle.durable.specs.Coding.{Entry as Noted, IsEntry, entry_bytes};
 ghost use Rattle.durable.specs.Viewing.{view};
+ghost use Rattle.machine.specs.Besides.{Besides};
 ghost use Rattle.machine.specs.declared.notes.StepFault.{StepFault};
 
 use durable::Entry;
@@ -28,6 +29,9 @@ pub trait Notes {
     /// The entries that were noted, in order.
     ghost noted: { Self → List Noted };
 
+    /// What they have beside the entries. It stays.
+    ghost beside: { Self → Besides };
+
     /// How many more bytes of entries find room.
     ghost room: { Self → ℕ };
 
@@ -44,6 +48,7 @@ pub trait Notes {
     /// `Full` only where these don't fit, and `NoMemory` where memory is refused. What is noted stays.
     fn reserve(&mut self, ends: usize, others: u64) -> Result<(), StepFault>
         ensures keeps { keeps self.old ↔ keeps self.new }
+        ensures beside { beside self.new ≡ beside self.old }
         ensures ok { keeps self.old → OnOk result (14 * ends + others ≤ room self.new) }
         ensures noted { noted self.new ≡ noted self.old }
         ensures full { IsErrOf result StepFault.Full → too_many self.old (14 * ends + others) }
@@ -54,6 +59,7 @@ pub trait Notes {
         requires coded { keeps self.old → IsEntry (view entry) }
         requires room { keeps self.old → length (entry_bytes (view entry)) ≤ room self.old }
         ensures keeps { keeps self.old ↔ keeps self.new }
+        ensures beside { beside self.new ≡ beside self.old }
         ensures noted { keeps self.old → noted self.new ≡ noted self.old ++ view entry.entry ∷ [] }
         ensures room { keeps self.old → room self.old ≤ room self.new + length (entry_bytes (view entry.entry)) };
 }
@@ -68,6 +74,8 @@ impl Notes for Unkept {
     ghost keeps = { λ _. ⊥ };
 
     ghost noted = { λ _. [] };
+
+    ghost beside = { λ _. record { place = 0; held = [] } };
 
     ghost room = { λ _. 0 };
 

@@ -119,6 +119,7 @@ pub fn note<N: Notes>(notes: &mut N, entry: Option<Entry<'_>>)
     requires coded { AreEntries (listed entry) }
     requires room { N.keeps notes.old → bytes_of (listed entry) ≤ N.room notes.old }
     ensures keeps { N.keeps notes.old ↔ N.keeps notes.new }
+    ensures beside { N.beside notes.new ≡ N.beside notes.old }
     ensures noted { N.keeps notes.old → N.noted notes.new ≡ N.noted notes.old ++ listed entry.entry }
     ensures room { N.keeps notes.old → N.room notes.old ≤ N.room notes.new + bytes_of (listed entry.entry) }
 {

@@ -25,6 +25,7 @@ loop-slot-preserved g c =
       external = c.end_noted.ensures.external ∙ before.external;
       ready = λ n is_ready. c.end_noted.ensures.ready n (before.ready n is_ready);
       keeps = (λ keeps. c.end_noted.ensures.keeps.0 (before.keeps.0 keeps), λ keeps. before.keeps.1 (c.end_noted.ensures.keeps.1 keeps));
+      beside = c.end_noted.ensures.beside ∙ before.beside;
       noted = λ keeps.
           ends-more c.args.self.now.table.held held slots i (g.N.Notes.noted c.args.notes.now) (g.N.Notes.noted c.loop-slot.notes) (g.N.Notes.noted c.end_noted.new.notes) lt
           (before.others (slice_index slots i) (λ k less. c.requires.once k i less lt)) (before.noted keeps)

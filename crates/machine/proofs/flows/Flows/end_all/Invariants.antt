@@ -12,6 +12,7 @@ invariant-loop-slot g l = record {
   external : l.self.translations.external ≡ l.initial.self.translations.external;
   ready : (n : ℕ) → IsReady n l.initial.self → IsReady n l.self;
   keeps : g.N.Notes.keeps l.initial.notes ↔ g.N.Notes.keeps l.notes;
+  beside : g.N.Notes.beside l.notes ≡ g.N.Notes.beside l.initial.notes;
   noted : g.N.Notes.keeps l.initial.notes → g.N.Notes.noted l.notes ≡ g.N.Notes.noted l.initial.notes ++ ends (sessions_at l.initial.self.table.held (take l.slot-index l.slots));
   room : g.N.Notes.keeps l.initial.notes → g.N.Notes.room l.initial.notes ≤ g.N.Notes.room l.notes + 14 * l.slot-index;
 }
