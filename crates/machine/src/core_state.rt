@@ -1,6 +1,7 @@
 //! `Core`: all the state of a gateway (the text in force and its rules, the sessions, the clock), and the step
 //! that an event does to it. It gives no numbers and holds nothing: that is for the crates above.
 ghost use Rattle.std.specs.Prelude.{◌≡◌, ◌↔◌, ◌<◌, ◌≤◌, ◌+◌, ◌*◌, ◌++◌, ◌∷◌, [], ℕ, List, length, IsErrOf, OnOk, Ok, Err, Result as Outcome, IsTrue, IfOk, IfErr, IsOk, IsOkAnd, OnErr};
+ghost use Rattle.packet.specs.Config.{is_config};
 ghost use Rattle.packet.specs.Fields.{fields};
 ghost use Rattle.packet.specs.Route.{route as route_for};
 ghost use Rattle.packet.specs.Translated.{translated};
@@ -409,10 +410,13 @@ impl Core {
         }
     }
 
-    /// What every core keeps: its state is sound. It does nothing but carry this fact.
+    /// What every core keeps: its bounds are a configuration, and its state is sound. It does nothing but carry these
+    /// facts.
     pub fn facts(&self)
-        ensures { IsSound self.now.config self.now.state }
+        ensures config { IsTrue (is_config self.now.config) }
+        ensures sound { IsSound self.now.config self.now.state }
     {
+        self.bounds.facts();
         let _flows = &self.flows;
     }
 

@@ -10,7 +10,7 @@ use Rattle.durable.specs.Coding.{heading_bytes, IsHeading}
 use Rattle.durable.specs.Entering.{Durable, IsDurable, empty}
 use Rattle.durable.specs.Laws.{anew}
 use Rattle.durable.specs.Recovery.{Active, Finds, Alike, IsActive, IsConfigured, NoneOpen, Recovers, behind, pair}
-use Rattle.durable.proofs.Headed.{headed_open}
+use Rattle.durable.proofs.Headed.{headed_open, recovers_once}
 use Rattle.durable.proofs.Storable.{empty_durable}
 use Rattle.snapshot.specs.Remaking.{Remade}
 use Rattle.snapshot.specs.Opening.{IsReady, state_of}
@@ -40,6 +40,11 @@ ready_same config old new r same is = record {
 -- files that hold something aren't all closed
 pub ready_open : (config : Config) (files : Files) (r : Ready) → IsReady config files r → ¬ NoneOpen files
 ready_open config files r is none = none_open files r.file none (headed_open (files r.file) is.heading is.active.0.headed)
+
+-- what it holds is a state that a gateway may have
+pub ready_sound : (config : Config) (files : Files) (r : Ready) → IsReady config files r → IsDurable config (state_of r)
+ready_sound config files r is =
+    subst (λ (c : Config). IsDurable c (state_of r)) is.configured (recovers_once.sound files r.file is.heading (state_of r) r.end is.active)
 
 -- a file that was made where none was open
 pub begun_ready : (config : Config) (bytes : List ℕ) (r : Ready) → IsHeading (anew r.generation config empty) → IsTrue (is_config config)

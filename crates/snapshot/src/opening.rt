@@ -4,7 +4,7 @@ ghost use Rattle.packet.specs.Config.{Config};
 ghost use Rattle.disk_model.specs.declared.disk.FileId.{FileId};
 ghost use Rattle.disk_model.specs.declared.disk.FileId.TheVariants.{A, B};
 ghost use Rattle.disk_model.specs.Disk.{Files, Same, Leaves, LeavesNow, LeavesOnly, Looks, Synced, Grew, HasCause};
-ghost use Rattle.durable.specs.Entering.{Durable, durable, empty};
+ghost use Rattle.durable.specs.Entering.{Durable, IsDurable, durable, empty};
 ghost use Rattle.durable.specs.Recovery.{Alike, IsConfigured, NoneOpen, Recovers, pair};
 ghost use Rattle.snapshot.specs.Opening.{IsReady, IsJudged, IsKept, state_of};
 ghost use Rattle.snapshot.specs.Store.{IsFirst};
@@ -182,6 +182,7 @@ pub(crate) fn make_ready<D: Disk>(
         → LeavesOnly D.moment D.left disk.old disk.new (IsConfigured bounds.now) }
     ensures ok { D.honest disk.old → IfOk result (λ r. IsReady bounds.now (D.seen disk.new) r) }
     ensures recovers { D.honest disk.old → IfOk result (λ r. Recovers (D.seen disk.old) (state_of r)) }
+    ensures sound { IfOk result (λ r. IsDurable bounds.now (state_of r)) }
     ensures taken { D.honest disk.old → OnOk result (IsConfigured bounds.now (D.seen disk.old)) }
     ensures fresh { D.honest disk.old → NoneOpen (D.seen disk.old)
         → OnOk result (IsFirst bounds.now (D.seen disk.old) (D.seen disk.new)) }

@@ -2,7 +2,7 @@
 ghost use Rattle.std.specs.Prelude.{◌≡◌, ◌+◌, ◌-◌, ◌^◌, ◌<◌, ◌≤◌, ◌↔◌, List, ℕ, length, IsTrue, MatchResult, IfOk, IfErr, OnOk, IsErrOf, true, false};
 ghost use Rattle.disk_model.specs.Disk.{Files, Leaves, LeavesNow, LeavesOnly, Looks, Called, Grew};
 ghost use Rattle.durable.specs.Coding.{heading_bytes};
-ghost use Rattle.durable.specs.Entering.{Durable, durable, BodyEnters};
+ghost use Rattle.durable.specs.Entering.{Durable, IsDurable, durable, BodyEnters};
 ghost use Rattle.durable.specs.Laws.{anew};
 ghost use Rattle.durable.specs.Recovery.{Alike, IsConfigured, NoneOpen, Recovers};
 ghost use Rattle.snapshot.specs.Store.{Keeps, RecoversEither, IsFirst, Fits};
@@ -99,6 +99,8 @@ impl<D: Disk + Drop> Store<D> {
         // It is kept what the files stood for as they read, and that is what is answered.
         ensures ok { D.honest disk → IfOk result (λ o. Recovers (D.seen disk) (durable o.text.items o.sessions.items)
             × Keeps D.moment D.left D.seen o.store (durable o.text.items o.sessions.items)) }
+        // Over any disk it is a state that a gateway with these bounds may have.
+        ensures sound { IfOk result (λ o. IsDurable bounds.now (durable o.text.items o.sessions.items)) }
         ensures taken { D.honest disk → OnOk result (IsConfigured bounds.now (D.seen disk)) }
 
         // Where no file is open, file A is made, of the first generation; else the files aren't changed.

@@ -1,15 +1,18 @@
 use Rattle.std.proofs.Common.{◌≡◌, ◌∙◌, ℕ, List, rules, inl, inr, refl, sym, ap, subst}
 use Rattle.std.specs.Prelude.{Err}
-use Rattle.std.proofs.lemmas.Result.{err_from_is_err_and, on_ok_weaker}
+use Rattle.std.proofs.lemmas.Result.{err_from_is_err_and, on_ok_weaker, IfOk-weaker}
 use Rattle.disk_model.specs.Disk.{Files, Same}
 use Rattle.disk_model.specs.declared.disk.FileId.TheVariants.{A, B}
+use Rattle.durable.specs.Entering.{Durable, IsDurable, empty}
 use Rattle.durable.specs.Recovery.{IsConfigured, NoneOpen, Recovers, pair}
 use Rattle.durable.proofs.Errors.{same_error}
+use Rattle.durable.proofs.Storable.{empty_durable}
 use Rattle.durable.proofs.Headed.{recovers_once}
-use Rattle.snapshot.specs.Opening.{IsReady}
+use Rattle.snapshot.specs.Opening.{IsReady, state_of}
+use Rattle.snapshot.specs.declared.opening.Ready.{Ready}
 use Rattle.snapshot.specs.Store.{IsFirst}
 use Rattle.snapshot.proofs.States.{same_back, none_same, configured_by, configured_same}
-use Rattle.snapshot.proofs.Beginnings.{pair_same, ready_same, ready_open, alike_of, alike_on, configured_of, configured_on, begun_alike}
+use Rattle.snapshot.proofs.Beginnings.{ready_sound, pair_same, ready_same, ready_open, alike_of, alike_on, configured_of, configured_on, begun_alike}
 use Rattle.snapshot.proofs.opening.make_ready.Goals as goal
 
 pub returns-in_err-a-clause-any_moment : goal.returns-in_err-a-clause-any_moment
@@ -104,3 +107,12 @@ returns-clause-only_looks g c = λ h open_so.
     let read = pair_same files c.deref.result.now c.deref-2.result.now (c.deref.ensures.value ∙ (c.in_ok-a.ensures.ok h).0) (c.deref-2.ensures.value ∙ (c.in_ok-a.ensures.ok h).1) in
     let none : NoneOpen (pair c.deref.result.now c.deref-2.result.now) = search rules in
     absurd (open_so (none_same (pair c.deref.result.now c.deref-2.result.now) files (same_back files (pair c.deref.result.now c.deref-2.result.now) read) none))
+
+pub returns-in-Some-clause-sound : goal.returns-in-Some-clause-sound
+returns-in-Some-clause-sound g c =
+    let is : IsReady c.args.bounds.now (pair c.deref.result.now c.deref-2.result.now) c.in-Some.found = search rules in
+    ready_sound c.args.bounds.now (pair c.deref.result.now c.deref-2.result.now) c.in-Some.found is
+
+pub returns-clause-sound : goal.returns-clause-sound
+returns-clause-sound g c = IfOk-weaker c.begin.result (λ (r : Ready). state_of r ≡ empty) (λ (r : Ready). IsDurable c.args.bounds.now (state_of r))
+    (λ r none. subst (λ (d : Durable). IsDurable c.args.bounds.now d) (sym none) (empty_durable c.args.bounds.now)) c.begin.ensures.empty
