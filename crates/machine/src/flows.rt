@@ -65,6 +65,31 @@ impl Flows {
         })
     }
 
+    /// The sessions, none of which clash, each with its last packet at the moment, in seconds.
+    ///
+    /// # Errors
+    ///
+    /// `AllocError` where memory is refused.
+    pub fn of(
+        alloc: Global,
+        bounds: &Bounds,
+        sessions: &[Session],
+        moment: u64,
+    ) -> Result<Flows, AllocError>
+        requires { AreSound bounds.now sessions.now }
+        ensures sessions { IfOk result (λ f. listing f.table.held ≡ map (moved moment) sessions.now) }
+        ensures external { IfOk result (λ f. f.translations.external ≡ bounds.now.external) }
+    {
+        let mut flows = Flows::new(alloc, bounds.external())?;
+        for session in sessions {
+            flows.place(Session {
+                last: moment,
+                ..*session
+            })?;
+        }
+        Ok(flows)
+    }
+
     /// The sessions, each under its slot.
     pub fn table(&self) -> &Table
         ensures { result.now ≡ self.now.table }
@@ -156,31 +181,6 @@ impl Flows {
         self.table.restart(slot, opener, last);
         touch(&self.table, &mut self.due, slot, last);
         self.table.is_sound();
-    }
-
-    /// The sessions, none of which clash, each with its last packet at the moment, in seconds.
-    ///
-    /// # Errors
-    ///
-    /// `AllocError` where memory is refused.
-    pub fn of(
-        alloc: Global,
-        bounds: &Bounds,
-        sessions: &[Session],
-        moment: u64,
-    ) -> Result<Flows, AllocError>
-        requires { AreSound bounds.now sessions.now }
-        ensures sessions { IfOk result (λ f. listing f.table.held ≡ map (moved moment) sessions.now) }
-        ensures external { IfOk result (λ f. f.translations.external ≡ bounds.now.external) }
-    {
-        let mut flows = Flows::new(alloc, bounds.external())?;
-        for session in sessions {
-            flows.place(Session {
-                last: moment,
-                ..*session
-            })?;
-        }
-        Ok(flows)
     }
 
     /// Takes the session.
