@@ -35,8 +35,8 @@ const _: () = prove!(size_of::<Counted>() == 24);
 /// The pairs that are held.
 ///
 /// A look-up halves twice, among the runs of a row and in one of them, however many pairs are held. A pair
-/// takes 32 bytes in its slot, and 32 in each of two rows whose runs are some two thirds full where keys
-/// come in any order: about 130 bytes.
+/// takes 32 bytes in its slot, and 24 in each of two rows whose runs are some two thirds full where keys
+/// come in any order: about 100 bytes.
 #[derive(Drop)]
 pub struct Map {
     index: Index,

@@ -1,6 +1,7 @@
 //! The table of the sessions that live.
 ghost use Rattle.std.specs.Prelude.{◌≡◌, ◌≢◌, ◌⊎◌, ◌↔◌, ◌+◌, ◌^◌, ◌<◌, ◌≤◌, ℕ, IsTrue, Some, None, Err, IfOk, IfErr, OnOk, OnErr, IsOk, IfSome, IfNone, IsSome, IsSomeAnd};
 ghost use Rattle.std.specs.Option.{option_map};
+ghost use Rattle.slab.specs.Slab.{HasRoomFor};
 ghost use Rattle.sessions.specs.Life.{IsSeen};
 ghost use Rattle.sessions.specs.Listing.{listing};
 ghost use Rattle.sessions.specs.Table.{at, count, most_sessions, Updates, HasInside, HasOutside, Clash, ClashesWith, AnyClash, IsSound, amended, seen as seen_with, restarted};
@@ -49,6 +50,31 @@ pub enum AddFault {
     TableFull,
     #[error("out of memory")]
     NoMemory,
+}
+
+// How many slots more to make room for where so many sessions are held: as many again, as long as a full table
+// and the two sessions that are reserved then need them all.
+fn more_slots(count: usize) -> usize
+    ensures two { 2 ≤ result }
+    ensures few { 2 < result → (result ≤ count) × (count + result ≤ most_sessions + 2) }
+{
+    let most = (MOST_SESSIONS + 2).saturating_sub(count);
+    count.min(most).max(2)
+}
+
+// Makes room for two more sessions, with slots for no more of them than a table ever needs: the timers keep a
+// place for each slot that there is room for.
+fn reserve_two(sessions: &mut Slab<Session>) -> Result<(), AllocError>
+    ensures ok { OnOk result (HasRoomFor sessions.new 2) }
+    ensures succeeds { HasRoomFor sessions.old 2 → IsOk result }
+    ensures same { sessions.new ≡ record sessions.old { capacity = sessions.new.capacity } }
+    ensures capacity { sessions.old.capacity ≤ sessions.new.capacity }
+{
+    let count = sessions.len();
+    if sessions.capacity() - count >= 2 {
+        return Ok(());
+    }
+    sessions.reserve_exact(more_slots(count))
 }
 
 /// The sessions that live, at most 65,536 of them, each under its slot.
@@ -206,7 +232,7 @@ impl Table {
         ensures room { self.old.room ≤ self.new.room }
         ensures slots { self.old.slots ≤ self.new.slots }
     {
-        self.sessions.reserve(2)?;
+        reserve_two(&mut self.sessions)?;
         self.index.reserve()
     }
 
