@@ -1,0 +1,20 @@
+//! The gateway over a disk: events in, numbered answers out, and what must survive in two files.
+//!
+//! What an event does to the state is the step of crate `machine`. An answer is held until the entries of its event
+//! lie synced in a file (crate `snapshot`); one whose event has none is handed out at once, if none is held before it.
+//!
+//! - `pending`: the answers that are held, and the entries of their events.
+//! - `gateway_core`: `Gateway`.
+//! - `running`: a run of events over the gateway's calls.
+//! - `laws`: what holds after any of its calls.
+#![tactic(auto)]
+
+mod gateway_core;
+pub mod laws;
+mod pending;
+mod running;
+
+pub use gateway::{GatewayFault, Given};
+pub use gateway_core::Gateway;
+pub use machine::{Answer, Bytes, Cause, Event, Iface, NoMemory, Session, What};
+pub use snapshot::OpenFault;
