@@ -8,3 +8,5 @@ pub mod Said
 pub mod PortsSpelled
 pub mod Bounded
 pub mod Turns
+pub mod Probed
+pub mod Laying

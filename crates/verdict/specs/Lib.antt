@@ -3,4 +3,5 @@ pub mod Evaluation
 pub mod Hooks
 pub mod Ranking
 pub mod Targets
+pub mod Lines
 pub mod Laws

@@ -7,6 +7,7 @@
 //! - `chain`: what a chain of rules comes to, over jumps, gotos and verdict maps.
 //! - `hook`: `forward`, `prerouting` and `postrouting`, what the base chains of a hook decide, of which the
 //!   one of the least priority counts first.
+//! - `row`: the rules of a table in one row, with the places that jumps and gotos lead to as numbers.
 //! - `laws`: what follows from these definitions, in functions that do nothing.
 //!
 //! The definitions stand in `specs/`: `Matching` says when a match holds, `Evaluation` what a chain
@@ -20,6 +21,7 @@ pub mod facts;
 pub mod hook;
 pub mod laws;
 mod matching;
+mod row;
 pub mod rules;
 #[cfg(test)]
 mod tests;
