@@ -10,3 +10,8 @@ pub mod Bounded
 pub mod Turns
 pub mod Probed
 pub mod Laying
+pub mod Pushed
+pub mod Led
+pub mod Moves
+pub mod Stepping
+pub mod Acting

@@ -4,4 +4,5 @@ pub mod Hooks
 pub mod Ranking
 pub mod Targets
 pub mod Lines
+pub mod Places
 pub mod Laws
