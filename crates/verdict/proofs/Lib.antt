@@ -8,3 +8,10 @@ pub mod Said
 pub mod PortsSpelled
 pub mod Bounded
 pub mod Turns
+pub mod Probed
+pub mod Laying
+pub mod Pushed
+pub mod Led
+pub mod Moves
+pub mod Stepping
+pub mod Acting

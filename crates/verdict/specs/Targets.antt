@@ -3,14 +3,10 @@ use Rattle.std.specs.Prelude.{◌≡◌, ◌⊎◌, ℕ, List, [], ◌∷◌, Op
 use Rattle.rulesyntax.specs.declared.tree.Verdict.{Verdict}
 use Rattle.rulesyntax.specs.declared.tree.Rule.{Rule}
 use Rattle.rulesyntax.specs.declared.tree.Chain.{Chain}
-use Rattle.rulesyntax.specs.declared.tree.Table.{Table}
 use Rattle.ruletext.specs.Said.{verdicts_of, target_of, chain_names}
 use Rattle.ruletext.specs.Paths.{HasPath}
 use Rattle.ruletext.specs.Calls.{Leads}
-use Rattle.packet.specs.Config.{Config}
-use Rattle.verdict.specs.declared.facts.Facts.{Facts}
 use Rattle.verdict.specs.declared.chain.Outcome.{Outcome}
-use Rattle.verdict.specs.Evaluation.{walk, rules_of, called}
 
 -- it holds of each element
 abbrev pub OfEach : {X : Type 0} → (X → Type 0) → List X → Type 0
@@ -28,16 +24,6 @@ TargetsHave P rule = OfEach (TargetHas P) (verdicts_of rule.end)
 -- no path of so many jumps and gotos begins at a chain of this name
 abbrev pub IsShort : List Chain → ℕ → List ℕ → Type 0
 IsShort chains n name = (a : ℕ) → slice_get (chain_names chains) a ≡ Some name → ¬ HasPath (Leads chains) n a
-
--- the first chain of the name stands at this place
-abbrev pub IsNamed : List Chain → List ℕ → ℕ → Type 0
-IsNamed chains name a = (chain : Chain) × (slice_get chains a ≡ Some chain) × (chain.name ≡ name) × (rules_of chains name ≡ chain.rules)
-
--- what is said to be known of a chain of the table, by its place, is what its rules come to
-abbrev pub AreKnown : Config → Facts → Table → List (Option Outcome) → Type 0
-AreKnown config facts table known =
-    (a : ℕ) (chain : Chain) (outcome : Outcome) → slice_index_or known a None ≡ Some outcome → slice_get table.chains a ≡ Some chain
-    → walk config facts table (called 16 config facts table) chain.rules ≡ outcome
 
 -- nothing more is known than before, but for this outcome of this place
 abbrev pub IsRemembered : List (Option Outcome) → List (Option Outcome) → ℕ → Outcome → Type 0

@@ -1,18 +1,21 @@
 //! What the rules decide at each hook.
 
-ghost use Rattle.std.specs.Prelude.{◌≡◌, []};
+ghost use Rattle.std.specs.Prelude.{◌≡◌, ◌<◌, [], IfSome, length, slice_get};
 ghost use Rattle.std.specs.Option.{option_map_or};
 ghost use Rattle.ruletext.specs.Calls.{OfSome, IsDeep};
-ghost use Rattle.verdict.specs.Targets.{OfEach, TargetsHave, IsShort, AreKnown};
+ghost use Rattle.verdict.specs.Lines.{IsLaid, AreLaid};
+ghost use Rattle.verdict.specs.Places.{AreKnown};
 ghost use Rattle.verdict.specs.Hooks.{same_hook as are_same_hooks, settled as settled_by, at_hook, bases_among, bases_of, hook_outcome as outcome_of_hook, forward_verdict, prerouting_verdict, postrouting_verdict};
 ghost use Rattle.verdict.specs.Ranking.{preferred as preferred_of, final_of as final_of_outcome, first_final, outcome_of as outcome_of_final};
 
-use crate::chain::{Outcome, chain_outcome};
+use crate::chain::Outcome;
 use crate::facts::Facts;
+use crate::row::Laid;
 use crate::rules::Rules;
+use crate::walk::chain_outcome;
 use packet::bounds::Bounds;
 use packet::endpoint::Endpoint;
-use rulesyntax::tree::{Chain, Hook, Policy, Table};
+use rulesyntax::tree::{Hook, Policy, Table};
 
 /// What the forward chains decide about a packet.
 #[derive(Clone, Copy, Debug, PartialEq, Eq, Drop)]
@@ -105,30 +108,40 @@ fn final_of(priority: i64, outcome: Outcome) -> Option<Final>
     }
 }
 
-// What a chain comes to where it is a base chain of the hook.
+// What the chain at that place comes to where it is a base chain of the hook.
 fn final_at(
     bounds: &Bounds,
     facts: &Facts,
     hook: Hook,
     table: &Table,
-    chain: &Chain,
+    laid: &Laid,
+    place: usize,
     known: &mut [Option<Outcome>],
 ) -> Option<Final>
-    requires short { OfEach (TargetsHave (IsShort table.now.chains 16)) chain.now.rules }
+    requires laid { IsLaid table.now laid.now }
+    requires shallow { ¬ IsDeep table.now.chains }
+    requires within { place < length table.now.chains }
     requires known { AreKnown bounds.now facts.now table.now known.old }
     ensures still_known { AreKnown bounds.now facts.now table.now known.new }
-    ensures outcome { result ≡ first_final bounds.now facts.now (option_map_or (at_hook hook table.now chain.now) chain.now.base []) }
+    ensures outcome { IfSome (slice_get table.now.chains place) (λ chain. result ≡ first_final bounds.now facts.now (option_map_or (at_hook hook table.now chain) chain.base [])) }
 {
-    let base = chain.base.as_ref()?;
+    let base = table.chains.as_slice()[place].base.as_ref()?;
     if !is_same_hook(base.hook, hook) {
         return None;
     }
-    let outcome = chain_outcome(bounds, facts, table, chain.rules.as_slice(), known);
+    let outcome = chain_outcome(bounds, facts, table, laid, place, known);
     final_of(base.priority, settled(base.policy, outcome))
 }
 
-fn final_among(bounds: &Bounds, facts: &Facts, hook: Hook, table: &Table) -> Option<Final>
-    requires { ¬ IsDeep table.now.chains }
+fn final_among(
+    bounds: &Bounds,
+    facts: &Facts,
+    hook: Hook,
+    table: &Table,
+    laid: &Laid,
+) -> Option<Final>
+    requires laid { IsLaid table.now laid.now }
+    requires shallow { ¬ IsDeep table.now.chains }
     ensures { result ≡ first_final bounds.now facts.now (bases_among hook table.now table.now.chains) }
 {
     if table.chains.is_empty() {
@@ -136,20 +149,28 @@ fn final_among(bounds: &Bounds, facts: &Facts, hook: Hook, table: &Table) -> Opt
     }
     let mut first = None;
     let mut known = [None; CHAINS];
-    for chain in table.chains.as_slice() {
-        let other = final_at(bounds, facts, hook, table, chain, &mut known);
+    for place in 0..table.chains.len() {
+        let other = final_at(bounds, facts, hook, table, laid, place, &mut known);
         first = preferred(first, other);
     }
     first
 }
 
-fn final_of_all(bounds: &Bounds, facts: &Facts, hook: Hook, tables: &[Table]) -> Option<Final>
-    requires { ¬ OfSome (λ table. IsDeep table.chains) tables.now }
+fn final_of_all(
+    bounds: &Bounds,
+    facts: &Facts,
+    hook: Hook,
+    tables: &[Table],
+    rows: &[Laid],
+) -> Option<Final>
+    requires laid { AreLaid tables.now rows.now }
+    requires shallow { ¬ OfSome (λ table. IsDeep table.chains) tables.now }
     ensures { result ≡ first_final bounds.now facts.now (bases_of hook tables.now) }
 {
     let mut first = None;
-    for table in tables {
-        first = preferred(first, final_among(bounds, facts, hook, table));
+    for (number, table) in tables.iter().enumerate() {
+        let other = final_among(bounds, facts, hook, table, &rows[number]);
+        first = preferred(first, other);
     }
     first
 }
@@ -168,7 +189,13 @@ fn hook_outcome(rules: &Rules, bounds: &Bounds, facts: &Facts, hook: Hook) -> Ou
     ensures { result ≡ outcome_of_hook bounds.now facts.now hook rules.now }
 {
     rules.is_runnable();
-    let first = final_of_all(bounds, facts, hook, rules.text().tables.as_slice());
+    let first = final_of_all(
+        bounds,
+        facts,
+        hook,
+        rules.text().tables.as_slice(),
+        rules.rows(),
+    );
     outcome_of(first)
 }
 

@@ -4,15 +4,17 @@
 //! - `facts`: `Facts`, what rules may ask about a packet.
 //! - `value`, `matching`: whether a fact is one of those that a match names, and whether a rule's matches
 //!   hold.
-//! - `chain`: what a chain of rules comes to, over jumps, gotos and verdict maps.
+//! - `row`: the rules of a table in one row, with the places that jumps and gotos lead to as numbers.
+//! - `chain`: what a chain of rules comes to, and the ends of rules.
+//! - `stack`, `walk`: the walk over a row, with at most 16 places to return to and without recursion.
 //! - `hook`: `forward`, `prerouting` and `postrouting`, what the base chains of a hook decide, of which the
 //!   one of the least priority counts first.
 //! - `laws`: what follows from these definitions, in functions that do nothing.
 //!
 //! The definitions stand in `specs/`: `Matching` says when a match holds, `Evaluation` what a chain
-//! comes to, and `Hooks` what a hook decides. No call here takes memory. For one packet at one hook the
-//! rules of each chain are read at most once: a base chain is read once for itself, and what a chain comes
-//! to that jumps and gotos lead to is remembered for the packet, the hook and the table.
+//! comes to, and `Hooks` what a hook decides. Only `Rules::of` takes memory, no call for a packet does. For
+//! one packet at one hook the rules of each chain are read at most once: what each chain came to is
+//! remembered for the packet, the hook and the table.
 #![tactic(auto)]
 
 mod chain;
@@ -20,10 +22,13 @@ pub mod facts;
 pub mod hook;
 pub mod laws;
 mod matching;
+mod row;
 pub mod rules;
+mod stack;
 #[cfg(test)]
 mod tests;
 mod value;
+mod walk;
 
 pub use facts::{Facts, State};
 pub use hook::{Destination, Forwarding, Source, forward, postrouting, prerouting};

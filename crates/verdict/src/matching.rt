@@ -63,7 +63,7 @@ fn name_out(bounds: &Bounds, iface: Option<Iface>) -> &[u8]
     }
 }
 
-fn state_number(state: State) -> u32
+pub(crate) fn state_number(state: State) -> u32
     ensures { result ≡ number_of_state state }
 {
     match state {
@@ -90,7 +90,7 @@ pub fn asked<'a>(bounds: &'a Bounds, facts: &Facts, head: Head) -> Fact<'a>
     }
 }
 
-fn is_of(transport: Transport, proto: Proto) -> bool
+pub(crate) fn is_of(transport: Transport, proto: Proto) -> bool
     ensures { result ≡ is_of_transport transport proto }
 {
     matches!(

@@ -2,7 +2,9 @@
 
 ghost use Rattle.std.specs.Prelude.{◌≡◌, [], IfOk};
 ghost use Rattle.ruletext.specs.Runnable.{IsRunnable};
+ghost use Rattle.verdict.specs.Lines.{AreLaid};
 
+use crate::row::{Laid, lay_all};
 use rulesyntax::tree::Spelled;
 use ruletext::ruleset::Ruleset;
 use sqlite_items::Items;
@@ -13,17 +15,18 @@ use std::marker::Model;
 #[derive(Drop)]
 pub struct Rules {
     text: Spelled,
+    rows: Items<Laid>,
 }
 
 impl Model for Rules {
     ghost use Rattle.rulesyntax.specs.declared.tree.Spelled.{Spelled as Tables};
-    ghost use Rattle.ruletext.specs.Runnable.{IsRunnable};
+    ghost use Rattle.verdict.specs.Lines.{IsFlat};
 
     ghost Value = { Tables };
 
     ghost view = { λ r. r.text };
 
-    ghost invariant = { λ r. IsRunnable r.text };
+    ghost invariant = { λ r. IsFlat r.text r.rows };
 }
 
 impl Rules {
@@ -36,6 +39,7 @@ impl Rules {
             text: Spelled {
                 tables: Items::new(alloc),
             },
+            rows: Items::new(alloc),
         }
     }
 
@@ -43,13 +47,15 @@ impl Rules {
     ///
     /// # Errors
     ///
-    /// `AllocError` only where memory is refused. Today's form of the rules takes none, so it never comes.
-    pub fn of(_alloc: Global, loaded: Ruleset) -> Result<Rules, AllocError>
+    /// `AllocError` only where memory is refused.
+    pub fn of(alloc: Global, loaded: Ruleset) -> Result<Rules, AllocError>
         ensures { IfOk result (λ rules. rules ≡ loaded) }
     {
         loaded.is_runnable();
+        let rows = lay_all(alloc, loaded.text().tables.as_slice())?;
         Ok(Rules {
             text: loaded.into_text(),
+            rows,
         })
     }
 
@@ -66,5 +72,12 @@ impl Rules {
         ensures { IsRunnable self.now }
     {
         let _text = &self.text;
+    }
+
+    /// The rows that the tables lie in.
+    pub(crate) fn rows(&self) -> &[Laid]
+        ensures { AreLaid self.now.tables result.now }
+    {
+        self.rows.as_slice()
     }
 }

@@ -1,0 +1,16 @@
+use Rattle.std.proofs.Common.{◌∙◌, ◌<◌, length, get_or, sym, ap, subst, arith, take}
+use Rattle.verdict.specs.declared.row.Span.{Span}
+use Rattle.verdict.specs.Lines.{IsChainLaid}
+use Rattle.verdict.proofs.Laying.{front_more, SpansSoFar, spans_more}
+use Rattle.verdict.proofs.row.lay.Goals as goal
+
+pub loop-chain-preserved : goal.loop-chain-preserved
+loop-chain-preserved c =
+    let lt : c.loop-chain.chain-index < length c.args.table.now.chains = omega (arith, ap length c.as_slice-chain-items.ensures) in
+    let item = c.chain-item.is ∙ ap (λ chains. get_or chains c.loop-chain.chain-index c.chain-item.result) c.as_slice-chain-items.ensures in
+    let front = front_more c.args.table.now.chains c.loop-chain.chain-index c.chain-item.result lt item in
+    let laid = subst (λ rules. IsChainLaid c.args.table.now rules c.loop-chain.lines c.loop-chain.targets c.lay_chain.new.lines c.lay_chain.new.targets) c.as_slice.ensures c.in_ok-lay_chain.ensures in
+    let span : Span = record { start = c.len-start.result; end = c.len-end.result } in
+    let more = spans_more c.args.table.now (take c.loop-chain.chain-index c.args.table.now.chains) c.chain-item.result c.loop-chain.lines c.lay_chain.new.lines c.loop-chain.targets c.lay_chain.new.targets c.loop-chain.spans span c.len-start.ensures c.len-end.ensures c.loop-chain.invariant laid in
+    let pushed = subst (SpansSoFar c.args.table.now _ c.lay_chain.new.lines c.lay_chain.new.targets) (sym c.in_ok-push.ensures.ok) more in
+    subst (λ done. SpansSoFar c.args.table.now done c.lay_chain.new.lines c.lay_chain.new.targets c.push.new.self) (sym front) pushed

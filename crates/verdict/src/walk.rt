@@ -1,0 +1,344 @@
+//! What a base chain comes to, read without recursion.
+
+ghost use Rattle.std.specs.Prelude.{◌≡◌, ◌+◌, ◌<◌, ◌≤◌, ℕ, [], ◌∷◌, Some, false, IfSome, MatchOption, length, slice_get};
+ghost use Rattle.ruletext.specs.Said.{verdicts_in};
+ghost use Rattle.verdict.specs.declared.row.Line.{Line as LineOf};
+ghost use Rattle.verdict.specs.Targets.{OfEach, TargetsHave, IsShort};
+ghost use Rattle.verdict.specs.Lines.{numbers_of as numbers_of_facts, may_hold as line_may_hold, IsLine, IsLaid, LeadsFrom, place_led};
+ghost use Rattle.verdict.specs.Evaluation.{chain_outcome as outcome_of_chain};
+ghost use Rattle.packet.specs.Config.{Config};
+ghost use Rattle.verdict.specs.declared.chain.Outcome.TheVariants as outcomes;
+ghost use Rattle.verdict.specs.Places.{move_by as move_by_verdict, move_led as move_led_by, move_at as move_at_end, move_of as move_of_rule, rules_at, AreKnown, CameTo, IsResolved, Standing, Stepped, AreRemembered, AreSkipped, Calling, Acts};
+
+use crate::chain::{Outcome, key_for, known_at, remember, translation, unless_ended};
+use crate::facts::Facts;
+use crate::matching::all_hold;
+use crate::row::{Laid, Line, may_hold, numbers_of};
+use crate::stack::{Place, Stack};
+use packet::bounds::Bounds;
+use rulesyntax::tree::{End, Rule, Table, Verdict};
+
+/// What a rule makes of the walk. Chains are meant by their places in the table.
+#[derive(Clone, Copy)]
+pub(crate) enum Move {
+    /// The next rule is asked.
+    Next,
+    /// The chain comes to this.
+    Gives(Outcome),
+    /// A chain is called, and the next rule is asked where it ends.
+    Jumps(usize),
+    /// A chain is called, and what it comes to, this one does.
+    Goes(usize),
+}
+
+// Where the walk is, and what it returns to.
+#[derive(Drop)]
+struct Walk {
+    here: Place,
+    stack: Stack,
+}
+
+fn move_by(place: usize, verdict: &Verdict) -> Move
+    ensures { result ≡ move_by_verdict place verdict.now }
+{
+    match verdict {
+        Verdict::Accept => Move::Gives(Outcome::Accepts),
+        Verdict::Drop => Move::Gives(Outcome::Drops),
+        Verdict::Return => Move::Gives(Outcome::Ends),
+        Verdict::Continue => Move::Next,
+        Verdict::Jump(_) => Move::Jumps(place),
+        Verdict::Goto(_) => Move::Goes(place),
+    }
+}
+
+fn move_led(table: &Table, targets: &[usize], at: usize, verdict: &Verdict) -> Move
+    requires { slice_get targets.now at ≡ Some (place_led table.now.chains verdict.now) }
+    ensures { result ≡ move_led_by table.now.chains verdict.now }
+{
+    match targets.get(at) {
+        None => Move::Next,
+        Some(place) => move_by(*place, verdict),
+    }
+}
+
+fn move_at(
+    bounds: &Bounds,
+    facts: &Facts,
+    table: &Table,
+    end: &End,
+    targets: &[usize],
+    first: usize,
+) -> Move
+    requires { LeadsFrom table.now.chains targets.now first (verdicts_in end.now) }
+    ensures { result ≡ move_at_end bounds.now facts.now table.now.chains end.now }
+{
+    match end {
+        End::Verdict(verdict) => move_led(table, targets, first, verdict),
+        End::Vmap(vmap) => {
+            let Some(key) = key_for(bounds, facts, vmap) else {
+                return Move::Next;
+            };
+            let Some(pair) = vmap.pairs.get(key) else {
+                return Move::Next;
+            };
+            move_led(table, targets, first + key, &pair.verdict)
+        }
+        other => match translation(bounds, facts, other) {
+            None => Move::Next,
+            Some(outcome) => Move::Gives(outcome),
+        },
+    }
+}
+
+fn move_of(
+    bounds: &Bounds,
+    facts: &Facts,
+    table: &Table,
+    rule: &Rule,
+    line: Line,
+    targets: &[usize],
+) -> Move
+    requires { IsLine table.now targets.now rule.now line }
+    ensures { result ≡ move_of_rule bounds.now facts.now table.now rule.now }
+{
+    if !all_hold(
+        bounds,
+        table.sets.as_slice(),
+        facts,
+        rule.matches.as_slice(),
+    ) {
+        return Move::Next;
+    }
+    match &rule.end {
+        None => Move::Next,
+        Some(end) => move_at(bounds, facts, table, end, targets, line.first),
+    }
+}
+
+// What is known of a called chain: that it ended, where there is none at its place.
+fn came_to(known: &[Option<Outcome>], count: usize, place: usize) -> Option<Outcome>
+    ensures { CameTo known.now count place result }
+{
+    if place >= count {
+        return Some(Outcome::Ends);
+    }
+    known_at(known, place)
+}
+
+// A move that calls no chain of which it is known what it comes to.
+fn resolved(
+    bounds: &Bounds,
+    facts: &Facts,
+    table: &Table,
+    known: &[Option<Outcome>],
+    step: Move,
+) -> Move
+    requires { AreKnown bounds.now facts.now table.now known.now }
+    ensures { IsResolved bounds.now facts.now table.now step result }
+{
+    let count = table.chains.len();
+    match step {
+        Move::Jumps(place) => match came_to(known, count, place) {
+            None => step,
+            Some(outcome) => match unless_ended(outcome) {
+                None => Move::Next,
+                Some(given) => Move::Gives(given),
+            },
+        },
+        Move::Goes(place) => match came_to(known, count, place) {
+            None => step,
+            Some(outcome) => Move::Gives(outcome),
+        },
+        Move::Next | Move::Gives(_) => step,
+    }
+}
+
+// The first line from the one up to the other whose rule may match.
+fn candidate(lines: &[Line], numbers: &[u64], from: usize, end: usize) -> usize
+    requires rises { from ≤ end }
+    requires within { end ≤ length lines.now }
+    ensures from { from ≤ result }
+    ensures to { result ≤ end }
+    ensures skipped { (i : ℕ) (line : LineOf) → from ≤ i → i < result → slice_get lines.now i ≡ Some line → line_may_hold numbers.now line.probe ≡ false }
+{
+    let mut at = from;
+    while at < end {
+        if may_hold(numbers, lines[at].probe) {
+            return at;
+        }
+        at += 1;
+    }
+    end
+}
+
+// The number of the next rule of the chain that may match, or of all its rules where there is none.
+fn next_rule(table: &Table, laid: &Laid, facts: &Facts, numbers: &[u64], here: Place) -> usize
+    requires laid { IsLaid table.now laid.now }
+    requires numbers { numbers.now ≡ numbers_of_facts facts.now }
+    requires chain { here.chain < length table.now.chains }
+    requires at { here.at ≤ length (rules_at table.now.chains here.chain) }
+    ensures from { here.at ≤ result }
+    ensures to { result ≤ length (rules_at table.now.chains here.chain) }
+    ensures skipped { (config : Config) → AreSkipped config facts.now table.now (rules_at table.now.chains here.chain) here.at result }
+{
+    let span = laid.spans.as_slice()[here.chain];
+    let lines = laid.lines.as_slice();
+    candidate(lines, numbers, span.start + here.at, span.end) - span.start
+}
+
+// What the rule of that number makes of the walk.
+fn move_from(
+    bounds: &Bounds,
+    facts: &Facts,
+    table: &Table,
+    laid: &Laid,
+    rules: &[Rule],
+    here: Place,
+) -> Move
+    requires laid { IsLaid table.now laid.now }
+    requires rules { rules.now ≡ rules_at table.now.chains here.chain }
+    requires chain { here.chain < length table.now.chains }
+    requires at { here.at < length rules.now }
+    ensures { IfSome (slice_get rules.now here.at) (λ rule. result ≡ move_of_rule bounds.now facts.now table.now rule) }
+{
+    let span = laid.spans.as_slice()[here.chain];
+    let line = laid.lines.as_slice()[span.start + here.at];
+    move_of(
+        bounds,
+        facts,
+        table,
+        &rules[here.at],
+        line,
+        laid.targets.as_slice(),
+    )
+}
+
+// Remembers an outcome that ends the base chain of each chain that is read.
+fn remember_all(stack: &mut Stack, known: &mut [Option<Outcome>], outcome: Outcome)
+    ensures { AreRemembered known.old known.new stack.old outcome }
+{
+    while let Some(place) = stack.pop() {
+        remember(known, place.chain, outcome);
+    }
+}
+
+// Returns to where the chain was called from.
+fn back(walk: &mut Walk, known: &mut [Option<Outcome>]) -> Option<Outcome>
+    ensures known { AreRemembered known.old known.new (walk.old.here ∷ []) outcomes.Ends }
+    ensures back { MatchOption result (walk.old.stack ≡ walk.new.here ∷ walk.new.stack) (λ outcome. (outcome ≡ outcomes.Ends) × (walk.old.stack ≡ [])) }
+{
+    remember(known, walk.here.chain, Outcome::Ends);
+    match walk.stack.pop() {
+        None => Some(Outcome::Ends),
+        Some(place) => {
+            walk.here = place;
+            None
+        }
+    }
+}
+
+// Reads on from the rule of that number in the chain, which has this many.
+fn act(
+    step: Move,
+    at: usize,
+    count: usize,
+    walk: &mut Walk,
+    known: &mut [Option<Outcome>],
+) -> Option<Outcome>
+    requires within { at < count }
+    requires room { Calling step (length walk.old.stack < 16) }
+    ensures { Acts step at count walk.old.here walk.old.stack known.old walk.new.here walk.new.stack known.new result }
+{
+    let chain = walk.here.chain;
+    let next = Place { chain, at: at + 1 };
+    let last = Place { chain, at: count };
+    match step {
+        Move::Next => walk.here = next,
+        Move::Gives(outcome) => {
+            if let Some(given) = unless_ended(outcome) {
+                remember(known, chain, given);
+                remember_all(&mut walk.stack, known, given);
+                return Some(given);
+            }
+            walk.here = last;
+        }
+        Move::Jumps(place) => {
+            walk.stack.push(next);
+            walk.here = Place {
+                chain: place,
+                at: 0,
+            };
+        }
+        Move::Goes(place) => {
+            walk.stack.push(last);
+            walk.here = Place {
+                chain: place,
+                at: 0,
+            };
+        }
+    }
+    None
+}
+
+// Reads the next rule that may match, or returns from the chain.
+fn step(
+    bounds: &Bounds,
+    facts: &Facts,
+    table: &Table,
+    laid: &Laid,
+    numbers: &[u64],
+    walk: &mut Walk,
+    known: &mut [Option<Outcome>],
+) -> Option<Outcome>
+    requires laid { IsLaid table.now laid.now }
+    requires numbers { numbers.now ≡ numbers_of_facts facts.now }
+    requires known { AreKnown bounds.now facts.now table.now known.old }
+    requires standing { Standing bounds.now facts.now table.now (walk.old.here ∷ walk.old.stack) }
+    ensures { AreKnown bounds.now facts.now table.now known.new × Stepped bounds.now facts.now table.now (walk.old.here ∷ walk.old.stack) (walk.new.here ∷ walk.new.stack) result }
+{
+    let chain = walk.here.chain;
+    let at = next_rule(table, laid, facts, numbers, walk.here);
+    let rules = rules_of(table, chain);
+    if at >= rules.len() {
+        return back(walk, known);
+    }
+    let told = move_from(bounds, facts, table, laid, rules, Place { chain, at });
+    let told = resolved(bounds, facts, table, known, told);
+    act(told, at, rules.len(), walk, known)
+}
+
+fn rules_of(table: &Table, chain: usize) -> &[Rule]
+    requires { chain < length table.now.chains }
+    ensures { result.now ≡ rules_at table.now.chains chain }
+{
+    table.chains.as_slice()[chain].rules.as_slice()
+}
+
+/// What the rules of a base chain of the table come to, by its place. `known` says what chains of the table
+/// come to for this packet, by their places, as far as they were read. Takes no memory.
+pub(crate) fn chain_outcome(
+    bounds: &Bounds,
+    facts: &Facts,
+    table: &Table,
+    laid: &Laid,
+    base: usize,
+    known: &mut [Option<Outcome>],
+) -> Outcome
+    requires laid { IsLaid table.now laid.now }
+    requires within { base < length table.now.chains }
+    requires short { OfEach (TargetsHave (IsShort table.now.chains 16)) (rules_at table.now.chains base) }
+    requires known { AreKnown bounds.now facts.now table.now known.old }
+    ensures outcome { result ≡ outcome_of_chain bounds.now facts.now table.now (rules_at table.now.chains base) }
+    ensures still_known { AreKnown bounds.now facts.now table.now known.new }
+{
+    let numbers = numbers_of(facts);
+    let mut walk = Walk {
+        here: Place { chain: base, at: 0 },
+        stack: Stack::empty(),
+    };
+    loop {
+        if let Some(outcome) = step(bounds, facts, table, laid, &numbers, &mut walk, known) {
+            return outcome;
+        }
+    }
+}
