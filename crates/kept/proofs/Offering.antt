@@ -29,7 +29,7 @@ pub takes_in : (config : Config) (files : Files) (were are entries : List Entry)
     → are ≡ were ++ entries → IsStanding config files are new
 takes_in config files were are entries s new event judged answer is_one sound was is_judged steps of same =
     let on : Enters config entries (lasting s) (lasting new) =
-          subst (λ (p : State × Answer). Enters config entries (lasting s) (lasting p.0)) steps (step-entered config is_one s judged entries sound is_judged.right of) in
+    subst (λ (p : State × Answer). Enters config entries (lasting s) (lasting p.0)) steps (step-entered config is_one s judged entries sound is_judged.right of) in
     record {
       first = was.first;
       recovers = was.recovers;
@@ -48,10 +48,10 @@ pub at_once : (config : Config) (s : State) (event : Event) (judged : Judged) (e
     → IsSound config s → IsJudged config event judged → AreEntriesOf config s judged entries → are ≡ were ++ entries → (held ≡ [] → were ≡ []) → mid ≡ held
     → IsNow ↔ (are ≡ []) → (IsNow → mid ≡ []) → IsNow ↔ ((held ≡ []) × ¬ HasEntry config s judged)
 at_once config s event judged entries were are held mid IsNow is_one sound is_judged of same none stays now quiet = (
-    λ is. (sym stays ∙ quiet is, empty-needs config is_one s judged entries sound is_judged.right of (right_none were entries (sym same ∙ now.0 is))),
-    λ (both : (held ≡ []) × ¬ HasEntry config s judged).
+  λ is. (sym stays ∙ quiet is, empty-needs config is_one s judged entries sound is_judged.right of (right_none were entries (sym same ∙ now.0 is))),
+  λ (both : (held ≡ []) × ¬ HasEntry config s judged).
       now.1 (same ∙ both_none were entries (none both.0) (needs-empty config is_one s judged entries sound is_judged.right of both.1)),
-  )
+)
 
 -- an event with nothing that must survive has no entries
 pub none_of : (config : Config) (s : State) (event : Event) (judged : Judged) → IsTrue (is_config config) → IsSound config s → IsJudged config event judged
@@ -64,10 +64,10 @@ none_of config s event judged is_one sound is_judged needless =
 
 without : (x : Session) (ys : List Session) → In x ys → (rest : List Session) × (length ys ≡ suc (length rest)) × ((t : Session) → In t ys → (t ≡ x) ⊎ In t rest)
 without x [] there = elim there [ ]
-without x (y ∷ ys) (inl e) = (ys, refl, λ t is. elim is [ | inl same ↦ inl (same ∙ sym e) | inr there ↦ inr there ])
+without x (y ∷ ys) (inl e) = (ys, refl, λ t is. elim is [ inl same ↦ inl (same ∙ sym e) | inr there ↦ inr there ])
 without x (y ∷ ys) (inr there) =
     let r = without x ys there in
-    (y ∷ r.0, ap suc r.1, λ t is. elim is [ | inl same ↦ inr (inl same) | inr deep ↦ elim (r.2 t deep) [ | inl e ↦ inl e | inr d ↦ inr (inr d) ] ])
+    (y ∷ r.0, ap suc r.1, λ t is. elim is [ inl same ↦ inr (inl same) | inr deep ↦ elim (r.2 t deep) [ inl e ↦ inl e | inr d ↦ inr (inr d) ] ])
 
 -- distinct members of a list are no more than it has
 pub few_distinct : (xs ys : List Session) → AreDistinct xs → ((t : Session) → In t xs → In t ys) → length xs ≤ length ys
@@ -75,7 +75,7 @@ few_distinct [] ys distinct within = omega arith
 few_distinct (x ∷ xs) ys distinct within =
     let r = without x ys (within x (inl refl)) in
     let rest = few_distinct xs r.0 distinct.1
-          (λ t is. elim (r.2 t (within t (inr is))) [ | inl e ↦ absurd (distinct.0 (subst (λ (u : Session). In u xs) e is)) | inr there ↦ there ]) in
+    (λ t is. elim (r.2 t (within t (inr is))) [ inl e ↦ absurd (distinct.0 (subst (λ (u : Session). In u xs) e is)) | inr there ↦ there ]) in
     let long = r.1 in
     omega (arith, rest, long)
 

@@ -27,9 +27,13 @@ stands_for config files s recovers = record { first = lasting s; recovers = reco
 -- the body of the group that waits leads from what the files stand for to the present state
 pub body_leads : (config own : Config) (files : Files) (entries : List Entry) (s : State) (body : List ℕ) (first : Durable) → own ≡ config → IsStanding config files entries s
     → Recovers files first → AreEntries entries → body ≡ body_bytes entries → BodyEnters own body first (lasting s)
-body_leads config own files entries s body first same is recovers coded are =
-    (entries, coded, are, subst (λ (k : Config). Enters k entries first (lasting s)) (sym same)
-      (subst (λ (d : Durable). Enters config entries d (lasting s)) (recovers_once.state files is.first first is.recovers recovers) is.enters))
+body_leads config own files entries s body first same is recovers coded are = (
+  entries,
+  coded,
+  are,
+  subst (λ (k : Config). Enters k entries first (lasting s)) (sym same)
+      (subst (λ (d : Durable). Enters config entries d (lasting s)) (recovers_once.state files is.first first is.recovers recovers) is.enters),
+)
 
 module _ {D : Type 0} (moment : D → ℕ) (left : D → ℕ → Files → Type 0) (seen : D → Files) where
   -- no call of the disk is made

@@ -55,7 +55,7 @@ impl<D: Disk + Drop> Model for Gateway<D> {
     } };
 
     ghost invariant = { λ g. (g.store.config ≡ g.core.config) × (g.pending.held ≡ [] → g.pending.entries ≡ []) × (g.store.fallen ≡ false → g.pending.place ≡ g.store.end)
-      × (g.store.fallen ≡ false → D.honest g.store.disk → IsStanding g.core.config (D.seen g.store.disk) g.pending.entries g.core.state) };
+        × (g.store.fallen ≡ false → D.honest g.store.disk → IsStanding g.core.config (D.seen g.store.disk) g.pending.entries g.core.state) };
 }
 
 impl<D: Disk + Drop> Gateway<D> {
@@ -104,11 +104,20 @@ impl<D: Disk + Drop> Gateway<D> {
         ensures device { IfErr result (λ e. e.1 ≡ OpenFault.Device → Grew (D.failed disk) (D.failed e.0)) }
     {
         match Store::open(alloc, disk, &bounds) {
-            Ok(Opened {
-                store,
+            Ok(
+                Opened {
+                    store,
+                    text,
+                    sessions,
+                },
+            ) => match begin(
+                alloc,
+                bounds,
                 text,
-                sessions,
-            }) => match begin(alloc, bounds, text, sessions.as_slice(), moment, store.end()) {
+                sessions.as_slice(),
+                moment,
+                store.end(),
+            ) {
                 Ok((core, pending)) => Ok(Gateway {
                     alloc,
                     store,

@@ -12,7 +12,7 @@ returns-clause-stands g c = rw (← c.self.view_is) (λ stands honest.
 pub returns-clause-present : goal.returns-clause-present
 returns-clause-present g c = rw (← c.self.view_is) (λ stands honest none.
     nothing_waits c.self.inside.core.config (g.D.Disk.seen c.self.inside.store.disk) c.self.inside.pending.entries c.self.inside.core.state
-      (c.self.invariant.3 (sym c.has_fallen.ensures.value ∙ stands) honest) (c.self.invariant.1 none))
+    (c.self.invariant.3 (sym c.has_fallen.ensures.value ∙ stands) honest) (c.self.invariant.1 none))
 
 pub returns-clause-configured : goal.returns-clause-configured
 returns-clause-configured g c = rw (← c.self.view_is) (λ stands honest.

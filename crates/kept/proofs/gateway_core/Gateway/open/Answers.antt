@@ -19,8 +19,8 @@ invariant_of-result g c =
       λ held. none,
       λ stands. ap (λ (w : Waiting). w.place) c.in-Ok-begin.ensures.pending ∙ c.end.ensures,
       λ stands honest. begun c.args.bounds c.in-Ok-begin.core.config (g.D.Disk.seen c.in-Ok.field-0.store.disk) c.in-Ok-begin.pending.entries
-        (durable text c.in-Ok.field-0.sessions.items) c.args.moment c.in-Ok-begin.core.state none c.in-Ok-begin.ensures.config c.in-Ok.ensures.sound restarted
-        (c.in-Ok.ensures.ok (c.in-Ok.ensures.honest.1 honest)).1.reads,
+          (durable text c.in-Ok.field-0.sessions.items) c.args.moment c.in-Ok-begin.core.state none c.in-Ok-begin.ensures.config c.in-Ok.ensures.sound restarted
+          (c.in-Ok.ensures.ok (c.in-Ok.ensures.honest.1 honest)).1.reads,
     )
 
 pub returns-in-Ok-begin-clause-ok : goal.returns-in-Ok-begin-clause-ok

@@ -13,11 +13,11 @@ invariant_of-self c =
     let le : length (entry_bytes e) ≤ c.self.inside.granted = omega (arith, granted, room) in
     let long = ap length c.put.ensures.body ∙ length-append c.self.inside.group.body (entry_bytes e) in
     one_more c.self.inside.group.body c.put.new.group.body c.self.inside.group.room c.put.new.group.room _ c.self.inside.held.items c.self.inside.place c.self.inside.granted _ e
-      c.self.invariant (c.requires.coded tt) le c.put.ensures.body c.put.ensures.room
-      (let before = c.len-before.ensures in let after = c.len.ensures in omega (arith, before, after, long, le))
+    c.self.invariant (c.requires.coded tt) le c.put.ensures.body c.put.ensures.room
+    (let before = c.len-before.ensures in let after = c.len.ensures in omega (arith, before, after, long, le))
 
 pub returns-clause-noted : goal.returns-clause-noted
 returns-clause-noted c = λ _.
     one_more_noted c.self.inside.group.body c.put.new.group.body c.self.inside.group.room _ c.self.inside.held.items c.self.inside.place c.self.inside.granted (view c.args.entry)
-      c.self.invariant (c.requires.coded tt) c.put.ensures.body
+    c.self.invariant (c.requires.coded tt) c.put.ensures.body
     ∙ ap (λ (w : Waiting). w.entries ++ view c.args.entry ∷ []) c.self.view_is
