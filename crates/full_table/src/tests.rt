@@ -1,5 +1,5 @@
-//! As many sessions as a gateway holds, what it drops then, and what it takes when they have ended.
-use gateway::{Answer, Bytes, Event, Gateway, Given, Iface, What};
+//! As many sessions as a core holds, what it drops then, and what it takes when they have ended.
+use machine::{Answer, Bytes, Core, Event, Iface, What};
 use packet::bounds::Bounds;
 use packet::endpoint::Prefix;
 use std::alloc::Global;
@@ -31,7 +31,7 @@ const FROM_OUTSIDE: [u8; 28] = [
 ];
 
 /// lan and wan, inside 192.168.0.0/16, external 203.0.113.1, without rules.
-fn opened(alloc: Global) -> Result<Gateway, Fail> {
+fn opened(alloc: Global) -> Result<Core, Fail> {
     let inside = vec![in alloc;
         Prefix {
             addr: 0xc0a8_0000,
@@ -41,13 +41,13 @@ fn opened(alloc: Global) -> Result<Gateway, Fail> {
     let lan = String::from_str(alloc, "lan")?;
     let wan = String::from_str(alloc, "wan")?;
     let bounds = Bounds::new(lan, wan, inside, 0xcb00_7101)?;
-    Ok(Gateway::start(alloc, bounds, 1000)?)
+    Ok(Core::start(alloc, bounds, 1000)?)
 }
 
 /// Offers the packet, with this source port where there is one.
 fn answer(
     alloc: Global,
-    gateway: &mut Gateway,
+    core: &mut Core,
     moment: u64,
     iface: Iface,
     packet: &[u8; 28],
@@ -58,10 +58,9 @@ fn answer(
         place.copy_from_slice(&port.to_be_bytes());
     }
     let what = What::Packet(iface, Bytes::of(bytes));
-    match gateway.offer(Event { moment, what }) {
-        Ok(Given::Now(_, answer)) => Ok(answer),
-        Ok(Given::Held(_)) => Err(Fail::new("an answer is held")),
-        Err(_) => Err(Fail::new("the event was not taken")),
+    match core.step(Event { moment, what }) {
+        Ok(answer) => Ok(answer),
+        Err(_) => Err(Fail::new("memory was refused")),
     }
 }
 
@@ -74,12 +73,12 @@ fn is_full(answer: &Answer) -> bool {
 }
 
 /// Begins 65,536 sessions: one of each port of the first host, and one of the second.
-fn fill(rt: &impl Abort, alloc: Global, gateway: &mut Gateway) -> Result<(), Fail> {
+fn fill(rt: &impl Abort, alloc: Global, core: &mut Core) -> Result<(), Fail> {
     for port in 1..=u16::MAX {
-        let sent = answer(alloc, gateway, 1000, Iface::Lan, &FIRST_HOST, Some(port))?;
+        let sent = answer(alloc, core, 1000, Iface::Lan, &FIRST_HOST, Some(port))?;
         assert!(rt; is_sent_on(&sent), "{port}");
     }
-    let sent = answer(alloc, gateway, 1000, Iface::Lan, &SECOND_HOST, None)?;
+    let sent = answer(alloc, core, 1000, Iface::Lan, &SECOND_HOST, None)?;
     assert!(rt; is_sent_on(&sent));
     Ok(())
 }
@@ -87,37 +86,23 @@ fn fill(rt: &impl Abort, alloc: Global, gateway: &mut Gateway) -> Result<(), Fai
 #[test]
 fn full_table(rt: HostRuntime) -> Result<(), Fail> {
     let alloc = rt.alloc();
-    let mut gateway = opened(alloc)?;
-    fill(&rt, alloc, &mut gateway)?;
-    let new = answer(
-        alloc,
-        &mut gateway,
-        1000,
-        Iface::Lan,
-        &SECOND_HOST,
-        Some(6000),
-    )?;
+    let mut core = opened(alloc)?;
+    fill(&rt, alloc, &mut core)?;
+    let new = answer(alloc, &mut core, 1000, Iface::Lan, &SECOND_HOST, Some(6000))?;
     assert!(rt; is_full(&new));
-    let incoming = answer(
-        alloc,
-        &mut gateway,
-        1000,
-        Iface::Wan,
-        &FROM_OUTSIDE,
-        Some(54),
-    )?;
+    let incoming = answer(alloc, &mut core, 1000, Iface::Wan, &FROM_OUTSIDE, Some(54))?;
     assert!(rt; is_full(&incoming));
-    let held = answer(alloc, &mut gateway, 1000, Iface::Lan, &SECOND_HOST, None)?;
+    let held = answer(alloc, &mut core, 1000, Iface::Lan, &SECOND_HOST, None)?;
     assert!(rt; is_sent_on(&held));
     let later = answer(
         alloc,
-        &mut gateway,
+        &mut core,
         1000 + IDLE,
         Iface::Lan,
         &SECOND_HOST,
         Some(6000),
     )?;
     assert!(rt; is_sent_on(&later));
-    assert_eq!(rt; gateway.sessions()?.len(), 1);
+    assert_eq!(rt; core.sessions()?.len(), 1);
     Ok(())
 }

@@ -1,119 +1,472 @@
--- Runs of steps, one behind the other.
-use Rattle.std.proofs.Common.{◌≡◌, ℕ, suc, ◌+◌, ◌≤◌, List, [], ◌∷◌, ◌++◌, length, vec_len, vec_capacity, Vec, Global, refl, sym, ap, ◌∙◌, subst, arith, append_assoc, length-append}
-use Rattle.std.proofs.lemmas.List.{append-nil}
-use Rattle.packet.specs.Config.{Config}
-use Rattle.machine.specs.declared.event.Event.{Event}
-use Rattle.machine.specs.declared.event.Answer.{Answer}
-use Rattle.gateway.specs.declared.given.Given.{Given}
-use Rattle.gateway.specs.declared.given.Given.TheVariants.{Now}
-use Rattle.machine.specs.Judged.{Judged, AreJudged, IsJudged}
+-- A run of events, call by call.
+use Rattle.std.proofs.Common.{◌≡◌, ◌≢◌, ◌⊎◌, ◌↔◌, Result, Ok, Err, inl, inr, ⊎_elim, ℕ, zero, suc, ◌+◌, ◌-◌, ◌^◌, ◌<◌, ◌≤◌, List, [], ◌∷◌, ◌++◌, Bool, true, false, length, take, refl, sym, ◌∙◌, ap, subst, arith, append_assoc, length-append}
+use Rattle.std.specs.Prelude.{IsErrOf}
+use Rattle.std.proofs.lemmas.Bool.{false≢true}
+use Rattle.std.proofs.lemmas.List.{append-nil, take_all, take-append-le}
+use Rattle.packet.specs.Config.{Config, is_config}
+use Rattle.disk_model.specs.Disk.{Files, LeavesNow, LeavesOnly, Grew}
+use Rattle.disk_model.proofs.Moments.{idle, narrows, only_now, only_then}
+use Rattle.durable.specs.Entering.{Durable}
+use Rattle.durable.specs.Recovery.{IsConfigured, Recovers}
+use Rattle.durable.proofs.Headed.{recovers_once}
+use Rattle.snapshot.specs.Store.{RecoversEither}
+use Rattle.machine.specs.Judged.{Judged, IsJudged, AreJudged}
 use Rattle.machine.specs.Machine.{State, step, after, answers, numbered}
-use Rattle.gateway.specs.Told.{Told, Took, TookAll, TookFirst, handed}
+use Rattle.machine.specs.Noted.{HasEntry, lasting}
+use Rattle.machine.specs.Sound.{IsSound}
+use Rattle.machine.specs.declared.event.Answer.{Answer}
+use Rattle.machine.specs.declared.event.Event.{Event}
 use Rattle.machine.proofs.Judging.{AreJudged-append, AreJudged-length, AreJudged-one}
+use Rattle.gateway.specs.Told.{Told, Took, TookAll, handed}
+use Rattle.gateway.specs.declared.given.Given.{Given}
+use Rattle.gateway.specs.declared.given.Given.TheVariants.{Now, Held}
+use Rattle.gateway.specs.declared.fault.GatewayFault.{GatewayFault}
+use Rattle.gateway.specs.declared.fault.GatewayFault.TheVariants as fault
+use Rattle.gateway.proofs.Taking.{length-answers, took_more, took_none}
+use Rattle.gateway.specs.Kept.{Kept, IsNow, IsReady, IsSafe}
+use Rattle.gateway.specs.Running.{Ran, Stands, Ends, IsWhy, Stops, StopsWithin, CarriesOn, BreaksOff, standing}
+use Rattle.gateway.specs.Standing.{Standing, Offers, StandsFor}
+use Rattle.gateway.proofs.Standings.{offered-on, settled-on}
 
-pub after-append : (config : Config) (s : State) (es fs : List Judged) → after config s (es ++ fs) ≡ after config (after config s es) fs
-after-append config s [] fs = refl
-after-append config s (e ∷ es) fs = after-append config (step config s e).0 es fs
+-- ---- the events and their answers
 
-pub answers-append : (config : Config) (s : State) (es fs : List Judged) → answers config s (es ++ fs) ≡ answers config s es ++ answers config (after config s es) fs
-answers-append config s [] fs = refl
-answers-append config s (e ∷ es) fs = ap (λ (xs : List Answer). (step config s e).1 ∷ xs) (answers-append config (step config s e).0 es fs)
+length-numbered : (last : ℕ) (xs : List Answer) → length (numbered last xs) ≡ length xs
+length-numbered last [] = refl
+length-numbered last (x ∷ xs) = ap suc (length-numbered (last + 1) xs)
 
-pub length-answers : (config : Config) (s : State) (es : List Judged) → length (answers config s es) ≡ length es
-length-answers config s [] = refl
-length-answers config s (e ∷ es) = ap suc (length-answers config (step config s e).0 es)
+-- the answers that were handed out and those that are held are as many as the events, and those held before
+pub counted : (old new : Told) (events : List Event) (out : List (ℕ × Answer)) → TookAll old new events out → length out + length new.held ≡ length old.held + length events
+counted old new events out t =
+    let given = answers old.config old.state t.judged in
+    omega (
+      arith,
+      ap length t.order,
+      length-append out new.held,
+      length-append old.held (numbered old.last given),
+      length-numbered old.last given,
+      length-answers old.config old.state t.judged,
+      AreJudged-length old.config events t.judged t.are_judged,
+    )
 
-pub numbered-append : (last : ℕ) (xs ys : List Answer) → numbered last (xs ++ ys) ≡ numbered last xs ++ numbered (last + length xs) ys
-numbered-append last [] ys = ap (λ n. numbered n ys) (omega arith)
-numbered-append last (x ∷ xs) ys =
-    let e : last + 1 + length xs ≡ last + suc (length xs) = omega arith in
-    ap (λ (zs : List (ℕ × Answer)). (last + 1, x) ∷ zs) (numbered-append (last + 1) xs ys ∙ ap (λ n. numbered (last + 1) xs ++ numbered n ys) e)
+-- the held answers are handed out
+pub took_out : (old now new : Told) (events : List Event) (out : List (ℕ × Answer)) → TookAll old now events out → new ≡ record now { held = [] } → TookAll old new events (out ++ now.held)
+took_out old now new events out t same =
+    subst (λ (n : Told). TookAll old n events (out ++ now.held)) (sym same)
+    (record { judged = t.judged; are_judged = t.are_judged; config = t.config; state = t.state; last = t.last; order = append-nil (out ++ now.held) ∙ t.order })
 
--- the numbered answer to one more event
-one_more : (config : Config) (s : State) (last : ℕ) (es : List Judged) (e : Judged)
-    → numbered last (answers config s (es ++ e ∷ [])) ≡ numbered last (answers config s es) ++ (last + length es + 1, (step config (after config s es) e).1) ∷ []
-one_more config s last es e =
-    let one = (step config (after config s es) e).1 in
-    ap (numbered last) (answers-append config s es (e ∷ [])) ∙ numbered-append last (answers config s es) (one ∷ [])
-    ∙ ap (λ n. numbered last (answers config s es) ++ (last + n + 1, one) ∷ []) (length-answers config s es)
+-- ---- what is safe
 
--- a step takes an event
-pub took_one : (config own : Config) (old new : State) (last : ℕ) (event : Event) (answer : Answer) → own ≡ config → (judged : Judged) × IsJudged config event judged × (step config old judged ≡ (new, answer))
-    → Took (record { config = config; state = old; last = last; held = [] }) (record { config = own; state = new; last = last + 1; held = [] }) event (Now (last + 1) answer)
-took_one config own old new last event answer same done = record {
-  judged = done.0;
-  is_judged = done.1;
-  config = same;
-  state = sym (ap (λ (p : State × Answer). p.0) done.2);
-  last = refl;
-  number = refl;
-  order = ap (λ (p : State × Answer). (last + 1, p.1) ∷ []) (sym done.2);
+judged-take : (config : Config) (n : ℕ) (es : List Event) (js : List Judged) → AreJudged config es js → AreJudged config (take n es) (take n js)
+judged-take config zero es js are = tt
+judged-take config (suc n) [] [] are = tt
+judged-take config (suc n) [] (j ∷ js) are = absurd are
+judged-take config (suc n) (e ∷ es) [] are = absurd are
+judged-take config (suc n) (e ∷ es) (j ∷ js) are = (are.0, judged-take config n es js are.1)
+
+-- with fewer events answered, and with more to come
+pub safe-less : (config : Config) (s : State) (es fs : List Event) (n m : ℕ) (files : Files) → m ≤ n → IsSafe config s es n files → IsSafe config s (es ++ fs) m files
+safe-less config s es fs n m files le is = record {
+  count = is.count;
+  answered = omega (arith, le, is.answered);
+  within = omega (arith, is.within, length-append es fs);
+  judged = is.judged;
+  are_judged = subst (λ (xs : List Event). AreJudged config xs is.judged) (sym (take-append-le is.count es fs is.within)) is.are_judged;
+  recovers = is.recovers;
 }
 
-pub took_none : (old : Told) → TookAll old old [] []
-took_none old = record { judged = []; are_judged = tt; config = refl; state = refl; last = omega arith; order = sym (append-nil old.held) }
+-- what the files stand for, or the present state
+pub safe-either : (config : Config) (s : State) (es : List Event) (js : List Judged) (now : Standing) (files : Files) → AreJudged config es js → StandsFor config s js now
+    → RecoversEither now.first (lasting now.state) files → IsSafe config s es (length es - now.held) files
+safe-either config s es js now files are is either =
+    let size = AreJudged-length config es js are in
+    let n : length js - now.held ≡ length es - now.held = omega (arith, size) in
+    ⊎_elim
+    (λ r. record {
+      count = length es - now.held;
+      answered = omega arith;
+      within = omega arith;
+      judged = take (length js - now.held) js;
+      are_judged = subst (λ (k : ℕ). AreJudged config (take k es) (take (length js - now.held) js)) n (judged-take config (length js - now.held) es js are);
+      recovers = subst (Recovers files) is.answered r;
+    })
+    (λ r. record {
+      count = length es;
+      answered = omega arith;
+      within = omega arith;
+      judged = js;
+      are_judged = subst (λ (xs : List Event). AreJudged config xs js) (sym (take_all (length es) es (omega arith))) are;
+      recovers = subst (Recovers files) (ap lasting is.all) r;
+    })
+    either
 
-pub took_more : (first now new : Told) (es : List Event) (e : Event) (out : List (ℕ × Answer)) (given : Given) → TookAll first now es out → Took now new e given
-    → TookAll first new (es ++ e ∷ []) (out ++ handed given)
-took_more first now new es e out given all one =
-    let js = all.judged in
-    let j = one.judged in
-    let last : new.last ≡ first.last + length (es ++ e ∷ []) = omega (arith, one.last, all.last, length-append es (e ∷ [])) in
-    let same : step now.config now.state j ≡ step first.config (after first.config first.state js) j =
-    ap (λ c. step c now.state j) all.config ∙ ap (λ s. step first.config s j) all.state in
-    let number : now.last + 1 ≡ first.last + length js + 1 = omega (arith, all.last, AreJudged-length first.config es js all.are_judged) in
-    let answer : (now.last + 1, (step now.config now.state j).1) ≡ (first.last + length js + 1, (step first.config (after first.config first.state js) j).1) =
-    ap (λ n. (n, (step now.config now.state j).1)) number ∙ ap (λ (p : State × Answer). (first.last + length js + 1, p.1)) same in
+pub not-true : (b : Bool) → (b ≡ true → ⊥) → b ≡ false
+not-true true up = absurd (up refl)
+not-true false up = refl
+
+pub true-false : (b : Bool) → b ≡ true → b ≡ false → ⊥
+true-false b up down = false≢true (sym down ∙ up)
+
+-- the fault of a call
+pub fault-is : {T : Type 0} {P : Type 0} (why which : GatewayFault) → IsErrOf {T = T} (Err why) which ↔ P → (why ≡ which) ↔ P
+fault-is {T = T} why which h = (λ e. h.0 (ap Err e), λ p. let same : ◌≡◌ {A = Result T GatewayFault} (Err why) (Err which) = h.1 p in cc)
+
+pub stands-still : {T : Type 0} {P : Type 0} (x : T) (which : GatewayFault) (fallen : Bool) → IsErrOf (Ok x) which ↔ (P × (fallen ≡ true)) → P → fallen ≡ false
+stands-still x which fallen fell p = not-true fallen (λ up. let bad : Ok x ≡ Err which = fell.1 (p, up) in absurd cc)
+
+-- how an event that is taken stands among the calls
+pub offers : {D : Type 0} (now next : Kept D) (event : Event) (given : Given) (first : Durable) → (t : Took now.told next.told event given)
+    → ((judged : Judged) → IsJudged now.told.config event judged → IsNow given ↔ ((now.told.held ≡ []) × ¬ HasEntry now.told.config now.told.state judged))
+    → Offers now.told.config event (standing first now) (standing first next)
+offers now next event (Now number answer) first t at_once =
+    let is = (at_once t.judged t.is_judged).0 tt in
+    let one : ℕ × Answer = (now.told.last + 1, (step now.told.config now.told.state t.judged).1) in
     record {
-      judged = js ++ j ∷ [];
-      are_judged = AreJudged-append first.config es (e ∷ []) js (j ∷ []) all.are_judged (AreJudged-one first.config e j (subst (λ c. IsJudged c e j) all.config one.is_judged));
-      config = one.config ∙ all.config;
-      state = one.state ∙ ap (λ (p : State × Answer). p.0) same ∙ sym (after-append first.config first.state js (j ∷ []));
-      last = last;
-      order =
-          append_assoc out (handed given) new.held ∙ ap (λ (zs : List (ℕ × Answer)). out ++ zs) one.order
-          ∙ sym (append_assoc out now.held ((now.last + 1, (step now.config now.state j).1) ∷ []))
-          ∙ ap (λ (zs : List (ℕ × Answer)). zs ++ (now.last + 1, (step now.config now.state j).1) ∷ []) all.order
-          ∙ append_assoc first.held (numbered first.last (answers first.config first.state js)) ((now.last + 1, (step now.config now.state j).1) ∷ [])
-          ∙ ap (λ a. first.held ++ (numbered first.last (answers first.config first.state js) ++ a ∷ [])) answer
-          ∙ ap (λ (zs : List (ℕ × Answer)). first.held ++ zs) (sym (one_more first.config first.state first.last js j));
+      stays = refl;
+      judged = t.judged;
+      is_judged = t.is_judged;
+      steps = t.state;
+      given = inr (ap length is.0, omega (arith, ap length t.order, length-append now.told.held (one ∷ []), ap length is.0), is.1);
+    }
+offers now next event (Held number) first t at_once =
+    let one : ℕ × Answer = (now.told.last + 1, (step now.told.config now.told.state t.judged).1) in
+    record {
+      stays = refl;
+      judged = t.judged;
+      is_judged = t.is_judged;
+      steps = t.state;
+      given = inl (ap length t.order ∙ length-append now.told.held (one ∷ []));
     }
 
--- a run has come as far as the events in front
-pub record Running (first now : Told) (events front back : List Event) (out : Vec (ℕ × Answer) Global) : Type 0 where
-  pub split : events ≡ front ++ back
-  pub took : TookAll first now front out.items
-  pub none : now.held ≡ []
-  pub room : vec_len out + length back ≤ vec_capacity out
+-- ---- call by call
 
-pub began : (first : Told) (events back : List Event) (out : Vec (ℕ × Answer) Global) → back ≡ events → out.items ≡ [] → first.held ≡ [] → vec_len out + length back ≤ vec_capacity out
-    → Running first first events [] back out
-began first events back out split empty none room = record {
-  split = sym split;
-  took = subst (TookAll first first []) (sym empty) (took_none first);
-  none = none;
-  room = room;
+module _ {D : Type 0} (honest : D → Type 0) (moment : D → ℕ) (left : D → ℕ → Files → Type 0) (seen : D → Files) (failed : D → ℕ)
+    (reads : (disk : D) → honest disk → left disk (moment disk) (seen disk))
+    (earlier : (disk : D) (s t : ℕ) (files : Files) → honest disk → s ≤ t → left disk t files → left disk s files) (start : Kept D) where
+  abbrev Safe : List Event → ℕ → Files → Type 0
+  Safe events n = IsSafe start.told.config start.told.state events n
+
+  -- nothing is done yet
+  pub begun : start.fallen ≡ false
+      → (honest start.disk → (first : Durable) × Recovers (seen start.disk) first × LeavesNow moment left start.disk (λ files. Recovers files first))
+      → (honest start.disk → start.told.held ≡ [] → Recovers (seen start.disk) (lasting start.told.state))
+      → (honest start.disk → LeavesNow moment left start.disk (IsConfigured start.told.config)) → Stands honest moment left failed start start [] []
+  begun stands recovers present configured =
+      let leaves : IsReady honest start → LeavesNow moment left start.disk (λ files. Recovers files (lasting start.told.state)) = λ ready files now.
+      let is = recovers ready.is_honest in
+      subst (Recovers files) (recovers_once.state (seen start.disk) is.0 (lasting start.told.state) is.1 (present ready.is_honest ready.none)) (is.2 files now) in
+      record {
+        ran = record {
+          took = took_none start.told;
+          stood = stands;
+          keeps_honest = (λ h. h, λ h. h);
+          any_moment = λ ready. idle moment left start.disk (Safe [] 0) (λ files now.
+              record { count = 0; answered = omega arith; within = omega arith; judged = []; are_judged = tt; recovers = leaves ready files now });
+          configured = λ h. idle moment left start.disk (IsConfigured start.told.config) (configured h);
+        };
+        stands = stands;
+        passed = refl;
+        rests = λ ready. record {
+          first = lasting start.told.state;
+          leaves = leaves ready;
+          judged = [];
+          are_judged = tt;
+          stands_for = record {
+            fewer = omega (arith, ap length ready.none);
+            answered = ap (λ (js : List Judged). lasting (after start.told.config start.told.state js)) (sym (take_all (length {A = Judged} [] - length start.told.held) [] (omega arith)));
+            all = refl;
+          };
+        };
+      }
+
+  module _ (now : Kept D) (events : List Event) (out : List (ℕ × Answer)) (s : Stands honest moment left failed start now events out) where
+    ready-now : IsReady honest start → honest now.disk
+    ready-now ready = s.ran.keeps_honest.0 ready.is_honest
+
+    answered : IsReady honest start → length events - length now.told.held ≡ length out
+    answered ready = omega (arith, counted start.told now.told events out s.ran.took, ap length ready.none)
+
+    -- what the files stand for, and the present state, are safe
+    either : (ready : IsReady honest start) (files : Files) → RecoversEither (s.rests ready).first (lasting now.told.state) files → Safe events (length out) files
+    either ready files is =
+        let r = s.rests ready in
+        subst (λ (n : ℕ). Safe events n files) (answered ready)
+        (safe-either start.told.config start.told.state events r.judged (standing r.first now) files r.are_judged r.stands_for is)
+
+    any : (files : Files) (n : ℕ) → Safe events n files → Safe events 0 files
+    any files n is = record { count = is.count; answered = omega arith; within = is.within; judged = is.judged; are_judged = is.are_judged; recovers = is.recovers }
+
+    -- it may end anywhere between calls
+    pub ended : Ends honest moment left failed start now events out
+    ended = record { ran = s.ran; at_exit = λ ready files left_now. either ready files (inl ((s.rests ready).leaves files left_now)) }
+
+    module _ (next : Kept D) (keeps : honest now.disk ↔ honest next.disk)
+        (configured : now.fallen ≡ false → honest now.disk → LeavesOnly moment left now.disk next.disk (IsConfigured now.told.config)) where
+      next-honest : IsReady honest start → honest next.disk
+      next-honest ready = keeps.0 (ready-now ready)
+
+      ran-on : (others : List (ℕ × Answer)) → TookAll start.told next.told events others
+          → (IsReady honest start → LeavesOnly moment left now.disk next.disk (Safe events (length out))) → Ran honest moment left failed start next events others
+      ran-on others took safe = record {
+        took = took;
+        stood = s.ran.stood;
+        keeps_honest = (λ h. keeps.0 (s.ran.keeps_honest.0 h), λ h. s.ran.keeps_honest.1 (keeps.1 h));
+        any_moment = λ ready. only_then moment left start.disk now.disk next.disk (Safe events 0) (Safe events (length out)) (Safe events 0)
+            (λ s t files le since. earlier now.disk s t files (ready-now ready) le since) (s.ran.any_moment ready) (safe ready) (λ files is. is) (λ files is. any files (length out) is);
+        configured = λ h.
+            let there = s.ran.keeps_honest.0 h in
+            only_then moment left start.disk now.disk next.disk (IsConfigured start.told.config) (IsConfigured start.told.config) (IsConfigured start.told.config)
+            (λ s t files le since. earlier now.disk s t files there le since) (s.ran.configured h)
+            (subst (λ (c : Config). LeavesOnly moment left now.disk next.disk (IsConfigured c)) s.ran.took.config (configured s.stands there))
+            (λ files is. is) (λ files is. is);
+      }
+
+      ends-on : next.told ≡ now.told → (IsReady honest start → LeavesOnly moment left now.disk next.disk (Safe events (length out))) → Ends honest moment left failed start next events out
+      ends-on same safe = record {
+        ran = ran-on out (subst (λ (t : Told). TookAll start.told t events out) (sym same) s.ran.took) safe;
+        at_exit = λ ready. only_now moment left now.disk next.disk (Safe events (length out)) (λ s t files le since. earlier next.disk s t files (next-honest ready) le since) (safe ready);
+      }
+
+      -- a flush: what a crash leaves of it is safe, whatever comes of it
+      module _ (any_moment : now.fallen ≡ false → honest now.disk → (first : Durable) → Recovers (seen now.disk) first
+          → LeavesOnly moment left now.disk next.disk (RecoversEither first (lasting now.told.state))) where
+        flush-safe : IsReady honest start → LeavesOnly moment left now.disk next.disk (Safe events (length out))
+        flush-safe ready =
+            let r = s.rests ready in
+            let h = ready-now ready in
+            narrows moment left now.disk next.disk (λ before files. RecoversEither r.first (lasting now.told.state) files) (λ before files. Safe events (length out) files)
+            (any_moment s.stands h r.first (r.leaves (seen now.disk) (reads now.disk h)))
+            (λ before files was is. either ready files is)
+
+        pub flushed : (honest now.disk → LeavesNow moment left next.disk (λ files. Recovers files (lasting now.told.state))) → next.told ≡ record now.told { held = [] }
+            → next.fallen ≡ false → failed next.disk ≡ failed now.disk → Stands honest moment left failed start next events (out ++ now.told.held)
+        flushed ok none stands passed = record {
+          ran = ran-on (out ++ now.told.held) (took_out start.told now.told next.told events out s.ran.took none) flush-safe;
+          stands = stands;
+          passed = passed ∙ s.passed;
+          rests = λ ready.
+              let r = s.rests ready in
+              record {
+                first = lasting now.told.state;
+                leaves = ok (ready-now ready);
+                judged = r.judged;
+                are_judged = r.are_judged;
+                stands_for = settled-on start.told.config start.told.state r.judged (standing r.first now) (standing (lasting now.told.state) next) r.stands_for
+                    (record { same = ap (λ (t : Told). t.state) none; present = refl; none = ap (λ (t : Told). length t.held) none });
+              };
+        }
+
+        pub flush-stopped : next.told ≡ now.told → Ends honest moment left failed start next events out
+        flush-stopped same = ends-on same flush-safe
+
+      -- a compaction
+      module _ (any_moment : now.fallen ≡ false → honest now.disk → LeavesOnly moment left now.disk next.disk (λ files. Recovers files (lasting now.told.state)))
+          (same : next.told ≡ now.told) where
+        compact-safe : IsReady honest start → LeavesOnly moment left now.disk next.disk (Safe events (length out))
+        compact-safe ready =
+            narrows moment left now.disk next.disk (λ before files. Recovers files (lasting now.told.state)) (λ before files. Safe events (length out) files)
+            (any_moment s.stands (ready-now ready))
+            (λ before files was is. either ready files (inr is))
+
+        pub compacted : now.told.held ≡ [] → next.fallen ≡ false → failed next.disk ≡ failed now.disk → Stands honest moment left failed start next events out
+        compacted none stands passed = record {
+          ran = ran-on out (subst (λ (t : Told). TookAll start.told t events out) (sym same) s.ran.took) compact-safe;
+          stands = stands;
+          passed = passed ∙ s.passed;
+          rests = λ ready.
+              let r = s.rests ready in
+              record {
+                first = lasting now.told.state;
+                leaves = only_now moment left now.disk next.disk (λ files. Recovers files (lasting now.told.state))
+                    (λ s t files le since. earlier next.disk s t files (next-honest ready) le since) (any_moment s.stands (ready-now ready));
+                judged = r.judged;
+                are_judged = r.are_judged;
+                stands_for = settled-on start.told.config start.told.state r.judged (standing r.first now) (standing (lasting now.told.state) next) r.stands_for
+                    (record { same = ap (λ (t : Told). t.state) same; present = refl; none = ap (λ (t : Told). length t.held) same ∙ ap length none });
+              };
+        }
+
+        pub compact-stopped : Ends honest moment left failed start next events out
+        compact-stopped = ends-on same compact-safe
+
+    -- an event more is taken
+    pub offered : (next : Kept D) (event : Event) (given : Given) → is_config now.told.config ≡ true → IsSound now.told.config now.told.state
+        → next.disk ≡ now.disk → next.fallen ≡ now.fallen → (t : Took now.told next.told event given)
+        → ((judged : Judged) → IsJudged now.told.config event judged → IsNow given ↔ ((now.told.held ≡ []) × ¬ HasEntry now.told.config now.told.state judged))
+        → Stands honest moment left failed start next (events ++ event ∷ []) (out ++ handed given)
+    offered next event given is_one sound disk fallen t at_once =
+        let config = s.ran.took.config in
+        record {
+          ran = record {
+            took = took_more start.told now.told next.told events event out given s.ran.took t;
+            stood = s.ran.stood;
+            keeps_honest = subst (λ (d : D). honest start.disk ↔ honest d) (sym disk) s.ran.keeps_honest;
+            any_moment = λ ready. subst (λ (d : D). LeavesOnly moment left start.disk d (Safe (events ++ event ∷ []) 0)) (sym disk)
+                (narrows moment left start.disk now.disk (λ before files. Safe events 0 files) (λ before files. Safe (events ++ event ∷ []) 0 files) (s.ran.any_moment ready)
+                (λ before files was is. safe-less start.told.config start.told.state events (event ∷ []) 0 0 files (omega arith) is));
+            configured = λ h. subst (λ (d : D). LeavesOnly moment left start.disk d (IsConfigured start.told.config)) (sym disk) (s.ran.configured h);
+          };
+          stands = fallen ∙ s.stands;
+          passed = ap failed disk ∙ s.passed;
+          rests = λ ready.
+              let r = s.rests ready in
+              let o = offers now next event given r.first t at_once in
+              let judged : IsJudged start.told.config event o.judged = subst (λ (c : Config). IsJudged c event o.judged) config o.is_judged in
+              let offer : Offers start.told.config event (standing r.first now) (standing r.first next) =
+              subst (λ (c : Config). Offers c event (standing r.first now) (standing r.first next)) config o in
+              record {
+                first = r.first;
+                leaves = subst (λ (d : D). LeavesNow moment left d (λ files. Recovers files r.first)) (sym disk) r.leaves;
+                judged = r.judged ++ offer.judged ∷ [];
+                are_judged = AreJudged-append start.told.config events (event ∷ []) r.judged (offer.judged ∷ []) r.are_judged (AreJudged-one start.told.config event offer.judged offer.is_judged);
+                stands_for = offered-on start.told.config (subst (λ (c : Config). is_config c ≡ true) config is_one) start.told.state r.judged event (standing r.first now) (standing r.first next)
+                    (subst (λ (c : Config). IsSound c now.told.state) config sound) r.stands_for offer;
+              };
+        }
+
+    -- why it ends: a fault of a flush
+    pub flush-why : (next : Kept D) (why : GatewayFault) → (why ≡ fault.Reopen) ↔ (now.fallen ≡ true) → (why ≡ fault.Device) ↔ ((now.fallen ≡ false) × (next.fallen ≡ true))
+        → (why ≡ fault.Reopen) ⊎ (why ≡ fault.Device) → (why ≡ fault.Device → Grew (failed now.disk) (failed next.disk))
+        → IsWhy honest moment left failed start next why
+    flush-why next why reopen fell causes grew =
+        let stood : why ≢ fault.Reopen = λ is. true-false now.fallen (reopen.0 is) s.stands in
+        let is : why ≡ fault.Device = ⊎_elim (λ r. absurd (stood r)) (λ d. d) causes in
+        record {
+          stood = stood;
+          made_room = ((λ held. let bad : fault.Device ≡ fault.HeldFull = sym is ∙ held in absurd cc), (λ full. let bad : fault.Device ≡ fault.Full = sym is ∙ full in absurd cc));
+          numbers_out = λ out. let bad : fault.Device ≡ fault.NumbersOut = sym is ∙ out in absurd cc;
+          fell = (λ d. (fell.0 d).1, λ up. fell.1 (s.stands, up));
+          device = λ d. subst (λ (n : ℕ). Grew n (failed next.disk)) s.passed (grew d);
+          generations = λ out. let bad : fault.Device ≡ fault.Generations = sym is ∙ out in absurd cc;
+        }
+
+    -- a fault of a flush is the disk's
+    pub flush-device : (why : GatewayFault) → (why ≡ fault.Reopen) ↔ (now.fallen ≡ true) → (why ≡ fault.Reopen) ⊎ (why ≡ fault.Device) → why ≡ fault.Device
+    flush-device why reopen causes = ⊎_elim (λ r. absurd (true-false now.fallen (reopen.0 r) s.stands)) (λ d. d) causes
+
+    -- of a compaction
+    pub compact-why : (next : Kept D) (why : GatewayFault) → (why ≡ fault.Reopen) ↔ (now.fallen ≡ true) → (why ≡ fault.Device) ↔ ((now.fallen ≡ false) × (next.fallen ≡ true))
+        → (why ≡ fault.Reopen) ⊎ (why ≡ fault.NoMemory) ⊎ (why ≡ fault.Device) ⊎ (why ≡ fault.Generations) → (why ≡ fault.Device → Grew (failed now.disk) (failed next.disk))
+        → (why ≡ fault.Generations → next.generation ≡ 2 ^ 64 - 1) → IsWhy honest moment left failed start next why
+    compact-why next why reopen fell causes grew generations = record {
+      stood = λ is. true-false now.fallen (reopen.0 is) s.stands;
+      made_room = (
+        (λ held. elim causes [
+          | inl r ↦ let bad : fault.Reopen ≡ fault.HeldFull = sym r ∙ held in absurd cc
+          | inr more ↦ elim more [
+            | inl m ↦ let bad : fault.NoMemory ≡ fault.HeldFull = sym m ∙ held in absurd cc
+            | inr last ↦ elim last [ inl d ↦ let bad : fault.Device ≡ fault.HeldFull = sym d ∙ held in absurd cc | inr g ↦ let bad : fault.Generations ≡ fault.HeldFull = sym g ∙ held in absurd cc ]
+          ]
+        ]),
+        (λ full. elim causes [
+          | inl r ↦ let bad : fault.Reopen ≡ fault.Full = sym r ∙ full in absurd cc
+          | inr more ↦ elim more [
+            | inl m ↦ let bad : fault.NoMemory ≡ fault.Full = sym m ∙ full in absurd cc
+            | inr last ↦ elim last [ inl d ↦ let bad : fault.Device ≡ fault.Full = sym d ∙ full in absurd cc | inr g ↦ let bad : fault.Generations ≡ fault.Full = sym g ∙ full in absurd cc ]
+          ]
+        ]),
+      );
+      numbers_out = λ out. elim causes [
+        | inl r ↦ let bad : fault.Reopen ≡ fault.NumbersOut = sym r ∙ out in absurd cc
+        | inr more ↦ elim more [
+          | inl m ↦ let bad : fault.NoMemory ≡ fault.NumbersOut = sym m ∙ out in absurd cc
+          | inr last ↦ elim last [ inl d ↦ let bad : fault.Device ≡ fault.NumbersOut = sym d ∙ out in absurd cc | inr g ↦ let bad : fault.Generations ≡ fault.NumbersOut = sym g ∙ out in absurd cc ]
+        ]
+      ];
+      fell = (λ d. (fell.0 d).1, λ up. fell.1 (s.stands, up));
+      device = λ d. subst (λ (n : ℕ). Grew n (failed next.disk)) s.passed (grew d);
+      generations = generations;
+    }
+
+    -- of an offer
+    pub offer-why : (next : Kept D) (why : GatewayFault) → next ≡ now → length now.told.held < 64 → (why ≡ fault.Reopen) ↔ (now.fallen ≡ true)
+        → (why ≡ fault.NumbersOut) ↔ ((now.fallen ≡ false) × (now.told.last ≡ 2 ^ 64 - 1))
+        → (why ≡ fault.HeldFull) ↔ ((now.fallen ≡ false) × (now.told.last < 2 ^ 64 - 1) × (length now.told.held ≡ 64))
+        → (why ≢ fault.Device) × (why ≢ fault.Generations) → why ≢ fault.Full → IsWhy honest moment left failed start next why
+    offer-why next why same few reopen numbers held causes full = record {
+      stood = λ is. true-false now.fallen (reopen.0 is) s.stands;
+      made_room = ((λ is. let n : length now.told.held ≡ 64 = (held.0 is).2 in omega (arith, few, n)), full);
+      numbers_out = λ is. ap (λ (g : Kept D). g.told.last) same ∙ (numbers.0 is).1;
+      fell = (λ d. absurd (causes.0 d), λ up. absurd (true-false now.fallen (sym (ap (λ (g : Kept D). g.fallen) same) ∙ up) s.stands));
+      device = λ d. absurd (causes.0 d);
+      generations = λ d. absurd (causes.1 d);
+    }
+
+-- ---- several calls
+
+-- it has stopped behind the first of the events
+pub stops-within : {D : Type 0} (honest : D → Type 0) (moment : D → ℕ) (left : D → ℕ → Files → Type 0) (failed : D → ℕ) (start now : Kept D) (events front back : List Event)
+    (out : List (ℕ × Answer)) (why : GatewayFault) → events ≡ front ++ back → Stops honest moment left failed start now front out why → StopsWithin honest moment left failed start now events out why
+stops-within honest moment left failed start now events front back out why split s =
+    let config = start.told.config in
+    let state = start.told.state in
+    let ran = s.ends.ran in
+    record {
+      took = record { front = front; back = back; split = split; took = ran.took };
+      keeps_honest = ran.keeps_honest;
+      any_moment = λ ready.
+          narrows moment left start.disk now.disk (λ before files. IsSafe config state front 0 files) (λ before files. IsSafe config state events 0 files) (ran.any_moment ready)
+          (λ before files was is. subst (λ (es : List Event). IsSafe config state es 0 files) (sym split) (safe-less config state front back 0 0 files (omega arith) is));
+      at_exit = λ ready files left_now.
+          subst (λ (es : List Event). IsSafe config state es (length out) files) (sym split) (safe-less config state front back (length out) (length out) files (omega arith) (s.ends.at_exit ready files left_now));
+      configured = ran.configured;
+      is_why = s.is_why;
+    }
+
+-- memory was refused
+pub memory-why : {D : Type 0} (honest : D → Type 0) (moment : D → ℕ) (left : D → ℕ → Files → Type 0) (failed : D → ℕ) (start now : Kept D)
+    → now.fallen ≡ false → IsWhy honest moment left failed start now fault.NoMemory
+memory-why honest moment left failed start now stands = record {
+  stood = λ is. absurd cc;
+  made_room = ((λ is. absurd cc), (λ is. absurd cc));
+  numbers_out = λ is. absurd cc;
+  fell = ((λ is. absurd cc), λ up. absurd (true-false now.fallen up stands));
+  device = λ is. absurd cc;
+  generations = λ is. absurd cc;
 }
 
-pub went_on : (first now new : Told) (events front back rest : List Event) (event : Event) (given : Given) (out out' : Vec (ℕ × Answer) Global)
-    → Running first now events front back out → back ≡ event ∷ rest → Took now new event given → new.held ≡ [] → out'.items ≡ out.items ++ handed given
-    → vec_len out' ≤ vec_len out + 1 → vec_capacity out ≤ vec_capacity out' → Running first new events (front ++ event ∷ []) rest out'
-went_on first now new events front back rest event given out out' run next took none items len capacity = record {
-  split = run.split ∙ ap (λ (es : List Event). front ++ es) next ∙ sym (append_assoc front (event ∷ []) rest);
-  took = subst (TookAll first new (front ++ event ∷ [])) (sym items) (took_more first now new front event out.items given run.took took);
-  none = none;
-  room = omega (arith, run.room, len, capacity, ap length next);
-}
+-- memory was refused before any event
+pub refused : {D : Type 0} (honest : D → Type 0) (moment : D → ℕ) (left : D → ℕ → Files → Type 0) (failed : D → ℕ) (start : Kept D) (events : List Event) (out : List (ℕ × Answer))
+    → Stands honest moment left failed start start [] [] → Ends honest moment left failed start start [] [] → out ≡ [] → StopsWithin honest moment left failed start start events out fault.NoMemory
+refused honest moment left failed start events out stands ends none =
+    subst (λ (l : List (ℕ × Answer)). StopsWithin honest moment left failed start start events l fault.NoMemory) (sym none)
+    (stops-within honest moment left failed start start events [] events [] fault.NoMemory refl
+    (record { ends = ends; is_why = memory-why honest moment left failed start start stands.stands; stays = λ other. stands }))
 
-pub ended : (first now : Told) (events front back : List Event) (out : Vec (ℕ × Answer) Global) → Running first now events front back out → back ≡ [] → TookAll first now events out.items
-ended first now events front back out run end =
-    subst (λ (es : List Event). TookAll first now es out.items) (sym (run.split ∙ ap (λ (es : List Event). front ++ es) end ∙ append-nil front)) run.took
+module _ {D : Type 0} (honest : D → Type 0) (moment : D → ℕ) (left : D → ℕ → Files → Type 0) (failed : D → ℕ) where
+  -- through no events
+  pub carries-none : (old new : Kept D) (before out : List (ℕ × Answer))
+      → ((start : Kept D) (events : List Event) → Stands honest moment left failed start old events before → Stands honest moment left failed start new events out)
+      → CarriesOn honest moment left failed old new [] before out
+  carries-none old new before out on = λ start events s.
+      subst (λ (es : List Event). Stands honest moment left failed start new es out) (sym (append-nil events)) (on start events s)
 
-pub stopped : (first now new : Told) (events front back : List Event) (out : Vec (ℕ × Answer) Global) → Running first now events front back out → new ≡ now
-    → TookFirst first new events out.items
-stopped first now new events front back out run same = record {
-  front = front;
-  back = back;
-  split = run.split;
-  took = subst (λ s. TookAll first s front out.items) (sym same) run.took;
-}
+  pub carries-then : (old mid new : Kept D) (one more : List Event) (before between out : List (ℕ × Answer))
+      → CarriesOn honest moment left failed old mid one before between → CarriesOn honest moment left failed mid new more between out
+      → CarriesOn honest moment left failed old new (one ++ more) before out
+  carries-then old mid new one more before between out first next = λ start events s.
+      subst (λ (es : List Event). Stands honest moment left failed start new es out) (append_assoc events one more) (next start (events ++ one) (first start events s))
+
+  -- before the first of the events
+  pub breaks-here : (old new : Kept D) (more : List Event) (before out : List (ℕ × Answer)) (why : GatewayFault)
+      → ((start : Kept D) (events : List Event) → Stands honest moment left failed start old events before → Stops honest moment left failed start new events out why)
+      → BreaksOff honest moment left failed old new more before out why
+  breaks-here old new more before out why off = λ start events s.
+      ([], more, refl, subst (λ (es : List Event). Stops honest moment left failed start new es out why) (sym (append-nil events)) (off start events s))
+
+  pub breaks-then : (old mid new : Kept D) (one more : List Event) (before between out : List (ℕ × Answer)) (why : GatewayFault)
+      → CarriesOn honest moment left failed old mid one before between → BreaksOff honest moment left failed mid new more between out why
+      → BreaksOff honest moment left failed old new (one ++ more) before out why
+  breaks-then old mid new one more before between out why first next = λ start events s.
+      let off = next start (events ++ one) (first start events s) in (
+        one ++ off.0,
+        off.1,
+        ap (λ (es : List Event). one ++ es) off.2 ∙ sym (append_assoc one off.0 off.1),
+        subst (λ (es : List Event). Stops honest moment left failed start new es out why) (append_assoc events one off.0) off.3,
+      )
+
+  -- more events would have come
+  pub breaks-before : (old new : Kept D) (more rest : List Event) (before out : List (ℕ × Answer)) (why : GatewayFault)
+      → BreaksOff honest moment left failed old new more before out why → BreaksOff honest moment left failed old new (more ++ rest) before out why
+  breaks-before old new more rest before out why off = λ start events s.
+      let is = off start events s in
+      (is.0, is.1 ++ rest, ap (λ (es : List Event). es ++ rest) is.2 ∙ append_assoc is.0 is.1 rest, is.3)

@@ -1,175 +1,474 @@
-//! `Gateway`: a `Core`, which has all the state and does the steps (crate `machine`), and the number of the
-//! last event. This module adds nothing but the numbers.
-ghost use Rattle.std.specs.Prelude.{◌≡◌, ◌↔◌, ◌⊎◌, ◌-◌, ◌^◌, ◌<◌, ◌++◌, [], IfOk, IfErr, OnOk, OnErr, IsOk, List, length, vec_len, vec_capacity, ◌+◌, ◌≤◌};
+//! `Gateway`: a `Core`, which has all the state and does the steps (crate `machine`), a `Store`, which keeps in two
+//! files what must survive of it (crate `snapshot`), and the answers that are held between them.
+ghost use Rattle.std.specs.Prelude.{◌≡◌, ◌≢◌, ◌↔◌, ◌⊎◌, ◌+◌, ◌-◌, ◌^◌, ◌<◌, ◌≤◌, ◌++◌, ◌∷◌, [], IfOk, IfErr, OnOk, OnErr, IsOk, IsErrOf, MatchResult, IsTrue, length, map, true, false};
+ghost use Rattle.packet.specs.Config.{is_config};
+ghost use Rattle.disk_model.specs.Disk.{Leaves, LeavesNow, LeavesOnly, Looks, Called, Grew};
+ghost use Rattle.durable.specs.Entering.{Durable, IsDurable, durable};
+ghost use Rattle.durable.specs.Recovery.{Alike, IsConfigured, Recovers};
+ghost use Rattle.snapshot.specs.Store.{RecoversEither};
 ghost use Rattle.machine.specs.Judged.{Judged, IsJudged, IsNoLoad};
+ghost use Rattle.machine.specs.Noted.{HasEntry, IsRestarted, lasting};
 ghost use Rattle.machine.specs.Sound.{IsSound};
-ghost use Rattle.gateway.specs.Told.{Took, TookAll, TookFirst, handed};
-ghost use Rattle.machine.specs.Machine.{AddsNone, EndsNone, empty_at, later, step};
+ghost use Rattle.sessions.specs.Stilled.{stilled};
+ghost use Rattle.gateway.specs.Told.{Took, TookAll, TookFirst, handed, number_of};
+ghost use Rattle.gateway.specs.Kept.{IsNow, IsReady, IsRoomy, IsSafe, IsTooMuch};
 
-use crate::{GatewayFault, Given};
-use machine::{Answer, Core, Event, NoMemory};
+use crate::pending::{MOST_HELD, Pending};
+use crate::running::take_all;
+use crate::{GatewayFault, Given, OpenFault};
+use disk_model::Disk;
+use machine::laws::events_are_judged_once;
+use machine::{Answer, Core, Event, NoMemory, StepFault};
 use packet::bounds::Bounds;
 use sessions::Session;
+use snapshot::{CommitFault, CompactFault, Opened, Store};
 use std::alloc::Global;
 use std::marker::Model;
 
-/// The gateway. Events that are taken have the numbers 1, 2, .. since it was opened.
+/// The gateway. Events that are taken have the numbers 1, 2, .. since it was opened. Moments are in seconds.
 ///
-/// Every event that is taken is answered at once: there is no disk yet, for which answers would be held.
+/// What must survive is the text that loaded last, and the sessions without when their last packets passed. An event
+/// that changes it is answered by the `flush` that has synced the change.
 #[derive(Drop)]
-pub struct Gateway {
+pub struct Gateway<D: Disk + Drop> {
     alloc: Global,
+    store: Store<D>,
     core: Core,
     last: u64,
+    pending: Pending,
 }
 
-impl Model for Gateway {
-    ghost use Rattle.std.specs.Prelude.{[]};
+impl<D: Disk + Drop> Model for Gateway<D> {
+    ghost use Rattle.std.specs.Prelude.{◌≡◌, ◌+◌, [], length, false};
+    ghost use Rattle.durable.specs.Coding.{body_bytes};
     ghost use Rattle.gateway.specs.Told.{Told};
+    ghost use Rattle.gateway.specs.Kept.{Kept, IsStanding};
 
-    ghost Value = { Told };
+    ghost Value = { Kept D };
 
-    ghost view = { λ g. record { config = g.core.config; state = g.core.state; last = g.last; held = [] } };
+    ghost view = { λ g. record {
+      disk = g.store.disk;
+      fallen = g.store.fallen;
+      generation = g.store.generation;
+      grown = g.store.grown;
+      filled = g.pending.place + length (body_bytes g.pending.entries);
+      told = record { config = g.core.config; state = g.core.state; last = g.last; held = g.pending.held };
+    } };
+
+    ghost invariant = { λ g. (g.store.config ≡ g.core.config) × (g.pending.held ≡ [] → g.pending.entries ≡ []) × (g.store.fallen ≡ false → g.pending.place ≡ g.store.end)
+        × (g.store.fallen ≡ false → D.honest g.store.disk → IsStanding g.core.config (D.seen g.store.disk) g.pending.entries g.core.state) };
 }
 
-impl Gateway {
-    /// A gateway with no rules, no session and no number given, whose clock stands at the moment, in seconds.
+impl<D: Disk + Drop> Gateway<D> {
+    /// Opens the gateway that two files keep. Nothing is held, and no number is given yet. The last packet of each
+    /// session is taken to have passed at this moment, in seconds, which is the clock's. Both files are synced, then
+    /// read; where none is open, file A is made, for no text and no session.
     ///
     /// # Errors
     ///
-    /// `NoMemory` where memory is refused; then there is no gateway.
-    pub fn start(alloc: Global, bounds: Bounds, moment: u64) -> Result<Gateway, NoMemory>
-        ensures { IfOk result (λ g. g ≡ record { config = bounds; state = empty_at moment; last = 0; held = [] }) }
+    /// The disk comes back.
+    ///
+    /// - `Device` where a call of the disk has failed. The files stand for what they stood for.
+    /// - `Damaged` exactly where the files, as they read, stand for no state. They are not changed.
+    /// - `ConfigDiffers` exactly where they stand for one, and the active file has another configuration than these
+    ///   bounds. They are not changed.
+    /// - `NoMemory` where memory is refused. The files stand for what they stood for.
+    pub fn open(
+        alloc: Global,
+        disk: D,
+        bounds: Bounds,
+        moment: u64,
+    ) -> Result<Gateway<D>, (D, OpenFault)>
+        ensures honest { MatchResult result (λ g. D.honest disk ↔ D.honest g.disk) (λ e. D.honest disk ↔ D.honest e.0) }
+
+        // Whatever a crash leaves since the entry stands for what some pair left at the entry stands for.
+        ensures any_moment { D.honest disk → MatchResult result (λ g. Leaves D.moment D.left disk g.disk Alike)
+            (λ e. Leaves D.moment D.left disk e.0 Alike) }
+
+        // Where each pair left at the entry has this configuration in its active file, if it has one, so has each since.
+        ensures configured { D.honest disk → LeavesNow D.moment D.left disk (IsConfigured bounds)
+            → MatchResult result (λ g. LeavesOnly D.moment D.left disk g.disk (IsConfigured bounds))
+            (λ e. LeavesOnly D.moment D.left disk e.0 (IsConfigured bounds)) }
+
+        // The state is begun again from what the files stood for, which a crash leaves from now on.
+        ensures ok { D.honest disk → IfOk result (λ g. (d : Durable) × Recovers (D.seen disk) d × IsRestarted bounds d moment g.told.state
+            × LeavesNow D.moment D.left g.disk (λ files. Recovers files d)) }
+        ensures taken { D.honest disk → OnOk result (IsConfigured bounds (D.seen disk)) }
+        ensures config { IfOk result (λ g. g.told.config ≡ bounds) }
+        ensures last { IfOk result (λ g. g.told.last ≡ 0) }
+        ensures none { IfOk result (λ g. g.told.held ≡ []) }
+        ensures stands { IfOk result (λ g. g.fallen ≡ false) }
+        ensures damaged { D.honest disk → IfErr result (λ e. e.1 ≡ OpenFault.Damaged → (d : Durable) → ¬ Recovers (D.seen disk) d) }
+        ensures differs { D.honest disk → IfErr result (λ e. e.1 ≡ OpenFault.ConfigDiffers
+            → (d : Durable) × Recovers (D.seen disk) d × ¬ IsConfigured bounds (D.seen disk)) }
+        ensures looks { D.honest disk → IfErr result (λ e. (e.1 ≡ OpenFault.Damaged) ⊎ (e.1 ≡ OpenFault.ConfigDiffers) → Looks D.moment D.left D.seen disk e.0) }
+        ensures device { IfErr result (λ e. e.1 ≡ OpenFault.Device → Grew (D.failed disk) (D.failed e.0)) }
     {
-        match Core::start(alloc, bounds, moment) {
-            Ok(core) => Ok(Gateway {
+        match Store::open(alloc, disk, &bounds) {
+            Ok(
+                Opened {
+                    store,
+                    text,
+                    sessions,
+                },
+            ) => match begin(
                 alloc,
-                core,
-                last: 0,
-            }),
-            Err(e) => Err(e),
+                bounds,
+                text,
+                sessions.as_slice(),
+                moment,
+                store.end(),
+            ) {
+                Ok((core, pending)) => Ok(Gateway {
+                    alloc,
+                    store,
+                    core,
+                    last: 0,
+                    pending,
+                }),
+                Err(NoMemory) => Err((store.into_disk(), OpenFault::NoMemory)),
+            },
+            Err(refused) => Err(refused),
         }
     }
 
     /// The text that loaded last; before any has, the empty one.
     pub fn rules(&self) -> &[u8]
-        ensures { result.now ≡ self.now.state.text }
+        ensures { result.now ≡ self.now.told.state.text }
     {
         self.core.rules()
     }
 
-    /// The sessions after the last event, in the order of protocol number, inside and remote endpoint.
+    /// The sessions after the last event that was taken, in the order of protocol number, inside and remote endpoint.
     ///
     /// # Errors
     ///
     /// `NoMemory` where memory for the list is refused. Nothing changes.
     pub fn sessions(&self) -> Result<Vec<Session>, NoMemory>
-        ensures { IfOk result (λ sessions. sessions.items ≡ self.now.state.sessions) }
+        ensures { IfOk result (λ sessions. sessions.items ≡ self.now.told.state.sessions) }
     {
         self.core.sessions()
     }
 
-    /// What every gateway keeps: its state is sound. It does nothing but carry this fact.
+    /// What every gateway keeps: its bounds are a configuration, its state is sound, and its last number has 64 bits. It
+    /// does nothing but carry these facts.
     pub fn facts(&self)
-        ensures { IsSound self.now.config self.now.state }
+        ensures config { IsTrue (is_config self.now.told.config) }
+        ensures sound { IsSound self.now.told.config self.now.told.state }
+        ensures last { self.now.told.last < 2 ^ 64 }
     {
         self.core.facts();
+        fits(self.last);
     }
 
-    /// How many answers are held. Today it is always 0.
+    /// How many answers are held, at most 64.
     pub fn held(&self) -> usize
-        ensures { result ≡ length self.now.held }
+        ensures value { result ≡ length self.now.told.held }
+        ensures few { result ≤ 64 }
     {
-        let _core = &self.core;
-        0
+        self.pending.len()
     }
 
-    /// Hands out the held answers, in order, each with its number. Today there are none.
+    /// How many bytes of groups the active file has: 5 and the body for each.
+    pub fn grown(&self) -> u64
+        ensures { result ≡ self.now.grown }
+    {
+        self.store.grown()
+    }
+
+    /// Whether a call of the disk has failed. Then the gateway can only give its disk back (`into_disk`).
+    pub fn has_fallen(&self) -> bool
+        ensures value { result ≡ self.now.fallen }
+
+        // Until then the files stand for one state, whatever a crash leaves now; the present one, where nothing is held.
+        ensures stands { result ≡ false → D.honest self.now.disk → (first : Durable) × Recovers (D.seen self.now.disk) first
+            × LeavesNow D.moment D.left self.now.disk (λ files. Recovers files first) }
+        ensures present { result ≡ false → D.honest self.now.disk → self.now.told.held ≡ [] → Recovers (D.seen self.now.disk) (lasting self.now.told.state) }
+        ensures configured { result ≡ false → D.honest self.now.disk → LeavesNow D.moment D.left self.now.disk (IsConfigured self.now.told.config) }
+    {
+        self.store.has_fallen()
+    }
+
+    /// Gives the disk back. Answers that are held are lost, and so are the changes of their events.
+    pub fn into_disk(self) -> D
+        ensures { result ≡ self.disk }
+    {
+        let Gateway { store, .. } = self;
+        store.into_disk()
+    }
+
+    /// Takes an event and gives it the next number. It is answered at once exactly where nothing is held and the event
+    /// changes nothing that must survive; otherwise its answer is held. No call of the disk is made.
     ///
     /// # Errors
     ///
-    /// None today.
-    pub fn flush(&mut self) -> Result<Vec<(u64, Answer)>, GatewayFault>
-        ensures ok { IfOk result (λ answers. answers.items ≡ self.old.held) }
-        ensures none { OnOk result (self.new ≡ record self.old { held = [] }) }
-        ensures err { OnErr result (self.new ≡ self.old) }
-        ensures succeeds { IsOk result }
-    {
-        Ok(Vec::new(self.alloc))
-    }
-
-    /// Takes an event, gives it the next number, and answers it.
+    /// The event comes back, and nothing has changed: it has no number, the clock stays, and no session ends. In this
+    /// order:
     ///
-    /// # Errors
-    ///
-    /// The event comes back, and nothing has changed: it has no number, the clock stays, and no session ends.
-    /// `NumbersOut` where the last number was 2^64 - 1; otherwise `NoMemory` where memory is refused, which
-    /// happens only to a load, or where a session ends or begins.
+    /// - `Reopen` exactly where a call of the disk has failed before.
+    /// - `NumbersOut` exactly where the last number was 2^64 - 1.
+    /// - `HeldFull` exactly where 64 answers are held.
+    /// - `Full` only where the entries that wait, and those of this event, would end past the greatest length of a file:
+    ///   14 bytes for each session that ends, and 44 for a packet, or 5 and the text for a text that loads.
+    /// - `NoMemory` where memory is refused; never where nothing is held, and the event brings no text and changes
+    ///   nothing that must survive.
     pub fn offer(&mut self, event: Event) -> Result<Given, (Event, GatewayFault)>
-        ensures took { IfOk result (λ given. Took self.old self.new event given) }
-        ensures now { IfOk result (λ given. self.old.held ≡ [] → self.new.held ≡ []) }
+        ensures disk { self.new.disk ≡ self.old.disk }
+        ensures fallen { self.new.fallen ≡ self.old.fallen }
+        ensures generation { self.new.generation ≡ self.old.generation }
+        ensures grown { self.new.grown ≡ self.old.grown }
+        ensures took { IfOk result (λ given. Took self.old.told self.new.told event given) }
+        ensures now { IfOk result (λ given. (judged : Judged) → IsJudged self.old.told.config event judged
+            → IsNow given ↔ ((self.old.told.held ≡ []) × ¬ HasEntry self.old.told.config self.old.told.state judged)) }
         ensures err { IfErr result (λ e. (e.0 ≡ event) × (self.new ≡ self.old)) }
+        ensures reopen { IfErr result (λ e. (e.1 ≡ GatewayFault.Reopen) ↔ (self.old.fallen ≡ true)) }
+        ensures stood { OnOk result (self.old.fallen ≡ false) }
+        ensures numbers_out { IfErr result (λ e. (e.1 ≡ GatewayFault.NumbersOut) ↔ ((self.old.fallen ≡ false) × (self.old.told.last ≡ 2 ^ 64 - 1))) }
+        ensures numbers_left { OnOk result (self.old.told.last < 2 ^ 64 - 1) }
+        ensures held_full { IfErr result (λ e. (e.1 ≡ GatewayFault.HeldFull)
+            ↔ ((self.old.fallen ≡ false) × (self.old.told.last < 2 ^ 64 - 1) × (length self.old.told.held ≡ 64))) }
+        ensures held_few { OnOk result (length self.old.told.held < 64) }
+        ensures full { IfErr result (λ e. e.1 ≡ GatewayFault.Full → IsTooMuch self.old.filled self.old.told.config self.old.told.state event) }
+        ensures roomy { IsRoomy self.old.filled → IfErr result (λ e. e.1 ≢ GatewayFault.Full) }
+        ensures causes { IfErr result (λ e. (e.1 ≢ GatewayFault.Device) × (e.1 ≢ GatewayFault.Generations)) }
 
-        // A number is wanting exactly where the last one was the greatest u64.
-        ensures numbers_out { IfErr result (λ e. (e.1 ≡ GatewayFault.NumbersOut) ↔ (self.old.last ≡ 2 ^ 64 - 1)) }
-        ensures numbers_left { OnOk result (self.old.last < 2 ^ 64 - 1) }
-        ensures causes { IfErr result (λ e. (e.1 ≡ GatewayFault.NumbersOut) ⊎ (e.1 ≡ GatewayFault.NoMemory)) }
-
-        // Memory is taken only where a text is read, or a session ends or begins.
-        ensures succeeds { self.old.last < 2 ^ 64 - 1 → IsNoLoad event.what → (judged : Judged) → IsJudged self.old.config event judged
-            → EndsNone (later self.old.state.clock event.moment) self.old.state
-            → AddsNone self.old.state (step self.old.config self.old.state judged) → IsOk result }
+        // No memory is taken where nothing must be held.
+        ensures quiet { self.old.fallen ≡ false → self.old.told.last < 2 ^ 64 - 1 → self.old.told.held ≡ [] → IsNoLoad event.what
+            → (judged : Judged) → IsJudged self.old.told.config event judged → ¬ HasEntry self.old.told.config self.old.told.state judged → IsOk result }
     {
+        if self.store.has_fallen() {
+            return Err((event, GatewayFault::Reopen));
+        }
         if self.last == u64::MAX {
             return Err((event, GatewayFault::NumbersOut));
         }
-        match self.core.step(event) {
+        if self.pending.len() >= MOST_HELD {
+            return Err((event, GatewayFault::HeldFull));
+        }
+        self.core.facts();
+        events_are_judged_once();
+        match self.core.step_noted(event, &mut self.pending) {
             Ok(answer) => {
                 self.last += 1;
-                Ok(Given::Now(self.last, answer))
+                Ok(give(&mut self.pending, self.last, answer))
             }
-            Err((event, NoMemory)) => Err((event, GatewayFault::NoMemory)),
+            Err((event, StepFault::Full)) => Err((event, GatewayFault::Full)),
+            Err((event, StepFault::NoMemory)) => Err((event, GatewayFault::NoMemory)),
         }
     }
 
-    /// Takes the events in turn, and hands out the held answers and theirs, each with its number.
+    /// Writes the entries of all held events as one group, syncs it, and hands out the held answers, in order, each with
+    /// its number. Where nothing is held it hands out none, and no call of the disk is made; otherwise four are. It
+    /// takes no memory.
     ///
     /// # Errors
     ///
-    /// The answers so far, and the fault of the first event that isn't taken: `NumbersOut` or `NoMemory`. The
-    /// events before it are taken; it and those behind it are not, and don't come back. `NoMemory` with no
-    /// answer also comes where memory for the answers is refused, before any event.
+    /// The answers stay held.
+    ///
+    /// - `Reopen` exactly where a call of the disk has failed before. The disk stays.
+    /// - `Device` where a call of the disk has failed. The gateway has fallen.
+    pub fn flush(&mut self) -> Result<Vec<(u64, Answer)>, GatewayFault>
+        ensures honest { D.honest self.old.disk ↔ D.honest self.new.disk }
+
+        // A crash at any moment leaves the state that the files stood for, or the present one.
+        ensures any_moment { self.old.fallen ≡ false → D.honest self.old.disk → (first : Durable) → Recovers (D.seen self.old.disk) first
+            → LeavesOnly D.moment D.left self.old.disk self.new.disk (RecoversEither first (lasting self.old.told.state)) }
+        ensures configured { self.old.fallen ≡ false → D.honest self.old.disk
+            → LeavesOnly D.moment D.left self.old.disk self.new.disk (IsConfigured self.old.told.config) }
+
+        // After Ok the present one is left.
+        ensures ok { D.honest self.old.disk → OnOk result (LeavesNow D.moment D.left self.new.disk (λ files. Recovers files (lasting self.old.told.state))) }
+        ensures reads { D.honest self.old.disk → OnOk result (Recovers (D.seen self.new.disk) (lasting self.old.told.state)) }
+        ensures answers { IfOk result (λ answers. answers.items ≡ self.old.told.held) }
+        ensures none { OnOk result (self.new.told ≡ record self.old.told { held = [] }) }
+        ensures generation { self.new.generation ≡ self.old.generation }
+        ensures err { OnErr result (self.new.told ≡ self.old.told) }
+        ensures reopen { IsErrOf result GatewayFault.Reopen ↔ (self.old.fallen ≡ true) }
+        ensures reopen_stays { IsErrOf result GatewayFault.Reopen → self.new ≡ self.old }
+        ensures fell { IsErrOf result GatewayFault.Device ↔ ((self.old.fallen ≡ false) × (self.new.fallen ≡ true)) }
+        ensures causes { IfErr result (λ e. (e ≡ GatewayFault.Reopen) ⊎ (e ≡ GatewayFault.Device)) }
+        ensures device { IsErrOf result GatewayFault.Device → Grew (D.failed self.old.disk) (D.failed self.new.disk) }
+        ensures no_failure { OnOk result (D.failed self.new.disk ≡ D.failed self.old.disk) }
+        ensures idle { self.old.told.held ≡ [] → (self.new.disk ≡ self.old.disk) × (self.new.filled ≡ self.old.filled) }
+        ensures called { D.honest self.old.disk → self.old.told.held ≢ [] → OnOk result (Called 4 (D.called self.old.disk) (D.called self.new.disk)) }
+    {
+        if self.store.has_fallen() {
+            return Err(GatewayFault::Reopen);
+        }
+        if self.pending.is_quiet() {
+            return Ok(Vec::new(self.alloc));
+        }
+        match self.store.commit(self.pending.group()) {
+            Ok(()) => Ok(self.pending.release(self.store.end())),
+            Err(CommitFault::Device) => Err(GatewayFault::Device),
+            Err(CommitFault::Full) => unreachable!(),
+        }
+    }
+
+    /// Makes the file that isn't active anew, with a snapshot of what must survive, and no groups; then it is the active
+    /// one. Nothing is held. Afterwards no single event is refused as `Full`. It makes six calls of the disk.
+    ///
+    /// # Errors
+    ///
+    /// - `Reopen` exactly where a call of the disk has failed before. Nothing changes.
+    /// - `NoMemory` where memory is refused. Nothing changes.
+    /// - `Device` where a call of the disk has failed. The gateway has fallen; the files stand for the same state.
+    /// - `Generations` only where the active file has the greatest generation, 2^64 - 1. Nothing changes.
+    pub fn compact(&mut self) -> Result<(), GatewayFault>
+        requires { self.old.told.held ≡ [] }
+        ensures honest { D.honest self.old.disk ↔ D.honest self.new.disk }
+        ensures told { self.new.told ≡ self.old.told }
+
+        // A crash at any moment leaves the present state.
+        ensures any_moment { self.old.fallen ≡ false → D.honest self.old.disk
+            → LeavesOnly D.moment D.left self.old.disk self.new.disk (λ files. Recovers files (lasting self.old.told.state)) }
+        ensures configured { self.old.fallen ≡ false → D.honest self.old.disk
+            → LeavesOnly D.moment D.left self.old.disk self.new.disk (IsConfigured self.old.told.config) }
+        ensures grown { OnOk result (self.new.grown ≡ 0) }
+        ensures generation { OnOk result (self.new.generation ≡ self.old.generation + 1) }
+        ensures generations { IsErrOf result GatewayFault.Generations → self.old.generation ≡ 2 ^ 64 - 1 }
+        ensures roomy { OnOk result (IsRoomy self.new.filled) }
+        ensures stays { IfErr result (λ e. e ≢ GatewayFault.Device → self.new ≡ self.old) }
+        ensures reopen { IsErrOf result GatewayFault.Reopen ↔ (self.old.fallen ≡ true) }
+        ensures fell { IsErrOf result GatewayFault.Device ↔ ((self.old.fallen ≡ false) × (self.new.fallen ≡ true)) }
+        ensures causes { IfErr result (λ e. (e ≡ GatewayFault.Reopen) ⊎ (e ≡ GatewayFault.NoMemory) ⊎ (e ≡ GatewayFault.Device) ⊎ (e ≡ GatewayFault.Generations)) }
+        ensures device { IsErrOf result GatewayFault.Device → Grew (D.failed self.old.disk) (D.failed self.new.disk) }
+        ensures no_failure { OnOk result (D.failed self.new.disk ≡ D.failed self.old.disk) }
+        ensures called { D.honest self.old.disk → OnOk result (Called 6 (D.called self.old.disk) (D.called self.new.disk)) }
+    {
+        if self.store.has_fallen() {
+            return Err(GatewayFault::Reopen);
+        }
+        self.core.facts();
+        let Ok(sessions) = lasting_sessions(&self.core) else {
+            return Err(GatewayFault::NoMemory);
+        };
+        match self
+            .store
+            .compact(self.alloc, self.core.rules(), sessions.as_slice())
+        {
+            Ok(()) => {
+                let _ = self.pending.release(self.store.end());
+                Ok(())
+            }
+            Err(CompactFault::NoMemory) => Err(GatewayFault::NoMemory),
+            Err(CompactFault::Device) => Err(GatewayFault::Device),
+            Err(CompactFault::Generations) => Err(GatewayFault::Generations),
+        }
+    }
+
+    /// Takes the events in turn, and hands out the held answers and theirs, in order, each with its number. Where 64
+    /// answers are held it flushes; where an event is refused as `Full` it flushes, compacts, and offers the event
+    /// again; and it flushes at the end. Room for the answers is asked for first.
+    ///
+    /// # Errors
+    ///
+    /// The answers that were handed out so far, and why the run ended: `Reopen`, `NumbersOut`, `NoMemory`, `Device` or
+    /// `Generations`. A beginning of the events is taken; those behind it are not, and don't come back. Answers of
+    /// events that were taken and are not handed out stay held. `Reopen` comes exactly where a call of the disk had
+    /// failed before the run; then nothing changes.
     pub fn run(
         &mut self,
         events: Vec<Event>,
     ) -> Result<Vec<(u64, Answer)>, (Vec<(u64, Answer)>, GatewayFault)>
-        ensures ok { IfOk result (λ answers. TookAll self.old self.new events.items answers.items) }
-        ensures none { OnOk result (self.new.held ≡ []) }
-        ensures err { IfErr result (λ e. TookFirst self.old self.new events.items e.0.items) }
-        ensures causes { IfErr result (λ e. (e.1 ≡ GatewayFault.NumbersOut) ⊎ (e.1 ≡ GatewayFault.NoMemory)) }
-        ensures numbers_out { IfErr result (λ e. e.1 ≡ GatewayFault.NumbersOut → self.new.last ≡ 2 ^ 64 - 1) }
+        ensures honest { D.honest self.old.disk ↔ D.honest self.new.disk }
+        ensures ok { IfOk result (λ answers. TookAll self.old.told self.new.told events.items answers.items) }
+        ensures none { OnOk result (self.new.told.held ≡ []) }
+        ensures err { IfErr result (λ e. TookFirst self.old.told self.new.told events.items e.0.items) }
+
+        // A crash at any moment leaves what the model has after a beginning of the events.
+        ensures any_moment { IsReady D.honest self.old
+            → LeavesOnly D.moment D.left self.old.disk self.new.disk (IsSafe self.old.told.config self.old.told.state events.items 0) }
+
+        // A crash at the exit leaves that of a beginning which holds every event whose answer was handed out.
+        ensures at_exit { IsReady D.honest self.old → MatchResult result
+            (λ answers. LeavesNow D.moment D.left self.new.disk (IsSafe self.old.told.config self.old.told.state events.items (length answers.items)))
+            (λ e. LeavesNow D.moment D.left self.new.disk (IsSafe self.old.told.config self.old.told.state events.items (length e.0.items))) }
+        ensures configured { self.old.fallen ≡ false → D.honest self.old.disk
+            → LeavesOnly D.moment D.left self.old.disk self.new.disk (IsConfigured self.old.told.config) }
+        ensures reopen { IfErr result (λ e. (e.1 ≡ GatewayFault.Reopen) ↔ (self.old.fallen ≡ true)) }
+        ensures reopen_stays { self.old.fallen ≡ true → self.new ≡ self.old }
+        ensures stood { OnOk result (self.old.fallen ≡ false) }
+        ensures causes { IfErr result (λ e. (e.1 ≢ GatewayFault.HeldFull) × (e.1 ≢ GatewayFault.Full)) }
+        ensures numbers_out { IfErr result (λ e. e.1 ≡ GatewayFault.NumbersOut → self.new.told.last ≡ 2 ^ 64 - 1) }
+        ensures fell { IfErr result (λ e. (e.1 ≡ GatewayFault.Device) ↔ ((self.old.fallen ≡ false) × (self.new.fallen ≡ true))) }
+        ensures device { IfErr result (λ e. e.1 ≡ GatewayFault.Device → Grew (D.failed self.old.disk) (D.failed self.new.disk)) }
     {
-        let mut answers = match Vec::with_capacity(self.alloc, events.len()) {
-            Ok(answers) => answers,
-            Err(_) => return Err((Vec::new(self.alloc), GatewayFault::NoMemory)),
-        };
-        for event in events {
-            match self.offer(event) {
-                Ok(given) => hand_out(&mut answers, given),
-                Err((_, fault)) => return Err((answers, fault)),
-            }
+        if self.has_fallen() {
+            return Err((Vec::new(self.alloc), GatewayFault::Reopen));
         }
-        Ok(answers)
+        let Ok(mut answers) = Vec::with_capacity(self.alloc, self.held() + events.len()) else {
+            return Err((Vec::new(self.alloc), GatewayFault::NoMemory));
+        };
+        match take_all(self, events, &mut answers) {
+            Ok(()) => Ok(answers),
+            Err(fault) => Err((answers, fault)),
+        }
     }
 }
 
-fn hand_out(answers: &mut Vec<(u64, Answer)>, given: Given)
-    requires { vec_len answers.old + 1 ≤ vec_capacity answers.old }
-    ensures items { answers.new.items ≡ answers.old.items ++ handed given }
-    ensures len { vec_len answers.new ≤ vec_len answers.old + 1 }
-    ensures capacity { vec_capacity answers.old ≤ vec_capacity answers.new }
+// A core that begins again from what survived, with nothing held; the next group will stand at the place.
+fn begin(
+    alloc: Global,
+    bounds: Bounds,
+    text: Vec<u8>,
+    sessions: &[Session],
+    moment: u64,
+    place: u64,
+) -> Result<(Core, Pending), NoMemory>
+    requires { IsDurable bounds (durable text.items sessions.now) }
+    ensures config { IfOk result (λ r. r.0.config ≡ bounds) }
+    ensures state { IfOk result (λ r. IsRestarted bounds (durable text.items sessions.now) moment r.0.state) }
+    ensures pending { IfOk result (λ r. r.1 ≡ record { held = []; entries = []; place = place; granted = 0 }) }
 {
-    if let Given::Now(number, answer) = given {
-        let _ = answers.push((number, answer));
+    let core = Core::resume(alloc, bounds, text, sessions, moment)?;
+    match Pending::new(alloc, place) {
+        Ok(pending) => Ok((core, pending)),
+        Err(_) => Err(NoMemory),
+    }
+}
+
+// Hands out an answer at once where no entry waits, and holds it otherwise.
+fn give(pending: &mut Pending, number: u64, answer: Answer) -> Given
+    requires few { length pending.old.held < 64 }
+    ensures order { handed result ++ pending.new.held ≡ pending.old.held ++ (number, answer) ∷ [] }
+    ensures number { number_of result ≡ number }
+    ensures now { IsNow result ↔ (pending.old.entries ≡ []) }
+    ensures quiet { IsNow result → pending.old.held ≡ [] }
+    ensures none { pending.new.held ≡ [] → pending.new.entries ≡ [] }
+    ensures entries { pending.new.entries ≡ pending.old.entries }
+    ensures place { pending.new.place ≡ pending.old.place }
+{
+    if pending.is_quiet() {
+        return Given::Now(number, answer);
+    }
+    pending.hold(number, answer);
+    Given::Held(number)
+}
+
+// The sessions without when their last packets passed.
+fn lasting_sessions(core: &Core) -> Result<Vec<Session>, NoMemory>
+    ensures { IfOk result (λ sessions. sessions.items ≡ map stilled core.now.state.sessions) }
+{
+    match core.sessions() {
+        Ok(mut sessions) => {
+            forget_moments(sessions.as_mut_slice());
+            Ok(sessions)
+        }
+        Err(NoMemory) => Err(NoMemory),
+    }
+}
+
+// A number of this type has 64 bits.
+fn fits(number: u64)
+    ensures { number < 2 ^ 64 }
+{}
+
+// Forgets when the last packets of the sessions passed.
+fn forget_moments(sessions: &mut [Session])
+    ensures { sessions.new ≡ map stilled sessions.old }
+{
+    for session in sessions.iter_mut() {
+        session.last = 0;
     }
 }

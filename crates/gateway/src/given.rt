@@ -6,6 +6,6 @@ use machine::Answer;
 pub enum Given {
     /// It is answered.
     Now(u64, Answer),
-    /// The next flush hands out its answer. No gateway gives this yet: it is for one over a disk.
+    /// The next flush that succeeds hands out its answer.
     Held(u64),
 }

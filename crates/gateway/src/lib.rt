@@ -1,18 +1,24 @@
-//! The gateway: events in, numbered answers out.
+//! The gateway over a disk: events in, numbered answers out, and what must survive in two files.
 //!
-//! What an event does to the state is the step of crate `machine`.
+//! What an event does to the state is the step of crate `machine`. An answer is held until the entries of its event
+//! lie synced in a file (crate `snapshot`); one whose event has none is handed out at once, if none is held before it.
 //!
 //! - `given`, `fault`: what becomes of an event, and why it isn't taken.
-//! - `gateway_core`: `Gateway`, a `Core` that numbers its events. Callers use this one.
+//! - `pending`: the answers that are held, and the entries of their events.
+//! - `gateway_core`: `Gateway`.
+//! - `running`: a run of events over the gateway's calls, event by event.
+//! - `laws`: what holds after any of its calls.
 #![tactic(auto)]
 
 mod fault;
 mod gateway_core;
 mod given;
-#[cfg(test)]
-mod tests;
+pub mod laws;
+mod pending;
+pub mod running;
 
 pub use fault::GatewayFault;
 pub use gateway_core::Gateway;
 pub use given::Given;
-pub use machine::{Answer, Bytes, Cause, Event, Iface, NoMemory, Session, What, laws};
+pub use machine::{Answer, Bytes, Cause, Event, Iface, NoMemory, Session, What};
+pub use snapshot::OpenFault;

@@ -1,7 +1,8 @@
 //! What each command does.
 use crate::config;
-use crate::options::{Options, Sides, Task};
+use crate::options::{Opening, Options, Task};
 use crate::refusal::Refusal;
+use file_disk::FileDisk;
 use gateway::Gateway;
 use packet::bounds::Bounds;
 use rulesyntax::GREATEST_LENGTH;
@@ -23,17 +24,53 @@ const TEXT_LIMIT: u64 = GREATEST_LENGTH as u64;
 /// - `Config` where the options are no configuration, before anything else.
 /// - Of `check`: `File` where the file can't be opened or read, also for want of memory; `NoMemory`; `Output` where
 ///   the finding can't be printed.
-/// - Of `replay`: those of `replay` below. What was answered before is written.
+/// - Of `replay` and `show`: `File` where the directory's files can't be opened or another program has them; `Device`,
+///   `Damaged`, `ConfigDiffers` or `NoMemory` where no gateway opens over them; `Output` where a list can't be printed.
+/// - Of `replay` also the fault of the edge (`socket_edge::run`) by its word. What was answered before is written.
 pub fn run(rt: &HostRuntime, options: &Options<'_>) -> Result<ExitCode, Refusal> {
     let alloc = rt.alloc();
     let bounds = config::bounds(alloc, &options.sides)?;
     match options.task {
         Task::Check { text } => check(rt, text, &bounds),
-        Task::Replay { moment } => {
-            replay(alloc, bounds, moment, &mut rt.stdin(), &mut rt.stdout())?;
+        Task::Replay { opening } => {
+            let mut gateway = open(rt, bounds, opening)?;
+            match socket_edge::run(alloc, &mut rt.stdin(), &mut rt.stdout(), &mut gateway) {
+                Ok(_) => Ok(ExitCode::SUCCESS),
+                Err(fault) => Err(Refusal::of_edge(fault)),
+            }
+        }
+        Task::Show { opening } => {
+            show(rt, &open(rt, bounds, opening)?)?;
             Ok(ExitCode::SUCCESS)
         }
     }
+}
+
+/// Opens a gateway over the files of a directory.
+fn open(
+    rt: &HostRuntime,
+    bounds: Bounds,
+    opening: Opening<'_>,
+) -> Result<Gateway<FileDisk>, Refusal> {
+    let Ok(disk) = FileDisk::open(rt, opening.directory) else {
+        return Err(Refusal::File);
+    };
+    match Gateway::open(rt.alloc(), disk, bounds, opening.moment) {
+        Ok(gateway) => Ok(gateway),
+        Err((_, fault)) => Err(Refusal::of_opening(fault)),
+    }
+}
+
+/// Prints the lines of the sessions.
+fn show(rt: &HostRuntime, gateway: &Gateway<FileDisk>) -> Result<(), Refusal> {
+    let Ok(sessions) = gateway.sessions() else {
+        return Err(Refusal::NoMemory);
+    };
+    let mut lines = Vec::new(rt.alloc());
+    session_lines::put_lines(&mut lines, sessions.as_slice())?;
+    rt.stdout()
+        .write_all(lines.as_slice())
+        .map_err(|_| Refusal::Output)
 }
 
 /// The bytes of a ruleset's file, and one more than the limit where it has more.
@@ -88,26 +125,4 @@ fn refused(alloc: Global, fault: LoadFault) -> Result<Finding, Refusal> {
     }
     let line = format!(in alloc; "{fault}")?;
     Ok(Finding { loads: false, line })
-}
-
-/// Answers the request frames of the input on the output, by a gateway that opens at this moment, in seconds.
-///
-/// # Errors
-///
-/// The fault of the edge (`socket_edge::run`) by its word: `BadKind`, `BadInterface`, `TooLong`, `Truncated`, `Input`,
-/// `Output`, `NumbersOut` or `NoMemory`; also `NoMemory` where there is no memory for a gateway.
-pub fn replay<R: Read, W: Write>(
-    alloc: Global,
-    bounds: Bounds,
-    moment: u64,
-    input: &mut R,
-    output: &mut W,
-) -> Result<(), Refusal> {
-    let Ok(mut gateway) = Gateway::start(alloc, bounds, moment) else {
-        return Err(Refusal::NoMemory);
-    };
-    match socket_edge::run(alloc, input, output, &mut gateway) {
-        Ok(_) => Ok(()),
-        Err(fault) => Err(Refusal::of_edge(fault)),
-    }
 }

@@ -1,7 +1,8 @@
 //! The program `natgw`: its commands over the standard streams and files. No other crate meets the system.
 //!
 //! - `natgw check FILE` says whether a ruleset would load;
-//! - `natgw replay` answers request frames on standard input by answer frames on standard output.
+//! - `natgw replay` answers request frames on standard input by answer frames on standard output;
+//! - `natgw show` lists the sessions that the files of a directory keep.
 //!
 //! The modules:
 //!

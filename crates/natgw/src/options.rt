@@ -21,8 +21,19 @@ pub struct Sides<'a> {
 pub enum Task<'a> {
     /// Says whether the ruleset of this file would load.
     Check { text: &'a str },
-    /// Answers the frames of standard input; the gateway opens at this moment, in seconds.
-    Replay { moment: u64 },
+    /// Answers the frames of standard input, by a gateway that opens so.
+    Replay { opening: Opening<'a> },
+    /// Lists the sessions of a gateway that opens so.
+    Show { opening: Opening<'a> },
+}
+
+/// How a gateway opens.
+#[derive(Clone, Copy, Debug, Drop)]
+pub struct Opening<'a> {
+    /// The directory of its two files.
+    pub directory: &'a str,
+    /// The moment, in seconds.
+    pub moment: u64,
 }
 
 /// A command line that was read.
@@ -63,7 +74,16 @@ An answer frame is:
                       dropped: the number of the cause (1 byte)
 
 Example: answers the frames of a file.
-  natgw replay --inside 192.168.0.0/16 --external 203.0.113.1 < requests > answers";
+  natgw replay --dir state --inside 192.168.0.0/16 --external 203.0.113.1 < requests > answers";
+
+const SHOW: &str = "Lists the sessions that the two files keep";
+
+const COLUMNS: &str = "\
+One line a session: the protocol, the inside, the outside and the remote endpoint, and partial,
+established or closing, or - for UDP.
+
+Example:
+  natgw show --dir state --inside 192.168.0.0/16 --external 203.0.113.1";
 
 const CHECK: &str = "Says whether a ruleset would load: ok, or the line and the kind of its fault";
 
@@ -133,11 +153,17 @@ fn sided<'a>(alloc: Global, name: &'a str, about: &'a str) -> Result<Command<'a>
 }
 
 /// A command that opens a gateway.
-fn opening<'a>(alloc: Global, name: &'a str, about: &'a str) -> Result<Command<'a>, AllocError> {
+fn opens<'a>(alloc: Global, name: &'a str, about: &'a str) -> Result<Command<'a>, AllocError> {
     let moment = defaulted(alloc, "at", "N", "0", "The opening moment, in seconds").value_parser(
         value_parser!(u64),
     );
-    sided(alloc, name, about)?.arg(moment)
+    let directory = required(
+        alloc,
+        "dir",
+        "DIR",
+        "The directory of natgw.a and natgw.b, which are made where they are missing",
+    );
+    sided(alloc, name, about)?.arg(directory)?.arg(moment)
 }
 
 fn file<'a>(alloc: Global) -> Arg<'a> {
@@ -158,7 +184,8 @@ fn command_line<'a>(alloc: Global) -> Result<Command<'a>, AllocError> {
                 .arg(file(alloc))?
                 .after_help(KINDS),
         )?
-        .subcommand(opening(alloc, "replay", REPLAY)?.after_help(FRAMES))
+        .subcommand(opens(alloc, "replay", REPLAY)?.after_help(FRAMES))?
+        .subcommand(opens(alloc, "show", SHOW)?.after_help(COLUMNS))
 }
 
 fn read_sides<'a>(matches: &ArgMatches<'a>) -> Sides<'a> {
@@ -170,8 +197,11 @@ fn read_sides<'a>(matches: &ArgMatches<'a>) -> Sides<'a> {
     }
 }
 
-fn read_moment<'a>(matches: &ArgMatches<'a>) -> u64 {
-    matches.get_one::<u64>("at").unwrap_or(0)
+fn read_opening<'a>(matches: &ArgMatches<'a>) -> Opening<'a> {
+    Opening {
+        directory: matches.get_str("dir").unwrap_or(""),
+        moment: matches.get_one::<u64>("at").unwrap_or(0),
+    }
 }
 
 fn read_task<'a>(name: &str, matches: &ArgMatches<'a>) -> Task<'a> {
@@ -179,8 +209,11 @@ fn read_task<'a>(name: &str, matches: &ArgMatches<'a>) -> Task<'a> {
         "check" => Task::Check {
             text: matches.get_str("FILE").unwrap_or(""),
         },
+        "show" => Task::Show {
+            opening: read_opening(matches),
+        },
         _ => Task::Replay {
-            moment: read_moment(matches),
+            opening: read_opening(matches),
         },
     }
 }

@@ -2,21 +2,18 @@
 ghost use Rattle.std.specs.Prelude.{◌≡◌, ◌≢◌};
 ghost use Rattle.natgw.specs.declared.refusal.Refusal.TheVariants.{NoMemory};
 
-use gateway::GatewayFault;
+use gateway::{GatewayFault, OpenFault};
 use socket_edge::EdgeFault;
 use std::alloc::{AllocError, AllocFailed};
 use thiserror::Error;
 
 /// Why a command gives up, with status 1. The word of each is what is printed.
-///
-/// `Device`, `Full`, `Damaged`, `ConfigDiffers`, `Generations` and `Reopen` don't come yet: they are for a gateway
-/// over a disk.
 #[derive(Clone, Copy, Debug, PartialEq, Eq, Drop, Error)]
 pub enum Refusal {
     /// The options are no configuration.
     #[error("config")]
     Config,
-    /// The ruleset's file can't be opened or read.
+    /// The ruleset's file can't be opened or read, or the files of the directory can't be had.
     #[error("file")]
     File,
     /// A call of the disk failed.
@@ -92,6 +89,16 @@ impl Refusal {
             GatewayFault::NoMemory => Refusal::NoMemory,
             GatewayFault::Device => Refusal::Device,
             GatewayFault::Generations => Refusal::Generations,
+        }
+    }
+
+    /// The word for an opening that failed.
+    pub fn of_opening(fault: OpenFault) -> Refusal {
+        match fault {
+            OpenFault::Device => Refusal::Device,
+            OpenFault::Damaged => Refusal::Damaged,
+            OpenFault::ConfigDiffers => Refusal::ConfigDiffers,
+            OpenFault::NoMemory => Refusal::NoMemory,
         }
     }
 

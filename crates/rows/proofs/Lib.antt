@@ -1,3 +1,4 @@
+pub mod Searches
 pub mod Numbers
 pub mod Lookups
 pub mod Pieces

@@ -1,7 +1,7 @@
 //! Rows that rise: an ordered map from keys of 128 bits to slots, for great tables.
 //!
-//! The entries lie in runs of at most 64, rising by their keys. A look-up halves among the runs and then
-//! in one run. An insertion and a removal move the entries of one run alone; a full run is cut in two,
+//! The entries lie in runs of at most 64, rising by their keys. A look-up counts by steps among the runs and
+//! then in one run. An insertion and a removal move the entries of one run alone; a full run is cut in two,
 //! and of two neighbours that are thin one takes the other in. A key behind a full run goes into the next
 //! one, or a new one, so that keys that rise or fall leave full runs behind them. A run that is no more
 //! needed is kept as a spare one, so that room once made stays. Short runs are what churn wants: a change moves at most
@@ -9,6 +9,7 @@
 //!
 //! - `cell`: an entry as the runs keep it
 //! - `runs`: the runs, and what is done to them
+//! - `search`: how a run is found, and a place in it
 //! - `walk`: the entries in order
 //! - `specs/Held`: the entries, as contracts see them
 #![tactic(auto)]
@@ -19,6 +20,7 @@ ghost use Rattle.rows.specs.Walk.{rest};
 
 mod cell;
 mod runs;
+mod search;
 #[cfg(test)]
 mod tests;
 mod walk;
@@ -77,7 +79,8 @@ impl Rows {
         }
     }
 
-    /// The value of the key, if an entry has it. It takes a halving among the runs, and one in a run.
+    /// The value of the key, if an entry has it. It takes a search among the runs, and one in a run: a step for
+    /// each 64 runs, and at most some thirty more.
     pub fn get(&self, key: u128) -> Option<usize>
         ensures { result ≡ at self.now key }
     {

@@ -7,6 +7,7 @@ ghost use Rattle.rows.specs.Order.{held_in, AreOrdered, AreKeysRising, AreSound,
 ghost use Rattle.rows.specs.declared.runs.Run.{Run as Span};
 
 use crate::cell::Cell;
+use crate::search::count_before;
 use crate::{Entry, Walk};
 use std::alloc::{AllocError, Global};
 
@@ -27,7 +28,7 @@ fn runs_up_to(runs: &[Run], key: u128) -> usize
     ensures before { AllWithin (λ (r : Run). r.low ≤ key) runs.now 0 result }
     ensures after { AllWithin (λ (r : Run). key < r.low) runs.now result (length runs.now) }
 {
-    runs.partition_point(|run| run.low <= key)
+    count_before(runs, |run| run.low <= key)
 }
 
 // How many entries have a smaller key.
@@ -35,7 +36,7 @@ fn place_of(entries: &[Cell], key: u128) -> usize
     requires { AreKeysRising entries.now }
     ensures { IsPlaceFor entries.now key result }
 {
-    entries.partition_point(|entry| entry.key() < key)
+    count_before(entries, |entry| entry.key() < key)
 }
 
 // The place of the entry that has the key.

@@ -1,11 +1,16 @@
 -- The end of the frames at the front.
-use Rattle.std.proofs.Common.{◌≡◌, ◌≢◌, ℕ, List, [], ◌++◌, take, drop, arith, inl, inr, refl, sym, ap, ◌∙◌, append_assoc, subst, Result, Ok, Err}
+use Rattle.std.proofs.Common.{◌≡◌, ◌≢◌, ◌≤◌, ℕ, List, [], ◌++◌, true, false, inl, inr, refl, sym, ap, ◌∙◌, arith, append_assoc, subst, Result, Ok, Err}
 use Rattle.std.specs.List.{flat_map}
-use Rattle.std.proofs.lemmas.List.{append-nil, take-append-drop}
-use Rattle.std.proofs.lemmas.List.Concat.{flat_map-append}
+use Rattle.std.proofs.lemmas.List.{append-nil}
+use Rattle.disk_model.specs.Disk.{Files}
+use Rattle.machine.specs.declared.event.Answer.{Answer}
 use Rattle.machine.specs.declared.event.Event.{Event}
 use Rattle.gateway.specs.declared.fault.GatewayFault.{GatewayFault}
-use Rattle.gateway.specs.Told.{Told}
+use Rattle.gateway.specs.declared.fault.GatewayFault.TheVariants as fault
+use Rattle.gateway.specs.Kept.{Kept}
+use Rattle.gateway.specs.Running.{Stands, Stops, Ends, IsWhy, CarriesOn, BreaksOff}
+use Rattle.gateway.specs.Told.{Told, TookAll}
+use Rattle.gateway.proofs.Runs.{ended, true-false}
 use Rattle.socket_edge.specs.declared.fault.HeaderFault.{HeaderFault}
 use Rattle.socket_edge.specs.declared.fault.HeaderFault.TheVariants as header
 use Rattle.socket_edge.specs.declared.fault.EdgeFault.{EdgeFault}
@@ -14,10 +19,11 @@ use Rattle.socket_edge.specs.declared.serving.Stop.{Stop}
 use Rattle.socket_edge.specs.declared.serving.Stop.TheVariants as stop
 use Rattle.socket_edge.specs.Requests.{Cut, Bad, next}
 use Rattle.socket_edge.specs.Framing.{Framed, Rest, Fault, behind, framed}
-use Rattle.socket_edge.specs.Answering.{frame, Progress, Begun, BeginsFrames}
-use Rattle.socket_edge.specs.Running.{Comes, Answered, Reads, Offered, end_of, Closed}
+use Rattle.socket_edge.specs.Answering.{frame, Progress, AnsweredFirst, BeginsFrames}
+use Rattle.socket_edge.specs.Running.{Answered, Closed, Explains, Fares, IsBad, IsRefused, IsSettled, Offered, Reads, Served, SettledAndSent, end_of, events_in}
 use Rattle.socket_edge.proofs.Frames.{framed_cut, framed_bad, Reads-is}
-use Rattle.socket_edge.proofs.Answers.{Progress-still, Begun-of, Begun-then, Begun-more, all_sent}
+use Rattle.socket_edge.proofs.Answers.{AnsweredFirst-told, BeginsFrames-told, Progress-told, all_sent}
+use Rattle.socket_edge.proofs.Lasting.{fares}
 
 -- what the bytes are, where no whole frame is left
 pub framed_then_cut : (bytes rest : List ℕ) (events : List Event) → Reads bytes events rest → next rest ≡ Cut → framed bytes ≡ record { events = events; stop = Rest rest }
@@ -30,99 +36,216 @@ framed_then_bad bytes rest events fault r e = Reads-is bytes events rest r ∙ a
 pub Answered-of : (old new : Told) (bytes sent : List ℕ) → Progress old new (framed bytes).events [] sent → (old.held ≡ [] → new.held ≡ []) → Answered old new bytes sent
 Answered-of old new bytes sent p none = record { progress = p; none = none; all = all_sent old new (framed bytes).events sent p none }
 
--- a beginning of the answers to some of the bytes' events
-pub begun_framed : (old new : Told) (bytes later : List ℕ) (events : List Event) (a b : List ℕ) → Reads bytes events later → Begun old new events a b → Begun old new (framed bytes).events a b
-begun_framed old new bytes later events a b r p =
-    subst (λ (f : Framed). Begun old new f.events a b) (sym (Reads-is bytes events later r)) (Begun-more old new events (framed later).events a b p)
+-- the events of the bytes are those of a front, and those behind it
+pub events_then : (bytes later : List ℕ) (events : List Event) → Reads bytes events later → events_in bytes ≡ events ++ events_in later
+events_then bytes later events r = ap (λ (f : Framed). f.events) (Reads-is bytes events later r)
 
-bad_closes : (old now new : Told) (bytes rest : List ℕ) (events : List Event) (fault : HeaderFault) (b c : List ℕ) → Reads bytes events rest → next rest ≡ Bad fault → Progress old now events [] b → Progress now new [] b c → new.held ≡ []
-    → ((framed bytes).stop ≡ Fault fault) × Answered old new bytes c
-bad_closes old now new bytes rest events fault b c r e p q h =
-    let f = framed_then_bad bytes rest events fault r e in
-    (ap (λ (x : Framed). x.stop) f, Answered-of old new bytes c (subst (λ (x : Framed). Progress old new x.events [] c) (sym f) (Progress-still old now new events [] b c p q)) (λ _. h))
+pub events_cut : (bytes rest : List ℕ) (events : List Event) → Reads bytes events rest → next rest ≡ Cut → events_in bytes ≡ events
+events_cut bytes rest events r e = ap (λ (f : Framed). f.events) (framed_then_cut bytes rest events r e)
 
--- numbers stay out where the last number stays
-Comes-still : (fault : GatewayFault) (now new : Told) → new.last ≡ now.last → Comes fault now → Comes fault new
-Comes-still fault now new e (inl h) = inl h
-Comes-still fault now new e (inr h) = inr (h.0, e ∙ h.1)
+pub events_bad : (bytes rest : List ℕ) (events : List Event) (fault : HeaderFault) → Reads bytes events rest → next rest ≡ Bad fault → events_in bytes ≡ events
+events_bad bytes rest events fault r e = ap (λ (f : Framed). f.events) (framed_then_bad bytes rest events fault r e)
 
--- no answer was lost
-abbrev pub IsKept : Stop → Type 0
-IsKept stop.Cut = Unit {0}
-IsKept (stop.Bad fault) = Unit {0}
-IsKept (stop.Refused fault) = Unit {0}
-IsKept (stop.Lost fault) = ⊥
+all_of : (events : List Event) (all : List Event) → all ≡ events → all ≡ events ++ []
+all_of events all e = e ∙ sym (append-nil events)
 
-pub kept : (s : Stop) → ((fault : GatewayFault) → s ≢ stop.Lost fault) → IsKept s
-kept stop.Cut n = tt
-kept (stop.Bad fault) n = tt
-kept (stop.Refused fault) n = tt
-kept (stop.Lost fault) n = absurd (n fault refl)
+split_more : (all events front back more : List Event) → all ≡ events ++ more → events ≡ front ++ back → all ≡ front ++ (back ++ more)
+split_more all events front back more e split = e ∙ ap (λ (xs : List Event). xs ++ more) split ∙ append_assoc front back more
 
-pub closes : (s : Stop) (old now new : Told) (bytes rest : List ℕ) (count : ℕ) (b c : List ℕ) → IsKept s → Offered s bytes rest count old now [] b → Progress now new [] b c → new.held ≡ []
-    → Closed (end_of s) old new bytes rest c count
-closes stop.Cut old now new bytes rest count b c n o q h =
-    record { events = o.0; reads = o.1; cut = o.2; count_is = o.3; progress = Progress-still old now new o.0 [] b c o.4 q; none = λ _. h }
-closes (stop.Bad header.BadKind) old now new bytes rest count b c n o q h = bad_closes old now new bytes rest o.0 header.BadKind b c o.1 o.2 o.3 q h
-closes (stop.Bad header.BadInterface) old now new bytes rest count b c n o q h = bad_closes old now new bytes rest o.0 header.BadInterface b c o.1 o.2 o.3 q h
-closes (stop.Bad header.TooLong) old now new bytes rest count b c n o q h = bad_closes old now new bytes rest o.0 header.TooLong b c o.1 o.2 o.3 q h
-closes (stop.Refused fault) old now new bytes rest count b c n o q h =
-    (Comes-still fault now new (omega (arith, q.last)) o.2, begun_framed old new bytes rest o.0 [] c o.1 (Begun-of old new o.0 [] c (Progress-still old now new o.0 [] b c o.3 q)))
-closes (stop.Lost fault) old now new bytes rest count b c n o q h = absurd n
+-- a front of nothing
+front_none : (events front back more : List Event) → [] ≡ front ++ back → events ++ more ≡ (events ++ front) ++ (back ++ more)
+front_none events front back more e =
+    ap (λ (xs : List Event). events ++ (xs ++ more)) e ∙ ap (λ (xs : List Event). events ++ xs) (append_assoc front back more) ∙ sym (append_assoc events front (back ++ more))
 
--- handing out failed
-begun_after : (old now new : Told) (bytes rest : List ℕ) (events : List Event) (b c : List ℕ) → Reads bytes events rest → Progress old now events [] b → Begun now new [] b c → Begun old new (framed bytes).events [] c
-begun_after old now new bytes rest events b c r p q =
-    begun_framed old new bytes rest events [] c r (subst (λ (es : List Event). Begun old new es [] c) (append-nil events) (Begun-then old now new events [] [] b c p q))
+module _ {D : Type 0} (honest : D → Type 0) (moment : D → ℕ) (left : D → ℕ → Files → Type 0) (seen : D → Files) (failed : D → ℕ)
+    (reads : (disk : D) → honest disk → left disk (moment disk) (seen disk))
+    (earlier : (disk : D) (s t : ℕ) (files : Files) → honest disk → s ≤ t → left disk t files → left disk s files) (start : Kept D) where
+  abbrev Up : Kept D → List Event → List (ℕ × Answer) → Type 0
+  Up now events out = Stands honest moment left failed start now events out
 
-pub fails : (s : Stop) (old now new : Told) (bytes rest : List ℕ) (count : ℕ) (b c : List ℕ) → IsKept s → Offered s bytes rest count old now [] b → Begun now new [] b c → Begun old new (framed bytes).events [] c
-fails stop.Cut old now new bytes rest count b c n o q = begun_after old now new bytes rest o.0 b c o.1 o.4 q
-fails (stop.Bad fault) old now new bytes rest count b c n o q = begun_after old now new bytes rest o.0 b c o.1 o.3 q
-fails (stop.Refused fault) old now new bytes rest count b c n o q = begun_after old now new bytes rest o.0 b c o.1 o.3 q
-fails (stop.Lost fault) old now new bytes rest count b c n o q = absurd n
+  carry : (mid now : Kept D) (events : List Event) (b c : List (ℕ × Answer)) → CarriesOn honest moment left failed mid now [] b c → Up mid events b → Up now events c
+  carry mid now events b c on s = subst (λ (es : List Event). Up now es c) (append-nil events) (on start events s)
 
--- an answer was lost
-pub lost_is : (s : Stop) (fault : GatewayFault) (old now : Told) (bytes rest : List ℕ) (count : ℕ) (b : List ℕ) → s ≡ stop.Lost fault → Offered s bytes rest count old now [] b → Closed (end_of s) old now bytes rest b count
-lost_is stop.Cut fault old now bytes rest count b e o = absurd cc
-lost_is (stop.Bad f) fault old now bytes rest count b e o = absurd cc
-lost_is (stop.Refused f) fault old now bytes rest count b e o = absurd cc
-lost_is (stop.Lost f) fault old now bytes rest count b e o = (o.3, begun_framed old now bytes o.1 o.0 [] b o.2 o.4)
+  no-device : (mid : Kept D) (events : List Event) (b : List (ℕ × Answer)) (why : GatewayFault) → Stops honest moment left failed start mid events b why → mid.fallen ≡ false → why ≢ fault.Device
+  no-device mid events b why s up is = true-false mid.fallen (s.is_why.fell.0 is) up
 
-begun_stands : (old new : Told) (events : List Event) (out : List ℕ) → Begun old new events [] out → BeginsFrames old new events out
-begun_stands old new events out p = record {
-  judged = p.judged;
-  are_first = p.are_first;
-  reached = p.reached;
-  lost = flat_map frame p.lost;
-  begins = ap (λ (x : List ℕ). x ++ (flat_map frame p.lost ++ flat_map frame new.held)) p.sent
-      ∙ ap (λ (x : List ℕ). flat_map frame p.handed ++ x) (sym (flat_map-append frame p.lost new.held))
-      ∙ sym (flat_map-append frame p.handed (p.lost ++ new.held)) ∙ ap (flat_map frame) p.order;
-}
+  -- a fault, behind which what was held is handed out
+  still-why : (mid now : Kept D) (events : List Event) (b c : List (ℕ × Answer)) (why : GatewayFault) → IsWhy honest moment left failed start mid why → why ≢ fault.Device
+      → TookAll start.told mid.told events b → TookAll start.told now.told events c → now.generation ≡ mid.generation → now.fallen ≡ false → IsWhy honest moment left failed start now why
+  still-why mid now events b c why is other before after same up = record {
+    stood = is.stood;
+    made_room = is.made_room;
+    numbers_out = λ out. let last = is.numbers_out out in omega (arith, last, before.last, after.last);
+    fell = (λ d. absurd (other d), λ fell. absurd (true-false now.fallen fell up));
+    device = λ d. absurd (other d);
+    generations = λ g. same ∙ is.generations g;
+  }
 
-answered_stands : (old new : Told) (bytes out : List ℕ) → Answered old new bytes out → BeginsFrames old new (framed bytes).events out
-answered_stands old new bytes out a = begun_stands old new (framed bytes).events out (Begun-of old new (framed bytes).events [] out a.progress)
+  -- what is held is handed out
+  pub closes : (s : Stop) (mid now : Kept D) (bytes rest : List ℕ) (count : ℕ) (b c : List (ℕ × Answer)) → Up start [] [] → Offered honest moment left failed s bytes rest count start mid [] b
+      → CarriesOn honest moment left failed mid now [] b c → mid.fallen ≡ false → now.told.held ≡ [] → now.generation ≡ mid.generation → Closed honest moment left failed (end_of s) bytes rest count start now c
+  closes stop.Cut mid now bytes rest count b c begun o on up none same =
+      (o.0, o.1, o.2, o.3, record { stands = carry mid now o.0 b c on (o.4 start [] begun); none = none })
+  closes (stop.Bad header.BadKind) mid now bytes rest count b c begun o on up none same =
+      record { events = o.0; reads = o.1; bad = o.2; settled = record { stands = carry mid now o.0 b c on (o.3 start [] begun); none = none } }
+  closes (stop.Bad header.BadInterface) mid now bytes rest count b c begun o on up none same =
+      record { events = o.0; reads = o.1; bad = o.2; settled = record { stands = carry mid now o.0 b c on (o.3 start [] begun); none = none } }
+  closes (stop.Bad header.TooLong) mid now bytes rest count b c begun o on up none same =
+      record { events = o.0; reads = o.1; bad = o.2; settled = record { stands = carry mid now o.0 b c on (o.3 start [] begun); none = none } }
+  closes (stop.Refused why) mid now bytes rest count b c begun o on up none same =
+      let off = o.3 start [] begun in
+      let stops = off.3 in
+      let other = no-device mid off.0 b why stops up in
+      let before = stops.stays other in
+      let after = carry mid now off.0 b c on before in
+      record {
+        front = off.0;
+        back = off.1 ++ events_in o.1;
+        split = split_more (events_in bytes) o.0 off.0 off.1 (events_in o.1) (events_then bytes o.1 o.0 o.2) off.2;
+        ends = ended honest moment left seen failed reads earlier start now off.0 c after;
+        is_why = still-why mid now off.0 b c why stops.is_why other before.ran.took after.ran.took same after.stands;
+        none = λ _. none;
+      }
 
--- what was put out is a beginning of the frames
-pub stands : (r : Result (Unit {0}) EdgeFault) (old new : Told) (bytes rest out : List ℕ) (count : ℕ) → Closed r old new bytes rest out count → BeginsFrames old new (framed bytes).events out
-stands (Ok done) old new bytes rest out count s =
-    begun_stands old new (framed bytes).events out (subst (λ (f : Framed). Begun old new f.events [] out) (sym (framed_then_cut bytes rest s.events s.reads s.cut)) (Begun-of old new s.events [] out s.progress))
-stands (Err BadKind) old new bytes rest out count s = answered_stands old new bytes out s.1
-stands (Err BadInterface) old new bytes rest out count s = answered_stands old new bytes out s.1
-stands (Err TooLong) old new bytes rest out count s = answered_stands old new bytes out s.1
-stands (Err Truncated) old new bytes rest out count s = answered_stands old new bytes out s.3
-stands (Err Input) old new bytes rest out count s = answered_stands old new bytes out s
-stands (Err Output) old new bytes rest out count s = s
-stands (Err (Gateway fault)) old new bytes rest out count s = begun_stands old new (framed bytes).events out s.1
+  fails-behind : (mid now : Kept D) (bytes later : List ℕ) (events back front : List Event) (b c : List (ℕ × Answer)) (why : GatewayFault) → events ≡ front ++ back → events_in bytes ≡ events ++ events_in later
+      → Up mid front b → BreaksOff honest moment left failed mid now [] b c why → why ≡ fault.Device → IsRefused honest moment left failed why bytes start now c
+  fails-behind mid now bytes later events back front b c why split all s breaks device =
+      let off = breaks start front s in
+      record {
+        front = front ++ off.0;
+        back = off.1 ++ (back ++ events_in later);
+        split = split_more (events_in bytes) events front back (events_in later) all split ∙ front_none front off.0 off.1 (back ++ events_in later) off.2;
+        ends = off.3.ends;
+        is_why = off.3.is_why;
+        none = λ up. absurd (true-false now.fallen (off.3.is_why.fell.0 device) up);
+      }
 
--- and so is a beginning of that
-pub stands_cut : (n : ℕ) (old new : Told) (events : List Event) (out : List ℕ) → BeginsFrames old new events out → BeginsFrames old new events (take n out)
-stands_cut n old new events out p =
-    let behind_it : List ℕ = p.lost ++ flat_map frame new.held in
-    record {
-      judged = p.judged;
-      are_first = p.are_first;
-      reached = p.reached;
-      lost = drop n out ++ p.lost;
-      begins = ap (λ (x : List ℕ). take n out ++ x) (append_assoc (drop n out) p.lost (flat_map frame new.held))
-          ∙ sym (append_assoc (take n out) (drop n out) behind_it) ∙ ap (λ (x : List ℕ). x ++ behind_it) (take-append-drop n out) ∙ p.begins;
-    }
+  -- handing out has failed
+  pub fails : (s : Stop) (mid now : Kept D) (bytes rest : List ℕ) (count : ℕ) (b c : List (ℕ × Answer)) (why : GatewayFault) → Up start [] [] → Offered honest moment left failed s bytes rest count start mid [] b
+      → BreaksOff honest moment left failed mid now [] b c why → mid.fallen ≡ false → why ≡ fault.Device → IsRefused honest moment left failed why bytes start now c
+  fails stop.Cut mid now bytes rest count b c why begun o breaks up device =
+      fails-behind mid now bytes rest o.0 [] o.0 b c why (all_of o.0 o.0 refl) (events_then bytes rest o.0 o.1) (o.4 start [] begun) breaks device
+  fails (stop.Bad h) mid now bytes rest count b c why begun o breaks up device =
+      fails-behind mid now bytes rest o.0 [] o.0 b c why (all_of o.0 o.0 refl) (events_then bytes rest o.0 o.1) (o.3 start [] begun) breaks device
+  fails (stop.Refused first) mid now bytes rest count b c why begun o breaks up device =
+      let off = o.3 start [] begun in
+      fails-behind mid now bytes o.1 o.0 off.1 off.0 b c why off.2 (events_then bytes o.1 o.0 o.2) (off.3.stays (no-device mid off.0 b first off.3 up)) breaks device
+
+  -- a call of the disk has failed before
+  pub fallen : (s : Stop) (mid : Kept D) (bytes rest : List ℕ) (count : ℕ) (b : List (ℕ × Answer)) → Up start [] [] → Offered honest moment left failed s bytes rest count start mid [] b
+      → mid.fallen ≡ true → Closed honest moment left failed (end_of s) bytes rest count start mid b
+  fallen stop.Cut mid bytes rest count b begun o down = absurd (true-false mid.fallen down (o.4 start [] begun).stands)
+  fallen (stop.Bad h) mid bytes rest count b begun o down = absurd (true-false mid.fallen down (o.3 start [] begun).stands)
+  fallen (stop.Refused why) mid bytes rest count b begun o down =
+      let off = o.3 start [] begun in
+      record {
+        front = off.0;
+        back = off.1 ++ events_in o.1;
+        split = split_more (events_in bytes) o.0 off.0 off.1 (events_in o.1) (events_then bytes o.1 o.0 o.2) off.2;
+        ends = off.3.ends;
+        is_why = off.3.is_why;
+        none = λ up. absurd (true-false mid.fallen down up);
+      }
+
+  -- ---- what was sent
+
+  bad-came : (h : HeaderFault) (now : Kept D) (bytes rest : List ℕ) (out : List (ℕ × Answer)) → IsBad honest moment left failed h bytes rest start now out
+      → (front back : List Event) × (events_in bytes ≡ front ++ back) × Ends honest moment left failed start now front out × (now.fallen ≡ false → now.told.held ≡ [])
+  bad-came h now bytes rest out k = (
+    k.events,
+    [],
+    all_of k.events (events_in bytes) (events_bad bytes rest k.events h k.reads k.bad),
+    ended honest moment left seen failed reads earlier start now k.events out k.settled.stands,
+    λ _. k.settled.none,
+  )
+
+  bad-answered : (h : HeaderFault) (now : Kept D) (bytes rest : List ℕ) (out : List (ℕ × Answer)) → IsBad honest moment left failed h bytes rest start now out
+      → ((framed bytes).stop ≡ Fault h) × Answered start.told now.told bytes (flat_map frame out)
+  bad-answered h now bytes rest out k =
+      let f = framed_then_bad bytes rest k.events h k.reads k.bad in (
+        ap (λ (x : Framed). x.stop) f,
+        Answered-of start.told now.told bytes (flat_map frame out)
+            (subst (λ (x : Framed). Progress start.told now.told x.events [] (flat_map frame out)) (sym f) (Progress-told start.told now.told k.events out k.settled.stands.ran.took)) (λ _. k.settled.none),
+      )
+
+  -- the first of the events that the bytes hold were taken
+  came : (r : Result (Unit {0}) EdgeFault) (now : Kept D) (bytes rest : List ℕ) (count : ℕ) (out : List (ℕ × Answer)) → Closed honest moment left failed r bytes rest count start now out
+      → (front back : List Event) × (events_in bytes ≡ front ++ back) × Ends honest moment left failed start now front out × (now.fallen ≡ false → now.told.held ≡ [])
+  came (Ok done) now bytes rest count out k =
+      (k.0, [], all_of k.0 (events_in bytes) (events_cut bytes rest k.0 k.1 k.2), ended honest moment left seen failed reads earlier start now k.0 out k.4.stands, λ _. k.4.none)
+  came (Err BadKind) now bytes rest count out k = bad-came header.BadKind now bytes rest out k
+  came (Err BadInterface) now bytes rest count out k = bad-came header.BadInterface now bytes rest out k
+  came (Err TooLong) now bytes rest count out k = bad-came header.TooLong now bytes rest out k
+  came (Err Truncated) now bytes rest count out k = absurd k
+  came (Err Input) now bytes rest count out k = absurd k
+  came (Err Output) now bytes rest count out k = absurd k
+  came (Err (Gateway why)) now bytes rest count out k = (k.front, k.back, k.split, k.ends, k.none)
+
+  -- a beginning of the frames was sent
+  pub sent-some : (r : Result (Unit {0}) EdgeFault) (now : Kept D) (bytes rest : List ℕ) (count : ℕ) (out : List (ℕ × Answer)) (sent lost : List ℕ) → Closed honest moment left failed r bytes rest count start now out
+      → sent ++ lost ≡ flat_map frame out → (left_over : List ℕ) (others : List (ℕ × Answer)) → SettledAndSent honest moment left failed (Err Output) start now bytes left_over others sent
+  sent-some r now bytes rest count out sent lost k begins left_over others =
+      let is = came r now bytes rest count out k in (
+        BeginsFrames-told start.told now.told (events_in bytes) is.0 is.1 out sent lost is.2 is.3.ran.took begins,
+        fares honest moment left failed start now (events_in bytes) is.0 is.1 out sent lost is.3 is.2 begins is.4,
+        tt,
+      )
+
+  -- all of them were sent
+  fares-all : (r : Result (Unit {0}) EdgeFault) (now : Kept D) (bytes rest : List ℕ) (count : ℕ) (out : List (ℕ × Answer)) → Closed honest moment left failed r bytes rest count start now out
+      → Fares honest moment left start now (events_in bytes) (flat_map frame out)
+  fares-all r now bytes rest count out k =
+      let is = came r now bytes rest count out k in
+      fares honest moment left failed start now (events_in bytes) is.0 is.1 out (flat_map frame out) [] is.3 is.2 (append-nil (flat_map frame out)) is.4
+
+  pub sent-bad : (e : EdgeFault) (now : Kept D) (bytes rest : List ℕ) (count : ℕ) (out : List (ℕ × Answer)) → Closed honest moment left failed (Err e) bytes rest count start now out
+      → (left_over : List ℕ) (others : List (ℕ × Answer)) → SettledAndSent honest moment left failed (Err e) start now bytes left_over others (flat_map frame out)
+  sent-bad BadKind now bytes rest count out k left_over others = (bad-answered header.BadKind now bytes rest out k, fares-all (Err BadKind) now bytes rest count out k, tt)
+  sent-bad BadInterface now bytes rest count out k left_over others = (bad-answered header.BadInterface now bytes rest out k, fares-all (Err BadInterface) now bytes rest count out k, tt)
+  sent-bad TooLong now bytes rest count out k left_over others = (bad-answered header.TooLong now bytes rest out k, fares-all (Err TooLong) now bytes rest count out k, tt)
+  sent-bad Truncated now bytes rest count out k left_over others = absurd k
+  sent-bad Input now bytes rest count out k left_over others = absurd k
+  sent-bad Output now bytes rest count out k left_over others = absurd k
+  sent-bad (Gateway why) now bytes rest count out k left_over others =
+      (AnsweredFirst-told start.told now.told (events_in bytes) k.front k.back out k.split k.ends.ran.took, fares-all (Err (Gateway why)) now bytes rest count out k, k.is_why)
+
+  -- ---- the file is tidied
+
+  -- all whole frames at the front were settled, and their answers sent
+  pub served : (mid now : Kept D) (bytes rest : List ℕ) (count : ℕ) (out after : List (ℕ × Answer)) (sent : List ℕ) → SettledAndSent honest moment left failed (Ok count) start mid bytes rest out sent
+      → CarriesOn honest moment left failed mid now [] out after → after ≡ out → now.told.held ≡ [] → Served start.told now.told bytes rest sent count
+  served mid now bytes rest count out after sent a on same none =
+      let s : Up now a.0 out = subst (λ (l : List (ℕ × Answer)). Up now a.0 l) same (carry mid now a.0 out after on a.4.stands) in
+      record {
+        events = a.0;
+        reads = a.1;
+        cut = a.2;
+        count_is = a.3;
+        progress = subst (λ (l : List ℕ). Progress start.told now.told a.0 [] l) (sym a.5) (Progress-told start.told now.told a.0 out s.ran.took);
+        none = λ _. none;
+      }
+
+  pub served-fares : (mid now : Kept D) (bytes rest : List ℕ) (count : ℕ) (out after : List (ℕ × Answer)) (sent : List ℕ) → SettledAndSent honest moment left failed (Ok count) start mid bytes rest out sent
+      → CarriesOn honest moment left failed mid now [] out after → after ≡ out → now.told.held ≡ [] → Fares honest moment left start now (events_in bytes) sent
+  served-fares mid now bytes rest count out after sent a on same none =
+      let s : Up now a.0 out = subst (λ (l : List (ℕ × Answer)). Up now a.0 l) same (carry mid now a.0 out after on a.4.stands) in
+      fares honest moment left failed start now (events_in bytes) a.0 [] out sent [] (ended honest moment left seen failed reads earlier start now a.0 out s)
+      (all_of a.0 (events_in bytes) (events_cut bytes rest a.0 a.1 a.2)) (append-nil sent ∙ a.5) (λ _. none)
+
+  pub served-passed : (mid now : Kept D) (bytes rest : List ℕ) (count : ℕ) (out after : List (ℕ × Answer)) (sent : List ℕ) → SettledAndSent honest moment left failed (Ok count) start mid bytes rest out sent
+      → CarriesOn honest moment left failed mid now [] out after → failed now.disk ≡ failed start.disk
+  served-passed mid now bytes rest count out after sent a on = (carry mid now a.0 out after on a.4.stands).passed
+
+  -- it couldn't be tidied
+  pub untidy : (mid now : Kept D) (bytes rest : List ℕ) (count : ℕ) (out after : List (ℕ × Answer)) (sent : List ℕ) (why : GatewayFault) → SettledAndSent honest moment left failed (Ok count) start mid bytes rest out sent
+      → BreaksOff honest moment left failed mid now [] out after why → after ≡ out → now.told.held ≡ []
+      → AnsweredFirst start.told now.told (events_in bytes) sent × Fares honest moment left start now (events_in bytes) sent × IsWhy honest moment left failed start now why
+  untidy mid now bytes rest count out after sent why a breaks same none =
+      let off = breaks start a.0 a.4.stands in
+      let front = a.0 ++ off.0 in
+      let split : events_in bytes ≡ front ++ (off.1 ++ []) = all_of a.0 (events_in bytes) (events_cut bytes rest a.0 a.1 a.2) ∙ front_none a.0 off.0 off.1 [] off.2 in
+      let ends : Ends honest moment left failed start now front out = subst (λ (l : List (ℕ × Answer)). Ends honest moment left failed start now front l) same off.3.ends in (
+        subst (λ (l : List ℕ). AnsweredFirst start.told now.told (events_in bytes) l) (sym a.5) (AnsweredFirst-told start.told now.told (events_in bytes) front (off.1 ++ []) out split ends.ran.took),
+        fares honest moment left failed start now (events_in bytes) front (off.1 ++ []) out sent [] ends split (append-nil sent ∙ a.5) (λ _. none),
+        off.3.is_why,
+      )

@@ -1,8 +1,11 @@
 pub mod Heads
 pub mod Fronts
 pub mod Frames
+pub mod Written
 pub mod Answers
+pub mod Lasting
 pub mod Streams
+pub mod Tending
 pub mod Loops
 pub mod Closing
 pub mod Runs

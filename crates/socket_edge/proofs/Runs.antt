@@ -1,21 +1,28 @@
 -- A run: one turn after the other.
-use Rattle.std.proofs.Common.{◌≡◌, ◌≢◌, ℕ, ◌+◌, ◌≤◌, List, [], ◌++◌, length, inl, inr, refl, sym, ap, ◌∙◌, arith, append_assoc, subst, length-append}
+use Rattle.std.proofs.Common.{◌≡◌, ◌≢◌, ◌↔◌, ℕ, ◌+◌, ◌<◌, ◌≤◌, ◌^◌, List, [], ◌++◌, true, false, length, refl, sym, ap, ◌∙◌, arith, append_assoc, subst, length-append}
 use Rattle.std.specs.List.{flat_map}
 use Rattle.std.proofs.lemmas.List.{append-nil}
 use Rattle.std.proofs.lemmas.List.Concat.{flat_map-append}
 use Rattle.packet.specs.Config.{Config}
+use Rattle.disk_model.specs.Disk.{Files, Grew, LeavesOnly}
+use Rattle.disk_model.proofs.Moments.{narrows}
+use Rattle.durable.specs.Recovery.{IsConfigured}
 use Rattle.machine.specs.declared.event.Event.{Event}
-use Rattle.gateway.specs.declared.fault.GatewayFault.TheVariants.{HeldFull, NumbersOut}
+use Rattle.gateway.specs.declared.fault.GatewayFault.TheVariants as fault
+use Rattle.gateway.specs.Kept.{Kept, IsReady, IsSafe}
+use Rattle.gateway.specs.Running.{Stands}
 use Rattle.gateway.specs.Told.{Told}
+use Rattle.gateway.proofs.Runs.{safe-less, true-false}
 use Rattle.socket_edge.specs.declared.fault.EdgeFault.{EdgeFault}
 use Rattle.socket_edge.specs.declared.fault.EdgeFault.TheVariants.{BadKind, BadInterface, TooLong, Truncated, Input, Output, Gateway}
 use Rattle.socket_edge.specs.Requests.{Cut, next}
 use Rattle.socket_edge.specs.Framing.{Framed, Stop, Rest, behind, framed}
-use Rattle.socket_edge.specs.Answering.{frame, due, AreFirst, Progress, Begun, BeginsFrames}
-use Rattle.socket_edge.specs.Running.{Answered, Ends, Done, Reads, Served}
+use Rattle.socket_edge.specs.Answering.{frame, due, AreFirst, Progress, AnsweredFirst, BeginsFrames}
+use Rattle.socket_edge.specs.Running.{Answered, Ends, Done, Explains, Fares, Reads, Served, events_in}
 use Rattle.socket_edge.proofs.Frames.{next_nil, Reads-nil, Reads-more, Reads-then}
-use Rattle.socket_edge.proofs.Answers.{Progress-nil, Progress-then, Reached-by, Reached-then, Begun-then, due-append, first-then, last_of}
-use Rattle.socket_edge.proofs.Closing.{framed_then_cut, Answered-of}
+use Rattle.socket_edge.proofs.Answers.{AnsweredFirst-then, Progress-nil, Progress-then, Reached-by, Reached-then, due-append, first-then, last_of}
+use Rattle.socket_edge.proofs.Lasting.{any-then, configured-then, fares-then}
+use Rattle.socket_edge.proofs.Closing.{events_cut, framed_then_cut, Answered-of}
 
 -- the events of the bytes that came before, and of those that come
 pub framed_more : (given pending got : List ℕ) (events : List Event) → Reads given events pending → framed (given ++ got) ≡ behind events (framed (pending ++ got))
@@ -24,9 +31,6 @@ framed_more given pending got events r = r.goes got
 -- behind what was sent before
 Progress-shift : (old new : Told) (events : List Event) (before out : List ℕ) → Progress old new events [] out → Progress old new events before (before ++ out)
 Progress-shift old new events before out p = record { judged = p.judged; are_judged = p.are_judged; config = p.config; state = p.state; last = p.last; handed = p.handed; sent = ap (λ (x : List ℕ). before ++ x) p.sent; order = p.order }
-
-Begun-shift : (old new : Told) (events : List Event) (before out : List ℕ) → Begun old new events [] out → Begun old new events before (before ++ out)
-Begun-shift old new events before out p = record { judged = p.judged; are_first = p.are_first; reached = p.reached; handed = p.handed; lost = p.lost; sent = ap (λ (x : List ℕ). before ++ x) p.sent; order = p.order }
 
 pub Served-first : (old : Told) → Served old old [] [] [] 0
 Served-first old = record { events = []; reads = Reads-nil []; cut = next_nil; count_is = refl; progress = Progress-nil old []; none = λ h. h }
@@ -73,11 +77,9 @@ Ends-then Input a b c given pending got w sent n at_end p q = answered_then a b 
 Ends-then Output a b c given pending got w sent n at_end p q =
     let f : (framed (given ++ got)).events ≡ p.events ++ (framed (pending ++ got)).events = ap (λ (x : Framed). x.events) (framed_more given pending got p.events p.reads) in
     subst (λ (es : List Event). BeginsFrames a c es (w ++ sent)) (sym f) (begins_then a b c p.events (framed (pending ++ got)).events w sent p.progress q)
-Ends-then (Gateway fault) a b c given pending got w sent n at_end p q = (
-  q.0,
-  subst (λ (f : Framed). Begun a c f.events [] (w ++ sent)) (sym (framed_more given pending got p.events p.reads))
-      (Begun-then a b c p.events (framed (pending ++ got)).events [] w (w ++ sent) p.progress (Begun-shift b c (framed (pending ++ got)).events w sent q.1)),
-)
+Ends-then (Gateway fault) a b c given pending got w sent n at_end p q =
+    subst (λ (f : Framed). AnsweredFirst a c f.events (w ++ sent)) (sym (framed_more given pending got p.events p.reads))
+    (AnsweredFirst-then a b c p.events (framed (pending ++ got)).events w sent p.progress q)
 
 pub Done-then : (a b c : Told) (given pending got w sent : List ℕ) (n m : ℕ) (at_end : Type 0) → Served a b given pending w n → Done m b c (pending ++ got) sent at_end → Done (n + m) a c (given ++ got) (w ++ sent) at_end
 Done-then a b c given pending got w sent n m at_end p q = record {
@@ -104,21 +106,120 @@ nothing_stops pending cut = ap (λ (f : Framed). f.stop) (ap framed (append-nil 
 pub nothing_counts : (pending : List ℕ) → next pending ≡ Cut → 0 ≡ length (framed (pending ++ [])).events
 nothing_counts pending cut = sym (ap (λ (f : Framed). length f.events) (ap framed (append-nil pending) ∙ framed_then_cut pending pending [] (Reads-nil pending) cut))
 
--- the frames so far are no more than the numbers so far
-pub count_below : (a b : Told) (given pending w : List ℕ) (n : ℕ) → Served a b given pending w n → n ≤ b.last
-count_below a b given pending w n p = omega (arith, p.count_is, p.progress.last)
+-- ---- how far a run has come
 
--- what is held is handed out before more than 64 are
-pub never_held_full : (e : EdgeFault) (a b : Told) (given w : List ℕ) (at_end : Type 0) → Ends e a b given w at_end → e ≢ Gateway HeldFull
-never_held_full BadKind a b given w at_end p = λ h. absurd cc
-never_held_full BadInterface a b given w at_end p = λ h. absurd cc
-never_held_full TooLong a b given w at_end p = λ h. absurd cc
-never_held_full Truncated a b given w at_end p = λ h. absurd cc
-never_held_full Input a b given w at_end p = λ h. absurd cc
-never_held_full Output a b given w at_end p = λ h. absurd cc
-never_held_full (Gateway fault) a b given w at_end p = λ h.
-    let e : fault ≡ HeldFull = cc in
-    elim p.0 [
-      | inl is ↦ absurd cc
-      | inr is ↦ (let n : fault ≡ NumbersOut = is.0 in absurd cc)
-    ]
+module _ {D : Type 0} (honest : D → Type 0) (moment : D → ℕ) (left : D → ℕ → Files → Type 0) (failed : D → ℕ)
+    (earlier : (disk : D) (s t : ℕ) (files : Files) → honest disk → s ≤ t → left disk t files → left disk s files) where
+  pub record Going (old now : Kept D) (given pending written : List ℕ) (count : ℕ) : Type 0 where
+    pub served : Served old.told now.told given pending written count
+    pub keeps_honest : honest old.disk ↔ honest now.disk
+    pub configured : honest old.disk → LeavesOnly moment left old.disk now.disk (IsConfigured old.told.config)
+    pub any_moment : IsReady honest old → LeavesOnly moment left old.disk now.disk (IsSafe old.told.config old.told.state served.events 0)
+    pub stood : old.fallen ≡ false
+    pub stands : now.fallen ≡ false
+    pub passed : failed now.disk ≡ failed old.disk
+    pub tidy : 0 < count → now.grown ≤ 1048576
+
+  pub going-first : (old : Kept D) → Stands honest moment left failed old old [] [] → Going old old [] [] [] 0
+  unfolding Served-first
+  going-first old s = record {
+    served = Served-first old.told;
+    keeps_honest = s.ran.keeps_honest;
+    configured = s.ran.configured;
+    any_moment = s.ran.any_moment;
+    stood = s.stands;
+    stands = s.stands;
+    passed = refl;
+    tidy = λ some. absurd (omega (arith, some));
+  }
+
+  -- one more read
+  pub going-next : (a b c : Kept D) (given pending got rest w sent : List ℕ) (n m : ℕ) → Going a b given pending w n → Served b.told c.told (pending ++ got) rest sent m
+      → Fares honest moment left b c (events_in (pending ++ got)) sent → c.fallen ≡ false → failed c.disk ≡ failed b.disk → c.grown ≤ 1048576
+      → Going a c (given ++ got) rest (w ++ sent) (n + m)
+  unfolding Served-then
+  going-next a b c given pending got rest w sent n m g q f stands passed tidy =
+      let p = g.served in
+      record {
+        served = Served-then a.told b.told c.told given pending got rest w sent n m p q;
+        keeps_honest = (λ h. f.keeps_honest.0 (g.keeps_honest.0 h), λ h. g.keeps_honest.1 (f.keeps_honest.1 h));
+        configured = λ h. configured-then honest moment left failed earlier a b c p.progress.config (g.keeps_honest.0 h) (g.configured h) (f.configured (g.keeps_honest.0 h) g.stands);
+        any_moment = λ ready.
+            let there = g.keeps_honest.0 ready.is_honest in
+            let o = f.outlives (record { stands = g.stands; is_honest = there; none = p.none ready.none }) in
+            let all : q.events ≡ o.front ++ o.back = sym (events_cut (pending ++ got) rest q.events q.reads q.cut) ∙ o.split in
+            any-then honest moment left failed earlier a b c p.events q.events w p.progress (g.any_moment ready) there
+            (narrows moment left b.disk c.disk (λ before files. IsSafe b.told.config b.told.state o.front 0 files) (λ before files. IsSafe b.told.config b.told.state q.events 0 files) o.any_moment
+            (λ before files was is. subst (λ (es : List Event). IsSafe b.told.config b.told.state es 0 files) (sym all) (safe-less b.told.config b.told.state o.front o.back 0 0 files (omega arith) is)));
+        stood = g.stood;
+        stands = stands;
+        passed = passed ∙ g.passed;
+        tidy = λ _. tidy;
+      }
+
+  -- and how it ends
+  pub going-ends : (a b c : Kept D) (given pending got w sent : List ℕ) (n : ℕ) → Going a b given pending w n → Fares honest moment left b c (events_in (pending ++ got)) sent
+      → Fares honest moment left a c (events_in (given ++ got)) (w ++ sent)
+  going-ends a b c given pending got w sent n g f =
+      let p = g.served in
+      subst (λ (x : Framed). Fares honest moment left a c x.events (w ++ sent)) (sym (framed_more given pending got p.events p.reads))
+      (fares-then honest moment left failed earlier a b c p.events (events_in (pending ++ got)) w sent p.progress p.none g.keeps_honest g.configured g.any_moment g.stands f)
+
+  -- the loop gave up
+  pub going-stops : (a b : Kept D) (given pending w : List ℕ) (n : ℕ) → Going a b given pending w n → ((events : List Event) → Fares honest moment left b b events []) → Fares honest moment left a b (events_in given) w
+  going-stops a b given pending w n g none =
+      subst (λ (x : List ℕ). Fares honest moment left a b (events_in x) w) (append-nil given)
+      (subst (λ (x : List ℕ). Fares honest moment left a b (events_in (given ++ [])) x) (append-nil w) (going-ends a b b given pending [] w [] n g (none (events_in (pending ++ [])))))
+
+  -- the events have numbers of 64 bits, so their count has
+  pub going-fits : (a b c : Kept D) (given pending got rest w sent : List ℕ) (n m : ℕ) → Going a b given pending w n → Served b.told c.told (pending ++ got) rest sent m → c.told.last < 2 ^ 64 → n + m < 2 ^ 64
+  going-fits a b c given pending got rest w sent n m g q last =
+      let p = Served-then a.told b.told c.told given pending got rest w sent n m g.served q in
+      omega (arith, last, p.count_is, p.progress.last)
+
+  -- why it ends, said of the whole run
+  pub going-why : (a b c : Kept D) (given pending w : List ℕ) (n : ℕ) (e : EdgeFault) → Going a b given pending w n → Explains honest moment left failed e b c → Explains honest moment left failed e a c
+  going-why a b c given pending w n BadKind g x = tt
+  going-why a b c given pending w n BadInterface g x = tt
+  going-why a b c given pending w n TooLong g x = tt
+  going-why a b c given pending w n Truncated g x = tt
+  going-why a b c given pending w n Input g x = tt
+  going-why a b c given pending w n Output g x = tt
+  going-why a b c given pending w n (Gateway fault) g x = record {
+    stood = x.stood;
+    made_room = x.made_room;
+    numbers_out = x.numbers_out;
+    fell = x.fell;
+    device = λ d. subst (λ (k : ℕ). Grew k (failed c.disk)) g.passed (x.device d);
+    generations = x.generations;
+  }
+
+  -- a gateway that stood isn't to be opened again
+  pub not-reopen : (a c : Kept D) (e : EdgeFault) → Explains honest moment left failed e a c → e ≢ Gateway fault.Reopen
+  not-reopen a c BadKind x = λ is. absurd cc
+  not-reopen a c BadInterface x = λ is. absurd cc
+  not-reopen a c TooLong x = λ is. absurd cc
+  not-reopen a c Truncated x = λ is. absurd cc
+  not-reopen a c Input x = λ is. absurd cc
+  not-reopen a c Output x = λ is. absurd cc
+  not-reopen a c (Gateway why) x = λ is. let same : why ≡ fault.Reopen = cc in x.stood same
+
+  -- room was made
+  pub not-full : (a c : Kept D) (e : EdgeFault) → Explains honest moment left failed e a c → (e ≢ Gateway fault.HeldFull) × (e ≢ Gateway fault.Full)
+  not-full a c BadKind x = ((λ is. absurd cc), (λ is. absurd cc))
+  not-full a c BadInterface x = ((λ is. absurd cc), (λ is. absurd cc))
+  not-full a c TooLong x = ((λ is. absurd cc), (λ is. absurd cc))
+  not-full a c Truncated x = ((λ is. absurd cc), (λ is. absurd cc))
+  not-full a c Input x = ((λ is. absurd cc), (λ is. absurd cc))
+  not-full a c Output x = ((λ is. absurd cc), (λ is. absurd cc))
+  not-full a c (Gateway why) x =
+      ((λ is. let same : why ≡ fault.HeldFull = cc in x.made_room.0 same), (λ is. let same : why ≡ fault.Full = cc in x.made_room.1 same))
+
+  -- it had fallen before: nothing is done
+  pub fallen-fares : (start : Kept D) (events : List Event) → start.fallen ≡ true → Fares honest moment left start start events []
+  fallen-fares start events down = record {
+    keeps_honest = ((λ h. h), (λ h. h));
+    configured = λ h up. absurd (true-false start.fallen down up);
+    outlives = λ ready. absurd (true-false start.fallen down ready.stands);
+    none = λ held up. held;
+  }

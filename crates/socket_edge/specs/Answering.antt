@@ -1,5 +1,6 @@
 -- Answer frames, and what has been answered.
-use Rattle.std.specs.Prelude.{◌≡◌, ℕ, ◌+◌, List, [], ◌∷◌, ◌++◌, length}
+use Rattle.std.specs.Prelude.{◌≡◌, ℕ, ◌+◌, ◌-◌, ◌^◌, min, List, [], ◌∷◌, ◌++◌, length, Option}
+use Rattle.std.specs.Io.KnownBytes.{Appends}
 use Rattle.std.specs.List.{flat_map}
 use Rattle.byteorder.specs.Endian.{big_bytes}
 use Rattle.packet.specs.Config.{Config}
@@ -37,6 +38,21 @@ frame p = kind_byte p.1 ∷ big_bytes 8 p.0 ++ big_bytes 4 (length (body_of p.1)
 abbrev pub frames : List (ℕ × Answer) → List ℕ
 frames answers = flat_map frame answers
 
+-- the length in bytes of the frames, up to the greatest number of 64 bits
+abbrev pub frames_len : List (ℕ × Answer) → ℕ
+frames_len answers = min (length (frames answers)) (2 ^ 64 - 1)
+
+-- what stands in a frame before its body
+abbrev pub frame_head : ℕ × Answer → List ℕ
+frame_head p = kind_byte p.1 ∷ big_bytes 8 p.0 ++ big_bytes 4 (length (body_of p.1))
+
+-- A beginning of the bytes was written, and no more of them.
+pub record AppendsFront (old new : Option (List ℕ)) (bytes : List ℕ) : Type 0 where
+  pub written : List ℕ
+  pub lost : List ℕ
+  pub splits : written ++ lost ≡ bytes
+  pub appends : Appends old new written
+
 -- the numbered answers to events that are judged so
 unfoldable pub replies : Told → List Judged → List (ℕ × Answer)
 replies old judged = numbered old.last (answers old.config old.state judged)
@@ -69,15 +85,14 @@ pub record Reached (old new : Told) (judged : List Judged) : Type 0 where
   pub state : new.state ≡ after old.config old.state judged
   pub last : new.last ≡ old.last + length judged
 
--- The first of the events were taken, as they are judged. Of the answers that stand out, the frames of the first went behind `before`, others got lost, and the last are held.
-pub record Begun (old new : Told) (events : List Event) (before out : List ℕ) : Type 0 where
+-- The first of the events were taken, as they are judged. Of the answers that stand out, the frames of the first were sent, and the others are held.
+pub record AnsweredFirst (old new : Told) (events : List Event) (sent : List ℕ) : Type 0 where
   pub judged : List Judged
   pub are_first : AreFirst old.config events judged
   pub reached : Reached old new judged
   pub handed : List (ℕ × Answer)
-  pub lost : List (ℕ × Answer)
-  pub sent : out ≡ before ++ frames handed
-  pub order : handed ++ (lost ++ new.held) ≡ due old judged
+  pub sent_are : sent ≡ frames handed
+  pub order : handed ++ new.held ≡ due old judged
 
 -- The first of the events were taken, as they are judged. The bytes are a beginning of the frames of the answers that stand out; the last of these are held.
 pub record BeginsFrames (old new : Told) (events : List Event) (out : List ℕ) : Type 0 where

@@ -1,9 +1,16 @@
 -- What a run does, and what its parts do.
-use Rattle.std.specs.Prelude.{◌≡◌, ◌≢◌, ◌≤◌, ◌⊎◌, ◌-◌, ◌^◌, ℕ, List, [], ◌∷◌, ◌++◌, length, drop, Result, Ok, Err}
+use Rattle.std.specs.Prelude.{◌≡◌, ◌≢◌, ◌↔◌, ◌≤◌, ◌⊎◌, ◌-◌, ◌^◌, ℕ, List, [], ◌∷◌, ◌++◌, length, take, drop, false, Result, Ok, Err}
+use Rattle.disk_model.specs.Disk.{Files, LeavesNow, LeavesOnly}
+use Rattle.durable.specs.Recovery.{IsConfigured}
+use Rattle.machine.specs.Judged.{Judged, AreJudged}
+use Rattle.machine.specs.declared.event.Answer.{Answer}
 use Rattle.machine.specs.declared.event.Event.{Event}
 use Rattle.gateway.specs.declared.fault.GatewayFault.{GatewayFault}
-use Rattle.gateway.specs.declared.fault.GatewayFault.TheVariants.{NoMemory, NumbersOut}
 use Rattle.gateway.specs.Told.{Told}
+use Rattle.gateway.specs.Kept.{Kept, IsReady, IsSafe}
+use Rattle.gateway.specs.Running.{Stands, IsWhy, CarriesOn, BreaksOff}
+use Rattle.gateway.specs.Running as run
+use Rattle.socket_edge.specs.declared.fault.HeaderFault.{HeaderFault}
 use Rattle.socket_edge.specs.declared.fault.HeaderFault.TheVariants as header
 use Rattle.socket_edge.specs.declared.fault.EdgeFault.{EdgeFault}
 use Rattle.socket_edge.specs.declared.fault.EdgeFault.TheVariants.{BadKind, BadInterface, TooLong, Truncated, Input, Output, Gateway}
@@ -15,17 +22,13 @@ use Rattle.socket_edge.specs.declared.edge.Turn.{Turn}
 use Rattle.socket_edge.specs.declared.edge.Turn.TheVariants as turn
 use Rattle.socket_edge.specs.Requests.{Whole, Cut, Bad, next}
 use Rattle.socket_edge.specs.Framing.{Rest, Fault, behind, framed}
-use Rattle.socket_edge.specs.Answering.{frames, replies, Progress, Begun, BeginsFrames}
+use Rattle.socket_edge.specs.Answering.{frames, replies, Progress, Reached, AnsweredFirst, BeginsFrames}
 
 -- The events of the bytes were taken. Where nothing was held before, all of them are answered by the bytes sent, and nothing is held.
 pub record Answered (old new : Told) (bytes sent : List ℕ) : Type 0 where
   pub progress : Progress old new (framed bytes).events [] sent
   pub none : old.held ≡ [] → new.held ≡ []
   pub all : old.held ≡ [] → sent ≡ frames (replies old progress.judged)
-
--- The faults that come to a gateway that stands so: memory is refused, or no number is left.
-abbrev pub Comes : GatewayFault → Told → Type 0
-Comes fault now = (fault ≡ NoMemory) ⊎ ((fault ≡ NumbersOut) × (now.last ≡ 2 ^ 64 - 1))
 
 -- what a fault says of the bytes that were read and sent
 abbrev pub Ends : EdgeFault → Told → Told → List ℕ → List ℕ → Type 0 → Type 0
@@ -35,7 +38,7 @@ Ends TooLong old new bytes sent at_end = ((framed bytes).stop ≡ Fault header.T
 Ends Truncated old new bytes sent at_end = (rest : List ℕ) × ((framed bytes).stop ≡ Rest rest) × (rest ≢ []) × Answered old new bytes sent × at_end
 Ends Input old new bytes sent at_end = Answered old new bytes sent
 Ends Output old new bytes sent at_end = BeginsFrames old new (framed bytes).events sent
-Ends (Gateway fault) old new bytes sent at_end = Comes fault new × Begun old new (framed bytes).events [] sent
+Ends (Gateway fault) old new bytes sent at_end = AnsweredFirst old new (framed bytes).events sent
 
 -- all was read and answered, and it was whole frames
 pub record Done (count : ℕ) (old new : Told) (bytes sent : List ℕ) (at_end : Type 0) : Type 0 where
@@ -49,40 +52,41 @@ abbrev pub Ran : Result ℕ EdgeFault → Told → Told → List ℕ → List �
 Ran (Ok count) old new bytes sent at_end = Done count old new bytes sent at_end
 Ran (Err fault) old new bytes sent at_end = Ends fault old new bytes sent at_end
 
+-- the events of the bytes
+abbrev pub events_in : List ℕ → List Event
+events_in bytes = (framed bytes).events
+
+module _ {D : Type 0} (honest : D → Type 0) (moment : D → ℕ) (left : D → ℕ → Files → Type 0) (old new : Kept D) where
+  -- Of an honest disk, where nothing was held at the entry. The first of the events were taken, and a beginning of their
+  -- answers' frames was sent.
+  pub record Outlives (events : List Event) (sent : List ℕ) : Type 0 where
+    pub front : List Event
+    pub back : List Event
+    pub split : events ≡ front ++ back
+    pub judged : List Judged
+    pub are_judged : AreJudged old.told.config front judged
+    pub reached : Reached old.told new.told judged
+    pub unsent : List ℕ
+    pub begins : sent ++ unsent ≡ frames (replies old.told judged)
+    -- A crash at any moment since the entry leaves what the model has after a beginning of them.
+    pub any_moment : LeavesOnly moment left old.disk new.disk (IsSafe old.told.config old.told.state front 0)
+    -- A crash now leaves what it has after one that holds each event whose frame lies whole in what was sent.
+    pub at_exit : (n : ℕ) → n ≤ length front → length (frames (take n (replies old.told judged))) ≤ length sent
+        → LeavesNow moment left new.disk (IsSafe old.told.config old.told.state front n)
+
+  -- how the files fare while such events are taken, and such bytes sent
+  pub record Fares (events : List Event) (sent : List ℕ) : Type 0 where
+    pub keeps_honest : honest old.disk ↔ honest new.disk
+    pub configured : honest old.disk → old.fallen ≡ false → LeavesOnly moment left old.disk new.disk (IsConfigured old.told.config)
+    pub outlives : IsReady honest old → Outlives events sent
+    -- unless a call of the disk has failed, nothing is held behind it
+    pub none : old.told.held ≡ [] → new.fallen ≡ false → new.told.held ≡ []
+
 -- ---- the parts
 
 -- the stream so far is these events, and then these bytes
 pub record Reads (given : List ℕ) (events : List Event) (pending : List ℕ) : Type 0 where
   pub goes : (more : List ℕ) → framed (given ++ more) ≡ behind events (framed (pending ++ more))
-
--- what the offer of one event came to
-abbrev pub OfferedOne : Result ℕ Stop → Event → Told → Told → List ℕ → List ℕ → Type 0
-OfferedOne (Ok number) event old new before out = (number ≡ new.last) × Progress old new (event ∷ []) before out
-OfferedOne (Err (stop.Refused fault)) event old new before out = Comes fault new × Progress old new [] before out
-OfferedOne (Err (stop.Lost fault)) event old new before out = Comes fault new × Begun old new (event ∷ []) before out
-OfferedOne (Err stop.Cut) event old new before out = ⊥
-OfferedOne (Err (stop.Bad fault)) event old new before out = ⊥
-
--- what one frame at the front came to
-abbrev pub Stepped : Step → List ℕ → Told → Told → List ℕ → List ℕ → Type 0
-Stepped (step.Took n number) bytes old new before out =
-    (event : Event) × (next bytes ≡ Whole event (drop n bytes)) × (14 ≤ n) × (n ≤ length bytes) × (number ≡ new.last) × Progress old new (event ∷ []) before out
-Stepped (step.Ends stop.Cut) bytes old new before out = (next bytes ≡ Cut) × Progress old new [] before out
-Stepped (step.Ends (stop.Bad fault)) bytes old new before out = (next bytes ≡ Bad fault) × Progress old new [] before out
-Stepped (step.Ends (stop.Refused fault)) bytes old new before out = Comes fault new × Progress old new [] before out
-Stepped (step.Ends (stop.Lost fault)) bytes old new before out =
-    (event : Event) × (rest : List ℕ) × (next bytes ≡ Whole event rest) × Comes fault new × Begun old new (event ∷ []) before out
-
--- what all whole frames at the front came to
-abbrev pub Offered : Stop → List ℕ → List ℕ → ℕ → Told → Told → List ℕ → List ℕ → Type 0
-Offered stop.Cut bytes rest count old new before out =
-    (events : List Event) × Reads bytes events rest × (next rest ≡ Cut) × (count ≡ length events) × Progress old new events before out
-Offered (stop.Bad fault) bytes rest count old new before out =
-    (events : List Event) × Reads bytes events rest × (next rest ≡ Bad fault) × Progress old new events before out
-Offered (stop.Refused fault) bytes rest count old new before out =
-    (events : List Event) × Reads bytes events rest × Comes fault new × Progress old new events before out
-Offered (stop.Lost fault) bytes rest count old new before out =
-    (events : List Event) × (later : List ℕ) × Reads bytes events later × Comes fault new × Begun old new events before out
 
 -- the whole frames at the front were answered, and these bytes are left
 pub record Served (old new : Told) (bytes rest sent : List ℕ) (count : ℕ) : Type 0 where
@@ -93,6 +97,17 @@ pub record Served (old new : Told) (bytes rest sent : List ℕ) (count : ℕ) : 
   pub progress : Progress old new events [] sent
   pub none : old.held ≡ [] → new.held ≡ []
 
+-- what the frames at the front came to
+abbrev pub Came : Result ℕ EdgeFault → Told → Told → List ℕ → List ℕ → List ℕ → Type 0
+Came (Ok count) old new bytes rest sent = Served old new bytes rest sent count
+Came (Err fault) old new bytes rest sent = Ends fault old new bytes sent ⊥
+
+-- what one read, and all that it made whole, came to
+abbrev pub Turned : Result Turn EdgeFault → Told → Told → List ℕ → List ℕ → List ℕ → Type 0 → Type 0
+Turned (Ok (turn.More count)) old new bytes rest sent at_end = Served old new bytes rest sent count
+Turned (Ok turn.End) old new bytes rest sent at_end = Done 0 old new bytes sent at_end
+Turned (Err fault) old new bytes rest sent at_end = Ends fault old new bytes sent at_end
+
 -- what a stop means for the run
 abbrev pub end_of : Stop → Result (Unit {0}) EdgeFault
 end_of stop.Cut = Ok tt
@@ -100,15 +115,79 @@ end_of (stop.Bad header.BadKind) = Err BadKind
 end_of (stop.Bad header.BadInterface) = Err BadInterface
 end_of (stop.Bad header.TooLong) = Err TooLong
 end_of (stop.Refused fault) = Err (Gateway fault)
-end_of (stop.Lost fault) = Err (Gateway fault)
 
--- all whole frames at the front were answered, or why not
-abbrev pub Closed : Result (Unit {0}) EdgeFault → Told → Told → List ℕ → List ℕ → List ℕ → ℕ → Type 0
-Closed (Ok done) old new bytes rest out count = Served old new bytes rest out count
-Closed (Err fault) old new bytes rest out count = Ends fault old new bytes out ⊥
+-- the gateway took no fault
+abbrev pub GoesOn : Step → Type 0
+GoesOn (step.Took n) = Unit {0}
+GoesOn (step.Ends stop.Cut) = Unit {0}
+GoesOn (step.Ends (stop.Bad fault)) = Unit {0}
+GoesOn (step.Ends (stop.Refused fault)) = ⊥
 
--- what one read, and all that it made whole, came to
-abbrev pub Turned : Result Turn EdgeFault → Told → Told → List ℕ → List ℕ → List ℕ → ℕ → Type 0 → Type 0
-Turned (Ok turn.More) old new bytes rest sent count at_end = Served old new bytes rest sent count
-Turned (Ok turn.End) old new bytes rest sent count at_end = Done count old new bytes sent at_end
-Turned (Err fault) old new bytes rest sent count at_end = Ends fault old new bytes sent at_end
+module _ {D : Type 0} (honest : D → Type 0) (moment : D → ℕ) (left : D → ℕ → Files → Type 0) (failed : D → ℕ) where
+  -- a fault of the gateway has its cause
+  abbrev pub Explains : EdgeFault → Kept D → Kept D → Type 0
+  Explains BadKind old new = Unit {0}
+  Explains BadInterface old new = Unit {0}
+  Explains TooLong old new = Unit {0}
+  Explains Truncated old new = Unit {0}
+  Explains Input old new = Unit {0}
+  Explains Output old new = Unit {0}
+  Explains (Gateway fault) old new = IsWhy honest moment left failed old new fault
+
+  -- what one frame at the front came to
+  abbrev pub Stepped : Step → List ℕ → Kept D → Kept D → List (ℕ × Answer) → List (ℕ × Answer) → Type 0
+  Stepped (step.Took n) bytes old new before out =
+      (event : Event) × (next bytes ≡ Whole event (drop n bytes)) × (14 ≤ n) × (n ≤ length bytes) × CarriesOn honest moment left failed old new (event ∷ []) before out
+  Stepped (step.Ends stop.Cut) bytes old new before out = (next bytes ≡ Cut) × CarriesOn honest moment left failed old new [] before out
+  Stepped (step.Ends (stop.Bad fault)) bytes old new before out = (next bytes ≡ Bad fault) × CarriesOn honest moment left failed old new [] before out
+  Stepped (step.Ends (stop.Refused fault)) bytes old new before out =
+      (events : List Event) × (later : List ℕ) × Reads bytes events later × BreaksOff honest moment left failed old new events before out fault
+
+  -- what all whole frames at the front came to
+  abbrev pub Offered : Stop → List ℕ → List ℕ → ℕ → Kept D → Kept D → List (ℕ × Answer) → List (ℕ × Answer) → Type 0
+  Offered stop.Cut bytes rest count old new before out =
+      (events : List Event) × Reads bytes events rest × (next rest ≡ Cut) × (count ≡ length events) × CarriesOn honest moment left failed old new events before out
+  Offered (stop.Bad fault) bytes rest count old new before out =
+      (events : List Event) × Reads bytes events rest × (next rest ≡ Bad fault) × CarriesOn honest moment left failed old new events before out
+  Offered (stop.Refused fault) bytes rest count old new before out =
+      (events : List Event) × (later : List ℕ) × Reads bytes events later × BreaksOff honest moment left failed old new events before out fault
+
+  -- the events of the frames at the front were taken, and their answers handed out; nothing is held
+  pub record IsSettled (start now : Kept D) (events : List Event) (out : List (ℕ × Answer)) : Type 0 where
+    pub stands : Stands honest moment left failed start now events out
+    pub none : now.told.held ≡ []
+
+  -- the frames at the front, behind which a header is faulty, were settled
+  pub record IsBad (fault : HeaderFault) (bytes rest : List ℕ) (start now : Kept D) (out : List (ℕ × Answer)) : Type 0 where
+    pub events : List Event
+    pub reads : Reads bytes events rest
+    pub bad : next rest ≡ Bad fault
+    pub settled : IsSettled start now events out
+
+  -- the gateway's fault ended it behind the first of the events
+  pub record IsRefused (fault : GatewayFault) (bytes : List ℕ) (start now : Kept D) (out : List (ℕ × Answer)) : Type 0 where
+    pub front : List Event
+    pub back : List Event
+    pub split : events_in bytes ≡ front ++ back
+    pub ends : run.Ends honest moment left failed start now front out
+    pub is_why : IsWhy honest moment left failed start now fault
+    pub none : now.fallen ≡ false → now.told.held ≡ []
+
+  -- the frames at the front were settled, or why not
+  abbrev pub Closed : Result (Unit {0}) EdgeFault → List ℕ → List ℕ → ℕ → Kept D → Kept D → List (ℕ × Answer) → Type 0
+  Closed (Ok done) bytes rest count start now out =
+      (events : List Event) × Reads bytes events rest × (next rest ≡ Cut) × (count ≡ length events) × IsSettled start now events out
+  Closed (Err BadKind) bytes rest count start now out = IsBad header.BadKind bytes rest start now out
+  Closed (Err BadInterface) bytes rest count start now out = IsBad header.BadInterface bytes rest start now out
+  Closed (Err TooLong) bytes rest count start now out = IsBad header.TooLong bytes rest start now out
+  Closed (Err Truncated) bytes rest count start now out = ⊥
+  Closed (Err Input) bytes rest count start now out = ⊥
+  Closed (Err Output) bytes rest count start now out = ⊥
+  Closed (Err (Gateway fault)) bytes rest count start now out = IsRefused fault bytes start now out
+
+  -- all whole frames at the front were settled and their answers sent, or why not
+  abbrev pub SettledAndSent : Result ℕ EdgeFault → Kept D → Kept D → List ℕ → List ℕ → List (ℕ × Answer) → List ℕ → Type 0
+  SettledAndSent (Ok count) old new bytes rest out sent =
+      (events : List Event) × Reads bytes events rest × (next rest ≡ Cut) × (count ≡ length events) × IsSettled old new events out × (sent ≡ frames out)
+  SettledAndSent (Err fault) old new bytes rest out sent =
+      Ends fault old.told new.told bytes sent ⊥ × Fares honest moment left old new (events_in bytes) sent × Explains fault old new

@@ -5,7 +5,7 @@ ghost use Rattle.socket_edge.specs.Answering.{iface_byte, kind_byte, body_of, fr
 use gateway::{Answer, Iface};
 use std::alloc::AllocError;
 
-fn kind_of(answer: &Answer) -> u8
+pub fn kind_of(answer: &Answer) -> u8
     ensures { result ≡ kind_byte answer.now }
 {
     match answer {
@@ -17,7 +17,7 @@ fn kind_of(answer: &Answer) -> u8
     }
 }
 
-fn byte_of(iface: Iface) -> u8
+pub fn byte_of(iface: Iface) -> u8
     ensures { result ≡ iface_byte iface }
 {
     match iface {
@@ -26,7 +26,7 @@ fn byte_of(iface: Iface) -> u8
     }
 }
 
-fn body_len(answer: &Answer) -> u32
+pub fn body_len(answer: &Answer) -> u32
     ensures { result ≡ length (body_of answer.now) }
 {
     match answer {

@@ -1,13 +1,15 @@
 //! A run: what is read is offered, and the answers are written.
-ghost use Rattle.std.specs.Prelude.{◌≡◌, ◌≢◌, ℕ, List, [], ◌++◌, ◌-◌, ◌<◌, ◌≤◌, IfOk, IfErr, OnOk, length, take, drop};
+ghost use Rattle.std.specs.Prelude.{◌≡◌, ◌≢◌, ◌↔◌, ℕ, List, [], ◌++◌, ◌+◌, ◌<◌, ◌≤◌, ◌^◌, true, false, IfOk, IfErr, OnOk, length, drop, vec_len, vec_capacity};
 ghost use Rattle.std.specs.Io.KnownBytes.{Appends, Consumes, IsAtEnd};
-ghost use Rattle.gateway.specs.Told.{Told};
 ghost use Rattle.socket_edge.specs.Requests.{next, Cut};
-ghost use Rattle.socket_edge.specs.Running.{Offered, end_of, Closed, Turned, Ran};
+ghost use Rattle.socket_edge.specs.Running.{Came, Explains, Fares, Ran, SettledAndSent, Turned, events_in};
 
-use crate::fault::{EdgeFault, HeaderFault};
-use crate::serving::{Stop, hand_out, offer_all};
-use gateway::{Gateway, GatewayFault};
+use crate::fault::EdgeFault;
+use crate::sending::send_all;
+use crate::serving::{close, offer_all, tidy};
+use disk_model::Disk;
+use gateway::running::begin;
+use gateway::{Answer, Gateway, GatewayFault};
 use std::alloc::{AllocError, Global};
 use std::io::{Read, Write};
 
@@ -17,53 +19,10 @@ const MOST_READ: usize = 65_536;
 /// Whether the input goes on.
 #[derive(Clone, Copy, Drop)]
 pub enum Turn {
-    /// Bytes came, and all whole frames are answered.
-    More,
+    /// Bytes came, and all whole frames, of which there are so many, are answered.
+    More(u64),
     /// The input is read to its end, and no part of a frame is left.
     End,
-}
-
-fn end_at(stop: Stop) -> Result<(), EdgeFault>
-    ensures { result ≡ end_of stop }
-{
-    match stop {
-        Stop::Cut => Ok(()),
-        Stop::Bad(HeaderFault::BadKind) => Err(EdgeFault::BadKind),
-        Stop::Bad(HeaderFault::BadInterface) => Err(EdgeFault::BadInterface),
-        Stop::Bad(HeaderFault::TooLong) => Err(EdgeFault::TooLong),
-        Stop::Refused(fault) => Err(EdgeFault::Gateway(fault)),
-        Stop::Lost(fault) => Err(EdgeFault::Gateway(fault)),
-    }
-}
-
-/// Hands out what is held, where no answer was lost.
-fn close(stop: Stop, out: &mut Vec<u8>, gateway: &mut Gateway) -> Result<(), EdgeFault>
-    ensures { (old : Told) (bytes rest : List ℕ) (count : ℕ) → Offered stop bytes rest count old gateway.old [] out.old.items
-        → Closed result old gateway.new bytes rest out.new.items count }
-{
-    if let Stop::Lost(_) = stop {
-        return end_at(stop);
-    }
-    match hand_out(out, gateway) {
-        Err(fault) => Err(EdgeFault::Gateway(fault)),
-        Ok(()) => end_at(stop),
-    }
-}
-
-/// Writes the bytes; a beginning of them, at an `Err`.
-fn write_out<W: Write>(writer: &mut W, bytes: &[u8]) -> Result<(), EdgeFault>
-    ensures ok { OnOk result (Appends (W.contents writer.old) (W.contents writer.new) bytes.now) }
-    ensures err { IfErr result (λ e. (e ≡ EdgeFault.Output) × (n : ℕ) × Appends (W.contents writer.old) (W.contents writer.new) (take n bytes.now)) }
-{
-    let mut at = 0;
-    while at < bytes.len() {
-        match writer.write(&bytes[at..]) {
-            Ok(0) => return Err(EdgeFault::Output),
-            Ok(n) => at += n,
-            Err(_) => return Err(EdgeFault::Output),
-        }
-    }
-    Ok(())
 }
 
 /// Takes the first `at` bytes away.
@@ -79,49 +38,82 @@ fn remove_front(pending: &mut Vec<u8>, at: usize)
     pending.truncate(len - at);
 }
 
-/// Offers the whole frames at the front of `pending`, and writes their answers.
-fn serve<W: Write>(
+/// Offers the whole frames at the front of `pending`, and writes their answers. Answers how many there were.
+fn answer_front<W: Write, D: Disk + Drop>(
     alloc: Global,
     writer: &mut W,
-    gateway: &mut Gateway,
+    gateway: &mut Gateway<D>,
     pending: &mut Vec<u8>,
-    count: &mut u64,
-) -> Result<(), EdgeFault>
-    requires counted { count.old ≤ gateway.old.last }
-    ensures served { (sent : List ℕ) × Appends (W.contents writer.old) (W.contents writer.new) sent
-        × Closed result gateway.old gateway.new pending.old.items pending.new.items sent (count.new - count.old) }
-    ensures counted { count.old ≤ count.new }
+    answers: &mut Vec<(u64, Answer)>,
+) -> Result<u64, EdgeFault>
+    requires stands { gateway.old.fallen ≡ false }
+    requires none { answers.old.items ≡ [] }
+    requires room { vec_len answers.old + length gateway.old.told.held ≤ vec_capacity answers.old }
+    ensures came { (sent : List ℕ) × Appends (W.contents writer.old) (W.contents writer.new) sent
+        × SettledAndSent D.honest D.moment D.left D.failed result gateway.old gateway.new
+        pending.old.items pending.new.items answers.new.items sent }
+    ensures room { vec_len answers.new + length gateway.new.told.held ≤ vec_capacity answers.new }
 {
-    let mut out = Vec::new(alloc);
-    let (at, stop) = offer_all(alloc, pending.as_slice(), &mut out, gateway, count);
-    let closed = close(stop, &mut out, gateway);
-    match write_out(writer, out.as_slice()) {
-        Ok(()) => {}
-        Err(_) => return Err(EdgeFault::Output),
-    }
+    begin(gateway);
+    let (at, count, stop) = offer_all(alloc, pending.as_slice(), answers, gateway);
+    let closed = close(stop, answers, gateway);
+    send_all(alloc, writer, answers.as_slice())?;
     closed?;
     remove_front(pending, at);
-    Ok(())
+    Ok(count)
+}
+
+/// Offers the whole frames at the front of `pending`, writes their answers, and compacts where the file has grown.
+fn serve<W: Write, D: Disk + Drop>(
+    alloc: Global,
+    writer: &mut W,
+    gateway: &mut Gateway<D>,
+    pending: &mut Vec<u8>,
+) -> Result<u64, EdgeFault>
+    requires stands { gateway.old.fallen ≡ false }
+    ensures served { (sent : List ℕ) × Appends (W.contents writer.old) (W.contents writer.new) sent
+        × Came result gateway.old.told gateway.new.told pending.old.items pending.new.items sent
+        × Fares D.honest D.moment D.left gateway.old gateway.new (events_in pending.old.items) sent }
+    ensures why { IfErr result (λ e. Explains D.honest D.moment D.left D.failed e gateway.old gateway.new) }
+    ensures stands { OnOk result (gateway.new.fallen ≡ false) }
+    ensures passed { OnOk result (D.failed gateway.new.disk ≡ D.failed gateway.old.disk) }
+    ensures grown { OnOk result (gateway.new.grown ≤ 1048576) }
+{
+    begin(gateway);
+    let Ok(mut answers) = Vec::with_capacity(alloc, gateway.held()) else {
+        return Err(EdgeFault::Gateway(GatewayFault::NoMemory));
+    };
+    let count = answer_front(alloc, writer, gateway, pending, &mut answers)?;
+    match tidy(gateway, &mut answers) {
+        Ok(()) => Ok(count),
+        Err(fault) => Err(EdgeFault::Gateway(fault)),
+    }
 }
 
 /// One read, and all that it makes whole.
-fn read_once<R: Read, W: Write>(
+fn read_once<R: Read, W: Write, D: Disk + Drop>(
     alloc: Global,
     reader: &mut R,
     writer: &mut W,
-    gateway: &mut Gateway,
+    gateway: &mut Gateway<D>,
     buffer: &mut [u8],
     pending: &mut Vec<u8>,
-    count: &mut u64,
 ) -> Result<Turn, EdgeFault>
-    requires counted { count.old ≤ gateway.old.last }
+    requires stands { gateway.old.fallen ≡ false }
     requires room { 0 < length buffer.old }
     requires cut { next pending.old.items ≡ Cut }
     ensures turned { (got sent : List ℕ) × Consumes (R.remaining reader.old) (R.remaining reader.new) got
         × Appends (W.contents writer.old) (W.contents writer.new) sent
-        × Turned result gateway.old gateway.new (pending.old.items ++ got) pending.new.items sent (count.new - count.old) (IsAtEnd (R.remaining reader.new)) }
-    ensures counted { count.old ≤ count.new }
+        × Turned result gateway.old.told gateway.new.told (pending.old.items ++ got) pending.new.items sent
+        (IsAtEnd (R.remaining reader.new))
+        × Fares D.honest D.moment D.left gateway.old gateway.new (events_in (pending.old.items ++ got)) sent }
+    ensures why { IfErr result (λ e. Explains D.honest D.moment D.left D.failed e gateway.old gateway.new) }
+    ensures stands { OnOk result (gateway.new.fallen ≡ false) }
+    ensures passed { OnOk result (D.failed gateway.new.disk ≡ D.failed gateway.old.disk) }
+    ensures grown { IfOk result (λ turn. (turn ≢ Turn.End) → gateway.new.grown ≤ 1048576) }
+    ensures stays { IfOk result (λ turn. turn ≡ Turn.End → gateway.new ≡ gateway.old) }
 {
+    begin(gateway);
     let n = match reader.read(buffer) {
         Ok(n) => n,
         Err(_) => return Err(EdgeFault::Input),
@@ -136,8 +128,8 @@ fn read_once<R: Read, W: Write>(
         Ok(()) => {}
         Err(_) => return Err(EdgeFault::Gateway(GatewayFault::NoMemory)),
     }
-    match serve(alloc, writer, gateway, pending, count) {
-        Ok(()) => Ok(Turn::More),
+    match serve(alloc, writer, gateway, pending) {
+        Ok(count) => Ok(Turn::More(count)),
         Err(fault) => Err(fault),
     }
 }
@@ -150,8 +142,17 @@ fn zeros(alloc: Global, size: usize) -> Result<Vec<u8>, AllocError>
     Vec::from_elem(alloc, 0u8, size)
 }
 
-/// Answers each request that the reader gives, in order, until its end or a fault, and says how
-/// many there were. The answers to the whole frames of a read are written before the next read.
+/// The sum, which has 64 bits.
+fn sum(count: u64, more: u64) -> u64
+    requires { count + more < 2 ^ 64 }
+    ensures { result ≡ count + more }
+{
+    count + more
+}
+
+/// Answers each request that the reader gives, in order, until its end or a fault, and says how many there were. What
+/// one read of at most 65,536 bytes makes whole is offered, its changes are synced, and its answers are written before
+/// the next read. Where the groups of the active file have grown above 1,048,576 bytes then, the gateway is compacted.
 ///
 /// A request frame has 14 bytes and a body: kind (1 byte: 1 packet, 2 load, 3 moment), interface
 /// (1 byte: 0 lan, 1 wan; 0 for loads and moments), length of the body (4 bytes; at most 65,535
@@ -167,28 +168,41 @@ fn zeros(alloc: Global, size: usize) -> Result<Vec<u8>, AllocError>
 /// - `Truncated` where the input ends within a frame.
 /// - `Input` where a read fails, or behind 2^64 - 1 reads.
 /// - `Output` where a write fails or takes no byte.
-/// - `Gateway` with the gateway's fault, or with `NoMemory` where memory of the edge is refused.
+/// - `Gateway` with the gateway's fault, or with `NoMemory` where memory of the edge is refused; never with `HeldFull`
+///   or `Full`. With `Reopen` exactly where the gateway had fallen before: then nothing is read, and nothing changes.
 ///
 /// The events that the gateway took stay taken. After `Output` a beginning of the answer frames is written,
-/// also a part of a frame; after `Gateway` the frames of a beginning of the events; after any other fault the
-/// frames of all events that were read.
-pub fn run<R: Read, W: Write>(
+/// also a part of a frame; after `Gateway` the frames of a beginning of the events, and other answers are held; after
+/// any other fault the frames of all events that were read. Unless a call of the disk has failed, nothing is held where
+/// nothing was held before.
+pub fn run<R: Read, W: Write, D: Disk + Drop>(
     alloc: Global,
     reader: &mut R,
     writer: &mut W,
-    gateway: &mut Gateway,
+    gateway: &mut Gateway<D>,
 ) -> Result<u64, EdgeFault>
+    // What was read and what was written, how the run ended, and what a crash leaves of it.
     ensures ran { (given written : List ℕ) × Consumes (R.remaining reader.old) (R.remaining reader.new) given
         × Appends (W.contents writer.old) (W.contents writer.new) written
-        × Ran result gateway.old gateway.new given written (IsAtEnd (R.remaining reader.new)) }
-    ensures not_held_full { IfErr result (λ fault. fault ≢ EdgeFault.Gateway GatewayFault.HeldFull) }
+        × Ran result gateway.old.told gateway.new.told given written (IsAtEnd (R.remaining reader.new))
+        × Fares D.honest D.moment D.left gateway.old gateway.new (events_in given) written }
+    ensures why { gateway.old.fallen ≡ false → IfErr result (λ e. Explains D.honest D.moment D.left D.failed e gateway.old gateway.new) }
+    ensures stands { OnOk result ((gateway.old.fallen ≡ false) × (gateway.new.fallen ≡ false)) }
+    ensures reopen { IfErr result (λ e. (e ≡ EdgeFault.Gateway GatewayFault.Reopen) ↔ (gateway.old.fallen ≡ true)) }
+    ensures reopen_stays { gateway.old.fallen ≡ true → gateway.new ≡ gateway.old }
+    ensures causes { IfErr result (λ e. (e ≢ EdgeFault.Gateway GatewayFault.HeldFull) × (e ≢ EdgeFault.Gateway GatewayFault.Full)) }
+    ensures compacted { IfOk result (λ count. 0 < count → gateway.new.grown ≤ 1048576) }
 {
+    if gateway.has_fallen() {
+        return Err(EdgeFault::Gateway(GatewayFault::Reopen));
+    }
+    begin(gateway);
     let mut buffer = match zeros(alloc, MOST_READ) {
         Ok(buffer) => buffer,
         Err(_) => return Err(EdgeFault::Gateway(GatewayFault::NoMemory)),
     };
     let mut pending = Vec::new(alloc);
-    let mut count = 0;
+    let mut count: u64 = 0;
     for _ in 0..u64::MAX {
         match read_once(
             alloc,
@@ -197,12 +211,15 @@ pub fn run<R: Read, W: Write>(
             gateway,
             buffer.as_mut_slice(),
             &mut pending,
-            &mut count,
         ) {
-            Ok(Turn::More) => {}
+            Ok(Turn::More(more)) => {
+                gateway.facts();
+                count = sum(count, more);
+            }
             Ok(Turn::End) => return Ok(count),
             Err(fault) => return Err(fault),
         }
     }
+    begin(gateway);
     Err(EdgeFault::Input)
 }

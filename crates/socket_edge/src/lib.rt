@@ -1,13 +1,14 @@
 //! Bytes in, answer frames out: the edge between a byte stream and a gateway.
 //!
 //! It works over any byte stream, whatever its name says: a reader (`std::io::Read`) and a writer
-//! (`std::io::Write`). Today `natgw` hands it standard input and standard output, and no socket is opened.
+//! (`std::io::Write`). `natgw` hands it standard input and output, or both sides of a Unix socket.
 //!
 //! `run` reads request frames, offers each whole one to the gateway, and writes the frames of the
 //! answers, in whatever pieces the bytes come and go. The rooms:
 //! - `request`: what stands at the front of the bytes: a whole frame, a part of one, or a fault;
 //! - `answer`: the frames of answers;
 //! - `serving`: all whole frames at the front, offered in order;
+//! - `sending`: the frames of the answers, written with or without memory for them in one piece;
 //! - `edge`: the run, one read after the other;
 //! - `laws`: what holds of every stream of frames;
 //! - `fault`: why a run ends early.
@@ -18,9 +19,10 @@ mod edge;
 mod fault;
 pub mod laws;
 mod request;
-mod serving;
+mod sending;
 #[cfg(test)]
-mod tests;
+mod sending_tests;
+mod serving;
 
 pub use edge::run;
 pub use fault::{EdgeFault, HeaderFault};

@@ -1,17 +1,18 @@
 //! Offering the whole frames at the front of the bytes.
-ghost use Rattle.std.specs.Prelude.{◌≡◌, ◌∷◌, [], ◌-◌, ◌<◌, ◌≤◌, OnOk, IfErr, length, drop};
-ghost use Rattle.gateway.specs.declared.fault.GatewayFault.TheVariants.{NoMemory};
-ghost use Rattle.socket_edge.specs.Answering.{Progress, Begun};
-ghost use Rattle.socket_edge.specs.Running.{OfferedOne, Stepped, Offered};
+ghost use Rattle.std.specs.Prelude.{◌≡◌, ◌≢◌, ◌+◌, ◌∷◌, [], ℕ, List, ◌<◌, ◌≤◌, false, length, drop, IfErr, OnOk, vec_len, vec_capacity};
+ghost use Rattle.gateway.specs.Kept.{Kept};
+ghost use Rattle.gateway.specs.Running.{Stands, CarriesOn, BreaksOff};
+ghost use Rattle.socket_edge.specs.Running.{Stepped, Offered, Closed, GoesOn, end_of};
 
-use crate::answer::{put_frame, put_frames};
-use crate::fault::HeaderFault;
+use crate::fault::{EdgeFault, HeaderFault};
 use crate::request::{Taken, take_frame};
-use gateway::{Event, Gateway, GatewayFault, Given};
-use std::alloc::Global;
+use disk_model::Disk;
+use gateway::running::{compact, hand_out, take};
+use gateway::{Answer, Event, Gateway, GatewayFault};
+use std::alloc::{AllocError, Global};
 
-/// The most answers that a gateway holds. Today's gateway holds none.
-const MOST_HELD: usize = 64;
+/// The most bytes of groups that a file keeps when what was read is answered.
+const MOST_GROWN: u64 = 1_048_576;
 
 /// Why no more frames are offered.
 #[derive(Clone, Copy, Drop)]
@@ -20,105 +21,158 @@ pub enum Stop {
     Cut,
     /// The next header is faulty.
     Bad(HeaderFault),
-    /// The gateway took no more; what it holds can still be handed out.
+    /// The gateway took no more, or memory for the next frame was refused.
     Refused(GatewayFault),
-    /// An answer couldn't be handed out, so no later one may be.
-    Lost(GatewayFault),
 }
 
 /// What the front of the bytes came to.
 #[derive(Clone, Copy, Drop)]
 pub enum Step {
-    /// A frame of so many bytes was taken, and its event has this number.
-    Took(usize, u64),
+    /// A frame of so many bytes was taken.
+    Took(usize),
     /// No more frames are offered.
     Ends(Stop),
 }
 
-/// Puts out the frames of the answers that the gateway holds.
-///
-/// # Errors
-///
-/// `NoMemory` where memory for a frame is refused, when a beginning of the answers is put out and the others are
-/// lost; or the gateway's fault, when none is.
-pub fn hand_out(out: &mut Vec<u8>, gateway: &mut Gateway) -> Result<(), GatewayFault>
-    ensures ok { OnOk result (Progress gateway.old gateway.new [] out.old.items out.new.items × (gateway.new.held ≡ [])) }
-    ensures err { IfErr result (λ fault. (fault ≡ NoMemory) × Begun gateway.old gateway.new [] out.old.items out.new.items) }
+/// What a stop means for the run.
+pub fn end_at(stop: Stop) -> Result<(), EdgeFault>
+    ensures { result ≡ end_of stop }
 {
-    match gateway.flush() {
-        Ok(answers) => match put_frames(out, answers.as_slice()) {
-            Ok(()) => Ok(()),
-            Err(_) => Err(GatewayFault::NoMemory),
-        },
-        Err(fault) => Err(fault),
+    match stop {
+        Stop::Cut => Ok(()),
+        Stop::Bad(HeaderFault::BadKind) => Err(EdgeFault::BadKind),
+        Stop::Bad(HeaderFault::BadInterface) => Err(EdgeFault::BadInterface),
+        Stop::Bad(HeaderFault::TooLong) => Err(EdgeFault::TooLong),
+        Stop::Refused(fault) => Err(EdgeFault::Gateway(fault)),
     }
 }
 
-/// Hands out what is held where no more events can be held.
-fn make_room(out: &mut Vec<u8>, gateway: &mut Gateway) -> Result<(), GatewayFault>
-    ensures ok { OnOk result (Progress gateway.old gateway.new [] out.old.items out.new.items × (length gateway.new.held < 64)) }
-    ensures err { IfErr result (λ fault. (fault ≡ NoMemory) × Begun gateway.old gateway.new [] out.old.items out.new.items) }
+/// Makes room for so many answers more.
+fn make_slots(answers: &mut Vec<(u64, Answer)>, more: usize) -> Result<(), AllocError>
+    ensures items { answers.new.items ≡ answers.old.items }
+    ensures ok { OnOk result (vec_len answers.new + more ≤ vec_capacity answers.new) }
+    ensures capacity { vec_capacity answers.old ≤ vec_capacity answers.new }
 {
-    if gateway.held() < MOST_HELD {
+    if answers.capacity() - answers.len() >= more {
         return Ok(());
     }
-    hand_out(out, gateway)
+    answers.reserve(more)
 }
 
-/// Offers an event, and puts out the answers that this hands out.
-fn offer_event(event: Event, out: &mut Vec<u8>, gateway: &mut Gateway) -> Result<u64, Stop>
-    ensures offered { OfferedOne result event gateway.old gateway.new out.old.items out.new.items }
+/// Offers an event.
+fn offer_event<D: Disk + Drop>(
+    event: Event,
+    answers: &mut Vec<(u64, Answer)>,
+    gateway: &mut Gateway<D>,
+) -> Result<(), GatewayFault>
+    requires stands { gateway.old.fallen ≡ false }
+    requires room { vec_len answers.old + length gateway.old.told.held ≤ vec_capacity answers.old }
+    ensures ok { OnOk result (CarriesOn D.honest D.moment D.left D.failed gateway.old gateway.new (event ∷ [])
+        answers.old.items answers.new.items) }
+    ensures err { IfErr result (BreaksOff D.honest D.moment D.left D.failed gateway.old gateway.new (event ∷ [])
+        answers.old.items answers.new.items) }
+    ensures stands { OnOk result (gateway.new.fallen ≡ false) }
+    ensures room { vec_len answers.new + length gateway.new.told.held ≤ vec_capacity answers.new }
 {
-    if let Err(fault) = make_room(out, gateway) {
-        return Err(Stop::Lost(fault));
+    let more = gateway.held() + 1;
+    if make_slots(answers, more).is_err() {
+        return Err(GatewayFault::NoMemory);
     }
-    match gateway.offer(event) {
-        Ok(Given::Now(number, answer)) => match put_frame(out, number, &answer) {
-            Ok(()) => Ok(number),
-            Err(_) => Err(Stop::Lost(GatewayFault::NoMemory)),
-        },
-        Ok(Given::Held(number)) => Ok(number),
-        Err((_, fault)) => Err(Stop::Refused(fault)),
-    }
+    take(gateway, event, answers)
 }
 
 /// Offers the frame at the front.
-fn offer_next(alloc: Global, bytes: &[u8], out: &mut Vec<u8>, gateway: &mut Gateway) -> Step
-    ensures step { Stepped result bytes.now gateway.old gateway.new out.old.items out.new.items }
+fn offer_next<D: Disk + Drop>(
+    alloc: Global,
+    bytes: &[u8],
+    answers: &mut Vec<(u64, Answer)>,
+    gateway: &mut Gateway<D>,
+) -> Step
+    requires stands { gateway.old.fallen ≡ false }
+    requires room { vec_len answers.old + length gateway.old.told.held ≤ vec_capacity answers.old }
+    ensures step { Stepped D.honest D.moment D.left D.failed result bytes.now gateway.old gateway.new
+        answers.old.items answers.new.items }
+    ensures stands { GoesOn result → gateway.new.fallen ≡ false }
+    ensures room { vec_len answers.new + length gateway.new.told.held ≤ vec_capacity answers.new }
 {
     match take_frame(alloc, bytes) {
         Err(_) => Step::Ends(Stop::Refused(GatewayFault::NoMemory)),
         Ok(Taken::Cut) => Step::Ends(Stop::Cut),
         Ok(Taken::Bad(fault)) => Step::Ends(Stop::Bad(fault)),
-        Ok(Taken::Whole(event, n)) => match offer_event(event, out, gateway) {
-            Ok(number) => Step::Took(n, number),
-            Err(stop) => Step::Ends(stop),
+        Ok(Taken::Whole(event, n)) => match offer_event(event, answers, gateway) {
+            Ok(()) => Step::Took(n),
+            Err(fault) => Step::Ends(Stop::Refused(fault)),
         },
     }
 }
 
-/// Offers each whole frame at the front, counts them on in `count`, and answers how many bytes they are and why
-/// no more are offered.
-pub fn offer_all(
+/// Offers each whole frame at the front, and says how many bytes they are, how many frames, and why no more are offered.
+pub fn offer_all<D: Disk + Drop>(
     alloc: Global,
     bytes: &[u8],
-    out: &mut Vec<u8>,
-    gateway: &mut Gateway,
-    count: &mut u64,
-) -> (usize, Stop)
-    requires { count.old ≤ gateway.old.last }
+    answers: &mut Vec<(u64, Answer)>,
+    gateway: &mut Gateway<D>,
+) -> (usize, u64, Stop)
+    requires stands { gateway.old.fallen ≡ false }
+    requires room { vec_len answers.old + length gateway.old.told.held ≤ vec_capacity answers.old }
     ensures within { result.0 ≤ length bytes.now }
-    ensures offered { Offered result.1 bytes.now (drop result.0 bytes.now) (count.new - count.old) gateway.old gateway.new out.old.items out.new.items }
-    ensures counted { count.old ≤ count.new }
+    ensures offered { Offered D.honest D.moment D.left D.failed result.2 bytes.now (drop result.0 bytes.now) result.1
+        gateway.old gateway.new answers.old.items answers.new.items }
+    ensures room { vec_len answers.new + length gateway.new.told.held ≤ vec_capacity answers.new }
 {
     let mut at = 0;
+    let mut count: usize = 0;
     loop {
-        match offer_next(alloc, &bytes[at..], out, gateway) {
-            Step::Took(n, _number) => {
+        match offer_next(alloc, &bytes[at..], answers, gateway) {
+            Step::Took(n) => {
                 at += n;
-                *count += 1;
+                count += 1;
             }
-            Step::Ends(stop) => return (at, stop),
+            Step::Ends(stop) => return (at, count as u64, stop),
         }
     }
+}
+
+/// Hands out what is held, where the gateway has not fallen, and says what the stop means.
+pub fn close<D: Disk + Drop>(
+    stop: Stop,
+    answers: &mut Vec<(u64, Answer)>,
+    gateway: &mut Gateway<D>,
+) -> Result<(), EdgeFault>
+    requires room { vec_len answers.old + length gateway.old.told.held ≤ vec_capacity answers.old }
+    ensures closed { (start : Kept D) (bytes rest : List ℕ) (count : ℕ) → Stands D.honest D.moment D.left D.failed start start [] []
+        → Offered D.honest D.moment D.left D.failed stop bytes rest count start gateway.old [] answers.old.items
+        → Closed D.honest D.moment D.left D.failed result bytes rest count start gateway.new answers.new.items }
+    ensures room { vec_len answers.new + length gateway.new.told.held ≤ vec_capacity answers.new }
+{
+    if gateway.has_fallen() {
+        return end_at(stop);
+    }
+    match hand_out(gateway, answers) {
+        Err(fault) => Err(EdgeFault::Gateway(fault)),
+        Ok(()) => end_at(stop),
+    }
+}
+
+/// Compacts where the file has grown by more than `MOST_GROWN`. The answers are those that were handed out.
+pub fn tidy<D: Disk + Drop>(
+    gateway: &mut Gateway<D>,
+    answers: &mut Vec<(u64, Answer)>,
+) -> Result<(), GatewayFault>
+    requires stands { gateway.old.fallen ≡ false }
+    requires none { gateway.old.told.held ≡ [] }
+    requires room { vec_len answers.old + length gateway.old.told.held ≤ vec_capacity answers.old }
+    ensures ok { OnOk result (CarriesOn D.honest D.moment D.left D.failed gateway.old gateway.new []
+        answers.old.items answers.new.items) }
+    ensures err { IfErr result (BreaksOff D.honest D.moment D.left D.failed gateway.old gateway.new []
+        answers.old.items answers.new.items) }
+    ensures stands { OnOk result (gateway.new.fallen ≡ false) }
+    ensures none { gateway.new.told.held ≡ [] }
+    ensures answers { answers.new.items ≡ answers.old.items }
+    ensures grown { OnOk result (gateway.new.grown ≤ 1048576) }
+{
+    if gateway.grown() <= MOST_GROWN {
+        return Ok(());
+    }
+    compact(gateway, answers)
 }

@@ -5,5 +5,3 @@
 
 #[cfg(test)]
 mod tests;
-#[cfg(test)]
-mod trial;

@@ -1,6 +1,5 @@
 //! What a store writes, and what it finds again.
 
-use crate::trial::Trial;
 use disk_model::{Disk, FileId};
 use durable::{Flow, begin_code, end_code, load_front};
 use journal::Group;
@@ -11,6 +10,7 @@ use snapshot::{CommitFault, CompactFault, OpenFault, Opened, Store};
 use std::alloc::{AllocError, Global};
 use std::process::Abort;
 use std::test::*;
+use trial_disk::Trial;
 
 // A file that was just made: gate, mark, generation 1, `lan`, `wan`, 192.168.0.0/16, 203.0.113.1, no text, no session,
 // and a closed gate.
@@ -98,13 +98,6 @@ fn ended(alloc: Global) -> Result<Group, AllocError> {
     Ok(group)
 }
 
-fn contents(alloc: Global, disk: &mut Trial, file: FileId) -> Result<Vec<u8>, Fail> {
-    let len = disk.len(file)?;
-    let mut bytes = vec![in alloc; 0; len as usize]?;
-    disk.read_at(file, 0, &mut bytes)?;
-    Ok(bytes)
-}
-
 fn open(alloc: Global, disk: Trial, bounds: &Bounds) -> Result<Opened<Trial>, (Trial, OpenFault)> {
     Store::open(alloc, disk, bounds)
 }
@@ -158,9 +151,9 @@ fn compact(alloc: Global, store: &mut Store<Trial>) -> Came {
 
 // Looks at the bytes of both files, and whether each call was within its file.
 fn look(rt: &impl Abort, alloc: Global, disk: &mut Trial, a: &[u8], b: &[u8]) -> Result<(), Fail> {
-    assert_eq!(rt; contents(alloc, disk, FileId::A)?.as_slice(), a);
-    assert_eq!(rt; contents(alloc, disk, FileId::B)?.as_slice(), b);
-    assert!(rt; !disk.strayed);
+    assert_eq!(rt; disk.bytes(alloc, FileId::A)?.as_slice(), a);
+    assert_eq!(rt; disk.bytes(alloc, FileId::B)?.as_slice(), b);
+    assert!(rt; !disk.has_strayed());
     Ok(())
 }
 
@@ -331,7 +324,7 @@ fn check(
     script: &Script,
     acknowledged: u8,
 ) -> Result<(), Fail> {
-    assert!(rt; !disk.strayed);
+    assert!(rt; !disk.has_strayed());
     let found = opened(alloc, disk, &script.bounds)?;
     let Some(reached) = reached(&found) else {
         return Err(Fail::new("another state"));
@@ -341,12 +334,13 @@ fn check(
     Ok(())
 }
 
-// Calls of the disk in memory: 17 to make the first file, 6 for a commit, 9 to compact, and 6 for the other commit.
-const CALLS: u64 = 38;
+// Calls of the disk: 6 to read both files, 6 to make the first one, 4 for a commit, 6 to compact, and 4 for the other
+// commit.
+const CALLS: u64 = 26;
 
 // How the script ends where this call of it is stopped or fails, and how many commits are acknowledged.
 fn expected(call: u64) -> (Came, u8) {
-    if call < 23 {
+    if call < 16 {
         (Came::ToDevice, 0)
     } else if call < CALLS {
         (Came::ToDevice, 1)
@@ -361,7 +355,7 @@ fn each_fault(rt: HostRuntime) -> Result<(), Fail> {
     let script = make_script(alloc)?;
     for call in 0..CALLS {
         let mut disk = Trial::of(alloc, b"", b"")?;
-        disk.disk.fail_once(call);
+        disk.fail_once(call);
         let (disk, came, acknowledged) = run(alloc, disk, &script);
         assert_eq!(rt; (came, acknowledged), expected(call), "call {call}");
         assert_eq!(rt; disk.failures(), 1, "call {call}");
@@ -392,13 +386,13 @@ fn reopen(rt: &impl Abort, alloc: Global, disk: Trial, bounds: &Bounds) -> Trial
 // Each stop is a loss of power.
 fn stop(rt: &impl Abort, alloc: Global, script: &Script, stops: Stops) -> Result<(), Fail> {
     let mut disk = Trial::of(alloc, b"", b"")?;
-    disk.disk.fuse_after(stops.first);
+    disk.fuse_after(stops.first);
     let (mut disk, came, acknowledged) = run(alloc, disk, script);
     assert_eq!(rt; (came, acknowledged), expected(stops.first), "{stops:?}");
-    disk.disk.crash(stops.choice)?;
-    disk.disk.fuse_after(stops.second);
+    disk.crash(stops.choice)?;
+    disk.fuse_after(stops.second);
     let mut disk = reopen(rt, alloc, disk, &script.bounds);
-    disk.disk.crash(stops.choice)?;
+    disk.crash(stops.choice)?;
     check(rt, alloc, disk, script, acknowledged)
 }
 
@@ -407,7 +401,7 @@ fn each_stop(rt: HostRuntime) -> Result<(), Fail> {
     let alloc = rt.alloc();
     let script = make_script(alloc)?;
     for first in 0..=CALLS {
-        for second in 0..18 {
+        for second in 0..=12 {
             for choice in [0, 1, 2, 3, 5, 10] {
                 stop(
                     &rt,

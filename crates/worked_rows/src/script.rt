@@ -12,10 +12,12 @@ use gateway::{Gateway, Session};
 use packet::bounds::Bounds;
 use packet::endpoint::{Endpoint, Prefix, Proto};
 use sessions::{Opener, Phase};
-use socket_edge::{EdgeFault, run};
+use socket_edge::EdgeFault;
 use std::alloc::Global;
+use std::io::{Read, Write};
 use std::net::Ipv4Addr;
 use std::test::Fail;
+use trial_disk::Trial;
 
 fn bounds(
     alloc: Global,
@@ -34,11 +36,24 @@ fn prefix(addr: u32, len: u8) -> Prefix {
     Prefix { addr, len }
 }
 
-/// Inside 192.168.0.0/16, outside 203.0.113.1, opened at 0.
-fn opened(alloc: Global) -> Result<Gateway, Fail> {
+/// Inside 192.168.0.0/16, outside 203.0.113.1, opened at 0 over empty files.
+fn opened(alloc: Global) -> Result<Gateway<Trial>, Fail> {
     let inside = prefix(0xc0a8_0000, 16);
     let bounds = bounds(alloc, "lan", "wan", inside, 0xcb00_7101)?;
-    Ok(Gateway::start(alloc, bounds, 0)?)
+    match Gateway::open(alloc, Trial::of(alloc, b"", b"")?, bounds, 0) {
+        Ok(gateway) => Ok(gateway),
+        Err(_) => Err(Fail::new("the gateway did not open")),
+    }
+}
+
+/// The run of the edge, of which a test knows no clause.
+fn run<R: Read, W: Write>(
+    alloc: Global,
+    reader: &mut R,
+    writer: &mut W,
+    gateway: &mut Gateway<Trial>,
+) -> Result<u64, EdgeFault> {
+    socket_edge::run(alloc, reader, writer, gateway)
 }
 
 fn digit(byte: u8) -> Result<u8, Fail> {
@@ -167,7 +182,7 @@ fn spelled(alloc: Global, session: &Session) -> Result<String, Fail> {
 }
 
 /// The sessions of a gateway, as a line behind `:` has them.
-fn listed(alloc: Global, gateway: &Gateway) -> Result<String, Fail> {
+fn listed(alloc: Global, gateway: &Gateway<Trial>) -> Result<String, Fail> {
     let mut all = String::new(alloc);
     for session in gateway.sessions()?.as_slice() {
         if !all.is_empty() {
@@ -182,7 +197,7 @@ fn listed(alloc: Global, gateway: &Gateway) -> Result<String, Fail> {
 #[derive(Drop)]
 struct Stage {
     alloc: Global,
-    gateway: Gateway,
+    gateway: Gateway<Trial>,
     number: u64,
     written: Vec<u8>,
     all_asked: Vec<u8>,

@@ -1,63 +1,77 @@
-use Rattle.std.proofs.Common.{◌≡◌, ◌+◌, ◌-◌, ◌<◌, ◌≤◌, [], ◌++◌, List, ℕ, length, take, drop, arith, inl, refl, subst, ◌∙◌}
+use Rattle.std.proofs.Common.{◌≡◌, ◌+◌, ◌<◌, [], ◌++◌, List, ℕ, length, take, drop, arith, refl, sym, subst, ◌∙◌}
 use Rattle.std.specs.Io.KnownBytes.{IsAtEnd}
 use Rattle.std.proofs.lemmas.List.{take_at}
-use Rattle.socket_edge.specs.Framing.{framed}
-use Rattle.socket_edge.specs.Running.{Served, Done}
+use Rattle.socket_edge.specs.Running.{Done, events_in}
 use Rattle.socket_edge.proofs.Streams.{Appends-then, Consumes-then, Appends-nil, Consumes-nil}
-use Rattle.socket_edge.proofs.Answers.{Begun-nothing}
-use Rattle.socket_edge.proofs.Runs.{never_held_full, Served-first, Served-then, Ends-then, Done-then, Served-answered, count_below}
+use Rattle.socket_edge.proofs.Answers.{AnsweredFirst-nothing}
+use Rattle.socket_edge.proofs.Runs.{Done-then, Ends-then, Served-answered, fallen-fares, going-ends, going-first, going-fits, going-next, going-stops, going-why, not-full, not-reopen}
+use Rattle.socket_edge.proofs.Tending.{idle-fares}
 use Rattle.socket_edge.proofs.edge.run.Goals as goal
-
-back : (old new : ℕ) → old ≤ new → old + (new - old) ≡ new
-back old new h = omega arith
 
 room_stays : (b rest : List ℕ) (n : ℕ) → length b ≡ n → 0 < n → 0 < length (take n (b ++ rest))
 room_stays b rest n e h = rw (take_at b rest n e) (omega arith)
 
+zero_more : (n : ℕ) → n + 0 ≡ n
+zero_more n = omega arith
+
+-- it had fallen before
+pub returns-then-has_fallen-clause-ran : goal.returns-then-has_fallen-clause-ran
+returns-then-has_fallen-clause-ran g c = (
+  [],
+  [],
+  Consumes-nil (g.R.Read.remaining c.args.reader.now),
+  Appends-nil (g.W.Write.contents c.args.writer.now),
+  AnsweredFirst-nothing c.args.gateway.now.told (events_in []),
+  fallen-fares g.D.Disk.honest g.D.Disk.moment g.D.Disk.left g.D.Disk.failed g.met.D.Disk.earlier c.args.gateway.now (events_in []) (sym c.has_fallen.ensures.value ∙ c.if-has_fallen.true),
+)
+
+-- memory for a read was refused
+pub returns-in-Err-clause-ran : goal.returns-in-Err-clause-ran
+returns-in-Err-clause-ran g c = (
+  [],
+  [],
+  Consumes-nil (g.R.Read.remaining c.args.reader.now),
+  Appends-nil (g.W.Write.contents c.args.writer.now),
+  AnsweredFirst-nothing c.args.gateway.now.told (events_in []),
+  idle-fares g.D.Disk.honest g.D.Disk.moment g.D.Disk.left g.D.Disk.seen g.D.Disk.failed g.met.D.Disk.reads g.met.D.Disk.earlier c.args.gateway.now c.begin.ensures (events_in []),
+)
+
 pub loop-init : goal.loop-init
-loop-init g c = ([], [], Consumes-nil (g.R.Read.remaining c.args.reader.now), Appends-nil (g.W.Write.contents c.args.writer.now), rw c.new-pending.ensures.items (Served-first c.args.gateway.now), c.in-Ok.ensures)
+loop-init g c = (
+  [],
+  [],
+  Consumes-nil (g.R.Read.remaining c.args.reader.now),
+  Appends-nil (g.W.Write.contents c.args.writer.now),
+  rw c.new-pending.ensures.items (going-first g.D.Disk.honest g.D.Disk.moment g.D.Disk.left g.D.Disk.failed g.met.D.Disk.earlier c.args.gateway.now c.begin.ensures),
+  c.in-Ok.ensures,
+)
 
-pub read_once-requires-clause-counted : goal.read_once-requires-clause-counted
-read_once-requires-clause-counted g c = count_below _ _ _ _ _ _ c.loop.invariant.4
-
-pub read_once-requires-clause-room : goal.read_once-requires-clause-room
-read_once-requires-clause-room g c = rw c.as_mut_slice.ensures.value c.loop.invariant.5
-
-pub read_once-requires-clause-cut : goal.read_once-requires-clause-cut
-read_once-requires-clause-cut g c = c.loop.invariant.4.cut
-
-pub returns-in-Ok-End : goal.returns-in-Ok-End
-returns-in-Ok-End g c =
+pub returns-in-Ok-End-clause-ran : goal.returns-in-Ok-End-clause-ran
+returns-in-Ok-End-clause-ran g c =
     let i = c.loop.invariant in
     let t = rw c.in-Ok-End.field-0-is at c.in-Ok-End.ensures.turned in
-    let at_end = IsAtEnd (g.R.Read.remaining c.read_once.new.reader) in
-    record {
-      ran = (
-        i.0 ++ t.0,
-        i.1 ++ t.1,
-        Consumes-then (g.R.Read.remaining c.args.reader.now) (g.R.Read.remaining c.loop.reader) (g.R.Read.remaining c.read_once.new.reader) i.0 t.0 i.2 t.2,
-        Appends-then (g.W.Write.contents c.args.writer.now) (g.W.Write.contents c.loop.writer) (g.W.Write.contents c.read_once.new.writer) i.1 t.1 i.3 t.3,
-        subst (λ (n : ℕ). Done n c.args.gateway.now c.read_once.new.gateway (i.0 ++ t.0) (i.1 ++ t.1) at_end) (back c.loop.count c.read_once.new.count c.in-Ok-End.ensures.counted)
-            (Done-then c.args.gateway.now c.loop.gateway c.read_once.new.gateway i.0 c.loop.pending.items t.0 i.1 t.1 c.loop.count (c.read_once.new.count - c.loop.count) at_end i.4 t.4),
-      );
-      not_held_full = tt;
-    }
+    let at_end = IsAtEnd (g.R.Read.remaining c.read_once.new.reader) in (
+      i.0 ++ t.0,
+      i.1 ++ t.1,
+      Consumes-then (g.R.Read.remaining c.args.reader.now) (g.R.Read.remaining c.loop.reader) (g.R.Read.remaining c.read_once.new.reader) i.0 t.0 i.2 t.2,
+      Appends-then (g.W.Write.contents c.args.writer.now) (g.W.Write.contents c.loop.writer) (g.W.Write.contents c.read_once.new.writer) i.1 t.1 i.3 t.3,
+      subst (λ (n : ℕ). Done n c.args.gateway.now.told c.read_once.new.gateway.told (i.0 ++ t.0) (i.1 ++ t.1) at_end) (zero_more c.loop.count)
+          (Done-then c.args.gateway.now.told c.loop.gateway.told c.read_once.new.gateway.told i.0 c.loop.pending.items t.0 i.1 t.1 c.loop.count 0 at_end i.4.served t.4),
+      going-ends g.D.Disk.honest g.D.Disk.moment g.D.Disk.left g.D.Disk.failed g.met.D.Disk.earlier c.args.gateway.now c.loop.gateway c.read_once.new.gateway i.0 c.loop.pending.items t.0 i.1 t.1 c.loop.count i.4 t.5,
+    )
 
-pub returns-in-Err-read_once : goal.returns-in-Err-read_once
-returns-in-Err-read_once g c =
+pub returns-in-Err-read_once-clause-ran : goal.returns-in-Err-read_once-clause-ran
+returns-in-Err-read_once-clause-ran g c =
     let i = c.loop.invariant in
     let t = c.in-Err-read_once.ensures.turned in
-    let at_end = IsAtEnd (g.R.Read.remaining c.read_once.new.reader) in
-    record {
-      ran = (
-        i.0 ++ t.0,
-        i.1 ++ t.1,
-        Consumes-then (g.R.Read.remaining c.args.reader.now) (g.R.Read.remaining c.loop.reader) (g.R.Read.remaining c.read_once.new.reader) i.0 t.0 i.2 t.2,
-        Appends-then (g.W.Write.contents c.args.writer.now) (g.W.Write.contents c.loop.writer) (g.W.Write.contents c.read_once.new.writer) i.1 t.1 i.3 t.3,
-        Ends-then c.in-Err-read_once.fault c.args.gateway.now c.loop.gateway c.read_once.new.gateway i.0 c.loop.pending.items t.0 i.1 t.1 c.loop.count at_end i.4 t.4,
-      );
-      not_held_full = never_held_full c.in-Err-read_once.fault c.loop.gateway c.read_once.new.gateway (c.loop.pending.items ++ t.0) t.1 at_end t.4;
-    }
+    let at_end = IsAtEnd (g.R.Read.remaining c.read_once.new.reader) in (
+      i.0 ++ t.0,
+      i.1 ++ t.1,
+      Consumes-then (g.R.Read.remaining c.args.reader.now) (g.R.Read.remaining c.loop.reader) (g.R.Read.remaining c.read_once.new.reader) i.0 t.0 i.2 t.2,
+      Appends-then (g.W.Write.contents c.args.writer.now) (g.W.Write.contents c.loop.writer) (g.W.Write.contents c.read_once.new.writer) i.1 t.1 i.3 t.3,
+      Ends-then c.in-Err-read_once.fault c.args.gateway.now.told c.loop.gateway.told c.read_once.new.gateway.told i.0 c.loop.pending.items t.0 i.1 t.1 c.loop.count at_end i.4.served t.4,
+      going-ends g.D.Disk.honest g.D.Disk.moment g.D.Disk.left g.D.Disk.failed g.met.D.Disk.earlier c.args.gateway.now c.loop.gateway c.read_once.new.gateway i.0 c.loop.pending.items t.0 i.1 t.1 c.loop.count i.4 t.5,
+    )
 
 pub loop-preserved : goal.loop-preserved
 loop-preserved g c =
@@ -69,19 +83,18 @@ loop-preserved g c =
       i.1 ++ t.1,
       Consumes-then (g.R.Read.remaining c.args.reader.now) (g.R.Read.remaining c.loop.reader) (g.R.Read.remaining c.read_once.new.reader) i.0 t.0 i.2 t.2,
       Appends-then (g.W.Write.contents c.args.writer.now) (g.W.Write.contents c.loop.writer) (g.W.Write.contents c.read_once.new.writer) i.1 t.1 i.3 t.3,
-      subst (λ (n : ℕ). Served c.args.gateway.now c.read_once.new.gateway (i.0 ++ t.0) c.read_once.new.pending.items (i.1 ++ t.1) n) (back c.loop.count c.read_once.new.count c.in-Ok-More.ensures.counted)
-          (Served-then c.args.gateway.now c.loop.gateway c.read_once.new.gateway i.0 c.loop.pending.items t.0 c.read_once.new.pending.items i.1 t.1 c.loop.count (c.read_once.new.count - c.loop.count) i.4 t.4),
+      rw c.sum-count.ensures (going-next g.D.Disk.honest g.D.Disk.moment g.D.Disk.left g.D.Disk.failed g.met.D.Disk.earlier c.args.gateway.now c.loop.gateway c.read_once.new.gateway i.0 c.loop.pending.items t.0 c.read_once.new.pending.items i.1 t.1 c.loop.count c.in-Ok-More.more i.4 t.4 t.5
+          c.in-Ok-More.ensures.stands c.in-Ok-More.ensures.passed (c.in-Ok-More.ensures.grown (λ is. absurd cc))),
       room_stays c.read_once.new.buffer (drop (length c.read_once.new.buffer) c.loop.buffer.items) c.loop.buffer.len (c.read_once.auto.buffer ∙ len) (rw (← len) room),
     )
 
-pub returns : goal.returns
-returns g c = record { ran = (c.loop.invariant.0, c.loop.invariant.1, c.loop.invariant.2, c.loop.invariant.3, Served-answered c.args.gateway.now c.loop.gateway c.loop.invariant.0 c.loop.pending.items c.loop.invariant.1 c.loop.count c.loop.invariant.4); not_held_full = λ h. absurd cc }
-
-pub returns-in-Err-clause-ran : goal.returns-in-Err-clause-ran
-returns-in-Err-clause-ran g c = (
-  [],
-  [],
-  Consumes-nil (g.R.Read.remaining c.args.reader.now),
-  Appends-nil (g.W.Write.contents c.args.writer.now),
-  (inl refl, Begun-nothing c.args.gateway.now (framed []).events),
-)
+pub returns-clause-ran : goal.returns-clause-ran
+returns-clause-ran g c =
+    let i = c.loop.invariant in (
+      i.0,
+      i.1,
+      i.2,
+      i.3,
+      Served-answered c.args.gateway.now.told c.loop.gateway.told i.0 c.loop.pending.items i.1 c.loop.count i.4.served,
+      going-stops g.D.Disk.honest g.D.Disk.moment g.D.Disk.left g.D.Disk.failed g.met.D.Disk.earlier c.args.gateway.now c.loop.gateway i.0 c.loop.pending.items i.1 c.loop.count i.4 (idle-fares g.D.Disk.honest g.D.Disk.moment g.D.Disk.left g.D.Disk.seen g.D.Disk.failed g.met.D.Disk.reads g.met.D.Disk.earlier c.loop.gateway c.begin-2.ensures),
+    )

@@ -1,14 +1,50 @@
-use Rattle.std.proofs.Common.{take, drop, ◌-◌}
-use Rattle.socket_edge.specs.Framing.{framed}
-use Rattle.socket_edge.proofs.Closing.{stands, stands_cut}
+use Rattle.std.proofs.Common.{[], refl}
+use Rattle.socket_edge.specs.Running.{events_in}
+use Rattle.socket_edge.proofs.Streams.{Appends-nil}
+use Rattle.socket_edge.proofs.Answers.{AnsweredFirst-nothing}
+use Rattle.socket_edge.proofs.Closing.{served, served-fares, served-passed, untidy}
+use Rattle.socket_edge.proofs.Tending.{idle-fares}
 use Rattle.socket_edge.proofs.edge.serve.Goals as goal
 
-pub returns-in-Err-clause-served : goal.returns-in-Err-clause-served
-returns-in-Err-clause-served g c =
-    let count = c.offer_all-at.new.count - c.args.count.now in
-    let rest = drop c.offer_all-at.result.0 c.args.pending.now.items in
-    let offered = rw (c.as_slice.ensures.value, c.new-out.ensures.items) at c.offer_all-at.ensures.offered in
-    let closed = c.close-closed.ensures c.args.gateway.now c.args.pending.now.items rest count offered in
-    let err = c.in-Err.ensures.err in
-    let o = stands c.close-closed.result c.args.gateway.now c.close-closed.new.gateway c.args.pending.now.items rest c.close-closed.new.out.items count closed in
-    (take err.1 c.close-closed.new.out.items, rw (← c.as_slice-2.ensures.value) err.2, stands_cut err.1 c.args.gateway.now c.close-closed.new.gateway (framed c.args.pending.now.items).events c.close-closed.new.out.items o)
+pub returns-in_default-clause-served : goal.returns-in_default-clause-served
+returns-in_default-clause-served g c = (
+  [],
+  Appends-nil (g.W.Write.contents c.args.writer.now),
+  AnsweredFirst-nothing c.args.gateway.now.told (events_in c.args.pending.now.items),
+  idle-fares g.D.Disk.honest g.D.Disk.moment g.D.Disk.left g.D.Disk.seen g.D.Disk.failed g.met.D.Disk.reads g.met.D.Disk.earlier c.args.gateway.now c.begin.ensures (events_in c.args.pending.now.items),
+)
+
+pub returns-in-Ok-tidy-clause-served : goal.returns-in-Ok-tidy-clause-served
+returns-in-Ok-tidy-clause-served g c =
+    let a = c.in_ok-count.ensures.came in
+    let e = c.in-Ok-tidy.ensures in
+    let bytes = c.args.pending.now.items in
+    let rest = c.answer_front.new.pending.items in
+    let out = c.answer_front.new.answers.items in (
+      a.0,
+      a.1,
+      served g.D.Disk.honest g.D.Disk.moment g.D.Disk.left g.D.Disk.seen g.D.Disk.failed g.met.D.Disk.reads g.met.D.Disk.earlier c.args.gateway.now c.answer_front.new.gateway c.tidy.new.gateway bytes rest c.in_ok-count.count out c.tidy.new.answers.items a.0 a.2 e.ok e.answers e.none,
+      served-fares g.D.Disk.honest g.D.Disk.moment g.D.Disk.left g.D.Disk.seen g.D.Disk.failed g.met.D.Disk.reads g.met.D.Disk.earlier c.args.gateway.now c.answer_front.new.gateway c.tidy.new.gateway bytes rest c.in_ok-count.count out c.tidy.new.answers.items a.0 a.2 e.ok e.answers e.none,
+    )
+
+pub returns-in-Ok-tidy-clause-passed : goal.returns-in-Ok-tidy-clause-passed
+returns-in-Ok-tidy-clause-passed g c =
+    let a = c.in_ok-count.ensures.came in
+    served-passed g.D.Disk.honest g.D.Disk.moment g.D.Disk.left g.D.Disk.seen g.D.Disk.failed g.met.D.Disk.reads g.met.D.Disk.earlier c.args.gateway.now c.answer_front.new.gateway c.tidy.new.gateway c.args.pending.now.items c.answer_front.new.pending.items c.in_ok-count.count
+    c.answer_front.new.answers.items c.tidy.new.answers.items a.0 a.2 c.in-Ok-tidy.ensures.ok
+
+pub returns-clause-served : goal.returns-clause-served
+returns-clause-served g c =
+    let a = c.in_ok-count.ensures.came in
+    let e = c.in-Err.ensures in
+    let is = untidy g.D.Disk.honest g.D.Disk.moment g.D.Disk.left g.D.Disk.seen g.D.Disk.failed g.met.D.Disk.reads g.met.D.Disk.earlier c.args.gateway.now c.answer_front.new.gateway c.tidy.new.gateway c.args.pending.now.items c.answer_front.new.pending.items c.in_ok-count.count
+    c.answer_front.new.answers.items c.tidy.new.answers.items a.0 c.in-Err.fault a.2 e.err e.answers e.none in
+    (a.0, a.1, is.0, is.1)
+
+pub returns-clause-why : goal.returns-clause-why
+returns-clause-why g c =
+    let a = c.in_ok-count.ensures.came in
+    let e = c.in-Err.ensures in
+    let is = untidy g.D.Disk.honest g.D.Disk.moment g.D.Disk.left g.D.Disk.seen g.D.Disk.failed g.met.D.Disk.reads g.met.D.Disk.earlier c.args.gateway.now c.answer_front.new.gateway c.tidy.new.gateway c.args.pending.now.items c.answer_front.new.pending.items c.in_ok-count.count
+    c.answer_front.new.answers.items c.tidy.new.answers.items a.0 c.in-Err.fault a.2 e.err e.answers e.none in
+    is.2

@@ -1,40 +1,85 @@
-use Rattle.std.proofs.Common.{length, sym, ap, arith}
-use Rattle.std.proofs.lemmas.List.{nil_from_length}
-use Rattle.gateway.specs.Told.{Told}
-use Rattle.gateway.proofs.Runs.{began, went_on, ended, stopped}
+use Rattle.std.proofs.Common.{[], List, ℕ, sym, ◌∙◌, subst}
+use Rattle.machine.specs.declared.event.Answer.{Answer}
+use Rattle.gateway.specs.Running.{Stands}
+use Rattle.gateway.proofs.Runs.{begun, ended, refused, true-false}
 use Rattle.gateway.proofs.gateway_core.Gateway.run.Goals as goal
 
-pub loop-event-init : goal.loop-event-init
-loop-event-init c =
-    let all = c.into_iter-event-iterator.ensures.into_iter_gives.0 in (
-      tt,
-      tt,
-      began c.args.self.now c.args.events.items _ c.in-Ok.answers all c.in-Ok.ensures.items (ap (λ (v : Told). v.held) (sym c.self.view_is))
-          (omega (arith, c.in-Ok.ensures.len, c.in-Ok.ensures.capacity, c.len.ensures, ap length all, c.args.events.ok)),
-    )
+pub take_all-requires-clause-begun : goal.take_all-requires-clause-begun
+take_all-requires-clause-begun g c =
+    let self = c.args.self.now in
+    let f = c.has_fallen.ensures in
+    let up = c.if-has_fallen.false in
+    subst (λ (out : List (ℕ × Answer)). Stands g.D.Disk.honest g.D.Disk.moment g.D.Disk.left g.D.Disk.failed self self [] out) (sym c.in-Ok.ensures.items)
+    (begun g.D.Disk.honest g.D.Disk.moment g.D.Disk.left g.D.Disk.seen g.D.Disk.failed g.met.D.Disk.reads g.met.D.Disk.earlier self (sym f.value ∙ up) (f.stands up) (f.present up) (f.configured up))
 
-pub hand_out-requires : goal.hand_out-requires
-hand_out-requires c =
-    let run = c.loop-event.invariant.2 in
-    omega (arith, run.room, ap length c.in-Some.ensures.steps.0)
+pub returns-in_default-clause-any_moment : goal.returns-in_default-clause-any_moment
+returns-in_default-clause-any_moment g c =
+    let self = c.args.self.now in
+    let f = c.has_fallen.ensures in
+    let up = c.if-has_fallen.false in
+    let begins = begun g.D.Disk.honest g.D.Disk.moment g.D.Disk.left g.D.Disk.seen g.D.Disk.failed g.met.D.Disk.reads g.met.D.Disk.earlier self (sym f.value ∙ up) (f.stands up) (f.present up) (f.configured up) in
+    let stops = refused g.D.Disk.honest g.D.Disk.moment g.D.Disk.left g.D.Disk.failed self c.args.events.items c.new-in_default.result.items begins (ended g.D.Disk.honest g.D.Disk.moment g.D.Disk.left g.D.Disk.seen g.D.Disk.failed g.met.D.Disk.reads g.met.D.Disk.earlier self self [] [] begins) c.new-in_default.ensures.items in
+    stops.any_moment
 
-pub loop-event-preserved : goal.loop-event-preserved
-loop-event-preserved c =
-    let run = c.loop-event.invariant.2 in (
-      tt,
-      tt,
-      went_on c.args.self.now c.loop-event.self c.offer.new.self c.args.events.items c.loop-event.yielded _ _ c.in-Some.event c.in-Ok-offer.given c.loop-event.answers c.hand_out.new.answers
-          run c.in-Some.ensures.steps.0 c.in-Ok-offer.ensures.took (c.in-Ok-offer.ensures.now run.none) c.hand_out.ensures.items c.hand_out.ensures.len c.hand_out.ensures.capacity,
-    )
+pub returns-in_default-clause-at_exit : goal.returns-in_default-clause-at_exit
+returns-in_default-clause-at_exit g c =
+    let self = c.args.self.now in
+    let f = c.has_fallen.ensures in
+    let up = c.if-has_fallen.false in
+    let begins = begun g.D.Disk.honest g.D.Disk.moment g.D.Disk.left g.D.Disk.seen g.D.Disk.failed g.met.D.Disk.reads g.met.D.Disk.earlier self (sym f.value ∙ up) (f.stands up) (f.present up) (f.configured up) in
+    let stops = refused g.D.Disk.honest g.D.Disk.moment g.D.Disk.left g.D.Disk.failed self c.args.events.items c.new-in_default.result.items begins (ended g.D.Disk.honest g.D.Disk.moment g.D.Disk.left g.D.Disk.seen g.D.Disk.failed g.met.D.Disk.reads g.met.D.Disk.earlier self self [] [] begins) c.new-in_default.ensures.items in
+    stops.at_exit
 
-pub returns-in-Err-offer-clause-err : goal.returns-in-Err-offer-clause-err
-returns-in-Err-offer-clause-err c =
-    stopped c.args.self.now c.loop-event.self c.offer.new.self c.args.events.items c.loop-event.yielded _ c.loop-event.answers c.loop-event.invariant.2 c.in-Err-offer.ensures.err.1
+pub returns-in_default-clause-configured : goal.returns-in_default-clause-configured
+returns-in_default-clause-configured g c =
+    let self = c.args.self.now in
+    let f = c.has_fallen.ensures in
+    let up = c.if-has_fallen.false in
+    let begins = begun g.D.Disk.honest g.D.Disk.moment g.D.Disk.left g.D.Disk.seen g.D.Disk.failed g.met.D.Disk.reads g.met.D.Disk.earlier self (sym f.value ∙ up) (f.stands up) (f.present up) (f.configured up) in
+    let stops = refused g.D.Disk.honest g.D.Disk.moment g.D.Disk.left g.D.Disk.failed self c.args.events.items c.new-in_default.result.items begins (ended g.D.Disk.honest g.D.Disk.moment g.D.Disk.left g.D.Disk.seen g.D.Disk.failed g.met.D.Disk.reads g.met.D.Disk.earlier self self [] [] begins) c.new-in_default.ensures.items in
+    λ stood. stops.configured
 
-pub returns-clause-ok : goal.returns-clause-ok
-returns-clause-ok c =
-    ended c.args.self.now c.loop-event.self c.args.events.items c.loop-event.yielded _ c.loop-event.answers c.loop-event.invariant.2
-    (nil_from_length _ (omega (arith, c.loop-event.event-iterator.rest.ok, c.in-None.ensures.steps.0)))
+pub returns-in-Ok-take_all-clause-honest : goal.returns-in-Ok-take_all-clause-honest
+returns-in-Ok-take_all-clause-honest g c = c.in-Ok-take_all.ensures.ok.ran.keeps_honest
 
-pub returns-clause-none : goal.returns-clause-none
-returns-clause-none c = c.loop-event.invariant.2.none
+pub returns-in-Ok-take_all-clause-ok : goal.returns-in-Ok-take_all-clause-ok
+returns-in-Ok-take_all-clause-ok g c = c.in-Ok-take_all.ensures.ok.ran.took
+
+pub returns-in-Ok-take_all-clause-any_moment : goal.returns-in-Ok-take_all-clause-any_moment
+returns-in-Ok-take_all-clause-any_moment g c = c.in-Ok-take_all.ensures.ok.ran.any_moment
+
+pub returns-in-Ok-take_all-clause-at_exit : goal.returns-in-Ok-take_all-clause-at_exit
+returns-in-Ok-take_all-clause-at_exit g c = c.in-Ok-take_all.ensures.ok.at_exit
+
+pub returns-in-Ok-take_all-clause-configured : goal.returns-in-Ok-take_all-clause-configured
+returns-in-Ok-take_all-clause-configured g c = λ stood. c.in-Ok-take_all.ensures.ok.ran.configured
+
+pub returns-in-Err-clause-honest : goal.returns-in-Err-clause-honest
+returns-in-Err-clause-honest g c = c.in-Err.ensures.err.keeps_honest
+
+pub returns-in-Err-clause-err : goal.returns-in-Err-clause-err
+returns-in-Err-clause-err g c = c.in-Err.ensures.err.took
+
+pub returns-in-Err-clause-any_moment : goal.returns-in-Err-clause-any_moment
+returns-in-Err-clause-any_moment g c = c.in-Err.ensures.err.any_moment
+
+pub returns-in-Err-clause-at_exit : goal.returns-in-Err-clause-at_exit
+returns-in-Err-clause-at_exit g c = c.in-Err.ensures.err.at_exit
+
+pub returns-in-Err-clause-configured : goal.returns-in-Err-clause-configured
+returns-in-Err-clause-configured g c = λ stood. c.in-Err.ensures.err.configured
+
+pub returns-in-Err-clause-reopen : goal.returns-in-Err-clause-reopen
+returns-in-Err-clause-reopen g c = (λ is. absurd (c.in-Err.ensures.err.is_why.stood is), λ fallen. absurd (true-false c.args.self.now.fallen fallen (sym c.has_fallen.ensures.value ∙ c.if-has_fallen.false)))
+
+pub returns-in-Err-clause-causes : goal.returns-in-Err-clause-causes
+returns-in-Err-clause-causes g c = c.in-Err.ensures.err.is_why.made_room
+
+pub returns-in-Err-clause-numbers_out : goal.returns-in-Err-clause-numbers_out
+returns-in-Err-clause-numbers_out g c = c.in-Err.ensures.err.is_why.numbers_out
+
+pub returns-in-Err-clause-fell : goal.returns-in-Err-clause-fell
+returns-in-Err-clause-fell g c = (λ is. ((sym c.has_fallen.ensures.value ∙ c.if-has_fallen.false), c.in-Err.ensures.err.is_why.fell.0 is), λ both. c.in-Err.ensures.err.is_why.fell.1 both.1)
+
+pub returns-in-Err-clause-device : goal.returns-in-Err-clause-device
+returns-in-Err-clause-device g c = c.in-Err.ensures.err.is_why.device

@@ -1,0 +1,4 @@
+pub mod Alone
+pub mod Probed
+pub mod Fronts
+pub mod Whys

@@ -1,0 +1,41 @@
+-- What one file is by itself.
+use Rattle.std.specs.Prelude.{◌≡◌, ◌↔◌, ℕ, ◌-◌, ◌^◌, IsTrue, List, [], ◌∷◌, ◌++◌, length}
+use Rattle.packet.specs.Config.{Config}
+use Rattle.durable.specs.Coding.{Heading, mark}
+use Rattle.durable.specs.Entering.{Durable, IsDurable}
+use Rattle.durable.specs.Recovery.{IsOpen, IsHeaded, Holds, begun}
+use Rattle.diagnosis.specs.declared.reading.Fault.{Fault}
+use Rattle.diagnosis.specs.declared.reading.Fault.TheVariants.{Foreign, Front, Snapshot, Changes}
+use Rattle.diagnosis.specs.declared.reading.Held.{Held}
+use Rattle.diagnosis.specs.declared.reading.Reading.{Reading}
+use Rattle.diagnosis.specs.declared.reading.Reading.TheVariants.{Empty, Closed, Faulty, Whole}
+
+-- the mark and the version stand behind the file gate
+abbrev pub IsMarked : List ℕ → Type 0
+IsMarked file = (rest : List ℕ) × (file ≡ 1 ∷ (mark ++ rest))
+
+-- the greatest generation, which no gateway lives to see
+abbrev pub greatest : ℕ
+greatest = 2 ^ 64 - 1
+
+-- the snapshot is sound and its text loads
+abbrev pub Begins : Heading → Type 0
+Begins h = IsDurable h.config (begun h.kept)
+
+-- Why a file holds no state.
+abbrev pub IsFaulty : List ℕ → Fault → Type 0
+IsFaulty file Foreign = IsOpen file × ¬ IsMarked file
+IsFaulty file Front = IsOpen file × ((h : Heading) → IsHeaded file h → h.generation ≡ greatest)
+IsFaulty file Snapshot = (h : Heading) × IsHeaded file h × ¬ Begins h
+IsFaulty file Changes = (h : Heading) × IsHeaded file h × Begins h × ((d : Durable) (end : ℕ) → ¬ Holds file h d end)
+
+-- what is said of a state that a file holds, to one with this configuration
+abbrev pub IsHeld : Config → List ℕ → Held → Type 0
+IsHeld config file held = (h : Heading) × (d : Durable) × (end : ℕ) × Holds file h d end
+    × (held.generation ≡ h.generation) × (held.sessions ≡ length d.sessions) × (IsTrue held.is_configured ↔ (h.config ≡ config))
+
+abbrev pub IsRead : Config → List ℕ → Reading → Type 0
+IsRead config file Empty = file ≡ []
+IsRead config file Closed = ¬ IsOpen file
+IsRead config file (Faulty fault) = IsFaulty file fault × ((h : Heading) (d : Durable) (end : ℕ) → ¬ Holds file h d end)
+IsRead config file (Whole held) = IsHeld config file held

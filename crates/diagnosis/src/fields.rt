@@ -1,0 +1,46 @@
+//! The parts of a configuration, and which of them differ.
+ghost use Rattle.std.specs.Prelude.{◌≡◌, ◌↔◌, IsTrue};
+ghost use Rattle.diagnosis.specs.Fields.{Agrees};
+
+use packet::bounds::Bounds;
+use packet::endpoint::Prefix;
+
+/// A part of a configuration.
+#[derive(Clone, Copy, Debug, PartialEq, Eq, Drop)]
+pub enum Field {
+    /// The name of the interface to the inside hosts.
+    Lan,
+    /// The name of the interface to everyone else.
+    Wan,
+    /// The inside prefixes, with their order.
+    Inside,
+    /// The external address.
+    External,
+}
+
+fn same_prefixes(a: &[Prefix], b: &[Prefix]) -> bool
+    ensures is { IsTrue result → a.now ≡ b.now }
+    ensures differs { a.now ≡ b.now → IsTrue result }
+{
+    if a.len() != b.len() {
+        return false;
+    }
+    for number in 0..a.len() {
+        if a[number] != b[number] {
+            return false;
+        }
+    }
+    true
+}
+
+/// Whether the two configurations have different values in this part.
+pub fn differs(field: Field, a: &Bounds, b: &Bounds) -> bool
+    ensures { IsTrue result ↔ ¬ Agrees field a.now b.now }
+{
+    match field {
+        Field::Lan => a.lan() != b.lan(),
+        Field::Wan => a.wan() != b.wan(),
+        Field::Inside => !same_prefixes(a.inside(), b.inside()),
+        Field::External => a.external() != b.external(),
+    }
+}

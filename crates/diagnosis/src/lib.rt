@@ -1,0 +1,28 @@
+//! Why the two files of a directory can't be had by a gateway, in words for the people who run it.
+//!
+//! - `finding`: what two files are together: they stand for a state of this configuration, they are damaged, or they
+//!   have another configuration.
+//! - `reading`: what one file is by itself, or why it holds no state.
+//! - `probe`: a file that holds nothing, beside which another one counts by its front alone.
+//! - `front`: where the front of a file ends, and whether a state begins there.
+//! - `fields`: the parts of a configuration, and which of them differ.
+//! - `device`: the same of the files of a disk.
+//! - `words`: what is said of all this, and what to do.
+//!
+//! What a file holds is read by `durable` alone; the clauses are in its words.
+#![tactic(auto)]
+
+mod device;
+mod fields;
+mod finding;
+mod front;
+mod probe;
+mod reading;
+#[cfg(test)]
+mod tests;
+mod words;
+
+pub use device::{DeviceFault, diagnose};
+pub use fields::{Field, differs};
+pub use finding::{Damage, Differing, Finding, examine};
+pub use reading::{Fault, Held, Reading};

@@ -1,0 +1,188 @@
+//! What is said of a finding, and what to do.
+ghost use Rattle.std.specs.Prelude.{IsTrue};
+ghost use Rattle.packet.specs.Config.{is_name};
+
+use crate::{Damage, Differing, Fault, Field, Finding, Held, Reading, differs};
+use disk_model::FileId;
+use file_disk::name_of;
+use packet::bounds::Bounds;
+use packet::endpoint::Prefix;
+use std::fmt;
+use std::fmt::{Display, Formatter};
+
+const FIELDS: [Field; 4] = [Field::Lan, Field::Wan, Field::Inside, Field::External];
+
+// What stands behind the name of a file.
+impl Display for Fault {
+    fn fmt<W: fmt::Write>(&self, f: &mut Formatter<W>) -> fmt::Result {
+        f.write_str(match self {
+            Fault::Foreign => "is no file of natgw, or one of another version",
+            Fault::Front => "has no whole beginning, it was cut short or changed",
+            Fault::Snapshot => "begins with sessions or a ruleset that can't be, it was changed",
+            Fault::Changes => {
+                "has changes that aren't whole or don't fit, it was cut short or changed"
+            }
+        })
+    }
+}
+
+// What stands behind the name of a file.
+impl Display for Held {
+    fn fmt<W: fmt::Write>(&self, f: &mut Formatter<W>) -> fmt::Result {
+        write!(f, "holds generation {}, ", self.generation)?;
+        match self.sessions {
+            0 => f.write_str("no session"),
+            1 => f.write_str("one session"),
+            many => write!(f, "{many} sessions"),
+        }
+    }
+}
+
+// What stands behind the name of a file.
+impl Display for Reading {
+    fn fmt<W: fmt::Write>(&self, f: &mut Formatter<W>) -> fmt::Result {
+        match self {
+            Reading::Empty => f.write_str("is empty"),
+            Reading::Closed => f.write_str("is not in use"),
+            Reading::Faulty(fault) => write!(f, "{fault}"),
+            Reading::Whole(held) => write!(f, "{held}"),
+        }
+    }
+}
+
+// One line: what is the matter, and what to do.
+impl Display for Damage {
+    fn fmt<W: fmt::Write>(&self, f: &mut Formatter<W>) -> fmt::Result {
+        match (self.a, self.b) {
+            (Reading::Whole(_), Reading::Whole(_)) => say_twins(f),
+            (Reading::Faulty(_), Reading::Faulty(_)) => say_both(f, *self),
+            (Reading::Faulty(_), _) => say_one(f, *self, FileId::A, FileId::B, self.b),
+            _ => say_one(f, *self, FileId::B, FileId::A, self.a),
+        }
+    }
+}
+
+fn say_files<W: fmt::Write>(f: &mut Formatter<W>, damage: Damage) -> fmt::Result {
+    write!(
+        f,
+        "{} {}; {} {}: put both back from one backup",
+        name_of(FileId::A),
+        damage.a,
+        name_of(FileId::B),
+        damage.b
+    )
+}
+
+fn say_twins<W: fmt::Write>(f: &mut Formatter<W>) -> fmt::Result {
+    let (a, b) = (name_of(FileId::A), name_of(FileId::B));
+    write!(
+        f,
+        "{a} and {b} have one generation, so they are not of one backup: put both back from one, or move one of them away to go on with what the other holds"
+    )
+}
+
+fn say_both<W: fmt::Write>(f: &mut Formatter<W>, damage: Damage) -> fmt::Result {
+    say_files(f, damage)?;
+    f.write_str(", or move both away to begin with nothing")
+}
+
+// One file has a fault, and the other one is this.
+fn say_one<W: fmt::Write>(
+    f: &mut Formatter<W>,
+    damage: Damage,
+    faulty: FileId,
+    other: FileId,
+    beside: Reading,
+) -> fmt::Result {
+    say_files(f, damage)?;
+    match beside {
+        Reading::Whole(held) => {
+            if !held.is_configured {
+                return Ok(());
+            }
+            write!(
+                f,
+                ", or move {} away to go on with what {} holds",
+                name_of(faulty),
+                name_of(other)
+            )
+        }
+        _ => write!(
+            f,
+            ", or move {} away to begin with nothing",
+            name_of(faulty)
+        ),
+    }
+}
+
+// One line: what is the matter, and what to do.
+impl Display for Differing<'_> {
+    fn fmt<W: fmt::Write>(&self, f: &mut Formatter<W>) -> fmt::Result {
+        f.write_str("the files were written with another configuration: start natgw with")?;
+        for field in FIELDS {
+            if differs(field, &self.stored, self.given) {
+                say_field(f, field, &self.stored)?;
+            }
+        }
+        f.write_str(", or name another directory")
+    }
+}
+
+// One line.
+impl Display for Finding<'_> {
+    fn fmt<W: fmt::Write>(&self, f: &mut Formatter<W>) -> fmt::Result {
+        match self {
+            Finding::Sound => f.write_str("the files are sound"),
+            Finding::Damaged(damage) => write!(f, "{damage}"),
+            Finding::Differs(differing) => write!(f, "{differing}"),
+        }
+    }
+}
+
+// A part of a configuration, as an option of the command line.
+fn say_field<W: fmt::Write>(f: &mut Formatter<W>, field: Field, bounds: &Bounds) -> fmt::Result {
+    bounds.facts();
+    match field {
+        Field::Lan => {
+            f.write_str(" --lan ")?;
+            say_name(f, bounds.lan())
+        }
+        Field::Wan => {
+            f.write_str(" --wan ")?;
+            say_name(f, bounds.wan())
+        }
+        Field::Inside => {
+            f.write_str(" --inside ")?;
+            say_prefixes(f, bounds.inside())
+        }
+        Field::External => {
+            f.write_str(" --external ")?;
+            say_address(f, bounds.external())
+        }
+    }
+}
+
+fn say_name<W: fmt::Write>(f: &mut Formatter<W>, name: &[u8]) -> fmt::Result
+    requires { IsTrue (is_name name.now) }
+{
+    match str::from_utf8(name) {
+        Ok(text) => f.write_str(text),
+        Err(_) => unreachable!(),
+    }
+}
+
+fn say_address<W: fmt::Write>(f: &mut Formatter<W>, addr: u32) -> fmt::Result {
+    let [a, b, c, d] = addr.to_be_bytes();
+    write!(f, "{a}.{b}.{c}.{d}")
+}
+
+fn say_prefixes<W: fmt::Write>(f: &mut Formatter<W>, prefixes: &[Prefix]) -> fmt::Result {
+    let mut comma = "";
+    for prefix in prefixes {
+        f.write_str(comma)?;
+        say_address(f, prefix.addr)?;
+        write!(f, "/{}", prefix.len)?;
+        comma = ",";
+    }
+    Ok(())
+}

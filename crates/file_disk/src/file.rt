@@ -1,0 +1,96 @@
+//! What a disk asks of one file.
+ghost use Rattle.std.specs.Prelude.{List, ℕ, Result};
+ghost use Rattle.disk_model.specs.declared.disk.DiskFault.{DiskFault as Fault};
+ghost use Rattle.file_disk.specs.Told.{Told};
+
+use disk_model::DiskFault;
+use std::fs::File;
+use std::io;
+use std::os::unix::fs::FileExt;
+
+/// One file of a disk. Places and lengths are in bytes.
+///
+/// The ghost members relate a file before a call to the file after it, and to what was asked and answered. A type says
+/// by them what it promises of its calls; to a caller that serves every type each of them tells that this very call
+/// was made.
+pub trait DiskFile {
+    /// The length was asked for and answered so.
+    ghost measures: { Self → Self → Result ℕ Fault → Type 0 };
+
+    /// A read at this place into these bytes left those, and was answered so.
+    ghost reads: { Self → Self → ℕ → List ℕ → List ℕ → Result (Unit {0}) Fault → Type 0 };
+
+    /// A write of these bytes at this place was answered so.
+    ghost writes: { Self → Self → ℕ → List ℕ → Result (Unit {0}) Fault → Type 0 };
+
+    /// A sync was answered so.
+    ghost syncs: { Self → Self → Result (Unit {0}) Fault → Type 0 };
+
+    /// The length.
+    ///
+    /// # Errors
+    ///
+    /// `DiskFault` where the call fails.
+    fn length(&mut self) -> Result<u64, DiskFault>
+        ensures { measures self.old self.new result };
+
+    /// Fills `bytes` from a place.
+    ///
+    /// # Errors
+    ///
+    /// `DiskFault` where the call fails, or the file ends before they are full. They may hold anything then.
+    fn fill(&mut self, at: u64, bytes: &mut [u8]) -> Result<(), DiskFault>
+        ensures { reads self.old self.new at bytes.old bytes.new result };
+
+    /// Puts all of the bytes at a place.
+    ///
+    /// # Errors
+    ///
+    /// `DiskFault` where the call fails. Some of the bytes may have been put.
+    fn put(&mut self, at: u64, bytes: &[u8]) -> Result<(), DiskFault>
+        ensures { writes self.old self.new at bytes.now result };
+
+    /// Has the device keep the bytes and the length.
+    ///
+    /// # Errors
+    ///
+    /// `DiskFault` where the call fails.
+    fn keep(&mut self) -> Result<(), DiskFault>
+        ensures { syncs self.old self.new result };
+}
+
+fn told<T: Drop>(answer: io::Result<T>) -> Result<T, DiskFault>
+    ensures { Told answer result }
+{
+    match answer {
+        Ok(value) => Ok(value),
+        Err(_) => Err(DiskFault),
+    }
+}
+
+// A read or a write goes on where a signal interrupts it, or where it moved only some of the bytes.
+impl DiskFile for File {
+    ghost measures = { λ _ _ _. Unit {0} };
+
+    ghost reads = { λ _ _ _ _ _ _. Unit {0} };
+
+    ghost writes = { λ _ _ _ _ _. Unit {0} };
+
+    ghost syncs = { λ _ _ _. Unit {0} };
+
+    fn length(&mut self) -> Result<u64, DiskFault> {
+        told(self.metadata().map(|data| data.len()))
+    }
+
+    fn fill(&mut self, at: u64, bytes: &mut [u8]) -> Result<(), DiskFault> {
+        told(self.read_exact_at(bytes, at))
+    }
+
+    fn put(&mut self, at: u64, bytes: &[u8]) -> Result<(), DiskFault> {
+        told(self.write_all_at(bytes, at))
+    }
+
+    fn keep(&mut self) -> Result<(), DiskFault> {
+        told(self.sync_all())
+    }
+}

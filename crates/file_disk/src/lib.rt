@@ -1,0 +1,22 @@
+//! A disk over two files of a directory, `natgw.a` and `natgw.b`.
+//!
+//! - `file`: what a disk asks of one file, and the open files of the system.
+//! - `pair`: two files, of which each call asks one.
+//! - `disk`: `FileDisk`, which counts the calls and those of them that fail.
+//! - `opening`: a directory's files are opened, made where they are missing, and locked.
+//!
+//! Nothing is promised of what the system's files keep: the honest disk of the model is a claim that no proof about a
+//! system's calls can make. What is proved is that each call asks the right file, once, for what the caller asked, and
+//! gives what the file answered.
+#![tactic(auto)]
+
+mod disk;
+mod file;
+mod opening;
+mod pair;
+#[cfg(test)]
+mod tests;
+
+pub use disk::FileDisk;
+pub use file::DiskFile;
+pub use opening::{OpenError, name_of};

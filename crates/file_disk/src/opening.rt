@@ -1,0 +1,146 @@
+//! The files of a directory are opened.
+ghost use Rattle.std.specs.Prelude.{◌≡◌, IfOk};
+ghost use Rattle.file_disk.specs.Named.{file_name};
+ghost use Rattle.file_disk.specs.Refused.{IsLockToldAs, IsToldAs};
+ghost use Rattle.file_disk.specs.declared.opening.OpenError.TheVariants.{NoMemory};
+
+use crate::FileDisk;
+use disk_model::FileId;
+use std::alloc::AllocError;
+use std::fs::{self, File, OpenOptions, TryLockError};
+use std::io::{self, ErrorKind};
+use std::os::fd::AsRawFd;
+use std::os::unix::fs::OpenOptionsExt;
+
+/// Why the files of a directory can't be had.
+#[derive(Clone, Copy, Debug, Drop, thiserror::Error)]
+pub enum OpenError {
+    /// Nothing stands at the path of the directory.
+    #[error("there is no such directory: make it, or name another one")]
+    Missing,
+    /// What stands there is no directory.
+    #[error("that is no directory: name another one")]
+    NotDirectory,
+    /// What stands at the name of a file is none.
+    #[error("natgw.a or natgw.b there is no regular file: move it away")]
+    NotFile,
+    /// Another program has the files.
+    #[error("another program works in that directory: stop it, or name another one")]
+    Locked,
+    /// A call of the system has failed.
+    #[error("natgw.a and natgw.b can't be opened there: {0}")]
+    System(io::Error),
+    /// Memory was refused.
+    #[error("out of memory")]
+    NoMemory,
+}
+
+impl From<AllocError> for OpenError {
+    ghost from_gives = { λ _ e. e ≡ NoMemory };
+
+    fn from(_: AllocError) -> Self {
+        OpenError::NoMemory
+    }
+}
+
+impl From<io::Error> for OpenError {
+    ghost from_gives = { λ error told. IsToldAs error told };
+
+    fn from(error: io::Error) -> Self {
+        match error.kind() {
+            ErrorKind::OutOfMemory => OpenError::NoMemory,
+            _ => OpenError::System(error),
+        }
+    }
+}
+
+impl From<TryLockError> for OpenError {
+    ghost from_gives = { λ error told. IsLockToldAs error told };
+
+    fn from(error: TryLockError) -> Self {
+        match error {
+            TryLockError::WouldBlock => OpenError::Locked,
+            TryLockError::Error(error) => OpenError::from(error),
+        }
+    }
+}
+
+/// The name of a file in its directory.
+pub fn name_of(file: FileId) -> &'static str
+    ensures { result.now ≡ file_name file }
+{
+    match file {
+        FileId::A => "natgw.a",
+        FileId::B => "natgw.b",
+    }
+}
+
+// A directory, to be synced.
+fn open_directory(rt: &HostRuntime, directory: &str) -> Result<File, OpenError> {
+    match fs::metadata(rt, directory) {
+        Ok(found) if found.is_dir() => Ok(File::open(rt, directory)?),
+        Ok(_) => Err(OpenError::NotDirectory),
+        Err(error) => match error.kind() {
+            ErrorKind::NotFound => Err(OpenError::Missing),
+            ErrorKind::NotADirectory => Err(OpenError::NotDirectory),
+            _ => Err(OpenError::from(error)),
+        },
+    }
+}
+
+// One of the files, made where it is missing, and locked until it is closed.
+fn open_file(rt: &HostRuntime, directory: &str, file: FileId) -> Result<File, OpenError> {
+    let path = format!(in rt.alloc(); "{directory}/{}", name_of(file))?;
+    let mut file = OpenOptions::new()
+        .read(true)
+        .write(true)
+        .create(true)
+        .mode(0o600)
+        .open(rt, path.as_str())?;
+    // What is printed on a standard stream that was closed must not land in the file.
+    if file.as_raw_fd() <= 2 {
+        file = file.try_clone()?;
+    }
+    if !file.metadata()?.is_file() {
+        return Err(OpenError::NotFile);
+    }
+    file.try_lock()?;
+    Ok(file)
+}
+
+// Syncs a file, and drops what the system has of it in memory: behind a sync of another program that failed it may be
+// other than what the device has.
+fn settle(file: &File) -> Result<(), OpenError> {
+    file.sync_all()?;
+    let refused = libc::posix_fadvise(file.as_raw_fd(), 0, 0, libc::POSIX_FADV_DONTNEED);
+    if refused != 0 {
+        return Err(OpenError::from(io::Error::from_raw_os_error(refused)));
+    }
+    Ok(())
+}
+
+impl FileDisk<File> {
+    /// Opens the files `natgw.a` and `natgw.b` of a directory, makes those that are missing, with access for their
+    /// owner alone, and locks both until the disk is dropped. Both and the directory are synced, so that a loss of power
+    /// leaves no file without its name.
+    ///
+    /// # Errors
+    ///
+    /// - `Missing` where there is no such directory. It isn't made.
+    /// - `NotDirectory` where that is none, `NotFile` where a file is no regular one.
+    /// - `Locked` where another program has the files, or a second disk of this one.
+    /// - `NoMemory` where memory is refused.
+    /// - `System` where another call of the system fails.
+    pub fn open(rt: &HostRuntime, directory: &str) -> Result<FileDisk<File>, OpenError>
+        ensures calls { IfOk result (λ disk. disk.calls ≡ 0) }
+        ensures failures { IfOk result (λ disk. disk.failures ≡ 0) }
+    {
+        let folder = open_directory(rt, directory)?;
+        let a = open_file(rt, directory, FileId::A)?;
+        let b = open_file(rt, directory, FileId::B)?;
+        settle(&a)?;
+        settle(&b)?;
+        folder.sync_all()?;
+        Ok(FileDisk::of(a, b))
+    }
+}

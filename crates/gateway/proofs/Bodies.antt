@@ -1,0 +1,78 @@
+-- The entries that a body has.
+use Rattle.std.proofs.Common.{◌≡◌, ◌≢◌, inl, ℕ, zero, suc, ◌+◌, ◌<◌, ◌≤◌, List, [], ◌∷◌, ◌++◌, length, refl, sym, ap, subst, ◌∙◌, length-append, arith}
+use Rattle.std.proofs.lemmas.List.{append-nil, nil_from_length}
+use Rattle.std.proofs.lemmas.List.Concat.{flat_map-cons, flat_map-append}
+use Rattle.durable.specs.Coding.{Entry, entry_bytes, body_bytes, IsEntry, AreEntries}
+use Rattle.durable.specs.Reading.{entry_at}
+use Rattle.durable.proofs.Values.{coded-entry}
+use Rattle.durable.proofs.Bodies.{length-entry}
+use Rattle.machine.specs.declared.event.Answer.{Answer}
+use Rattle.gateway.specs.Waiting.{entries_at, entries_in, behind_it, IsPending}
+
+pub length-entries : (es : List Entry) → length es ≤ length (body_bytes es)
+length-entries [] = omega arith
+length-entries (e ∷ es) =
+    omega (arith, ap length (flat_map-cons entry_bytes e es), length-append (entry_bytes e) (body_bytes es), length-entry e, length-entries es)
+
+none_read : (n : ℕ) → entries_at n [] ≡ []
+unfolding entry_at
+none_read zero = refl
+none_read (suc n) = refl
+
+pub entries_at-is : (n : ℕ) (es : List Entry) → AreEntries es → length es ≤ n → entries_at n (body_bytes es) ≡ es
+entries_at-is n [] are le = none_read n
+entries_at-is zero (e ∷ es) are le = absurd (omega (arith, le))
+entries_at-is (suc n) (e ∷ es) are le =
+    ap (λ (l : List ℕ). entries_at (suc n) l) (flat_map-cons entry_bytes e es) ∙ ap (behind_it (entries_at n)) (coded-entry.again e (body_bytes es) are.0)
+    ∙ ap (λ (l : List Entry). e ∷ l) (entries_at-is n es are.1 (omega (arith, le)))
+
+pub entries_in-is : (es : List Entry) → AreEntries es → entries_in (body_bytes es) ≡ es
+entries_in-is es are = entries_at-is (length (body_bytes es)) es are (length-entries es)
+
+-- a body of entries is that of the entries it has
+pub entries_of : (body : List ℕ) (es : List Entry) → AreEntries es → body ≡ body_bytes es → entries_in body ≡ es
+entries_of body es are is = ap entries_in is ∙ entries_in-is es are
+
+pub body_is : (body : List ℕ) (es : List Entry) → AreEntries es → body ≡ body_bytes es → body ≡ body_bytes (entries_in body)
+body_is body es are is = is ∙ ap body_bytes (sym (entries_of body es are is))
+
+pub are_coded : (body : List ℕ) (es : List Entry) → AreEntries es → body ≡ body_bytes es → AreEntries (entries_in body)
+are_coded body es are is = subst AreEntries (sym (entries_of body es are is)) are
+
+-- there are none exactly where the body has no byte
+pub none_where_empty : (body : List ℕ) (es : List Entry) → AreEntries es → body ≡ body_bytes es → body ≡ [] → entries_in body ≡ []
+none_where_empty body es are is none = ap entries_in none
+
+pub empty_where_none : (body : List ℕ) (es : List Entry) → AreEntries es → body ≡ body_bytes es → entries_in body ≡ [] → body ≡ []
+empty_where_none body es are is none = body_is body es are is ∙ ap body_bytes none
+
+pub more_bytes : (es : List Entry) (e : Entry) → body_bytes (es ++ e ∷ []) ≡ body_bytes es ++ entry_bytes e
+more_bytes es e = flat_map-append entry_bytes es (e ∷ []) ∙ ap (λ (l : List ℕ). body_bytes es ++ l) (flat_map-cons entry_bytes e [] ∙ append-nil (entry_bytes e))
+
+pub more_coded : (es : List Entry) (e : Entry) → AreEntries es → IsEntry e → AreEntries (es ++ e ∷ [])
+more_coded [] e are is = (is, tt)
+more_coded (f ∷ es) e are is = (are.0, more_coded es e are.1 is)
+
+-- one entry more stands behind the others, in the room that was granted
+pub one_more : (body new : List ℕ) (room new_room capacity : ℕ) (held : List (ℕ × Answer)) (place granted left : ℕ) (e : Entry) → IsPending body room capacity held place granted
+    → IsEntry e → length (entry_bytes e) ≤ granted → new ≡ body ++ entry_bytes e → room ≤ new_room + length (entry_bytes e) → left + length new ≡ granted + length body
+    → IsPending new new_room capacity held place left
+one_more body new room new_room capacity held place granted left e was is le put less rest =
+    let more = length-entry e in
+    let long = ap length put ∙ length-append body (entry_bytes e) in
+    record {
+      entries = was.entries ++ e ∷ [];
+      coded = more_coded was.entries e was.coded is;
+      are = put ∙ ap (λ (l : List ℕ). l ++ entry_bytes e) was.are ∙ sym (more_bytes was.entries e);
+      has_room = let room_was = was.has_room in omega (arith, room_was, less, rest, long);
+      has_slots = λ used. was.has_slots (inl (omega (arith, le, more)));
+      fits = λ some. let fit = was.fits (omega (arith, le, more)) in omega (arith, fit, rest);
+      few = was.few;
+      needed = λ _ none. let is_none = ap length none in omega (arith, is_none, long, more);
+    }
+
+pub one_more_noted : (body new : List ℕ) (room capacity : ℕ) (held : List (ℕ × Answer)) (place granted : ℕ) (e : Entry) → IsPending body room capacity held place granted → IsEntry e
+    → new ≡ body ++ entry_bytes e → entries_in new ≡ entries_in body ++ e ∷ []
+one_more_noted body new room capacity held place granted e was is put =
+    entries_of new (was.entries ++ e ∷ []) (more_coded was.entries e was.coded is) (put ∙ ap (λ (l : List ℕ). l ++ entry_bytes e) was.are ∙ sym (more_bytes was.entries e))
+    ∙ ap (λ (l : List Entry). l ++ e ∷ []) (sym (entries_of body was.entries was.coded was.are))

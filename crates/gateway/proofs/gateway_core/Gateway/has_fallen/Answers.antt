@@ -1,0 +1,19 @@
+use Rattle.std.proofs.Common.{◌≡◌, ◌∙◌, sym, subst}
+use Rattle.packet.specs.Config.{Config}
+use Rattle.disk_model.specs.Disk.{LeavesNow}
+use Rattle.durable.specs.Recovery.{IsConfigured}
+use Rattle.gateway.proofs.Resting.{nothing_waits}
+use Rattle.gateway.proofs.gateway_core.Gateway.has_fallen.Goals as goal
+
+pub returns-clause-stands : goal.returns-clause-stands
+returns-clause-stands g c = rw (← c.self.view_is) (λ stands honest.
+    let keeps = c.has_fallen.ensures.stands stands honest in (keeps.0, keeps.1.reads, keeps.1.leaves))
+
+pub returns-clause-present : goal.returns-clause-present
+returns-clause-present g c = rw (← c.self.view_is) (λ stands honest none.
+    nothing_waits c.self.inside.core.config (g.D.Disk.seen c.self.inside.store.disk) c.self.inside.pending.entries c.self.inside.core.state
+    (c.self.invariant.3 (sym c.has_fallen.ensures.value ∙ stands) honest) (c.self.invariant.1 none))
+
+pub returns-clause-configured : goal.returns-clause-configured
+returns-clause-configured g c = rw (← c.self.view_is) (λ stands honest.
+    subst (λ (k : Config). LeavesNow g.D.Disk.moment g.D.Disk.left c.self.inside.store.disk (IsConfigured k)) c.self.invariant.0 (c.has_fallen.ensures.configured stands honest))

@@ -1,0 +1,11 @@
+use Rattle.std.proofs.Common.{◌≡◌, ◌∙◌, ap, sym, length, arith, List, ℕ}
+use Rattle.durable.specs.Coding.{body_bytes}
+use Rattle.gateway.proofs.Bodies.{body_is}
+use Rattle.gateway.proofs.pending.PendingNotes.reserve.Goals as goal
+
+pub returns-in_default-clause-full : goal.returns-in_default-clause-full
+returns-in_default-clause-full c = rw (← c.self.view_is) (λ _.
+    let none = c.in_default.ensures.none in
+    let is = ap length (body_is c.self.inside.group.body c.self.invariant.entries c.self.invariant.coded c.self.invariant.are) in
+    let len = c.len.ensures in
+    omega (arith, none, is, len))

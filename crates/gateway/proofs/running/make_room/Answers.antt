@@ -1,0 +1,21 @@
+use Rattle.std.proofs.Common.{◌∷◌, []}
+use Rattle.std.proofs.lemmas.Result.{err_from_is_err_and}
+use Rattle.gateway.proofs.Runs.{breaks-before, breaks-then, carries-then}
+use Rattle.gateway.proofs.running.make_room.Goals as goal
+
+pub returns-in_err-compact-clause-err : goal.returns-in_err-compact-clause-err
+returns-in_err-compact-clause-err g c =
+    let p = err_from_is_err_and c.from_residual.result c.from_residual.ensures.1 in
+    rw (p.1, p.2) (breaks-before g.D.Disk.honest g.D.Disk.moment g.D.Disk.left g.D.Disk.failed c.args.gateway.now c.compact.new.gateway [] (c.args.event ∷ [])
+    c.args.answers.now.items c.compact.new.answers.items _ c.in_err-compact.ensures.err)
+
+pub returns-in-Err-clause-err : goal.returns-in-Err-clause-err
+returns-in-Err-clause-err g c =
+    breaks-then g.D.Disk.honest g.D.Disk.moment g.D.Disk.left g.D.Disk.failed c.args.gateway.now c.compact.new.gateway c.offer.new.gateway [] (c.args.event ∷ [])
+    c.args.answers.now.items c.compact.new.answers.items c.offer.new.answers.items c.in-Err.fault
+    c.in_ok-compact.ensures.ok (c.in-Err.ensures.why (c.in-Err.ensures.full c.in_ok-compact.ensures.roomy))
+
+pub returns-clause-ok : goal.returns-clause-ok
+returns-clause-ok g c =
+    carries-then g.D.Disk.honest g.D.Disk.moment g.D.Disk.left g.D.Disk.failed c.args.gateway.now c.compact.new.gateway c.offer.new.gateway [] (c.args.event ∷ [])
+    c.args.answers.now.items c.compact.new.answers.items c.offer.new.answers.items c.in_ok-compact.ensures.ok c.in_default.ensures.ok

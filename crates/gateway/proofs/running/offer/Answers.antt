@@ -1,0 +1,26 @@
+use Rattle.std.proofs.Common.{◌++◌, ◌∷◌, [], List, ℕ, sym, subst}
+use Rattle.std.proofs.lemmas.Result.{err_from_is_err_and}
+use Rattle.machine.specs.declared.event.Answer.{Answer}
+use Rattle.gateway.specs.Running.{Stands, Ends}
+use Rattle.gateway.proofs.Runs.{ended, offered, offer-why, breaks-here}
+use Rattle.gateway.proofs.running.offer.Goals as goal
+
+pub returns-in_err-given-clause-why : goal.returns-in_err-given-clause-why
+returns-in_err-given-clause-why g c =
+    let p = err_from_is_err_and c.from_residual.result c.from_residual.ensures.1 in
+    let e = c.in_err-given.ensures in
+    rw (p.1, p.2) (λ full. breaks-here g.D.Disk.honest g.D.Disk.moment g.D.Disk.left g.D.Disk.failed c.args.gateway.now c.offer.new.self _ c.args.answers.now.items c.args.answers.now.items c.in_err-given.field-0.0.1
+    (λ start events s. record {
+      ends = subst (λ n. Ends g.D.Disk.honest g.D.Disk.moment g.D.Disk.left g.D.Disk.failed start n events c.args.answers.now.items) (sym e.err.1)
+          (ended g.D.Disk.honest g.D.Disk.moment g.D.Disk.left g.D.Disk.seen g.D.Disk.failed g.met.D.Disk.reads g.met.D.Disk.earlier start c.args.gateway.now events c.args.answers.now.items s);
+      is_why = offer-why g.D.Disk.honest g.D.Disk.moment g.D.Disk.left g.D.Disk.seen g.D.Disk.failed g.met.D.Disk.reads g.met.D.Disk.earlier start
+          c.args.gateway.now events c.args.answers.now.items s c.offer.new.self c.in_err-given.field-0.0.1 e.err.1 c.requires.few e.reopen e.numbers_out e.held_full e.causes full;
+      stays = λ other. subst (λ n. Stands g.D.Disk.honest g.D.Disk.moment g.D.Disk.left g.D.Disk.failed start n events c.args.answers.now.items) (sym e.err.1) s;
+    }))
+
+pub returns-clause-ok : goal.returns-clause-ok
+returns-clause-ok g c = λ start events s.
+    let e = c.in_ok-given.ensures in
+    subst (λ (out : List (ℕ × Answer)). Stands g.D.Disk.honest g.D.Disk.moment g.D.Disk.left g.D.Disk.failed start c.offer.new.self (events ++ c.args.event ∷ []) out) (sym {A = List (ℕ × Answer)} c.put.ensures.items)
+    (offered g.D.Disk.honest g.D.Disk.moment g.D.Disk.left g.D.Disk.seen g.D.Disk.failed g.met.D.Disk.reads g.met.D.Disk.earlier start
+    c.args.gateway.now events c.args.answers.now.items s c.offer.new.self c.args.event c.in_ok-given.given c.facts.ensures.config c.facts.ensures.sound e.disk e.fallen e.took e.now)

@@ -1,0 +1,91 @@
+-- How far a run of events has come, against where it began.
+use Rattle.std.specs.Prelude.{◌≡◌, ◌≢◌, ◌↔◌, ℕ, ◌-◌, ◌^◌, List, ◌++◌, length, true, false}
+use Rattle.disk_model.specs.Disk.{Files, LeavesNow, LeavesOnly, Grew}
+use Rattle.durable.specs.Entering.{Durable}
+use Rattle.durable.specs.Recovery.{IsConfigured, Recovers}
+use Rattle.machine.specs.Judged.{Judged, AreJudged}
+use Rattle.machine.specs.declared.event.Answer.{Answer}
+use Rattle.machine.specs.declared.event.Event.{Event}
+use Rattle.gateway.specs.Told.{TookAll, TookFirst}
+use Rattle.gateway.specs.declared.fault.GatewayFault.{GatewayFault}
+use Rattle.gateway.specs.declared.fault.GatewayFault.TheVariants as fault
+use Rattle.gateway.specs.Kept.{Kept, IsReady, IsSafe}
+use Rattle.gateway.specs.Standing.{Standing, StandsFor}
+
+-- between calls: what the files stand for, the present state, and how many answers are held
+abbrev pub standing : {D : Type 0} → Durable → Kept D → Standing
+standing first g = record { first = first; state = g.told.state; held = length g.told.held }
+
+module _ {D : Type 0} (honest : D → Type 0) (moment : D → ℕ) (left : D → ℕ → Files → Type 0) (failed : D → ℕ)
+    (start now : Kept D) where
+  -- What the files stand for, whatever a crash leaves now, and the present state are the model's after these events.
+  pub record Rests (events : List Event) : Type 0 where
+    pub first : Durable
+    pub leaves : LeavesNow moment left now.disk (λ files. Recovers files first)
+    pub judged : List Judged
+    pub are_judged : AreJudged start.told.config events judged
+    pub stands_for : StandsFor start.told.config start.told.state judged (standing first now)
+
+  -- The events were taken, and a crash at any moment since the start leaves what the model has after a beginning of
+  -- them.
+  pub record Ran (events : List Event) (out : List (ℕ × Answer)) : Type 0 where
+    pub took : TookAll start.told now.told events out
+    pub stood : start.fallen ≡ false
+    pub keeps_honest : honest start.disk ↔ honest now.disk
+    pub any_moment : IsReady honest start
+        → LeavesOnly moment left start.disk now.disk (IsSafe start.told.config start.told.state events 0)
+    pub configured : honest start.disk → LeavesOnly moment left start.disk now.disk (IsConfigured start.told.config)
+
+  -- it has come through these events, and no call of the disk has failed
+  pub record Stands (events : List Event) (out : List (ℕ × Answer)) : Type 0 where
+    pub ran : Ran events out
+    pub stands : now.fallen ≡ false
+    pub passed : failed now.disk ≡ failed start.disk
+    pub rests : IsReady honest start → Rests events
+
+  -- it ends behind these events: a crash now leaves a beginning that holds those whose answers were handed out
+  pub record Ends (events : List Event) (out : List (ℕ × Answer)) : Type 0 where
+    pub ran : Ran events out
+    pub at_exit : IsReady honest start
+        → LeavesNow moment left now.disk (IsSafe start.told.config start.told.state events (length out))
+
+  -- why a run ends that stood at its start
+  pub record IsWhy (why : GatewayFault) : Type 0 where
+    pub stood : why ≢ fault.Reopen
+    pub made_room : (why ≢ fault.HeldFull) × (why ≢ fault.Full)
+    pub numbers_out : why ≡ fault.NumbersOut → now.told.last ≡ 2 ^ 64 - 1
+    pub fell : (why ≡ fault.Device) ↔ (now.fallen ≡ true)
+    pub device : why ≡ fault.Device → Grew (failed start.disk) (failed now.disk)
+    pub generations : why ≡ fault.Generations → now.generation ≡ 2 ^ 64 - 1
+
+  -- it ends behind these events, with a fault
+  pub record Stops (events : List Event) (out : List (ℕ × Answer)) (why : GatewayFault) : Type 0 where
+    pub ends : Ends events out
+    pub is_why : IsWhy why
+    -- where no call of the disk failed, it stands as before, and may go on
+    pub stays : why ≢ fault.Device → Stands events out
+
+  -- it ends behind the first of these events, with a fault
+  pub record StopsWithin (events : List Event) (out : List (ℕ × Answer)) (why : GatewayFault) : Type 0 where
+    pub took : TookFirst start.told now.told events out
+    pub keeps_honest : honest start.disk ↔ honest now.disk
+    pub any_moment : IsReady honest start
+        → LeavesOnly moment left start.disk now.disk (IsSafe start.told.config start.told.state events 0)
+    pub at_exit : IsReady honest start
+        → LeavesNow moment left now.disk (IsSafe start.told.config start.told.state events (length out))
+    pub configured : honest start.disk → LeavesOnly moment left start.disk now.disk (IsConfigured start.told.config)
+    pub is_why : IsWhy why
+
+module _ {D : Type 0} (honest : D → Type 0) (moment : D → ℕ) (left : D → ℕ → Files → Type 0) (failed : D → ℕ)
+    (old new : Kept D) where
+  -- Wherever a run began that stood at the entry, it has come through these events too.
+  abbrev pub CarriesOn : List Event → List (ℕ × Answer) → List (ℕ × Answer) → Type 0
+  CarriesOn more before out =
+      (start : Kept D) (events : List Event) → Stands honest moment left failed start old events before
+      → Stands honest moment left failed start new (events ++ more) out
+
+  -- Wherever a run began that stood at the entry, it ends behind the first of these events, with a fault.
+  abbrev pub BreaksOff : List Event → List (ℕ × Answer) → List (ℕ × Answer) → GatewayFault → Type 0
+  BreaksOff more before out why =
+      (start : Kept D) (events : List Event) → Stands honest moment left failed start old events before
+      → (front back : List Event) × (more ≡ front ++ back) × Stops honest moment left failed start new (events ++ front) out why

@@ -1,0 +1,192 @@
+//! The answers that are held, and the entries of their events.
+ghost use Rattle.std.specs.Prelude.{◌≡◌, ◌≢◌, ◌↔◌, ◌+◌, ◌*◌, ◌<◌, ◌≤◌, ◌^◌, ◌++◌, ◌∷◌, [], length, IfOk, IfSome, IfNone, OnOk, IsTrue, vec_len, vec_capacity};
+ghost use Rattle.durable.specs.Coding.{IsEntry, AreEntries, entry_bytes, body_bytes};
+ghost use Rattle.durable.specs.Viewing.{view};
+ghost use Rattle.machine.specs.declared.event.Answer.{Answer as Answered};
+
+use durable::{Entry, begin_code, end_code, load_front, restart_code, seen_code};
+use journal::{Group, LIMIT};
+use machine::{Answer, Notes, StepFault};
+use std::alloc::{AllocError, Global};
+use std::marker::Model;
+
+/// The most answers that are held.
+pub(crate) const MOST_HELD: usize = 64;
+
+/// The answers that are held, and a group with the entries of their events, which will stand at a place of a file.
+#[derive(Drop)]
+pub(crate) struct Pending {
+    alloc: Global,
+    held: Vec<(u64, Answer)>,
+    group: Group,
+    place: u64,
+    granted: u64,
+}
+
+impl Model for Pending {
+    ghost use Rattle.std.specs.Prelude.{vec_capacity};
+    ghost use Rattle.gateway.specs.Waiting.{Waiting, IsPending, entries_in};
+
+    ghost Value = { Waiting };
+
+    ghost view = { λ p. record { held = p.held.items; entries = entries_in p.group.body; place = p.place; granted = p.granted } };
+
+    ghost invariant = { λ p. IsPending p.group.body p.group.room (vec_capacity p.held) p.held.items p.place p.granted };
+}
+
+impl Pending {
+    /// Nothing is held, and the next group will stand at the place.
+    ///
+    /// # Errors
+    ///
+    /// `AllocError` where memory is refused.
+    pub(crate) fn new(alloc: Global, place: u64) -> Result<Pending, AllocError>
+        ensures { IfOk result (λ p. p ≡ record { held = []; entries = []; place = place; granted = 0 }) }
+    {
+        let group = Group::new(alloc)?;
+        Ok(Pending {
+            alloc,
+            held: Vec::new(alloc),
+            group,
+            place,
+            granted: 0,
+        })
+    }
+
+    /// How many answers are held.
+    pub(crate) fn len(&self) -> usize
+        ensures value { result ≡ length self.now.held }
+        ensures few { result ≤ 64 }
+    {
+        self.held.as_slice().len()
+    }
+
+    /// Whether no entry waits.
+    pub(crate) fn is_quiet(&self) -> bool
+        ensures value { IsTrue result ↔ (self.now.entries ≡ []) }
+        ensures none { IsTrue result → self.now.held ≡ [] }
+    {
+        self.group.is_empty()
+    }
+
+    /// The entries as a group, which fits its file.
+    pub(crate) fn group(&self) -> &Group
+        ensures body { result.now.body ≡ body_bytes self.now.entries }
+        ensures coded { AreEntries self.now.entries }
+        ensures fits { self.now.entries ≢ [] → self.now.place + length result.now.body + 6 ≤ 67108864 }
+    {
+        &self.group
+    }
+
+    /// Holds an answer behind the others. Some entry waits, so there is room for it.
+    pub(crate) fn hold(&mut self, number: u64, answer: Answer)
+        requires some { self.old.entries ≢ [] }
+        requires few { length self.old.held < 64 }
+        ensures held { self.new.held ≡ self.old.held ++ (number, answer) ∷ [] }
+        ensures entries { self.new.entries ≡ self.old.entries }
+        ensures place { self.new.place ≡ self.old.place }
+    {
+        push(&mut self.held, number, answer);
+    }
+
+    /// Gives the answers, and lets the entries go; the next group will stand at the place. It takes no memory.
+    pub(crate) fn release(&mut self, place: u64) -> Vec<(u64, Answer)>
+        ensures answers { result.items ≡ self.old.held }
+        ensures none { self.new ≡ record { held = []; entries = []; place = place; granted = 0 } }
+    {
+        self.granted = 0;
+        self.place = place;
+        self.group.clear();
+        std::mem::replace(&mut self.held, Vec::new(self.alloc))
+    }
+}
+
+impl Notes for Pending {
+    ghost use Rattle.std.specs.Prelude.{◌<◌, ◌+◌, length};
+    ghost use Rattle.durable.specs.Coding.{body_bytes};
+
+    ghost keeps = { λ _. Unit {0} };
+
+    ghost noted = { λ p. p.entries };
+
+    ghost beside = { λ p. record { place = p.place; held = p.held } };
+
+    ghost room = { λ p. p.granted };
+
+    ghost grants = { λ _. ⊥ };
+
+    ghost too_many = { λ p bytes. 67108864 < p.place + length (body_bytes p.entries) + bytes + 6 };
+
+    fn reserve(&mut self, ends: usize, others: u64) -> Result<(), StepFault> {
+        let Some(bytes) = room_for(self.place, self.group.len() as u64, ends as u64, others) else {
+            return Err(StepFault::Full);
+        };
+        if make_slots(&mut self.held).is_err() || self.group.reserve(bytes as usize).is_err() {
+            return Err(StepFault::NoMemory);
+        }
+        self.granted = bytes;
+        Ok(())
+    }
+
+    fn note(&mut self, entry: Entry<'_>) {
+        let before = self.group.len();
+        put(&mut self.group, entry);
+        self.granted -= (self.group.len() - before) as u64;
+    }
+}
+
+// How many bytes the entries take, 14 for each session that ends and those of the others, if they fit the file
+// behind those that wait.
+fn room_for(place: u64, waiting: u64, ends: u64, others: u64) -> Option<u64>
+    ensures some { IfSome result (λ bytes. (bytes ≡ 14 * ends + others) × (place + waiting + bytes + 6 ≤ 67108864)) }
+    ensures none { IfNone result (67108864 < place + waiting + (14 * ends + others) + 6) }
+{
+    if place > LIMIT || waiting > LIMIT || ends > LIMIT || others > LIMIT {
+        return None;
+    }
+    let bytes = 14 * ends + others;
+    if place + waiting + bytes + 6 > LIMIT {
+        return None;
+    }
+    Some(bytes)
+}
+
+// Makes room for all answers that may be held.
+fn make_slots(held: &mut Vec<(u64, Answer)>) -> Result<(), AllocError>
+    ensures items { held.new.items ≡ held.old.items }
+    ensures ok { OnOk result (64 ≤ vec_capacity held.new) }
+    ensures capacity { vec_capacity held.old ≤ vec_capacity held.new }
+{
+    if held.capacity() >= MOST_HELD {
+        return Ok(());
+    }
+    held.reserve(MOST_HELD)
+}
+
+fn push(held: &mut Vec<(u64, Answer)>, number: u64, answer: Answer)
+    requires { vec_len held.old + 1 ≤ vec_capacity held.old }
+    ensures items { held.new.items ≡ held.old.items ++ (number, answer) ∷ [] }
+    ensures capacity { vec_capacity held.old ≤ vec_capacity held.new }
+{
+    let _ = held.push((number, answer));
+}
+
+// Puts the bytes of an entry behind the others, for which there is room.
+fn put(group: &mut Group, entry: Entry<'_>)
+    requires coded { IsEntry (view entry) }
+    requires room { length (entry_bytes (view entry)) ≤ group.old.room }
+    requires fits { length group.old.body + length (entry_bytes (view entry)) < 2 ^ 32 }
+    ensures body { group.new.body ≡ group.old.body ++ entry_bytes (view entry.entry) }
+    ensures room { group.old.room ≤ group.new.room + length (entry_bytes (view entry.entry)) }
+{
+    match entry {
+        Entry::Load(text) => {
+            group.put(&load_front(text));
+            group.put(text);
+        }
+        Entry::Begin(session) => group.put(&begin_code(&session)),
+        Entry::Seen(flow, seen) => group.put(&seen_code(&flow, seen)),
+        Entry::Restart(flow, opener, seen) => group.put(&restart_code(&flow, opener, seen)),
+        Entry::End(flow) => group.put(&end_code(&flow)),
+    }
+}

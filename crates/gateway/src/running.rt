@@ -1,0 +1,236 @@
+//! A run of events over a gateway's own calls, for those who read the events as they come. What a call comes to is
+//! said of any run that stood before it: how far that run is, and what a crash may leave of it.
+ghost use Rattle.std.specs.Prelude.{◌≡◌, ◌≢◌, ◌↔◌, ◌+◌, ◌<◌, ◌≤◌, ◌++◌, ◌∷◌, [], false, length};
+ghost use Rattle.std.specs.Prelude.{IfErr, IsTrue, OnErr, OnOk, vec_capacity, vec_len};
+ghost use Rattle.gateway.specs.Told.{handed};
+ghost use Rattle.gateway.specs.Kept.{IsRoomy};
+ghost use Rattle.gateway.specs.Running.{BreaksOff, CarriesOn, Ends, Stands, StopsWithin};
+
+use crate::gateway_core::Gateway;
+use crate::pending::MOST_HELD;
+use crate::{GatewayFault, Given};
+use disk_model::Disk;
+use machine::{Answer, Event};
+
+/// A run begins: no event is taken, and nothing is handed out. It does nothing but carry this fact.
+pub fn begin<D: Disk + Drop>(gateway: &Gateway<D>)
+    requires { gateway.now.fallen ≡ false }
+    ensures { Stands D.honest D.moment D.left D.failed gateway.now gateway.now [] [] }
+{
+    gateway.has_fallen();
+}
+
+// Takes the events in turn, and flushes at the end.
+pub(crate) fn take_all<D: Disk + Drop>(
+    gateway: &mut Gateway<D>,
+    events: Vec<Event>,
+    answers: &mut Vec<(u64, Answer)>,
+) -> Result<(), GatewayFault>
+    requires begun { Stands D.honest D.moment D.left D.failed gateway.old gateway.old [] answers.old.items }
+    requires room { vec_len answers.old + length gateway.old.told.held + length events.items
+        ≤ vec_capacity answers.old }
+    ensures ok { OnOk result (Ends D.honest D.moment D.left D.failed gateway.old gateway.new events.items answers.new.items) }
+    ensures none { OnOk result (gateway.new.told.held ≡ []) }
+    ensures err { IfErr result (StopsWithin D.honest D.moment D.left D.failed gateway.old gateway.new events.items answers.new.items) }
+    ensures stands { OnOk result (gateway.new.fallen ≡ false) }
+{
+    for event in events {
+        take(gateway, event, answers)?;
+    }
+    hand_out(gateway, answers)
+}
+
+/// Takes an event: where 64 answers are held it flushes first; where it is refused as `Full` it flushes, compacts, and
+/// offers it again. What is answered goes behind the other answers, for which there is room.
+///
+/// # Errors
+///
+/// The gateway's fault. The event isn't taken, and doesn't come back. What was handed out before it is behind the other
+/// answers; unless a call of the disk has failed, the gateway may go on.
+pub fn take<D: Disk + Drop>(
+    gateway: &mut Gateway<D>,
+    event: Event,
+    answers: &mut Vec<(u64, Answer)>,
+) -> Result<(), GatewayFault>
+    requires stands { gateway.old.fallen ≡ false }
+    requires room { vec_len answers.old + length gateway.old.told.held + 1 ≤ vec_capacity answers.old }
+    ensures ok { OnOk result (CarriesOn D.honest D.moment D.left D.failed gateway.old gateway.new (event ∷ [])
+        answers.old.items answers.new.items) }
+    ensures err { IfErr result (BreaksOff D.honest D.moment D.left D.failed gateway.old gateway.new (event ∷ [])
+        answers.old.items answers.new.items) }
+    ensures stands { OnOk result (gateway.new.fallen ≡ false) }
+    ensures room { vec_len answers.new + length gateway.new.told.held
+        ≤ vec_len answers.old + length gateway.old.told.held + 1 }
+    ensures capacity { vec_capacity answers.old ≤ vec_capacity answers.new }
+{
+    hold_fewer(gateway, answers)?;
+    let Err((event, fault)) = offer(gateway, event, answers) else {
+        return Ok(());
+    };
+    if is_full(fault) {
+        return make_room(gateway, event, answers);
+    }
+    Err(fault)
+}
+
+// Flushes and compacts; then there is room for the event, and it is taken.
+fn make_room<D: Disk + Drop>(
+    gateway: &mut Gateway<D>,
+    event: Event,
+    answers: &mut Vec<(u64, Answer)>,
+) -> Result<(), GatewayFault>
+    requires stands { gateway.old.fallen ≡ false }
+    requires room { vec_len answers.old + length gateway.old.told.held + 1 ≤ vec_capacity answers.old }
+    ensures ok { OnOk result (CarriesOn D.honest D.moment D.left D.failed gateway.old gateway.new (event ∷ [])
+        answers.old.items answers.new.items) }
+    ensures err { IfErr result (BreaksOff D.honest D.moment D.left D.failed gateway.old gateway.new (event ∷ [])
+        answers.old.items answers.new.items) }
+    ensures stands { OnOk result (gateway.new.fallen ≡ false) }
+    ensures room { vec_len answers.new + length gateway.new.told.held
+        ≤ vec_len answers.old + length gateway.old.told.held + 1 }
+    ensures capacity { vec_capacity answers.old ≤ vec_capacity answers.new }
+{
+    compact(gateway, answers)?;
+    if let Err((_, fault)) = offer(gateway, event, answers) {
+        return Err(fault);
+    }
+    Ok(())
+}
+
+/// Flushes and compacts. What is handed out goes behind the other answers, for which there is room.
+///
+/// # Errors
+///
+/// The gateway's fault, `HeldFull` and `Full` never. What was handed out before it is behind the other answers; unless
+/// a call of the disk has failed, the gateway may go on.
+pub fn compact<D: Disk + Drop>(
+    gateway: &mut Gateway<D>,
+    answers: &mut Vec<(u64, Answer)>,
+) -> Result<(), GatewayFault>
+    requires stands { gateway.old.fallen ≡ false }
+    requires room { vec_len answers.old + length gateway.old.told.held ≤ vec_capacity answers.old }
+    ensures ok { OnOk result (CarriesOn D.honest D.moment D.left D.failed gateway.old gateway.new []
+        answers.old.items answers.new.items) }
+    ensures err { IfErr result (BreaksOff D.honest D.moment D.left D.failed gateway.old gateway.new []
+        answers.old.items answers.new.items) }
+    ensures stands { OnOk result (gateway.new.fallen ≡ false) }
+    ensures none { OnOk result (gateway.new.told.held ≡ []) }
+    ensures roomy { OnOk result (IsRoomy gateway.new.filled) }
+    ensures grown { OnOk result (gateway.new.grown ≡ 0) }
+    ensures settled { gateway.old.told.held ≡ [] → gateway.new.told.held ≡ [] }
+    ensures quiet { gateway.old.told.held ≡ [] → answers.new.items ≡ answers.old.items }
+    ensures room { vec_len answers.new + length gateway.new.told.held
+        ≡ vec_len answers.old + length gateway.old.told.held }
+    ensures capacity { vec_capacity answers.old ≤ vec_capacity answers.new }
+{
+    hand_out(gateway, answers)?;
+    gateway.compact()?;
+    Ok(())
+}
+
+// Flushes where 64 answers are held.
+fn hold_fewer<D: Disk + Drop>(
+    gateway: &mut Gateway<D>,
+    answers: &mut Vec<(u64, Answer)>,
+) -> Result<(), GatewayFault>
+    requires stands { gateway.old.fallen ≡ false }
+    requires room { vec_len answers.old + length gateway.old.told.held ≤ vec_capacity answers.old }
+    ensures ok { OnOk result (CarriesOn D.honest D.moment D.left D.failed gateway.old gateway.new []
+        answers.old.items answers.new.items) }
+    ensures err { IfErr result (BreaksOff D.honest D.moment D.left D.failed gateway.old gateway.new []
+        answers.old.items answers.new.items) }
+    ensures stands { OnOk result (gateway.new.fallen ≡ false) }
+    ensures few { OnOk result (length gateway.new.told.held < 64) }
+    ensures room { vec_len answers.new + length gateway.new.told.held
+        ≡ vec_len answers.old + length gateway.old.told.held }
+    ensures capacity { vec_capacity answers.old ≤ vec_capacity answers.new }
+{
+    if gateway.held() < MOST_HELD {
+        return Ok(());
+    }
+    hand_out(gateway, answers)
+}
+
+/// Flushes, and puts what was held behind the other answers, for which there is room.
+///
+/// # Errors
+///
+/// `Device`: a call of the disk has failed. No answer is handed out.
+pub fn hand_out<D: Disk + Drop>(
+    gateway: &mut Gateway<D>,
+    answers: &mut Vec<(u64, Answer)>,
+) -> Result<(), GatewayFault>
+    requires stands { gateway.old.fallen ≡ false }
+    requires room { vec_len answers.old + length gateway.old.told.held ≤ vec_capacity answers.old }
+    ensures ok { OnOk result (CarriesOn D.honest D.moment D.left D.failed gateway.old gateway.new []
+        answers.old.items answers.new.items) }
+    ensures err { IfErr result (BreaksOff D.honest D.moment D.left D.failed gateway.old gateway.new []
+        answers.old.items answers.new.items) }
+    ensures stands { OnOk result (gateway.new.fallen ≡ false) }
+    ensures none { OnOk result (gateway.new.told.held ≡ []) }
+    ensures items { OnOk result (answers.new.items ≡ answers.old.items ++ gateway.old.told.held) }
+    ensures no_items { OnErr result (answers.new.items ≡ answers.old.items) }
+    ensures device { IfErr result (λ e. e ≡ GatewayFault.Device) }
+    ensures generation { gateway.new.generation ≡ gateway.old.generation }
+    ensures settled { gateway.old.told.held ≡ [] → gateway.new.told.held ≡ [] }
+    ensures room { vec_len answers.new + length gateway.new.told.held
+        ≡ vec_len answers.old + length gateway.old.told.held }
+    ensures capacity { vec_capacity answers.old ≤ vec_capacity answers.new }
+{
+    let held = gateway.flush()?;
+    put_all(answers, held);
+    Ok(())
+}
+
+// Offers an event, and hands out its answer where it is answered at once.
+fn offer<D: Disk + Drop>(
+    gateway: &mut Gateway<D>,
+    event: Event,
+    answers: &mut Vec<(u64, Answer)>,
+) -> Result<(), (Event, GatewayFault)>
+    requires stands { gateway.old.fallen ≡ false }
+    requires few { length gateway.old.told.held < 64 }
+    requires room { vec_len answers.old + length gateway.old.told.held + 1 ≤ vec_capacity answers.old }
+    ensures ok { OnOk result (CarriesOn D.honest D.moment D.left D.failed gateway.old gateway.new (event ∷ [])
+        answers.old.items answers.new.items) }
+    ensures err { IfErr result (λ e. (e.0 ≡ event) × (gateway.new ≡ gateway.old) × (answers.new ≡ answers.old)) }
+    ensures full { IsRoomy gateway.old.filled → IfErr result (λ e. e.1 ≢ GatewayFault.Full) }
+    ensures why { IfErr result (λ e. e.1 ≢ GatewayFault.Full
+        → BreaksOff D.honest D.moment D.left D.failed gateway.old gateway.new (event ∷ [])
+        answers.old.items answers.new.items e.1) }
+    ensures stands { OnOk result (gateway.new.fallen ≡ false) }
+    ensures room { vec_len answers.new + length gateway.new.told.held
+        ≤ vec_len answers.old + length gateway.old.told.held + 1 }
+    ensures capacity { vec_capacity answers.old ≤ vec_capacity answers.new }
+{
+    gateway.facts();
+    let given = gateway.offer(event)?;
+    put(answers, given);
+    Ok(())
+}
+
+fn is_full(fault: GatewayFault) -> bool
+    ensures { IsTrue result ↔ (fault ≡ GatewayFault.Full) }
+{
+    matches!(fault, GatewayFault::Full)
+}
+
+// Hands out an answer that was given at once.
+fn put(answers: &mut Vec<(u64, Answer)>, given: Given)
+    requires { vec_len answers.old + 1 ≤ vec_capacity answers.old }
+    ensures items { answers.new.items ≡ answers.old.items ++ handed given }
+    ensures capacity { vec_capacity answers.old ≤ vec_capacity answers.new }
+{
+    if let Given::Now(number, answer) = given {
+        let _ = answers.push((number, answer));
+    }
+}
+
+// Hands out answers that were held.
+fn put_all(answers: &mut Vec<(u64, Answer)>, mut held: Vec<(u64, Answer)>)
+    requires { vec_len answers.old + length held.items ≤ vec_capacity answers.old }
+    ensures items { answers.new.items ≡ answers.old.items ++ held.items }
+    ensures capacity { vec_capacity answers.old ≤ vec_capacity answers.new }
+{
+    let _ = answers.append(&mut held);
+}

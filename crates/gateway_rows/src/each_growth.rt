@@ -1,0 +1,269 @@
+//! Memory that is refused, to each call once.
+//!
+//! Under `rt try --test --fail-alloc N` one growth is refused, another one for each N. A call that answers so has changed
+//! nothing, and when it is made again it is answered as if nothing had been. Where the disk is refused memory, its call has
+//! failed, and the gateway is opened again.
+use crate::script::{compact, flush, offer, run};
+use crate::shared::{
+    Answer, Bytes, Event, GatewayFault, Given, Iface, OpenFault, Trials, What, open,
+};
+use packet::bounds::Bounds;
+use packet::endpoint::Prefix;
+use std::alloc::Global;
+use std::test::*;
+use trial_disk::Trial;
+
+// Every packet to wan leaves from the external address.
+const RULES: &[u8; 101] =
+    b"table ip nat { chain post { type nat hook postrouting priority srcnat; oifname \"wan\" masquerade; }; }";
+
+// It jumps to itself, and doesn't load.
+const LOOP: &[u8; 101] =
+    b"table ip t { chain c { jump c; }; }                                                                  ";
+
+// UDP from 192.168.1.2:5000 to 198.51.100.7:53.
+const FIRST: [u8; 28] = [
+    0x45, 0x00, 0x00, 0x1c, 0x00, 0x01, 0x00, 0x00, 0x40, 0x11, 0x8e, 0xeb, 0xc0, 0xa8, 0x01, 0x02,
+    0xc6, 0x33, 0x64, 0x07, 0x13, 0x88, 0x00, 0x35, 0x00, 0x08, 0x00, 0x3c,
+];
+
+// The same from 192.168.1.3.
+const NEIGHBOUR: [u8; 28] = [
+    0x45, 0x00, 0x00, 0x1c, 0x00, 0x01, 0x00, 0x00, 0x40, 0x11, 0x8e, 0xea, 0xc0, 0xa8, 0x01, 0x03,
+    0xc6, 0x33, 0x64, 0x07, 0x13, 0x88, 0x00, 0x35, 0x00, 0x08, 0x00, 0x3b,
+];
+
+// From 192.168.1.3:6000 to 203.0.113.1:5000. It begins two sessions.
+const HAIRPIN: [u8; 28] = [
+    0x45, 0x00, 0x00, 0x1c, 0x00, 0x01, 0x00, 0x00, 0x40, 0x11, 0x7d, 0x23, 0xc0, 0xa8, 0x01, 0x03,
+    0xcb, 0x00, 0x71, 0x01, 0x17, 0x70, 0x13, 0x88, 0x00, 0x08, 0xd7, 0x38,
+];
+
+/// What the calls are given.
+#[derive(Drop)]
+struct Begun {
+    disk: Trial,
+    bounds: Vec<Bounds>,
+    offered: Offered,
+    run: Vec<Event>,
+}
+
+/// What is offered, event by event.
+#[derive(Drop)]
+struct Offered {
+    rules: Event,
+    first: Event,
+    again: Event,
+    hairpin: Event,
+    neighbour: Event,
+}
+
+fn one_bounds(alloc: Global) -> Option<Bounds> {
+    let prefix = Prefix {
+        addr: 0xc0a8_0000,
+        len: 16,
+    };
+    let inside = Vec::from_slice(alloc, &[prefix]).ok()?;
+    let lan = String::from_str(alloc, "lan").ok()?;
+    let wan = String::from_str(alloc, "wan").ok()?;
+    Bounds::new(lan, wan, inside, 0xcb00_7101).ok()
+}
+
+fn some_bounds(alloc: Global) -> Option<Vec<Bounds>> {
+    let mut all = Vec::new(alloc);
+    for _ in 0..4 {
+        all.push(one_bounds(alloc)?).ok()?;
+    }
+    Some(all)
+}
+
+fn load(alloc: Global, moment: u64, text: &[u8; 101]) -> Option<Event> {
+    let bytes = Bytes::of(Vec::from_slice(alloc, text).ok()?);
+    let what = What::Load(bytes);
+    Some(Event { moment, what })
+}
+
+fn from_lan(alloc: Global, moment: u64, packet: &[u8; 28]) -> Option<Event> {
+    let bytes = Bytes::of(Vec::from_slice(alloc, packet).ok()?);
+    let what = What::Packet(Iface::Lan, bytes);
+    Some(Event { moment, what })
+}
+
+fn tick(moment: u64) -> Event {
+    let what = What::Moment;
+    Event { moment, what }
+}
+
+// At 1300 all sessions end that began at 1000.
+fn some_events(alloc: Global) -> Option<Offered> {
+    Some(Offered {
+        rules: load(alloc, 1000, RULES)?,
+        first: from_lan(alloc, 1000, &FIRST)?,
+        again: from_lan(alloc, 1000, &FIRST)?,
+        hairpin: from_lan(alloc, 1000, &HAIRPIN)?,
+        neighbour: from_lan(alloc, 1300, &NEIGHBOUR)?,
+    })
+}
+
+// The second text and the packet change something.
+fn some_run(alloc: Global) -> Option<Vec<Event>> {
+    let refused = load(alloc, 1301, LOOP)?;
+    let loaded = load(alloc, 1302, RULES)?;
+    let packet = from_lan(alloc, 1303, &FIRST)?;
+    vec![in alloc; tick(1301), refused, loaded, packet, tick(1304)].ok()
+}
+
+// None where memory was refused.
+fn begin(alloc: Global) -> Option<Begun> {
+    Some(Begun {
+        disk: Trial::of(alloc, b"", b"").ok()?,
+        bounds: some_bounds(alloc)?,
+        offered: some_events(alloc)?,
+        run: some_run(alloc)?,
+    })
+}
+
+/// Why the calls ended early.
+#[derive(Clone, Copy, Debug, PartialEq, Eq, Drop)]
+enum Stop {
+    /// A call of the disk failed.
+    Fallen,
+    /// An answer was not as it should be.
+    Wrong,
+}
+
+fn must(is_right: bool) -> Result<(), Stop> {
+    if is_right { Ok(()) } else { Err(Stop::Wrong) }
+}
+
+// Opens it, a second time where memory was refused.
+fn open_twice(alloc: Global, disk: Trial, all: &mut Vec<Bounds>) -> Result<Trials, Stop> {
+    match open(alloc, disk, all.pop().ok_or(Stop::Wrong)?, 1000) {
+        Ok(gateway) => Ok(gateway),
+        Err((disk, OpenFault::NoMemory | OpenFault::Device)) => {
+            open(alloc, disk, all.pop().ok_or(Stop::Wrong)?, 1000).map_err(|_| Stop::Wrong)
+        }
+        Err(_) => Err(Stop::Wrong),
+    }
+}
+
+// None where memory was refused.
+fn count_sessions(gateway: &Trials) -> Option<usize> {
+    Some(gateway.sessions().ok()?.len())
+}
+
+fn has_sessions(gateway: &Trials, count: usize) -> Result<(), Stop> {
+    let counted = count_sessions(gateway).or_else(|| count_sessions(gateway));
+    must(counted == Some(count))
+}
+
+// Offers it, a second time where memory was refused.
+fn offer_twice(gateway: &mut Trials, event: Event) -> Result<Given, Stop> {
+    let held = gateway.held();
+    match offer(gateway, event) {
+        Ok(given) => Ok(given),
+        Err((event, GatewayFault::NoMemory)) => {
+            must(gateway.held() == held)?;
+            offer(gateway, event).map_err(|_| Stop::Wrong)
+        }
+        Err(_) => Err(Stop::Wrong),
+    }
+}
+
+fn hold(gateway: &mut Trials, event: Event, number: u64) -> Result<(), Stop> {
+    let before = gateway.held();
+    let given = offer_twice(gateway, event)?;
+    must(matches!(&given, Given::Held(given) if *given == number))?;
+    must(gateway.held() == before.saturating_add(1))
+}
+
+fn hand_out(gateway: &mut Trials, count: usize) -> Result<(), Stop> {
+    match flush(gateway) {
+        Ok(answers) => must(answers.len() == count && gateway.held() == 0),
+        Err(GatewayFault::Device) => Err(Stop::Fallen),
+        Err(_) => Err(Stop::Wrong),
+    }
+}
+
+// It takes no memory, and so it is answered the first time.
+fn answer_at_once(gateway: &mut Trials, event: Event, number: u64) -> Result<(), Stop> {
+    match offer(gateway, event) {
+        Ok(Given::Now(given, Answer::Forward(Iface::Wan, _))) => must(given == number),
+        _ => Err(Stop::Wrong),
+    }
+}
+
+fn compact_once(gateway: &mut Trials) -> Result<(), GatewayFault> {
+    compact(gateway).unwrap_or(Err(GatewayFault::HeldFull))
+}
+
+// Compacts, a second time where memory was refused.
+fn compact_twice(gateway: &mut Trials) -> Result<(), Stop> {
+    let end = match compact_once(gateway) {
+        Err(GatewayFault::NoMemory) => compact_once(gateway),
+        end => end,
+    };
+    match end {
+        Ok(()) => must(gateway.grown() == 0),
+        Err(GatewayFault::Device) => Err(Stop::Fallen),
+        Err(_) => Err(Stop::Wrong),
+    }
+}
+
+// Where memory is refused, the rest of the events is not taken; those that were taken are handed out or held.
+fn run_once(gateway: &mut Trials, events: Vec<Event>) -> Result<(), Stop> {
+    let count = events.len();
+    match run(gateway, events) {
+        Ok(answers) => must(answers.len() == count && gateway.held() == 0),
+        Err((_, GatewayFault::Device)) => Err(Stop::Fallen),
+        Err((answers, GatewayFault::NoMemory)) => {
+            must(answers.len().saturating_add(gateway.held()) < count)?;
+            hand_out(gateway, gateway.held())
+        }
+        Err(_) => Err(Stop::Wrong),
+    }
+}
+
+fn offer_all(gateway: &mut Trials, offered: Offered) -> Result<(), Stop> {
+    hold(gateway, offered.rules, 1)?;
+    hold(gateway, offered.first, 2)?;
+    hand_out(gateway, 2)?;
+    answer_at_once(gateway, offered.again, 3)?;
+    hold(gateway, offered.hairpin, 4)?;
+    has_sessions(gateway, 3)?;
+    hand_out(gateway, 1)?;
+    compact_twice(gateway)?;
+    hold(gateway, offered.neighbour, 5)?;
+    has_sessions(gateway, 1)?;
+    hand_out(gateway, 1)
+}
+
+// Each call in turn, up to a fault of the disk.
+fn calls(gateway: &mut Trials, offered: Offered, events: Vec<Event>) -> Result<(), Stop> {
+    offer_all(gateway, offered)?;
+    run_once(gateway, events)
+}
+
+// The files open again, and hold no more than was taken.
+fn is_left(alloc: Global, disk: Trial, all: &mut Vec<Bounds>) -> Result<(), Stop> {
+    let gateway = open_twice(alloc, disk, all)?;
+    let counted = count_sessions(&gateway).or_else(|| count_sessions(&gateway));
+    must(counted.is_some_and(|count| count <= 3) && gateway.held() == 0)
+}
+
+fn scenario(alloc: Global, begun: Begun) -> Result<(), Stop> {
+    let mut all = begun.bounds;
+    let mut gateway = open_twice(alloc, begun.disk, &mut all)?;
+    match calls(&mut gateway, begun.offered, begun.run) {
+        Ok(()) | Err(Stop::Fallen) => is_left(alloc, gateway.into_disk(), &mut all),
+        Err(Stop::Wrong) => Err(Stop::Wrong),
+    }
+}
+
+#[test]
+fn each_growth(rt: HostRuntime) -> Result<(), Fail> {
+    let alloc = rt.alloc();
+    let begun = begin(alloc).or_else(|| begin(alloc)).ok_or("no memory")?;
+    assert_eq!(rt; scenario(alloc, begun), Ok(()));
+    Ok(())
+}

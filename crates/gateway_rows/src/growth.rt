@@ -1,0 +1,257 @@
+//! Groups that grow, compaction, and runs of many events.
+use crate::script::{expect, handed, name, play, run};
+use crate::shared::{
+    Event, FRESH_FRONT, MASQUERADE, TWO_FLUSHED, TWO_HELD, Trials, Trouble, fresh, lost_power,
+    opened, reopened, troubled,
+};
+use crate::words::{event, events, hex};
+use disk_model::FileId;
+use std::alloc::Global;
+use std::process::Abort;
+use std::test::*;
+use trial_disk::Trial;
+
+// A file of 162 bytes with the text and the session as its snapshot, from its generation on.
+fn snapshot(alloc: Global, generation: &str) -> Result<Vec<u8>, Fail> {
+    let mut file = hex(alloc, "01 4e475731")?;
+    file.extend_from_slice(hex(alloc, generation)?.as_slice())?;
+    let configuration = hex(alloc, "036c616e 0377616e 01 c0a8000010 cb007101 00000065")?;
+    file.extend_from_slice(configuration.as_slice())?;
+    file.extend_from_slice(MASQUERADE.as_bytes())?;
+    let session = hex(
+        alloc,
+        "00000001 11 c0a801021388 cb0071011388 c63364070035 00 00 00",
+    )?;
+    file.extend_from_slice(session.as_slice())?;
+    Ok(file)
+}
+
+const COMPACTED: &str = "\
+lan 1001 4500001c00010000 40118eeb c0a80102 c6336407 13880035 0008003c
+= now 3 wan 4500001c00010000 3f111594 cb007101 c6336407 13880035 000885e4
+grown
+= 133
+compact
+= done
+grown
+= 0
+rules
+= table ip nat { chain post { type nat hook postrouting priority srcnat; oifname \"wan\" masquerade; }; }
+sessions
+= udp 192.168.1.2:5000 203.0.113.1:5000 198.51.100.7:53 inside 0 at 1001
+at 1300
+= now 4 ticked";
+
+const FOUND_AGAIN: &str = "\
+grown
+= 0
+rules
+= table ip nat { chain post { type nat hook postrouting priority srcnat; oifname \"wan\" masquerade; }; }
+sessions
+= udp 192.168.1.2:5000 203.0.113.1:5000 198.51.100.7:53 inside 0 at 1400
+compact
+= done
+grown
+= 0";
+
+fn answered(alloc: Global) -> Result<Trials, Fail> {
+    let mut gateway = fresh(alloc)?;
+    play(alloc, &mut gateway, TWO_HELD)?;
+    play(alloc, &mut gateway, TWO_FLUSHED)?;
+    Ok(gateway)
+}
+
+#[test]
+fn compacted(rt: HostRuntime) -> Result<(), Fail> {
+    let alloc = rt.alloc();
+    let mut gateway = answered(alloc)?;
+    play(alloc, &mut gateway, COMPACTED)?;
+    let mut disk = gateway.into_disk();
+    let second = snapshot(alloc, "0000000000000002")?;
+    assert_eq!(rt; second.len(), 162);
+    assert_eq!(rt; disk.bytes(alloc, FileId::B)?.as_slice(), second.as_slice());
+    let older = disk.bytes(alloc, FileId::A)?;
+    assert!(rt;
+        older
+            .as_slice()
+            .starts_with(hex(alloc, FRESH_FRONT)?.as_slice())
+    );
+    assert_eq!(rt; older.len(), 173);
+    found_again(&rt, alloc, disk, second.as_slice())
+}
+
+// It is there when the files are opened, and compacted again it goes to the other file, behind which bytes mean nothing.
+fn found_again(rt: &impl Abort, alloc: Global, disk: Trial, second: &[u8]) -> Result<(), Fail> {
+    let mut gateway = opened(alloc, disk, 1400)?;
+    play(alloc, &mut gateway, FOUND_AGAIN)?;
+    let mut disk = gateway.into_disk();
+    let third = snapshot(alloc, "0000000000000003")?;
+    assert_eq!(rt; disk.bytes(alloc, FileId::B)?.as_slice(), second);
+    assert!(rt;
+        disk.bytes(alloc, FileId::A)?
+            .as_slice()
+            .starts_with(third.as_slice())
+    );
+    assert!(rt; !disk.has_strayed());
+    Ok(())
+}
+
+const COMPACTION_FAILS: &str = "\
+compact
+= device
+compact
+= reopen
+lan 1000 4500001c00010000 40118eeb c0a80102 c6336407 13880035 0008003c
+= reopen
+flush
+= reopen";
+
+const KEPT: &str = "\
+rules
+= table ip nat { chain post { type nat hook postrouting priority srcnat; oifname \"wan\" masquerade; }; }
+sessions
+= udp 192.168.1.2:5000 203.0.113.1:5000 198.51.100.7:53 inside 0 at 2000
+held
+= 0
+compact
+= done
+grown
+= 0";
+
+fn failed_compaction(alloc: Global, at: Trouble) -> Result<Trials, Fail> {
+    let mut gateway = troubled(alloc, answered(alloc)?, at)?;
+    play(alloc, &mut gateway, COMPACTION_FAILS)?;
+    Ok(gateway)
+}
+
+// Each of the six calls fails, alone or with all behind it; nothing is lost.
+#[test]
+fn compaction_stops(rt: HostRuntime) -> Result<(), Fail> {
+    let alloc = rt.alloc();
+    for call in 0..6 {
+        let gateway = failed_compaction(alloc, Trouble::Fault(call))?;
+        let mut gateway = reopened(alloc, gateway, 2000)?;
+        play(alloc, &mut gateway, KEPT)?;
+        for choice in [0, 1, 2, 3, 5, 10] {
+            let gateway = failed_compaction(alloc, Trouble::Stop(call))?;
+            let mut gateway = lost_power(alloc, gateway, choice, 2000)?;
+            play(alloc, &mut gateway, KEPT)?;
+        }
+    }
+    Ok(())
+}
+
+// So many loads of a text of 11 bytes.
+fn loads(alloc: Global, count: u64) -> Result<Vec<Event>, Fail> {
+    let mut events = Vec::new(alloc);
+    for _ in 0..count {
+        events.push(event(alloc, "load 1000 table t { }")?)?;
+    }
+    Ok(events)
+}
+
+// So many times `loaded`, with rising numbers.
+fn all_loaded(alloc: Global, count: u64) -> Result<String, Fail> {
+    let mut lines = String::new(alloc);
+    for number in 1..=count {
+        lines.push_str(format!(in alloc; "{number} loaded\n")?.as_str())?;
+    }
+    Ok(lines)
+}
+
+// How a run ends, and that it answers so many loads.
+fn run_loads(
+    alloc: Global,
+    gateway: &mut Trials,
+    count: u64,
+    answered: u64,
+) -> Result<&'static str, Fail> {
+    let (answers, end) = match run(gateway, loads(alloc, count)?) {
+        Ok(answers) => (answers, "done"),
+        Err((answers, fault)) => (answers, name(fault)),
+    };
+    let said = handed(alloc, answers.as_slice())?;
+    expect(
+        alloc,
+        said.as_slice(),
+        all_loaded(alloc, answered)?.as_str(),
+    )?;
+    Ok(end)
+}
+
+// Groups of 64 and of 1: 5 bytes, and 16 for each load.
+const RAN: &str = "\
+held
+= 0
+grown
+= 1050
+at 1001
+= now 66 ticked";
+
+#[test]
+fn run_flushes_at_64(rt: HostRuntime) -> Result<(), Fail> {
+    let alloc = rt.alloc();
+    let calls = fresh(alloc)?.into_disk().calls();
+    let mut gateway = fresh(alloc)?;
+    assert_eq!(rt; run_loads(alloc, &mut gateway, 65, 65)?, "done");
+    play(alloc, &mut gateway, RAN)?;
+    assert_eq!(rt; gateway.into_disk().calls(), calls.saturating_add(8));
+    Ok(())
+}
+
+// The answers of a group whose flush failed stay held.
+const RAN_INTO_FAULT: &str = "\
+held
+= 36
+at 1001
+= reopen";
+
+// The second flush fails: 64 answers are handed out.
+#[test]
+fn run_meets_a_fault(rt: HostRuntime) -> Result<(), Fail> {
+    let alloc = rt.alloc();
+    for call in 4..8 {
+        let mut gateway = troubled(alloc, fresh(alloc)?, Trouble::Stop(call))?;
+        assert_eq!(rt; run_loads(alloc, &mut gateway, 100, 64)?, "device");
+        play(alloc, &mut gateway, RAN_INTO_FAULT)?;
+        assert_eq!(rt; run_loads(alloc, &mut gateway, 1, 0)?, "reopen");
+        let mut gateway = lost_power(alloc, gateway, 0, 2000)?;
+        play(alloc, &mut gateway, "rules\n= table t { }")?;
+    }
+    Ok(())
+}
+
+const MIXED: &str = "\
+at 1000
+load 1000 table ip nat { chain post { type nat hook postrouting priority srcnat; oifname \"wan\" masquerade; }; }
+at 1001
+lan 1001 4500001c00010000 40118eeb c0a80102 c6336407 13880035 0008003c
+load 1001 table ip6 t { }
+wan 1001 4500002800010000 40061491 c6336409 cb007101 1b580016 00000001 00000000 5002ffff 2e350000";
+
+const MIXED_ANSWERS: &str = "\
+1 ticked
+2 loaded
+3 ticked
+4 wan 4500001c00010000 3f111594 cb007101 c6336407 13880035 000885e4
+5 refused
+6 drop 13";
+
+// What is held at the entry comes first.
+#[test]
+fn run_in_order(rt: HostRuntime) -> Result<(), Fail> {
+    let alloc = rt.alloc();
+    let mut gateway = fresh(alloc)?;
+    let answers = run(&mut gateway, events(alloc, MIXED)?).map_err(|(_, fault)| fault)?;
+    expect(
+        alloc,
+        handed(alloc, answers.as_slice())?.as_slice(),
+        MIXED_ANSWERS,
+    )?;
+    play(alloc, &mut gateway, "load 1001 table t { }\n= held 7")?;
+    let ticks = events(alloc, "at 1002\nat 1003")?;
+    let answers = run(&mut gateway, ticks).map_err(|(_, fault)| fault)?;
+    let said = handed(alloc, answers.as_slice())?;
+    expect(alloc, said.as_slice(), "7 loaded\n8 ticked\n9 ticked")?;
+    play(alloc, &mut gateway, "held\n= 0\ngrown\n= 154")
+}

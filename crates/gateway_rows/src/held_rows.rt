@@ -1,0 +1,185 @@
+//! Which answers are held, what a flush writes and hands out, and how many are held at the most.
+use crate::script::play;
+use crate::shared::{
+    FRESH_FRONT, MASQUERADE, THIRD_HELD, THREE_FLUSHED, TWO_FLUSHED, TWO_HELD, Trials, fresh,
+};
+use crate::words::hex;
+use disk_model::FileId;
+use std::alloc::Global;
+use std::process::Abort;
+use std::test::*;
+
+// Behind the front of a fresh file: an open group of 128 bytes, a load of 101, the begin of a session, and a closed gate.
+fn one_group(alloc: Global) -> Result<Vec<u8>, Fail> {
+    let mut file = hex(alloc, FRESH_FRONT)?;
+    file.extend_from_slice(hex(alloc, "01 00000080 01 00000065")?.as_slice())?;
+    file.extend_from_slice(MASQUERADE.as_bytes())?;
+    let begin = hex(
+        alloc,
+        "02 11 c0a801021388 cb0071011388 c63364070035 00 00 00",
+    )?;
+    file.extend_from_slice(begin.as_slice())?;
+    Ok(file)
+}
+
+// How many calls of the disk there were, and what is in the files.
+fn look(rt: &impl Abort, alloc: Global, gateway: Trials, a: &[u8]) -> Result<u64, Fail> {
+    let mut disk = gateway.into_disk();
+    assert_eq!(rt; disk.bytes(alloc, FileId::A)?.as_slice(), a);
+    assert!(rt; disk.bytes(alloc, FileId::B)?.is_empty());
+    assert!(rt; !disk.has_strayed());
+    Ok(disk.calls())
+}
+
+// Empty files, and two events.
+fn two_flushed(alloc: Global) -> Result<Trials, Fail> {
+    let mut gateway = fresh(alloc)?;
+    play(alloc, &mut gateway, TWO_HELD)?;
+    play(alloc, &mut gateway, TWO_FLUSHED)?;
+    Ok(gateway)
+}
+
+const COUNTS_HELD: &str = "\
+held
+= 2
+grown
+= 0";
+
+const COUNTS_FLUSHED: &str = "\
+held
+= 0
+grown
+= 133
+flush";
+
+#[test]
+fn held_rows(rt: HostRuntime) -> Result<(), Fail> {
+    let alloc = rt.alloc();
+    let file = one_group(alloc)?;
+    assert_eq!(rt; file.len(), 173);
+    let mut gateway = fresh(alloc)?;
+    for lines in [TWO_HELD, COUNTS_HELD, TWO_FLUSHED, COUNTS_FLUSHED] {
+        play(alloc, &mut gateway, lines)?;
+    }
+    let _calls = look(&rt, alloc, gateway, file.as_slice())?;
+    Ok(())
+}
+
+#[test]
+fn third_joins(rt: HostRuntime) -> Result<(), Fail> {
+    let alloc = rt.alloc();
+    let mut gateway = fresh(alloc)?;
+    for lines in [TWO_HELD, THIRD_HELD, THREE_FLUSHED] {
+        play(alloc, &mut gateway, lines)?;
+    }
+    Ok(())
+}
+
+// The packet again, a drop, a text that is refused and an earlier moment; the clock stays.
+const NOTHING_CHANGES: &str = "\
+lan 1001 4500001c00010000 40118eeb c0a80102 c6336407 13880035 0008003c
+= now 3 wan 4500001c00010000 3f111594 cb007101 c6336407 13880035 000885e4
+wan 1002 4500002800010000 40061491 c6336409 cb007101 1b580016 00000001 00000000 5002ffff 2e350000
+= now 4 drop 13
+load 1003 table ip t { chain c { jump c; }; }
+= now 5 refused
+at 900
+= now 6 ticked
+lan 950 4500001c00010000 40118eeb c0a80102 c6336407 13880035 0008003c
+= now 7 wan 4500001c00010000 3f111594 cb007101 c6336407 13880035 000885e4
+sessions
+= udp 192.168.1.2:5000 203.0.113.1:5000 198.51.100.7:53 inside 0 at 1003
+held
+= 0
+grown
+= 133";
+
+#[test]
+fn answered_at_once(rt: HostRuntime) -> Result<(), Fail> {
+    let alloc = rt.alloc();
+    let file = one_group(alloc)?;
+    let before = look(&rt, alloc, two_flushed(alloc)?, file.as_slice())?;
+    let mut gateway = two_flushed(alloc)?;
+    play(alloc, &mut gateway, NOTHING_CHANGES)?;
+    assert_eq!(rt; look(&rt, alloc, gateway, file.as_slice())?, before);
+    Ok(())
+}
+
+// A reply is seen, the same text is loaded again, and a session ends.
+const SOMETHING_CHANGES: &str = "\
+wan 1001 4500001c00010000 40111494 c6336407 cb007101 00351388 000885e4
+= held 3
+flush
+= 3 lan 4500001c00010000 3f118feb c6336407 c0a80102 00351388 0008003c
+wan 1001 4500001c00010000 40111494 c6336407 cb007101 00351388 000885e4
+= now 4 lan 4500001c00010000 3f118feb c6336407 c0a80102 00351388 0008003c
+load 1001 table ip nat { chain post { type nat hook postrouting priority srcnat; oifname \"wan\" masquerade; }; }
+= held 5
+flush
+= 5 loaded
+at 1300
+= now 6 ticked
+at 1301
+= held 7
+flush
+= 7 ticked
+sessions";
+
+#[test]
+fn held_where_something_changes(rt: HostRuntime) -> Result<(), Fail> {
+    let alloc = rt.alloc();
+    let mut gateway = two_flushed(alloc)?;
+    play(alloc, &mut gateway, SOMETHING_CHANGES)
+}
+
+const LOAD_AND_MOMENT: &str = "\
+load 1000 table ip t { }
+= held 1
+at 1001
+= held 2";
+
+// What changes nothing is held behind what is held.
+fn hold_moments(alloc: Global, gateway: &mut Trials) -> Result<(), Fail> {
+    for number in 3..=64 {
+        let line = format!(in alloc; "at 1001\n= held {number}")?;
+        play(alloc, gateway, line.as_str())?;
+    }
+    Ok(())
+}
+
+fn flushed_moments(alloc: Global) -> Result<String, Fail> {
+    let mut lines = String::from_str(alloc, "flush\n= 1 loaded")?;
+    for number in 2..=64 {
+        lines.push_str(format!(in alloc; "\n= {number} ticked")?.as_str())?;
+    }
+    Ok(lines)
+}
+
+const ONE_TOO_MANY: &str = "\
+held
+= 64
+at 1002
+= held-full
+load 1002
+= held-full
+lan 1002 4500001c00010000 40118eeb c0a80102 c6336407 13880035 0008003c
+= held-full
+held
+= 64";
+
+const TAKEN_AFTERWARDS: &str = "\
+held
+= 0
+at 1002
+= now 65 ticked";
+
+#[test]
+fn sixty_fifth(rt: HostRuntime) -> Result<(), Fail> {
+    let alloc = rt.alloc();
+    let mut gateway = fresh(alloc)?;
+    play(alloc, &mut gateway, LOAD_AND_MOMENT)?;
+    hold_moments(alloc, &mut gateway)?;
+    play(alloc, &mut gateway, ONE_TOO_MANY)?;
+    play(alloc, &mut gateway, flushed_moments(alloc)?.as_str())?;
+    play(alloc, &mut gateway, TAKEN_AFTERWARDS)
+}

@@ -1,0 +1,30 @@
+//! A gateway over a disk: what it hands out and when, the bytes that it writes, and what is there again after each stop
+//! and fault. Nothing but tests stands here; bytes and answers are worked by hand or by other programs.
+//!
+//! - `shared`: the gateway, and lines that several tests begin with;
+//! - `words`: events, answers and sessions as lines of text; `script`: lines that are played;
+//! - `held_rows`: answers that are held; `opening`: what an opening finds; `stop_rows`: losses of power in a flush;
+//!   `faults`: each refusal, and what stays; `growth`: compaction, and runs; `each_stop`: a long script, stopped or failing
+//!   at each call of the disk; `each_growth`: memory that is refused.
+#![tactic(auto)]
+
+#[cfg(test)]
+mod each_growth;
+#[cfg(test)]
+mod each_stop;
+#[cfg(test)]
+mod faults;
+#[cfg(test)]
+mod growth;
+#[cfg(test)]
+mod held_rows;
+#[cfg(test)]
+mod opening;
+#[cfg(test)]
+mod script;
+#[cfg(test)]
+mod shared;
+#[cfg(test)]
+mod stop_rows;
+#[cfg(test)]
+mod words;

@@ -1,0 +1,243 @@
+//! What an opening finds, makes and refuses.
+use crate::script::play;
+use crate::shared::{
+    FRESH, NOTHING, OpenFault, TWO_FLUSHED, TWO_HELD, Trials, Trouble, bounds, expect_trouble,
+    fresh, open, opened,
+};
+use crate::words::hex;
+use disk_model::{Disk, FileId};
+use std::alloc::Global;
+use std::process::Abort;
+use std::test::*;
+use trial_disk::Trial;
+
+// Looks at the bytes of both files, and whether each call was within its file.
+fn look(rt: &impl Abort, alloc: Global, disk: &mut Trial, a: &[u8], b: &[u8]) -> Result<(), Fail> {
+    assert_eq!(rt; disk.bytes(alloc, FileId::A)?.as_slice(), a);
+    assert_eq!(rt; disk.bytes(alloc, FileId::B)?.as_slice(), b);
+    assert!(rt; !disk.has_strayed());
+    Ok(())
+}
+
+const NOTHING_YET: &str = "\
+rules
+=
+sessions
+held
+= 0
+grown
+= 0
+at 1001
+= now 1 ticked";
+
+// Opens it over these files: there is no state, and file A is made.
+fn begins(rt: &impl Abort, alloc: Global, a: &[u8], b: &[u8]) -> Result<(), Fail> {
+    let mut gateway = opened(alloc, Trial::of(alloc, a, b)?, 1000)?;
+    play(alloc, &mut gateway, NOTHING_YET)?;
+    let made = hex(alloc, FRESH)?;
+    look(rt, alloc, &mut gateway.into_disk(), made.as_slice(), b)
+}
+
+// A gate that is neither 00 nor 01 is closed too.
+#[test]
+fn no_open_file(rt: HostRuntime) -> Result<(), Fail> {
+    let alloc = rt.alloc();
+    let rows: [(&str, &str); 5] = [
+        ("", ""),
+        ("00", ""),
+        ("", "02 4e475731"),
+        (
+            "02 4e475731 0000000000000009 036c616e 0377616e 01 c0a8000010 cb007101 00000000 00000000",
+            "00",
+        ),
+        ("ff", "ff"),
+    ];
+    for (a, b) in rows {
+        let (a, b) = (hex(alloc, a)?, hex(alloc, b)?);
+        begins(&rt, alloc, a.as_slice(), b.as_slice())?;
+    }
+    Ok(())
+}
+
+// An active file of generation 1 whose text and session stand in a group, and one of generation 2 with other rules.
+fn grown_file(alloc: Global) -> Result<Vec<u8>, Fail> {
+    let mut gateway = fresh(alloc)?;
+    play(alloc, &mut gateway, TWO_HELD)?;
+    play(alloc, &mut gateway, TWO_FLUSHED)?;
+    Ok(gateway.into_disk().bytes(alloc, FileId::A)?)
+}
+
+const ANSWERED: &str = "\
+rules
+= table ip nat { chain post { type nat hook postrouting priority srcnat; oifname \"wan\" masquerade; }; }
+sessions
+= udp 192.168.1.2:5000 203.0.113.1:5000 198.51.100.7:53 inside 0 at 1250
+held
+= 0
+grown
+= 133";
+
+// It has another text, 198.51.100.9:7000 as a remote that sent to 192.168.1.2:5000, and a group that ends this session.
+const NEWER: &str = "\
+01 4e475731 0000000000000002 036c616e 0377616e 01 c0a8000010 cb007101 00000001 20 00000002
+11 c0a801021388 c0a801021388 c63364091b58 01 01
+11 c0a801031388 cb0071011388 c63364070035 00 00
+01 0000000e 05 11 c0a801021388 c63364091b58
+00";
+
+const NEWER_STATE: &str = "\
+rules
+=
+sessions
+= udp 192.168.1.3:5000 203.0.113.1:5000 198.51.100.7:53 inside 0 at 1250
+grown
+= 19";
+
+// Opens it over these files, which stay as they are.
+fn finds(rt: &impl Abort, alloc: Global, a: &[u8], b: &[u8], state: &str) -> Result<(), Fail> {
+    let mut gateway = opened(alloc, Trial::of(alloc, a, b)?, 1250)?;
+    play(alloc, &mut gateway, state)?;
+    look(rt, alloc, &mut gateway.into_disk(), a, b)
+}
+
+#[test]
+fn greatest_generation(rt: HostRuntime) -> Result<(), Fail> {
+    let alloc = rt.alloc();
+    let older = grown_file(alloc)?;
+    let newer = hex(alloc, NEWER)?;
+    finds(&rt, alloc, older.as_slice(), b"", ANSWERED)?;
+    finds(&rt, alloc, b"", older.as_slice(), ANSWERED)?;
+    finds(&rt, alloc, older.as_slice(), newer.as_slice(), NEWER_STATE)?;
+    finds(&rt, alloc, newer.as_slice(), older.as_slice(), NEWER_STATE)
+}
+
+// Opens it over these files, which is refused; they stay as they are.
+fn refuses(
+    rt: &impl Abort,
+    alloc: Global,
+    wan: &str,
+    a: &[u8],
+    b: &[u8],
+) -> Result<OpenFault, Fail> {
+    match open(alloc, Trial::of(alloc, a, b)?, bounds(alloc, wan)?, 1000) {
+        Ok(_) => Err(Fail::new("it was opened")),
+        Err((mut disk, fault)) => {
+            look(rt, alloc, &mut disk, a, b)?;
+            Ok(fault)
+        }
+    }
+}
+
+#[test]
+fn config_differs(rt: HostRuntime) -> Result<(), Fail> {
+    let alloc = rt.alloc();
+    let grown = grown_file(alloc)?;
+    let fresh = hex(alloc, FRESH)?;
+    for file in [grown.as_slice(), fresh.as_slice()] {
+        let fault = refuses(&rt, alloc, "wan1", file, b"")?;
+        assert_eq!(rt; fault, OpenFault::ConfigDiffers);
+    }
+    Ok(())
+}
+
+// Another mark; no snapshot; more sessions than there are; a text that doesn't load; a group that is cut; one without the
+// gate behind it; one whose entry names no session; one that is no entry.
+const DAMAGED: [&str; 8] = [
+    "01 4d475731 0000000000000001 036c616e 0377616e 01 c0a8000010 cb007101 00000000 00000000 00",
+    "01 4e475731 0000000000000001 036c616e 0377616e 01 c0a8000010 cb007101",
+    "01 4e475731 0000000000000001 036c616e 0377616e 01 c0a8000010 cb007101 00000000 00000001 00",
+    "01 4e475731 0000000000000001 036c616e 0377616e 01 c0a8000010 cb007101 00000001 78 00000000 00",
+    "01 4e475731 0000000000000001 036c616e 0377616e 01 c0a8000010 cb007101 00000000 00000000 01 00000005 01 0000",
+    "01 4e475731 0000000000000001 036c616e 0377616e 01 c0a8000010 cb007101 00000000 00000000 01 00000005 01 00000000",
+    "01 4e475731 0000000000000001 036c616e 0377616e 01 c0a8000010 cb007101 00000000 00000000 01 0000000e 05 11 c0a801021388 c63364091b58 00",
+    "01 4e475731 0000000000000001 036c616e 0377616e 01 c0a8000010 cb007101 00000000 00000000 01 00000001 09 00",
+];
+
+#[test]
+fn damaged(rt: HostRuntime) -> Result<(), Fail> {
+    let alloc = rt.alloc();
+    for (row, file) in DAMAGED.iter().enumerate() {
+        let file = hex(alloc, file)?;
+        let fault = refuses(&rt, alloc, "wan", file.as_slice(), b"")?;
+        assert_eq!(rt; fault, OpenFault::Damaged, "row {row}");
+        // judged by its own configuration alone
+        let fault = refuses(&rt, alloc, "wan1", file.as_slice(), b"")?;
+        assert_eq!(rt; fault, OpenFault::Damaged, "row {row}");
+    }
+    let twice = hex(alloc, FRESH)?;
+    let fault = refuses(&rt, alloc, "wan", twice.as_slice(), twice.as_slice())?;
+    assert_eq!(rt; fault, OpenFault::Damaged);
+    Ok(())
+}
+
+// Opens it with trouble at a call: whether it is refused, and the disk.
+fn with_trouble(
+    rt: &impl Abort,
+    alloc: Global,
+    file: &[u8],
+    at: Trouble,
+) -> Result<(bool, Trial), Fail> {
+    let mut disk = Trial::of(alloc, file, b"")?;
+    expect_trouble(&mut disk, at, 0);
+    match open(alloc, disk, bounds(alloc, "wan")?, 1000) {
+        Ok(gateway) => Ok((false, gateway.into_disk())),
+        Err((disk, fault)) => {
+            assert_eq!(rt; fault, OpenFault::Device, "{at:?}");
+            assert!(rt; disk.failures() > 0, "{at:?}");
+            Ok((true, disk))
+        }
+    }
+}
+
+// Fails each call of an opening once, and then opens it; and how many calls there are.
+fn each_fault(rt: &impl Abort, alloc: Global, file: &[u8], state: &str) -> Result<u64, Fail> {
+    for call in 0..100 {
+        let (is_refused, disk) = with_trouble(rt, alloc, file, Trouble::Fault(call))?;
+        if !is_refused {
+            return Ok(call);
+        }
+        let mut gateway = opened(alloc, disk, 1250)?;
+        play(alloc, &mut gateway, state)?;
+    }
+    Err(Fail::new("it never passes"))
+}
+
+// Each file is synced, measured and read; where none is open, the first is made in three synced writes.
+#[test]
+fn device(rt: HostRuntime) -> Result<(), Fail> {
+    let alloc = rt.alloc();
+    let file = grown_file(alloc)?;
+    assert_eq!(rt; each_fault(&rt, alloc, b"", NOTHING)?, 12);
+    assert_eq!(rt; each_fault(&rt, alloc, file.as_slice(), ANSWERED)?, 6);
+    Ok(())
+}
+
+// Loses power behind so many calls of an opening, and opens it again.
+fn stop(
+    rt: &impl Abort,
+    alloc: Global,
+    file: &[u8],
+    state: &str,
+    calls: u64,
+    choice: u64,
+) -> Result<(), Fail> {
+    let (_, mut disk) = with_trouble(rt, alloc, file, Trouble::Stop(calls))?;
+    disk.crash(choice)?;
+    let mut gateway = opened(alloc, disk, 1250)?;
+    play(alloc, &mut gateway, state)
+}
+
+#[test]
+fn power_is_lost(rt: HostRuntime) -> Result<(), Fail> {
+    let alloc = rt.alloc();
+    let file = grown_file(alloc)?;
+    for choice in [0, 1, 2, 3, 5, 10] {
+        for calls in 0..=12 {
+            stop(&rt, alloc, b"", NOTHING, calls, choice)?;
+        }
+        for calls in 0..=6 {
+            stop(&rt, alloc, file.as_slice(), ANSWERED, calls, choice)?;
+        }
+    }
+    Ok(())
+}

@@ -1,0 +1,134 @@
+//! The gateway, and what several tests begin with.
+pub use gateway::{
+    Answer, Bytes, Event, Gateway, GatewayFault, Given, Iface, OpenFault, Session, What,
+};
+use packet::bounds::Bounds;
+use packet::endpoint::Prefix;
+use std::alloc::Global;
+use std::test::Fail;
+use trial_disk::Trial;
+
+/// A gateway over a disk for trials.
+pub type Trials = Gateway<Trial>;
+
+/// Every packet to wan leaves from the external address.
+pub const MASQUERADE: &str =
+    "table ip nat { chain post { type nat hook postrouting priority srcnat; oifname \"wan\" masquerade; }; }";
+
+/// That text, and UDP from 192.168.1.2:5000 to 198.51.100.7:53.
+pub const TWO_HELD: &str = "\
+load 1000 table ip nat { chain post { type nat hook postrouting priority srcnat; oifname \"wan\" masquerade; }; }
+= held 1
+lan 1000 4500001c00010000 40118eeb c0a80102 c6336407 13880035 0008003c
+= held 2";
+
+/// They are handed out.
+pub const TWO_FLUSHED: &str = "\
+flush
+= 1 loaded
+= 2 wan 4500001c00010000 3f111594 cb007101 c6336407 13880035 000885e4";
+
+/// The same port of a second host.
+pub const THIRD_HELD: &str = "\
+lan 1000 4500001c00010000 40118eea c0a80103 c6336407 13880035 0008003b
+= held 3";
+
+/// All three are handed out.
+pub const THREE_FLUSHED: &str = "\
+flush
+= 1 loaded
+= 2 wan 4500001c00010000 3f111594 cb007101 c6336407 13880035 000885e4
+= 3 wan 4500001c00010000 3f111594 cb007101 c6336407 138a0035 000885e2";
+
+/// No rules and no session.
+pub const NOTHING: &str = "\
+rules
+=
+sessions";
+
+/// A file that was just made, for `lan`, `wan`, 192.168.0.0/16 and 203.0.113.1.
+pub const FRESH: &str = "\
+01 4e475731 0000000000000001 036c616e 0377616e 01 c0a8000010 cb007101 00000000 00000000 00";
+
+/// It is one as long as that, up to the gate of its first group.
+pub const FRESH_FRONT: &str = "\
+01 4e475731 0000000000000001 036c616e 0377616e 01 c0a8000010 cb007101 00000000 00000000";
+
+/// Inside 192.168.0.0/16, outside 203.0.113.1, with this name of the outer interface.
+pub fn bounds(alloc: Global, wan: &str) -> Result<Bounds, Fail> {
+    let lan = String::from_str(alloc, "lan")?;
+    let wan = String::from_str(alloc, wan)?;
+    let prefix = Prefix {
+        addr: 0xc0a8_0000,
+        len: 16,
+    };
+    let inside = vec![in alloc; prefix]?;
+    Ok(Bounds::new(lan, wan, inside, 0xcb00_7101)?)
+}
+
+/// Opens a gateway over the disk, which may be refused.
+pub fn open(
+    alloc: Global,
+    disk: Trial,
+    bounds: Bounds,
+    moment: u64,
+) -> Result<Trials, (Trial, OpenFault)> {
+    Gateway::open(alloc, disk, bounds, moment)
+}
+
+/// Opens a gateway over the disk, where nothing is to fail.
+pub fn opened(alloc: Global, disk: Trial, moment: u64) -> Result<Trials, Fail> {
+    match open(alloc, disk, bounds(alloc, "wan")?, moment) {
+        Ok(gateway) => Ok(gateway),
+        Err((_, fault)) => Err(fault.into()),
+    }
+}
+
+/// A gateway over two empty files, opened at 1000.
+pub fn fresh(alloc: Global) -> Result<Trials, Fail> {
+    opened(alloc, Trial::of(alloc, b"", b"")?, 1000)
+}
+
+/// Opens it again over its files.
+pub fn reopened(alloc: Global, gateway: Trials, moment: u64) -> Result<Trials, Fail> {
+    opened(alloc, gateway.into_disk(), moment)
+}
+
+/// A call of the disk, counted from 0, at which something happens.
+#[derive(Clone, Copy, Debug)]
+pub enum Trouble {
+    /// This call fails, and all later ones do.
+    Stop(u64),
+    /// This call alone fails.
+    Fault(u64),
+}
+
+/// From now on the disk has this trouble, so many calls later.
+pub fn expect_trouble(disk: &mut Trial, at: Trouble, later: u64) {
+    match at {
+        Trouble::Stop(call) => disk.fuse_after(call.saturating_add(later)),
+        Trouble::Fault(call) => disk.fail_once(call.saturating_add(later)),
+    }
+}
+
+/// Opens it again, with trouble at a call of the disk once it is open.
+pub fn troubled(alloc: Global, gateway: Trials, at: Trouble) -> Result<Trials, Fail> {
+    let disk = gateway.into_disk();
+    let before = disk.calls();
+    let mut disk = opened(alloc, disk, 1000)?.into_disk();
+    let opening = disk.calls().saturating_sub(before);
+    expect_trouble(&mut disk, at, opening);
+    opened(alloc, disk, 1000)
+}
+
+/// Loses power, of which this choice is left, and opens the gateway again.
+pub fn lost_power(
+    alloc: Global,
+    gateway: Trials,
+    choice: u64,
+    moment: u64,
+) -> Result<Trials, Fail> {
+    let mut disk = gateway.into_disk();
+    disk.crash(choice)?;
+    opened(alloc, disk, moment)
+}

@@ -1,0 +1,202 @@
+//! What is there again after a loss of power at each call of a flush, after a call that fails, and after a long time.
+use crate::script::{expect, handed, name, play, run};
+use crate::shared::{
+    NOTHING, THIRD_HELD, THREE_FLUSHED, TWO_FLUSHED, TWO_HELD, Trials, Trouble, fresh, lost_power,
+    reopened, troubled,
+};
+use crate::words::event;
+use std::alloc::Global;
+use std::test::Fail;
+
+const FAILED_FLUSH: &str = "\
+flush
+= device
+held
+= 3";
+
+const ALL_THREE: &str = "\
+rules
+= table ip nat { chain post { type nat hook postrouting priority srcnat; oifname \"wan\" masquerade; }; }
+sessions
+= udp 192.168.1.2:5000 203.0.113.1:5000 198.51.100.7:53 inside 0 at 2000
+= udp 192.168.1.3:5000 203.0.113.1:5002 198.51.100.7:53 inside 0 at 2000
+held
+= 0";
+
+// Behind each of these calls the power is lost: the group is written, and synced; its gate is written, and synced.
+fn stopped_flush(alloc: Global, call: u64, flushed: &str) -> Result<Trials, Fail> {
+    let mut gateway = troubled(alloc, fresh(alloc)?, Trouble::Stop(call))?;
+    play(alloc, &mut gateway, TWO_HELD)?;
+    play(alloc, &mut gateway, THIRD_HELD)?;
+    play(alloc, &mut gateway, flushed)?;
+    Ok(gateway)
+}
+
+fn stop(alloc: Global, call: u64, choice: u64, flushed: &str, left: &str) -> Result<(), Fail> {
+    let gateway = stopped_flush(alloc, call, flushed)?;
+    let mut gateway = lost_power(alloc, gateway, choice, 2000)?;
+    play(alloc, &mut gateway, left)
+}
+
+#[test]
+fn stop_rows(rt: HostRuntime) -> Result<(), Fail> {
+    let alloc = rt.alloc();
+    for choice in 0..4 {
+        for call in 0..3 {
+            stop(alloc, call, choice, FAILED_FLUSH, NOTHING)?;
+        }
+        stop(alloc, 4, choice, THREE_FLUSHED, ALL_THREE)?;
+    }
+    for (choice, left) in [(0, NOTHING), (1, ALL_THREE), (2, ALL_THREE), (3, NOTHING)] {
+        stop(alloc, 3, choice, FAILED_FLUSH, left)?;
+    }
+    Ok(())
+}
+
+const ONE_HELD: &str = "\
+lan 1000 4500001c00010000 40118eea c0a80103 c6336407 13880035 0008003b
+= held 3";
+
+const FALLEN: &str = "\
+flush
+= device
+lan 1000 4500001c00010000 40118eeb c0a80102 c6336407 13880035 0008003c
+= reopen
+at 1001
+= reopen
+load 1001 table ip t { }
+= reopen
+flush
+= reopen
+held
+= 1
+rules
+= table ip nat { chain post { type nat hook postrouting priority srcnat; oifname \"wan\" masquerade; }; }
+sessions
+= udp 192.168.1.2:5000 203.0.113.1:5000 198.51.100.7:53 inside 0 at 1000
+= udp 192.168.1.3:5000 203.0.113.1:5002 198.51.100.7:53 inside 0 at 1000";
+
+const ANSWERED: &str = "\
+rules
+= table ip nat { chain post { type nat hook postrouting priority srcnat; oifname \"wan\" masquerade; }; }
+sessions
+= udp 192.168.1.2:5000 203.0.113.1:5000 198.51.100.7:53 inside 0 at 2000
+held
+= 0
+at 2001
+= now 1 ticked";
+
+const ANSWERED_AND_HELD: &str = "\
+sessions
+= udp 192.168.1.2:5000 203.0.113.1:5000 198.51.100.7:53 inside 0 at 2000
+= udp 192.168.1.3:5000 203.0.113.1:5002 198.51.100.7:53 inside 0 at 2000
+held
+= 0
+at 2001
+= now 1 ticked";
+
+fn run_is_refused(alloc: Global, gateway: &mut Trials) -> Result<(), Fail> {
+    let events = vec![in alloc; event(alloc, "at 1001")?]?;
+    match run(gateway, events) {
+        Ok(_) => Err(Fail::new("it ran")),
+        Err((answers, fault)) => {
+            expect(alloc, handed(alloc, answers.as_slice())?.as_slice(), "")?;
+            expect_name(name(fault), "reopen")
+        }
+    }
+}
+
+fn expect_name(came: &str, wanted: &str) -> Result<(), Fail> {
+    if came == wanted {
+        return Ok(());
+    }
+    Err(Fail::new(format_args!("{wanted}: {came}")))
+}
+
+// Two events are answered, and a call of the flush of the third fails; the first flush made four calls.
+fn fallen(alloc: Global, call: u64) -> Result<Trials, Fail> {
+    let mut gateway = troubled(alloc, fresh(alloc)?, Trouble::Fault(4 + call))?;
+    for lines in [TWO_HELD, TWO_FLUSHED, ONE_HELD, FALLEN] {
+        play(alloc, &mut gateway, lines)?;
+    }
+    run_is_refused(alloc, &mut gateway)?;
+    Ok(gateway)
+}
+
+#[test]
+fn call_that_fails_once(rt: HostRuntime) -> Result<(), Fail> {
+    let alloc = rt.alloc();
+    for (call, left) in [
+        (0, ANSWERED),
+        (1, ANSWERED),
+        (2, ANSWERED),
+        (3, ANSWERED_AND_HELD),
+    ] {
+        let gateway = fallen(alloc, call)?;
+        let mut gateway = reopened(alloc, gateway, 2000)?;
+        play(alloc, &mut gateway, left)?;
+    }
+    Ok(())
+}
+
+const ALIVE: &str = "\
+rules
+= table ip nat { chain post { type nat hook postrouting priority srcnat; oifname \"wan\" masquerade; }; }
+sessions
+= udp 192.168.1.2:5000 203.0.113.1:5000 198.51.100.7:53 inside 0 at 1250
+at 1549
+= now 1 ticked
+sessions
+= udp 192.168.1.2:5000 203.0.113.1:5000 198.51.100.7:53 inside 0 at 1250
+at 1550
+= held 2
+sessions";
+
+const REPLY_IN_TIME: &str = "\
+wan 1549 4500001c00010000 40111494 c6336407 cb007101 00351388 000885e4
+= held 1
+flush
+= 1 lan 4500001c00010000 3f118feb c6336407 c0a80102 00351388 0008003c";
+
+const REPLY_TOO_LATE: &str = "\
+wan 1550 4500001c00010000 40111494 c6336407 cb007101 00351388 000885e4
+= held 1
+flush
+= 1 drop 13";
+
+fn answered(alloc: Global) -> Result<Trials, Fail> {
+    let mut gateway = fresh(alloc)?;
+    play(alloc, &mut gateway, TWO_HELD)?;
+    play(alloc, &mut gateway, TWO_FLUSHED)?;
+    Ok(gateway)
+}
+
+#[test]
+fn restarted(rt: HostRuntime) -> Result<(), Fail> {
+    let alloc = rt.alloc();
+    for choice in 0..4 {
+        for lines in [ALIVE, REPLY_IN_TIME, REPLY_TOO_LATE] {
+            let mut gateway = lost_power(alloc, answered(alloc)?, choice, 1250)?;
+            play(alloc, &mut gateway, lines)?;
+        }
+    }
+    Ok(())
+}
+
+// Its last packet is taken to have passed when the gateway was opened, however long ago it did.
+fn resumes(alloc: Global, moment: u64) -> Result<(), Fail> {
+    let mut gateway = reopened(alloc, answered(alloc)?, moment)?;
+    let lines = format!(in alloc;
+        "sessions\n= udp 192.168.1.2:5000 203.0.113.1:5000 198.51.100.7:53 inside 0 at {moment}"
+    )?;
+    play(alloc, &mut gateway, lines.as_str())
+}
+
+#[test]
+fn old_sessions(rt: HostRuntime) -> Result<(), Fail> {
+    let alloc = rt.alloc();
+    for moment in [0, 1299, 1300, 1_000_000_000, u64::MAX] {
+        resumes(alloc, moment)?;
+    }
+    Ok(())
+}

@@ -1,7 +1,0 @@
-use Rattle.std.proofs.Common.{[]}
-use Rattle.kept.specs.Standing.{settled}
-use Rattle.kept.proofs.Standings.{begun-standing, went-on}
-use Rattle.kept.proofs.laws.calls_stand_for_the_model.Goals as goal
-
-pub returns : goal.returns
-returns c = λ config start calls now is_one sound went. went-on config is_one start sound calls [] [] (settled start) now tt (begun-standing config start) went

@@ -1,0 +1,51 @@
+-- Texts that grow at their ends.
+use Rattle.std.proofs.Common.{◌≡◌, ◌∙◌, ℕ, ◌+◌, ◌-◌, List, [], ◌++◌, length, take, drop, replicate, sym, ap, append_assoc, append-nil, length-append, arith}
+use Rattle.std.proofs.Math.Seq.{take-append_seam}
+use Rattle.std.proofs.lemmas.List.{take-append-drop}
+
+-- what stood before a text that is kept is kept
+pub kept_before : (old mid out text : List ℕ) → mid ≡ old ++ text → take (length mid) out ≡ mid → take (length old) out ≡ old
+kept_before old mid out text grown kept =
+    let whole : out ≡ old ++ (text ++ drop (length mid) out) = sym (take-append-drop (length mid) out) ∙ ap (λ t. t ++ drop (length mid) out) (kept ∙ grown) ∙ append_assoc old text (drop (length mid) out) in
+    ap (λ t. take (length old) t) whole ∙ take-append_seam old (text ++ drop (length mid) out)
+
+-- the four octets, put one after the other
+pub four_octets :
+    (old a b c d one two three four dot colon : List ℕ)
+    → one ≡ old ++ a ++ dot → two ≡ one ++ b ++ dot → three ≡ two ++ c ++ dot → four ≡ three ++ d ++ colon
+    → four ≡ old ++ (a ++ dot ++ b ++ dot ++ c ++ dot ++ d) ++ colon
+four_octets old a b c d one two three four dot colon e f g h =
+    let whole : four ≡ (((((((old ++ a) ++ dot) ++ b) ++ dot) ++ c) ++ dot) ++ d) ++ colon = cc in
+    whole ∙ simp append_assoc
+
+-- an address with a colon, and a port
+pub with_port : (old address colon port one two : List ℕ) → one ≡ old ++ address ++ colon → two ≡ one ++ port ++ [] → two ≡ old ++ (address ++ colon ++ port)
+with_port old address colon port one two e f =
+    let whole : two ≡ ((old ++ address) ++ colon) ++ port ++ [] = cc in
+    whole ∙ simp (append_assoc, append-nil)
+
+-- three texts, put one after the other
+pub three_texts : (old a b c one two three : List ℕ) → one ≡ old ++ a → two ≡ one ++ b → three ≡ two ++ c → three ≡ old ++ (a ++ b ++ c)
+three_texts old a b c one two three e1 e2 e3 =
+    let whole : three ≡ ((old ++ a) ++ b) ++ c = cc in
+    whole ∙ simp append_assoc
+
+-- five texts, put one after the other
+pub five_texts :
+    (old a b c d e one two three four five : List ℕ)
+    → one ≡ old ++ a → two ≡ one ++ b → three ≡ two ++ c → four ≡ three ++ d → five ≡ four ++ e
+    → five ≡ old ++ (a ++ b ++ c ++ d ++ e)
+five_texts old a b c d e one two three four five e1 e2 e3 e4 e5 =
+    let whole : five ≡ ((((old ++ a) ++ b) ++ c) ++ d) ++ e = cc in
+    whole ∙ simp append_assoc
+
+-- a text, filled up to the width, and the space behind it
+pub filled_text :
+    (width start : ℕ) (old text space one two three : List ℕ) → start ≡ length old
+    → one ≡ old ++ text → two ≡ one ++ replicate ((start + width) - length one) 32 → three ≡ two ++ space
+    → three ≡ old ++ ((text ++ replicate (width - length text) 32) ++ space)
+filled_text width start old text space one two three e0 e1 e2 e3 =
+    let long : length one ≡ length old + length text = ap length e1 ∙ length-append old text in
+    let room : (start + width) - length one ≡ width - length text = omega (arith, long, e0) in
+    let whole : three ≡ ((old ++ text) ++ replicate ((start + width) - length one) 32) ++ space = cc in
+    whole ∙ ap (λ n. ((old ++ text) ++ replicate n 32) ++ space) room ∙ simp append_assoc

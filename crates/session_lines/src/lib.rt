@@ -1,0 +1,20 @@
+//! Lines that tell people of sessions: one a session, in columns.
+//!
+//! A line is `tcp` or `udp`; the inside, the outside and the remote endpoint, as 192.0.2.1:80, each at the left of
+//! 21 places; `partial`, `established` or `closing`, and `-` for UDP, which has no such states. One space stands
+//! between columns, and a newline at the end.
+//!
+//! - `line`: the lines of sessions;
+//! - `column`: an endpoint in its column;
+//! - `laws`: that the columns stand under each other.
+#![tactic(auto)]
+
+mod column;
+mod laws;
+mod line;
+#[cfg(test)]
+mod tests;
+
+pub use column::{put_column, put_endpoint};
+pub use laws::columns_are_aligned;
+pub use line::{proto_word, put_line, put_lines, state_word};

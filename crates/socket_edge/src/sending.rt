@@ -1,0 +1,129 @@
+//! Writing the frames of answers: in one piece, or part by part where memory for that is refused.
+ghost use Rattle.std.specs.Prelude.{◌≡◌, ◌++◌, OnOk, IfOk, IfErr};
+ghost use Rattle.std.specs.Io.KnownBytes.{Appends};
+ghost use Rattle.socket_edge.specs.Answering.{body_of, frame_head, frame, frames, frames_len, AppendsFront};
+
+use crate::answer::{body_len, byte_of, kind_of, put_frames};
+use crate::fault::EdgeFault;
+use gateway::Answer;
+use std::alloc::{AllocError, Global};
+use std::io::Write;
+
+/// The bytes of a frame before its body.
+const HEAD_LEN: usize = 13;
+
+/// Writes the bytes.
+fn write_out<W: Write>(writer: &mut W, bytes: &[u8]) -> Result<(), EdgeFault>
+    ensures ok { OnOk result (Appends (W.contents writer.old) (W.contents writer.new) bytes.now) }
+    ensures err { IfErr result (λ e. (e ≡ EdgeFault.Output) × AppendsFront (W.contents writer.old) (W.contents writer.new) bytes.now) }
+{
+    let mut at = 0;
+    while at < bytes.len() {
+        match writer.write(&bytes[at..]) {
+            Ok(0) => return Err(EdgeFault::Output),
+            Ok(n) => at += n,
+            Err(_) => return Err(EdgeFault::Output),
+        }
+    }
+    Ok(())
+}
+
+/// Writes the one and then the other.
+fn write_both<W: Write>(writer: &mut W, first: &[u8], second: &[u8]) -> Result<(), EdgeFault>
+    ensures ok { OnOk result (Appends (W.contents writer.old) (W.contents writer.new) (first.now ++ second.now)) }
+    ensures err { IfErr result (λ e. (e ≡ EdgeFault.Output) × AppendsFront (W.contents writer.old) (W.contents writer.new) (first.now ++ second.now)) }
+{
+    write_out(writer, first)?;
+    write_out(writer, second)
+}
+
+fn head_bytes(number: u64, answer: &Answer) -> [u8; HEAD_LEN]
+    ensures { result ≡ frame_head (number, answer.now) }
+{
+    let mut bytes = [0; HEAD_LEN];
+    bytes[0] = kind_of(answer);
+    bytes[1..9].copy_from_slice(&number.to_be_bytes());
+    bytes[9..13].copy_from_slice(&body_len(answer).to_be_bytes());
+    bytes
+}
+
+fn write_head<W: Write>(writer: &mut W, number: u64, answer: &Answer) -> Result<(), EdgeFault>
+    ensures ok { OnOk result (Appends (W.contents writer.old) (W.contents writer.new) (frame_head (number, answer.now))) }
+    ensures err { IfErr result (λ e. (e ≡ EdgeFault.Output) × AppendsFront (W.contents writer.old) (W.contents writer.new) (frame_head (number, answer.now))) }
+{
+    let bytes = head_bytes(number, answer);
+    write_out(writer, &bytes)
+}
+
+fn write_body<W: Write>(writer: &mut W, answer: &Answer) -> Result<(), EdgeFault>
+    ensures ok { OnOk result (Appends (W.contents writer.old) (W.contents writer.new) (body_of answer.now)) }
+    ensures err { IfErr result (λ e. (e ≡ EdgeFault.Output) × AppendsFront (W.contents writer.old) (W.contents writer.new) (body_of answer.now)) }
+{
+    match answer {
+        Answer::Forward(iface, packet) => {
+            write_both(writer, &[byte_of(*iface)], packet.as_slice())
+        }
+        Answer::Dropped(number) => write_out(writer, &[*number]),
+        _ => Ok(()),
+    }
+}
+
+/// Writes a frame without memory.
+fn write_frame<W: Write>(writer: &mut W, number: u64, answer: &Answer) -> Result<(), EdgeFault>
+    ensures ok { OnOk result (Appends (W.contents writer.old) (W.contents writer.new) (frame (number, answer.now))) }
+    ensures err { IfErr result (λ e. (e ≡ EdgeFault.Output) × AppendsFront (W.contents writer.old) (W.contents writer.new) (frame (number, answer.now))) }
+{
+    write_head(writer, number, answer)?;
+    write_body(writer, answer)
+}
+
+/// Writes the frames one by one, without memory.
+pub(crate) fn send<W: Write>(writer: &mut W, answers: &[(u64, Answer)]) -> Result<(), EdgeFault>
+    ensures ok { OnOk result (Appends (W.contents writer.old) (W.contents writer.new) (frames answers.now)) }
+    ensures err { IfErr result (λ e. (e ≡ EdgeFault.Output) × AppendsFront (W.contents writer.old) (W.contents writer.new) (frames answers.now)) }
+{
+    for pair in answers {
+        write_frame(writer, pair.0, &pair.1)?;
+    }
+    Ok(())
+}
+
+/// The length of the frames in bytes, or the greatest number if that is less.
+fn len_of(answers: &[(u64, Answer)]) -> usize
+    ensures { result ≡ frames_len answers.now }
+{
+    let mut len: usize = 0;
+    for pair in answers {
+        len = len.saturating_add(HEAD_LEN + body_len(&pair.1) as usize);
+    }
+    len
+}
+
+/// The frames in one piece.
+fn gather(alloc: Global, answers: &[(u64, Answer)]) -> Result<Vec<u8>, AllocError>
+    ensures { IfOk result (λ bytes. bytes.items ≡ frames answers.now) }
+{
+    let mut bytes = Vec::with_capacity(alloc, len_of(answers))?;
+    put_frames(&mut bytes, answers)?;
+    Ok(bytes)
+}
+
+/// Writes the frames of the answers, in order: in one piece, or part by part where memory for that is refused.
+///
+/// # Errors
+///
+/// `Output` where a write fails or takes no byte. A beginning of the frames is written then, also a
+/// part of a frame.
+pub fn send_all<W: Write>(
+    alloc: Global,
+    writer: &mut W,
+    answers: &[(u64, Answer)],
+) -> Result<(), EdgeFault>
+    ensures ok { OnOk result (Appends (W.contents writer.old) (W.contents writer.new) (frames answers.now)) }
+    ensures err { IfErr result (λ e. (e ≡ EdgeFault.Output) × AppendsFront (W.contents writer.old) (W.contents writer.new) (frames answers.now)) }
+{
+    match gather(alloc, answers) {
+        Ok(bytes) => write_out(writer, bytes.as_slice()),
+        Err(_) => send(writer, answers),
+    }
+}

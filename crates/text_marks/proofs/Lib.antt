@@ -1,0 +1,4 @@
+pub mod Ends
+pub mod Shown
+pub mod Held
+pub mod Short

@@ -1,0 +1,7 @@
+use Rattle.std.proofs.Common.{◌≡◌, ◌++◌, map, take}
+use Rattle.text_marks.specs.Lines.{under}
+use Rattle.text_marks.proofs.mark.put_under.Given as goal
+
+-- the bytes before this one are there
+abbrev pub invariant-loop-b : goal.invariant-loop-b
+invariant-loop-b l = l.out.items ≡ l.initial.out.items ++ map under (take l.b-index l.bytes)

@@ -1,0 +1,4 @@
+pub mod Lines
+pub mod Pieces
+pub mod Reports
+pub mod Laws

@@ -1,0 +1,32 @@
+//! Reports that show where a ruleset's text can't be loaded: the line with a mark under the place, what stands
+//! there, and what could.
+//!
+//! - `report`: the whole report;
+//! - `line`: the line of a text that holds a place;
+//! - `mark`: that line as it is shown, with the mark;
+//! - `piece`: what stands at a place;
+//! - `search`: the place of a fault, of which the reader of rulesets tells the line alone;
+//! - `wanted`: what could stand at a place where a text goes wrong;
+//! - `sentence`: what is wrong, and what would be right, for each kind of fault;
+//! - `laws`: what holds of every report.
+#![tactic(auto)]
+
+mod laws;
+mod line;
+mod mark;
+mod piece;
+mod report;
+mod search;
+mod sentence;
+#[cfg(test)]
+mod tests;
+mod wanted;
+
+pub use laws::{marks_are_short, the_line_holds_the_place};
+pub use line::{Spot, spot_of};
+pub use mark::put_marked;
+pub use piece::{put_named, token_length};
+pub use report::explain;
+pub use search::{Found, place_of};
+pub use sentence::{right, wrong};
+pub use wanted::what_fits;

@@ -1,0 +1,112 @@
+#!/usr/bin/env bash
+# Throughput and delay through natgw by the TUN adapter, beside the kernel's own NAT in the same namespaces.
+# Root, iproute2, iperf3, nftables and python3 are needed. NATGW names the program; SECONDS_EACH how long each run takes.
+set -euo pipefail
+here=$(cd "$(dirname "${BASH_SOURCE[0]}")" && pwd)
+# shellcheck source=examples/adapters/bench.sh
+. "$here/bench.sh"
+needs iperf3 nft
+each=${SECONDS_EACH:-10}
+
+# mbits OPTIONS..: megabits a second that arrive, by iperf3 from one to far.
+mbits() {
+  on one iperf3 -c "$far" -t "$each" -J "$@" >"$work/iperf.json"
+  python3 -c '
+import json, sys
+end = json.load(open(sys.argv[1]))["end"]
+found = end.get("sum_received") or end["sum"]
+print(round(found["bits_per_second"] / 1e6))' "$work/iperf.json"
+}
+
+# Datagrams of 64 bytes a second that arrive, where as many are sent as one process can.
+datagrams() {
+  on one iperf3 -c "$far" -t "$each" -u -b 0 -l 64 -J >"$work/iperf.json"
+  python3 -c '
+import json, sys
+end = json.load(open(sys.argv[1]))["end"]["sum"]
+print(round((end["packets"] - end["lost_packets"]) / end["seconds"]))' "$work/iperf.json"
+}
+
+# The time of one datagram there and back: the median and the 99th of a hundred, in microseconds, of 5,000.
+delays() {
+  on one python3 -c '
+import socket, sys, time
+end = socket.socket(socket.AF_INET, socket.SOCK_DGRAM)
+end.settimeout(1)
+end.connect((sys.argv[1], 53))
+took = []
+for _ in range(5000):
+    start = time.perf_counter()
+    end.send(b"x" * 64)
+    end.recv(100)
+    took.append(time.perf_counter() - start)
+took = sorted(took[100:])
+print(round(1e6 * took[len(took) // 2]), round(1e6 * took[len(took) * 99 // 100]))' "$far"
+}
+
+# used ID..: seconds of processor time of each process so far, in user and in system mode.
+used() {
+  python3 -c '
+import os, sys
+for number in sys.argv[1:]:
+    with open(f"/proc/{number}/stat") as file:
+        words = file.read().rsplit(") ", 1)[1].split()
+    print(*(int(words[i]) / os.sysconf("SC_CLK_TCK") for i in (11, 12)))' "$@"
+}
+
+# all NAME: one line of the table.
+all() {
+  local up down small median slow
+  up=$(mbits)
+  down=$(mbits -R)
+  small=$(datagrams)
+  read -r median slow < <(delays)
+  echo "| $1 | $up Mbit/s | $down Mbit/s | $small /s | $median µs | $slow µs |"
+}
+
+bench_up
+start_on far python3 -c '
+import socket
+end = socket.socket(socket.AF_INET, socket.SOCK_DGRAM)
+end.bind(("0.0.0.0", 53))
+while True:
+    data, peer = end.recvfrom(100)
+    end.sendto(data, peer)'
+start_on far iperf3 -s >/dev/null
+until on far ss -Hlntu | grep -q :5201 && on far ss -Hlntu | grep -q :53; do sleep 0.05; done
+
+cp "$repository/examples/rules/home-router.nft" "$work/rules.nft"
+start_natgw
+start_adapter "$work/rules.nft"
+echo "$(nproc) processors, Linux $(uname -r), $(python3 --version); $each seconds a run"
+echo
+echo "| Way | TCP out | TCP in | datagrams of 64 bytes | there and back, median | 99 of 100 are below |"
+echo "|---|---|---|---|---|---|"
+all "natgw by tun.py"
+before=$(used "$carrier" "$gateway")
+mbits >/dev/null
+after=$(used "$carrier" "$gateway")
+
+# The kernel's own NAT: the two namespaces get a cable, and the external address goes to lan's end of it.
+kill -9 "$carrier"
+wait "$carrier" 2>/dev/null || true
+on lan ip route del default
+on wan ip route del "$external/32"
+link lan uplink wan downlink
+on lan ip address add "$external/24" dev uplink
+on wan ip address add 203.0.113.254/24 dev downlink
+on lan ip route add default via 203.0.113.254
+on lan nft -f - <<RULES
+table ip nat { chain post { type nat hook postrouting priority srcnat; oifname "uplink" masquerade; }; }
+table ip filter { chain forward { type filter hook forward priority filter; policy drop;
+  ct state established,related accept; iifname "br0" accept; }; }
+RULES
+all "the kernel's NAT"
+echo
+paste <(echo "$before") <(echo "$after") | {
+  for name in tun.py natgw; do
+    read -r user system user_after system_after
+    python3 -c 'import sys; a, b, c, d = map(float, sys.argv[2:6]); print(f"{sys.argv[1]}: {c - a:.1f} s of its own and {d - b:.1f} s in the kernel, of {sys.argv[6]} s TCP out")' \
+      "$name" "$user" "$system" "$user_after" "$system_after" "$each"
+  done
+}
