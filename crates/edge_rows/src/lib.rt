@@ -2,10 +2,19 @@
 //! stands here.
 //!
 //! - `shared`: streams that several tests begin with, and gateways over a disk in memory;
-//! - `streams`: streams of a few frames.
+//! - `pieces`: readers and writers that give and take a few bytes at a time, and fail;
+//! - `streams`: streams of a few frames;
+//! - `each_call`: each read, write and call of the disk failing in turn;
+//! - `turns`: what was asked is answered before more is read, and a file that has grown is made anew.
 #![tactic(auto)]
 
+#[cfg(test)]
+mod each_call;
+#[cfg(test)]
+mod pieces;
 #[cfg(test)]
 mod shared;
 #[cfg(test)]
 mod streams;
+#[cfg(test)]
+mod turns;

@@ -27,6 +27,90 @@ pub const FORWARDED: [u8; 42] = [
     0xeb, 0xc0, 0xa8, 1, 2, 0xc6, 0x33, 0x64, 7, 0x13, 0x88, 0, 0x35, 0, 8, 0, 0x3c,
 ];
 
+/// A load of 101 bytes: the head of its frame, and its text, under which every packet to wan leaves from the external
+/// address.
+const LOAD_HEAD: &str = "02 00 00000065 00000000000003e8";
+
+const MASQUERADE: &str =
+    "table ip nat { chain post { type nat hook postrouting priority srcnat; oifname \"wan\" masquerade; }; }";
+
+/// The packet above, a moment, and a packet from the same port of 192.168.1.3.
+const LATER: &str = "\
+01 00 0000001c 00000000000003e8 4500001c00010000 40118eeb c0a80102 c6336407 13880035 0008003c
+03 00 00000000 00000000000003e8
+01 00 0000001c 00000000000003e8 4500001c00010000 40118eea c0a80103 c6336407 13880035 0008003b";
+
+/// What answers all four.
+const ANSWERS: &str = "\
+03 0000000000000001 00000000
+01 0000000000000002 0000001d 01 4500001c00010000 3f111594 cb007101 c6336407 13880035 000885e4
+05 0000000000000003 00000000
+01 0000000000000004 0000001d 01 4500001c00010000 3f111594 cb007101 c6336407 138a0035 000885e2";
+
+/// A size of reads such that no two requests of a stream end in one.
+pub const PIECE: usize = 16;
+
+/// Four requests and their answers.
+#[derive(Drop)]
+pub struct Stream {
+    pub requests: Vec<u8>,
+    pub answers: Vec<u8>,
+}
+
+/// A load, a packet, a moment and a packet.
+///
+/// # Errors
+///
+/// A `Fail` where memory is refused.
+pub fn stream(alloc: Global) -> Result<Stream, Fail> {
+    let mut requests = hex(alloc, LOAD_HEAD)?;
+    requests.extend_from_slice(MASQUERADE.as_bytes())?;
+    requests.extend_from_slice(hex(alloc, LATER)?.as_slice())?;
+    let answers = hex(alloc, ANSWERS)?;
+    Ok(Stream { requests, answers })
+}
+
+/// How many bytes the answers have to the requests that lie whole in so many bytes of the stream.
+pub fn answered(given: usize) -> usize {
+    match given {
+        0..115 => 0,
+        115..157 => 13,
+        157..171 => 55,
+        171..213 => 68,
+        _ => 110,
+    }
+}
+
+fn digit(byte: u8) -> Result<u8, Fail> {
+    match byte {
+        b'0'..=b'9' => Ok(byte - b'0'),
+        b'a'..=b'f' => Ok(byte - b'a' + 10),
+        _ => Err(Fail::new("not a hexadecimal digit")),
+    }
+}
+
+fn put_pair(out: &mut Vec<u8>, pair: &[u8]) -> Result<(), Fail> {
+    match pair {
+        [high, low] => Ok(out.push(digit(*high)? << 4 | digit(*low)?)?),
+        _ => Err(Fail::new("an odd digit")),
+    }
+}
+
+/// The bytes that a text has in hexadecimal, with spaces for the eye.
+///
+/// # Errors
+///
+/// A `Fail` where the text has something else, or memory is refused.
+pub fn hex(alloc: Global, text: &str) -> Result<Vec<u8>, Fail> {
+    let mut out = Vec::new(alloc);
+    for word in text.split_whitespace() {
+        for pair in word.as_bytes().chunks(2) {
+            put_pair(&mut out, pair)?;
+        }
+    }
+    Ok(out)
+}
+
 /// Inside 192.168.0.0/16, outside 203.0.113.1; none where memory is refused.
 fn bounds(alloc: Global) -> Option<Bounds> {
     let inside = Prefix {
@@ -39,10 +123,17 @@ fn bounds(alloc: Global) -> Option<Bounds> {
     Bounds::new(lan, wan, inside, 0xcb00_7101).ok()
 }
 
+fn open(alloc: Global, disk: Trial) -> Option<Gateway<Trial>> {
+    Gateway::open(alloc, disk, bounds(alloc)?, 0).ok()
+}
+
 /// A gateway over empty files; none where memory is refused.
 pub fn gateway(alloc: Global) -> Option<Gateway<Trial>> {
-    let disk = Trial::of(alloc, b"", b"").ok()?;
-    Gateway::open(alloc, disk, bounds(alloc)?, 0).ok()
+    open(alloc, Trial::of(alloc, b"", b"").ok()?)
+}
+
+fn reopened(alloc: Global, disk: Trial) -> Result<Gateway<Trial>, Fail> {
+    Ok(open(alloc, disk).ok_or("no gateway")?)
 }
 
 /// A gateway over empty files.
@@ -52,6 +143,20 @@ pub fn gateway(alloc: Global) -> Option<Gateway<Trial>> {
 /// A `Fail` where memory is refused.
 pub fn opened(alloc: Global) -> Result<Gateway<Trial>, Fail> {
     Ok(gateway(alloc).ok_or("no gateway")?)
+}
+
+/// A gateway over files that were just made, of whose disk a later call fails, counted from 0.
+///
+/// # Errors
+///
+/// A `Fail` where memory is refused.
+pub fn troubled(alloc: Global, call: u64) -> Result<Gateway<Trial>, Fail> {
+    let disk = opened(alloc)?.into_disk();
+    let made = disk.calls();
+    let mut disk = reopened(alloc, disk)?.into_disk();
+    let opening = disk.calls().saturating_sub(made);
+    disk.fail_once(call.saturating_add(opening));
+    reopened(alloc, disk)
 }
 
 /// The run of the edge, of which a test knows no clause.

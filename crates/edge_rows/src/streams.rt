@@ -1,68 +1,10 @@
 //! Streams of a few frames: how they end, in what pieces they may come and go, and with each growth refused.
+use crate::pieces::{End, giving, taking};
 use crate::shared::{FORWARDED, PACKET, TICK, TICKED, TICKED_AGAIN, gateway, opened, run};
 use gateway::GatewayFault;
 use socket_edge::EdgeFault;
 use std::alloc::Global;
-use std::io::{self, Read, Write};
 use std::test::Fail;
-
-/// Gives its bytes one by one, and fails where it is cut.
-#[derive(Drop)]
-struct Drops<'a> {
-    bytes: &'a [u8],
-    cut: Option<usize>,
-    at: usize,
-}
-
-impl<'a> Read for Drops<'a> {
-    fn read(&mut self, buf: &mut [u8]) -> io::Result<usize> {
-        if self.cut == Some(self.at) {
-            return Err(io::Error::from(io::ErrorKind::BrokenPipe));
-        }
-        match (self.bytes.get(self.at), buf.first_mut()) {
-            (Some(byte), Some(place)) => {
-                *place = *byte;
-                self.at = self.at.saturating_add(1);
-                Ok(1)
-            }
-            _ => Ok(0),
-        }
-    }
-}
-
-/// Takes one byte at a time up to a number of bytes, and then fails, or takes 0.
-#[derive(Drop)]
-struct Sips {
-    got: Vec<u8>,
-    most: usize,
-    fails: bool,
-}
-
-impl Write for Sips {
-    fn write(&mut self, buf: &[u8]) -> io::Result<usize> {
-        if self.got.len() < self.most {
-            let one = buf.len().min(1);
-            self.got.extend_from_slice(&buf[..one])?;
-            return Ok(one);
-        }
-        if self.fails {
-            return Err(io::Error::from(io::ErrorKind::BrokenPipe));
-        }
-        Ok(0)
-    }
-
-    fn flush(&mut self) -> io::Result<()> {
-        Ok(())
-    }
-}
-
-fn sipping(alloc: Global, most: usize, fails: bool) -> Sips {
-    Sips {
-        got: Vec::new(alloc),
-        most,
-        fails,
-    }
-}
 
 /// How a run over these pieces ends, and what it writes.
 fn run_over(alloc: Global, pieces: &[&[u8]]) -> Result<(Result<u64, EdgeFault>, Vec<u8>), Fail> {
@@ -117,13 +59,9 @@ fn reads_and_writes_one_byte_at_a_time(rt: HostRuntime) -> Result<(), Fail> {
     let alloc = rt.alloc();
     let mut bytes = Vec::from_slice(alloc, &TICK)?;
     bytes.extend_from_slice(&TICK)?;
-    for (cut, end, frames) in [(None, Ok(2), 2), (Some(27), Err(EdgeFault::Input), 1)] {
-        let mut reader = Drops {
-            bytes: bytes.as_slice(),
-            cut,
-            at: 0,
-        };
-        let mut writer = sipping(alloc, 100, false);
+    for (cut, end, frames) in [(usize::MAX, Ok(2), 2), (27, Err(EdgeFault::Input), 1)] {
+        let mut reader = giving(bytes.as_slice(), 1, cut);
+        let mut writer = taking(alloc, 1, 100, End::Fails);
         let ended = run(alloc, &mut reader, &mut writer, &mut opened(alloc)?);
         assert!(rt; ended == end);
         assert!(rt; writer.got.get(..13) == Some(&TICKED[..]));
@@ -136,8 +74,8 @@ fn reads_and_writes_one_byte_at_a_time(rt: HostRuntime) -> Result<(), Fail> {
 #[test]
 fn ends_where_a_write_fails_or_takes_nothing(rt: HostRuntime) -> Result<(), Fail> {
     let alloc = rt.alloc();
-    for fails in [false, true] {
-        let mut writer = sipping(alloc, 5, fails);
+    for end in [End::Fails, End::TakesNone] {
+        let mut writer = taking(alloc, 1, 5, end);
         let ended = run(alloc, &mut &TICK[..], &mut writer, &mut opened(alloc)?);
         assert!(rt; ended == Err(EdgeFault::Output));
         assert!(rt; writer.got.as_slice() == &TICKED[..5]);
