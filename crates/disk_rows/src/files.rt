@@ -1,6 +1,6 @@
 //! What real files keep, and which directories are refused.
-use file_disk::{FileDisk, OpenError, name_of};
 use disk_model::{Disk, DiskFault, FileId};
+use file_disk::{FileDisk, OpenError, name_of};
 use std::fs;
 use std::test::Fail;
 

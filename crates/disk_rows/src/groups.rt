@@ -2,8 +2,8 @@
 ghost use Rattle.std.specs.Prelude.{◌<◌, ◌^◌, length};
 ghost use Rattle.journal.specs.Groups.{Resting};
 
-use journal::{Group, JournalFault, append, groups};
 use disk_model::{Disk, FileId, SimDisk};
+use journal::{Group, JournalFault, append, groups};
 use std::alloc::{AllocError, Global};
 use std::test::Fail;
 

@@ -1,8 +1,8 @@
 //! Which calls fail, and what they touch.
-use trial_disk::Trial;
 use disk_model::{Disk, DiskFault, FileId};
 use std::alloc::Global;
 use std::test::*;
+use trial_disk::Trial;
 
 fn write(disk: &mut Trial, at: u64, bytes: &[u8]) -> Result<(), DiskFault> {
     disk.write_at(FileId::A, at, bytes)

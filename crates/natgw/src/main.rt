@@ -1,28 +1,24 @@
-//! The program `natgw`: its commands over the standard streams and files. No other crate meets the system.
+//! The program `natgw`: its command line. What the commands do stands in crate `commands`.
 //!
 //! - `natgw check FILE` says whether a ruleset would load;
 //! - `natgw replay` answers request frames on standard input by answer frames on standard output;
+//! - `natgw serve` answers those of the clients of a Unix socket;
+//! - `natgw loop FILE` sends those of a file through a socket to itself;
 //! - `natgw show` lists the sessions that the files of a directory keep.
 //!
 //! The modules:
 //!
 //! - `options`: the command line;
-//! - `config`: addresses and prefixes as they are spelled, and the configuration made of them;
-//! - `commands`: what each command does;
-//! - `refusal`: the word that stands on standard error where a command gives up.
+//! - `help`: what it says of itself.
 //!
 //! The status is 0; 1 where a command gives up, or `check` finds a fault; 2 where the command line can't be read.
 #![tactic(auto)]
 
-mod commands;
-mod config;
+mod help;
 mod options;
-mod refusal;
-#[cfg(test)]
-mod tests;
 
+use commands::{Refusal, Stop, run, tell};
 use options::Parsed;
-use refusal::Refusal;
 use std::io::ErrorKind;
 use std::process::ExitCode;
 
@@ -32,18 +28,20 @@ const USAGE: u8 = 2;
 fn main(rt: HostRuntime) -> ExitCode {
     match start(&rt) {
         Ok(code) => code,
-        Err(refusal) => {
-            let _ = eprintln!(rt; "natgw: {refusal}");
+        Err(stop) => {
+            let _ = tell(&mut rt.stderr(), &stop);
             ExitCode::FAILURE
         }
     }
 }
 
-fn start(rt: &HostRuntime) -> Result<ExitCode, Refusal> {
+fn start(rt: &HostRuntime) -> Result<ExitCode, Stop> {
     let alloc = rt.alloc();
     let arguments = match std::env::args(rt) {
         Ok(arguments) => arguments,
-        Err(error) if error.kind() == ErrorKind::OutOfMemory => return Err(Refusal::NoMemory),
+        Err(error) if error.kind() == ErrorKind::OutOfMemory => {
+            return Err(Stop::from(Refusal::NoMemory));
+        }
         Err(_) => {
             eprintln!(rt; "error: an argument isn't UTF-8").map_err(|_| Refusal::Output)?;
             return Ok(ExitCode::from(USAGE));
@@ -51,7 +49,7 @@ fn start(rt: &HostRuntime) -> Result<ExitCode, Refusal> {
     };
     let words: Vec<String> = arguments.collect(alloc)?;
     match options::parse(alloc, words.as_slice())? {
-        Parsed::Run(options) => commands::run(rt, &options),
+        Parsed::Run(options) => run(rt, &options),
         Parsed::Stopped(error) => {
             error.print(rt).map_err(|_| Refusal::Output)?;
             Ok(ExitCode::from(error.exit_code() as u8))

@@ -1,112 +1,18 @@
 //! The command line: the words of the program become a command and its options, or clap's own answer.
+use crate::help;
 use clap::error::ErrorKind;
 use clap::{Arg, ArgAction, ArgMatches, Command, Error, value_parser};
+use commands::{Opening, Options, Sides, Task};
 use std::alloc::{AllocError, Global};
-
-/// What the gateway stands between, as it was written. Nothing of it is tested yet.
-#[derive(Debug, Drop)]
-pub struct Sides<'a> {
-    /// The name of the inside interface, `lan` where none is given.
-    pub lan: &'a str,
-    /// The name of the outside interface, `wan` where none is given.
-    pub wan: &'a str,
-    /// The inside prefixes, joined by commas.
-    pub inside: &'a str,
-    /// The external address.
-    pub external: &'a str,
-}
-
-/// A command with what it alone takes.
-#[derive(Clone, Copy, Debug, Drop)]
-pub enum Task<'a> {
-    /// Says whether the ruleset of this file would load.
-    Check { text: &'a str },
-    /// Answers the frames of standard input, by a gateway that opens so.
-    Replay { opening: Opening<'a> },
-    /// Lists the sessions of a gateway that opens so.
-    Show { opening: Opening<'a> },
-}
-
-/// How a gateway opens.
-#[derive(Clone, Copy, Debug, Drop)]
-pub struct Opening<'a> {
-    /// The directory of its two files.
-    pub directory: &'a str,
-    /// The moment, in seconds.
-    pub moment: u64,
-}
-
-/// A command line that was read.
-#[derive(Debug, Drop)]
-pub struct Options<'a> {
-    /// The options that all commands have.
-    pub sides: Sides<'a>,
-    /// The command, and what it alone takes.
-    pub task: Task<'a>,
-}
 
 /// What a command line comes to.
 #[derive(Drop)]
 pub enum Parsed<'a> {
     /// A command is to run.
     Run(Options<'a>),
-    /// There is none: help was asked for, with status 0, or the command line can't be read, with status 2.
+    /// There is none: help or the version was asked for, with status 0, or the command line can't be read, with status 2.
     Stopped(Error),
 }
-
-const ABOUT: &str = "A stateful IPv4 packet filter and NAT gateway";
-
-const REPLAY: &str = "Answers request frames on standard input by answer frames on standard output";
-
-const FRAMES: &str = "\
-A request frame is, with the highest byte of each number first:
-  kind       1 byte   1 packet, 2 load of a ruleset, 3 moment
-  interface  1 byte   of a packet: 0 lan, 1 wan; otherwise 0
-  length     4 bytes  of the body: of a packet at most 65535, of a load at most 262144,
-                      of a moment 0
-  moment     8 bytes  in seconds
-  body                the packet from its IPv4 header on, or the ruleset's text
-An answer frame is:
-  kind       1 byte   1 forward, 2 dropped, 3 loaded, 4 refused, 5 ticked
-  number     8 bytes  of the event: 1, 2, ..
-  length     4 bytes  of the body
-  body                forward: the interface (1 byte) and the packet;
-                      dropped: the number of the cause (1 byte)
-
-Example: answers the frames of a file.
-  natgw replay --dir state --inside 192.168.0.0/16 --external 203.0.113.1 < requests > answers";
-
-const SHOW: &str = "Lists the sessions that the two files keep";
-
-const COLUMNS: &str = "\
-One line a session: the protocol, the inside, the outside and the remote endpoint, and partial,
-established or closing, or - for UDP.
-
-Example:
-  natgw show --dir state --inside 192.168.0.0/16 --external 203.0.113.1";
-
-const CHECK: &str = "Says whether a ruleset would load: ok, or the line and the kind of its fault";
-
-const KINDS: &str = "\
-The first line that is printed is ok, with status 0, or the fault, with status 1:
-  too-long       more than 262144 bytes
-  family         a table of another family than ip and inet
-  unsupported    a statement or word that natgw doesn't know
-  syntax         another token where it can't stand, or a text that ends too early
-  unknown-chain  a jump or goto to no chain without a hook in the same table
-  unknown-set    @ with a name that no set of the same table has
-  duplicate      two tables, chains or sets of one name, or two type or elements lines in a set
-  loop           chains that come back to themselves by jumps and gotos
-  depth          a path of more than 16 jumps and gotos
-  wrong-hook     a chain or a translation at a hook where it can't be
-  wrong-type     a value, a set or a translation where one of another type belongs
-  not-external   snat to another address than the external one
-  not-inside     dnat to an address in no inside prefix
-  limit          more than 256 chains, 4096 rules, or 16384 elements and pairs
-  overlap        two keys of a verdict map for one value
-
-Example:
-  natgw check --inside 192.168.0.0/16 --external 203.0.113.1 rules.nft";
 
 fn required<'a>(alloc: Global, name: &'a str, value: &'a str, help: &'a str) -> Arg<'a> {
     Arg::new(alloc, name)
@@ -166,26 +72,64 @@ fn opens<'a>(alloc: Global, name: &'a str, about: &'a str) -> Result<Command<'a>
     sided(alloc, name, about)?.arg(directory)?.arg(moment)
 }
 
-fn file<'a>(alloc: Global) -> Arg<'a> {
+fn file<'a>(alloc: Global, help: &'a str) -> Arg<'a> {
     Arg::new(alloc, "FILE")
         .value_name("FILE")
-        .help("The ruleset's text")
+        .help(help)
         .required(true)
         .action(ArgAction::Set)
 }
 
+fn check<'a>(alloc: Global) -> Result<Command<'a>, AllocError> {
+    let explain = Arg::new(alloc, "explain")
+        .long("explain")
+        .help("Shows on standard error the place of the fault, what stands there and what could")
+        .action(ArgAction::SetTrue);
+    let command = sided(alloc, "check", help::CHECK)?
+        .arg(explain)?
+        .arg(file(alloc, "The ruleset's text"))?;
+    Ok(command.after_help(help::KINDS))
+}
+
+fn serve<'a>(alloc: Global) -> Result<Command<'a>, AllocError> {
+    let socket = required(
+        alloc,
+        "socket",
+        "P",
+        "The path of the socket, where nothing is yet",
+    );
+    let connections = required(
+        alloc,
+        "connections",
+        "N",
+        "How many connections are served before natgw ends",
+    )
+    .value_parser(value_parser!(u64));
+    let command = opens(alloc, "serve", help::SERVE)?
+        .arg(socket)?
+        .arg(connections)?;
+    Ok(command.after_help(help::CLIENTS))
+}
+
+fn loop_back<'a>(alloc: Global) -> Result<Command<'a>, AllocError> {
+    let requests = file(alloc, "The request frames, at most 2048 bytes");
+    let command = opens(alloc, "loop", help::LOOP)?.arg(requests)?;
+    Ok(command.after_help(help::TRIED))
+}
+
 fn command_line<'a>(alloc: Global) -> Result<Command<'a>, AllocError> {
     Command::new(alloc, "natgw")
-        .about(ABOUT)
-        .after_help(FRAMES)
+        .bin_name("natgw")?
+        .version(help::VERSION)
+        .about(help::ABOUT)
+        .after_help(help::OVERVIEW)
         .subcommand_required(true)
-        .subcommand(
-            sided(alloc, "check", CHECK)?
-                .arg(file(alloc))?
-                .after_help(KINDS),
-        )?
-        .subcommand(opens(alloc, "replay", REPLAY)?.after_help(FRAMES))?
-        .subcommand(opens(alloc, "show", SHOW)?.after_help(COLUMNS))
+        .arg_required_else_help(true)
+        .subcommand(check(alloc)?)?
+        .subcommand(opens(alloc, "replay", help::REPLAY)?.after_help(help::FRAMES))?
+        .subcommand(serve(alloc)?)?
+        .subcommand(loop_back(alloc)?)?
+        .subcommand(opens(alloc, "show", help::SHOW)?.after_help(help::COLUMNS))
 }
 
 fn read_sides<'a>(matches: &ArgMatches<'a>) -> Sides<'a> {
@@ -204,25 +148,41 @@ fn read_opening<'a>(matches: &ArgMatches<'a>) -> Opening<'a> {
     }
 }
 
-fn read_task<'a>(name: &str, matches: &ArgMatches<'a>) -> Task<'a> {
+fn read_path<'a>(matches: &ArgMatches<'a>) -> &'a str {
+    matches.get_str("FILE").unwrap_or("")
+}
+
+// None for a word that names no command.
+fn read_task<'a>(name: &str, matches: &ArgMatches<'a>) -> Option<Task<'a>> {
     match name {
-        "check" => Task::Check {
-            text: matches.get_str("FILE").unwrap_or(""),
-        },
-        "show" => Task::Show {
+        "check" => Some(Task::Check {
+            path: read_path(matches),
+            explains: matches.get_flag("explain"),
+        }),
+        "replay" => Some(Task::Replay {
             opening: read_opening(matches),
-        },
-        _ => Task::Replay {
+        }),
+        "serve" => Some(Task::Serve {
             opening: read_opening(matches),
-        },
+            socket: matches.get_str("socket").unwrap_or(""),
+            connections: matches.get_one::<u64>("connections").unwrap_or(0),
+        }),
+        "loop" => Some(Task::Loop {
+            opening: read_opening(matches),
+            path: read_path(matches),
+        }),
+        "show" => Some(Task::Show {
+            opening: read_opening(matches),
+        }),
+        _ => None,
     }
 }
 
-fn read_options<'a>(name: &str, matches: &ArgMatches<'a>) -> Options<'a> {
-    Options {
+fn read_options<'a>(name: &str, matches: &ArgMatches<'a>) -> Option<Options<'a>> {
+    Some(Options {
         sides: read_sides(matches),
-        task: read_task(name, matches),
-    }
+        task: read_task(name, matches)?,
+    })
 }
 
 /// Reads the command line; the first word is the program's name.
@@ -236,7 +196,10 @@ pub fn parse<'a>(alloc: Global, words: &'a [String]) -> Result<Parsed<'a>, Alloc
             let Some((name, inner)) = matches.subcommand() else {
                 return Err(AllocError);
             };
-            Ok(Parsed::Run(read_options(name, inner)))
+            match read_options(name, inner) {
+                Some(options) => Ok(Parsed::Run(options)),
+                None => Err(AllocError),
+            }
         }
         Err(error) => {
             if error.kind() == ErrorKind::OutOfMemory {

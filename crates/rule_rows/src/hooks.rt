@@ -1,7 +1,4 @@
 //! Texts of one's own, packets, and what they come to by the rules of reading.
-use verdict::facts::{Facts, State};
-use verdict::hook::{Destination, Forwarding, Source, forward, postrouting, prerouting};
-use verdict::rules::Rules;
 use packet::bounds::{Bounds, ConfigFault};
 use packet::endpoint::{Endpoint, Iface, Prefix, Proto};
 use rulesyntax::fault::LoadFault;
@@ -9,6 +6,9 @@ use rulesyntax::parse;
 use ruletext::load::load;
 use std::alloc::{AllocError, AllocFailed, Global};
 use std::test::*;
+use verdict::facts::{Facts, State};
+use verdict::hook::{Destination, Forwarding, Source, forward, postrouting, prerouting};
+use verdict::rules::Rules;
 
 const HOST: u32 = 0xc0a80102;
 

@@ -1,11 +1,11 @@
 //! Reports of wrong texts.
-use text_marks::explain;
 use packet::bounds::Bounds;
 use packet::endpoint::Prefix;
 use ruletext::read;
 use std::alloc::{AllocError, Global};
 use std::process::Abort;
 use std::test::*;
+use text_marks::explain;
 
 // 192.168.0.0/16 inside, 203.0.113.1 outside.
 fn bounds(alloc: Global) -> Result<Bounds, AllocError> {

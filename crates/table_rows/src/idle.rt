@@ -2,11 +2,11 @@
 ghost use Rattle.std.specs.Prelude.{◌≢◌, IfOk};
 ghost use Rattle.sessions.specs.Life.{IsSeen};
 
-use timers::Due;
 use packet::endpoint::{Endpoint, Proto};
 use sessions::{Opener, Session, Slot, Table};
 use std::alloc::Global;
 use std::test::*;
+use timers::Due;
 
 fn session(port: u16) -> Session
     ensures { IsSeen result.proto result.seen }

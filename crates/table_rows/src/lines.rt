@@ -1,6 +1,6 @@
 //! Lines as people see them, set by hand.
-use session_lines::{put_line, put_lines};
 use packet::endpoint::{Endpoint, Proto};
+use session_lines::{put_line, put_lines};
 use sessions::{Opener, Session};
 use std::alloc::{AllocError, Global};
 use std::process::Abort;

@@ -1,10 +1,10 @@
 ghost use Rattle.std.specs.Prelude.{◌≡◌};
 
-use sessions::Phase::{self, Closing, Established, Partial};
-use sessions::Opener::{self, Inside, Remote};
-use sessions::{AddFault, Session, Table, are_known_bits};
 use packet::bounds::Bounds;
 use packet::endpoint::{Endpoint, Flags, Prefix, Proto};
+use sessions::Opener::{self, Inside, Remote};
+use sessions::Phase::{self, Closing, Established, Partial};
+use sessions::{AddFault, Session, Table, are_known_bits};
 use std::process::Abort;
 use std::test::*;
 

@@ -1,7 +1,7 @@
 ghost use Rattle.std.specs.Prelude.{◌≤◌};
 
-use sets::{Element, LIMIT, Pair, Range, Set, SetFault, Value, Vmap};
 use packet::endpoint::Prefix;
+use sets::{Element, LIMIT, Pair, Range, Set, SetFault, Value, Vmap};
 use std::alloc::{AllocError, AllocFailed, Global};
 use std::test::*;
 

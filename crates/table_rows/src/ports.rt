@@ -1,8 +1,8 @@
 ghost use Rattle.std.specs.Prelude.{◌≡◌, ◌+◌, ◌*◌, ◌<◌, [], ◌∷◌, IfOk};
 ghost use Rattle.std.specs.List.{Contains};
 
-use portpick::ports::Ports;
 use packet::endpoint::Proto;
+use portpick::ports::Ports;
 use std::alloc::{AllocError, Global};
 use std::process::Abort;
 use std::test::*;

@@ -1,0 +1,79 @@
+//! What stands in the files, and the sessions that come back.
+use crate::shared::{ANSWERS, LINE, REQUESTS, SIDES, answered, fresh, opened};
+use commands::{Refusal, Sides, Stop, show};
+use std::fs;
+use std::test::Fail;
+
+/// Gate, mark, generation 1, `lan`, `wan`, 192.168.0.0/16, 203.0.113.1, no text, no session, and a closed gate.
+const FRESH: [u8; 40] = [
+    0x01, 0x4e, 0x47, 0x57, 0x31, 0x00, 0x00, 0x00, 0x00, 0x00, 0x00, 0x00, 0x01, 0x03, 0x6c, 0x61,
+    0x6e, 0x03, 0x77, 0x61, 0x6e, 0x01, 0xc0, 0xa8, 0x00, 0x00, 0x10, 0xcb, 0x00, 0x71, 0x01, 0x00,
+    0x00, 0x00, 0x00, 0x00, 0x00, 0x00, 0x00, 0x00,
+];
+
+// The refusal of a directory.
+fn refused(rt: &HostRuntime, sides: &Sides<'_>, directory: &str) -> Result<Stop, Fail> {
+    match opened(rt, sides, directory, 0) {
+        Ok(_) => Err(Fail::from(Refusal::File)),
+        Err(stop) => Ok(stop),
+    }
+}
+
+#[test]
+fn fresh_files(rt: HostRuntime) -> Result<(), Fail> {
+    fresh(&rt, "fresh")?;
+    let gateway = opened(&rt, &SIDES, "fresh", 0)?;
+    let second = refused(&rt, &SIDES, "fresh")?;
+    assert_eq!(rt; second.refusal, Refusal::File);
+    assert_eq!(rt;
+        second.second_line(),
+        "fresh: another program works in that directory: stop it, or name another one"
+    );
+    drop(gateway);
+    assert!(rt; fs::read(&rt, "fresh/natgw.a")?.as_slice() == FRESH.as_slice());
+    assert!(rt; fs::read(&rt, "fresh/natgw.b")?.is_empty());
+    let renamed = Sides {
+        wan: "wan0",
+        ..SIDES
+    };
+    let stop = refused(&rt, &renamed, "fresh")?;
+    assert_eq!(rt; stop.refusal, Refusal::ConfigDiffers);
+    assert_eq!(rt;
+        stop.second_line(),
+        "fresh: the files were written with another configuration: start natgw with --wan wan, or name another directory"
+    );
+    fs::write(&rt, "fresh/natgw.b", b"\x01".as_slice())?;
+    let stop = refused(&rt, &SIDES, "fresh")?;
+    assert_eq!(rt; stop.refusal, Refusal::Damaged);
+    assert_eq!(rt;
+        stop.second_line(),
+        "fresh: natgw.a holds generation 1, no session; natgw.b is no file of natgw, or one of another version: put both back from one backup, or move natgw.b away to go on with what natgw.a holds"
+    );
+    let missing = refused(&rt, &SIDES, "fresh/none")?;
+    assert_eq!(rt; missing.refusal, Refusal::File);
+    Ok(())
+}
+
+// The lines of the sessions that a directory keeps, and the moment that all of them were used at.
+fn kept(rt: &HostRuntime, directory: &str, moment: u64) -> Result<Vec<u8>, Fail> {
+    let gateway = opened(rt, &SIDES, directory, moment)?;
+    for session in gateway.sessions()?.as_slice() {
+        if session.last != moment {
+            return Err(Fail::from("another moment"));
+        }
+    }
+    let mut lines = Vec::new(rt.alloc());
+    show(rt.alloc(), &gateway, &mut lines)?;
+    Ok(lines)
+}
+
+#[test]
+fn restart(rt: HostRuntime) -> Result<(), Fail> {
+    fresh(&rt, "restart")?;
+    let mut gateway = opened(&rt, &SIDES, "restart", 1_000)?;
+    assert!(rt; answered(&rt, &mut gateway, REQUESTS)?.as_slice() == ANSWERS);
+    drop(gateway);
+    assert!(rt; kept(&rt, "restart", 1_000)?.as_slice() == LINE);
+    assert!(rt; kept(&rt, "restart", 1_250)?.as_slice() == LINE);
+    Ok(())
+}

@@ -1,0 +1,22 @@
+//! What the commands do over files, sockets and texts, and what is read of them. Nothing but tests stands here.
+//!
+//! - `shared`: the requests of a first packet and their answers, and directories of a test;
+//! - `spelling`: addresses, prefixes and configurations as they are spelled;
+//! - `texts`: what `check` finds of texts, and how it explains it;
+//! - `files`: what stands in the files, and the sessions that come back;
+//! - `streams`: requests through sockets;
+//! - `words`: the two lines of each refusal.
+#![tactic(auto)]
+
+#[cfg(test)]
+mod files;
+#[cfg(test)]
+mod shared;
+#[cfg(test)]
+mod spelling;
+#[cfg(test)]
+mod streams;
+#[cfg(test)]
+mod texts;
+#[cfg(test)]
+mod words;

@@ -1,0 +1,57 @@
+//! The requests of a first packet and their answers, and directories of a test.
+use commands::{Opening, Sides, Stop, bounds, open, replay};
+use file_disk::FileDisk;
+use gateway::Gateway;
+use std::fs;
+use std::test::Fail;
+
+/// 192.168.0.0/16 inside, 203.0.113.1 outside.
+pub const SIDES: Sides<'static> = Sides {
+    lan: "lan",
+    wan: "wan",
+    inside: "192.168.0.0/16",
+    external: "203.0.113.1",
+};
+
+/// At moment 1000 a ruleset that masquerades what goes out to wan, and a packet of UDP from 192.168.1.2:5000 to
+/// 198.51.100.7:53, from lan.
+pub const REQUESTS: &[u8] =
+    b"\x02\x00\x00\x00\x00\x65\x00\x00\x00\x00\x00\x00\x03\xe8table ip nat { chain post { type nat hook postrouting priority srcnat; oifname \"wan\" masquerade; }; }\x01\x00\x00\x00\x00\x1c\x00\x00\x00\x00\x00\x00\x03\xe8\x45\x00\x00\x1c\x00\x01\x00\x00\x40\x11\x8e\xeb\xc0\xa8\x01\x02\xc6\x33\x64\x07\x13\x88\x00\x35\x00\x08\x00\x3c";
+
+/// The ruleset is loaded, and the packet leaves on wan from 203.0.113.1:5000.
+pub const ANSWERS: &[u8] =
+    b"\x03\x00\x00\x00\x00\x00\x00\x00\x01\x00\x00\x00\x00\x01\x00\x00\x00\x00\x00\x00\x00\x02\x00\x00\x00\x1d\x01\x45\x00\x00\x1c\x00\x01\x00\x00\x3f\x11\x15\x94\xcb\x00\x71\x01\xc6\x33\x64\x07\x13\x88\x00\x35\x00\x08\x85\xe4";
+
+/// The session that there is then.
+pub const LINE: &[u8] =
+    b"udp 192.168.1.2:5000      203.0.113.1:5000      198.51.100.7:53       -\n";
+
+/// An empty directory.
+pub fn fresh(rt: &HostRuntime, directory: &str) -> Result<(), Fail> {
+    let _ = fs::remove_dir_all(rt, directory);
+    fs::create_dir(rt, directory)?;
+    Ok(())
+}
+
+/// A gateway over the files of a directory.
+pub fn opened(
+    rt: &HostRuntime,
+    sides: &Sides<'_>,
+    directory: &str,
+    moment: u64,
+) -> Result<Gateway<FileDisk>, Stop> {
+    let bounds = bounds(rt.alloc(), sides)?;
+    open(rt, sides, bounds, Opening { directory, moment })
+}
+
+/// The answers to a stream of requests.
+pub fn answered(
+    rt: &HostRuntime,
+    gateway: &mut Gateway<FileDisk>,
+    requests: &[u8],
+) -> Result<Vec<u8>, Stop> {
+    let mut reader = requests;
+    let mut answers = Vec::new(rt.alloc());
+    replay(rt.alloc(), &mut reader, &mut answers, gateway)?;
+    Ok(answers)
+}

@@ -1,0 +1,27 @@
+-- Numbers, addresses and prefixes as they are written.
+use Rattle.std.specs.Prelude.{◌≡◌, ℕ, ◌<◌, List, [], ◌∷◌, ◌++◌, codes, decimal}
+use Rattle.std.specs.Int.{w32, from_be_bytes}
+use Rattle.std.specs.Net.Grammar.{IsDotted}
+use Rattle.packet.specs.declared.endpoint.Prefix.{Prefix}
+
+-- a number below 256, as it is printed
+abbrev pub SpellsNumber : List ℕ → ℕ → Type 0
+SpellsNumber text n = (n < 256) × (text ≡ decimal n)
+
+-- four numbers with dots between them, the most significant first
+abbrev pub SpellsAddress : List ℕ → ℕ → Type 0
+SpellsAddress text addr = (octets : List ℕ) × IsDotted text octets × (addr ≡ from_be_bytes w32 octets)
+
+-- an address, `/` and a number
+abbrev pub SpellsPrefix : List ℕ → Prefix → Type 0
+SpellsPrefix text prefix =
+    (front back : List ℕ) × (text ≡ front ++ codes "/" ++ back)
+    × SpellsAddress front prefix.addr × SpellsNumber back prefix.len
+
+-- one prefix or more, with commas between them
+abbrev pub SpellsPrefixes : List ℕ → List Prefix → Type 0
+SpellsPrefixes text [] = ⊥
+SpellsPrefixes text (p ∷ []) = SpellsPrefix text p
+SpellsPrefixes text (p ∷ q ∷ ps) =
+    (front rest : List ℕ) × (text ≡ front ++ codes "," ++ rest)
+    × SpellsPrefix front p × SpellsPrefixes rest (q ∷ ps)

@@ -1,0 +1,69 @@
+//! Streams of requests, and what the end of one means.
+ghost use Rattle.std.specs.Prelude.{◌≡◌, IsOk, IfErr, OnOk};
+ghost use Rattle.std.specs.Io.KnownBytes.{Appends};
+ghost use Rattle.socket_edge.specs.declared.fault.EdgeFault.{EdgeFault};
+ghost use Rattle.commands.specs.declared.refusal.Refusal.TheVariants.{Output};
+ghost use Rattle.commands.specs.Words.{IsOfGateway, edge_refusal, first_line};
+
+use crate::stop::tell_word;
+use crate::{Refusal, ends_program};
+use disk_model::Disk;
+use gateway::Gateway;
+use socket_edge::EdgeFault;
+use std::alloc::Global;
+use std::io::{Read, Write};
+
+/// Answers the requests of one stream. It has no clause: the contract of the call within is long, and what is said of
+/// streams is said there.
+pub(crate) fn answer_all<R: Read, W: Write, D: Disk + Drop>(
+    alloc: Global,
+    reader: &mut R,
+    writer: &mut W,
+    gateway: &mut Gateway<D>,
+) -> Result<u64, EdgeFault> {
+    socket_edge::run(alloc, reader, writer, gateway)
+}
+
+/// Answers the requests of one stream, which is all that there is.
+///
+/// # Errors
+///
+/// The refusal for the stream's fault. What was answered before is written.
+pub fn replay<R: Read, W: Write, D: Disk + Drop>(
+    alloc: Global,
+    reader: &mut R,
+    writer: &mut W,
+    gateway: &mut Gateway<D>,
+) -> Result<(), Refusal> {
+    match answer_all(alloc, reader, writer, gateway) {
+        Ok(_) => Ok(()),
+        Err(fault) => Err(Refusal::of_edge(fault)),
+    }
+}
+
+/// What the end of one connection means for the program: it goes on, and the word of a fault is told on `errors`; or it
+/// ends, where the gateway has failed.
+///
+/// # Errors
+///
+/// The refusal for a fault of the gateway; `Output` where the word can't be told.
+pub fn settle<W: Write>(ended: Result<u64, EdgeFault>, errors: &mut W) -> Result<(), Refusal>
+    ensures well { IsOk ended → IsOk result × (errors.new ≡ errors.old) }
+    ensures ends { IfErr ended (λ fault. IsOfGateway fault → (result ≡ Err (edge_refusal fault)) × (errors.new ≡ errors.old)) }
+    ensures goes_on { IfErr ended (λ fault. ¬ IsOfGateway fault
+        → OnOk result (Appends (W.contents errors.old) (W.contents errors.new) (first_line (edge_refusal fault)))) }
+    ensures only_output { IfErr ended (λ fault. ¬ IsOfGateway fault → IfErr result (λ refusal. refusal ≡ Output)) }
+{
+    let fault = match ended {
+        Ok(_) => return Ok(()),
+        Err(fault) => fault,
+    };
+    let refusal = Refusal::of_edge(fault);
+    if ends_program(fault) {
+        return Err(refusal);
+    }
+    match tell_word(errors, refusal) {
+        Ok(()) => Ok(()),
+        Err(_) => Err(Refusal::Output),
+    }
+}

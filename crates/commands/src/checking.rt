@@ -1,0 +1,106 @@
+//! Whether a ruleset would load.
+ghost use Rattle.std.specs.Prelude.{◌≡◌, ℕ, List, true, false, IfOk, IfErr, OnOk};
+ghost use Rattle.std.specs.Io.KnownBytes.{Appends};
+ghost use Rattle.commands.specs.declared.refusal.Refusal.TheVariants.{NoMemory};
+ghost use Rattle.commands.specs.Verdicts.{IsVerdict};
+
+use crate::Refusal;
+use packet::bounds::Bounds;
+use rulesyntax::fault::{Kind, LoadFault};
+use ruletext::reading::read;
+use std::alloc::{AllocError, Global};
+use std::io::Write;
+
+/// What is found of a text.
+#[derive(Debug, Drop)]
+pub struct Finding {
+    /// Whether it would load.
+    pub loads: bool,
+    /// `ok`, or the line and the kind of the text's fault, as `line 2: duplicate`; with a newline.
+    pub line: Vec<u8>,
+    /// The line of the text with a mark, what stands there and what could; nothing where it wasn't asked for, or the text
+    /// loads.
+    pub marks: Vec<u8>,
+}
+
+// The line that tells of a fault.
+fn line_of(alloc: Global, fault: &LoadFault) -> Result<Vec<u8>, AllocError>
+    ensures { IfOk result (λ line. TellsOf fault.now.kind line.items) }
+{
+    let number = format!(in alloc; "{}", fault.line)?;
+    let mut line = Vec::from_slice(alloc, b"line ")?;
+    line.extend_from_slice(number.as_bytes())?;
+    line.extend_from_slice(b": ")?;
+    line.extend_from_slice(fault.kind.name().as_bytes())?;
+    line.push(b'\n')?;
+    Ok(line)
+}
+
+/// Says whether a text would load under the configuration, and where `explains` is set shows the place of its fault. A
+/// text that is too long may be cut behind the first byte that is too many.
+///
+/// # Errors
+///
+/// `NoMemory` where memory is refused; that is no finding.
+pub fn report(
+    alloc: Global,
+    text: &[u8],
+    bounds: &Bounds,
+    explains: bool,
+) -> Result<Finding, Refusal>
+    ensures ok { IfOk result (λ found. IsVerdict bounds.now text.now found.loads found.line.items) }
+    ensures marks { IfOk result (λ found. explains ≡ false → found.marks.items ≡ []) }
+    ensures causes { IfErr result (λ refusal. refusal ≡ NoMemory) }
+{
+    let fault = match read(alloc, text, bounds) {
+        Ok(_rules) => {
+            return Ok(Finding {
+                loads: true,
+                line: Vec::from_slice(alloc, b"ok\n")?,
+                marks: Vec::new(alloc),
+            });
+        }
+        Err(fault) => fault,
+    };
+    if fault.kind == Kind::NoMemory {
+        return Err(Refusal::NoMemory);
+    }
+    let marks = if explains {
+        text_marks::explain(alloc, text, bounds, &fault)?
+    } else {
+        Vec::new(alloc)
+    };
+    Ok(Finding {
+        loads: false,
+        line: line_of(alloc, &fault)?,
+        marks,
+    })
+}
+
+/// Prints what is found of a text, and where `explains` is set shows on `errors` where its fault is. The answer is
+/// whether it would load.
+///
+/// # Errors
+///
+/// `NoMemory` where memory is refused; `Output` where a writer fails.
+pub fn check<W: Write, E: Write>(
+    alloc: Global,
+    text: &[u8],
+    bounds: &Bounds,
+    explains: bool,
+    output: &mut W,
+    errors: &mut E,
+) -> Result<bool, Refusal>
+    ensures ok { IfOk result (λ loads. (line : List ℕ) × IsVerdict bounds.now text.now loads line
+        × Appends (W.contents output.old) (W.contents output.new) line) }
+    ensures quiet { explains ≡ false → errors.new ≡ errors.old }
+{
+    let finding = report(alloc, text, bounds, explains)?;
+    if output.write_all(finding.line.as_slice()).is_err() {
+        return Err(Refusal::Output);
+    }
+    if explains && errors.write_all(finding.marks.as_slice()).is_err() {
+        return Err(Refusal::Output);
+    }
+    Ok(finding.loads)
+}

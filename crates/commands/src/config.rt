@@ -1,0 +1,127 @@
+//! Addresses and prefixes as they are spelled, and the configuration made of them.
+ghost use Rattle.std.specs.Prelude.{◌≡◌, ◌⊎◌, IfOk, IfErr, IfSome, OnErr, IfNone, ℕ};
+ghost use Rattle.packet.specs.declared.endpoint.Prefix.{Prefix};
+ghost use Rattle.commands.specs.declared.refusal.Refusal.TheVariants.{Config, NoMemory};
+ghost use Rattle.commands.specs.Spelling.{SpellsAddress, SpellsNumber, SpellsPrefix, SpellsPrefixes};
+
+use crate::{Refusal, Stop};
+use packet::bounds::Bounds;
+use packet::endpoint::Prefix;
+use std::alloc::{AllocError, Global};
+use std::net::Ipv4Addr;
+
+/// What the gateway stands between, as it was written. Nothing of it is tested yet.
+#[derive(Clone, Copy, Debug, Drop)]
+pub struct Sides<'a> {
+    /// The name of the inside interface.
+    pub lan: &'a str,
+    /// The name of the outside interface.
+    pub wan: &'a str,
+    /// The inside prefixes, joined by commas.
+    pub inside: &'a str,
+    /// The external address.
+    pub external: &'a str,
+}
+
+/// A number of at most 255, without a sign or leading zeros.
+pub fn number(text: &str) -> Option<u8>
+    ensures some { IfSome result (SpellsNumber text.now) }
+    ensures none { IfNone result ((n : ℕ) → ¬ SpellsNumber text.now n) }
+{
+    match text.as_bytes() {
+        [b'0'] => Some(0),
+        [b'1'..=b'9', ..] => text.parse().ok(),
+        _ => None,
+    }
+}
+
+/// An address: four numbers of at most 255, without leading zeros, joined by dots. As a number 192.0.2.1 is
+/// `0xc0000201`.
+pub fn address(text: &str) -> Option<u32>
+    ensures some { IfSome result (SpellsAddress text.now) }
+    ensures none { IfNone result ((addr : ℕ) → ¬ SpellsAddress text.now addr) }
+{
+    let address: Ipv4Addr = text.parse().ok()?;
+    Some(address.to_bits())
+}
+
+/// A prefix: an address, `/` and a number. That the number is at most 32 and the host bits are clear is for `bounds`
+/// to test.
+pub fn prefix(text: &str) -> Option<Prefix>
+    ensures { IfSome result (SpellsPrefix text.now) }
+{
+    let (addr, len) = text.split_once('/')?;
+    Some(Prefix {
+        addr: address(addr)?,
+        len: number(len)?,
+    })
+}
+
+// A prefix, or the refusal that names it.
+fn prefix_of(alloc: Global, text: &str) -> Result<Prefix, Stop>
+    ensures ok { IfOk result (SpellsPrefix text.now) }
+    ensures config { IfErr result (λ stop. stop.refusal ≡ Config) }
+{
+    match prefix(text) {
+        Some(prefix) => Ok(prefix),
+        None => Err(Stop::with(
+            Refusal::Config,
+            format!(in alloc; "--inside {text}: that is no prefix, as 192.168.0.0/16"),
+        )),
+    }
+}
+
+/// Prefixes joined by commas.
+///
+/// # Errors
+///
+/// `Config` where one of them is no prefix; `NoMemory` where memory is refused.
+pub fn prefixes(alloc: Global, list: &str) -> Result<Vec<Prefix>, Stop>
+    ensures ok { IfOk result (λ found. SpellsPrefixes list.now found.items) }
+    ensures causes { IfErr result (λ stop. (stop.refusal ≡ Config) ⊎ (stop.refusal ≡ NoMemory)) }
+{
+    let mut found = Vec::new(alloc);
+    for text in list.split(',') {
+        found.push(prefix_of(alloc, text)?)?;
+    }
+    Ok(found)
+}
+
+// The external address, or the refusal that names it.
+fn external_of(alloc: Global, text: &str) -> Result<u32, Stop>
+    ensures ok { IfOk result (SpellsAddress text.now) }
+    ensures config { IfErr result (λ stop. stop.refusal ≡ Config) }
+{
+    match address(text) {
+        Some(address) => Ok(address),
+        None => Err(Stop::with(
+            Refusal::Config,
+            format!(in alloc; "--external {text}: that is no address, as 203.0.113.1"),
+        )),
+    }
+}
+
+/// The configuration that the options spell.
+///
+/// # Errors
+///
+/// `Config` where an option can't be read, or all of them together are no configuration (`Bounds::new`); `NoMemory`
+/// where memory is refused.
+pub fn bounds(alloc: Global, sides: &Sides<'_>) -> Result<Bounds, Stop>
+    ensures names { IfOk result (λ bounds. (bounds.lan ≡ sides.now.lan.now) × (bounds.wan ≡ sides.now.wan.now)) }
+    ensures inside { IfOk result (λ bounds. SpellsPrefixes sides.now.inside.now bounds.inside) }
+    ensures external { IfOk result (λ bounds. SpellsAddress sides.now.external.now bounds.external) }
+    ensures causes { IfErr result (λ stop. (stop.refusal ≡ Config) ⊎ (stop.refusal ≡ NoMemory)) }
+{
+    let inside = prefixes(alloc, sides.inside)?;
+    let external = external_of(alloc, sides.external)?;
+    let lan = String::from_str(alloc, sides.lan)?;
+    let wan = String::from_str(alloc, sides.wan)?;
+    match Bounds::new(lan, wan, inside, external) {
+        Ok(bounds) => Ok(bounds),
+        Err(fault) => Err(Stop::with(
+            Refusal::Config,
+            format!(in alloc; "{fault}: set --lan, --wan, --inside and --external right"),
+        )),
+    }
+}

@@ -1,0 +1,73 @@
+//! A gateway over the files of a directory, or what is the matter with them.
+use crate::config::bounds;
+use crate::{Refusal, Sides, Stop};
+use diagnosis::diagnose;
+use file_disk::{FileDisk, OpenError};
+use gateway::{Gateway, OpenFault};
+use packet::bounds::Bounds;
+use std::alloc::Global;
+
+/// How a gateway opens.
+#[derive(Clone, Copy, Debug, Drop)]
+pub struct Opening<'a> {
+    /// The directory of its two files.
+    pub directory: &'a str,
+    /// The moment, in seconds.
+    pub moment: u64,
+}
+
+// Why the files of a directory can't be opened.
+fn unopened(alloc: Global, directory: &str, error: &OpenError) -> Stop {
+    match error {
+        OpenError::NoMemory => Stop::from(Refusal::NoMemory),
+        _ => Stop::with(Refusal::File, format!(in alloc; "{directory}: {error}")),
+    }
+}
+
+// What is the matter with the files of a disk, looked at once more.
+fn unsound(
+    alloc: Global,
+    mut disk: FileDisk,
+    sides: &Sides<'_>,
+    directory: &str,
+    refusal: Refusal,
+) -> Stop {
+    let Ok(bounds) = bounds(alloc, sides) else {
+        return Stop::from(refusal);
+    };
+    match diagnose(alloc, &mut disk, &bounds) {
+        Ok(finding) => Stop::with(refusal, format!(in alloc; "{directory}: {finding}")),
+        Err(_) => Stop::from(refusal),
+    }
+}
+
+/// Opens a gateway over the files of a directory. `sides` are those that the bounds are made of.
+///
+/// # Errors
+///
+/// `File` where the files can't be opened, or another program has them; `Device`, `Damaged`, `ConfigDiffers` or
+/// `NoMemory` where no gateway opens over them.
+pub fn open(
+    rt: &HostRuntime,
+    sides: &Sides<'_>,
+    bounds: Bounds,
+    opening: Opening<'_>,
+) -> Result<Gateway<FileDisk>, Stop> {
+    let alloc = rt.alloc();
+    let disk = match FileDisk::open(rt, opening.directory) {
+        Ok(disk) => disk,
+        Err(error) => return Err(unopened(alloc, opening.directory, &error)),
+    };
+    match Gateway::open(alloc, disk, bounds, opening.moment) {
+        Ok(gateway) => Ok(gateway),
+        Err((disk, fault)) => {
+            let refusal = Refusal::of_opening(fault);
+            match fault {
+                OpenFault::Damaged | OpenFault::ConfigDiffers => {
+                    Err(unsound(alloc, disk, sides, opening.directory, refusal))
+                }
+                OpenFault::Device | OpenFault::NoMemory => Err(Stop::from(refusal)),
+            }
+        }
+    }
+}

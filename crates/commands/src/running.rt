@@ -1,0 +1,197 @@
+//! The commands, put together.
+use crate::config::{Sides, bounds};
+use crate::files::read_file;
+use crate::opening::{Opening, open};
+use crate::sockets::{bind, loop_back, serve_clients};
+use crate::{Refusal, Stop, check, replay, show};
+use packet::bounds::Bounds;
+use rulesyntax::GREATEST_LENGTH;
+use std::alloc::Global;
+use std::fs;
+use std::fs::Files;
+use std::io::ErrorKind;
+use std::process::ExitCode;
+
+/// The longest ruleset text, in bytes. One byte more is read, so that a longer text is known for one.
+const TEXT_LIMIT: u64 = GREATEST_LENGTH as u64;
+
+/// The most bytes of requests that `loop` sends.
+const LOOP_LIMIT: u64 = 2_048;
+
+/// A command with what it alone takes.
+#[derive(Clone, Copy, Debug, Drop)]
+pub enum Task<'a> {
+    /// Says whether the ruleset of this file would load.
+    Check {
+        /// The file.
+        path: &'a str,
+        /// Whether the place of a fault is shown.
+        explains: bool,
+    },
+    /// Answers the requests of standard input, by a gateway that opens so.
+    Replay {
+        opening: Opening<'a>,
+    },
+    /// Serves the clients of a Unix socket, one after the other, by a gateway that opens so.
+    Serve {
+        opening: Opening<'a>,
+        /// The path of the socket.
+        socket: &'a str,
+        /// How many of them.
+        connections: u64,
+    },
+    /// Sends the requests of a file through a Unix socket to a gateway that opens so.
+    Loop {
+        opening: Opening<'a>,
+        /// The file.
+        path: &'a str,
+    },
+    /// Lists the sessions of a gateway that opens so.
+    Show {
+        opening: Opening<'a>,
+    },
+}
+
+/// A command line that was read.
+#[derive(Clone, Copy, Debug, Drop)]
+pub struct Options<'a> {
+    /// The options that all commands have.
+    pub sides: Sides<'a>,
+    /// The command, and what it alone takes.
+    pub task: Task<'a>,
+}
+
+/// Runs a command, and gives the status of the program: 1 where `check` finds a fault in the text, otherwise 0.
+///
+/// # Errors
+///
+/// In this order:
+///
+/// - `Config` where the options are no configuration.
+/// - `File` where the command's file can't be read, or is too long for `loop`.
+/// - Of all but `check` what `open` says of the two files.
+/// - Of `serve` and `loop` `File` where the socket can't be bound.
+/// - What the run meets: the fault of a stream (of `serve` and `loop` that of the gateway alone), `Output`. What was
+///   answered before is written.
+///
+/// `NoMemory` may come at any place.
+pub fn run(rt: &HostRuntime, options: &Options<'_>) -> Result<ExitCode, Stop> {
+    let alloc = rt.alloc();
+    let sides = &options.sides;
+    let bounds = bounds(alloc, sides)?;
+    match options.task {
+        Task::Check { path, explains } => return run_check(rt, &bounds, path, explains),
+        Task::Replay { opening } => {
+            let mut gateway = open(rt, sides, bounds, opening)?;
+            replay(alloc, &mut rt.stdin(), &mut rt.stdout(), &mut gateway)?;
+        }
+        Task::Serve {
+            opening,
+            socket,
+            connections,
+        } => run_serve(rt, sides, bounds, opening, socket, connections)?,
+        Task::Loop { opening, path } => run_loop(rt, sides, bounds, opening, path)?,
+        Task::Show { opening } => {
+            show(alloc, &open(rt, sides, bounds, opening)?, &mut rt.stdout())?;
+        }
+    }
+    Ok(ExitCode::SUCCESS)
+}
+
+fn run_check(
+    rt: &HostRuntime,
+    bounds: &Bounds,
+    path: &str,
+    explains: bool,
+) -> Result<ExitCode, Stop> {
+    let alloc = rt.alloc();
+    let text = read_file(rt, alloc, path, TEXT_LIMIT + 1)?;
+    let loads = check(
+        alloc,
+        text.as_slice(),
+        bounds,
+        explains,
+        &mut rt.stdout(),
+        &mut rt.stderr(),
+    )?;
+    if loads {
+        Ok(ExitCode::SUCCESS)
+    } else {
+        Ok(ExitCode::FAILURE)
+    }
+}
+
+fn run_serve(
+    rt: &HostRuntime,
+    sides: &Sides<'_>,
+    bounds: Bounds,
+    opening: Opening<'_>,
+    socket: &str,
+    connections: u64,
+) -> Result<(), Stop> {
+    let alloc = rt.alloc();
+    let mut gateway = open(rt, sides, bounds, opening)?;
+    let listener = bind(rt, alloc, socket)?;
+    let served = serve_clients(
+        alloc,
+        &listener,
+        socket,
+        connections,
+        &mut rt.stderr(),
+        &mut gateway,
+    );
+    let removed = remove(rt, alloc, socket);
+    served?;
+    removed
+}
+
+fn run_loop(
+    rt: &HostRuntime,
+    sides: &Sides<'_>,
+    bounds: Bounds,
+    opening: Opening<'_>,
+    path: &str,
+) -> Result<(), Stop> {
+    let alloc = rt.alloc();
+    let requests = read_requests(rt, alloc, path)?;
+    let mut gateway = open(rt, sides, bounds, opening)?;
+    let directory = opening.directory;
+    let socket = format!(in alloc; "{directory}/natgw.sock")?;
+    let listener = bind(rt, alloc, socket.as_str())?;
+    let looped = loop_back(
+        rt,
+        alloc,
+        &listener,
+        socket.as_str(),
+        requests.as_slice(),
+        &mut rt.stdout(),
+        &mut rt.stderr(),
+        &mut gateway,
+    );
+    let removed = remove(rt, alloc, socket.as_str());
+    looped?;
+    removed
+}
+
+// The requests that `loop` sends.
+fn read_requests(rt: &impl Files, alloc: Global, path: &str) -> Result<Vec<u8>, Stop> {
+    let requests = read_file(rt, alloc, path, LOOP_LIMIT + 1)?;
+    if requests.len() as u64 > LOOP_LIMIT {
+        return Err(Stop::with(
+            Refusal::File,
+            format!(in alloc; "{path} has more than {LOOP_LIMIT} bytes: send it by natgw replay"),
+        ));
+    }
+    Ok(requests)
+}
+
+// Removes a socket, if it is still there.
+fn remove(rt: &impl Files, alloc: Global, socket: &str) -> Result<(), Stop> {
+    match fs::remove_file(rt, socket) {
+        Ok(()) => Ok(()),
+        Err(error) => match error.kind() {
+            ErrorKind::NotFound => Ok(()),
+            _ => Err(Stop::at_path(alloc, socket, "can't be removed", &error)),
+        },
+    }
+}

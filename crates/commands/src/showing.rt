@@ -1,0 +1,35 @@
+//! The lines of a gateway's sessions.
+ghost use Rattle.std.specs.Prelude.{OnOk};
+ghost use Rattle.std.specs.List.{flat_map};
+ghost use Rattle.std.specs.Io.KnownBytes.{Appends};
+ghost use Rattle.session_lines.specs.Lines.{line};
+
+use crate::Refusal;
+use disk_model::Disk;
+use gateway::Gateway;
+use std::alloc::Global;
+use std::io::Write;
+
+/// Prints the sessions, a line each, by protocol, inside and remote endpoint.
+///
+/// # Errors
+///
+/// `NoMemory` where memory is refused: nothing is printed then. `Output` where the writer fails.
+pub fn show<W: Write, D: Disk + Drop>(
+    alloc: Global,
+    gateway: &Gateway<D>,
+    output: &mut W,
+) -> Result<(), Refusal>
+    ensures { OnOk result (Appends (W.contents output.old) (W.contents output.new)
+        (flat_map line gateway.now.told.state.sessions)) }
+{
+    let Ok(sessions) = gateway.sessions() else {
+        return Err(Refusal::NoMemory);
+    };
+    let mut lines = Vec::new(alloc);
+    session_lines::put_lines(&mut lines, sessions.as_slice())?;
+    match output.write_all(lines.as_slice()) {
+        Ok(()) => Ok(()),
+        Err(_) => Err(Refusal::Output),
+    }
+}

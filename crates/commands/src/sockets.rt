@@ -1,0 +1,113 @@
+//! The clients of a Unix socket, one after the other.
+use crate::answering::{answer_all, settle};
+use crate::{Refusal, Stop};
+use disk_model::Disk;
+use gateway::Gateway;
+use std::alloc::Global;
+use std::fs::Files;
+use std::io;
+use std::io::{ErrorKind, Read, Write};
+use std::net::{Net, Shutdown};
+use std::os::unix::net::{UnixListener, UnixStream};
+
+/// Binds a socket to a path where nothing is yet.
+///
+/// # Errors
+///
+/// `File` where something stands there, or a socket can't be bound there; `NoMemory` where memory is refused.
+pub fn bind<R: Files + Net>(rt: &R, alloc: Global, path: &str) -> Result<UnixListener, Stop> {
+    match UnixListener::bind(rt, path) {
+        Ok(listener) => Ok(listener),
+        Err(error) => Err(unbound(alloc, path, &error)),
+    }
+}
+
+// Why there is no socket at a path.
+fn unbound(alloc: Global, path: &str, error: &io::Error) -> Stop {
+    match error.kind() {
+        ErrorKind::AddrInUse => Stop::with(
+            Refusal::File,
+            format!(in alloc;
+                "{path} exists: if no natgw listens there any more, remove it, otherwise name another path"
+            ),
+        ),
+        _ => Stop::at_path(alloc, path, "can't be bound to a socket", error),
+    }
+}
+
+/// Serves so many connections of a socket, one after the other, with one gateway. The word of a fault that ends a
+/// connection alone goes to `errors`.
+///
+/// # Errors
+///
+/// `File` where no connection can be accepted, at `path`; a fault of the gateway; `Output` where a word can't be told.
+pub fn serve_clients<W: Write, D: Disk + Drop>(
+    alloc: Global,
+    listener: &UnixListener,
+    path: &str,
+    connections: u64,
+    errors: &mut W,
+    gateway: &mut Gateway<D>,
+) -> Result<(), Stop> {
+    for _ in 0..connections {
+        let stream = match listener.accept() {
+            Ok((stream, _)) => stream,
+            Err(error) => return Err(Stop::at_path(alloc, path, "accepts no client", &error)),
+        };
+        let ended = answer_all(alloc, &mut &stream, &mut &stream, gateway);
+        settle(ended, errors)?;
+    }
+    Ok(())
+}
+
+// A client that has sent these requests and nothing behind them.
+fn client_of<R: Net>(rt: &R, path: &str, requests: &[u8]) -> io::Result<UnixStream> {
+    let client = UnixStream::connect(rt, path)?;
+    (&client).write_all(requests)?;
+    client.shutdown(Shutdown::Write)?;
+    Ok(client)
+}
+
+// Prints what is left to read of a client.
+fn print_answers<W: Write>(
+    alloc: Global,
+    path: &str,
+    client: &UnixStream,
+    output: &mut W,
+) -> Result<(), Stop> {
+    let mut answers = Vec::new(alloc);
+    let mut reader = client;
+    if let Err(error) = reader.read_to_end(&mut answers) {
+        return Err(Stop::at_path(alloc, path, "can't be read", &error));
+    }
+    match output.write_all(answers.as_slice()) {
+        Ok(()) => Ok(()),
+        Err(_) => Err(Stop::from(Refusal::Output)),
+    }
+}
+
+/// Sends requests through a socket that this program listens to, answers them, and prints the answers. They have to fit
+/// the socket unread, as those to 2,048 bytes do.
+///
+/// # Errors
+///
+/// `File` where the socket can't be used; a fault of the gateway, behind the answers that were given before; `Output`
+/// where the answers can't be printed or a word can't be told.
+pub fn loop_back<R: Net, W: Write, E: Write, D: Disk + Drop>(
+    rt: &R,
+    alloc: Global,
+    listener: &UnixListener,
+    path: &str,
+    requests: &[u8],
+    output: &mut W,
+    errors: &mut E,
+    gateway: &mut Gateway<D>,
+) -> Result<(), Stop> {
+    let client = match client_of(rt, path, requests) {
+        Ok(client) => client,
+        Err(error) => return Err(Stop::at_path(alloc, path, "takes no requests", &error)),
+    };
+    let served = serve_clients(alloc, listener, path, 1, errors, gateway);
+    print_answers(alloc, path, &client, output)?;
+    served
+}

@@ -1,0 +1,145 @@
+//! The two lines that people read where a command gives up: the word, and what to do.
+ghost use Rattle.std.specs.Prelude.{◌≡◌, ◌++◌, ℕ, List, OnOk, codes};
+ghost use Rattle.std.specs.Io.KnownBytes.{Appends};
+ghost use Rattle.std.specs.IoError.{error_kind};
+ghost use Rattle.commands.specs.declared.refusal.Refusal.TheVariants.{NoMemory};
+ghost use Rattle.commands.specs.Words.{first_line, path_refusal};
+
+use crate::Refusal;
+use std::alloc::{AllocError, AllocFailed, Global};
+use std::io;
+use std::io::{ErrorKind, Write};
+
+/// Why a command gives up, and what to do about it.
+#[derive(Debug, Drop)]
+pub struct Stop {
+    /// Why.
+    pub refusal: Refusal,
+    /// What is the matter and what to do, in one line without its end; none where the word says all that is known.
+    pub advice: Option<String>,
+}
+
+impl From<Refusal> for Stop {
+    ghost from_gives = { λ refusal stop. stop.refusal ≡ refusal };
+
+    fn from(refusal: Refusal) -> Self {
+        Stop {
+            refusal,
+            advice: None,
+        }
+    }
+}
+
+impl From<AllocError> for Stop {
+    ghost from_gives = { λ _ stop. stop.refusal ≡ NoMemory };
+
+    fn from(_: AllocError) -> Self {
+        Stop::from(Refusal::NoMemory)
+    }
+}
+
+impl<T: Drop> From<AllocFailed<T>> for Stop {
+    ghost from_gives = { λ _ stop. stop.refusal ≡ NoMemory };
+
+    fn from(_: AllocFailed<T>) -> Self {
+        Stop::from(Refusal::NoMemory)
+    }
+}
+
+impl Stop {
+    /// A refusal with its line, which is left out where memory for it was refused.
+    pub fn with(refusal: Refusal, advice: Result<String, AllocError>) -> Stop
+        ensures { result.refusal ≡ refusal }
+    {
+        Stop {
+            refusal,
+            advice: advice.ok(),
+        }
+    }
+
+    /// A call of the system failed on this path: `NoMemory` exactly where memory was refused, otherwise `File`.
+    /// `what` says what couldn't be done.
+    pub fn at_path(alloc: Global, path: &str, what: &str, error: &io::Error) -> Stop
+        ensures { result.refusal ≡ path_refusal (error_kind error.now) }
+    {
+        match error.kind() {
+            ErrorKind::OutOfMemory => Stop::from(Refusal::NoMemory),
+            _ => Stop::with(Refusal::File, format!(in alloc; "{path} {what}: {error}")),
+        }
+    }
+
+    /// The second line, without its end.
+    pub fn second_line(&self) -> &str {
+        match &self.advice {
+            Some(advice) => advice.as_str(),
+            None => general(self.refusal),
+        }
+    }
+}
+
+// What to do where no more is known than the word.
+fn general(refusal: Refusal) -> &'static str {
+    match refusal {
+        Refusal::Config => "the options are no configuration: `natgw --help` tells of them",
+        Refusal::File => "a file, a directory or a socket can't be had: look at its path",
+        Refusal::Device => {
+            "a read, write or sync of natgw.a or natgw.b failed: look into the kernel's log and at the space that is left, then start again"
+        }
+        Refusal::Full => "natgw.a or natgw.b has no room below 67108864 bytes: start again",
+        Refusal::Damaged => {
+            "natgw.a and natgw.b hold what natgw didn't write: put both back from one backup, or name another directory"
+        }
+        Refusal::ConfigDiffers => {
+            "the files were written with another configuration: start natgw with that one, or name another directory"
+        }
+        Refusal::Generations => "the files can't be made anew any more: name a new directory",
+        Refusal::NoMemory => "memory was refused: allow natgw more, and start again",
+        Refusal::Reopen => "a read, write or sync of natgw.a or natgw.b failed before: start again",
+        Refusal::NumbersOut => "the last event had the greatest number: start again",
+        Refusal::BadKind => {
+            "the first byte of a request is none of 1, 2 and 3: correct what sends the requests"
+        }
+        Refusal::BadInterface => {
+            "the second byte of a packet is neither 0 nor 1, or that of another request isn't 0: correct what sends the requests"
+        }
+        Refusal::TooLong => {
+            "a packet of more than 65535 bytes, a ruleset of more than 262144, or a moment with a body: correct what sends the requests"
+        }
+        Refusal::Truncated => {
+            "the input ends within a request: all whole requests before it are answered, send the rest again"
+        }
+        Refusal::Input => {
+            "the requests can't be read any further: all whole requests before are answered, send the rest again"
+        }
+        Refusal::Output => {
+            "standard output or standard error takes no more: look at what reads it; what was answered stands in the files"
+        }
+    }
+}
+
+/// Writes the first line of a refusal: `natgw: ` and its word.
+///
+/// # Errors
+///
+/// That of the writer. A part may have been written then.
+pub(crate) fn tell_word<W: Write>(writer: &mut W, refusal: Refusal) -> io::Result<()>
+    ensures { OnOk result (Appends (W.contents writer.old) (W.contents writer.new) (first_line refusal)) }
+{
+    writer.write_all(b"natgw: ")?;
+    writer.write_all(refusal.word().as_bytes())?;
+    writer.write_all(b"\n")
+}
+
+/// Writes both lines.
+///
+/// # Errors
+///
+/// That of the writer. A part may have been written then.
+pub fn tell<W: Write>(writer: &mut W, stop: &Stop) -> io::Result<()>
+    ensures { OnOk result ((advice : List ℕ) × Appends (W.contents writer.old) (W.contents writer.new)
+        (first_line stop.now.refusal ++ advice ++ codes "\n")) }
+{
+    tell_word(writer, stop.refusal)?;
+    writer.write_all(stop.second_line().as_bytes())?;
+    writer.write_all(b"\n")
+}
