@@ -20,7 +20,7 @@ fn refused(rt: &HostRuntime, sides: &Sides<'_>, directory: &str) -> Result<Stop,
 }
 
 #[test]
-fn fresh_files(rt: HostRuntime) -> Result<(), Fail> {
+fn files(rt: HostRuntime) -> Result<(), Fail> {
     fresh(&rt, "fresh")?;
     let gateway = opened(&rt, &SIDES, "fresh", 0)?;
     let second = refused(&rt, &SIDES, "fresh")?;

@@ -4,18 +4,18 @@
 //! - `spelling`: addresses, prefixes and configurations as they are spelled;
 //! - `texts`: what `check` finds of texts, and how it explains it;
 //! - `files`: what stands in the files, and the sessions that come back;
-//! - `streams`: requests through sockets;
+//! - `serve_and_loop`: requests through sockets;
 //! - `words`: the two lines of each refusal.
 #![tactic(auto)]
 
 #[cfg(test)]
 mod files;
 #[cfg(test)]
+mod serve_and_loop;
+#[cfg(test)]
 mod shared;
 #[cfg(test)]
 mod spelling;
-#[cfg(test)]
-mod streams;
 #[cfg(test)]
 mod texts;
 #[cfg(test)]

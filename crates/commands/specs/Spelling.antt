@@ -1,21 +1,22 @@
 -- Numbers, addresses and prefixes as they are written.
 use Rattle.std.specs.Prelude.{◌≡◌, ℕ, ◌<◌, List, [], ◌∷◌, ◌++◌, codes, decimal}
-use Rattle.std.specs.Int.{w32, from_be_bytes}
-use Rattle.std.specs.Net.Grammar.{IsDotted}
+use Rattle.std.specs.Net.Addr.{ipv4_bits}
+use Rattle.std.specs.Net.Grammar.{IsIpv4Text}
+use Rattle.std.specs.declared.net.ipv4_addr.Ipv4Addr.{Ipv4Addr}
 use Rattle.packet.specs.declared.endpoint.Prefix.{Prefix}
 
 -- a number below 256, as it is printed
 abbrev pub SpellsNumber : List ℕ → ℕ → Type 0
 SpellsNumber text n = (n < 256) × (text ≡ decimal n)
 
--- four numbers with dots between them, the most significant first
+-- four numbers below 256 without leading zeros, with dots between them, the most significant first
 abbrev pub SpellsAddress : List ℕ → ℕ → Type 0
-SpellsAddress text addr = (octets : List ℕ) × IsDotted text octets × (addr ≡ from_be_bytes w32 octets)
+SpellsAddress text addr = (a : Ipv4Addr) × IsIpv4Text text a × (addr ≡ ipv4_bits a)
 
 -- an address, `/` and a number
 abbrev pub SpellsPrefix : List ℕ → Prefix → Type 0
 SpellsPrefix text prefix =
-    (front back : List ℕ) × (text ≡ front ++ codes "/" ++ back)
+    (front back : List ℕ) × (text ≡ front ++ (codes "/" ++ back))
     × SpellsAddress front prefix.addr × SpellsNumber back prefix.len
 
 -- one prefix or more, with commas between them
@@ -23,5 +24,5 @@ abbrev pub SpellsPrefixes : List ℕ → List Prefix → Type 0
 SpellsPrefixes text [] = ⊥
 SpellsPrefixes text (p ∷ []) = SpellsPrefix text p
 SpellsPrefixes text (p ∷ q ∷ ps) =
-    (front rest : List ℕ) × (text ≡ front ++ codes "," ++ rest)
+    (front rest : List ℕ) × (text ≡ front ++ (codes "," ++ rest))
     × SpellsPrefix front p × SpellsPrefixes rest (q ∷ ps)

@@ -66,4 +66,4 @@ IsOfGateway fault = ⊥
 -- of a call of the system on a path
 abbrev pub path_refusal : ErrorKind → Refusal
 path_refusal kind.OutOfMemory = refusal.NoMemory
-path_refusal other = refusal.File
+path_refusal _ = refusal.File

@@ -1,8 +1,8 @@
 //! Whether a ruleset would load.
-ghost use Rattle.std.specs.Prelude.{◌≡◌, ℕ, List, true, false, IfOk, IfErr, OnOk};
+ghost use Rattle.std.specs.Prelude.{◌≡◌, ℕ, List, true, false, [], IfOk, IfErr};
 ghost use Rattle.std.specs.Io.KnownBytes.{Appends};
 ghost use Rattle.commands.specs.declared.refusal.Refusal.TheVariants.{NoMemory};
-ghost use Rattle.commands.specs.Verdicts.{IsVerdict};
+ghost use Rattle.commands.specs.Verdicts.{IsVerdict, TellsOf};
 
 use crate::Refusal;
 use packet::bounds::Bounds;

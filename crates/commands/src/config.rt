@@ -5,6 +5,7 @@ ghost use Rattle.commands.specs.declared.refusal.Refusal.TheVariants.{Config, No
 ghost use Rattle.commands.specs.Spelling.{SpellsAddress, SpellsNumber, SpellsPrefix, SpellsPrefixes};
 
 use crate::{Refusal, Stop};
+use itoa::Buffer;
 use packet::bounds::Bounds;
 use packet::endpoint::Prefix;
 use std::alloc::{AllocError, Global};
@@ -28,10 +29,14 @@ pub fn number(text: &str) -> Option<u8>
     ensures some { IfSome result (SpellsNumber text.now) }
     ensures none { IfNone result ((n : ℕ) → ¬ SpellsNumber text.now n) }
 {
-    match text.as_bytes() {
-        [b'0'] => Some(0),
-        [b'1'..=b'9', ..] => text.parse().ok(),
-        _ => None,
+    let Ok(number) = text.parse::<u8>() else {
+        return None;
+    };
+    let mut digits = Buffer::new();
+    if digits.format(number) == text {
+        Some(number)
+    } else {
+        None
     }
 }
 
@@ -41,8 +46,10 @@ pub fn address(text: &str) -> Option<u32>
     ensures some { IfSome result (SpellsAddress text.now) }
     ensures none { IfNone result ((addr : ℕ) → ¬ SpellsAddress text.now addr) }
 {
-    let address: Ipv4Addr = text.parse().ok()?;
-    Some(address.to_bits())
+    match text.parse::<Ipv4Addr>() {
+        Ok(address) => Some(address.to_bits()),
+        Err(_) => None,
+    }
 }
 
 /// A prefix: an address, `/` and a number. That the number is at most 32 and the host bits are clear is for `bounds`
@@ -81,9 +88,12 @@ pub fn prefixes(alloc: Global, list: &str) -> Result<Vec<Prefix>, Stop>
     ensures causes { IfErr result (λ stop. (stop.refusal ≡ Config) ⊎ (stop.refusal ≡ NoMemory)) }
 {
     let mut found = Vec::new(alloc);
-    for text in list.split(',') {
-        found.push(prefix_of(alloc, text)?)?;
+    let mut rest = list;
+    while let Some((front, back)) = rest.split_once(',') {
+        found.push(prefix_of(alloc, front)?)?;
+        rest = back;
     }
+    found.push(prefix_of(alloc, rest)?)?;
     Ok(found)
 }
 
@@ -107,6 +117,7 @@ fn external_of(alloc: Global, text: &str) -> Result<u32, Stop>
 ///
 /// `Config` where an option can't be read, or all of them together are no configuration (`Bounds::new`); `NoMemory`
 /// where memory is refused.
+#[tactic(auto, unfolding(packet::specs::Config::config_of))]
 pub fn bounds(alloc: Global, sides: &Sides<'_>) -> Result<Bounds, Stop>
     ensures names { IfOk result (λ bounds. (bounds.lan ≡ sides.now.lan.now) × (bounds.wan ≡ sides.now.wan.now)) }
     ensures inside { IfOk result (λ bounds. SpellsPrefixes sides.now.inside.now bounds.inside) }

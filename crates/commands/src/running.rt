@@ -4,6 +4,8 @@ use crate::files::read_file;
 use crate::opening::{Opening, open};
 use crate::sockets::{bind, loop_back, serve_clients};
 use crate::{Refusal, Stop, check, replay, show};
+use disk_model::Disk;
+use gateway::Gateway;
 use packet::bounds::Bounds;
 use rulesyntax::GREATEST_LENGTH;
 use std::alloc::Global;
@@ -76,26 +78,19 @@ pub struct Options<'a> {
 ///
 /// `NoMemory` may come at any place.
 pub fn run(rt: &HostRuntime, options: &Options<'_>) -> Result<ExitCode, Stop> {
-    let alloc = rt.alloc();
     let sides = &options.sides;
-    let bounds = bounds(alloc, sides)?;
+    let bounds = bounds(rt.alloc(), sides)?;
     match options.task {
-        Task::Check { path, explains } => return run_check(rt, &bounds, path, explains),
-        Task::Replay { opening } => {
-            let mut gateway = open(rt, sides, bounds, opening)?;
-            replay(alloc, &mut rt.stdin(), &mut rt.stdout(), &mut gateway)?;
-        }
+        Task::Check { path, explains } => run_check(rt, &bounds, path, explains),
+        Task::Replay { opening } => run_replay(rt, sides, bounds, opening),
         Task::Serve {
             opening,
             socket,
             connections,
-        } => run_serve(rt, sides, bounds, opening, socket, connections)?,
-        Task::Loop { opening, path } => run_loop(rt, sides, bounds, opening, path)?,
-        Task::Show { opening } => {
-            show(alloc, &open(rt, sides, bounds, opening)?, &mut rt.stdout())?;
-        }
+        } => run_serve(rt, sides, bounds, opening, socket, connections),
+        Task::Loop { opening, path } => run_loop(rt, sides, bounds, opening, path),
+        Task::Show { opening } => run_show(rt, sides, bounds, opening),
     }
-    Ok(ExitCode::SUCCESS)
 }
 
 fn run_check(
@@ -121,6 +116,28 @@ fn run_check(
     }
 }
 
+fn run_replay(
+    rt: &HostRuntime,
+    sides: &Sides<'_>,
+    bounds: Bounds,
+    opening: Opening<'_>,
+) -> Result<ExitCode, Stop> {
+    let mut gateway = open(rt, sides, bounds, opening)?;
+    replay(rt.alloc(), &mut rt.stdin(), &mut rt.stdout(), &mut gateway)?;
+    Ok(ExitCode::SUCCESS)
+}
+
+fn run_show(
+    rt: &HostRuntime,
+    sides: &Sides<'_>,
+    bounds: Bounds,
+    opening: Opening<'_>,
+) -> Result<ExitCode, Stop> {
+    let gateway = open(rt, sides, bounds, opening)?;
+    show(rt.alloc(), &gateway, &mut rt.stdout())?;
+    Ok(ExitCode::SUCCESS)
+}
+
 fn run_serve(
     rt: &HostRuntime,
     sides: &Sides<'_>,
@@ -128,9 +145,20 @@ fn run_serve(
     opening: Opening<'_>,
     socket: &str,
     connections: u64,
+) -> Result<ExitCode, Stop> {
+    let mut gateway = open(rt, sides, bounds, opening)?;
+    serve_at(rt, socket, connections, &mut gateway)?;
+    Ok(ExitCode::SUCCESS)
+}
+
+// Serves so many connections of a socket, which is there for as long.
+fn serve_at<D: Disk + Drop>(
+    rt: &HostRuntime,
+    socket: &str,
+    connections: u64,
+    gateway: &mut Gateway<D>,
 ) -> Result<(), Stop> {
     let alloc = rt.alloc();
-    let mut gateway = open(rt, sides, bounds, opening)?;
     let listener = bind(rt, alloc, socket)?;
     let served = serve_clients(
         alloc,
@@ -138,7 +166,7 @@ fn run_serve(
         socket,
         connections,
         &mut rt.stderr(),
-        &mut gateway,
+        gateway,
     );
     let removed = remove(rt, alloc, socket);
     served?;
@@ -151,11 +179,21 @@ fn run_loop(
     bounds: Bounds,
     opening: Opening<'_>,
     path: &str,
+) -> Result<ExitCode, Stop> {
+    let requests = read_requests(rt, rt.alloc(), path)?;
+    let mut gateway = open(rt, sides, bounds, opening)?;
+    loop_in(rt, opening.directory, requests.as_slice(), &mut gateway)?;
+    Ok(ExitCode::SUCCESS)
+}
+
+// Sends requests through a socket in a directory, which is there for as long.
+fn loop_in<D: Disk + Drop>(
+    rt: &HostRuntime,
+    directory: &str,
+    requests: &[u8],
+    gateway: &mut Gateway<D>,
 ) -> Result<(), Stop> {
     let alloc = rt.alloc();
-    let requests = read_requests(rt, alloc, path)?;
-    let mut gateway = open(rt, sides, bounds, opening)?;
-    let directory = opening.directory;
     let socket = format!(in alloc; "{directory}/natgw.sock")?;
     let listener = bind(rt, alloc, socket.as_str())?;
     let looped = loop_back(
@@ -163,10 +201,10 @@ fn run_loop(
         alloc,
         &listener,
         socket.as_str(),
-        requests.as_slice(),
+        requests,
         &mut rt.stdout(),
         &mut rt.stderr(),
-        &mut gateway,
+        gateway,
     );
     let removed = remove(rt, alloc, socket.as_str());
     looped?;

@@ -130,6 +130,16 @@ pub(crate) fn tell_word<W: Write>(writer: &mut W, refusal: Refusal) -> io::Resul
     writer.write_all(b"\n")
 }
 
+// Writes both lines, of which the second one is this.
+fn tell_lines<W: Write>(writer: &mut W, refusal: Refusal, advice: &str) -> io::Result<()>
+    ensures { OnOk result (Appends (W.contents writer.old) (W.contents writer.new)
+        (first_line refusal ++ advice.now ++ codes "\n")) }
+{
+    tell_word(writer, refusal)?;
+    writer.write_all(advice.as_bytes())?;
+    writer.write_all(b"\n")
+}
+
 /// Writes both lines.
 ///
 /// # Errors
@@ -139,7 +149,5 @@ pub fn tell<W: Write>(writer: &mut W, stop: &Stop) -> io::Result<()>
     ensures { OnOk result ((advice : List ℕ) × Appends (W.contents writer.old) (W.contents writer.new)
         (first_line stop.now.refusal ++ advice ++ codes "\n")) }
 {
-    tell_word(writer, stop.refusal)?;
-    writer.write_all(stop.second_line().as_bytes())?;
-    writer.write_all(b"\n")
+    tell_lines(writer, stop.refusal, stop.second_line())
 }
