@@ -1,7 +1,6 @@
 //! Streams of requests, and what the end of one means.
 ghost use Rattle.std.specs.Prelude.{◌≡◌, IsOk, IfErr, OnOk};
 ghost use Rattle.std.specs.Io.KnownBytes.{Appends};
-ghost use Rattle.socket_edge.specs.declared.fault.EdgeFault.{EdgeFault};
 ghost use Rattle.commands.specs.declared.refusal.Refusal.TheVariants.{Output};
 ghost use Rattle.commands.specs.Words.{IsOfGateway, edge_refusal, first_line};
 

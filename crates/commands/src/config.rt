@@ -1,6 +1,5 @@
 //! Addresses and prefixes as they are spelled, and the configuration made of them.
-ghost use Rattle.std.specs.Prelude.{◌≡◌, ◌⊎◌, IfOk, IfErr, IfSome, OnErr, IfNone, ℕ};
-ghost use Rattle.packet.specs.declared.endpoint.Prefix.{Prefix};
+ghost use Rattle.std.specs.Prelude.{◌≡◌, ◌⊎◌, IfOk, IfErr, IfSome, IfNone, ℕ};
 ghost use Rattle.commands.specs.declared.refusal.Refusal.TheVariants.{Config, NoMemory};
 ghost use Rattle.commands.specs.Spelling.{SpellsAddress, SpellsNumber, SpellsPrefix, SpellsPrefixes};
 

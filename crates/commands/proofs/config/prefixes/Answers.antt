@@ -1,6 +1,5 @@
-use Rattle.std.proofs.Common.{rules, arith, ◌≡◌, ◌∷◌, ◌++◌, List, subst, Some}
+use Rattle.std.proofs.Common.{rules, arith, ◌∷◌, subst, Some}
 use Rattle.std.proofs.lemmas.Str.Pattern.{split_parts}
-use Rattle.packet.specs.declared.endpoint.Prefix.{Prefix}
 use Rattle.commands.specs.Spelling.{SpellsPrefixes}
 use Rattle.commands.proofs.Round.{back-shorter, found-behind}
 use Rattle.commands.proofs.config.prefixes.Goals as goal

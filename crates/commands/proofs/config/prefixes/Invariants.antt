@@ -1,5 +1,5 @@
 -- What is found so far, and prefixes that the rest spells, are what the list spells.
-use Rattle.std.proofs.Common.{◌≡◌, List, ◌∷◌, ◌++◌, length}
+use Rattle.std.proofs.Common.{List, ◌∷◌, ◌++◌, length}
 use denote.Shadow.{shadow}
 use denote.Text.{Utf8}
 use Rattle.packet.specs.declared.endpoint.Prefix.{Prefix}
