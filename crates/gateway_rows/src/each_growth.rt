@@ -5,7 +5,7 @@
 //! failed, and the gateway is opened again.
 use crate::script::{compact, flush, offer, run};
 use crate::shared::{
-    Answer, Bytes, Event, GatewayFault, Given, Iface, OpenFault, Trials, What, open,
+    Answer, Bytes, Event, GatewayFault, Given, Iface, OpenFault, Trials, What, disk_of, open,
 };
 use packet::bounds::Bounds;
 use packet::endpoint::Prefix;
@@ -255,7 +255,7 @@ fn scenario(alloc: Global, begun: Begun) -> Result<(), Stop> {
     let mut all = begun.bounds;
     let mut gateway = open_twice(alloc, begun.disk, &mut all)?;
     match calls(&mut gateway, begun.offered, begun.run) {
-        Ok(()) | Err(Stop::Fallen) => is_left(alloc, gateway.into_disk(), &mut all),
+        Ok(()) | Err(Stop::Fallen) => is_left(alloc, disk_of(gateway), &mut all),
         Err(Stop::Wrong) => Err(Stop::Wrong),
     }
 }

@@ -3,7 +3,7 @@
 //! answered from there on.
 use crate::script::{compact, flush, offer, play, run};
 use crate::shared::{
-    Answer, Event, GatewayFault, Given, OpenFault, Session, Trials, Trouble, bounds,
+    Answer, Event, GatewayFault, Given, OpenFault, Session, Trials, Trouble, bounds, disk_of,
     expect_trouble, open, opened,
 };
 use crate::words::{answer_line, event, lasting_line, moved};
@@ -90,17 +90,38 @@ fn step(alloc: Global, core: &mut Core, event: Event) -> Result<String, Fail> {
     }
 }
 
-fn run_of_machine(alloc: Global) -> Result<Model, Fail> {
-    let mut core = Core::start(alloc, bounds(alloc, "wan")?, 1000)?;
-    let mut answers = Vec::new(alloc);
-    let mut states = vec![in alloc; state_of(alloc, &core)?]?;
+// Takes one event more.
+fn go_on(alloc: Global, core: &mut Core, model: &mut Model, line: &str) -> Result<(), Fail> {
+    let answer = step(alloc, core, event(alloc, line)?)?;
+    model.answers.push(answer)?;
+    model.states.push(state_of(alloc, core)?)?;
+    Ok(())
+}
+
+fn go_through(alloc: Global, core: &mut Core, model: &mut Model) -> Result<(), Fail> {
+    model.states.push(state_of(alloc, core)?)?;
     for line in &SCRIPT {
         if is_event(line) {
-            answers.push(step(alloc, &mut core, event(alloc, line)?)?)?;
-            states.push(state_of(alloc, &core)?)?;
+            go_on(alloc, core, model, line)?;
         }
     }
-    Ok(Model { answers, states })
+    Ok(())
+}
+
+// A machine without a disk, behind a box, so that a function which lets it go does so by one call.
+fn machine(alloc: Global, moment: u64) -> Result<Box<Core>, Fail> {
+    let core = Core::start(alloc, bounds(alloc, "wan")?, moment)?;
+    Ok(Box::new(alloc, core)?)
+}
+
+fn run_of_machine(alloc: Global) -> Result<Model, Fail> {
+    let mut core = machine(alloc, 1000)?;
+    let mut model = Model {
+        answers: Vec::new(alloc),
+        states: Vec::new(alloc),
+    };
+    go_through(alloc, &mut core, &mut model)?;
+    Ok(model)
 }
 
 // All events of the script, and those behind it.
@@ -117,7 +138,7 @@ fn all_events(alloc: Global) -> Result<Vec<Event>, Fail> {
 // What the machine answers behind so many events, if it was stopped there and begun again at 2000. None of them ends a
 // session, so that at 2000 they lead to the same state.
 fn answers_behind(alloc: Global, taken: usize) -> Result<Vec<String>, Fail> {
-    let mut core = Core::start(alloc, bounds(alloc, "wan")?, 2000)?;
+    let mut core = machine(alloc, 2000)?;
     let mut answers = Vec::new(alloc);
     for (number, event) in all_events(alloc)?.into_iter().enumerate() {
         if number < taken {
@@ -273,7 +294,7 @@ fn driven(alloc: Global, model: &Model, at: Trouble) -> Result<(Trial, Told), Fa
     match open(alloc, disk, bounds(alloc, "wan")?, 1000) {
         Ok(mut gateway) => {
             let told = drive(alloc, &mut gateway, model)?;
-            Ok((gateway.into_disk(), told))
+            Ok((disk_of(gateway), told))
         }
         Err((disk, fault)) => Ok((disk, not_opened(fault)?)),
     }

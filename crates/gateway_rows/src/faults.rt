@@ -1,7 +1,7 @@
 //! What is refused where a file is full or has the greatest generation, and what stays. (That no number is left can't be
 //! shown: 2^64 - 1 events would have to come first.)
 use crate::script::{expect, handed, play, run};
-use crate::shared::{FRESH_FRONT, Trials, opened, reopened};
+use crate::shared::{FRESH_FRONT, Trials, disk_of, opened, reopened};
 use crate::words::{events, hex};
 use disk_model::FileId;
 use std::alloc::{AllocError, Global};
@@ -46,7 +46,7 @@ fn generations(rt: HostRuntime) -> Result<(), Fail> {
     let file = hex(alloc, LAST_GENERATION)?;
     let mut gateway = opened(alloc, Trial::of(alloc, file.as_slice(), b"")?, 1000)?;
     play(alloc, &mut gateway, NO_GENERATION)?;
-    let mut disk = gateway.into_disk();
+    let mut disk = disk_of(gateway);
     assert!(rt; disk.bytes(alloc, FileId::B)?.is_empty());
     let mut gateway = opened(alloc, disk, 2000)?;
     play(alloc, &mut gateway, STAYS)

@@ -1,8 +1,8 @@
 //! Groups that grow, compaction, and runs of many events.
 use crate::script::{expect, handed, name, play, run};
 use crate::shared::{
-    Event, FRESH_FRONT, MASQUERADE, TWO_FLUSHED, TWO_HELD, Trials, Trouble, fresh, lost_power,
-    opened, reopened, troubled,
+    Event, FRESH_FRONT, MASQUERADE, TWO_FLUSHED, TWO_HELD, Trials, Trouble, disk_of, fresh,
+    lost_power, opened, reopened, troubled,
 };
 use crate::words::{event, events, hex};
 use disk_model::FileId;
@@ -66,7 +66,7 @@ fn compacted(rt: HostRuntime) -> Result<(), Fail> {
     let alloc = rt.alloc();
     let mut gateway = answered(alloc)?;
     play(alloc, &mut gateway, COMPACTED)?;
-    let mut disk = gateway.into_disk();
+    let mut disk = disk_of(gateway);
     let second = snapshot(alloc, "0000000000000002")?;
     assert_eq!(rt; second.len(), 162);
     assert_eq!(rt; disk.bytes(alloc, FileId::B)?.as_slice(), second.as_slice());
@@ -84,7 +84,7 @@ fn compacted(rt: HostRuntime) -> Result<(), Fail> {
 fn found_again(rt: &impl Abort, alloc: Global, disk: Trial, second: &[u8]) -> Result<(), Fail> {
     let mut gateway = opened(alloc, disk, 1400)?;
     play(alloc, &mut gateway, FOUND_AGAIN)?;
-    let mut disk = gateway.into_disk();
+    let mut disk = disk_of(gateway);
     let third = snapshot(alloc, "0000000000000003")?;
     assert_eq!(rt; disk.bytes(alloc, FileId::B)?.as_slice(), second);
     assert!(rt;
@@ -191,11 +191,11 @@ at 1001
 #[test]
 fn run_flushes_at_64(rt: HostRuntime) -> Result<(), Fail> {
     let alloc = rt.alloc();
-    let calls = fresh(alloc)?.into_disk().calls();
+    let calls = disk_of(fresh(alloc)?).calls();
     let mut gateway = fresh(alloc)?;
     assert_eq!(rt; run_loads(alloc, &mut gateway, 65, 65)?, "done");
     play(alloc, &mut gateway, RAN)?;
-    assert_eq!(rt; gateway.into_disk().calls(), calls.saturating_add(8));
+    assert_eq!(rt; disk_of(gateway).calls(), calls.saturating_add(8));
     Ok(())
 }
 

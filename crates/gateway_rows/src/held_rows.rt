@@ -1,7 +1,8 @@
 //! Which answers are held, what a flush writes and hands out, and how many are held at the most.
 use crate::script::play;
 use crate::shared::{
-    FRESH_FRONT, MASQUERADE, THIRD_HELD, THREE_FLUSHED, TWO_FLUSHED, TWO_HELD, Trials, fresh,
+    FRESH_FRONT, MASQUERADE, THIRD_HELD, THREE_FLUSHED, TWO_FLUSHED, TWO_HELD, Trials, disk_of,
+    fresh,
 };
 use crate::words::hex;
 use disk_model::FileId;
@@ -24,7 +25,7 @@ fn one_group(alloc: Global) -> Result<Vec<u8>, Fail> {
 
 // How many calls of the disk there were, and what is in the files.
 fn look(rt: &impl Abort, alloc: Global, gateway: Trials, a: &[u8]) -> Result<u64, Fail> {
-    let mut disk = gateway.into_disk();
+    let mut disk = disk_of(gateway);
     assert_eq!(rt; disk.bytes(alloc, FileId::A)?.as_slice(), a);
     assert!(rt; disk.bytes(alloc, FileId::B)?.is_empty());
     assert!(rt; !disk.has_strayed());

@@ -1,8 +1,8 @@
 //! What an opening finds, makes and refuses.
 use crate::script::play;
 use crate::shared::{
-    FRESH, NOTHING, OpenFault, TWO_FLUSHED, TWO_HELD, Trials, Trouble, bounds, expect_trouble,
-    fresh, open, opened,
+    FRESH, NOTHING, OpenFault, TWO_FLUSHED, TWO_HELD, Trials, Trouble, bounds, disk_of,
+    expect_trouble, fresh, open, opened,
 };
 use crate::words::hex;
 use disk_model::{Disk, FileId};
@@ -35,7 +35,7 @@ fn begins(rt: &impl Abort, alloc: Global, a: &[u8], b: &[u8]) -> Result<(), Fail
     let mut gateway = opened(alloc, Trial::of(alloc, a, b)?, 1000)?;
     play(alloc, &mut gateway, NOTHING_YET)?;
     let made = hex(alloc, FRESH)?;
-    look(rt, alloc, &mut gateway.into_disk(), made.as_slice(), b)
+    look(rt, alloc, &mut disk_of(gateway), made.as_slice(), b)
 }
 
 // A gate that is neither 00 nor 01 is closed too.
@@ -64,7 +64,7 @@ fn grown_file(alloc: Global) -> Result<Vec<u8>, Fail> {
     let mut gateway = fresh(alloc)?;
     play(alloc, &mut gateway, TWO_HELD)?;
     play(alloc, &mut gateway, TWO_FLUSHED)?;
-    Ok(gateway.into_disk().bytes(alloc, FileId::A)?)
+    Ok(disk_of(gateway).bytes(alloc, FileId::A)?)
 }
 
 const ANSWERED: &str = "\
@@ -97,7 +97,7 @@ grown
 fn finds(rt: &impl Abort, alloc: Global, a: &[u8], b: &[u8], state: &str) -> Result<(), Fail> {
     let mut gateway = opened(alloc, Trial::of(alloc, a, b)?, 1250)?;
     play(alloc, &mut gateway, state)?;
-    look(rt, alloc, &mut gateway.into_disk(), a, b)
+    look(rt, alloc, &mut disk_of(gateway), a, b)
 }
 
 #[test]
@@ -180,7 +180,7 @@ fn with_trouble(
     let mut disk = Trial::of(alloc, file, b"")?;
     expect_trouble(&mut disk, at, 0);
     match open(alloc, disk, bounds(alloc, "wan")?, 1000) {
-        Ok(gateway) => Ok((false, gateway.into_disk())),
+        Ok(gateway) => Ok((false, disk_of(gateway))),
         Err((disk, fault)) => {
             assert_eq!(rt; fault, OpenFault::Device, "{at:?}");
             assert!(rt; disk.failures() > 0, "{at:?}");

@@ -8,8 +8,8 @@ use std::alloc::Global;
 use std::test::Fail;
 use trial_disk::Trial;
 
-/// A gateway over a disk for trials.
-pub type Trials = Gateway<Trial>;
+/// A gateway over a disk for trials. It lies behind a box, so that a function which lets it go does so by one call.
+pub type Trials = Box<Gateway<Trial>>;
 
 /// Every packet to wan leaves from the external address.
 pub const MASQUERADE: &str =
@@ -73,7 +73,16 @@ pub fn open(
     bounds: Bounds,
     moment: u64,
 ) -> Result<Trials, (Trial, OpenFault)> {
-    Gateway::open(alloc, disk, bounds, moment)
+    let gateway = Gateway::open(alloc, disk, bounds, moment)?;
+    match Box::new(alloc, gateway) {
+        Ok(gateway) => Ok(gateway),
+        Err(refused) => Err((refused.value.into_disk(), OpenFault::NoMemory)),
+    }
+}
+
+/// The disk of a gateway that works no longer.
+pub fn disk_of(gateway: Trials) -> Trial {
+    Box::into_inner(gateway).into_disk()
 }
 
 /// Opens a gateway over the disk, where nothing is to fail.
@@ -91,7 +100,7 @@ pub fn fresh(alloc: Global) -> Result<Trials, Fail> {
 
 /// Opens it again over its files.
 pub fn reopened(alloc: Global, gateway: Trials, moment: u64) -> Result<Trials, Fail> {
-    opened(alloc, gateway.into_disk(), moment)
+    opened(alloc, disk_of(gateway), moment)
 }
 
 /// A call of the disk, counted from 0, at which something happens.
@@ -113,9 +122,9 @@ pub fn expect_trouble(disk: &mut Trial, at: Trouble, later: u64) {
 
 /// Opens it again, with trouble at a call of the disk once it is open.
 pub fn troubled(alloc: Global, gateway: Trials, at: Trouble) -> Result<Trials, Fail> {
-    let disk = gateway.into_disk();
+    let disk = disk_of(gateway);
     let before = disk.calls();
-    let mut disk = opened(alloc, disk, 1000)?.into_disk();
+    let mut disk = disk_of(opened(alloc, disk, 1000)?);
     let opening = disk.calls().saturating_sub(before);
     expect_trouble(&mut disk, at, opening);
     opened(alloc, disk, 1000)
@@ -128,7 +137,7 @@ pub fn lost_power(
     choice: u64,
     moment: u64,
 ) -> Result<Trials, Fail> {
-    let mut disk = gateway.into_disk();
+    let mut disk = disk_of(gateway);
     disk.crash(choice)?;
     opened(alloc, disk, moment)
 }
