@@ -18,8 +18,6 @@ mod finding;
 mod front;
 mod probe;
 mod reading;
-#[cfg(test)]
-mod tests;
 mod words;
 
 pub use device::{DeviceFault, diagnose};

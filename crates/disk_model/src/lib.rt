@@ -20,8 +20,6 @@ mod record;
 mod replay;
 mod sim;
 mod store;
-#[cfg(test)]
-mod tests;
 
 pub use disk::{Disk, DiskFault, FileId};
 pub use sim::SimDisk;

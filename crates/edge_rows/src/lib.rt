@@ -3,6 +3,7 @@
 //!
 //! - `shared`: streams that several tests begin with, and gateways over a disk in memory;
 //! - `pieces`: readers and writers that give and take a few bytes at a time, and fail;
+//! - `sending`: frames that are written in one piece or in parts;
 //! - `streams`: streams of a few frames;
 //! - `each_call`: each read, write and call of the disk failing in turn;
 //! - `turns`: what was asked is answered before more is read, and a file that has grown is made anew.
@@ -12,6 +13,8 @@
 mod each_call;
 #[cfg(test)]
 mod pieces;
+#[cfg(test)]
+mod sending;
 #[cfg(test)]
 mod shared;
 #[cfg(test)]

@@ -14,8 +14,6 @@ mod disk;
 mod file;
 mod opening;
 mod pair;
-#[cfg(test)]
-mod tests;
 
 pub use disk::FileDisk;
 pub use file::DiskFile;

@@ -1,5 +1,4 @@
 pub mod Apart
-pub mod Beginning
 pub mod Clashing
 pub mod Doubling
 pub mod Following

@@ -23,8 +23,6 @@ mod held;
 mod inward;
 mod outward;
 mod plan;
-#[cfg(test)]
-mod tests;
 pub mod translations;
 
 pub use cause::Cause;

@@ -15,8 +15,6 @@ mod appending;
 mod fault;
 mod group;
 mod reading;
-#[cfg(test)]
-mod tests;
 
 pub use appending::{LIMIT, append};
 pub use fault::JournalFault;

@@ -17,6 +17,4 @@
 mod lanes;
 pub mod laws;
 pub mod ports;
-#[cfg(test)]
-mod tests;
 mod words;

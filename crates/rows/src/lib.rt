@@ -21,8 +21,6 @@ ghost use Rattle.rows.specs.Walk.{rest};
 mod cell;
 mod runs;
 mod search;
-#[cfg(test)]
-mod tests;
 mod walk;
 
 use crate::cell::Cell;

@@ -12,8 +12,6 @@
 mod column;
 mod laws;
 mod line;
-#[cfg(test)]
-mod tests;
 
 pub use column::{put_column, put_endpoint};
 pub use laws::columns_are_aligned;

@@ -15,8 +15,6 @@ mod laws;
 mod life;
 mod session;
 mod table;
-#[cfg(test)]
-mod tests;
 
 pub use laws::{
     clashes_tells_clash, listing_is_the_set, mappings_are_one_to_one, moments_do_not_count,

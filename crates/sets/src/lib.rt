@@ -19,8 +19,6 @@ pub mod laws;
 mod parts;
 mod search;
 pub mod set;
-#[cfg(test)]
-mod tests;
 pub mod vmap;
 
 pub use element::{Element, Pair, Range, Value};

@@ -19,9 +19,7 @@ mod edge;
 mod fault;
 pub mod laws;
 mod request;
-mod sending;
-#[cfg(test)]
-mod sending_tests;
+pub mod sending;
 mod serving;
 
 pub use edge::run;

@@ -77,8 +77,13 @@ fn write_frame<W: Write>(writer: &mut W, number: u64, answer: &Answer) -> Result
     write_body(writer, answer)
 }
 
-/// Writes the frames one by one, without memory.
-pub(crate) fn send<W: Write>(writer: &mut W, answers: &[(u64, Answer)]) -> Result<(), EdgeFault>
+/// Writes the frames of the answers one by one, in order, and takes no memory.
+///
+/// # Errors
+///
+/// `Output` where a write fails or takes no byte. A beginning of the frames is written then, also a
+/// part of a frame.
+pub fn send<W: Write>(writer: &mut W, answers: &[(u64, Answer)]) -> Result<(), EdgeFault>
     ensures ok { OnOk result (Appends (W.contents writer.old) (W.contents writer.new) (frames answers.now)) }
     ensures err { IfErr result (λ e. (e ≡ EdgeFault.Output) × AppendsFront (W.contents writer.old) (W.contents writer.new) (frames answers.now)) }
 {

@@ -18,8 +18,6 @@ mod piece;
 mod report;
 mod search;
 mod sentence;
-#[cfg(test)]
-mod tests;
 mod wanted;
 
 pub use laws::{marks_are_short, the_line_holds_the_place};

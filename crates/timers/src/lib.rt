@@ -21,8 +21,6 @@ mod cell;
 mod due;
 mod laws;
 mod links;
-#[cfg(test)]
-mod tests;
 mod walk;
 
 pub use due::{Due, Idle};

@@ -7,8 +7,6 @@
 //! - `turns`: which of its calls fail.
 #![tactic(auto)]
 
-#[cfg(test)]
-mod tests;
 mod turns;
 mod wrapped;
 

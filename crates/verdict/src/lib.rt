@@ -25,8 +25,6 @@ mod matching;
 mod row;
 pub mod rules;
 mod stack;
-#[cfg(test)]
-mod tests;
 mod value;
 mod walk;
 

@@ -1,0 +1,143 @@
+//! Writers that take little at a time, or fail: what they get, and how often they are called.
+use gateway::{Answer, Bytes, Iface};
+use socket_edge::EdgeFault;
+use socket_edge::sending::{send, send_all};
+use std::alloc::{AllocError, Global};
+use std::io::{self, Write};
+use std::test::Fail;
+
+/// The frames of `answers`.
+const FRAMES: [u8; 86] = [
+    1, 0, 0, 0, 0, 0, 0, 0, 9, 0, 0, 0, 4, 1, 0x45, 0, 0x1c, 2, 0, 0, 0, 0, 0, 0, 0, 0x0a, 0, 0, 0,
+    1, 20, 3, 0, 0, 0, 0, 0, 0, 0, 0x0b, 0, 0, 0, 0, 1, 0, 0, 0, 0, 0, 0, 0, 0x0c, 0, 0, 0, 3, 0,
+    0x45, 0x10, 4, 1, 2, 3, 4, 5, 6, 7, 8, 0, 0, 0, 0, 5, 0xff, 0xff, 0xff, 0xff, 0xff, 0xff, 0xff,
+    0xff, 0, 0, 0, 0,
+];
+
+/// An answer of each kind, with packets of 3 bytes to wan and of 2 to lan.
+fn answers(alloc: Global) -> Result<Vec<(u64, Answer)>, AllocError> {
+    let to_wan = Bytes::of(Vec::from_slice(alloc, &[0x45, 0, 0x1c])?);
+    let to_lan = Bytes::of(Vec::from_slice(alloc, &[0x45, 0x10])?);
+    let mut answers = Vec::new(alloc);
+    answers.push((9, Answer::Forward(Iface::Wan, to_wan)))?;
+    answers.push((10, Answer::Dropped(20)))?;
+    answers.push((11, Answer::Loaded))?;
+    answers.push((12, Answer::Forward(Iface::Lan, to_lan)))?;
+    answers.push((0x0102_0304_0506_0708, Answer::Refused))?;
+    answers.push((u64::MAX, Answer::Ticked))?;
+    Ok(answers)
+}
+
+/// How a call ends that is to take nothing.
+#[derive(Clone, Copy, Drop)]
+enum End {
+    Fails,
+    TakesNone,
+}
+
+/// Takes up to `most` bytes a call, and none from the call `last` on.
+#[derive(Drop)]
+struct Taker {
+    got: Vec<u8>,
+    calls: usize,
+    most: usize,
+    last: usize,
+    end: End,
+}
+
+impl Write for Taker {
+    fn write(&mut self, buf: &[u8]) -> io::Result<usize> {
+        self.calls = self.calls.saturating_add(1);
+        if self.calls < self.last {
+            let n = buf.len().min(self.most);
+            self.got.extend_from_slice(&buf[..n])?;
+            return Ok(n);
+        }
+        match self.end {
+            End::Fails => Err(io::Error::from(io::ErrorKind::BrokenPipe)),
+            End::TakesNone => Ok(0),
+        }
+    }
+
+    fn flush(&mut self) -> io::Result<()> {
+        Ok(())
+    }
+}
+
+/// It has room for all frames, so that it needs no more memory.
+fn taking(alloc: Global, most: usize, last: usize, end: End) -> Result<Taker, AllocError> {
+    Ok(Taker {
+        got: Vec::with_capacity(alloc, FRAMES.len())?,
+        calls: 0,
+        most,
+        last,
+        end,
+    })
+}
+
+#[test]
+fn one_call_is_enough(rt: HostRuntime) -> Result<(), Fail> {
+    let mut writer = taking(rt.alloc(), usize::MAX, usize::MAX, End::Fails)?;
+    let sent = send_all(rt.alloc(), &mut writer, answers(rt.alloc())?.as_slice());
+    assert!(rt; sent == Ok(()));
+    assert!(rt; writer.got.as_slice() == &FRAMES[..]);
+    assert_eq!(rt; writer.calls, 1);
+    Ok(())
+}
+
+#[test]
+fn no_answer_is_no_call(rt: HostRuntime) -> Result<(), Fail> {
+    let mut writer = taking(rt.alloc(), usize::MAX, 0, End::Fails)?;
+    assert!(rt; send_all(rt.alloc(), &mut writer, &[]) == Ok(()));
+    assert_eq!(rt; writer.calls, 0);
+    Ok(())
+}
+
+#[test]
+fn writes_in_any_pieces(rt: HostRuntime) -> Result<(), Fail> {
+    let answers = answers(rt.alloc())?;
+    for most in [1, 2, 13, 16, usize::MAX] {
+        let mut whole = taking(rt.alloc(), most, usize::MAX, End::Fails)?;
+        assert!(rt; send_all(rt.alloc(), &mut whole, answers.as_slice()) == Ok(()));
+        assert!(rt; whole.got.as_slice() == &FRAMES[..]);
+        let mut parts = taking(rt.alloc(), most, usize::MAX, End::Fails)?;
+        assert!(rt; send(&mut parts, answers.as_slice()) == Ok(()));
+        assert!(rt; parts.got.as_slice() == &FRAMES[..]);
+    }
+    Ok(())
+}
+
+#[test]
+fn ends_at_the_first_call_that_fails(rt: HostRuntime) -> Result<(), Fail> {
+    let answers = answers(rt.alloc())?;
+    for end in [End::Fails, End::TakesNone] {
+        for taken in 0..FRAMES.len() {
+            let mut whole = taking(rt.alloc(), 1, taken + 1, end)?;
+            let sent = send_all(rt.alloc(), &mut whole, answers.as_slice());
+            assert!(rt; sent == Err(EdgeFault::Output));
+            assert!(rt; whole.got.as_slice() == &FRAMES[..taken]);
+            let mut parts = taking(rt.alloc(), 1, taken + 1, end)?;
+            assert!(rt; send(&mut parts, answers.as_slice()) == Err(EdgeFault::Output));
+            assert!(rt; parts.got.as_slice() == &FRAMES[..taken]);
+        }
+    }
+    Ok(())
+}
+
+/// Holds under `rt try --test --fail-alloc N` for each N: where memory for one piece is refused,
+/// the same bytes come in more calls.
+#[test]
+fn refused_memory(rt: HostRuntime) -> Result<(), Fail> {
+    let Ok(answers) = answers(rt.alloc()) else {
+        return Ok(());
+    };
+    let Ok(mut writer) = taking(rt.alloc(), usize::MAX, usize::MAX, End::Fails) else {
+        return Ok(());
+    };
+    let sent = send_all(rt.alloc(), &mut writer, answers.as_slice());
+    assert!(rt; sent == Ok(()));
+    assert!(rt; writer.got.as_slice() == &FRAMES[..]);
+    // A head for each of six answers, two parts of each of two bodies, and one of one.
+    assert!(rt; writer.calls == 1 || writer.calls == 11);
+    Ok(())
+}

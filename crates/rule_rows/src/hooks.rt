@@ -1,0 +1,303 @@
+//! Texts of one's own, packets, and what they come to by the rules of reading.
+use verdict::facts::{Facts, State};
+use verdict::hook::{Destination, Forwarding, Source, forward, postrouting, prerouting};
+use verdict::rules::Rules;
+use packet::bounds::{Bounds, ConfigFault};
+use packet::endpoint::{Endpoint, Iface, Prefix, Proto};
+use rulesyntax::fault::LoadFault;
+use rulesyntax::parse;
+use ruletext::load::load;
+use std::alloc::{AllocError, AllocFailed, Global};
+use std::test::*;
+
+const HOST: u32 = 0xc0a80102;
+
+const EXTERNAL: u32 = 0xcb007101;
+
+const SERVER: u32 = 0xc6336407;
+
+/// Why a test ends early.
+#[derive(Debug, Drop)]
+enum Fail {
+    Memory,
+    Config(ConfigFault),
+    Refused(LoadFault),
+}
+
+impl From<AllocError> for Fail {
+    fn from(_: AllocError) -> Fail {
+        Fail::Memory
+    }
+}
+
+impl<T: Drop> From<AllocFailed<T>> for Fail {
+    fn from(_: AllocFailed<T>) -> Fail {
+        Fail::Memory
+    }
+}
+
+impl From<ConfigFault> for Fail {
+    fn from(fault: ConfigFault) -> Fail {
+        Fail::Config(fault)
+    }
+}
+
+impl From<LoadFault> for Fail {
+    fn from(fault: LoadFault) -> Fail {
+        Fail::Refused(fault)
+    }
+}
+
+fn bounds(alloc: Global) -> Result<Bounds, Fail> {
+    let inside = Prefix {
+        addr: 0xc0a80100,
+        len: 24,
+    };
+    let prefixes = Vec::from_slice(alloc, &[inside])?;
+    let lan = String::from_str(alloc, "lan0")?;
+    let wan = String::from_str(alloc, "wan0")?;
+    Ok(Bounds::new(lan, wan, prefixes, EXTERNAL)?)
+}
+
+fn rules(alloc: Global, text: &[u8]) -> Result<Rules, Fail> {
+    let loaded = load(alloc, parse(alloc, text)?, &bounds(alloc)?)?;
+    Ok(Rules::of(alloc, loaded)?)
+}
+
+fn at(addr: u32, port: u16) -> Endpoint {
+    Endpoint { addr, port }
+}
+
+// From the host to the server by UDP, as the first packet.
+fn outward(port: u16) -> Facts {
+    Facts {
+        iif: Iface::Lan,
+        oif: Some(Iface::Wan),
+        src: at(HOST, 5000),
+        dst: at(SERVER, port),
+        proto: Proto::Udp,
+        state: State::New,
+    }
+}
+
+// From the server to the external address, not routed yet.
+fn inward(port: u16) -> Facts {
+    Facts {
+        iif: Iface::Wan,
+        oif: None,
+        src: at(SERVER, 53),
+        dst: at(EXTERNAL, port),
+        proto: Proto::Udp,
+        state: State::New,
+    }
+}
+
+fn filtered(alloc: Global, chains: &str, facts: &Facts) -> Result<Forwarding, Fail> {
+    let text = format!(in alloc; "table ip f {{ {chains} }}")?;
+    let rules = rules(alloc, text.as_bytes())?;
+    Ok(forward(&rules, &bounds(alloc)?, facts))
+}
+
+const ROWS: [(&str, u16, Forwarding); 8] = [
+    (
+        "chain sub { return; } chain fw { type filter hook forward priority 0; jump sub; drop; }",
+        53,
+        Forwarding::Drop,
+    ),
+    (
+        "chain sub { return; } chain fw { type filter hook forward priority 0; goto sub; drop; }",
+        53,
+        Forwarding::Pass,
+    ),
+    (
+        "chain fw { type filter hook forward priority 0; accept; } chain late { type filter hook forward priority 10; drop; }",
+        53,
+        Forwarding::Drop,
+    ),
+    (
+        "chain fw { type filter hook forward priority 0; tcp dport != 22 drop; }",
+        53,
+        Forwarding::Pass,
+    ),
+    (
+        "chain fw { type filter hook forward priority 0; udp dport vmap { 53 : accept }; drop; }",
+        53,
+        Forwarding::Pass,
+    ),
+    (
+        "chain fw { type filter hook forward priority 0; udp dport vmap { 53 : accept }; drop; }",
+        54,
+        Forwarding::Drop,
+    ),
+    (
+        "chain fw { type filter hook forward priority 0; policy drop; udp dport vmap { 53 : continue }; }",
+        53,
+        Forwarding::Drop,
+    ),
+    ("", 53, Forwarding::Pass),
+];
+
+#[test]
+fn hook_rows(rt: HostRuntime) -> Result<(), Fail> {
+    for (chains, port, expected) in &ROWS {
+        let found = filtered(rt.alloc(), chains, &outward(*port))?;
+        assert_eq!(rt; found, *expected, "{chains}");
+    }
+    Ok(())
+}
+
+const HOLD: [&str; 18] = [
+    "iifname \"lan0\" oifname wan0",
+    "iif != wan0",
+    "ip saddr 192.168.1.0/24",
+    "ip saddr 192.168.1.77/24",
+    "ip daddr 198.51.100.1-198.51.100.7",
+    "ip daddr != { 10.0.0.0/8, 198.51.100.8 }",
+    "ip protocol udp",
+    "meta l4proto { 6, 17 }",
+    "udp dport domain",
+    "udp dport { 1-52, 53 }",
+    "udp sport @high",
+    "udp dport != 54",
+    "ct state new",
+    "ct state { established, new }",
+    "ct state related, new",
+    "ct state != related",
+    "ct state != established ip saddr 192.168.1.2 udp dport 53",
+    "counter",
+];
+
+const FAIL: [&str; 14] = [
+    "iifname \"wan0\"",
+    "oifname lan0",
+    "ip saddr 192.168.1.3",
+    "ip daddr 198.51.100.8-198.51.100.9",
+    "ip protocol tcp",
+    "tcp dport 53",
+    "tcp dport != 54",
+    "udp dport 54",
+    "udp dport @high",
+    "ct state established",
+    "ct state related",
+    "ct state invalid, untracked",
+    "ct state != new",
+    "ip saddr 192.168.1.2 udp dport 54",
+];
+
+fn holds(alloc: Global, test: &str) -> Result<bool, Fail> {
+    let chains = format!(in alloc;
+        "set high {{ type inet_service; elements = {{ 4000-5000, 6000 }} }}
+        chain fw {{ type filter hook forward priority 0; {test} drop; }}"
+    )?;
+    Ok(filtered(alloc, chains.as_str(), &outward(53))? == Forwarding::Drop)
+}
+
+#[test]
+fn matches(rt: HostRuntime) -> Result<(), Fail> {
+    for test in &HOLD {
+        assert!(rt; holds(rt.alloc(), test)?, "{test}");
+    }
+    for test in &FAIL {
+        assert!(rt; !holds(rt.alloc(), test)?, "{test}");
+    }
+    Ok(())
+}
+
+#[test]
+fn translations(rt: HostRuntime) -> Result<(), Fail> {
+    let text = "
+    table ip late {
+        chain pre { type nat hook prerouting priority 10; dnat to 192.168.1.3; }
+        chain post { type nat hook postrouting priority srcnat; ip saddr 192.168.1.2 masquerade; }
+    }
+    table ip early {
+        chain pre {
+            type nat hook prerouting priority dstnat;
+            udp dport 443 drop;
+            udp dport 80 dnat to 192.168.1.2:8080;
+            udp dport 81 oifname != lan0 accept;
+            udp dport 82 jump own;
+        }
+        chain own { dnat to 192.168.1.4; }
+        chain post { type nat hook postrouting priority srcnat; ip saddr 192.168.1.3 snat to 203.0.113.1; drop; }
+    }";
+    let bounds = bounds(rt.alloc())?;
+    let rules = rules(rt.alloc(), text.as_bytes())?;
+    assert_eq!(rt;
+        prerouting(&rules, &bounds, &inward(443)),
+        Destination::Drop
+    );
+    assert_eq!(rt;
+        prerouting(&rules, &bounds, &inward(80)),
+        Destination::To(at(0xc0a80102, 8080))
+    );
+    assert_eq!(rt;
+        prerouting(&rules, &bounds, &inward(81)),
+        Destination::To(at(0xc0a80103, 81))
+    );
+    assert_eq!(rt;
+        prerouting(&rules, &bounds, &inward(82)),
+        Destination::To(at(0xc0a80104, 82))
+    );
+    assert_eq!(rt;
+        postrouting(&rules, &bounds, &outward(53)),
+        Source::From(EXTERNAL)
+    );
+    let mut other = outward(53);
+    other.src.addr = 0xc0a80103;
+    assert_eq!(rt;
+        postrouting(&rules, &bounds, &other),
+        Source::From(EXTERNAL)
+    );
+    other.src.addr = 0xc0a80104;
+    assert_eq!(rt; postrouting(&rules, &bounds, &other), Source::Drop);
+    assert_eq!(rt; forward(&rules, &bounds, &other), Forwarding::Pass);
+    let none = self::rules(rt.alloc(), b"")?;
+    assert_eq!(rt; prerouting(&none, &bounds, &inward(80)), Destination::None);
+    assert_eq!(rt; postrouting(&none, &bounds, &other), Source::None);
+    Ok(())
+}
+
+// Chains c0 to c16, each of which leads to the next by this many of these verdicts.
+fn levels(alloc: Global, count: u32, rules: u32, verdict: &str) -> Result<String, AllocError> {
+    let mut text = String::from_str(
+        alloc,
+        "chain fw { type filter hook forward priority 0; goto c0; }\n",
+    )?;
+    for level in 0..count {
+        let open = format!(in alloc; "chain c{level} {{\n")?;
+        text.push_str(open.as_str())?;
+        for _ in 0..rules {
+            let next = u64::from(level) + 1;
+            let line = format!(in alloc; "{verdict} c{next}\n")?;
+            text.push_str(line.as_str())?;
+        }
+        text.push_str("}\n")?;
+    }
+    let last = format!(in alloc; "chain c{count} {{ return; }}\n")?;
+    text.push_str(last.as_str())?;
+    Ok(text)
+}
+
+// A packet that read each rule as often as it is led to would never be done.
+#[test]
+fn branching(rt: HostRuntime) -> Result<(), Fail> {
+    let chains = levels(rt.alloc(), 15, 250, "jump")?;
+    assert_eq!(rt;
+        filtered(rt.alloc(), chains.as_str(), &outward(53))?,
+        Forwarding::Pass
+    );
+    Ok(())
+}
+
+#[test]
+fn deep(rt: HostRuntime) -> Result<(), Fail> {
+    for verdict in ["jump", "goto"] {
+        let chains = levels(rt.alloc(), 15, 1, verdict)?;
+        assert_eq!(rt;
+            filtered(rt.alloc(), chains.as_str(), &outward(53))?,
+            Forwarding::Pass
+        );
+    }
+    Ok(())
+}

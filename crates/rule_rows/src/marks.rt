@@ -1,0 +1,330 @@
+//! Reports of wrong texts.
+use text_marks::explain;
+use packet::bounds::Bounds;
+use packet::endpoint::Prefix;
+use ruletext::read;
+use std::alloc::{AllocError, Global};
+use std::process::Abort;
+use std::test::*;
+
+// 192.168.0.0/16 inside, 203.0.113.1 outside.
+fn bounds(alloc: Global) -> Result<Bounds, AllocError> {
+    let lan = String::from_str(alloc, "lan")?;
+    let wan = String::from_str(alloc, "wan")?;
+    let prefix = Prefix {
+        addr: 0xc0a8_0000,
+        len: 16,
+    };
+    let inside = vec![in alloc; prefix]?;
+    Bounds::new(lan, wan, inside, 0xcb00_7101).map_err(|_| AllocError)
+}
+
+// The report of a text's fault.
+fn shown(alloc: Global, text: &[u8]) -> Result<Vec<u8>, AllocError> {
+    let bounds = bounds(alloc)?;
+    match read(alloc, text, &bounds) {
+        Ok(_rules) => Err(AllocError),
+        Err(fault) => explain(alloc, text, &bounds, &fault),
+    }
+}
+
+// A text and its report: the line, the mark below it, what is found, and what is expected.
+struct Row {
+    text: &'static str,
+    line: &'static str,
+    mark: &'static str,
+    found: &'static str,
+    expected: &'static str,
+}
+
+fn is_shown(
+    rt: &impl Abort,
+    alloc: Global,
+    text: &str,
+    lines: [&str; 4],
+) -> Result<(), AllocError> {
+    let shown = shown(alloc, text.as_bytes())?;
+    let [line, mark, found, expected] = lines;
+    let wanted = format!(in alloc; "{line}\n{mark}\nfound: {found}\nexpected: {expected}\n")?;
+    assert!(rt; shown.as_slice() == wanted.as_bytes(), "{text}");
+    Ok(())
+}
+
+fn are_shown(rt: &impl Abort, alloc: Global, rows: &[Row]) -> Result<(), AllocError> {
+    for row in rows {
+        is_shown(
+            rt,
+            alloc,
+            row.text,
+            [row.line, row.mark, row.found, row.expected],
+        )?;
+    }
+    Ok(())
+}
+
+// The words that begin a rule, and the end of one.
+const IN_A_RULE: &str =
+    "`comment`, `counter`, `meta`, `iifname`, `oifname`, `iif`, `oif`, `ip`, `tcp`, `udp`, `ct`, `accept`, `drop`, `return`, `continue`, `jump`, `goto`, `dnat`, `snat`, `masquerade`, `}`, `;`, `-`, the end of the line";
+
+const A_SIDE: &str = "a name, `vmap`, a number, an address, a text in quotes, `{`, `==`, `!=`, `@`";
+
+const A_CHAIN: &str = "the name of a chain of the same table that has no line `type .. hook ..`";
+
+const ONE_OF_A_NAME: &str =
+    "one name for each table of a family and each chain and set of a table, and one `type` and one `elements` line in a set";
+
+const A_VALUE: &str =
+    "addresses for saddr and daddr, ports up to 65535 for sport and dport, protocols up to 255 for protocol and l4proto, names of interfaces for iifname and oifname, states for ct state; sets with one such `type`; dnat, snat and masquerade from nat chains alone";
+
+const SYNTAX: [Row; 8] = [
+    Row {
+        text: "table ip t {\n\tchain c { tcp dport 22 reject; }; }\n",
+        line: "line 2: \tchain c { tcp dport 22 reject; }; }",
+        mark: "        \t                       ^",
+        found: "`reject`, which is no word that is known here",
+        expected: IN_A_RULE,
+    },
+    Row {
+        text: "table ip6 t { }",
+        line: "line 1: table ip6 t { }",
+        mark: "              ^",
+        found: "`ip6`, which is another family than ip and inet",
+        expected: "a name, `inet`, `ip`",
+    },
+    Row {
+        text: "table ip t \\\n { chain c { ip saddr ; }; }",
+        line: "line 2:  { chain c { ip saddr ; }; }",
+        mark: "                              ^",
+        found: "`;`, which can't stand here",
+        expected: A_SIDE,
+    },
+    Row {
+        text: "flush ruleset;\ntable",
+        line: "line 2: table",
+        mark: "             ^",
+        found: "the end of the text, which can't stand here",
+        expected: "a name, `inet`, `ip`",
+    },
+    Row {
+        text: "table t { chain c { tcp dport 22x accept; }; }",
+        line: "line 1: table t { chain c { tcp dport 22x accept; }; }",
+        mark: "                                      ^",
+        found: "`22x`, which can't stand here",
+        expected: A_SIDE,
+    },
+    Row {
+        text: "set # a set\n",
+        line: "line 1: set # a set",
+        mark: "        ^",
+        found: "`set`, which is no word that is known here",
+        expected: "`flush`, `table`, `;`, the end of the line, the end of the text",
+    },
+    Row {
+        text: "table # a table\n t { }",
+        line: "line 1: table # a table",
+        mark: "                       ^",
+        found: "the end of the line, which can't stand here",
+        expected: "a name, `inet`, `ip`",
+    },
+    Row {
+        text: "\u{e9} ~\t\r",
+        line: "line 1: ?? ~\t?",
+        mark: "        ^",
+        found: "`?`, which can't stand here",
+        expected: "`flush`, `table`, `;`, the end of the line, the end of the text",
+    },
+];
+
+#[test]
+fn syntax(rt: HostRuntime) -> Result<(), AllocError> {
+    are_shown(&rt, rt.alloc(), &SYNTAX)
+}
+
+const NAMES: [Row; 4] = [
+    Row {
+        text: "table ip t { chain c { accept; jump d; }; }",
+        line: "line 1: table ip t { chain c { accept; jump d; }; }",
+        mark: "                                       ^",
+        found: "`jump`, a call of a chain that its table doesn't have, or that has a hook",
+        expected: A_CHAIN,
+    },
+    Row {
+        text: "table ip t { chain c { ip saddr @s accept; }; }",
+        line: "line 1: table ip t { chain c { ip saddr @s accept; }; }",
+        mark: "                                        ^",
+        found: "`@`, a set that its table doesn't have",
+        expected: "`@` and the name of a set of the same table",
+    },
+    Row {
+        text: "table ip t { }\ntable t { }\n",
+        line: "line 2: table t { }",
+        mark: "        ^",
+        found: "`table`, which is there already",
+        expected: ONE_OF_A_NAME,
+    },
+    Row {
+        text: "table ip t { set s { type ipv4_addr; type ipv4_addr; }; }",
+        line: "line 1: table ip t { set s { type ipv4_addr; type ipv4_addr; }; }",
+        mark: "                                             ^",
+        found: "`type`, which is there already",
+        expected: ONE_OF_A_NAME,
+    },
+];
+
+#[test]
+fn names(rt: HostRuntime) -> Result<(), AllocError> {
+    are_shown(&rt, rt.alloc(), &NAMES)
+}
+
+const RULES: [Row; 5] = [
+    Row {
+        text: "table ip n { chain p { type nat hook forward priority 0; }; }",
+        line: "line 1: table ip n { chain p { type nat hook forward priority 0; }; }",
+        mark: "                               ^",
+        found: "`type`, which can't be at its hook, or is reached from a hook where it can't be",
+        expected: "filter chains at input, forward and output; nat chains at prerouting, input, output and postrouting, with dnat from prerouting or output, snat from input or postrouting, and masquerade from postrouting alone",
+    },
+    Row {
+        text: "table ip t { chain c { tcp dport 70000 accept; }; }",
+        line: "line 1: table ip t { chain c { tcp dport 70000 accept; }; }",
+        mark: "                                         ^",
+        found: "`70000`, which has another type than what belongs here",
+        expected: A_VALUE,
+    },
+    Row {
+        text: "table ip n { chain p { type nat hook postrouting priority 100; snat to 203.0.113.2; }; }",
+        line: "line 1: table ip n { chain p { type nat hook postrouting priority 100; snat to 203.0.113.2; }; }",
+        mark: "                                                                               ^",
+        found: "`203.0.113.2`, which isn't the external address",
+        expected: "the external address of the gateway",
+    },
+    Row {
+        text: "table ip n {\nchain p {\ntype nat hook prerouting priority -100;\ndnat to 10.0.0.1; }; }",
+        line: "line 4: dnat to 10.0.0.1; }; }",
+        mark: "                ^",
+        found: "`10.0.0.1`, which isn't inside",
+        expected: "an address in one of the inside prefixes of the gateway",
+    },
+    Row {
+        text: "table ip t { chain c { tcp dport vmap { 1-10 : accept, 5 : drop }; }; }",
+        line: "line 1: table ip t { chain c { tcp dport vmap { 1-10 : accept, 5 : drop }; }; }",
+        mark: "                                                               ^",
+        found: "`5`, a key that shares a value with another key of its map",
+        expected: "keys of which no two share a value",
+    },
+];
+
+#[test]
+fn rules(rt: HostRuntime) -> Result<(), AllocError> {
+    are_shown(&rt, rt.alloc(), &RULES)
+}
+
+// A table with these chains, each in a line of its own and with a jump to the next.
+fn chains(alloc: Global, count: u32) -> Result<String, AllocError> {
+    let mut text = String::from_str(alloc, "table ip t {\n")?;
+    for number in 0..count {
+        let next = number + 1;
+        let chain = format!(in alloc; "chain c{number} {{ jump c{next}; }}\n")?;
+        text.push_str(chain.as_str())?;
+    }
+    Ok(text)
+}
+
+#[test]
+fn back_by_jumps(rt: HostRuntime) -> Result<(), AllocError> {
+    let mut text = chains(rt.alloc(), 2)?;
+    text.push_str("chain c2 { accept; goto c1; }; }")?;
+    let lines = [
+        "line 3: chain c1 { jump c2; }",
+        "                   ^",
+        "`jump`, which comes back to its chain by jumps and gotos",
+        "chains of which none leads back to itself",
+    ];
+    is_shown(&rt, rt.alloc(), text.as_str(), lines)
+}
+
+#[test]
+fn seventeen_jumps(rt: HostRuntime) -> Result<(), AllocError> {
+    let mut text = chains(rt.alloc(), 17)?;
+    text.push_str("chain c17 { }; }")?;
+    let lines = [
+        "line 2: chain c0 { jump c1; }",
+        "                   ^",
+        "`jump`, which is on a path of more than 16 jumps and gotos",
+        "at most 16 jumps and gotos on every path",
+    ];
+    is_shown(&rt, rt.alloc(), text.as_str(), lines)
+}
+
+#[test]
+fn one_chain_too_many(rt: HostRuntime) -> Result<(), AllocError> {
+    let alloc = rt.alloc();
+    let mut text = String::from_str(alloc, "table ip t {\n")?;
+    for number in 0u32..257 {
+        let chain = format!(in alloc; "chain c{number} {{ }};\n")?;
+        text.push_str(chain.as_str())?;
+    }
+    text.push_str("}")?;
+    let lines = [
+        "line 258: chain c256 { };",
+        "          ^",
+        "`chain`, which is one more than there may be",
+        "at most 256 chains, 4096 rules, and 16384 elements and pairs in all",
+    ];
+    is_shown(&rt, alloc, text.as_str(), lines)
+}
+
+// A character so many times.
+fn run_of(alloc: Global, what: char, count: u32) -> Result<String, AllocError> {
+    let mut run = String::new(alloc);
+    for _ in 0..count {
+        run.push(what)?;
+    }
+    Ok(run)
+}
+
+#[test]
+fn one_byte_too_many(rt: HostRuntime) -> Result<(), AllocError> {
+    let alloc = rt.alloc();
+    let text = run_of(alloc, ' ', 262_145)?;
+    let blank = "";
+    let line = format!(in alloc; "line 1: ...{blank:120}")?;
+    let mark = format!(in alloc; "{blank:130}^")?;
+    let lines = [
+        line.as_str(),
+        mark.as_str(),
+        "` `, the first byte that is too many",
+        "a text of at most 262144 bytes",
+    ];
+    is_shown(&rt, alloc, text.as_str(), lines)
+}
+
+const AT_THE_START: &str = "`flush`, `table`, `;`, the end of the line, the end of the text";
+
+#[test]
+fn long_line(rt: HostRuntime) -> Result<(), AllocError> {
+    let alloc = rt.alloc();
+    let side = run_of(alloc, ';', 300)?;
+    let text = format!(in alloc; "{side}x{side}")?;
+    let blank = "";
+    let line = format!(in alloc; "line 1: ...{blank:;<60}x{blank:;<59}...")?;
+    let mark = format!(in alloc; "{blank:71}^")?;
+    let found = "`x`, which is no word that is known here";
+    is_shown(
+        &rt,
+        alloc,
+        text.as_str(),
+        [line.as_str(), mark.as_str(), found, AT_THE_START],
+    )
+}
+
+#[test]
+fn long_name(rt: HostRuntime) -> Result<(), AllocError> {
+    let alloc = rt.alloc();
+    let name = run_of(alloc, 'z', 50)?;
+    let line = format!(in alloc; "line 1: {name}")?;
+    let blank = "";
+    let found = format!(in alloc; "`{blank:z<40}...`, which is no word that is known here")?;
+    let lines = [line.as_str(), "        ^", found.as_str(), AT_THE_START];
+    is_shown(&rt, alloc, name.as_str(), lines)
+}

@@ -1,0 +1,24 @@
+//! The tables of the gateway by themselves, each against what was worked by hand or against a plain list.
+//!
+//! The rows stand above the crates that they try, so that each of these is proved once, without them.
+//!
+//! - `ordered`: entries that rise by their keys (`rows`);
+//! - `members`: sets of values and maps to verdicts (`sets`);
+//! - `living`: the table of sessions (`sessions`);
+//! - `idle`: the sessions that are over (`timers`);
+//! - `ports`: the ports of an external address (`portpick`);
+//! - `lines`: sessions as lines of text (`session_lines`).
+#![tactic(auto)]
+
+#[cfg(test)]
+mod idle;
+#[cfg(test)]
+mod lines;
+#[cfg(test)]
+mod living;
+#[cfg(test)]
+mod members;
+#[cfg(test)]
+mod ordered;
+#[cfg(test)]
+mod ports;
