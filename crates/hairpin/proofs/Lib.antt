@@ -1,4 +1,5 @@
 pub mod Apart
+pub mod Beginning
 pub mod Clashing
 pub mod Doubling
 pub mod Following

@@ -114,7 +114,7 @@ struct Empty {
     translations: Translations,
 }
 
-#[tactic(auto, using(crate::proofs::Beginning::counts_none, crate::proofs::Beginning::bounds_none))]
+#[tactic(auto, using(hairpin::proofs::Beginning::counts_none, hairpin::proofs::Beginning::bounds_none))]
 fn start(alloc: Global) -> Option<Empty>
     ensures external { IfSome result (λ s. s.translations.external ≡ s.bounds.external) }
     ensures counts { IfSome result (λ s. (p : Mapping) → times s.translations.pairs p ≡ tally p s.table.held) }

@@ -1,7 +1,7 @@
 use Rattle.mappings.specs.declared.map.Pair.{Pair}
 use Rattle.std.proofs.Common.{rules, ◌≡◌}
 use Rattle.mappings.specs.Map.{times}
-use Rattle.rule_rows.proofs.Beginning.{counts_none, sound_none}
+use Rattle.hairpin.proofs.Beginning.{counts_none, sound_none}
 use Rattle.rule_rows.proofs.legs.start.Goals as goal
 
 pub returns-clause-sound : goal.returns-clause-sound

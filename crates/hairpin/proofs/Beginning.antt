@@ -15,20 +15,15 @@ use Rattle.verdict.specs.declared.hook.Source.TheVariants as source
 use Rattle.hairpin.specs.Sound.{KeepBounds}
 use Rattle.sessions.specs.Sound.{AreSound}
 use Rattle.hairpin.specs.Tallies.{tally}
+use Rattle.hairpin.proofs.Tally.{tally-same}
 
 pub listing-none : (held : List (Option Session)) → ((slot : ℕ) → get_or held slot None ≡ None) → listing held ≡ []
 listing-none [] none = refl
 listing-none (None ∷ held) none = listing-none held (λ slot. none (suc slot))
 listing-none (Some s ∷ held) none = absurd (none-some s (sym (none 0)))
 
--- places that hold nothing count nothing
-tally-none : (p : Pair) (held : List (Option Session)) → ((slot : ℕ) → get_or held slot None ≡ None) → tally p held ≡ 0
-tally-none p [] none = refl
-tally-none p (None ∷ held) none = tally-none p held (λ slot. none (suc slot))
-tally-none p (Some s ∷ held) none = absurd (none-some s (sym (none 0)))
-
 pub counts_none : (pairs : Pairs) (held : List (Option Session)) → ((p : Pair) → times pairs p ≡ 0) → ((slot : ℕ) → get_or held slot None ≡ None) → (p : Pair) → times pairs p ≡ tally p held
-counts_none pairs held unmapped none p = unmapped p ∙ sym (tally-none p held none)
+counts_none pairs held unmapped none p = unmapped p ∙ sym (tally-same p held [] none)
 
 none-sound : (config : Config) → AreSound config []
 none-sound config = record {
