@@ -1,5 +1,5 @@
 -- What one file is by itself.
-use Rattle.std.specs.Prelude.{◌≡◌, ◌↔◌, ℕ, ◌-◌, ◌^◌, IsTrue, List, [], ◌∷◌, ◌++◌, length}
+use Rattle.std.specs.Prelude.{◌≡◌, ◌≢◌, ◌↔◌, ℕ, ◌-◌, ◌^◌, IsTrue, List, [], ◌∷◌, ◌++◌, length}
 use Rattle.packet.specs.Config.{Config}
 use Rattle.durable.specs.Coding.{Heading, mark}
 use Rattle.durable.specs.Entering.{Durable, IsDurable}
@@ -25,7 +25,7 @@ Begins h = IsDurable h.config (begun h.kept)
 -- Why a file holds no state.
 abbrev pub IsFaulty : List ℕ → Fault → Type 0
 IsFaulty file Foreign = IsOpen file × ¬ IsMarked file
-IsFaulty file Front = IsOpen file × ((h : Heading) → IsHeaded file h → h.generation ≡ greatest)
+IsFaulty file Front = IsOpen file × IsMarked file × ((h : Heading) → IsHeaded file h → h.generation ≡ greatest)
 IsFaulty file Snapshot = (h : Heading) × IsHeaded file h × ¬ Begins h
 IsFaulty file Changes = (h : Heading) × IsHeaded file h × Begins h × ((d : Durable) (end : ℕ) → ¬ Holds file h d end)
 
@@ -36,6 +36,6 @@ IsHeld config file held = (h : Heading) × (d : Durable) × (end : ℕ) × Holds
 
 abbrev pub IsRead : Config → List ℕ → Reading → Type 0
 IsRead config file Empty = file ≡ []
-IsRead config file Closed = ¬ IsOpen file
+IsRead config file Closed = (file ≢ []) × ¬ IsOpen file
 IsRead config file (Faulty fault) = IsFaulty file fault × ((h : Heading) (d : Durable) (end : ℕ) → ¬ Holds file h d end)
 IsRead config file (Whole held) = IsHeld config file held

@@ -1,6 +1,6 @@
 //! Each read, each write and each call of the disk fails in turn, until a run meets no fault.
 use crate::pieces::{End, giving, taking};
-use crate::shared::{PIECE, Stream, answered, opened, run, stream, troubled};
+use crate::shared::{PIECE, Stream, answered, four_requests, opened, run, troubled};
 use gateway::{Gateway, GatewayFault};
 use socket_edge::EdgeFault;
 use std::alloc::Global;
@@ -90,7 +90,7 @@ fn each_write(alloc: Global, stream: &Stream, most: usize, calls: usize) -> Resu
 #[test]
 fn each_io(rt: HostRuntime) -> Result<(), Fail> {
     let alloc = rt.alloc();
-    let stream = stream(alloc)?;
+    let stream = four_requests(alloc)?;
     for call in 0..=15 {
         fail_read(alloc, &stream, call)?;
     }

@@ -62,7 +62,7 @@ pub struct Stream {
 /// # Errors
 ///
 /// A `Fail` where memory is refused.
-pub fn stream(alloc: Global) -> Result<Stream, Fail> {
+pub fn four_requests(alloc: Global) -> Result<Stream, Fail> {
     let mut requests = hex(alloc, LOAD_HEAD)?;
     requests.extend_from_slice(MASQUERADE.as_bytes())?;
     requests.extend_from_slice(hex(alloc, LATER)?.as_slice())?;

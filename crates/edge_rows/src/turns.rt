@@ -1,5 +1,5 @@
 //! What was asked is answered before more is read, and a file that has grown is made anew.
-use crate::shared::{Stream, answered, hex, opened, run, stream};
+use crate::shared::{Stream, answered, four_requests, hex, opened, run};
 use std::alloc::Global;
 use std::cell::Cell;
 use std::io::{self, Read, Write};
@@ -70,7 +70,7 @@ fn ask(alloc: Global, stream: &Stream, sizes: &[usize]) -> Result<(), Fail> {
 
 #[test]
 fn answers_before_it_reads_on(rt: HostRuntime) -> Result<(), Fail> {
-    let stream = stream(rt.alloc())?;
+    let stream = four_requests(rt.alloc())?;
     // A request each; two at once; one in parts.
     for sizes in [&[115, 42, 14, 42][..], &[157, 56], &[1, 13, 101, 41, 1, 57]] {
         ask(rt.alloc(), &stream, sizes)?;
