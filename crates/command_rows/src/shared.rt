@@ -33,21 +33,25 @@ pub fn fresh(rt: &HostRuntime, directory: &str) -> Result<(), Fail> {
     Ok(())
 }
 
+/// A gateway over files. It lies behind a box, so that a function which lets it go does so by one call.
+pub type OverFiles = Box<Gateway<FileDisk>>;
+
 /// A gateway over the files of a directory.
 pub fn opened(
     rt: &HostRuntime,
     sides: &Sides<'_>,
     directory: &str,
     moment: u64,
-) -> Result<Gateway<FileDisk>, Stop> {
+) -> Result<OverFiles, Stop> {
     let bounds = bounds(rt.alloc(), sides)?;
-    open(rt, sides, bounds, Opening { directory, moment })
+    let gateway = open(rt, sides, bounds, Opening { directory, moment })?;
+    Ok(Box::new(rt.alloc(), gateway)?)
 }
 
 /// The answers to a stream of requests.
 pub fn answered(
     rt: &HostRuntime,
-    gateway: &mut Gateway<FileDisk>,
+    gateway: &mut OverFiles,
     requests: &[u8],
 ) -> Result<Vec<u8>, Stop> {
     let mut reader = requests;

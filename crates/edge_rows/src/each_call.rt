@@ -1,11 +1,10 @@
 //! Each read, each write and each call of the disk fails in turn, until a run meets no fault.
 use crate::pieces::{End, giving, taking};
-use crate::shared::{PIECE, Stream, answered, four_requests, opened, run, troubled};
-use gateway::{Gateway, GatewayFault};
+use crate::shared::{PIECE, Stream, Trials, answered, four_requests, opened, run, troubled};
+use gateway::GatewayFault;
 use socket_edge::EdgeFault;
 use std::alloc::Global;
 use std::test::Fail;
-use trial_disk::Trial;
 
 fn must(holds: bool, call: usize) -> Result<(), Fail> {
     if holds {
@@ -70,7 +69,7 @@ fn fail_device(alloc: Global, stream: &Stream, call: usize) -> Result<(), Fail> 
 }
 
 // Nothing is read any more.
-fn is_closed(alloc: Global, stream: &Stream, gateway: &mut Gateway<Trial>) -> bool {
+fn is_closed(alloc: Global, stream: &Stream, gateway: &mut Trials) -> bool {
     let mut reader = giving(stream.requests.as_slice(), PIECE, usize::MAX);
     let mut written = Vec::new(alloc);
     let ended = run(alloc, &mut reader, &mut written, gateway);

@@ -123,16 +123,20 @@ fn bounds(alloc: Global) -> Option<Bounds> {
     Bounds::new(lan, wan, inside, 0xcb00_7101).ok()
 }
 
-fn open(alloc: Global, disk: Trial) -> Option<Gateway<Trial>> {
-    Gateway::open(alloc, disk, bounds(alloc)?, 0).ok()
+/// A gateway over a disk for trials. It lies behind a box, so that a function which lets it go does so by one call.
+pub type Trials = Box<Gateway<Trial>>;
+
+fn open(alloc: Global, disk: Trial) -> Option<Trials> {
+    let gateway = Gateway::open(alloc, disk, bounds(alloc)?, 0).ok()?;
+    Box::new(alloc, gateway).ok()
 }
 
 /// A gateway over empty files; none where memory is refused.
-pub fn gateway(alloc: Global) -> Option<Gateway<Trial>> {
+pub fn gateway(alloc: Global) -> Option<Trials> {
     open(alloc, Trial::of(alloc, b"", b"").ok()?)
 }
 
-fn reopened(alloc: Global, disk: Trial) -> Result<Gateway<Trial>, Fail> {
+fn reopened(alloc: Global, disk: Trial) -> Result<Trials, Fail> {
     Ok(open(alloc, disk).ok_or("no gateway")?)
 }
 
@@ -141,7 +145,7 @@ fn reopened(alloc: Global, disk: Trial) -> Result<Gateway<Trial>, Fail> {
 /// # Errors
 ///
 /// A `Fail` where memory is refused.
-pub fn opened(alloc: Global) -> Result<Gateway<Trial>, Fail> {
+pub fn opened(alloc: Global) -> Result<Trials, Fail> {
     Ok(gateway(alloc).ok_or("no gateway")?)
 }
 
@@ -150,10 +154,10 @@ pub fn opened(alloc: Global) -> Result<Gateway<Trial>, Fail> {
 /// # Errors
 ///
 /// A `Fail` where memory is refused.
-pub fn troubled(alloc: Global, call: u64) -> Result<Gateway<Trial>, Fail> {
-    let disk = opened(alloc)?.into_disk();
+pub fn troubled(alloc: Global, call: u64) -> Result<Trials, Fail> {
+    let disk = Box::into_inner(opened(alloc)?).into_disk();
     let made = disk.calls();
-    let mut disk = reopened(alloc, disk)?.into_disk();
+    let mut disk = Box::into_inner(reopened(alloc, disk)?).into_disk();
     let opening = disk.calls().saturating_sub(made);
     disk.fail_once(call.saturating_add(opening));
     reopened(alloc, disk)
@@ -168,7 +172,7 @@ pub fn run<R: Read, W: Write>(
     alloc: Global,
     reader: &mut R,
     writer: &mut W,
-    gateway: &mut Gateway<Trial>,
+    gateway: &mut Trials,
 ) -> Result<u64, EdgeFault> {
     socket_edge::run(alloc, reader, writer, gateway)
 }
