@@ -115,7 +115,7 @@ fn expect_name(came: &str, wanted: &str) -> Result<(), Fail> {
 
 // Two events are answered, and a call of the flush of the third fails; the first flush made four calls.
 fn fallen(alloc: Global, call: u64) -> Result<Trials, Fail> {
-    let mut gateway = troubled(alloc, fresh(alloc)?, Trouble::Fault(4 + call))?;
+    let mut gateway = troubled(alloc, fresh(alloc)?, Trouble::Fault(call.saturating_add(4)))?;
     for lines in [TWO_HELD, TWO_FLUSHED, ONE_HELD, FALLEN] {
         play(alloc, &mut gateway, lines)?;
     }
