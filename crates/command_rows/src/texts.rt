@@ -8,53 +8,59 @@ use std::test::Fail;
 fn findings(rt: HostRuntime) -> Result<(), Fail> {
     let alloc = rt.alloc();
     let bounds = bounds(alloc, &SIDES)?;
-    let rows: [(&[u8], &str); 14] = [
-        (b"table ip6 t { }", "line 1: family\n"),
+    let rows: [(&[u8], &[u8]); 14] = [
+        (b"table ip6 t { }", b"line 1: family\n"),
         (
             b"table ip t { chain c { jump d; }; }",
-            "line 1: unknown-chain\n",
+            b"line 1: unknown-chain\n",
         ),
         (
             b"table ip t { chain c { ip saddr @s accept; }; }",
-            "line 1: unknown-set\n",
+            b"line 1: unknown-set\n",
         ),
-        (b"table ip t { }\ntable t { }\n", "line 2: duplicate\n"),
+        (b"table ip t { }\ntable t { }\n", b"line 2: duplicate\n"),
         (
             b"table ip t { chain c { tcp dport 70000 accept; }; }",
-            "line 1: wrong-type\n",
+            b"line 1: wrong-type\n",
         ),
         (
             b"table ip t { chain c { tcp dport vmap { 1-10 : accept, 5 : drop }; }; }",
-            "line 1: overlap\n",
+            b"line 1: overlap\n",
         ),
         (
             b"table ip n { chain p { type nat hook postrouting priority 100; snat to 203.0.113.2; }; }",
-            "line 1: not-external\n",
+            b"line 1: not-external\n",
         ),
         (
             b"table ip n { chain p { type nat hook prerouting priority -100; dnat to 10.0.0.1; }; }",
-            "line 1: not-inside\n",
+            b"line 1: not-inside\n",
         ),
         (
             b"table ip f { chain c { type filter hook forward priority 0; masquerade; }; }",
-            "line 1: wrong-type\n",
+            b"line 1: wrong-type\n",
         ),
         (
             b"\ttable ip t {\n\tset s {\n\ttype ipv4_addr\n\tflags interval\n\telements = { 10.0.0.0/8,\n\t10.1.0.1 }\n\t}\n\tchain c {\n\ttype filter hook forward priority filter; policy drop;\n\tct state established,related accept\n\tip saddr @s accept\n\t}\n\t}\n",
-            "ok\n",
+            b"ok\n",
         ),
-        (b"table ip t { chain c { jump c; }; }", "line 1: loop\n"),
+        (b"table ip t { chain c { jump c; }; }", b"line 1: loop\n"),
         (
             b"table ip t {\nchain c { tcp dport 22 reject; }; }\n",
-            "line 2: unsupported\n",
+            b"line 2: unsupported\n",
         ),
-        (b"", "ok\n"),
-        (b"table ip t { chain c { goto c; }; }", "line 1: loop\n"),
+        (b"", b"ok\n"),
+        (b"table ip t { chain c { goto c; }; }", b"line 1: loop\n"),
     ];
     for (text, line) in rows {
         let finding = report(alloc, text, &bounds, false)?;
-        assert!(rt; finding.line.as_slice() == line.as_bytes(), "{line}");
-        assert!(rt; finding.loads == (line == "ok\n"), "{line}");
+        assert!(rt; finding.line.as_slice() == line);
+        assert!(rt;
+            finding.loads
+                == (line
+                    == b"ok
+"
+                        .as_slice())
+        );
     }
     let long = vec![in alloc; b' '; 262_145]?;
     let finding = report(alloc, long.as_slice(), &bounds, false)?;

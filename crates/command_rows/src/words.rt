@@ -2,38 +2,45 @@
 use commands::{Refusal, Stop, tell};
 use std::test::Fail;
 
-const ALL: [(Refusal, &str); 16] = [
-    (Refusal::Config, "config"),
-    (Refusal::File, "file"),
-    (Refusal::Device, "device"),
-    (Refusal::Full, "full"),
-    (Refusal::Damaged, "damaged"),
-    (Refusal::ConfigDiffers, "config-differs"),
-    (Refusal::Generations, "generations"),
-    (Refusal::NoMemory, "no-memory"),
-    (Refusal::Reopen, "reopen"),
-    (Refusal::NumbersOut, "numbers-out"),
-    (Refusal::BadKind, "bad-kind"),
-    (Refusal::BadInterface, "bad-interface"),
-    (Refusal::TooLong, "too-long"),
-    (Refusal::Truncated, "truncated"),
-    (Refusal::Input, "input"),
-    (Refusal::Output, "output"),
+/// Each refusal with its first line.
+const ALL: [(Refusal, &[u8]); 16] = [
+    (Refusal::Config, b"natgw: config\n"),
+    (Refusal::File, b"natgw: file\n"),
+    (Refusal::Device, b"natgw: device\n"),
+    (Refusal::Full, b"natgw: full\n"),
+    (Refusal::Damaged, b"natgw: damaged\n"),
+    (Refusal::ConfigDiffers, b"natgw: config-differs\n"),
+    (Refusal::Generations, b"natgw: generations\n"),
+    (Refusal::NoMemory, b"natgw: no-memory\n"),
+    (Refusal::Reopen, b"natgw: reopen\n"),
+    (Refusal::NumbersOut, b"natgw: numbers-out\n"),
+    (Refusal::BadKind, b"natgw: bad-kind\n"),
+    (Refusal::BadInterface, b"natgw: bad-interface\n"),
+    (Refusal::TooLong, b"natgw: too-long\n"),
+    (Refusal::Truncated, b"natgw: truncated\n"),
+    (Refusal::Input, b"natgw: input\n"),
+    (Refusal::Output, b"natgw: output\n"),
 ];
 
 // Two lines each, of which the second one says something.
 #[test]
 fn both_lines(rt: HostRuntime) -> Result<(), Fail> {
     let alloc = rt.alloc();
-    for (refusal, word) in ALL {
+    for (refusal, line) in ALL {
         let stop = Stop::from(refusal);
         let mut told = Vec::new(alloc);
         tell(&mut told, &stop)?;
-        let wanted = format!(in alloc; "natgw: {word}\n{}\n", stop.second_line())?;
-        assert!(rt; told.as_slice() == wanted.as_bytes(), "{word}");
-        assert_eq!(rt; format!(in alloc; "{refusal}")?.as_str(), word);
-        assert!(rt; stop.second_line().len() > 20, "{word}");
-        assert!(rt; !stop.second_line().contains('\n'), "{word}");
+        let second = stop.second_line().as_bytes();
+        let mut wanted = Vec::from_slice(alloc, line)?;
+        wanted.extend_from_slice(second)?;
+        wanted.push(b'\n')?;
+        assert!(rt; told.as_slice() == wanted.as_slice(), "{refusal}");
+        assert!(rt;
+            format!(in alloc; "natgw: {refusal}\n")?.as_bytes() == line,
+            "{refusal}"
+        );
+        assert!(rt; second.len() > 20, "{refusal}");
+        assert!(rt; !second.contains(&b'\n'), "{refusal}");
     }
     Ok(())
 }

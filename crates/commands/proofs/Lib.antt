@@ -1,1 +1,2 @@
 mod Round
+mod Lacking

@@ -1,7 +1,8 @@
 //! Addresses and prefixes as they are spelled, and the configuration made of them.
-ghost use Rattle.std.specs.Prelude.{◌≡◌, ◌⊎◌, IfOk, IfErr, IfSome, IfNone, ℕ};
+ghost use Rattle.std.specs.Prelude.{◌≡◌, ◌⊎◌, IfOk, IfErr, IfSome, IfNone, OnErr, ℕ, List};
+ghost use Rattle.packet.specs.declared.endpoint.Prefix.{Prefix};
 ghost use Rattle.commands.specs.declared.refusal.Refusal.TheVariants.{Config, NoMemory};
-ghost use Rattle.commands.specs.Spelling.{SpellsAddress, SpellsNumber, SpellsPrefix, SpellsPrefixes};
+ghost use Rattle.commands.specs.Spelling.{IsNoConfig, SpellsAddress, SpellsNumber, SpellsPrefix, SpellsPrefixes};
 
 use crate::{Refusal, Stop};
 use itoa::Buffer;
@@ -54,25 +55,26 @@ pub fn address(text: &str) -> Option<u32>
 /// A prefix: an address, `/` and a number. That the number is at most 32 and the host bits are clear is for `bounds`
 /// to test.
 pub fn prefix(text: &str) -> Option<Prefix>
-    ensures { IfSome result (SpellsPrefix text.now) }
+    ensures some { IfSome result (SpellsPrefix text.now) }
+    ensures none { IfNone result ((prefix : Prefix) → ¬ SpellsPrefix text.now prefix) }
 {
-    let (addr, len) = text.split_once('/')?;
-    Some(Prefix {
-        addr: address(addr)?,
-        len: number(len)?,
-    })
+    let (front, back) = text.split_once('/')?;
+    let addr = address(front)?;
+    let len = number(back)?;
+    Some(Prefix { addr, len })
 }
 
 // A prefix, or the refusal that names it.
 fn prefix_of(alloc: Global, text: &str) -> Result<Prefix, Stop>
     ensures ok { IfOk result (SpellsPrefix text.now) }
     ensures config { IfErr result (λ stop. stop.refusal ≡ Config) }
+    ensures none { OnErr result ((prefix : Prefix) → ¬ SpellsPrefix text.now prefix) }
 {
     match prefix(text) {
         Some(prefix) => Ok(prefix),
         None => Err(Stop::with(
             Refusal::Config,
-            format!(in alloc; "--inside {text}: that is no prefix, as 192.168.0.0/16"),
+            format!(in alloc; "--inside: {text} is no prefix; write it like 192.168.0.0/16"),
         )),
     }
 }
@@ -84,6 +86,7 @@ fn prefix_of(alloc: Global, text: &str) -> Result<Prefix, Stop>
 /// `Config` where one of them is no prefix; `NoMemory` where memory is refused.
 pub fn prefixes(alloc: Global, list: &str) -> Result<Vec<Prefix>, Stop>
     ensures ok { IfOk result (λ found. SpellsPrefixes list.now found.items) }
+    ensures none { IfErr result (λ stop. stop.refusal ≡ Config → (prefixes : List Prefix) → ¬ SpellsPrefixes list.now prefixes) }
     ensures causes { IfErr result (λ stop. (stop.refusal ≡ Config) ⊎ (stop.refusal ≡ NoMemory)) }
 {
     let mut found = Vec::new(alloc);
@@ -100,12 +103,13 @@ pub fn prefixes(alloc: Global, list: &str) -> Result<Vec<Prefix>, Stop>
 fn external_of(alloc: Global, text: &str) -> Result<u32, Stop>
     ensures ok { IfOk result (SpellsAddress text.now) }
     ensures config { IfErr result (λ stop. stop.refusal ≡ Config) }
+    ensures none { OnErr result ((addr : ℕ) → ¬ SpellsAddress text.now addr) }
 {
     match address(text) {
         Some(address) => Ok(address),
         None => Err(Stop::with(
             Refusal::Config,
-            format!(in alloc; "--external {text}: that is no address, as 203.0.113.1"),
+            format!(in alloc; "--external: {text} is no address; write it like 203.0.113.1"),
         )),
     }
 }
@@ -121,6 +125,8 @@ pub fn bounds(alloc: Global, sides: &Sides<'_>) -> Result<Bounds, Stop>
     ensures names { IfOk result (λ bounds. (bounds.lan ≡ sides.now.lan.now) × (bounds.wan ≡ sides.now.wan.now)) }
     ensures inside { IfOk result (λ bounds. SpellsPrefixes sides.now.inside.now bounds.inside) }
     ensures external { IfOk result (λ bounds. SpellsAddress sides.now.external.now bounds.external) }
+    ensures config { IfErr result (λ stop. stop.refusal ≡ Config
+        → IsNoConfig sides.now.lan.now sides.now.wan.now sides.now.inside.now sides.now.external.now) }
     ensures causes { IfErr result (λ stop. (stop.refusal ≡ Config) ⊎ (stop.refusal ≡ NoMemory)) }
 {
     let inside = prefixes(alloc, sides.inside)?;

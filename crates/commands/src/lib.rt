@@ -29,7 +29,7 @@ pub use config::{Sides, address, bounds, number, prefix, prefixes};
 pub use files::read_front;
 pub use opening::{Opening, open};
 pub use refusal::{Refusal, ends_program};
-pub use running::{Options, Task, run};
+pub use running::{Options, Task, Work, run};
 pub use showing::show;
 pub use sockets::{bind, loop_back, serve_clients};
 pub use stop::{Stop, tell};

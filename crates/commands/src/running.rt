@@ -30,28 +30,34 @@ pub enum Task<'a> {
         /// Whether the place of a fault is shown.
         explains: bool,
     },
-    /// Answers the requests of standard input, by a gateway that opens so.
-    Replay {
+    /// Has a gateway work.
+    Open {
+        /// How it opens.
         opening: Opening<'a>,
+        /// What it does then.
+        work: Work<'a>,
     },
-    /// Serves the clients of a Unix socket, one after the other, by a gateway that opens so.
+}
+
+/// What a gateway is opened for.
+#[derive(Clone, Copy, Debug, Drop)]
+pub enum Work<'a> {
+    /// It answers the requests of standard input.
+    Replay,
+    /// It serves the clients of a Unix socket, one after the other.
     Serve {
-        opening: Opening<'a>,
         /// The path of the socket.
         socket: &'a str,
         /// How many of them.
         connections: u64,
     },
-    /// Sends the requests of a file through a Unix socket to a gateway that opens so.
+    /// It answers the requests of a file, through a Unix socket of its own.
     Loop {
-        opening: Opening<'a>,
         /// The file.
         path: &'a str,
     },
-    /// Lists the sessions of a gateway that opens so.
-    Show {
-        opening: Opening<'a>,
-    },
+    /// Its sessions are listed.
+    Show,
 }
 
 /// A command line that was read.
@@ -82,14 +88,11 @@ pub fn run(rt: &HostRuntime, options: &Options<'_>) -> Result<ExitCode, Stop> {
     let bounds = bounds(rt.alloc(), sides)?;
     match options.task {
         Task::Check { path, explains } => run_check(rt, &bounds, path, explains),
-        Task::Replay { opening } => run_replay(rt, sides, bounds, opening),
-        Task::Serve {
-            opening,
-            socket,
-            connections,
-        } => run_serve(rt, sides, bounds, opening, socket, connections),
-        Task::Loop { opening, path } => run_loop(rt, sides, bounds, opening, path),
-        Task::Show { opening } => run_show(rt, sides, bounds, opening),
+        Task::Open { opening, work } => {
+            let requests = requests_of(rt, rt.alloc(), work)?;
+            run_opened(rt, sides, bounds, opening, work, requests.as_slice())?;
+            Ok(ExitCode::SUCCESS)
+        }
     }
 }
 
@@ -116,39 +119,38 @@ fn run_check(
     }
 }
 
-fn run_replay(
+// Opens a gateway, and has it work.
+fn run_opened(
     rt: &HostRuntime,
     sides: &Sides<'_>,
     bounds: Bounds,
     opening: Opening<'_>,
-) -> Result<ExitCode, Stop> {
+    work: Work<'_>,
+    requests: &[u8],
+) -> Result<(), Stop> {
     let mut gateway = open(rt, sides, bounds, opening)?;
-    replay(rt.alloc(), &mut rt.stdin(), &mut rt.stdout(), &mut gateway)?;
-    Ok(ExitCode::SUCCESS)
+    work_on(rt, opening.directory, work, requests, &mut gateway)
 }
 
-fn run_show(
+// Has a gateway work; for `loop` the requests are these.
+fn work_on<D: Disk + Drop>(
     rt: &HostRuntime,
-    sides: &Sides<'_>,
-    bounds: Bounds,
-    opening: Opening<'_>,
-) -> Result<ExitCode, Stop> {
-    let gateway = open(rt, sides, bounds, opening)?;
-    show(rt.alloc(), &gateway, &mut rt.stdout())?;
-    Ok(ExitCode::SUCCESS)
-}
-
-fn run_serve(
-    rt: &HostRuntime,
-    sides: &Sides<'_>,
-    bounds: Bounds,
-    opening: Opening<'_>,
-    socket: &str,
-    connections: u64,
-) -> Result<ExitCode, Stop> {
-    let mut gateway = open(rt, sides, bounds, opening)?;
-    serve_at(rt, socket, connections, &mut gateway)?;
-    Ok(ExitCode::SUCCESS)
+    directory: &str,
+    work: Work<'_>,
+    requests: &[u8],
+    gateway: &mut Gateway<D>,
+) -> Result<(), Stop> {
+    let alloc = rt.alloc();
+    match work {
+        Work::Replay => replay(alloc, &mut rt.stdin(), &mut rt.stdout(), gateway)?,
+        Work::Serve {
+            socket,
+            connections,
+        } => serve_at(rt, socket, connections, gateway)?,
+        Work::Loop { path: _ } => loop_in(rt, directory, requests, gateway)?,
+        Work::Show => show(alloc, gateway, &mut rt.stdout())?,
+    }
+    Ok(())
 }
 
 // Serves so many connections of a socket, which is there for as long.
@@ -171,19 +173,6 @@ fn serve_at<D: Disk + Drop>(
     let removed = remove(rt, alloc, socket);
     served?;
     removed
-}
-
-fn run_loop(
-    rt: &HostRuntime,
-    sides: &Sides<'_>,
-    bounds: Bounds,
-    opening: Opening<'_>,
-    path: &str,
-) -> Result<ExitCode, Stop> {
-    let requests = read_requests(rt, rt.alloc(), path)?;
-    let mut gateway = open(rt, sides, bounds, opening)?;
-    loop_in(rt, opening.directory, requests.as_slice(), &mut gateway)?;
-    Ok(ExitCode::SUCCESS)
 }
 
 // Sends requests through a socket in a directory, which is there for as long.
@@ -209,6 +198,14 @@ fn loop_in<D: Disk + Drop>(
     let removed = remove(rt, alloc, socket.as_str());
     looped?;
     removed
+}
+
+// The requests that lie in a file, of all works but `loop` none.
+fn requests_of(rt: &impl Files, alloc: Global, work: Work<'_>) -> Result<Vec<u8>, Stop> {
+    match work {
+        Work::Loop { path } => read_requests(rt, alloc, path),
+        Work::Replay | Work::Serve { .. } | Work::Show => Ok(Vec::new(alloc)),
+    }
 }
 
 // The requests that `loop` sends.

@@ -2,7 +2,7 @@
 use crate::help;
 use clap::error::ErrorKind;
 use clap::{Arg, ArgAction, ArgMatches, Command, Error, value_parser};
-use commands::{Opening, Options, Sides, Task};
+use commands::{Opening, Options, Sides, Task, Work};
 use std::alloc::{AllocError, Global};
 
 /// What a command line comes to.
@@ -153,29 +153,32 @@ fn read_path<'a>(matches: &ArgMatches<'a>) -> &'a str {
 }
 
 // None for a word that names no command.
-fn read_task<'a>(name: &str, matches: &ArgMatches<'a>) -> Option<Task<'a>> {
+fn read_work<'a>(name: &str, matches: &ArgMatches<'a>) -> Option<Work<'a>> {
     match name {
-        "check" => Some(Task::Check {
-            path: read_path(matches),
-            explains: matches.get_flag("explain"),
-        }),
-        "replay" => Some(Task::Replay {
-            opening: read_opening(matches),
-        }),
-        "serve" => Some(Task::Serve {
-            opening: read_opening(matches),
+        "replay" => Some(Work::Replay),
+        "serve" => Some(Work::Serve {
             socket: matches.get_str("socket").unwrap_or(""),
             connections: matches.get_one::<u64>("connections").unwrap_or(0),
         }),
-        "loop" => Some(Task::Loop {
-            opening: read_opening(matches),
+        "loop" => Some(Work::Loop {
             path: read_path(matches),
         }),
-        "show" => Some(Task::Show {
-            opening: read_opening(matches),
-        }),
+        "show" => Some(Work::Show),
         _ => None,
     }
+}
+
+fn read_task<'a>(name: &str, matches: &ArgMatches<'a>) -> Option<Task<'a>> {
+    if name == "check" {
+        return Some(Task::Check {
+            path: read_path(matches),
+            explains: matches.get_flag("explain"),
+        });
+    }
+    Some(Task::Open {
+        opening: read_opening(matches),
+        work: read_work(name, matches)?,
+    })
 }
 
 fn read_options<'a>(name: &str, matches: &ArgMatches<'a>) -> Option<Options<'a>> {
