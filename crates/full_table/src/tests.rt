@@ -83,26 +83,31 @@ fn fill(rt: &impl Abort, alloc: Global, core: &mut Core) -> Result<(), Fail> {
     Ok(())
 }
 
-#[test]
-fn full_table(rt: HostRuntime) -> Result<(), Fail> {
-    let alloc = rt.alloc();
-    let mut core = opened(alloc)?;
-    fill(&rt, alloc, &mut core)?;
-    let new = answer(alloc, &mut core, 1000, Iface::Lan, &SECOND_HOST, Some(6000))?;
+/// No session begins, from either side, and one that lives goes on.
+fn refuses_more(rt: &impl Abort, alloc: Global, core: &mut Core) -> Result<(), Fail> {
+    let new = answer(alloc, core, 1000, Iface::Lan, &SECOND_HOST, Some(6000))?;
     assert!(rt; is_full(&new));
-    let incoming = answer(alloc, &mut core, 1000, Iface::Wan, &FROM_OUTSIDE, Some(54))?;
+    let incoming = answer(alloc, core, 1000, Iface::Wan, &FROM_OUTSIDE, Some(54))?;
     assert!(rt; is_full(&incoming));
-    let held = answer(alloc, &mut core, 1000, Iface::Lan, &SECOND_HOST, None)?;
+    let held = answer(alloc, core, 1000, Iface::Lan, &SECOND_HOST, None)?;
     assert!(rt; is_sent_on(&held));
-    let later = answer(
-        alloc,
-        &mut core,
-        1000 + IDLE,
-        Iface::Lan,
-        &SECOND_HOST,
-        Some(6000),
-    )?;
+    Ok(())
+}
+
+/// When all are over, one begins, and is the only one.
+fn begins_anew(rt: &impl Abort, alloc: Global, core: &mut Core) -> Result<(), Fail> {
+    let moment = 1000 + IDLE;
+    let later = answer(alloc, core, moment, Iface::Lan, &SECOND_HOST, Some(6000))?;
     assert!(rt; is_sent_on(&later));
     assert_eq!(rt; core.sessions()?.len(), 1);
     Ok(())
+}
+
+#[test]
+fn full_table(rt: HostRuntime) -> Result<(), Fail> {
+    let alloc = rt.alloc();
+    let mut core = Box::new(alloc, opened(alloc)?)?;
+    fill(&rt, alloc, &mut core)?;
+    refuses_more(&rt, alloc, &mut core)?;
+    begins_anew(&rt, alloc, &mut core)
 }
