@@ -11,8 +11,8 @@
 # seen; the status is 0 where it was as told above.
 set -euo pipefail
 here=$(cd "$(dirname "${BASH_SOURCE[0]}")" && pwd)
-# shellcheck source=examples/adapters/bench.sh
-. "$here/adapters/bench.sh"
+# shellcheck source=adapters/bench.sh
+. "$here/../adapters/bench.sh"
 
 megabytes=300
 case ${1:-} in

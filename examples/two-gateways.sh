@@ -16,8 +16,8 @@
 # was seen.
 set -euo pipefail
 here=$(cd "$(dirname "${BASH_SOURCE[0]}")" && pwd)
-# shellcheck source=examples/adapters/bench.sh
-. "$here/adapters/bench.sh"
+# shellcheck source=adapters/bench.sh
+. "$here/../adapters/bench.sh"
 needs curl
 hosts=16
 

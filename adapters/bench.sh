@@ -8,9 +8,9 @@
 # Each name is a network namespace, with a prefix that no other run has. The devices natgw-lan and natgw-wan lie in
 # the namespaces lan and wan; there is no other way between these two. Nothing outside the namespaces is changed.
 
-repository=$(cd "$(dirname "${BASH_SOURCE[0]}")/../.." && pwd)
+repository=$(cd "$(dirname "${BASH_SOURCE[0]}")/.." && pwd)
 natgw=${NATGW:-$repository/crates/natgw/out/natgw}
-adapter=$repository/examples/adapters/tun.py
+adapter=$repository/adapters/tun.py
 external=203.0.113.1
 sides=(--inside 192.168.0.0/16 --external "$external")
 near=192.168.1.2 web=192.168.1.80 ssh=192.168.1.22 far=198.51.100.7 stranger=198.51.100.9

@@ -3,7 +3,7 @@
 # Root, iproute2, iperf3, nftables and python3 are needed. NATGW names the program; SECONDS_EACH how long each run takes.
 set -euo pipefail
 here=$(cd "$(dirname "${BASH_SOURCE[0]}")" && pwd)
-# shellcheck source=examples/adapters/bench.sh
+# shellcheck source=adapters/bench.sh
 . "$here/bench.sh"
 needs iperf3 nft
 each=${SECONDS_EACH:-10}
