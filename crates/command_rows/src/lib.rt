@@ -5,11 +5,17 @@
 //! - `texts`: what `check` finds of texts, and how it explains it;
 //! - `files`: what stands in the files, and the sessions that come back;
 //! - `serve_and_loop`: requests through sockets;
+//! - `failing`: sockets over a disk of which a call fails;
+//! - `order`: the order in which faults are found, and what is left where a command gives up;
 //! - `words`: the two lines of each refusal.
 #![tactic(auto)]
 
 #[cfg(test)]
+mod failing;
+#[cfg(test)]
 mod files;
+#[cfg(test)]
+mod order;
 #[cfg(test)]
 mod serve_and_loop;
 #[cfg(test)]

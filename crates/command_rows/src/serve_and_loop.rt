@@ -41,8 +41,8 @@ fn through_a_loop(rt: HostRuntime) -> Result<(), Fail> {
     Ok(())
 }
 
-// A client of a socket that has sent this and nothing behind it.
-fn client(rt: &HostRuntime, path: &str, requests: &[u8]) -> Result<UnixStream, Fail> {
+/// A client of a socket that has sent this and nothing behind it.
+pub fn client(rt: &HostRuntime, path: &str, requests: &[u8]) -> Result<UnixStream, Fail> {
     let client = UnixStream::connect(rt, path)?;
     (&client).write_all(requests)?;
     client.shutdown(Shutdown::Write)?;

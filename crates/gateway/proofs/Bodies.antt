@@ -1,6 +1,6 @@
 -- The entries that a body has.
-use Rattle.std.proofs.Common.{◌≡◌, ◌≢◌, inl, ℕ, zero, suc, ◌+◌, ◌<◌, ◌≤◌, List, [], ◌∷◌, ◌++◌, length, refl, sym, ap, subst, ◌∙◌, length-append, arith}
-use Rattle.std.proofs.lemmas.List.{append-nil, nil_from_length}
+use Rattle.std.proofs.Common.{◌≡◌, inl, ℕ, zero, suc, ◌+◌, ◌≤◌, List, [], ◌∷◌, ◌++◌, length, refl, sym, ap, subst, ◌∙◌, length-append, arith}
+use Rattle.std.proofs.lemmas.List.{append-nil}
 use Rattle.std.proofs.lemmas.List.Concat.{flat_map-cons, flat_map-append}
 use Rattle.durable.specs.Coding.{Entry, entry_bytes, body_bytes, IsEntry, AreEntries}
 use Rattle.durable.specs.Reading.{entry_at}
@@ -76,3 +76,10 @@ pub one_more_noted : (body new : List ℕ) (room capacity : ℕ) (held : List (�
 one_more_noted body new room capacity held place granted e was is put =
     entries_of new (was.entries ++ e ∷ []) (more_coded was.entries e was.coded is) (put ∙ ap (λ (l : List ℕ). l ++ entry_bytes e) was.are ∙ sym (more_bytes was.entries e))
     ∙ ap (λ (l : List Entry). l ++ e ∷ []) (sym (entries_of body was.entries was.coded was.are))
+
+-- what waits grows by the bytes of the entries that come
+pub filled-on : (place new_place : ℕ) (were are entries : List Entry) → new_place ≡ place → are ≡ were ++ entries
+    → new_place + length (body_bytes are) ≡ place + length (body_bytes were) + length (body_bytes entries)
+filled-on place new_place were are entries same is =
+    let long = ap (λ (es : List Entry). length (body_bytes es)) is ∙ ap length (flat_map-append entry_bytes were entries) ∙ length-append (body_bytes were) (body_bytes entries) in
+    omega (arith, same, long)

@@ -1,15 +1,15 @@
 -- What an event that is taken does to the entries that wait.
-use Rattle.std.proofs.Common.{◌≡◌, ◌≢◌, ◌⊎◌, ◌↔◌, inl, inr, ℕ, suc, ◌+◌, ◌*◌, ◌<◌, ◌≤◌, List, [], ◌∷◌, ◌++◌, length, map, refl, sym, ◌∙◌, ap, subst, arith, IsTrue, length-append}
-use Rattle.std.proofs.lemmas.List.{nil_from_length, append-nil}
+use Rattle.std.proofs.Common.{◌≡◌, ◌⊎◌, ◌↔◌, inl, inr, ℕ, suc, ◌+◌, ◌*◌, ◌<◌, ◌≤◌, List, [], ◌∷◌, ◌++◌, length, refl, sym, ◌∙◌, ap, subst, arith, IsTrue, length-append}
+use Rattle.std.proofs.lemmas.List.{nil_from_length}
 use Rattle.packet.specs.Config.{Config, is_config}
 use Rattle.sessions.specs.Listing.{In}
 use Rattle.sessions.specs.declared.session.Session.{Session}
 use Rattle.disk_model.specs.Disk.{Files}
-use Rattle.durable.specs.Coding.{Entry, body_bytes}
-use Rattle.durable.specs.Entering.{Durable, Enters}
+use Rattle.durable.specs.Coding.{Entry}
+use Rattle.durable.specs.Entering.{Enters}
 use Rattle.durable.proofs.Bodies.{enters_once}
 use Rattle.machine.specs.Judged.{Judged, IsJudged, IsRight}
-use Rattle.machine.specs.Machine.{State, later, step}
+use Rattle.machine.specs.Machine.{State, step}
 use Rattle.machine.specs.Noted.{AreDistinct, AreEntriesOf, AreOver, HasEntry, lasting}
 use Rattle.machine.specs.Notes.{most_bytes}
 use Rattle.machine.specs.Sound.{IsSound}
@@ -43,7 +43,7 @@ right_none were entries none =
 both_none : (were entries : List Entry) → were ≡ [] → entries ≡ [] → were ++ entries ≡ []
 both_none were entries none also = ap (λ (es : List Entry). es ++ entries) none ∙ also
 
--- an answer is handed out at once exactly where nothing is held and the event has no entry
+-- when an answer needn't wait
 pub at_once : (config : Config) (s : State) (event : Event) (judged : Judged) (entries were are : List Entry) (held mid : List (ℕ × Answer)) (IsNow : Type 0) → IsTrue (is_config config)
     → IsSound config s → IsJudged config event judged → AreEntriesOf config s judged entries → are ≡ were ++ entries → (held ≡ [] → were ≡ []) → mid ≡ held
     → IsNow ↔ (are ≡ []) → (IsNow → mid ≡ []) → IsNow ↔ ((held ≡ []) × ¬ HasEntry config s judged)

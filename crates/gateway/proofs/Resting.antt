@@ -1,5 +1,5 @@
 -- What the files stand for, and the entries that wait.
-use Rattle.std.proofs.Common.{◌≡◌, inl, inr, ℕ, ◌+◌, ◌≤◌, List, [], ◌∷◌, ◌++◌, length, refl, sym, ◌∙◌, ap, subst, arith}
+use Rattle.std.proofs.Common.{◌≡◌, inl, ℕ, List, [], refl, sym, subst}
 use Rattle.packet.specs.Config.{Config}
 use Rattle.disk_model.specs.Disk.{Files, LeavesNow, LeavesOnly}
 use Rattle.disk_model.proofs.Moments.{idle}
@@ -11,8 +11,8 @@ use Rattle.durable.proofs.Storable.{recovers_sound}
 use Rattle.machine.specs.Machine.{State}
 use Rattle.machine.specs.Noted.{IsRestarted, lasting}
 use Rattle.entries.proofs.Again.{restart-sound}
-use Rattle.snapshot.specs.Store.{RecoversEither}
-use Rattle.gateway.specs.Kept.{IsStanding}
+use Rattle.snapshot.specs.Store.{Keeps, RecoversEither, Stored}
+use Rattle.gateway.specs.Kept.{HasPlaces, IsStanding}
 
 -- where no entry waits, the files stand for the present state
 pub nothing_waits : (config : Config) (files : Files) (entries : List Entry) (s : State) → IsStanding config files entries s → entries ≡ [] → Recovers files (lasting s)
@@ -47,6 +47,17 @@ module _ {D : Type 0} (moment : D → ℕ) (left : D → ℕ → Files → Type 
       → LeavesNow moment left disk (λ files. Recovers files first)
   leaves_as disk first kept recovers also leaves files now =
       subst (λ (d : Durable). Recovers files d) (recovers_once.state (seen disk) kept first also recovers) (leaves files now)
+
+  -- where the store has its groups
+  pub has_places : (store : Stored D) (d : Durable) → Keeps moment left seen store d → HasPlaces (seen store.disk) store.generation store.grown store.end
+  has_places store d keeps = let rests = keeps.rests.1 in record {
+    file = keeps.rests.0;
+    heading = rests.heading;
+    first = d;
+    active = rests.active;
+    numbered = rests.numbered;
+    grows = rests.filled;
+  }
 
 -- a gateway that begins again has nothing that waits
 pub begun : (config own : Config) (files : Files) (entries : List Entry) (d : Durable) (moment : ℕ) (s : State) → entries ≡ [] → own ≡ config → IsDurable config d

@@ -17,7 +17,7 @@ use Rattle.machine.specs.Sound.{IsSound}
 use Rattle.machine.specs.declared.event.Answer.{Answer}
 use Rattle.machine.specs.declared.event.Event.{Event}
 use Rattle.machine.proofs.Judging.{AreJudged-append, AreJudged-length, AreJudged-one}
-use Rattle.gateway.specs.Told.{Told, Took, TookAll, handed}
+use Rattle.gateway.specs.Told.{Told, Took, TookAll, TookFirst, handed}
 use Rattle.gateway.specs.declared.given.Given.{Given}
 use Rattle.gateway.specs.declared.given.Given.TheVariants.{Now, Held}
 use Rattle.gateway.specs.declared.fault.GatewayFault.{GatewayFault}
@@ -393,24 +393,23 @@ module _ {D : Type 0} (honest : D → Type 0) (moment : D → ℕ) (left : D →
 
 -- ---- several calls
 
--- it has stopped behind the first of the events
-pub stops-within : {D : Type 0} (honest : D → Type 0) (moment : D → ℕ) (left : D → ℕ → Files → Type 0) (failed : D → ℕ) (start now : Kept D) (events front back : List Event)
-    (out : List (ℕ × Answer)) (why : GatewayFault) → events ≡ front ++ back → Stops honest moment left failed start now front out why → StopsWithin honest moment left failed start now events out why
-stops-within honest moment left failed start now events front back out why split s =
-    let config = start.told.config in
-    let state = start.told.state in
-    let ran = s.ends.ran in
-    record {
-      took = record { front = front; back = back; split = split; took = ran.took };
-      keeps_honest = ran.keeps_honest;
-      any_moment = λ ready.
-          narrows moment left start.disk now.disk (λ before files. IsSafe config state front 0 files) (λ before files. IsSafe config state events 0 files) (ran.any_moment ready)
-          (λ before files was is. subst (λ (es : List Event). IsSafe config state es 0 files) (sym split) (safe-less config state front back 0 0 files (omega arith) is));
-      at_exit = λ ready files left_now.
-          subst (λ (es : List Event). IsSafe config state es (length out) files) (sym split) (safe-less config state front back (length out) (length out) files (omega arith) (s.ends.at_exit ready files left_now));
-      configured = ran.configured;
-      is_why = s.is_why;
-    }
+-- what a run that stopped behind the first of the events comes to, said of them all
+module _ {D : Type 0} (honest : D → Type 0) (moment : D → ℕ) (left : D → ℕ → Files → Type 0) (failed : D → ℕ) (start now : Kept D) (events : List Event) (out : List (ℕ × Answer))
+    (why : GatewayFault) (s : StopsWithin honest moment left failed start now events out why) where
+  pub within-took : TookFirst start.told now.told events out
+  within-took = record { front = s.front; back = s.back; split = s.split; took = s.stops.ends.ran.took }
+
+  pub within-any_moment : IsReady honest start → LeavesOnly moment left start.disk now.disk (IsSafe start.told.config start.told.state events 0)
+  within-any_moment ready =
+      narrows moment left start.disk now.disk (λ before files. IsSafe start.told.config start.told.state s.front 0 files)
+      (λ before files. IsSafe start.told.config start.told.state events 0 files) (s.stops.ends.ran.any_moment ready)
+      (λ before files was is. subst (λ (es : List Event). IsSafe start.told.config start.told.state es 0 files) (sym s.split)
+      (safe-less start.told.config start.told.state s.front s.back 0 0 files (omega arith) is))
+
+  pub within-at_exit : IsReady honest start → LeavesNow moment left now.disk (IsSafe start.told.config start.told.state events (length out))
+  within-at_exit ready files left_now =
+      subst (λ (es : List Event). IsSafe start.told.config start.told.state es (length out) files) (sym s.split)
+      (safe-less start.told.config start.told.state s.front s.back (length out) (length out) files (omega arith) (s.stops.ends.at_exit ready files left_now))
 
 -- memory was refused
 pub memory-why : {D : Type 0} (honest : D → Type 0) (moment : D → ℕ) (left : D → ℕ → Files → Type 0) (failed : D → ℕ) (start now : Kept D)
@@ -429,8 +428,7 @@ pub refused : {D : Type 0} (honest : D → Type 0) (moment : D → ℕ) (left : 
     → Stands honest moment left failed start start [] [] → Ends honest moment left failed start start [] [] → out ≡ [] → StopsWithin honest moment left failed start start events out fault.NoMemory
 refused honest moment left failed start events out stands ends none =
     subst (λ (l : List (ℕ × Answer)). StopsWithin honest moment left failed start start events l fault.NoMemory) (sym none)
-    (stops-within honest moment left failed start start events [] events [] fault.NoMemory refl
-    (record { ends = ends; is_why = memory-why honest moment left failed start start stands.stands; stays = λ other. stands }))
+    (record { front = []; back = events; split = refl; stops = record { ends = ends; is_why = memory-why honest moment left failed start start stands.stands; stays = λ other. stands } })
 
 module _ {D : Type 0} (honest : D → Type 0) (moment : D → ℕ) (left : D → ℕ → Files → Type 0) (failed : D → ℕ) where
   -- through no events

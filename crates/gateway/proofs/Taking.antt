@@ -1,14 +1,13 @@
 -- Events that were taken in turn, and one more.
-use Rattle.std.proofs.Common.{◌≡◌, ℕ, suc, ◌+◌, ◌≤◌, List, [], ◌∷◌, ◌++◌, length, vec_len, vec_capacity, Vec, Global, refl, sym, ap, ◌∙◌, subst, arith, append_assoc, length-append}
+use Rattle.std.proofs.Common.{◌≡◌, ℕ, suc, ◌+◌, List, [], ◌∷◌, ◌++◌, length, refl, sym, ap, ◌∙◌, subst, arith, append_assoc, length-append}
 use Rattle.std.proofs.lemmas.List.{append-nil}
 use Rattle.packet.specs.Config.{Config}
 use Rattle.machine.specs.declared.event.Event.{Event}
 use Rattle.machine.specs.declared.event.Answer.{Answer}
 use Rattle.gateway.specs.declared.given.Given.{Given}
-use Rattle.gateway.specs.declared.given.Given.TheVariants.{Now}
-use Rattle.machine.specs.Judged.{Judged, AreJudged, IsJudged}
+use Rattle.machine.specs.Judged.{Judged, IsJudged}
 use Rattle.machine.specs.Machine.{State, step, after, answers, numbered}
-use Rattle.gateway.specs.Told.{Told, Took, TookAll, TookFirst, handed}
+use Rattle.gateway.specs.Told.{Told, Took, TookAll, handed}
 use Rattle.machine.proofs.Judging.{AreJudged-append, AreJudged-length, AreJudged-one}
 
 pub after-append : (config : Config) (s : State) (es fs : List Judged) → after config s (es ++ fs) ≡ after config (after config s es) fs

@@ -1,17 +1,17 @@
 -- What contracts see of a gateway over a disk, and what it keeps.
-use Rattle.std.specs.Prelude.{◌≡◌, ◌⊎◌, ◌<◌, ◌≤◌, ◌+◌, ◌*◌, ℕ, Bool, false, List, [], length, take}
+use Rattle.std.specs.Prelude.{◌≡◌, ◌<◌, ◌≤◌, ◌+◌, ◌*◌, ℕ, Bool, false, List, [], length, take}
 use Rattle.packet.specs.Config.{Config}
 use Rattle.sessions.specs.declared.session.Session.{Session}
 use Rattle.disk_model.specs.Disk.{Files}
-use Rattle.durable.specs.Coding.{Entry}
+use Rattle.disk_model.specs.declared.disk.FileId.{FileId}
+use Rattle.durable.specs.Coding.{Entry, Heading}
 use Rattle.durable.specs.Entering.{Durable, Enters}
-use Rattle.durable.specs.Recovery.{Recovers}
+use Rattle.durable.specs.Recovery.{IsActive, Recovers, behind}
 use Rattle.machine.specs.Judged.{Judged, IsJudged, AreJudged}
 use Rattle.machine.specs.Machine.{State, after, later}
 use Rattle.machine.specs.Noted.{AreOver, lasting}
 use Rattle.machine.specs.Notes.{most_bytes}
 use Rattle.machine.specs.declared.event.Event.{Event}
-use Rattle.machine.specs.declared.event.Answer.{Answer}
 use Rattle.gateway.specs.Told.{Told}
 use Rattle.gateway.specs.declared.given.Given.{Given}
 use Rattle.gateway.specs.declared.given.Given.TheVariants.{Now, Held}
@@ -28,6 +28,15 @@ pub record Kept (D : Type 0) : Type 0 where
   pub filled : ℕ
   -- the state, the last number, and the answers that are held
   pub told : Told
+
+-- One of the files is active, of this generation; behind its snapshot it has groups of so many bytes, which end here.
+pub record HasPlaces (files : Files) (generation grown end : ℕ) : Type 0 where
+  pub file : FileId
+  pub heading : Heading
+  pub first : Durable
+  pub active : IsActive files file heading first end
+  pub numbered : heading.generation ≡ generation
+  pub grows : end ≡ behind heading + grown
 
 -- the event was answered at once
 abbrev pub IsNow : Given → Type 0

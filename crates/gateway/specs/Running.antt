@@ -6,7 +6,7 @@ use Rattle.durable.specs.Recovery.{IsConfigured, Recovers}
 use Rattle.machine.specs.Judged.{Judged, AreJudged}
 use Rattle.machine.specs.declared.event.Answer.{Answer}
 use Rattle.machine.specs.declared.event.Event.{Event}
-use Rattle.gateway.specs.Told.{TookAll, TookFirst}
+use Rattle.gateway.specs.Told.{TookAll}
 use Rattle.gateway.specs.declared.fault.GatewayFault.{GatewayFault}
 use Rattle.gateway.specs.declared.fault.GatewayFault.TheVariants as fault
 use Rattle.gateway.specs.Kept.{Kept, IsReady, IsSafe}
@@ -65,16 +65,12 @@ module _ {D : Type 0} (honest : D → Type 0) (moment : D → ℕ) (left : D →
     -- where no call of the disk failed, it stands as before, and may go on
     pub stays : why ≢ fault.Device → Stands events out
 
-  -- it ends behind the first of these events, with a fault
+  -- it ends behind the first of these events, with a fault, and takes none behind them
   pub record StopsWithin (events : List Event) (out : List (ℕ × Answer)) (why : GatewayFault) : Type 0 where
-    pub took : TookFirst start.told now.told events out
-    pub keeps_honest : honest start.disk ↔ honest now.disk
-    pub any_moment : IsReady honest start
-        → LeavesOnly moment left start.disk now.disk (IsSafe start.told.config start.told.state events 0)
-    pub at_exit : IsReady honest start
-        → LeavesNow moment left now.disk (IsSafe start.told.config start.told.state events (length out))
-    pub configured : honest start.disk → LeavesOnly moment left start.disk now.disk (IsConfigured start.told.config)
-    pub is_why : IsWhy why
+    pub front : List Event
+    pub back : List Event
+    pub split : events ≡ front ++ back
+    pub stops : Stops front out why
 
 module _ {D : Type 0} (honest : D → Type 0) (moment : D → ℕ) (left : D → ℕ → Files → Type 0) (failed : D → ℕ)
     (old new : Kept D) where

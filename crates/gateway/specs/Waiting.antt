@@ -1,5 +1,5 @@
 -- The answers that wait, and the entries of their events.
-use Rattle.std.specs.Prelude.{◌≡◌, ◌≢◌, ◌⊎◌, ◌<◌, ◌≤◌, ◌+◌, ◌^◌, ℕ, zero, suc, List, [], ◌∷◌, length, Option, Some, None}
+use Rattle.std.specs.Prelude.{◌≡◌, ◌≢◌, ◌⊎◌, ◌<◌, ◌≤◌, ◌+◌, ℕ, zero, suc, List, [], ◌∷◌, length, Option, Some, None}
 use Rattle.machine.specs.declared.event.Answer.{Answer}
 use Rattle.durable.specs.Coding.{Entry, AreEntries, body_bytes}
 use Rattle.durable.specs.Reading.{entry_at}

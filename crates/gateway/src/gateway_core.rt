@@ -1,17 +1,19 @@
 //! `Gateway`: a `Core`, which has all the state and does the steps (crate `machine`), a `Store`, which keeps in two
 //! files what must survive of it (crate `snapshot`), and the answers that are held between them.
-ghost use Rattle.std.specs.Prelude.{◌≡◌, ◌≢◌, ◌↔◌, ◌⊎◌, ◌+◌, ◌-◌, ◌^◌, ◌<◌, ◌≤◌, ◌++◌, ◌∷◌, [], IfOk, IfErr, OnOk, OnErr, IsOk, IsErrOf, MatchResult, IsTrue, length, map, true, false};
+ghost use Rattle.std.specs.Prelude.{◌≡◌, ◌≢◌, ◌↔◌, ◌⊎◌, ◌+◌, ◌-◌, ◌^◌, ◌<◌, ◌≤◌, ◌++◌, ◌∷◌, [], ℕ, List, IfOk, IfErr, OnOk, OnErr, IsOk, IsErrOf, MatchResult, IsTrue, length, map, true, false};
 ghost use Rattle.packet.specs.Config.{is_config};
 ghost use Rattle.disk_model.specs.Disk.{Leaves, LeavesNow, LeavesOnly, Looks, Called, Grew};
+ghost use Rattle.durable.specs.Coding.{Entry, body_bytes};
 ghost use Rattle.durable.specs.Entering.{Durable, IsDurable, durable};
 ghost use Rattle.durable.specs.Recovery.{Alike, IsConfigured, Recovers};
 ghost use Rattle.snapshot.specs.Store.{RecoversEither};
 ghost use Rattle.machine.specs.Judged.{Judged, IsJudged, IsNoLoad};
-ghost use Rattle.machine.specs.Noted.{HasEntry, IsRestarted, lasting};
+ghost use Rattle.machine.specs.Noted.{AreEntriesOf, HasEntry, IsRestarted, lasting};
 ghost use Rattle.machine.specs.Sound.{IsSound};
 ghost use Rattle.sessions.specs.Stilled.{stilled};
 ghost use Rattle.gateway.specs.Told.{Took, TookAll, TookFirst, handed, number_of};
-ghost use Rattle.gateway.specs.Kept.{IsNow, IsReady, IsRoomy, IsSafe, IsTooMuch};
+ghost use Rattle.gateway.specs.Kept.{HasPlaces, IsNow, IsReady, IsRoomy, IsSafe, IsTooMuch};
+ghost use Rattle.gateway.specs.Running.{StopsWithin};
 
 use crate::pending::{MOST_HELD, Pending};
 use crate::running::take_all;
@@ -185,6 +187,12 @@ impl<D: Disk + Drop> Gateway<D> {
             × LeavesNow D.moment D.left self.now.disk (λ files. Recovers files first) }
         ensures present { result ≡ false → D.honest self.now.disk → self.now.told.held ≡ [] → Recovers (D.seen self.now.disk) (lasting self.now.told.state) }
         ensures configured { result ≡ false → D.honest self.now.disk → LeavesNow D.moment D.left self.now.disk (IsConfigured self.now.told.config) }
+
+        // The groups of the active file end where the entries that wait begin.
+        ensures places { result ≡ false → D.honest self.now.disk → (end : ℕ)
+            × HasPlaces (D.seen self.now.disk) self.now.generation self.now.grown end × (end ≤ self.now.filled) }
+        ensures filled { result ≡ false → D.honest self.now.disk → self.now.told.held ≡ []
+            → HasPlaces (D.seen self.now.disk) self.now.generation self.now.grown self.now.filled }
     {
         self.store.has_fallen()
     }
@@ -220,6 +228,10 @@ impl<D: Disk + Drop> Gateway<D> {
         ensures took { IfOk result (λ given. Took self.old.told self.new.told event given) }
         ensures now { IfOk result (λ given. (judged : Judged) → IsJudged self.old.told.config event judged
             → IsNow given ↔ ((self.old.told.held ≡ []) × ¬ HasEntry self.old.told.config self.old.told.state judged)) }
+
+        // What waits has grown by the entries of the event.
+        ensures filled { OnOk result ((judged : Judged) × (entries : List Entry) × IsJudged self.old.told.config event judged
+            × AreEntriesOf self.old.told.config self.old.told.state judged entries × (self.new.filled ≡ self.old.filled + length (body_bytes entries))) }
         ensures err { IfErr result (λ e. (e.0 ≡ event) × (self.new ≡ self.old)) }
         ensures reopen { IfErr result (λ e. (e.1 ≡ GatewayFault.Reopen) ↔ (self.old.fallen ≡ true)) }
         ensures stood { OnOk result (self.old.fallen ≡ false) }
@@ -289,6 +301,9 @@ impl<D: Disk + Drop> Gateway<D> {
         ensures causes { IfErr result (λ e. (e ≡ GatewayFault.Reopen) ⊎ (e ≡ GatewayFault.Device)) }
         ensures device { IsErrOf result GatewayFault.Device → Grew (D.failed self.old.disk) (D.failed self.new.disk) }
         ensures no_failure { OnOk result (D.failed self.new.disk ≡ D.failed self.old.disk) }
+
+        // The group that was written has 5 bytes beside its entries.
+        ensures filled { D.honest self.old.disk → self.old.told.held ≢ [] → OnOk result (self.new.filled ≡ self.old.filled + 5) }
         ensures idle { self.old.told.held ≡ [] → (self.new.disk ≡ self.old.disk) × (self.new.filled ≡ self.old.filled) }
         ensures called { D.honest self.old.disk → self.old.told.held ≢ [] → OnOk result (Called 4 (D.called self.old.disk) (D.called self.new.disk)) }
     {
@@ -384,6 +399,10 @@ impl<D: Disk + Drop> Gateway<D> {
         ensures at_exit { IsReady D.honest self.old → MatchResult result
             (λ answers. LeavesNow D.moment D.left self.new.disk (IsSafe self.old.told.config self.old.told.state events.items (length answers.items)))
             (λ e. LeavesNow D.moment D.left self.new.disk (IsSafe self.old.told.config self.old.told.state events.items (length e.0.items))) }
+
+        // With a fault, both are said of those that were taken.
+        ensures within { self.old.fallen ≡ false → IfErr result (λ e. StopsWithin D.honest D.moment D.left D.failed self.old self.new
+            events.items e.0.items e.1) }
         ensures configured { self.old.fallen ≡ false → D.honest self.old.disk
             → LeavesOnly D.moment D.left self.old.disk self.new.disk (IsConfigured self.old.told.config) }
         ensures reopen { IfErr result (λ e. (e.1 ≡ GatewayFault.Reopen) ↔ (self.old.fallen ≡ true)) }

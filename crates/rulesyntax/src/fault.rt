@@ -15,33 +15,33 @@ use std::fmt;
 pub enum Kind {
     /// More bytes than `GREATEST_LENGTH` of `ruleset`.
     TooLong,
-    /// No ruleset is spelled, and neither `Unsupported` nor `Family`.
+    /// The grammar spells no such text, and neither of the next two says why.
     Syntax,
-    /// No ruleset is spelled, and the first token that can't stand where it does is a name.
+    /// The grammar spells no such text: it breaks off at a word that it doesn't know at that place.
     Unsupported,
-    /// That name is another family than `ip` and `inet`, behind `table`.
+    /// And that word, behind `table`, is one of the families that natgw doesn't have.
     Family,
-    /// A jump or goto names no chain without a hook in the same table.
+    /// A rule sends packets to a chain that its table doesn't have, or that has a hook of its own.
     UnknownChain,
-    /// `@` names no set of the same table.
+    /// A rule asks for a set that its table doesn't have.
     UnknownSet,
-    /// Two tables, chains or sets of one name, or two `type` or `elements` lines in a set.
+    /// A name is given twice, or a set says its type or its elements twice.
     Duplicate,
-    /// Chains that reach themselves by jumps and gotos.
+    /// A packet could go round in chains that lead to each other.
     Loop,
-    /// A path of more than 16 jumps and gotos.
+    /// A packet could be sent on more than 16 times, from chain to chain.
     Depth,
-    /// A chain or a translation at a hook where it can't be.
+    /// A chain, or a translation that it reaches, doesn't belong to the hook.
     WrongHook,
-    /// A value, a set or a translation where one of another type belongs.
+    /// A value, a set or a translation doesn't fit the type that is wanted at its place.
     WrongType,
-    /// A source translation to another address than the external one.
+    /// A new source would not be the external address.
     NotExternal,
-    /// A destination translation to an address that isn't inside.
+    /// A new destination would lie in none of the inside prefixes.
     NotInside,
-    /// Too many chains, rules or elements.
+    /// The text has more chains, rules or elements than there may be.
     Limit,
-    /// Two keys of a verdict map share a value.
+    /// A verdict map has two answers for some value.
     Overlap,
     /// A growth was refused.
     NoMemory,

@@ -1,12 +1,11 @@
 -- What a move makes of a walk that stands.
-use Rattle.std.proofs.Common.{◌≡◌, ◌⊎◌, ℕ, zero, suc, ◌+◌, ◌-◌, ◌<◌, ◌≤◌, false, List, [], ◌∷◌, Option, Some, None, IfSome, MatchOption, length, drop, slice_get, slice_index_or, refl, sym, ap, ◌∙◌, subst, inl, inr, arith}
-use Rattle.std.specs.List.{list_all}
+use Rattle.std.proofs.Common.{◌≡◌, ◌⊎◌, ℕ, zero, suc, ◌+◌, ◌-◌, ◌<◌, ◌≤◌, List, [], ◌∷◌, Option, Some, None, IfSome, MatchOption, length, drop, slice_get, slice_index_or, slice_set, refl, sym, ap, ◌∙◌, subst, inl, inr, arith}
 use Rattle.std.specs.Option.{unwrap_or}
-use Rattle.std.proofs.lemmas.List.{length-drop, drop_all}
+use Rattle.std.proofs.lemmas.Bool.{cases_eq}
+use Rattle.std.proofs.lemmas.List.{drop_all, get_or-set_other}
 use Rattle.std.proofs.lemmas.Option.{slice_get_within}
 use Rattle.packet.specs.Config.{Config}
 use Rattle.rulesyntax.specs.declared.tree.Rule.{Rule}
-use Rattle.rulesyntax.specs.declared.tree.Chain.{Chain}
 use Rattle.rulesyntax.specs.declared.tree.Table.{Table}
 use Rattle.ruletext.proofs.Edges.{drop_at}
 use Rattle.verdict.specs.declared.facts.Facts.{Facts}
@@ -15,32 +14,47 @@ use Rattle.verdict.specs.declared.chain.Outcome.TheVariants.{Accepts, Drops, To,
 use Rattle.verdict.specs.declared.stack.Place.{Place}
 use Rattle.verdict.specs.declared.walk.Move.{Move}
 use Rattle.verdict.specs.declared.walk.Move.TheVariants.{Next, Gives, Jumps, Goes}
-use Rattle.verdict.specs.Matching.{holds}
-use Rattle.verdict.specs.Evaluation.{unless_ended, after, walk, called}
-use Rattle.verdict.specs.Targets.{OfEach, TargetsHave, IsShort, IsRemembered}
+use Rattle.verdict.specs.Evaluation.{unless_ended, after}
+use Rattle.verdict.specs.Targets.{OfEach, TargetsHave, IsShort}
 use Rattle.verdict.specs.Lines.{place_among}
-use Rattle.verdict.specs.Places.{move_of, ending_by, rules_at, rest_of, comes, comes_at, AreKnown, Calls, IsResolved, after_call, whole, Reads, Fit, weight, Standing, GoesOn, Stepped, IsRead, AreRemembered, AreSkipped, Calling, GoesTo, EndsAll, Acts}
+use Rattle.verdict.specs.Places.{move_of, ending_by, rules_at, rest_of, comes, comes_at, AreKnown, IsResolved, after_call, whole, Reads, Standing, GoesOn, Stepped, IsRead, AreRemembered, told_of, AreSkipped, Calling, GoesTo, EndsAll, Acts}
 use Rattle.verdict.proofs.Steady.{rules_weaken}
 use Rattle.verdict.proofs.Known.{short_within}
 use Rattle.verdict.proofs.Moves.{rule_moves}
 use Rattle.verdict.proofs.Stepping.{each_at, Led, rule_leads, some_left, called_fits, less_read, less_called, less_back}
 
--- what is remembered of the chain that is read, and then of those below it
-pub all_remembered : (known known1 known2 : List (Option Outcome)) (here : Place) (places : List Place) (given : Outcome) → IsRemembered known known1 here.chain given → AreRemembered known1 known2 places given → AreRemembered known known2 (here ∷ places) given
-all_remembered known known1 known2 here places given one all a any is = elim (all a any is) [
-  | inl old ↦ elim (one a any old) [
+-- of a chain of which an outcome is told, no other is known
+own_told : (known : List (Option Outcome)) (a : ℕ) (given any : Outcome) → slice_index_or (slice_set known a (Some given)) a None ≡ Some any → any ≡ given
+own_told [] a given any is = cc
+own_told (k ∷ ks) zero given any is = cc
+own_told (k ∷ ks) (suc a) given any is = own_told ks a given any is
+
+one_told : (known : List (Option Outcome)) (here a : ℕ) (given any : Outcome) → slice_index_or (slice_set known here (Some given)) a None ≡ Some any → (slice_index_or known a None ≡ Some any) ⊎ ((a ≡ here) × (any ≡ given))
+one_told known here a given any is = elim (cases_eq a here) [
+  | inl same ↦ inr (same, own_told known here given any (subst (λ b. slice_index_or (slice_set known here (Some given)) b None ≡ Some any) same is))
+  | inr other ↦ inl (sym (get_or-set_other known here a (Some given) None other) ∙ is)
+]
+
+-- what is told of chains is all that is known more
+pub told_remembered : (places : List Place) (known : List (Option Outcome)) (given : Outcome) → AreRemembered known (told_of known places given) places given
+told_remembered [] known given a any is = inl is
+told_remembered (here ∷ places) known given a any is = elim (told_remembered places (slice_set known here.chain (Some given)) given a any is) [
+  | inl old ↦ elim (one_told known here.chain a given any old) [
     | inl older ↦ inl older
     | inr own ↦ inr (inl own.0, own.1)
   ]
   | inr below ↦ inr (inr below.0, below.1)
 ]
 
+told_same : (known known2 : List (Option Outcome)) (places : List Place) (given : Outcome) → known2 ≡ told_of known places given → AreRemembered known known2 places given
+told_same known known2 places given is = subst (λ k. AreRemembered known k places given) (sym is) (told_remembered places known given)
+
 pub given_acts : (step : Move) (at count : ℕ) (here : Place) (places : List Place) (known : List (Option Outcome)) (here2 : Place) (places2 : List Place) (known2 : List (Option Outcome)) (outcome given : Outcome)
-    → step ≡ Gives outcome → unless_ended outcome ≡ Some given → AreRemembered known known2 (here ∷ places) given → Acts step at count here places known here2 places2 known2 (Some given)
-given_acts step at count here places known here2 places2 known2 Accepts given is final all = let e : given ≡ Accepts = cc in rw (is, e) (record { outcome_is = refl; remembered = subst (λ o. AreRemembered known known2 (here ∷ places) o) e all })
-given_acts step at count here places known here2 places2 known2 Drops given is final all = let e : given ≡ Drops = cc in rw (is, e) (record { outcome_is = refl; remembered = subst (λ o. AreRemembered known known2 (here ∷ places) o) e all })
-given_acts step at count here places known here2 places2 known2 (To x) given is final all = let e : given ≡ To x = cc in rw (is, e) (record { outcome_is = refl; remembered = subst (λ o. AreRemembered known known2 (here ∷ places) o) e all })
-given_acts step at count here places known here2 places2 known2 (From x) given is final all = let e : given ≡ From x = cc in rw (is, e) (record { outcome_is = refl; remembered = subst (λ o. AreRemembered known known2 (here ∷ places) o) e all })
+    → step ≡ Gives outcome → unless_ended outcome ≡ Some given → known2 ≡ told_of known (here ∷ places) given → Acts step at count here places known here2 places2 known2 (Some given)
+given_acts step at count here places known here2 places2 known2 Accepts given is final all = let e : given ≡ Accepts = cc in rw (is, e) (record { outcome_is = refl; told = subst (λ o. known2 ≡ told_of known (here ∷ places) o) e all })
+given_acts step at count here places known here2 places2 known2 Drops given is final all = let e : given ≡ Drops = cc in rw (is, e) (record { outcome_is = refl; told = subst (λ o. known2 ≡ told_of known (here ∷ places) o) e all })
+given_acts step at count here places known here2 places2 known2 (To x) given is final all = let e : given ≡ To x = cc in rw (is, e) (record { outcome_is = refl; told = subst (λ o. known2 ≡ told_of known (here ∷ places) o) e all })
+given_acts step at count here places known here2 places2 known2 (From x) given is final all = let e : given ≡ From x = cc in rw (is, e) (record { outcome_is = refl; told = subst (λ o. known2 ≡ told_of known (here ∷ places) o) e all })
 given_acts step at count here places known here2 places2 known2 Ends given is final all = cc
 
 module _ (config : Config) (facts : Facts) (table : Table) where
@@ -129,8 +143,8 @@ module _ (config : Config) (facts : Facts) (table : Table) where
       pub back_all : places ≡ [] → Ends ≡ whole config facts table Ends (here ∷ places)
       back_all is = sym ended ∙ sym (ap (whole config facts table (W (rest_of table.chains here))) is)
 
-      pub ended_known : (known known2 : List (Option Outcome)) → AreKnown config facts table known → AreRemembered known known2 (here ∷ []) Ends → AreKnown config facts table known2
-      ended_known known known2 are more = known_more known known2 (here ∷ []) Ends are more (λ a read. elim read [
+      pub ended_known : (known known2 : List (Option Outcome)) → AreKnown config facts table known → known2 ≡ told_of known (here ∷ []) Ends → AreKnown config facts table known2
+      ended_known known known2 are more = known_more known known2 (here ∷ []) Ends are (told_same known known2 (here ∷ []) Ends more) (λ a read. elim read [
         | inl own ↦ ap (comes_at config facts table) own ∙ standing.reads.0 ∙ ended
         | inr none ↦ absurd none
       ])
@@ -149,8 +163,8 @@ module _ (config : Config) (facts : Facts) (table : Table) where
       short16 : TargetsHave (IsShort table.chains 16) rule
       short16 = (rules_weaken (IsShort table.chains (16 - length places)) (IsShort table.chains 16) (λ name s. short_within table.chains (16 - length places) 16 name (omega arith) s) (rule ∷ []) (short, tt)).0
 
-      led : Led table.chains (16 - length places) (move_of config facts table rule)
-      led = rule_leads config facts table (16 - length places) rule short
+      led : Led table.chains (IsShort table.chains (16 - length places)) (move_of config facts table rule)
+      led = rule_leads config facts table (IsShort table.chains (16 - length places)) rule short
 
       -- a called chain leaves room, and no long path begins at it
       called_room : (b : ℕ) → b < length table.chains → (name : List ℕ) → IsShort table.chains (16 - length places) name → b ≡ place_among table.chains name → length places < 16
@@ -199,8 +213,8 @@ module _ (config : Config) (facts : Facts) (table : Table) where
       pub room : (move : Move) → IsResolved config facts table (move_of config facts table rule) move → Calling move (length places < 16)
       room Next resolved = tt
       room (Gives o) resolved = tt
-      room (Jumps b) resolved = let l = subst (Led table.chains (16 - length places)) resolved.calls.1 led in called_room b resolved.calls.0 l.0 l.1 l.2
-      room (Goes b) resolved = let l = subst (Led table.chains (16 - length places)) resolved.calls.1 led in called_room b resolved.calls.0 l.0 l.1 l.2
+      room (Jumps b) resolved = let l = subst (Led table.chains (IsShort table.chains (16 - length places))) resolved.calls.1 led in called_room b resolved.calls.0 l.0 l.1 l.2
+      room (Goes b) resolved = let l = subst (Led table.chains (IsShort table.chains (16 - length places))) resolved.calls.1 led in called_room b resolved.calls.0 l.0 l.1 l.2
 
       module _ (known known2 : List (Option Outcome)) (are : AreKnown config facts table known) (here2 : Place) (places2 : List Place) (result : Option Outcome) where
         abbrev Done : Type 0
@@ -215,7 +229,7 @@ module _ (config : Config) (facts : Facts) (table : Table) where
         all_ended : (given : Outcome) → EndsAll given here places known known2 result → unless_ended given ≡ Some given → W (rest_of table.chains here) ≡ given → Done
         all_ended given ends final is =
             let own = ap unless_ended is ∙ final in (
-              known_more known known2 (here ∷ places) given are ends.remembered (λ a read. elim read [
+              known_more known known2 (here ∷ places) given are (told_same known known2 (here ∷ places) given ends.told) (λ a read. elim read [
                 | inl same ↦ ap (comes_at config facts table) same ∙ standing.reads.0 ∙ is
                 | inr below ↦ final_read (W (rest_of table.chains here)) given places a own is standing.reads.1 below
               ]),
@@ -233,12 +247,12 @@ module _ (config : Config) (facts : Facts) (table : Table) where
         acted (Gives (To x)) resolved acts = all_ended (To x) acts refl (rest_is (Gives (To x)) (Some (To x)) resolved refl)
         acted (Gives (From x)) resolved acts = all_ended (From x) acts refl (rest_is (Gives (From x)) (Some (From x)) resolved refl)
         acted (Jumps b) resolved acts =
-            let l = subst (Led table.chains (16 - length places)) resolved.calls.1 led in
+            let l = subst (Led table.chains (IsShort table.chains (16 - length places))) resolved.calls.1 led in
             landed (record { chain = b; at = 0 }) (record { chain = here.chain; at = at + 1 } ∷ places)
             (calls_on b (at + 1) resolved.calls.0 (called_room b resolved.calls.0 l.0 l.1 l.2) (called_short_at b resolved.calls.0 l.0 l.1 l.2) at_more at_within
             (rest_is (Jumps b) (unless_ended (comes_at config facts table b)) resolved refl)) acts.0 acts.1
         acted (Goes b) resolved acts =
-            let l = subst (Led table.chains (16 - length places)) resolved.calls.1 led in
+            let l = subst (Led table.chains (IsShort table.chains (16 - length places))) resolved.calls.1 led in
             landed (record { chain = b; at = 0 }) (record { chain = here.chain; at = length (rules_of_place here.chain) } ∷ places)
             (calls_on b (length (rules_of_place here.chain)) resolved.calls.0 (called_room b resolved.calls.0 l.0 l.1 l.2) (called_short_at b resolved.calls.0 l.0 l.1 l.2) end_more end_within
             (rest_is (Goes b) (Some (comes_at config facts table b)) resolved refl ∙ ends_or (comes_at config facts table b) ∙ ap (unwrap_or (unless_ended (comes_at config facts table b))) (sym no_rest))) acts.0 acts.1
@@ -264,7 +278,7 @@ met config facts table read rules at told move same lt is resolved =
 -- a called chain returns, or the base chain ends
 pub returned : (config : Config) (facts : Facts) (table : Table) (here : Place) (places : List Place) (standing : Standing config facts table (here ∷ places)) (at : ℕ) (known known2 : List (Option Outcome)) (here2 : Place) (places2 : List Place) (result : Option Outcome)
     → here.at ≤ at → at ≤ length (rules_at table.chains here.chain) → AreSkipped config facts table (rules_at table.chains here.chain) here.at at → length (rules_at table.chains here.chain) ≤ at
-    → AreKnown config facts table known → AreRemembered known known2 (here ∷ []) Ends → MatchOption result (places ≡ here2 ∷ places2) (λ outcome. (outcome ≡ Ends) × (places ≡ []))
+    → AreKnown config facts table known → known2 ≡ told_of known (here ∷ []) Ends → MatchOption result (places ≡ here2 ∷ places2) (λ outcome. (outcome ≡ Ends) × (places ≡ []))
     → AreKnown config facts table known2 × Stepped config facts table (here ∷ places) (here2 ∷ places2) result
 returned config facts table here places standing at known known2 here2 places2 None rise le skipped past are more back =
     let ended = ends_at config facts table here places standing at rise le skipped past in

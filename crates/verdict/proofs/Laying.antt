@@ -1,10 +1,9 @@
 -- How a row grows: what was laid stays where it lies.
-use Rattle.std.proofs.Common.{◌≡◌, ◌⊎◌, ◌<◌, ◌≤◌, ℕ, zero, suc, ◌+◌, List, [], ◌∷◌, ◌++◌, Option, Some, None, length, map, take, get_or, slice_get, refl, sym, ap, ◌∙◌, subst, inl, inr, arith, add-one, length-append}
+use Rattle.std.proofs.Common.{◌≡◌, ◌⊎◌, ◌<◌, ℕ, zero, suc, ◌+◌, List, [], ◌∷◌, ◌++◌, Some, length, map, take, get_or, slice_get, refl, sym, ap, ◌∙◌, subst, inl, inr, arith, add-one, length-append}
 use Rattle.std.specs.Option.{option_map}
 use Rattle.std.proofs.lemmas.List.{append-nil, append_assoc}
 use Rattle.std.proofs.Math.Seq.{take-suc}
-use Rattle.std.proofs.lemmas.Option.{slice_get-map, slice_get_within}
-use Rattle.rulesyntax.specs.declared.tree.Verdict.{Verdict}
+use Rattle.std.proofs.lemmas.Option.{slice_get-map}
 use Rattle.rulesyntax.specs.declared.tree.Rule.{Rule}
 use Rattle.rulesyntax.specs.declared.tree.Chain.{Chain}
 use Rattle.rulesyntax.specs.declared.tree.Table.{Table}

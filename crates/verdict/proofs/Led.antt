@@ -1,5 +1,5 @@
 -- Where in the row of targets those of a verdict stand.
-use Rattle.std.proofs.Common.{◌≡◌, ℕ, ◌+◌, ◌<◌, List, Option, Some, None, length, map, slice_get, refl, sym, ap, ◌∙◌, subst, arith}
+use Rattle.std.proofs.Common.{◌≡◌, ℕ, ◌+◌, ◌<◌, List, Some, length, slice_get, refl, ap, ◌∙◌, subst, arith}
 use Rattle.std.specs.Option.{option_map}
 use Rattle.std.proofs.lemmas.Option.{slice_get-map, slice_get_within}
 use Rattle.rulesyntax.specs.declared.tree.Pair.{Pair}
@@ -10,8 +10,6 @@ use Rattle.rulesyntax.specs.declared.tree.End.TheVariants as ends
 use Rattle.rulesyntax.specs.declared.tree.Chain.{Chain}
 use Rattle.ruletext.specs.Said.{verdicts_in}
 use Rattle.verdict.specs.Lines.{place_led, LeadsFrom}
-use Rattle.verdict.specs.Evaluation.{looked_up}
-use Rattle.verdict.specs.Places.{IsKey}
 
 module _ (chains : List Chain) (targets : List ℕ) (first : ℕ) (end : End) (leads : LeadsFrom chains targets first (verdicts_in end)) where
   pub verdict_led : (verdict : Verdict) → end ≡ ends.Verdict verdict → slice_get targets first ≡ Some (place_led chains verdict)

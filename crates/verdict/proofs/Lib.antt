@@ -15,3 +15,4 @@ pub mod Led
 pub mod Moves
 pub mod Stepping
 pub mod Acting
+pub mod Spending

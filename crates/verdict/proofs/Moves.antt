@@ -1,5 +1,5 @@
 -- What a rule makes of its chain is what its move does.
-use Rattle.std.proofs.Common.{◌≡◌, ◌⊎◌, ℕ, zero, suc, ◌+◌, ◌<◌, ◌≤◌, true, false, List, [], ◌∷◌, Option, Some, None, length, slice_get, slice_index_or, refl, sym, ap, ◌∙◌, subst, inl, inr, arith, add-one, bytes_eq, if◌then◌else◌}
+use Rattle.std.proofs.Common.{◌≡◌, ℕ, ◌≤◌, List, [], ◌∷◌, Option, Some, None, length, refl, sym, ap, ◌∙◌, inl, inr, add-one, bytes_eq}
 use Rattle.std.specs.List.{list_all}
 use Rattle.std.specs.Option.{option_and_then, option_map_or}
 use Rattle.std.proofs.lemmas.Bool.{cases_Bool}
@@ -15,13 +15,12 @@ use Rattle.rulesyntax.specs.declared.tree.Table.{Table}
 use Rattle.ruletext.specs.Said.{verdicts_in, verdicts_of}
 use Rattle.verdict.specs.declared.facts.Facts.{Facts}
 use Rattle.verdict.specs.declared.chain.Outcome.{Outcome}
-use Rattle.verdict.specs.declared.chain.Outcome.TheVariants.{Ends}
 use Rattle.verdict.specs.declared.walk.Move.{Move}
 use Rattle.verdict.specs.declared.walk.Move.TheVariants.{Next, Gives, Jumps, Goes}
 use Rattle.verdict.specs.Matching.{holds}
-use Rattle.verdict.specs.Evaluation.{mapped, translation, unless_ended, ending, taken, after, walk, rules_of, called}
+use Rattle.verdict.specs.Evaluation.{mapped, translation, unless_ended, ending, taken, after, rules_of, called}
 use Rattle.verdict.specs.Targets.{OfEach, TargetHas, TargetsHave, IsShort}
-use Rattle.verdict.specs.Lines.{place_among, place_led}
+use Rattle.verdict.specs.Lines.{place_among}
 use Rattle.verdict.specs.Places.{move_led, move_at, move_of, ending_by, rules_at, comes, comes_at, AreKnown, CameTo, Calls, IsResolved}
 use Rattle.verdict.proofs.Steady.{mapped_has, unfolds}
 
@@ -89,10 +88,10 @@ module _ (config : Config) (facts : Facts) (table : Table) where
 
   module _ (known : List (Option Outcome)) (are : AreKnown config facts table known) (place : ℕ) where
     pub jump_new : CameTo known (length table.chains) place None → IsResolved config facts table (Jumps place) (Jumps place)
-    jump_new new = record { same = refl; calls = (new, refl) }
+    jump_new new = record { same = refl; calls = (new.0, refl) }
 
     pub goto_new : CameTo known (length table.chains) place None → IsResolved config facts table (Goes place) (Goes place)
-    goto_new new = record { same = refl; calls = (new, refl) }
+    goto_new new = record { same = refl; calls = (new.0, refl) }
 
     module _ (outcome : Outcome) (is : CameTo known (length table.chains) place (Some outcome)) where
       pub jump_ended : unless_ended outcome ≡ None → IsResolved config facts table (Jumps place) Next

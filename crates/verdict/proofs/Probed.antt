@@ -1,7 +1,6 @@
 -- A packet whose number lies outside the bounds that a match sets does not match.
-use Rattle.std.proofs.Common.{◌≡◌, ◌<◌, ◌≤◌, ℕ, Bool, true, false, ◌&&◌, List, Option, Some, None, length, get_or, slice_get, refl, sym, ap, ◌∙◌, if◌then◌else◌, arith}
+use Rattle.std.proofs.Common.{◌≡◌, ◌<◌, ℕ, Bool, true, false, ◌&&◌, List, length, get_or, slice_get, refl, sym, ap, ◌∙◌, if◌then◌else◌, arith}
 use Rattle.std.specs.Option.{option_map_or}
-use Rattle.std.specs.List.{list_all}
 use Rattle.std.proofs.lemmas.Bool.{false≢true}
 use Rattle.std.proofs.lemmas.List.Folds.{list_all_at}
 use Rattle.packet.specs.Config.{Config}
@@ -18,8 +17,8 @@ use Rattle.rulesyntax.specs.declared.tree.Match.{Match}
 use Rattle.ruletext.specs.Classes.{class_of}
 use Rattle.verdict.specs.declared.facts.Facts.{Facts}
 use Rattle.verdict.specs.declared.row.Probe.{Probe}
-use Rattle.verdict.specs.Matching.{is_between, lies, is_on_side, asked, has_protocol, is_of, state_number, holds}
-use Rattle.verdict.specs.Lines.{numbers_of, port_of, place_of_head, may_hold, Tells, TestTells}
+use Rattle.verdict.specs.Matching.{is_between, lies, is_on_side, asked, has_protocol, is_of, holds}
+use Rattle.verdict.specs.Lines.{numbers_of, place_of_head, may_hold, Tells, TestTells}
 
 excluded : (low high n : ℕ) (b : Bool) → (b ≡ true → is_between low high n ≡ true) → is_between low high n ≡ false → b ≡ false
 excluded low high n true fits out = absurd (false≢true (sym out ∙ fits refl))

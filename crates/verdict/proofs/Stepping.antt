@@ -1,11 +1,10 @@
 -- How a walk stands after each step.
-use Rattle.std.proofs.Common.{◌≡◌, ◌⊎◌, ℕ, zero, suc, ◌+◌, ◌-◌, ◌*◌, ◌^◌, ◌<◌, ◌≤◌, false, List, [], ◌∷◌, Option, Some, None, length, drop, map, slice_get, slice_index_or, refl, sym, ap, ◌∙◌, subst, inl, inr, arith, add-one, bytes_eq}
+use Rattle.std.proofs.Common.{◌≡◌, ℕ, zero, suc, ◌+◌, ◌-◌, ◌*◌, ◌^◌, ◌<◌, ◌≤◌, List, [], ◌∷◌, Option, Some, None, length, drop, slice_get, refl, sym, ap, ◌∙◌, subst, inl, inr, arith, add-one, bytes_eq}
 use Rattle.std.specs.List.{list_all}
-use Rattle.std.specs.Option.{unwrap_or, option_and_then, option_map_or}
+use Rattle.std.specs.Option.{option_map_or}
 use Rattle.std.proofs.Math.Nat.{one-le-pow, mul-le-mul_right, suc-mul, pow-suc}
 use Rattle.std.proofs.lemmas.Bool.{cases_Bool}
-use Rattle.std.proofs.lemmas.List.{length-drop, drop_all}
-use Rattle.std.proofs.lemmas.Option.{slice_get_within}
+use Rattle.std.proofs.lemmas.List.{length-drop}
 use Rattle.std.proofs.lemmas.Slice.Eq.{bytes_eq-Decides}
 use Rattle.packet.specs.Config.{Config}
 use Rattle.rulesyntax.specs.declared.tree.Verdict.{Verdict}
@@ -16,42 +15,39 @@ use Rattle.rulesyntax.specs.declared.tree.Rule.{Rule}
 use Rattle.rulesyntax.specs.declared.tree.Chain.{Chain}
 use Rattle.rulesyntax.specs.declared.tree.Table.{Table}
 use Rattle.ruletext.specs.Said.{verdicts_in, verdicts_of, chain_names}
-use Rattle.ruletext.proofs.Edges.{drop_at}
 use Rattle.verdict.specs.declared.facts.Facts.{Facts}
 use Rattle.verdict.specs.declared.chain.Outcome.{Outcome}
-use Rattle.verdict.specs.declared.chain.Outcome.TheVariants.{Accepts, Drops, To, From, Ends}
 use Rattle.verdict.specs.declared.stack.Place.{Place}
 use Rattle.verdict.specs.declared.walk.Move.{Move}
 use Rattle.verdict.specs.declared.walk.Move.TheVariants.{Next, Gives, Jumps, Goes}
 use Rattle.verdict.specs.Matching.{holds}
-use Rattle.verdict.specs.Evaluation.{mapped, translation, unless_ended, after, walk, rules_of, called}
-use Rattle.verdict.specs.Targets.{OfEach, TargetHas, TargetsHave, IsShort, IsRemembered}
+use Rattle.verdict.specs.Evaluation.{mapped, translation}
+use Rattle.verdict.specs.Targets.{OfEach, TargetHas, TargetsHave, IsShort}
 use Rattle.verdict.specs.Lines.{place_among}
-use Rattle.verdict.specs.Places.{move_led, move_at, move_of, ending_by, rules_at, rest_of, comes, comes_at, AreKnown, Calls, IsResolved, after_call, whole, Reads, Fit, rules_in, weight, Standing, GoesOn, Stepped, IsRead, AreRemembered, AreSkipped, Calling, GoesTo, EndsAll, Acts}
-use Rattle.verdict.proofs.Steady.{mapped_has, called_short, rules_weaken, verdicts_weaken}
-use Rattle.verdict.proofs.Known.{short_within}
-use Rattle.verdict.proofs.Moves.{rules_place, rule_moves}
+use Rattle.verdict.specs.Places.{move_led, move_at, move_of, rules_at, rest_of, rules_in, weight}
+use Rattle.verdict.proofs.Steady.{mapped_has, called_short}
+use Rattle.verdict.proofs.Moves.{rules_place}
 
 pub each_at : {X : Type 0} (P : X → Type 0) (xs : List X) (i : ℕ) (x : X) → OfEach P xs → slice_get xs i ≡ Some x → P x
 each_at P [] i x all at = cc
 each_at P (y ∷ xs) zero x all at = let e : y ≡ x = cc in subst P e all.0
 each_at P (y ∷ xs) (suc i) x all at = each_at P xs i x all.1 at
 
-place_name : (chains : List Chain) (name : List ℕ) → place_among chains name < length chains → slice_get (chain_names chains) (place_among chains name) ≡ Some name
+pub place_name : (chains : List Chain) (name : List ℕ) → place_among chains name < length chains → slice_get (chain_names chains) (place_among chains name) ≡ Some name
 place_name [] name = λ lt. absurd (omega arith)
 place_name (chain ∷ chains) name = elim (cases_Bool (bytes_eq chain.name name)) [
   | inl same ↦ rw same (λ lt. ap Some ((bytes_eq-Decides chain.name name).0 same))
   | inr other ↦ rw other (λ lt. ap (slice_get (chain_names (chain ∷ chains))) (add-one (place_among chains name)) ∙ place_name chains name (omega arith))
 ]
 
--- the name of a called chain, from which no long path begins
-abbrev pub Led : List Chain → ℕ → Move → Type 0
-Led chains k (Jumps b) = (name : List ℕ) × IsShort chains k name × (b ≡ place_among chains name)
-Led chains k (Goes b) = (name : List ℕ) × IsShort chains k name × (b ≡ place_among chains name)
-Led chains k move = Unit {0}
+-- a called chain has a name with this property
+abbrev pub Led : List Chain → (List ℕ → Type 0) → Move → Type 0
+Led chains P (Jumps b) = (name : List ℕ) × P name × (b ≡ place_among chains name)
+Led chains P (Goes b) = (name : List ℕ) × P name × (b ≡ place_among chains name)
+Led chains P move = Unit {0}
 
-module _ (config : Config) (facts : Facts) (table : Table) (k : ℕ) where
-  verdict_leads : (v : Verdict) → TargetHas (IsShort table.chains k) v → Led table.chains k (move_led table.chains v)
+module _ (config : Config) (facts : Facts) (table : Table) (P : List ℕ → Type 0) where
+  verdict_leads : (v : Verdict) → TargetHas P v → Led table.chains P (move_led table.chains v)
   verdict_leads Accept short = tt
   verdict_leads Drop short = tt
   verdict_leads Return short = tt
@@ -59,26 +55,26 @@ module _ (config : Config) (facts : Facts) (table : Table) (k : ℕ) where
   verdict_leads (Jump to) short = (to.chain, short to.chain refl, refl)
   verdict_leads (Goto to) short = (to.chain, short to.chain refl, refl)
 
-  found_leads : (o : Option Verdict) → ((v : Verdict) → o ≡ Some v → TargetHas (IsShort table.chains k) v) → Led table.chains k (option_map_or (move_led table.chains) o Next)
+  found_leads : (o : Option Verdict) → ((v : Verdict) → o ≡ Some v → TargetHas P v) → Led table.chains P (option_map_or (move_led table.chains) o Next)
   found_leads None short = tt
   found_leads (Some v) short = verdict_leads v (short v refl)
 
-  given_leads : (o : Option Outcome) → Led table.chains k (option_map_or Gives o Next)
+  given_leads : (o : Option Outcome) → Led table.chains P (option_map_or Gives o Next)
   given_leads None = tt
   given_leads (Some outcome) = tt
 
-  end_leads : (end : End) → OfEach (TargetHas (IsShort table.chains k)) (verdicts_in end) → Led table.chains k (move_at config facts table.chains end)
+  end_leads : (end : End) → OfEach (TargetHas P) (verdicts_in end) → Led table.chains P (move_at config facts table.chains end)
   end_leads (ends.Verdict v) short = verdict_leads v short.0
-  end_leads (ends.Vmap vmap) short = found_leads (mapped config facts vmap) (λ v is. mapped_has (TargetHas (IsShort table.chains k)) config facts vmap v short is)
+  end_leads (ends.Vmap vmap) short = found_leads (mapped config facts vmap) (λ v is. mapped_has (TargetHas P) config facts vmap v short is)
   end_leads (ends.Dnat dnat) short = given_leads (translation config facts (ends.Dnat dnat))
   end_leads (ends.Snat snat) short = given_leads (translation config facts (ends.Snat snat))
   end_leads (ends.Masquerade line) short = given_leads (translation config facts (ends.Masquerade line))
 
-  may_end_leads : (end : Option End) → OfEach (TargetHas (IsShort table.chains k)) (verdicts_of end) → Led table.chains k (option_map_or (move_at config facts table.chains) end Next)
+  may_end_leads : (end : Option End) → OfEach (TargetHas P) (verdicts_of end) → Led table.chains P (option_map_or (move_at config facts table.chains) end Next)
   may_end_leads None short = tt
   may_end_leads (Some end) short = end_leads end short
 
-  pub rule_leads : (rule : Rule) → TargetsHave (IsShort table.chains k) rule → Led table.chains k (move_of config facts table rule)
+  pub rule_leads : (rule : Rule) → TargetsHave P rule → Led table.chains P (move_of config facts table rule)
   rule_leads rule short = elim (cases_Bool (list_all (holds config table.sets facts) rule.matches)) [
     | inl hold ↦ rw hold (may_end_leads rule.end short)
     | inr fail ↦ rw fail tt

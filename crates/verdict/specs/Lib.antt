@@ -5,4 +5,5 @@ pub mod Ranking
 pub mod Targets
 pub mod Lines
 pub mod Places
+pub mod Costs
 pub mod Laws

@@ -1,5 +1,5 @@
 -- Places in the chains of a table, what is left to read there, and what a rule makes of the walk over them.
-use Rattle.std.specs.Prelude.{◌≡◌, ◌⊎◌, ℕ, zero, suc, ◌+◌, ◌-◌, ◌*◌, ◌^◌, ◌<◌, ◌≤◌, Bool, false, List, [], ◌∷◌, Option, Some, None, length, drop, slice_get, slice_index_or, nat_le, if◌then◌else◌, MatchOption}
+use Rattle.std.specs.Prelude.{◌≡◌, ◌⊎◌, ℕ, zero, suc, ◌+◌, ◌-◌, ◌*◌, ◌^◌, ◌<◌, ◌≤◌, false, List, [], ◌∷◌, Option, Some, None, length, drop, slice_get, slice_index_or, slice_set, if◌then◌else◌, MatchOption}
 use Rattle.std.specs.Option.{unwrap_or, option_map_or}
 use Rattle.std.specs.List.{list_all}
 use Rattle.packet.specs.Config.{Config}
@@ -85,7 +85,7 @@ AreKnown config facts table known =
 
 -- what is known of the chain at that place, where there are so many
 abbrev pub CameTo : List (Option Outcome) → ℕ → ℕ → Option Outcome → Type 0
-CameTo known count place None = place < count
+CameTo known count place None = (place < count) × (slice_index_or known place None ≡ None)
 CameTo known count place (Some outcome) = (slice_index_or known place None ≡ Some outcome) ⊎ ((count ≤ place) × (outcome ≡ Ends))
 
 -- a move that comes to the same where what is known is, and calls no chain of which something is known
@@ -158,6 +158,11 @@ AreRemembered old new places outcome =
     (a : ℕ) (any : Outcome) → slice_index_or new a None ≡ Some any
     → (slice_index_or old a None ≡ Some any) ⊎ (IsRead places a × (any ≡ outcome))
 
+-- what is known once each of these chains is known to come to this
+abbrev pub told_of : List (Option Outcome) → List Place → Outcome → List (Option Outcome)
+told_of known [] outcome = known
+told_of known (place ∷ places) outcome = told_of (slice_set known place.chain (Some outcome)) places outcome
+
 -- where no rule from the one number up to the other matches
 abbrev pub AreSkipped : Config → Facts → Table → List Rule → ℕ → ℕ → Type 0
 AreSkipped config facts table rules from to =
@@ -175,10 +180,10 @@ pub record GoesTo (here : Place) (places : List Place) (known : List (Option Out
   pub stack : places2 ≡ places
   pub same : known2 ≡ known
 
--- what was given ends the base chain, and each chain that is read came to it
+-- what was given ends the base chain, and is known of each chain that is read
 pub record EndsAll (given : Outcome) (here : Place) (places : List Place) (known known2 : List (Option Outcome)) (outcome : Option Outcome) : Type 0 where
   pub outcome_is : outcome ≡ Some given
-  pub remembered : AreRemembered known known2 (here ∷ places) given
+  pub told : known2 ≡ told_of known (here ∷ places) given
 
 -- what a move at the rule of that number makes of the walk
 abbrev pub Acts : Move → ℕ → ℕ → Place → List Place → List (Option Outcome) → Place → List Place → List (Option Outcome) → Option Outcome → Type 0

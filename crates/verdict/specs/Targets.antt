@@ -1,12 +1,11 @@
 -- The chains that rules jump or go to, and how far it goes on from them.
-use Rattle.std.specs.Prelude.{◌≡◌, ◌⊎◌, ℕ, List, [], ◌∷◌, Option, Some, None, slice_get, slice_index_or}
+use Rattle.std.specs.Prelude.{◌≡◌, ℕ, List, [], ◌∷◌, Some, slice_get}
 use Rattle.rulesyntax.specs.declared.tree.Verdict.{Verdict}
 use Rattle.rulesyntax.specs.declared.tree.Rule.{Rule}
 use Rattle.rulesyntax.specs.declared.tree.Chain.{Chain}
 use Rattle.ruletext.specs.Said.{verdicts_of, target_of, chain_names}
 use Rattle.ruletext.specs.Paths.{HasPath}
 use Rattle.ruletext.specs.Calls.{Leads}
-use Rattle.verdict.specs.declared.chain.Outcome.{Outcome}
 
 -- it holds of each element
 abbrev pub OfEach : {X : Type 0} → (X → Type 0) → List X → Type 0
@@ -24,9 +23,3 @@ TargetsHave P rule = OfEach (TargetHas P) (verdicts_of rule.end)
 -- no path of so many jumps and gotos begins at a chain of this name
 abbrev pub IsShort : List Chain → ℕ → List ℕ → Type 0
 IsShort chains n name = (a : ℕ) → slice_get (chain_names chains) a ≡ Some name → ¬ HasPath (Leads chains) n a
-
--- nothing more is known than before, but for this outcome of this place
-abbrev pub IsRemembered : List (Option Outcome) → List (Option Outcome) → ℕ → Outcome → Type 0
-IsRemembered old new place outcome =
-    (a : ℕ) (any : Outcome) → slice_index_or new a None ≡ Some any
-    → (slice_index_or old a None ≡ Some any) ⊎ ((a ≡ place) × (any ≡ outcome))

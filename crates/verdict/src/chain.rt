@@ -1,7 +1,6 @@
 //! What a chain of rules comes to.
 
-ghost use Rattle.std.specs.Prelude.{◌≡◌, None, slice_index_or};
-ghost use Rattle.verdict.specs.Targets.{IsRemembered};
+ghost use Rattle.std.specs.Prelude.{◌≡◌, Some, None, slice_index_or, slice_set};
 ghost use Rattle.sets.specs.Members.{fact_of};
 ghost use Rattle.verdict.specs.Places.{IsKey};
 ghost use Rattle.verdict.specs.Evaluation.{looked_up as verdict_in, mapped as mapped_to, unless_ended as outcome_unless_ended, translation as translation_of};
@@ -88,7 +87,7 @@ pub(crate) fn known_at(known: &[Option<Outcome>], place: usize) -> Option<Outcom
 }
 
 pub(crate) fn remember(known: &mut [Option<Outcome>], place: usize, outcome: Outcome)
-    ensures { IsRemembered known.old known.new place outcome }
+    ensures { known.new ≡ slice_set known.old place (Some outcome) }
 {
     if place < known.len() {
         known[place] = Some(outcome);

@@ -1,10 +1,12 @@
 //! What the rules decide at each hook.
 
-ghost use Rattle.std.specs.Prelude.{◌≡◌, ◌<◌, [], IfSome, length, slice_get};
+ghost use Rattle.std.specs.Prelude.{◌≡◌, ◌+◌, ◌^◌, ◌<◌, ◌≤◌, [], IfSome, false, length, slice_get};
 ghost use Rattle.std.specs.Option.{option_map_or};
-ghost use Rattle.ruletext.specs.Calls.{OfSome, IsDeep};
+ghost use Rattle.ruletext.specs.Calls.{OfSome, IsLooped, IsDeep};
+ghost use Rattle.ruletext.specs.Counts.{rules_of_table, is_much};
 ghost use Rattle.verdict.specs.Lines.{IsLaid, AreLaid};
 ghost use Rattle.verdict.specs.Places.{AreKnown};
+ghost use Rattle.verdict.specs.Costs.{unread, rules_of_tables, rules_in_force};
 ghost use Rattle.verdict.specs.Hooks.{same_hook as are_same_hooks, settled as settled_by, at_hook, bases_among, bases_of, hook_outcome as outcome_of_hook, forward_verdict, prerouting_verdict, postrouting_verdict};
 ghost use Rattle.verdict.specs.Ranking.{preferred as preferred_of, final_of as final_of_outcome, first_final, outcome_of as outcome_of_final};
 
@@ -15,6 +17,7 @@ use crate::rules::Rules;
 use crate::walk::chain_outcome;
 use packet::bounds::Bounds;
 use packet::endpoint::Endpoint;
+use packet::steps::Steps;
 use rulesyntax::tree::{Hook, Policy, Table};
 
 /// What the forward chains decide about a packet.
@@ -117,19 +120,25 @@ fn final_at(
     laid: &Laid,
     place: usize,
     known: &mut [Option<Outcome>],
+    steps: &mut Steps,
 ) -> Option<Final>
     requires laid { IsLaid table.now laid.now }
+    requires ends { ¬ IsLooped table.now.chains }
     requires shallow { ¬ IsDeep table.now.chains }
     requires within { place < length table.now.chains }
+    requires roomy { length table.now.chains ≤ length known.old }
+    requires room { steps.old + unread table.now.chains known.old < 2 ^ 32 }
     requires known { AreKnown bounds.now facts.now table.now known.old }
     ensures still_known { AreKnown bounds.now facts.now table.now known.new }
+    ensures still_roomy { length table.now.chains ≤ length known.new }
+    ensures spent { steps.new + unread table.now.chains known.new ≤ steps.old + unread table.now.chains known.old }
     ensures outcome { IfSome (slice_get table.now.chains place) (λ chain. result ≡ first_final bounds.now facts.now (option_map_or (at_hook hook table.now chain) chain.base [])) }
 {
     let base = table.chains.as_slice()[place].base.as_ref()?;
     if !is_same_hook(base.hook, hook) {
         return None;
     }
-    let outcome = chain_outcome(bounds, facts, table, laid, place, known);
+    let outcome = chain_outcome(bounds, facts, table, laid, place, known, steps);
     final_of(base.priority, settled(base.policy, outcome))
 }
 
@@ -139,10 +148,15 @@ fn final_among(
     hook: Hook,
     table: &Table,
     laid: &Laid,
+    steps: &mut Steps,
 ) -> Option<Final>
     requires laid { IsLaid table.now laid.now }
+    requires ends { ¬ IsLooped table.now.chains }
     requires shallow { ¬ IsDeep table.now.chains }
-    ensures { result ≡ first_final bounds.now facts.now (bases_among hook table.now table.now.chains) }
+    requires few { length table.now.chains ≤ 256 }
+    requires room { steps.old + rules_of_table table.now < 2 ^ 32 }
+    ensures first { result ≡ first_final bounds.now facts.now (bases_among hook table.now table.now.chains) }
+    ensures spent { steps.new ≤ steps.old + rules_of_table table.now }
 {
     if table.chains.is_empty() {
         return None;
@@ -150,7 +164,7 @@ fn final_among(
     let mut first = None;
     let mut known = [None; CHAINS];
     for place in 0..table.chains.len() {
-        let other = final_at(bounds, facts, hook, table, laid, place, &mut known);
+        let other = final_at(bounds, facts, hook, table, laid, place, &mut known, steps);
         first = preferred(first, other);
     }
     first
@@ -162,17 +176,21 @@ fn final_of_all(
     hook: Hook,
     tables: &[Table],
     rows: &[Laid],
-) -> Option<Final>
+) -> (Option<Final>, Steps)
     requires laid { AreLaid tables.now rows.now }
+    requires ends { ¬ OfSome (λ table. IsLooped table.chains) tables.now }
     requires shallow { ¬ OfSome (λ table. IsDeep table.chains) tables.now }
-    ensures { result ≡ first_final bounds.now facts.now (bases_of hook tables.now) }
+    requires few { is_much tables.now ≡ false }
+    ensures first { result.0 ≡ first_final bounds.now facts.now (bases_of hook tables.now) }
+    ensures steps { result.1 ≤ rules_of_tables tables.now }
 {
+    let mut steps = Steps::none();
     let mut first = None;
     for (number, table) in tables.iter().enumerate() {
-        let other = final_among(bounds, facts, hook, table, &rows[number]);
+        let other = final_among(bounds, facts, hook, table, &rows[number], &mut steps);
         first = preferred(first, other);
     }
-    first
+    (first, steps)
 }
 
 fn outcome_of(first: Option<Final>) -> Outcome
@@ -185,53 +203,85 @@ fn outcome_of(first: Option<Final>) -> Outcome
 }
 
 #[tactic(auto, using(crate::proofs::Ranked::first_is_in_order), unfolding(crate::specs::Hooks::hook_outcome))]
-fn hook_outcome(rules: &Rules, bounds: &Bounds, facts: &Facts, hook: Hook) -> Outcome
-    ensures { result ≡ outcome_of_hook bounds.now facts.now hook rules.now }
+fn hook_outcome(rules: &Rules, bounds: &Bounds, facts: &Facts, hook: Hook) -> (Outcome, Steps)
+    ensures outcome { result.0 ≡ outcome_of_hook bounds.now facts.now hook rules.now }
+    ensures steps { result.1 ≤ rules_in_force rules.now }
 {
     rules.is_runnable();
-    let first = final_of_all(
+    let (first, steps) = final_of_all(
         bounds,
         facts,
         hook,
         rules.text().tables.as_slice(),
         rules.rows(),
     );
-    outcome_of(first)
+    (outcome_of(first), steps)
 }
 
 /// Whether a packet passes: where every base chain at forward accepts, or there is none. Takes no memory.
-#[tactic(auto, unfolding(crate::specs::Hooks::forward_verdict))]
 pub fn forward(rules: &Rules, bounds: &Bounds, facts: &Facts) -> Forwarding
     ensures { result ≡ forward_verdict bounds.now facts.now rules.now }
 {
-    match hook_outcome(rules, bounds, facts, Hook::Forward) {
-        Outcome::Accepts => Forwarding::Pass,
-        _ => Forwarding::Drop,
+    forward_counted(rules, bounds, facts).0
+}
+
+/// Whether a packet passes, and with how many steps that was found: at most one for each rule, however many
+/// jumps and base chains lead to it. A step is one rule that is looked at. Takes no memory.
+#[tactic(auto, unfolding(crate::specs::Hooks::forward_verdict))]
+pub fn forward_counted(rules: &Rules, bounds: &Bounds, facts: &Facts) -> (Forwarding, Steps)
+    ensures verdict { result.0 ≡ forward_verdict bounds.now facts.now rules.now }
+    ensures steps { result.1 ≤ rules_in_force rules.now }
+{
+    let (outcome, steps) = hook_outcome(rules, bounds, facts, Hook::Forward);
+    match outcome {
+        Outcome::Accepts => (Forwarding::Pass, steps),
+        _ => (Forwarding::Drop, steps),
     }
 }
 
 /// The new destination of a packet for the external address, if the prerouting chains give one. A `dnat to`
 /// without a port keeps the packet's port. Takes no memory.
-#[tactic(auto, unfolding(crate::specs::Hooks::prerouting_verdict))]
 pub fn prerouting(rules: &Rules, bounds: &Bounds, facts: &Facts) -> Destination
     ensures { result ≡ prerouting_verdict bounds.now facts.now rules.now }
 {
-    match hook_outcome(rules, bounds, facts, Hook::Prerouting) {
-        Outcome::To(endpoint) => Destination::To(endpoint),
-        Outcome::Drops => Destination::Drop,
-        _ => Destination::None,
+    prerouting_counted(rules, bounds, facts).0
+}
+
+/// The new destination of a packet for the external address, and with how many steps it was found: at most one
+/// for each rule, however many jumps and base chains lead to it. A step is one rule that is looked at. Takes
+/// no memory.
+#[tactic(auto, unfolding(crate::specs::Hooks::prerouting_verdict))]
+pub fn prerouting_counted(rules: &Rules, bounds: &Bounds, facts: &Facts) -> (Destination, Steps)
+    ensures verdict { result.0 ≡ prerouting_verdict bounds.now facts.now rules.now }
+    ensures steps { result.1 ≤ rules_in_force rules.now }
+{
+    let (outcome, steps) = hook_outcome(rules, bounds, facts, Hook::Prerouting);
+    match outcome {
+        Outcome::To(endpoint) => (Destination::To(endpoint), steps),
+        Outcome::Drops => (Destination::Drop, steps),
+        _ => (Destination::None, steps),
     }
 }
 
 /// The new source address of a packet for wan, if the postrouting chains give one; `masquerade` gives the
 /// external one. Takes no memory.
-#[tactic(auto, unfolding(crate::specs::Hooks::postrouting_verdict))]
 pub fn postrouting(rules: &Rules, bounds: &Bounds, facts: &Facts) -> Source
     ensures { result ≡ postrouting_verdict bounds.now facts.now rules.now }
 {
-    match hook_outcome(rules, bounds, facts, Hook::Postrouting) {
-        Outcome::From(addr) => Source::From(addr),
-        Outcome::Drops => Source::Drop,
-        _ => Source::None,
+    postrouting_counted(rules, bounds, facts).0
+}
+
+/// The new source address of a packet for wan, and with how many steps it was found: at most one for each
+/// rule, however many jumps and base chains lead to it. A step is one rule that is looked at. Takes no memory.
+#[tactic(auto, unfolding(crate::specs::Hooks::postrouting_verdict))]
+pub fn postrouting_counted(rules: &Rules, bounds: &Bounds, facts: &Facts) -> (Source, Steps)
+    ensures verdict { result.0 ≡ postrouting_verdict bounds.now facts.now rules.now }
+    ensures steps { result.1 ≤ rules_in_force rules.now }
+{
+    let (outcome, steps) = hook_outcome(rules, bounds, facts, Hook::Postrouting);
+    match outcome {
+        Outcome::From(addr) => (Source::From(addr), steps),
+        Outcome::Drops => (Source::Drop, steps),
+        _ => (Source::None, steps),
     }
 }

@@ -8,13 +8,14 @@
 //! - `chain`: what a chain of rules comes to, and the ends of rules.
 //! - `stack`, `walk`: the walk over a row, with at most 16 places to return to and without recursion.
 //! - `hook`: `forward`, `prerouting` and `postrouting`, what the base chains of a hook decide, of which the
-//!   one of the least priority counts first.
+//!   one of the least priority counts first; and the same with the steps counted.
 //! - `laws`: what follows from these definitions, in functions that do nothing.
 //!
 //! The definitions stand in `specs/`: `Matching` says when a match holds, `Evaluation` what a chain
 //! comes to, and `Hooks` what a hook decides. Only `Rules::of` takes memory, no call for a packet does. For
 //! one packet at one hook the rules of each chain are read at most once: what each chain came to is
-//! remembered for the packet, the hook and the table.
+//! remembered for the packet, the hook and the table. So at most as many rules are looked at as there are
+//! (`Costs`), whatever jumps and base chains there are.
 #![tactic(auto)]
 
 mod chain;
@@ -29,5 +30,8 @@ mod value;
 mod walk;
 
 pub use facts::{Facts, State};
-pub use hook::{Destination, Forwarding, Source, forward, postrouting, prerouting};
+pub use hook::{
+    Destination, Forwarding, Source, forward, forward_counted, postrouting, postrouting_counted,
+    prerouting, prerouting_counted,
+};
 pub use rules::Rules;

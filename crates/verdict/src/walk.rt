@@ -1,21 +1,24 @@
 //! What a base chain comes to, read without recursion.
 
-ghost use Rattle.std.specs.Prelude.{◌≡◌, ◌+◌, ◌<◌, ◌≤◌, ℕ, [], ◌∷◌, Some, false, IfSome, MatchOption, length, slice_get};
+ghost use Rattle.std.specs.Prelude.{◌≡◌, ◌+◌, ◌-◌, ◌^◌, ◌<◌, ◌≤◌, ℕ, [], ◌∷◌, Some, false, IfSome, MatchOption, length, slice_get};
 ghost use Rattle.ruletext.specs.Said.{verdicts_in};
+ghost use Rattle.ruletext.specs.Calls.{IsLooped};
 ghost use Rattle.verdict.specs.declared.row.Line.{Line as LineOf};
 ghost use Rattle.verdict.specs.Targets.{OfEach, TargetsHave, IsShort};
 ghost use Rattle.verdict.specs.Lines.{numbers_of as numbers_of_facts, may_hold as line_may_hold, IsLine, IsLaid, LeadsFrom, place_led};
 ghost use Rattle.verdict.specs.Evaluation.{chain_outcome as outcome_of_chain};
 ghost use Rattle.packet.specs.Config.{Config};
 ghost use Rattle.verdict.specs.declared.chain.Outcome.TheVariants as outcomes;
-ghost use Rattle.verdict.specs.Places.{move_by as move_by_verdict, move_led as move_led_by, move_at as move_at_end, move_of as move_of_rule, rules_at, AreKnown, CameTo, IsResolved, Standing, Stepped, AreRemembered, AreSkipped, Calling, Acts};
+ghost use Rattle.verdict.specs.Places.{move_by as move_by_verdict, move_led as move_led_by, move_at as move_at_end, move_of as move_of_rule, rules_at, AreKnown, CameTo, IsResolved, Standing, Stepped, AreSkipped, Calling, told_of, Acts};
+ghost use Rattle.verdict.specs.Costs.{unread, IsNew, Reading, Spent};
 
 use crate::chain::{Outcome, key_for, known_at, remember, translation, unless_ended};
 use crate::facts::Facts;
 use crate::matching::all_hold;
-use crate::row::{Laid, Line, may_hold, numbers_of};
+use crate::row::{Laid, Line, Probe, may_hold, numbers_of};
 use crate::stack::{Place, Stack};
 use packet::bounds::Bounds;
+use packet::steps::Steps;
 use rulesyntax::tree::{End, Rule, Table, Verdict};
 
 /// What a rule makes of the walk. Chains are meant by their places in the table.
@@ -134,7 +137,8 @@ fn resolved(
     step: Move,
 ) -> Move
     requires { AreKnown bounds.now facts.now table.now known.now }
-    ensures { IsResolved bounds.now facts.now table.now step result }
+    ensures same { IsResolved bounds.now facts.now table.now step result }
+    ensures new { IsNew known.now result }
 {
     let count = table.chains.len();
     match step {
@@ -153,17 +157,30 @@ fn resolved(
     }
 }
 
+// Whether the rule of a line may match. A step is one rule that is looked at.
+fn look(numbers: &[u64], probe: Probe, steps: &mut Steps) -> bool
+    requires { steps.old < 2 ^ 32 - 1 }
+    ensures told { result ≡ line_may_hold numbers.now probe }
+    ensures counted { steps.new ≡ steps.old + 1 }
+{
+    steps.tick();
+    may_hold(numbers, probe)
+}
+
 // The first line from the one up to the other whose rule may match.
-fn candidate(lines: &[Line], numbers: &[u64], from: usize, end: usize) -> usize
+fn candidate(lines: &[Line], numbers: &[u64], from: usize, end: usize, steps: &mut Steps) -> usize
     requires rises { from ≤ end }
     requires within { end ≤ length lines.now }
+    requires room { steps.old + end < 2 ^ 32 + from }
     ensures from { from ≤ result }
     ensures to { result ≤ end }
     ensures skipped { (i : ℕ) (line : LineOf) → from ≤ i → i < result → slice_get lines.now i ≡ Some line → line_may_hold numbers.now line.probe ≡ false }
+    ensures found { result < end → steps.new + from ≡ steps.old + result + 1 }
+    ensures none { result ≡ end → steps.new + from ≡ steps.old + end }
 {
     let mut at = from;
     while at < end {
-        if may_hold(numbers, lines[at].probe) {
+        if look(numbers, lines[at].probe, steps) {
             return at;
         }
         at += 1;
@@ -172,18 +189,28 @@ fn candidate(lines: &[Line], numbers: &[u64], from: usize, end: usize) -> usize
 }
 
 // The number of the next rule of the chain that may match, or of all its rules where there is none.
-fn next_rule(table: &Table, laid: &Laid, facts: &Facts, numbers: &[u64], here: Place) -> usize
+fn next_rule(
+    table: &Table,
+    laid: &Laid,
+    facts: &Facts,
+    numbers: &[u64],
+    here: Place,
+    steps: &mut Steps,
+) -> usize
     requires laid { IsLaid table.now laid.now }
     requires numbers { numbers.now ≡ numbers_of_facts facts.now }
     requires chain { here.chain < length table.now.chains }
     requires at { here.at ≤ length (rules_at table.now.chains here.chain) }
+    requires room { steps.old + length (rules_at table.now.chains here.chain) < 2 ^ 32 + here.at }
     ensures from { here.at ≤ result }
     ensures to { result ≤ length (rules_at table.now.chains here.chain) }
     ensures skipped { (config : Config) → AreSkipped config facts.now table.now (rules_at table.now.chains here.chain) here.at result }
+    ensures looked { steps.new + here.at ≤ steps.old + result + 1 }
+    ensures all { steps.new + here.at ≤ steps.old + length (rules_at table.now.chains here.chain) }
 {
     let span = laid.spans.as_slice()[here.chain];
     let lines = laid.lines.as_slice();
-    candidate(lines, numbers, span.start + here.at, span.end) - span.start
+    candidate(lines, numbers, span.start + here.at, span.end, steps) - span.start
 }
 
 // What the rule of that number makes of the walk.
@@ -215,7 +242,7 @@ fn move_from(
 
 // Remembers an outcome that ends the base chain of each chain that is read.
 fn remember_all(stack: &mut Stack, known: &mut [Option<Outcome>], outcome: Outcome)
-    ensures { AreRemembered known.old known.new stack.old outcome }
+    ensures { known.new ≡ told_of known.old stack.old outcome }
 {
     while let Some(place) = stack.pop() {
         remember(known, place.chain, outcome);
@@ -224,7 +251,7 @@ fn remember_all(stack: &mut Stack, known: &mut [Option<Outcome>], outcome: Outco
 
 // Returns to where the chain was called from.
 fn back(walk: &mut Walk, known: &mut [Option<Outcome>]) -> Option<Outcome>
-    ensures known { AreRemembered known.old known.new (walk.old.here ∷ []) outcomes.Ends }
+    ensures known { known.new ≡ told_of known.old (walk.old.here ∷ []) outcomes.Ends }
     ensures back { MatchOption result (walk.old.stack ≡ walk.new.here ∷ walk.new.stack) (λ outcome. (outcome ≡ outcomes.Ends) × (walk.old.stack ≡ [])) }
 {
     remember(known, walk.here.chain, Outcome::Ends);
@@ -289,15 +316,20 @@ fn step(
     numbers: &[u64],
     walk: &mut Walk,
     known: &mut [Option<Outcome>],
+    steps: &mut Steps,
 ) -> Option<Outcome>
     requires laid { IsLaid table.now laid.now }
     requires numbers { numbers.now ≡ numbers_of_facts facts.now }
     requires known { AreKnown bounds.now facts.now table.now known.old }
     requires standing { Standing bounds.now facts.now table.now (walk.old.here ∷ walk.old.stack) }
-    ensures { AreKnown bounds.now facts.now table.now known.new × Stepped bounds.now facts.now table.now (walk.old.here ∷ walk.old.stack) (walk.new.here ∷ walk.new.stack) result }
+    requires ends { ¬ IsLooped table.now.chains }
+    requires reading { Reading table.now.chains known.old walk.old.here walk.old.stack }
+    requires room { steps.old + length (rules_at table.now.chains walk.old.here.chain) < 2 ^ 32 + walk.old.here.at }
+    ensures stepped { AreKnown bounds.now facts.now table.now known.new × Stepped bounds.now facts.now table.now (walk.old.here ∷ walk.old.stack) (walk.new.here ∷ walk.new.stack) result }
+    ensures spent { Spent table.now.chains walk.old.here walk.old.stack known.old steps.old walk.new.here walk.new.stack known.new steps.new result }
 {
     let chain = walk.here.chain;
-    let at = next_rule(table, laid, facts, numbers, walk.here);
+    let at = next_rule(table, laid, facts, numbers, walk.here, steps);
     let rules = rules_of(table, chain);
     if at >= rules.len() {
         return back(walk, known);
@@ -315,7 +347,8 @@ fn rules_of(table: &Table, chain: usize) -> &[Rule]
 }
 
 /// What the rules of a base chain of the table come to, by its place. `known` says what chains of the table
-/// come to for this packet, by their places, as far as they were read. Takes no memory.
+/// come to for this packet, by their places, as far as they were read: those are not read again. Takes no
+/// memory.
 pub(crate) fn chain_outcome(
     bounds: &Bounds,
     facts: &Facts,
@@ -323,21 +356,32 @@ pub(crate) fn chain_outcome(
     laid: &Laid,
     base: usize,
     known: &mut [Option<Outcome>],
+    steps: &mut Steps,
 ) -> Outcome
     requires laid { IsLaid table.now laid.now }
     requires within { base < length table.now.chains }
     requires short { OfEach (TargetsHave (IsShort table.now.chains 16)) (rules_at table.now.chains base) }
+    requires ends { ¬ IsLooped table.now.chains }
+    requires roomy { length table.now.chains ≤ length known.old }
+    requires room { steps.old + unread table.now.chains known.old < 2 ^ 32 }
     requires known { AreKnown bounds.now facts.now table.now known.old }
     ensures outcome { result ≡ outcome_of_chain bounds.now facts.now table.now (rules_at table.now.chains base) }
     ensures still_known { AreKnown bounds.now facts.now table.now known.new }
+    ensures still_roomy { length table.now.chains ≤ length known.new }
+    ensures spent { steps.new + unread table.now.chains known.new ≤ steps.old + unread table.now.chains known.old }
 {
+    if let Some(outcome) = known_at(known, base) {
+        return outcome;
+    }
     let numbers = numbers_of(facts);
     let mut walk = Walk {
         here: Place { chain: base, at: 0 },
         stack: Stack::empty(),
     };
     loop {
-        if let Some(outcome) = step(bounds, facts, table, laid, &numbers, &mut walk, known) {
+        if let Some(outcome) = step(
+            bounds, facts, table, laid, &numbers, &mut walk, known, steps,
+        ) {
             return outcome;
         }
     }

@@ -1,4 +1,4 @@
-use Rattle.std.proofs.Common.{sym, ◌∙◌}
+use Rattle.std.proofs.Common.{◌∙◌}
 use Rattle.gateway.proofs.Runs.{begun}
 use Rattle.gateway.proofs.running.begin.Goals as goal
 

@@ -3,7 +3,7 @@ use Rattle.std.proofs.lemmas.List.{nil_from_length}
 use Rattle.std.proofs.lemmas.Result.{err_from_is_err_and, IfErr-weaker, on_ok_weaker}
 use Rattle.machine.specs.declared.event.Event.{Event}
 use Rattle.gateway.specs.Running.{BreaksOff, Ends, StopsWithin}
-use Rattle.gateway.proofs.Runs.{ended, stops-within}
+use Rattle.gateway.proofs.Runs.{ended}
 use Rattle.gateway.proofs.running.take_all.Goals as goal
 
 pub loop-event-preserved : goal.loop-event-preserved
@@ -25,11 +25,13 @@ returns-in_err-take-clause-err g c =
     let rest = c.next.new.self.rest.items in
     let off = c.in_err-take.ensures.err c.args.gateway.now c.loop-event.yielded i.stands in
     rw (p.1, p.2)
-    (stops-within g.D.Disk.honest g.D.Disk.moment g.D.Disk.left g.D.Disk.failed c.args.gateway.now c.take.new.gateway c.args.events.items (c.loop-event.yielded ++ off.0) (off.1 ++ rest)
-    c.take.new.answers.items c.in_err-take.field-0.0
-    (i.split ∙ ap (λ (es : List Event). c.loop-event.yielded ++ es) (c.in-Some.ensures.steps.0 ∙ ap (λ (es : List Event). es ++ rest) off.2 ∙ append_assoc off.0 off.1 rest)
-    ∙ sym (append_assoc c.loop-event.yielded off.0 (off.1 ++ rest)))
-    off.3)
+    (record {
+      front = c.loop-event.yielded ++ off.0;
+      back = off.1 ++ rest;
+      split = i.split ∙ ap (λ (es : List Event). c.loop-event.yielded ++ es) (c.in-Some.ensures.steps.0 ∙ ap (λ (es : List Event). es ++ rest) off.2 ∙ append_assoc off.0 off.1 rest)
+          ∙ sym (append_assoc c.loop-event.yielded off.0 (off.1 ++ rest));
+      stops = off.3;
+    })
 
 pub returns-clause-ok : goal.returns-clause-ok
 returns-clause-ok g c =
@@ -49,8 +51,10 @@ returns-clause-err g c =
     IfErr-weaker c.hand_out.result (BreaksOff g.D.Disk.honest g.D.Disk.moment g.D.Disk.left g.D.Disk.failed c.loop-event.gateway c.hand_out.new.gateway [] c.loop-event.answers.items c.hand_out.new.answers.items)
     (StopsWithin g.D.Disk.honest g.D.Disk.moment g.D.Disk.left g.D.Disk.failed c.args.gateway.now c.hand_out.new.gateway c.args.events.items c.hand_out.new.answers.items) (λ why breaks.
     let off = breaks c.args.gateway.now c.loop-event.yielded i.stands in
-    stops-within g.D.Disk.honest g.D.Disk.moment g.D.Disk.left g.D.Disk.failed c.args.gateway.now c.hand_out.new.gateway c.args.events.items (c.loop-event.yielded ++ off.0) off.1
-    c.hand_out.new.answers.items why
-    (i.split ∙ ap (λ (es : List Event). c.loop-event.yielded ++ es) (rest ∙ off.2) ∙ sym (append_assoc c.loop-event.yielded off.0 off.1))
-    off.3)
+    record {
+      front = c.loop-event.yielded ++ off.0;
+      back = off.1;
+      split = i.split ∙ ap (λ (es : List Event). c.loop-event.yielded ++ es) (rest ∙ off.2) ∙ sym (append_assoc c.loop-event.yielded off.0 off.1);
+      stops = off.3;
+    })
     c.hand_out.ensures.err

@@ -2,9 +2,10 @@ use Rattle.std.proofs.Common.{◌∙◌, refl, ap, arith}
 use Rattle.verdict.specs.Hooks.{bases_of, bases_among}
 use Rattle.verdict.specs.Ranking.{preferred}
 use Rattle.std.proofs.lemmas.Option.{slice_get_read}
-use Rattle.ruletext.specs.Calls.{IsDeep}
+use Rattle.ruletext.specs.Calls.{IsDeep, IsLooped}
 use Rattle.verdict.proofs.Steady.{some_at}
 use Rattle.verdict.proofs.Ranked.{part_asked}
+use Rattle.verdict.proofs.Spending.{few_of, chains_few, rules_split}
 use Rattle.verdict.proofs.hook.final_of_all.Goals as goal
 
 pub final_among-other-requires-clause-shallow : goal.final_among-other-requires-clause-shallow
@@ -12,8 +13,30 @@ final_among-other-requires-clause-shallow c deep =
     let at = slice_get_read c.args.tables.now _ c.loop-number.number c.index-tables-number.result refl (omega arith) c.index-tables-number.is in
     c.requires.shallow (some_at (λ table. IsDeep table.chains) c.args.tables.now c.loop-number.number c.index-tables-number.result at deep)
 
+pub final_among-other-requires-clause-ends : goal.final_among-other-requires-clause-ends
+final_among-other-requires-clause-ends c looped =
+    let at = slice_get_read c.args.tables.now _ c.loop-number.number c.index-tables-number.result refl (omega arith) c.index-tables-number.is in
+    c.requires.ends (some_at (λ table. IsLooped table.chains) c.args.tables.now c.loop-number.number c.index-tables-number.result at looped)
+
+pub final_among-other-requires-clause-few : goal.final_among-other-requires-clause-few
+final_among-other-requires-clause-few c =
+    let at = slice_get_read c.args.tables.now _ c.loop-number.number c.index-tables-number.result refl (omega arith) c.index-tables-number.is in
+    let own = chains_few c.args.tables.now c.loop-number.number c.index-tables-number.result at in
+    let all = (few_of c.args.tables.now c.requires.few).0 in
+    omega (arith, own, all)
+
+pub final_among-other-requires-clause-room : goal.final_among-other-requires-clause-room
+final_among-other-requires-clause-room c =
+    let split = rules_split c.args.tables.now c.loop-number.number c.index-tables-number.result (omega arith) c.index-tables-number.is in
+    let all = (few_of c.args.tables.now c.requires.few).1 in
+    omega (arith, split, all, c.loop-number.invariant.spent)
+
 pub loop-number-preserved : goal.loop-number-preserved
 loop-number-preserved c =
-    part_asked c.args.bounds.now c.args.facts.now (bases_of c.args.hook) c.args.tables.now c.loop-number.number c.index-tables-number.result
-    (bases_among c.args.hook c.index-tables-number.result c.index-tables-number.result.chains) c.loop-number.first _ _ (omega arith) c.index-tables-number.is refl
-    (c.preferred-first.ensures ∙ ap (preferred c.loop-number.first) c.final_among-other.ensures) c.loop-number.invariant
+    let split = rules_split c.args.tables.now c.loop-number.number c.index-tables-number.result (omega arith) c.index-tables-number.is in
+    record {
+      found = part_asked c.args.bounds.now c.args.facts.now (bases_of c.args.hook) c.args.tables.now c.loop-number.number c.index-tables-number.result
+          (bases_among c.args.hook c.index-tables-number.result c.index-tables-number.result.chains) c.loop-number.first _ _ (omega arith) c.index-tables-number.is refl
+          (c.preferred-first.ensures ∙ ap (preferred c.loop-number.first) c.final_among-other.ensures.first) c.loop-number.invariant.found;
+      spent = omega (arith, split, c.final_among-other.ensures.spent, c.loop-number.invariant.spent);
+    }

@@ -1,4 +1,4 @@
-use Rattle.std.proofs.Common.{rules, refl, sym, ap, ◌∙◌, subst}
+use Rattle.std.proofs.Common.{rules, refl}
 use Rattle.verdict.proofs.Probed.{bounded}
 use Rattle.verdict.proofs.row.bounds_of.Goals as goal
 

@@ -1,4 +1,4 @@
-use Rattle.std.proofs.Common.{rules, sym, ap, ◌∙◌, ◌≡◌, Some, slice_get, arith}
+use Rattle.std.proofs.Common.{rules, sym, ap, ◌∙◌, ◌≡◌, Some, slice_get}
 use Rattle.verdict.proofs.Led.{verdict_led, key_led, key_within}
 use Rattle.std.specs.Option.{option_copied}
 use Rattle.verdict.proofs.walk.move_at.Goals as goal

@@ -1,4 +1,4 @@
-use Rattle.std.proofs.Common.{◌≡◌, ◌∙◌, [], map, refl, rules, sym, subst, ap}
+use Rattle.std.proofs.Common.{◌≡◌, ◌∙◌, [], map, refl, sym, subst, ap}
 use Rattle.packet.specs.Config.{Config}
 use Rattle.sessions.specs.Stilled.{stilled}
 use Rattle.disk_model.specs.Disk.{LeavesOnly}

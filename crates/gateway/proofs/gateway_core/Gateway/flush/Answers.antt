@@ -1,8 +1,8 @@
-use Rattle.std.proofs.Common.{◌≡◌, ◌∙◌, List, refl, sym, subst, ap}
+use Rattle.std.proofs.Common.{◌∙◌, List, length, refl, sym, subst, ap, arith}
 use Rattle.packet.specs.Config.{Config}
 use Rattle.disk_model.specs.Disk.{LeavesOnly}
 use Rattle.disk_model.proofs.Moments.{idle}
-use Rattle.durable.specs.Coding.{Entry}
+use Rattle.durable.specs.Coding.{Entry, body_bytes}
 use Rattle.durable.specs.Recovery.{IsConfigured}
 use Rattle.machine.specs.Noted.{lasting}
 use Rattle.gateway.specs.Kept.{IsStanding}
@@ -81,3 +81,15 @@ returns-in-Err-Device-clause-any_moment g c = rw (← c.self.view_is) (λ stands
     c.commit.ensures.any_moment honest first (lasting c.self.inside.core.state) recovers
     (body_leads c.self.inside.core.config c.self.inside.store.config (g.D.Disk.seen c.self.inside.store.disk) c.self.inside.pending.entries c.self.inside.core.state
     c.group.result.now.body first c.self.invariant.0 is recovers c.group.ensures.coded c.group.ensures.body))
+
+pub returns-then-is_quiet-clause-filled : goal.returns-then-is_quiet-clause-filled
+returns-then-is_quiet-clause-filled g c = rw (← c.self.view_is) (λ honest held. absurd (held (c.is_quiet.ensures.none c.if-is_quiet.true)))
+
+pub returns-in-Ok-clause-filled : goal.returns-in-Ok-clause-filled
+returns-in-Ok-clause-filled g c = rw (← c.self.view_is) (λ honest held.
+    let place = c.self.invariant.2 (sym c.if-has_fallen.ensures.value) in
+    let body = ap length c.group.ensures.body in
+    let end = c.in-Ok.ensures.end honest in
+    let next = ap (λ (w : Waiting). w.place) c.release.ensures.none ∙ c.end.ensures in
+    let empty = ap (λ (w : Waiting). length (body_bytes w.entries)) c.release.ensures.none in
+    omega (arith, place, body, end, next, empty))

@@ -5,6 +5,7 @@ use Rattle.machine.specs.Judged.{Judged}
 use Rattle.machine.specs.Machine.{later}
 use Rattle.machine.specs.Noted.{HasEntry}
 use Rattle.gateway.specs.Kept.{IsNow, IsStanding}
+use Rattle.gateway.proofs.Bodies.{filled-on}
 use Rattle.gateway.proofs.Offering.{takes_in, took_in, at_once, none_of, roomy_enough}
 use Rattle.gateway.proofs.gateway_core.Gateway.offer.Goals as goal
 
@@ -38,6 +39,18 @@ returns-in-Ok-clause-now g c = rw (← c.self.view_is) (λ judged is_judged.
     (at_once config c.self.inside.core.state c.args.event done.0 noted.0 c.self.inside.pending.entries c.step_noted.new.notes.entries c.self.inside.pending.held
     c.step_noted.new.notes.held (IsNow c.give.result) c.facts.ensures.config c.facts.ensures.sound done.1 noted.1 noted.2 c.self.invariant.1
     (ap (λ (b : Besides). b.held) c.step_noted.ensures.beside) c.give.ensures.now c.give.ensures.quiet))
+
+pub returns-in-Ok-clause-filled : goal.returns-in-Ok-clause-filled
+returns-in-Ok-clause-filled g c = rw (← c.self.view_is) (
+    let done = c.in-Ok.ensures.ok in
+    let noted = done.3 tt in (
+      done.0,
+      noted.0,
+      done.1,
+      noted.1,
+      filled-on c.self.inside.pending.place c.give.new.pending.place c.self.inside.pending.entries c.give.new.pending.entries noted.0
+          (c.give.ensures.place ∙ ap (λ (b : Besides). b.place) c.step_noted.ensures.beside) (c.give.ensures.entries ∙ noted.2),
+    ))
 
 pub returns-in-Err-default-Full-clause-roomy : goal.returns-in-Err-default-Full-clause-roomy
 returns-in-Err-default-Full-clause-roomy g c = rw (← c.self.view_is) (λ roomy told.

@@ -1,4 +1,4 @@
-use Rattle.std.proofs.Common.{◌≡◌, ◌∙◌, List, refl, sym, subst, ap}
+use Rattle.std.proofs.Common.{◌∙◌, List, sym, subst, ap}
 use Rattle.sessions.specs.declared.session.Session.{Session}
 use Rattle.durable.specs.Entering.{IsDurable, durable}
 use Rattle.machine.specs.Noted.{IsRestarted}

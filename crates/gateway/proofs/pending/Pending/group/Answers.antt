@@ -1,5 +1,3 @@
-use Rattle.std.proofs.Common.{sym, ap, subst}
-use Rattle.durable.specs.Coding.{AreEntries, body_bytes}
 use Rattle.gateway.proofs.Bodies.{body_is, are_coded}
 use Rattle.gateway.proofs.pending.Pending.group.Goals as goal
 

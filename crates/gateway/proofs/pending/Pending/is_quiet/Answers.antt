@@ -1,4 +1,4 @@
-use Rattle.std.proofs.Common.{sym, ap, ◌∙◌, ◌≡◌, ℕ, List, length, nat_eq}
+use Rattle.std.proofs.Common.{sym, ap, ◌∙◌, ℕ, List, length, nat_eq}
 use Rattle.std.proofs.lemmas.Bool.{eqb-true}
 use Rattle.std.proofs.lemmas.List.{nil_from_length}
 use Rattle.gateway.proofs.Bodies.{none_where_empty, empty_where_none}

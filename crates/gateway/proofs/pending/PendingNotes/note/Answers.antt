@@ -1,5 +1,5 @@
-use Rattle.std.proofs.Common.{◌≡◌, ◌∙◌, ◌++◌, ◌∷◌, [], List, ap, sym, subst, length, length-append, arith, ◌≤◌}
-use Rattle.durable.specs.Coding.{Entry, entry_bytes}
+use Rattle.std.proofs.Common.{◌∙◌, ◌++◌, ◌∷◌, [], ap, length, length-append, arith, ◌≤◌}
+use Rattle.durable.specs.Coding.{entry_bytes}
 use Rattle.durable.specs.Viewing.{view}
 use Rattle.gateway.specs.Waiting.{Waiting}
 use Rattle.gateway.proofs.Bodies.{one_more, one_more_noted}

@@ -1,5 +1,4 @@
-use Rattle.std.proofs.Common.{◌≡◌, ◌∙◌, ap, sym, length, arith, List, ℕ}
-use Rattle.durable.specs.Coding.{body_bytes}
+use Rattle.std.proofs.Common.{ap, length, arith}
 use Rattle.gateway.proofs.Bodies.{body_is}
 use Rattle.gateway.proofs.pending.PendingNotes.reserve.Goals as goal
 

@@ -1,0 +1,97 @@
+//! Sockets over a disk of which a call fails.
+use crate::serve_and_loop::client;
+use crate::shared::{REQUESTS, SIDES, fresh};
+use commands::{Refusal, Stop, bind, bounds, loop_back, serve_clients};
+use gateway::Gateway;
+use std::alloc::Global;
+use std::fs;
+use std::io::Read;
+use std::test::Fail;
+use trial_disk::Trial;
+
+type Trials = Box<Gateway<Trial>>;
+
+fn opened(alloc: Global, disk: Trial) -> Result<Trials, Fail> {
+    match Gateway::open(alloc, disk, bounds(alloc, &SIDES)?, 1_000) {
+        Ok(gateway) => Ok(Box::new(alloc, gateway)?),
+        Err(_) => Err(Fail::new("no gateway")),
+    }
+}
+
+// A gateway over files that were made before, of whose disk this call fails, counted from 0. A flush makes four.
+fn troubled(alloc: Global, call: u64) -> Result<Trials, Fail> {
+    let disk = Box::into_inner(opened(alloc, Trial::of(alloc, b"", b"")?)?).into_disk();
+    let made = disk.calls();
+    let mut disk = Box::into_inner(opened(alloc, disk)?).into_disk();
+    let opening = disk.calls().saturating_sub(made);
+    disk.fail_once(call.saturating_add(opening));
+    opened(alloc, disk)
+}
+
+fn is_device(ended: &Result<(), Stop>) -> bool {
+    match ended {
+        Ok(()) => false,
+        Err(stop) => stop.refusal == Refusal::Device,
+    }
+}
+
+// The first client's load can't be kept, and the second client isn't served.
+#[test]
+fn clients_of_a_gateway_that_fails(rt: HostRuntime) -> Result<(), Fail> {
+    let alloc = rt.alloc();
+    fresh(&rt, "failing")?;
+    let mut gateway = troubled(alloc, 1)?;
+    let path = "failing/sock";
+    let listener = bind(&rt, alloc, path)?;
+    let mut first = client(&rt, path, REQUESTS)?;
+    let second = client(&rt, path, REQUESTS)?;
+    let mut errors = Vec::new(alloc);
+    let served = serve_clients(alloc, &listener, path, 2, &mut errors, &mut gateway);
+    assert!(rt; is_device(&served));
+    assert!(rt; errors.is_empty());
+    let mut answers = Vec::new(alloc);
+    first.read_to_end(&mut answers)?;
+    assert!(rt; answers.is_empty());
+    assert!(rt; listener.accept().is_ok());
+    drop(second);
+    fs::remove_file(&rt, path)?;
+    Ok(())
+}
+
+// A load and 63 moments, which a flush hands out before the packet behind them.
+fn requests(alloc: Global) -> Result<Vec<u8>, Fail> {
+    let (load, packet) = REQUESTS.split_at(115);
+    let mut requests = Vec::from_slice(alloc, load)?;
+    for _ in 0..63 {
+        requests.extend_from_slice(b"\x03\x00\x00\x00\x00\x00\x00\x00\x00\x00\x00\x00\x03\xe8")?;
+    }
+    requests.extend_from_slice(packet)?;
+    Ok(requests)
+}
+
+// The second flush fails, and what the first one handed out is printed.
+#[test]
+fn a_loop_over_a_gateway_that_fails(rt: HostRuntime) -> Result<(), Fail> {
+    let alloc = rt.alloc();
+    fresh(&rt, "failing-loop")?;
+    let mut gateway = troubled(alloc, 4)?;
+    let path = "failing-loop/natgw.sock";
+    let listener = bind(&rt, alloc, path)?;
+    let mut output = Vec::new(alloc);
+    let mut errors = Vec::new(alloc);
+    let looped = loop_back(
+        &rt,
+        alloc,
+        &listener,
+        path,
+        requests(alloc)?.as_slice(),
+        &mut output,
+        &mut errors,
+        &mut gateway,
+    );
+    assert!(rt; is_device(&looped));
+    assert_eq!(rt; output.len(), 64 * 13);
+    assert!(rt; errors.is_empty());
+    fs::remove_file(&rt, path)?;
+    Ok(())
+}
