@@ -56,6 +56,9 @@ pub enum Source {
 // The most chains of a loaded text.
 const CHAINS: usize = 256;
 
+// What most tables have no more of.
+const FEW_CHAINS: usize = 8;
+
 // What a base chain that doesn't accept comes to, and its priority.
 #[derive(Clone, Copy, Debug, Drop)]
 struct Final {
@@ -142,6 +145,34 @@ fn final_at(
     final_of(base.priority, settled(base.policy, outcome))
 }
 
+// What the base chains of a table come to at the hook, as far as nothing more is known than is said.
+fn final_over(
+    bounds: &Bounds,
+    facts: &Facts,
+    hook: Hook,
+    table: &Table,
+    laid: &Laid,
+    known: &mut [Option<Outcome>],
+    steps: &mut Steps,
+) -> Option<Final>
+    requires laid { IsLaid table.now laid.now }
+    requires ends { ¬ IsLooped table.now.chains }
+    requires shallow { ¬ IsDeep table.now.chains }
+    requires roomy { length table.now.chains ≤ length known.old }
+    requires room { steps.old + unread table.now.chains known.old < 2 ^ 32 }
+    requires known { AreKnown bounds.now facts.now table.now known.old }
+    ensures first { result ≡ first_final bounds.now facts.now (bases_among hook table.now table.now.chains) }
+    ensures spent { steps.new ≤ steps.old + unread table.now.chains known.old }
+{
+    let mut first = None;
+    for place in 0..table.chains.len() {
+        let other = final_at(bounds, facts, hook, table, laid, place, known, steps);
+        first = preferred(first, other);
+    }
+    first
+}
+
+// Most tables have few chains, and for them little memory is cleared.
 fn final_among(
     bounds: &Bounds,
     facts: &Facts,
@@ -158,16 +189,12 @@ fn final_among(
     ensures first { result ≡ first_final bounds.now facts.now (bases_among hook table.now table.now.chains) }
     ensures spent { steps.new ≤ steps.old + rules_of_table table.now }
 {
-    if table.chains.is_empty() {
-        return None;
+    if table.chains.len() <= FEW_CHAINS {
+        let mut known = [None; FEW_CHAINS];
+        return final_over(bounds, facts, hook, table, laid, &mut known, steps);
     }
-    let mut first = None;
     let mut known = [None; CHAINS];
-    for place in 0..table.chains.len() {
-        let other = final_at(bounds, facts, hook, table, laid, place, &mut known, steps);
-        first = preferred(first, other);
-    }
-    first
+    final_over(bounds, facts, hook, table, laid, &mut known, steps)
 }
 
 fn final_of_all(
