@@ -58,27 +58,35 @@ fn one_session(rt: HostRuntime) -> Result<(), AllocError> {
     is_shown(&rt, rt.alloc(), &answered, QUERY_LINE)
 }
 
+// A TCP session that has seen these bits ends its line with this word.
+fn is_shown_as(rt: &impl Abort, alloc: Global, seen: u8, word: &str) -> Result<(), AllocError> {
+    let mut wanted = String::from_str(
+        alloc,
+        "tcp 192.168.1.2:5000      203.0.113.1:5000      198.51.100.7:53       ",
+    )?;
+    wanted.push_str(word)?;
+    let session = Session {
+        proto: Proto::Tcp,
+        seen,
+        ..QUERY
+    };
+    is_shown(rt, alloc, &session, wanted.as_str())
+}
+
 #[test]
 fn phases(rt: HostRuntime) -> Result<(), AllocError> {
-    let front = "tcp 192.168.1.2:5000      203.0.113.1:5000      198.51.100.7:53       ";
     let rows: [(u8, &str); 8] = [
-        (0, "partial"),
-        (3, "partial"),
-        (7, "established"),
-        (15, "established"),
-        (8, "partial"),
-        (24, "closing"),
-        (31, "closing"),
-        (32, "closing"),
+        (0, "partial\n"),
+        (3, "partial\n"),
+        (7, "established\n"),
+        (15, "established\n"),
+        (8, "partial\n"),
+        (24, "closing\n"),
+        (31, "closing\n"),
+        (32, "closing\n"),
     ];
     for (seen, word) in rows {
-        let session = Session {
-            proto: Proto::Tcp,
-            seen,
-            ..QUERY
-        };
-        let wanted = format!(in rt.alloc(); "{front}{word}\n")?;
-        is_shown(&rt, rt.alloc(), &session, wanted.as_str())?;
+        is_shown_as(&rt, rt.alloc(), seen, word)?;
     }
     Ok(())
 }
@@ -100,13 +108,23 @@ fn widest_and_narrowest(rt: HostRuntime) -> Result<(), AllocError> {
     is_shown(&rt, rt.alloc(), &session, wanted)
 }
 
+// The line of a session so many times, below a first line.
+fn many_lines(alloc: Global, times: usize) -> Result<Vec<u8>, AllocError> {
+    let mut lines = Vec::from_slice(alloc, b"first\n")?;
+    for _ in 0..times {
+        lines.extend_from_slice(QUERY_LINE.as_bytes())?;
+    }
+    Ok(lines)
+}
+
 #[test]
 fn many(rt: HostRuntime) -> Result<(), AllocError> {
-    let mut out = Vec::from_slice(rt.alloc(), b"first\n")?;
-    put_lines(&mut out, &[])?;
-    assert!(rt; out.as_slice() == b"first\n".as_slice());
-    put_lines(&mut out, &[QUERY, QUERY])?;
-    let wanted = format!(in rt.alloc(); "first\n{QUERY_LINE}{QUERY_LINE}")?;
-    assert!(rt; out.as_slice() == wanted.as_bytes());
+    let alloc = rt.alloc();
+    for sessions in [[QUERY, QUERY].as_slice(), &[]] {
+        let mut out = Vec::from_slice(alloc, b"first\n")?;
+        put_lines(&mut out, sessions)?;
+        let wanted = many_lines(alloc, sessions.len())?;
+        assert!(rt; out.as_slice() == wanted.as_slice());
+    }
     Ok(())
 }

@@ -4,7 +4,8 @@ use packet::bounds::Bounds;
 use packet::endpoint::{Endpoint, Flags, Prefix, Proto};
 use sessions::Opener::{self, Inside, Remote};
 use sessions::Phase::{self, Closing, Established, Partial};
-use sessions::{AddFault, Session, Table, are_known_bits};
+use sessions::{AddFault, Session, Slot, Table, are_known_bits};
+use std::alloc::Global;
 use std::process::Abort;
 use std::test::*;
 
@@ -83,40 +84,52 @@ fn goes_through(rt: &impl Abort, session: Session, packets: &[(Opener, Flags, Ph
     session
 }
 
+fn syn() -> Session {
+    begun(Proto::Tcp, SERVER)
+}
+
+// The session of a handshake: its last packet passed in second 1002.
+fn open(rt: &impl Abort) -> Session {
+    let handshake = [(Remote, SYN_ACK, Partial), (Inside, ACK, Established)];
+    goes_through(rt, syn(), &handshake)
+}
+
+// Whether the session is alive in this second, and in the next one no longer.
+fn ends_after(session: &Session, second: u64) -> bool {
+    session.is_alive(second) && !session.is_alive(second.saturating_add(1))
+}
+
 #[test]
 fn phases(rt: HostRuntime) {
-    let syn = begun(Proto::Tcp, SERVER);
-    assert_eq!(rt; syn.phase(), Partial);
-    assert!(rt; syn.is_alive(1239));
-    assert!(rt; !syn.is_alive(1240));
+    assert_eq!(rt; syn().phase(), Partial);
+    assert!(rt; ends_after(&syn(), 1239));
+    let reset = goes_through(&rt, open(&rt), &[(Remote, RST, Closing)]);
+    assert!(rt; ends_after(&reset, 1242));
+}
 
-    let handshake = [(Remote, SYN_ACK, Partial), (Inside, ACK, Established)];
-    let open = goes_through(&rt, syn, &handshake);
-    let reset = goes_through(&rt, open, &[(Remote, RST, Closing)]);
-    assert!(rt; reset.is_alive(1242));
-    assert!(rt; !reset.is_alive(1243));
-
-    let half = goes_through(&rt, open, &[(Inside, FIN_ACK, Established)]);
-    assert!(rt; half.is_alive(8442));
-    assert!(rt; !half.is_alive(8443));
+#[test]
+fn both_sides_close(rt: HostRuntime) {
+    let half = goes_through(&rt, open(&rt), &[(Inside, FIN_ACK, Established)]);
+    assert!(rt; ends_after(&half, 8442));
     let closed = goes_through(&rt, half, &[(Remote, FIN_ACK, Closing)]);
-    assert!(rt; closed.is_alive(1243));
-    assert!(rt; !closed.is_alive(1244));
-    assert!(rt; closed.restarts(SYN));
-    assert!(rt; !closed.restarts(SYN_ACK));
+    assert!(rt; ends_after(&closed, 1243));
+    assert!(rt; closed.restarts(SYN) && !closed.restarts(SYN_ACK));
+}
 
-    // Both sides open at once.
+#[test]
+fn both_sides_open_at_once(rt: HostRuntime) {
     let crossing = [
         (Remote, SYN, Partial),
         (Inside, SYN_ACK, Partial),
         (Remote, SYN_ACK, Established),
     ];
-    goes_through(&rt, syn, &crossing);
+    goes_through(&rt, syn(), &crossing);
+}
 
+#[test]
+fn queries(rt: HostRuntime) {
     let query = begun(Proto::Udp, SERVER);
-    assert!(rt; query.is_alive(1299));
-    assert!(rt; !query.is_alive(1300));
-    assert!(rt; query.is_alive(0));
+    assert!(rt; query.is_alive(0) && ends_after(&query, 1299));
     assert_eq!(rt; query.shown(Remote, Flags::none()), 1);
 }
 
@@ -129,22 +142,40 @@ fn states(rt: HostRuntime) {
     assert!(rt; !answered.awaits_reply(Inside));
 }
 
+// A table of a query and a stream, and the slot of the query.
+fn two_sessions(alloc: Global) -> Result<(Box<Table>, Slot), Fail> {
+    let mut table = Box::new(alloc, Table::new(alloc))?;
+    table.reserve()?;
+    let slot = table.add(begun(Proto::Udp, SERVER))?;
+    table.add(begun(Proto::Tcp, SERVER))?;
+    Ok((table, slot))
+}
+
 #[test]
 fn one_table(rt: HostRuntime) -> Result<(), Fail> {
-    let alloc = rt.alloc();
-    let mut table = Table::new(alloc);
-    table.reserve()?;
-    let query = begun(Proto::Udp, SERVER);
-    let stream = begun(Proto::Tcp, SERVER);
-    let slot = table.add(query)?;
-    assert_eq!(rt; table.add(query), Err(AddFault::Clash));
-    table.add(stream)?;
+    let (mut table, slot) = two_sessions(rt.alloc())?;
+    assert_eq!(rt; table.add(begun(Proto::Udp, SERVER)), Err(AddFault::Clash));
     assert_eq!(rt; table.count(), 2);
     assert!(rt; slot.number() < table.slots());
-    assert_eq!(rt; table.list(alloc)?.as_slice(), [stream, query].as_slice());
+    Ok(())
+}
+
+#[test]
+fn sessions_are_listed(rt: HostRuntime) -> Result<(), Fail> {
+    let alloc = rt.alloc();
+    let (table, _) = two_sessions(alloc)?;
+    let wanted = [begun(Proto::Tcp, SERVER), begun(Proto::Udp, SERVER)];
+    assert!(rt; table.list(alloc)?.as_slice() == wanted.as_slice());
+    Ok(())
+}
+
+#[test]
+fn sessions_are_found(rt: HostRuntime) -> Result<(), Fail> {
+    let (table, slot) = two_sessions(rt.alloc())?;
     assert_eq!(rt; table.by_inside(Proto::Udp, HOST, SERVER), Some(slot));
-    assert_eq!(rt; table.by_outside(Proto::Udp, OUTSIDE, SERVER), Some(slot));
-    assert_eq!(rt; table.by_outside(Proto::Udp, HOST, SERVER), None);
+    for (outside, expected) in [(OUTSIDE, Some(slot)), (HOST, None)] {
+        assert_eq!(rt; table.by_outside(Proto::Udp, outside, SERVER), expected);
+    }
     Ok(())
 }
 
@@ -188,33 +219,36 @@ fn amended_and_ended(rt: HostRuntime) -> Result<(), Fail> {
 }
 
 #[test]
-fn stored_values(rt: HostRuntime) -> Result<(), Fail> {
+fn stored_values(rt: HostRuntime) {
     assert_eq!(rt; (Inside.code(), Remote.code()), (0, 1));
-    assert_eq!(rt; Opener::of_code(1), Some(Remote));
-    assert_eq!(rt; Opener::of_code(2), None);
-    assert!(rt; are_known_bits(Proto::Tcp, 63));
-    assert!(rt; !are_known_bits(Proto::Udp, 2));
+    assert_eq!(rt;
+        (Opener::of_code(1), Opener::of_code(2)),
+        (Some(Remote), None)
+    );
+    assert!(rt; are_known_bits(Proto::Tcp, 63) && !are_known_bits(Proto::Udp, 2));
+}
 
-    let alloc = rt.alloc();
-    let mut inside = Vec::new(alloc);
-    inside.push(Prefix {
+// 192.168.1.0/24 inside.
+fn bounds(alloc: Global) -> Result<Box<Bounds>, Fail> {
+    let prefix = Prefix {
         addr: 0xc0a8_0100,
         len: 24,
-    })?;
+    };
+    let inside = Vec::from_slice(alloc, &[prefix])?;
     let lan = String::from_str(alloc, "lan")?;
     let wan = String::from_str(alloc, "wan")?;
-    let bounds = Bounds::new(lan, wan, inside, OUTSIDE.addr)?;
-    let query = begun(Proto::Udp, SERVER);
-    assert!(rt; query.is_placed(&bounds));
-    let within = Session {
-        outside: HOST,
-        ..query
-    };
-    assert!(rt; within.is_placed(&bounds));
-    let elsewhere = Session {
-        outside: SERVER,
-        ..query
-    };
-    assert!(rt; !elsewhere.is_placed(&bounds));
+    Ok(Box::new(alloc, Bounds::new(lan, wan, inside, OUTSIDE.addr)?)?)
+}
+
+#[test]
+fn placed_sessions(rt: HostRuntime) -> Result<(), Fail> {
+    let bounds = bounds(rt.alloc())?;
+    for (outside, expected) in [(OUTSIDE, true), (HOST, true), (SERVER, false)] {
+        let session = Session {
+            outside,
+            ..begun(Proto::Udp, SERVER)
+        };
+        assert_eq!(rt; session.is_placed(&bounds), expected);
+    }
     Ok(())
 }

@@ -1,7 +1,5 @@
-ghost use Rattle.std.specs.Prelude.{◌≤◌};
-
 use packet::endpoint::Prefix;
-use sets::{Element, LIMIT, Pair, Range, Set, SetFault, Value, Vmap};
+use sets::{Element, Pair, Range, Set, SetFault, Value, Vmap};
 use std::alloc::{AllocError, AllocFailed, Global};
 use std::test::*;
 
@@ -30,10 +28,9 @@ impl From<SetFault> for Fail {
     }
 }
 
-fn numbers(low: u32, high: u32) -> Element
-    requires { low ≤ high }
-{
-    Element::Numbers(Range::new(low, high))
+// The numbers between two, the lower of which comes first.
+fn numbers(first: u32, last: u32) -> Element {
+    Element::Numbers(Range::new(first.min(last), last))
 }
 
 fn name(alloc: Global, bytes: &[u8]) -> Result<Element, AllocError> {
@@ -44,31 +41,25 @@ fn pair(key: Element, verdict: u8) -> Pair<u8> {
     Pair { key, verdict }
 }
 
-fn ones(alloc: Global, count: u32) -> Result<Vec<Element>, AllocError> {
+fn set_of(alloc: Global, ranges: &[(u32, u32)]) -> Result<Set, Fail> {
     let mut elements = Vec::new(alloc);
-    for number in 0..count {
-        elements.push(Element::Numbers(Range::one(number)))?;
+    for (first, last) in ranges {
+        elements.push(numbers(*first, *last))?;
     }
-    Ok(elements)
+    Ok(Set::union_of(elements)?)
 }
 
-fn keyed(alloc: Global, count: u32) -> Result<Vec<Pair<u8>>, AllocError> {
+fn vmap_of(alloc: Global, keys: &[(u32, u32, u8)]) -> Result<Vmap<u8>, Fail> {
     let mut pairs = Vec::new(alloc);
-    for number in 0..count {
-        pairs.push(pair(Element::Numbers(Range::one(number)), 7))?;
+    for (first, last, verdict) in keys {
+        pairs.push(pair(numbers(*first, *last), *verdict))?;
     }
-    Ok(pairs)
+    Ok(Vmap::of(pairs)?)
 }
 
 #[test]
 fn ports_of_a_union(rt: HostRuntime) -> Result<(), Fail> {
-    let elements = vec![in rt.alloc();
-        numbers(1, 10),
-        numbers(5, 20),
-        numbers(21, 21),
-        numbers(30, 30),
-    ]?;
-    let set = Set::union_of(elements)?;
+    let set = set_of(rt.alloc(), &[(1, 10), (5, 20), (21, 21), (30, 30)])?;
     let held = [
         (0, false),
         (1, true),
@@ -82,18 +73,21 @@ fn ports_of_a_union(rt: HostRuntime) -> Result<(), Fail> {
         assert_eq!(rt; set.contains(Value::Number(port)), wanted, "port {port}");
     }
     assert!(rt; !set.contains(Value::Name(b"lan")));
-    assert_eq!(rt;
-        set.intervals(),
-        [numbers(1, 21), numbers(30, 30)].as_slice()
-    );
+    Ok(())
+}
+
+#[test]
+fn intervals_of_a_union(rt: HostRuntime) -> Result<(), Fail> {
+    let set = set_of(rt.alloc(), &[(1, 10), (5, 20), (21, 21), (30, 30)])?;
+    let wanted = [numbers(1, 21), numbers(30, 30)];
+    assert!(rt; set.intervals() == wanted.as_slice());
     Ok(())
 }
 
 // Three intervals: the middle one is compared with first.
 #[test]
 fn probes_of_three(rt: HostRuntime) -> Result<(), Fail> {
-    let elements = vec![in rt.alloc(); numbers(22, 30), numbers(1, 10), numbers(12, 20)]?;
-    let set = Set::union_of(elements)?;
+    let set = set_of(rt.alloc(), &[(22, 30), (1, 10), (12, 20)])?;
     for (port, wanted, probes) in [(15, true, 1), (5, true, 2), (25, true, 2), (11, false, 2)] {
         let (found, steps) = set.contains_counted(Value::Number(port));
         assert_eq!(rt; (found, steps.count()), (wanted, probes), "port {port}");
@@ -106,9 +100,10 @@ fn names_by_bytes(rt: HostRuntime) -> Result<(), Fail> {
     let alloc = rt.alloc();
     let elements = vec![in alloc; name(alloc, b"lan")?, name(alloc, b"wan0")?]?;
     let set = Set::union_of(elements)?;
-    assert!(rt; set.contains(Value::Name(b"wan0")));
-    assert!(rt; !set.contains(Value::Name(b"wan")));
-    assert!(rt; !set.contains(Value::Name(b"LAN")));
+    let rows: [(&[u8], bool); 3] = [(b"wan0", true), (b"wan", false), (b"LAN", false)];
+    for (name, wanted) in rows {
+        assert_eq!(rt; set.contains(Value::Name(name)), wanted);
+    }
     Ok(())
 }
 
@@ -116,25 +111,29 @@ fn names_by_bytes(rt: HostRuntime) -> Result<(), Fail> {
 #[test]
 fn prefixes(rt: HostRuntime) {
     let addr = 0xc0a8_014d;
+    let rows = [
+        (24, 0xc0a8_0100, 0xc0a8_01ff),
+        (0, 0, 0xffff_ffff),
+        (32, addr, addr),
+    ];
+    for (len, low, high) in rows {
+        let range = Range::of_prefix(Prefix { addr, len });
+        assert_eq!(rt; (range.low, range.high), (low, high));
+    }
+}
+
+#[test]
+fn last_of_a_prefix(rt: HostRuntime) {
+    let addr = 0xc0a8_014d;
     let net = Range::of_prefix(Prefix { addr, len: 24 });
-    assert_eq!(rt; (net.low, net.high), (0xc0a8_0100, 0xc0a8_01ff));
-    let all = Range::of_prefix(Prefix { addr, len: 0 });
-    assert_eq!(rt; (all.low, all.high), (0, 0xffff_ffff));
+    assert!(rt; Element::Numbers(net).holds(Value::Number(0xc0a8_01ff)));
     let one = Range::of_prefix(Prefix { addr, len: 32 });
     assert_eq!(rt; one, Range::one(addr));
-    assert!(rt; Element::Numbers(net).holds(Value::Number(0xc0a8_01ff)));
 }
 
 #[test]
 fn verdict_of_a_key(rt: HostRuntime) -> Result<(), Fail> {
-    let pairs = vec![in rt.alloc();
-        pair(numbers(22, 22), 1),
-        pair(numbers(80, 443), 2),
-        pair(numbers(1, 21), 3),
-    ]?;
-    let vmap = Vmap::of(pairs)?;
-    let (found, probes) = vmap.look_up_counted(Value::Number(22));
-    assert_eq!(rt; (found.copied(), probes.count()), (Some(1), 1));
+    let vmap = vmap_of(rt.alloc(), &[(22, 22, 1), (80, 443, 2), (1, 21, 3)])?;
     for (port, wanted) in [
         (22, Some(1)),
         (80, Some(2)),
@@ -153,53 +152,74 @@ fn verdict_of_a_key(rt: HostRuntime) -> Result<(), Fail> {
 }
 
 #[test]
+fn probes_of_a_key(rt: HostRuntime) -> Result<(), Fail> {
+    let vmap = vmap_of(rt.alloc(), &[(22, 22, 1), (80, 443, 2), (1, 21, 3)])?;
+    let (found, probes) = vmap.look_up_counted(Value::Number(22));
+    assert_eq!(rt; (found.copied(), probes.count()), (Some(1), 1));
+    Ok(())
+}
+
+fn is_overlap<T: Drop>(made: Result<T, Fail>) -> bool {
+    matches!(made, Err(Fail::Refused(SetFault::Overlap)))
+}
+
+#[test]
 fn keys_that_share_a_value(rt: HostRuntime) -> Result<(), Fail> {
-    let alloc = rt.alloc();
-    let within = Vmap::of(vec![in alloc; pair(numbers(1, 10), 1), pair(numbers(5, 5), 2)]?);
-    assert_eq!(rt; within.err(), Some(SetFault::Overlap));
-    let touching = Vmap::of(vec![in alloc; pair(numbers(10, 20), 1), pair(numbers(1, 10), 2)]?);
-    assert_eq!(rt; touching.err(), Some(SetFault::Overlap));
-    let twice = Vmap::of(vec![in alloc;
-        pair(name(alloc, b"lan")?, 1),
-        pair(numbers(1, 10), 2),
-        pair(name(alloc, b"lan")?, 3),
-    ]?);
-    assert_eq!(rt; twice.err(), Some(SetFault::Overlap));
-    let adjoining = Vmap::of(vec![in alloc; pair(numbers(11, 20), 1), pair(numbers(1, 10), 2)]?);
-    assert!(rt; adjoining.is_ok());
+    for keys in [[(1, 10, 1), (5, 5, 2)], [(10, 20, 1), (1, 10, 2)]] {
+        assert!(rt; is_overlap(vmap_of(rt.alloc(), &keys)));
+    }
+    let _adjoining = vmap_of(rt.alloc(), &[(11, 20, 1), (1, 10, 2)])?;
     Ok(())
 }
 
 #[test]
-fn at_the_limit(rt: HostRuntime) -> Result<(), Fail> {
+fn a_name_twice(rt: HostRuntime) -> Result<(), Fail> {
     let alloc = rt.alloc();
-    assert!(rt; Set::union_of(ones(alloc, 16_384)?).is_ok());
-    assert_eq!(rt;
-        Set::union_of(ones(alloc, 16_385)?).err(),
-        Some(SetFault::Limit)
-    );
-    assert!(rt; Vmap::of(keyed(alloc, 16_384)?).is_ok());
-    assert_eq!(rt;
-        Vmap::of(keyed(alloc, 16_385)?).err(),
-        Some(SetFault::Limit)
-    );
+    let pairs = vec![in alloc;
+        pair(name(alloc, b"lan")?, 1),
+        pair(numbers(1, 10), 2),
+        pair(name(alloc, b"lan")?, 3),
+    ]?;
+    assert_eq!(rt; Vmap::of(pairs).err(), Some(SetFault::Overlap));
+    Ok(())
+}
+
+// Why so many elements aren't taken, each a number of its own.
+fn fault_of_set(alloc: Global, count: u32) -> Result<Option<SetFault>, AllocError> {
+    let mut elements = Vec::new(alloc);
+    for number in 0..count {
+        elements.push(numbers(number, number))?;
+    }
+    Ok(Set::union_of(elements).err())
+}
+
+fn fault_of_vmap(alloc: Global, count: u32) -> Result<Option<SetFault>, AllocError> {
+    let mut pairs = Vec::new(alloc);
+    for number in 0..count {
+        pairs.push(pair(numbers(number, number), 7))?;
+    }
+    Ok(Vmap::of(pairs).err())
+}
+
+#[test]
+fn at_the_limit(rt: HostRuntime) -> Result<(), Fail> {
+    for (count, fault) in [(16_384, None), (16_385, Some(SetFault::Limit))] {
+        assert_eq!(rt; fault_of_set(rt.alloc(), count)?, fault);
+        assert_eq!(rt; fault_of_vmap(rt.alloc(), count)?, fault);
+    }
     Ok(())
 }
 
 #[test]
 fn fault_texts(rt: HostRuntime) -> Result<(), Fail> {
-    let alloc = rt.alloc();
-    assert_eq!(rt;
-        format!(in alloc; "{}", SetFault::Overlap)?.as_str(),
-        "two keys of a verdict map share a value"
-    );
-    assert_eq!(rt;
-        format!(in alloc; "{}", SetFault::Limit)?.as_str(),
-        "more than 16,384 elements"
-    );
-    assert_eq!(rt;
-        format!(in alloc; "{}", SetFault::NoMemory)?.as_str(),
-        "out of memory"
-    );
+    let rows = [
+        (SetFault::Overlap, "two keys of a verdict map share a value"),
+        (SetFault::Limit, "more than 16,384 elements"),
+        (SetFault::NoMemory, "out of memory"),
+    ];
+    for (fault, text) in rows {
+        let found = format!(in rt.alloc(); "{fault}")?;
+        assert!(rt; found.as_str() == text, "{text}");
+    }
     Ok(())
 }

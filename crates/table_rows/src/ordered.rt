@@ -1,7 +1,9 @@
-use rows::{Entry, Rows};
-use std::alloc::AllocError;
+use rows::{Entry, Rows, Walk};
+use std::alloc::{AllocError, Global};
 use std::process::Abort;
 use std::test::*;
+
+const HIGH: u128 = 0xffff_ffff_ffff_ffff_ffff_ffff_ffff_ffff;
 
 // Puts an entry in. A refusal of memory must change nothing, and the entry go in at the second try.
 fn put(rt: &impl Abort, rows: &mut Rows, key: u128, value: usize) -> Result<(), AllocError> {
@@ -17,62 +19,88 @@ fn put(rt: &impl Abort, rows: &mut Rows, key: u128, value: usize) -> Result<(), 
     Ok(())
 }
 
-#[test]
-fn entries_go_in_and_out(rt: HostRuntime) -> Result<(), AllocError> {
-    let mut rows = Rows::new(rt.alloc());
-    assert_eq!(rt; rows.get(7), None);
+fn three(rt: &impl Abort, alloc: Global) -> Result<Box<Rows>, AllocError> {
+    let mut rows = Box::new(alloc, Rows::new(alloc))?;
     if rows.reserve().is_err() {
         rows.reserve()?;
     }
-    let high = 0xffff_ffff_ffff_ffff_ffff_ffff_ffff_ffff;
-    put(&rt, &mut rows, high, 1)?;
-    put(&rt, &mut rows, 7, 2)?;
-    put(&rt, &mut rows, 0, 3)?;
+    for (key, value) in [(HIGH, 1), (7, 2), (0, 3)] {
+        put(rt, &mut rows, key, value)?;
+    }
+    Ok(rows)
+}
+
+// Whether the walk goes over these entries, and no more.
+fn goes_over(mut walk: Walk<'_>, entries: &[(u128, usize)]) -> bool {
+    for (key, value) in entries {
+        let entry = Entry {
+            key: *key,
+            value: *value,
+        };
+        if walk.next() != Some(entry) {
+            return false;
+        }
+    }
+    walk.next().is_none()
+}
+
+#[test]
+fn entries_rise(rt: HostRuntime) -> Result<(), AllocError> {
+    let rows = three(&rt, rt.alloc())?;
     rows.is_rising();
-    let mut walk = rows.iter();
-    assert_eq!(rt; walk.next(), Some(Entry { key: 0, value: 3 }));
-    assert_eq!(rt; walk.next(), Some(Entry { key: 7, value: 2 }));
-    assert_eq!(rt;
-        walk.next(),
-        Some(Entry {
-            key: high,
-            value: 1
-        })
-    );
-    assert_eq!(rt; walk.next(), None);
-    let mut walk = rows.iter_from(1);
-    assert_eq!(rt; walk.next(), Some(Entry { key: 7, value: 2 }));
-    assert_eq!(rt; rows.remove(7), Some(2));
-    assert_eq!(rt; rows.remove(7), None);
-    assert_eq!(rt; rows.get(0), Some(3));
-    assert_eq!(rt; rows.get(high), Some(1));
+    assert!(rt; goes_over(rows.iter(), &[(0, 3), (7, 2), (HIGH, 1)]));
+    assert!(rt; goes_over(rows.iter_from(1), &[(7, 2), (HIGH, 1)]));
     Ok(())
+}
+
+#[test]
+fn entries_go_in_and_out(rt: HostRuntime) -> Result<(), AllocError> {
+    assert_eq!(rt; Rows::new(rt.alloc()).get(7), None);
+    let mut rows = three(&rt, rt.alloc())?;
+    for value in [Some(2), None] {
+        assert_eq!(rt; rows.remove(7), value);
+    }
+    for (key, value) in [(0, Some(3)), (HIGH, Some(1))] {
+        assert_eq!(rt; rows.get(key), value);
+    }
+    Ok(())
+}
+
+fn key_of(number: usize) -> u128 {
+    number as u128 * 1237 % 2003
+}
+
+fn many(rt: &impl Abort, alloc: Global) -> Result<Box<Rows>, AllocError> {
+    let mut rows = Box::new(alloc, Rows::new(alloc))?;
+    for number in 0..2000 {
+        put(rt, &mut rows, key_of(number), number)?;
+    }
+    Ok(rows)
+}
+
+// How many entries there are, each of which must come behind the one before.
+fn count_rising(rt: &impl Abort, rows: &Rows) -> u32 {
+    let mut next: u128 = 0;
+    let mut count: u32 = 0;
+    for entry in rows.iter() {
+        assert!(rt; entry.key >= next);
+        next = entry.key.saturating_add(1);
+        count = count.saturating_add(1);
+    }
+    count
 }
 
 // So many that runs are cut, and joined again.
 #[test]
 fn many_entries_are_found(rt: HostRuntime) -> Result<(), AllocError> {
-    let mut rows = Rows::new(rt.alloc());
-    for number in 0..2000 {
-        let key = number as u128 * 1237 % 2003;
-        put(&rt, &mut rows, key, number)?;
-    }
-    let mut next: u128 = 0;
-    let mut count: u32 = 0;
-    for entry in rows.iter() {
-        assert_eq!(rt; entry.key >= next, true);
-        next = entry.key.saturating_add(1);
-        count = count.saturating_add(1);
-    }
-    assert_eq!(rt; count, 2000);
+    let mut rows = many(&rt, rt.alloc())?;
+    assert_eq!(rt; count_rising(&rt, &rows), 2000);
     for number in 0..1990 {
-        let key = number as u128 * 1237 % 2003;
-        assert_eq!(rt; rows.remove(key), Some(number));
+        assert_eq!(rt; rows.remove(key_of(number)), Some(number));
     }
     for number in 0..2000 {
-        let key = number as u128 * 1237 % 2003;
         let value = if number < 1990 { None } else { Some(number) };
-        assert_eq!(rt; rows.get(key), value);
+        assert_eq!(rt; rows.get(key_of(number)), value);
     }
     Ok(())
 }

@@ -42,19 +42,24 @@ fn assign(
     Ok(Some(chosen))
 }
 
-// What two hosts get that both ask for this port.
-fn assign_two(
+// What a host gets at the first address, or at the second one.
+fn ask(
     rt: &impl Abort,
     ports: &mut Ports,
+    proto: Proto,
+    is_second: bool,
     port: u16,
-) -> Result<(Option<u16>, Option<u16>), AllocError>
-    requires external { Contains ports.old.external 3405803777 }
-    requires not_zero { 0 < port }
+) -> Result<Option<u16>, AllocError>
+    requires external { ports.old.external ≡ 3405803777 ∷ 3405803778 ∷ [] }
     ensures addresses { ports.new.external ≡ ports.old.external }
 {
-    let first = assign(rt, ports, Proto::Udp, FIRST, port)?;
-    let second = assign(rt, ports, Proto::Udp, FIRST, port)?;
-    Ok((first, second))
+    if port == 0 {
+        return Ok(None);
+    }
+    if is_second {
+        return assign(rt, ports, proto, SECOND, port);
+    }
+    assign(rt, ports, proto, FIRST, port)
 }
 
 // Frees the port, if it is taken.
@@ -71,16 +76,21 @@ fn give_back(ports: &mut Ports, port: u16)
 #[test]
 fn second_host_gets_the_next_port(rt: HostRuntime) -> Result<(), AllocError> {
     let mut ports = two_addresses(rt.alloc())?;
-    let greatest_even = assign_two(&rt, &mut ports, 65534)?;
-    let greatest_low = assign_two(&rt, &mut ports, 1023)?;
-    let middle = assign_two(&rt, &mut ports, 5000)?;
-    assert_eq!(rt; greatest_even, (Some(65534), Some(1024)));
-    assert_eq!(rt; greatest_low, (Some(1023), Some(1)));
-    assert_eq!(rt; middle, (Some(5000), Some(5002)));
-    let tcp = assign(&rt, &mut ports, Proto::Tcp, FIRST, 5000)?;
-    let elsewhere = assign(&rt, &mut ports, Proto::Udp, SECOND, 5000)?;
-    assert_eq!(rt; tcp, Some(5000));
-    assert_eq!(rt; elsewhere, Some(5000));
+    let rows = [
+        (Proto::Udp, false, 65534, 65534),
+        (Proto::Udp, false, 65534, 1024),
+        (Proto::Udp, false, 1023, 1023),
+        (Proto::Udp, false, 1023, 1),
+        (Proto::Udp, false, 5000, 5000),
+        (Proto::Udp, false, 5000, 5002),
+        (Proto::Tcp, false, 5000, 5000),
+        (Proto::Udp, true, 5000, 5000),
+    ];
+    for row in rows {
+        let (proto, is_second, port, expected) = row;
+        let chosen = ask(&rt, &mut ports, proto, is_second, port)?;
+        assert_eq!(rt; chosen, Some(expected), "{port}");
+    }
     Ok(())
 }
 
@@ -148,37 +158,37 @@ fn pick_the_last(
     Ok((chosen, steps.count()))
 }
 
+// Each row: the port that is left of its kind, the one that is asked for, and the words that are looked at.
+fn are_picked(
+    rt: &impl Abort,
+    alloc: Global,
+    least: u16,
+    count: u16,
+    rows: &[(u16, u16, u32)],
+) -> Result<(), AllocError>
+    requires not_zero { 0 < least }
+    requires ports { least + 2 * count < 65538 }
+{
+    for (left, port, words) in rows {
+        let found = pick_the_last(alloc, least, count, *left, (*port).max(1))?;
+        assert_eq!(rt; found, (Some(*left), *words));
+    }
+    Ok(())
+}
+
+// The last one, the first one and one in the middle, from two ports above where that can be.
 #[test]
 fn one_low_port_is_left(rt: HostRuntime) -> Result<(), AllocError> {
-    // the last one, the first one and one in the middle, from two ports above where that can be
-    let last_odd = pick_the_last(rt.alloc(), 1, 512, 1023, 1)?;
-    let first_odd = pick_the_last(rt.alloc(), 1, 512, 1, 3)?;
-    let middle_odd = pick_the_last(rt.alloc(), 1, 512, 513, 515)?;
-    assert_eq!(rt; last_odd, (Some(1023), 8));
-    assert_eq!(rt; first_odd, (Some(1), 9));
-    assert_eq!(rt; middle_odd, (Some(513), 9));
-    let last_even = pick_the_last(rt.alloc(), 2, 511, 1022, 2)?;
-    let first_even = pick_the_last(rt.alloc(), 2, 511, 2, 4)?;
-    let middle_even = pick_the_last(rt.alloc(), 2, 511, 514, 516)?;
-    assert_eq!(rt; last_even, (Some(1022), 8));
-    assert_eq!(rt; first_even, (Some(2), 9));
-    assert_eq!(rt; middle_even, (Some(514), 9));
-    Ok(())
+    let odd = [(1023, 1, 8), (1, 3, 9), (513, 515, 9)];
+    are_picked(&rt, rt.alloc(), 1, 512, &odd)?;
+    let even = [(1022, 2, 8), (2, 4, 9), (514, 516, 9)];
+    are_picked(&rt, rt.alloc(), 2, 511, &even)
 }
 
 #[test]
 fn one_high_port_is_left(rt: HostRuntime) -> Result<(), AllocError> {
-    let last_odd = pick_the_last(rt.alloc(), 1025, 32256, 65535, 1025)?;
-    let first_odd = pick_the_last(rt.alloc(), 1025, 32256, 1025, 1027)?;
-    let middle_odd = pick_the_last(rt.alloc(), 1025, 32256, 33281, 33283)?;
-    assert_eq!(rt; last_odd, (Some(65535), 504));
-    assert_eq!(rt; first_odd, (Some(1025), 505));
-    assert_eq!(rt; middle_odd, (Some(33281), 505));
-    let last_even = pick_the_last(rt.alloc(), 1024, 32256, 65534, 1024)?;
-    let first_even = pick_the_last(rt.alloc(), 1024, 32256, 1024, 1026)?;
-    let middle_even = pick_the_last(rt.alloc(), 1024, 32256, 33280, 33282)?;
-    assert_eq!(rt; last_even, (Some(65534), 504));
-    assert_eq!(rt; first_even, (Some(1024), 505));
-    assert_eq!(rt; middle_even, (Some(33280), 505));
-    Ok(())
+    let odd = [(65535, 1025, 504), (1025, 1027, 505), (33281, 33283, 505)];
+    are_picked(&rt, rt.alloc(), 1025, 32256, &odd)?;
+    let even = [(65534, 1024, 504), (1024, 1026, 505), (33280, 33282, 505)];
+    are_picked(&rt, rt.alloc(), 1024, 32256, &even)
 }
