@@ -5,8 +5,8 @@ ghost use Rattle.socket_edge.specs.Requests.{next, Cut};
 ghost use Rattle.socket_edge.specs.Running.{Came, Explains, Fares, Ran, SettledAndSent, Turned, events_in};
 
 use crate::fault::EdgeFault;
-use crate::sending::send_all;
-use crate::serving::{close, offer_all, tidy};
+use crate::sending::send_by;
+use crate::serving::{close, empty_for, offer_all, tidy};
 use disk_model::Disk;
 use gateway::running::begin;
 use gateway::{Answer, Gateway, GatewayFault};
@@ -23,6 +23,13 @@ pub enum Turn {
     More(u64),
     /// The input is read to its end, and no part of a frame is left.
     End,
+}
+
+/// Memory that is kept from read to read: each use begins by letting go of what stands there.
+#[derive(Drop)]
+struct Room {
+    answers: Vec<(u64, Answer)>,
+    frames: Vec<u8>,
 }
 
 /// Takes the first `at` bytes away.
@@ -45,6 +52,7 @@ fn answer_front<W: Write, D: Disk + Drop>(
     gateway: &mut Gateway<D>,
     pending: &mut Vec<u8>,
     answers: &mut Vec<(u64, Answer)>,
+    frames: &mut Vec<u8>,
 ) -> Result<u64, EdgeFault>
     requires stands { gateway.old.fallen ≡ false }
     requires none { answers.old.items ≡ [] }
@@ -57,7 +65,7 @@ fn answer_front<W: Write, D: Disk + Drop>(
     begin(gateway);
     let (at, count, stop) = offer_all(alloc, pending.as_slice(), answers, gateway);
     let closed = close(stop, answers, gateway);
-    send_all(alloc, writer, answers.as_slice())?;
+    send_by(frames, writer, answers.as_slice())?;
     closed?;
     remove_front(pending, at);
     Ok(count)
@@ -69,6 +77,7 @@ fn serve<W: Write, D: Disk + Drop>(
     writer: &mut W,
     gateway: &mut Gateway<D>,
     pending: &mut Vec<u8>,
+    room: &mut Room,
 ) -> Result<u64, EdgeFault>
     requires stands { gateway.old.fallen ≡ false }
     ensures served { (sent : List ℕ) × Appends (W.contents writer.old) (W.contents writer.new) sent
@@ -80,11 +89,18 @@ fn serve<W: Write, D: Disk + Drop>(
     ensures grown { OnOk result (gateway.new.grown ≤ 1048576) }
 {
     begin(gateway);
-    let Ok(mut answers) = Vec::with_capacity(alloc, gateway.held()) else {
+    if empty_for(&mut room.answers, gateway.held()).is_err() {
         return Err(EdgeFault::Gateway(GatewayFault::NoMemory));
-    };
-    let count = answer_front(alloc, writer, gateway, pending, &mut answers)?;
-    match tidy(gateway, &mut answers) {
+    }
+    let count = answer_front(
+        alloc,
+        writer,
+        gateway,
+        pending,
+        &mut room.answers,
+        &mut room.frames,
+    )?;
+    match tidy(gateway, &mut room.answers) {
         Ok(()) => Ok(count),
         Err(fault) => Err(EdgeFault::Gateway(fault)),
     }
@@ -98,6 +114,7 @@ fn read_once<R: Read, W: Write, D: Disk + Drop>(
     gateway: &mut Gateway<D>,
     buffer: &mut [u8],
     pending: &mut Vec<u8>,
+    room: &mut Room,
 ) -> Result<Turn, EdgeFault>
     requires stands { gateway.old.fallen ≡ false }
     requires room { 0 < length buffer.old }
@@ -128,7 +145,7 @@ fn read_once<R: Read, W: Write, D: Disk + Drop>(
         Ok(()) => {}
         Err(_) => return Err(EdgeFault::Gateway(GatewayFault::NoMemory)),
     }
-    match serve(alloc, writer, gateway, pending) {
+    match serve(alloc, writer, gateway, pending, room) {
         Ok(count) => Ok(Turn::More(count)),
         Err(fault) => Err(fault),
     }
@@ -202,6 +219,10 @@ pub fn run<R: Read, W: Write, D: Disk + Drop>(
         Err(_) => return Err(EdgeFault::Gateway(GatewayFault::NoMemory)),
     };
     let mut pending = Vec::new(alloc);
+    let mut room = Room {
+        answers: Vec::new(alloc),
+        frames: Vec::new(alloc),
+    };
     let mut count: u64 = 0;
     for _ in 0..u64::MAX {
         match read_once(
@@ -211,6 +232,7 @@ pub fn run<R: Read, W: Write, D: Disk + Drop>(
             gateway,
             buffer.as_mut_slice(),
             &mut pending,
+            &mut room,
         ) {
             Ok(Turn::More(more)) => {
                 gateway.facts();

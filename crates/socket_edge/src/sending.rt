@@ -1,5 +1,5 @@
 //! Writing the frames of answers: in one piece, or part by part where memory for that is refused.
-ghost use Rattle.std.specs.Prelude.{◌≡◌, ◌++◌, OnOk, IfOk, IfErr};
+ghost use Rattle.std.specs.Prelude.{◌≡◌, ◌++◌, OnOk, IfErr};
 ghost use Rattle.std.specs.Io.KnownBytes.{Appends};
 ghost use Rattle.socket_edge.specs.Answering.{body_of, frame_head, frame, frames, frames_len, AppendsFront};
 
@@ -104,13 +104,34 @@ fn len_of(answers: &[(u64, Answer)]) -> usize
     len
 }
 
-/// The frames in one piece.
-fn gather(alloc: Global, answers: &[(u64, Answer)]) -> Result<Vec<u8>, AllocError>
-    ensures { IfOk result (λ bytes. bytes.items ≡ frames answers.now) }
+/// Puts the frames in one piece where the bytes were, whose memory is used again.
+fn gather(bytes: &mut Vec<u8>, answers: &[(u64, Answer)]) -> Result<(), AllocError>
+    ensures { OnOk result (bytes.new.items ≡ frames answers.now) }
 {
-    let mut bytes = Vec::with_capacity(alloc, len_of(answers))?;
-    put_frames(&mut bytes, answers)?;
-    Ok(bytes)
+    bytes.clear();
+    bytes.reserve(len_of(answers))?;
+    put_frames(bytes, answers)
+}
+
+/// Writes the frames of the answers, in order: in one piece, or part by part where memory for that is refused. The
+/// piece is made where `bytes` were, so that calls that follow each other take their memory but once.
+///
+/// # Errors
+///
+/// `Output` where a write fails or takes no byte. A beginning of the frames is written then, also a
+/// part of a frame.
+pub fn send_by<W: Write>(
+    bytes: &mut Vec<u8>,
+    writer: &mut W,
+    answers: &[(u64, Answer)],
+) -> Result<(), EdgeFault>
+    ensures ok { OnOk result (Appends (W.contents writer.old) (W.contents writer.new) (frames answers.now)) }
+    ensures err { IfErr result (λ e. (e ≡ EdgeFault.Output) × AppendsFront (W.contents writer.old) (W.contents writer.new) (frames answers.now)) }
+{
+    match gather(bytes, answers) {
+        Ok(()) => write_out(writer, bytes.as_slice()),
+        Err(_) => send(writer, answers),
+    }
 }
 
 /// Writes the frames of the answers, in order: in one piece, or part by part where memory for that is refused.
@@ -127,8 +148,6 @@ pub fn send_all<W: Write>(
     ensures ok { OnOk result (Appends (W.contents writer.old) (W.contents writer.new) (frames answers.now)) }
     ensures err { IfErr result (λ e. (e ≡ EdgeFault.Output) × AppendsFront (W.contents writer.old) (W.contents writer.new) (frames answers.now)) }
 {
-    match gather(alloc, answers) {
-        Ok(bytes) => write_out(writer, bytes.as_slice()),
-        Err(_) => send(writer, answers),
-    }
+    let mut bytes = Vec::new(alloc);
+    send_by(&mut bytes, writer, answers)
 }

@@ -59,6 +59,15 @@ fn make_slots(answers: &mut Vec<(u64, Answer)>, more: usize) -> Result<(), Alloc
     answers.reserve(more)
 }
 
+/// Lets the answers go, and makes room for so many where they were.
+pub fn empty_for(answers: &mut Vec<(u64, Answer)>, count: usize) -> Result<(), AllocError>
+    ensures none { answers.new.items ≡ [] }
+    ensures ok { OnOk result (vec_len answers.new + count ≤ vec_capacity answers.new) }
+{
+    answers.clear();
+    make_slots(answers, count)
+}
+
 /// Offers an event.
 fn offer_event<D: Disk + Drop>(
     event: Event,

@@ -6,10 +6,10 @@ use Rattle.socket_edge.specs.Running.{Closed, Offered, SettledAndSent}
 use Rattle.socket_edge.proofs.Closing.{sent-bad, sent-some}
 use Rattle.socket_edge.proofs.edge.answer_front.Goals as goal
 
-pub returns-in_err-send_all-clause-came : goal.returns-in_err-send_all-clause-came
-returns-in_err-send_all-clause-came g c =
+pub returns-in_err-send_by-clause-came : goal.returns-in_err-send_by-clause-came
+returns-in_err-send_by-clause-came g c =
     let p = err_from_is_err_and c.from_residual.result c.from_residual.ensures.1 in
-    let e = c.in_err-send_all.ensures.err in
+    let e = c.in_err-send_by.ensures.err in
     let bytes = c.args.pending.now.items in
     let rest = drop c.offer_all-at.result.0 bytes in
     let offered = rw (c.as_slice.ensures.value, c.requires.none) at c.offer_all-at.ensures.offered in
@@ -28,7 +28,7 @@ returns-in_err-closed-clause-came g c =
     let rest = drop c.offer_all-at.result.0 bytes in
     let offered = rw (c.as_slice.ensures.value, c.requires.none) at c.offer_all-at.ensures.offered in
     let closed = c.in_err-closed.ensures.closed c.args.gateway.now bytes rest c.offer_all-at.result.1 c.begin.ensures offered in
-    let sent = rw c.as_slice-2.ensures.value at c.in_ok-send_all.ensures.ok in (
+    let sent = rw c.as_slice-2.ensures.value at c.in_ok-send_by.ensures.ok in (
       _,
       sent,
       rw (p.1, p.2) (sent-bad g.D.Disk.honest g.D.Disk.moment g.D.Disk.left g.D.Disk.seen g.D.Disk.failed g.met.D.Disk.reads g.met.D.Disk.earlier c.args.gateway.now c.in_err-closed.field-0.0 c.close-closed.new.gateway bytes rest c.offer_all-at.result.1 c.close-closed.new.answers.items closed

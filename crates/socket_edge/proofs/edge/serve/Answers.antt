@@ -6,18 +6,18 @@ use Rattle.socket_edge.proofs.Closing.{served, served-fares, served-passed, unti
 use Rattle.socket_edge.proofs.Tending.{idle-fares}
 use Rattle.socket_edge.proofs.edge.serve.Goals as goal
 
-pub returns-in_default-clause-served : goal.returns-in_default-clause-served
-returns-in_default-clause-served g c = (
+pub returns-then-is_err-clause-served : goal.returns-then-is_err-clause-served
+returns-then-is_err-clause-served g c = (
   [],
   Appends-nil (g.W.Write.contents c.args.writer.now),
   AnsweredFirst-nothing c.args.gateway.now.told (events_in c.args.pending.now.items),
   idle-fares g.D.Disk.honest g.D.Disk.moment g.D.Disk.left g.D.Disk.seen g.D.Disk.failed g.met.D.Disk.reads g.met.D.Disk.earlier c.args.gateway.now c.begin.ensures (events_in c.args.pending.now.items),
 )
 
-pub returns-in-Ok-tidy-clause-served : goal.returns-in-Ok-tidy-clause-served
-returns-in-Ok-tidy-clause-served g c =
+pub returns-in-Ok-clause-served : goal.returns-in-Ok-clause-served
+returns-in-Ok-clause-served g c =
     let a = c.in_ok-count.ensures.came in
-    let e = c.in-Ok-tidy.ensures in
+    let e = c.in-Ok.ensures in
     let bytes = c.args.pending.now.items in
     let rest = c.answer_front.new.pending.items in
     let out = c.answer_front.new.answers.items in (
@@ -27,22 +27,22 @@ returns-in-Ok-tidy-clause-served g c =
       served-fares g.D.Disk.honest g.D.Disk.moment g.D.Disk.left g.D.Disk.seen g.D.Disk.failed g.met.D.Disk.reads g.met.D.Disk.earlier c.args.gateway.now c.answer_front.new.gateway c.tidy.new.gateway bytes rest c.in_ok-count.count out c.tidy.new.answers.items a.0 a.2 e.ok e.answers e.none,
     )
 
-pub returns-in-Ok-tidy-clause-passed : goal.returns-in-Ok-tidy-clause-passed
-returns-in-Ok-tidy-clause-passed g c =
+pub returns-in-Ok-clause-passed : goal.returns-in-Ok-clause-passed
+returns-in-Ok-clause-passed g c =
     let a = c.in_ok-count.ensures.came in
     served-passed g.D.Disk.honest g.D.Disk.moment g.D.Disk.left g.D.Disk.seen g.D.Disk.failed g.met.D.Disk.reads g.met.D.Disk.earlier c.args.gateway.now c.answer_front.new.gateway c.tidy.new.gateway c.args.pending.now.items c.answer_front.new.pending.items c.in_ok-count.count
-    c.answer_front.new.answers.items c.tidy.new.answers.items a.0 a.2 c.in-Ok-tidy.ensures.ok
+    c.answer_front.new.answers.items c.tidy.new.answers.items a.0 a.2 c.in-Ok.ensures.ok
 
-pub returns-clause-served : goal.returns-clause-served
-returns-clause-served g c =
+pub returns-in-Err-clause-served : goal.returns-in-Err-clause-served
+returns-in-Err-clause-served g c =
     let a = c.in_ok-count.ensures.came in
     let e = c.in-Err.ensures in
     let is = untidy g.D.Disk.honest g.D.Disk.moment g.D.Disk.left g.D.Disk.seen g.D.Disk.failed g.met.D.Disk.reads g.met.D.Disk.earlier c.args.gateway.now c.answer_front.new.gateway c.tidy.new.gateway c.args.pending.now.items c.answer_front.new.pending.items c.in_ok-count.count
     c.answer_front.new.answers.items c.tidy.new.answers.items a.0 c.in-Err.fault a.2 e.err e.answers e.none in
     (a.0, a.1, is.0, is.1)
 
-pub returns-clause-why : goal.returns-clause-why
-returns-clause-why g c =
+pub returns-in-Err-clause-why : goal.returns-in-Err-clause-why
+returns-in-Err-clause-why g c =
     let a = c.in_ok-count.ensures.came in
     let e = c.in-Err.ensures in
     let is = untidy g.D.Disk.honest g.D.Disk.moment g.D.Disk.left g.D.Disk.seen g.D.Disk.failed g.met.D.Disk.reads g.met.D.Disk.earlier c.args.gateway.now c.answer_front.new.gateway c.tidy.new.gateway c.args.pending.now.items c.answer_front.new.pending.items c.in_ok-count.count
