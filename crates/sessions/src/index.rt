@@ -1,4 +1,4 @@
-//! The rows of slots by which a table finds its sessions.
+//! The rows of slots by which a table finds its sessions, and the guesses that are looked at before them.
 //!
 //! A translated session stands in two rows more than any other, which have its like alone: so whichever
 //! entry of an endpoint comes first tells the mapping of that endpoint.
@@ -8,6 +8,7 @@ ghost use Rattle.sessions.specs.Index.{ClashesAt, IsAt, IsIndexed, IsNowhere, La
 ghost use Rattle.sessions.specs.Table.{AnyClash, BreakMapping, HasInside, HasOutside};
 
 use crate::Session;
+use crate::hints::Hints;
 use crate::keys::{flow_key, has_endpoints, inside_key, is_translated, key, outside_key};
 use crate::session::clash;
 use packet::endpoint::{Endpoint, Proto};
@@ -24,6 +25,8 @@ pub struct Index {
     pub insides: Rows,
     /// The translated ones, by protocol, outside and remote endpoint.
     pub outsides: Rows,
+    /// Guesses of slots, by either side.
+    pub hints: Hints,
 }
 
 impl Index {
@@ -37,6 +40,7 @@ impl Index {
             flows: Rows::new(alloc),
             insides: Rows::new(alloc),
             outsides: Rows::new(alloc),
+            hints: Hints::new(alloc),
         }
     }
 
@@ -78,6 +82,9 @@ impl Index {
         put(&mut self.flows, flow_key(session), slot);
         put(&mut self.insides, inside_key(session), slot);
         put(&mut self.outsides, outside_key(session), slot);
+        let (proto, remote) = (session.proto, session.remote);
+        self.hints.put(proto, session.inside, remote, slot);
+        self.hints.put(proto, session.outside, remote, slot);
     }
 
     /// Takes a session out of each row.
@@ -126,7 +133,27 @@ pub fn find_inside(
     ensures found { IfSome result (IsAt sessions.now.slots (HasInside proto inside remote)) }
     ensures absent { IfNone result (IsNowhere sessions.now.slots (HasInside proto inside remote)) }
 {
+    let hint = index.hints.guess(proto, inside, remote);
+    if is_inside(sessions, hint, proto, inside, remote) {
+        return Some(hint);
+    }
     index.flows.get(key(proto, inside, remote))
+}
+
+// Whether the slot holds the session of this protocol, inside and remote endpoint.
+fn is_inside(
+    sessions: &Slab<Session>,
+    slot: usize,
+    proto: Proto,
+    inside: Endpoint,
+    remote: Endpoint,
+) -> bool
+    ensures { IsTrue result ↔ IsAt sessions.now.slots (HasInside proto inside remote) slot }
+{
+    match sessions.get(slot) {
+        Some(held) => held.proto == proto && held.inside == inside && held.remote == remote,
+        None => false,
+    }
 }
 
 /// The slot of the session of this protocol, outside and remote endpoint.
@@ -141,6 +168,10 @@ pub fn find_outside(
     ensures found { IfSome result (IsAt sessions.now.slots (HasOutside proto outside remote)) }
     ensures absent { IfNone result (IsNowhere sessions.now.slots (HasOutside proto outside remote)) }
 {
+    let hint = index.hints.guess(proto, outside, remote);
+    if is_outside(sessions, hint, proto, outside, remote) {
+        return Some(hint);
+    }
     let wanted = key(proto, outside, remote);
     if let Some(slot) = index.outsides.get(wanted) {
         return Some(slot);
@@ -151,6 +182,22 @@ pub fn find_outside(
         Some(slot)
     } else {
         None
+    }
+}
+
+// Whether the slot holds the session of this protocol, outside and remote endpoint.
+fn is_outside(
+    sessions: &Slab<Session>,
+    slot: usize,
+    proto: Proto,
+    outside: Endpoint,
+    remote: Endpoint,
+) -> bool
+    ensures { IsTrue result ↔ IsAt sessions.now.slots (HasOutside proto outside remote) slot }
+{
+    match sessions.get(slot) {
+        Some(held) => held.proto == proto && held.outside == outside && held.remote == remote,
+        None => false,
     }
 }
 

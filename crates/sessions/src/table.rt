@@ -6,6 +6,7 @@ ghost use Rattle.sessions.specs.Life.{IsSeen};
 ghost use Rattle.sessions.specs.Listing.{listing};
 ghost use Rattle.sessions.specs.Table.{at, count, most_sessions, Updates, HasInside, HasOutside, Clash, ClashesWith, AnyClash, IsSound, amended, seen as seen_with, restarted};
 
+use crate::hints::Hints;
 use crate::index::{Index, clashes, find_inside, find_outside, listed};
 use crate::keys::has_endpoints;
 use crate::{Opener, Session};
@@ -64,7 +65,7 @@ fn more_slots(count: usize) -> usize
 
 // Makes room for two more sessions, with slots for no more of them than a table ever needs: the timers keep a
 // place for each slot that there is room for.
-fn reserve_two(sessions: &mut Slab<Session>) -> Result<(), AllocError>
+fn reserve_two(sessions: &mut Slab<Session>, hints: &mut Hints) -> Result<(), AllocError>
     ensures ok { OnOk result (HasRoomFor sessions.new 2) }
     ensures succeeds { HasRoomFor sessions.old 2 → IsOk result }
     ensures same { sessions.new ≡ record sessions.old { capacity = sessions.new.capacity } }
@@ -74,7 +75,9 @@ fn reserve_two(sessions: &mut Slab<Session>) -> Result<(), AllocError>
     if sessions.capacity() - count >= 2 {
         return Ok(());
     }
-    sessions.reserve_exact(more_slots(count))
+    sessions.reserve_exact(more_slots(count))?;
+    hints.grow(sessions.capacity());
+    Ok(())
 }
 
 /// The sessions that live, at most 65,536 of them, each under its slot.
@@ -204,10 +207,27 @@ impl Table {
         if self.sessions.reserve(1).is_err() || self.index.reserve_one().is_err() {
             return Err(AddFault::NoMemory);
         }
+        Ok(self.add_reserved(session))
+    }
+
+    /// Takes a session that clashes with none into a slot that holds none, where there is room for it, fewer
+    /// than 65,536 are held, and what it has seen is bits of its protocol. This takes no memory.
+    pub fn add_reserved(&mut self, session: Session) -> Slot
+        requires seen { IsSeen session.proto session.seen }
+        requires apart { ¬ ClashesWith self.old session }
+        requires few { count self.old < most_sessions }
+        requires room { 0 < self.old.room }
+        ensures updates { Updates self.old self.new result (Some session) }
+        ensures was_free { at self.old result ≡ None }
+        ensures counted { count self.new ≡ count self.old + 1 }
+        ensures room { self.old.room ≤ self.new.room + 1 }
+        ensures in_slots { result < self.new.slots }
+        ensures slots { self.new.slots ≡ self.old.slots }
+    {
         has_endpoints(&session);
         let slot = self.sessions.insert_reserved(session);
         self.index.insert(&session, slot);
-        Ok(Slot(slot))
+        Slot(slot)
     }
 
     /// A number above that of every slot that is held or reserved. It never falls.
@@ -232,7 +252,7 @@ impl Table {
         ensures room { self.old.room ≤ self.new.room }
         ensures slots { self.old.slots ≤ self.new.slots }
     {
-        reserve_two(&mut self.sessions)?;
+        reserve_two(&mut self.sessions, &mut self.index.hints)?;
         self.index.reserve()
     }
 

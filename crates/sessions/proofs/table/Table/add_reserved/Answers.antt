@@ -1,0 +1,16 @@
+use Rattle.std.proofs.Common.{arith}
+use Rattle.sessions.proofs.Indexed.{IsIndexed-add, IsIndexed-lacks}
+use Rattle.sessions.proofs.table.Table.add_reserved.Goals as goal
+
+pub insert-requires-clause-absent : goal.insert-requires-clause-absent
+insert-requires-clause-absent c =
+    let apart = rw (← c.self.view_is) at c.requires.apart in
+    IsIndexed-lacks c.self.inside.sessions.slots _ _ c.self.invariant c.has_endpoints.ensures apart
+
+pub invariant_of-self : goal.invariant_of-self
+invariant_of-self c =
+    let apart = rw (← c.self.view_is) at c.requires.apart in
+    let few = rw (← c.self.view_is) at c.requires.few in
+    IsIndexed-add _ _ _ _ c.insert_reserved-slot.result c.args.session c.insert_reserved-slot.ensures.updates.others
+    c.self.invariant c.insert_reserved-slot.ensures.was_vacant c.insert_reserved-slot.ensures.updates.changed c.has_endpoints.ensures
+    apart (omega (arith, few, c.insert_reserved-slot.ensures.len)) c.requires.seen c.insert.ensures.names
