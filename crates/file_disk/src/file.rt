@@ -68,7 +68,9 @@ fn told<T: Drop>(answer: io::Result<T>) -> Result<T, DiskFault>
     }
 }
 
-// A read or a write goes on where a signal interrupts it, or where it moved only some of the bytes.
+// A read or a write goes on where a signal interrupts it, or where it moved only some of the bytes. A sync is
+// fdatasync: by POSIX it has the device keep the bytes and what is needed to read them back, so a new length too, and
+// leaves out the times of the file, which would cost a second write.
 impl DiskFile for File {
     ghost measures = { λ _ _ _. Unit {0} };
 
@@ -91,6 +93,6 @@ impl DiskFile for File {
     }
 
     fn keep(&mut self) -> Result<(), DiskFault> {
-        told(self.sync_all())
+        told(self.sync_data())
     }
 }
