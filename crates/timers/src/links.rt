@@ -151,8 +151,29 @@ pub fn renew(links: &mut Vec<Cell>, slot: Slot, idle: Idle)
     ensures idle { IsPut (idle_in links.old.items) (idle_in links.new.items) slot (Some idle) }
     ensures length { length links.new.items ≡ length links.old.items }
 {
+    let queue = Queue::of(idle.timeout);
+    let place = slot.number() + HEADS;
+    let last = idle.last;
+    if next(links, place) == queue.head() {
+        stay_last(links, place, Watch { slot, last, queue });
+        return;
+    }
     cut(links, slot);
     append(links, slot, idle);
+}
+
+// Gives the last place of a queue another moment. It stays where it is.
+fn stay_last(links: &mut Vec<Cell>, place: usize, renewed: Watch)
+    requires row { IsRow links.old.items }
+    requires held { IsSome (watch links.old.items place) }
+    requires last { next links.old.items place ≡ head_of renewed.queue }
+    requires place { renewed.slot + 3 ≡ place }
+    requires latest { (k : ℕ) → last_at links.old.items k ≤ renewed.last }
+    ensures row { IsRow links.new.items }
+    ensures watch { IsPut (watch links.old.items) (watch links.new.items) place (Some renewed) }
+    ensures length { length links.new.items ≡ length links.old.items }
+{
+    set_watch(links, place, Some(renewed));
 }
 
 // Takes a watched place out from between the two beside it.
