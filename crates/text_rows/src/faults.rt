@@ -170,3 +170,19 @@ fn each_growth_past_a_limit(rt: HostRuntime) {
     let chains = row_of_chains(alloc, 257, false, false);
     assert!(rt; is_too_much(alloc, &bounds, chains, 258));
 }
+
+const MASQUERADE: &str =
+    "table ip nat { chain post { type nat hook postrouting priority srcnat; oifname \"wan\" masquerade; }; }";
+
+// Of 101 bytes, none load, and all.
+#[test]
+fn each_cut(rt: HostRuntime) -> Result<(), AllocError> {
+    let alloc = rt.alloc();
+    let bounds = bounds(alloc)?;
+    for cut in 0..=MASQUERADE.len() {
+        let text = MASQUERADE.as_bytes().get(..cut).unwrap_or(b"?");
+        let loads = read(alloc, text, &bounds).is_ok();
+        assert!(rt; loads == (cut == 0 || cut == 101), "{cut} bytes");
+    }
+    Ok(())
+}
