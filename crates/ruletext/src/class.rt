@@ -4,10 +4,10 @@ ghost use Rattle.std.specs.Prelude.{◌≡◌, nat_eq};
 ghost use Rattle.std.specs.List.{list_any};
 ghost use Rattle.std.specs.Str.{bytes_eq};
 ghost use Rattle.ruletext.specs.Classes.{class_of as class_of_head, class_named as class_of_name, service_named as service_of_name, protocol_named as protocol_of_name, state_named as state_of_name, is_interface as is_interface_name, is_value as is_of_class};
-ghost use Rattle.ruletext.specs.Types.{same_class};
+ghost use Rattle.ruletext.specs.Types.{same_class, class_in as class_in_types};
 ghost use Rattle.rulesyntax.specs.declared.tree.Value.TheVariants as values;
 
-use rulesyntax::tree::{Head, Value};
+use rulesyntax::tree::{Head, SetType, Value};
 
 /// What sort of values a match, a verdict map or a set speaks of.
 #[derive(Clone, Copy, Debug, PartialEq, Eq)]
@@ -58,7 +58,7 @@ fn is(word: &[u8], expected: &[u8]) -> bool
 }
 
 /// The class that the type of a set names.
-pub(crate) fn class_named(name: &[u8]) -> Option<Class>
+fn class_named(name: &[u8]) -> Option<Class>
     ensures { result ≡ class_of_name name.now }
 {
     if is(name, b"ipv4_addr") {
@@ -74,6 +74,16 @@ pub(crate) fn class_named(name: &[u8]) -> Option<Class>
         return Some(Class::Interfaces);
     }
     None
+}
+
+/// The class that the first type line of a set gives, where it names one.
+pub fn class_in(types: &[SetType]) -> Option<Class>
+    ensures { result ≡ class_in_types types.now }
+{
+    match types {
+        [first, ..] => class_named(first.name.as_slice()),
+        [] => None,
+    }
 }
 
 /// The port of a service: ssh 22, smtp 25, domain 53, http 80, ntp 123 or https 443.

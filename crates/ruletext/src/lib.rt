@@ -26,7 +26,7 @@ mod loops;
 mod names;
 mod nesting;
 mod overlap;
-mod parts;
+pub mod parts;
 mod places;
 mod reach;
 pub mod reading;

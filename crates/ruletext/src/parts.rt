@@ -145,8 +145,11 @@ fn interfaces(alloc: Global, value: &Value) -> Result<Option<Part>, AllocError>
     }
 }
 
-/// The part of a set that a value of the class stands for; nothing where it is no value of the class. It fails only
-/// where a growth was refused.
+/// The part of a set that a value of the class stands for; nothing where it is no value of the class.
+///
+/// # Errors
+///
+/// `AllocError` only where memory is refused.
 pub fn part_of(alloc: Global, class: Class, value: &Value) -> Result<Option<Part>, AllocError>
     ensures { IfOk result (λ part. IsPart class value.now part) }
 {

@@ -10,13 +10,13 @@ ghost use Rattle.ruletext.specs.Calls.{OfSome, IsDeep, AreDistinct, AreShallow, 
 ghost use Rattle.ruletext.specs.Classes.{class_of as class_of_head, is_value as is_of_class};
 ghost use Rattle.ruletext.specs.Types.{same_class, class_in as class_in_types, has_stranger, is_wrong_set, has_other_class, is_wrong_match, is_wrong_end, is_wrong_rule, is_wrong_chain, HasWrongType};
 
-use crate::class::{Class, class_named, class_of, is_same, is_value};
+use crate::class::{Class, class_in, class_of, is_same, is_value};
 use crate::earlier::earlier;
 use crate::hooks::{Wrong, forbidden_translation};
 use crate::names::Names;
 use rulesyntax::line::Line;
 use rulesyntax::tree::{
-    Chain, Element, End, Match, Pair, Rule, Set, SetElements, SetName, SetType, Side, Table,
+    Chain, Element, End, Match, Pair, Rule, Set, SetElements, SetName, Side, Table,
 };
 use std::alloc::{AllocError, Global};
 
@@ -50,16 +50,6 @@ fn stranger_in(class: Class, lists: &[SetElements]) -> Option<Line>
         }
     }
     None
-}
-
-/// The class that the first type line of a set gives, where it names one.
-pub fn class_in(types: &[SetType]) -> Option<Class>
-    ensures { result ≡ class_in_types types.now }
-{
-    match types {
-        [first, ..] => class_named(first.name.as_slice()),
-        [] => None,
-    }
 }
 
 fn line_of_type(set: &Set) -> Line {
