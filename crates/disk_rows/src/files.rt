@@ -11,41 +11,73 @@ fn fresh(rt: &HostRuntime, directory: &str) -> Result<(), Fail> {
     Ok(())
 }
 
-fn text(rt: &HostRuntime, error: &OpenError) -> Result<String, Fail> {
-    Ok(format!(in rt.alloc(); "{error}")?)
+fn disk_of(rt: &HostRuntime, directory: &str) -> Result<Box<FileDisk>, Fail> {
+    Ok(Box::new(rt.alloc(), FileDisk::open(rt, directory)?)?)
+}
+
+fn is_file(rt: &HostRuntime, path: &str, expected: &[u8]) -> Result<bool, Fail> {
+    let bytes = fs::read(rt, path)?;
+    Ok(bytes.as_slice() == expected)
+}
+
+fn put(disk: &mut FileDisk, file: FileId, at: u64, bytes: &[u8]) -> Result<(), DiskFault> {
+    disk.write_at(file, at, bytes)
+}
+
+fn get(disk: &mut FileDisk, file: FileId, at: u64, bytes: &mut [u8]) -> Result<(), DiskFault> {
+    disk.read_at(file, at, bytes)
+}
+
+// The lengths of both files.
+fn lengths(disk: &mut FileDisk) -> Result<(u64, u64), DiskFault> {
+    let first = disk.len(FileId::A)?;
+    let second = disk.len(FileId::B)?;
+    Ok((first, second))
+}
+
+// Writes both files, the first in two pieces, and syncs them.
+fn write_both(disk: &mut FileDisk) -> Result<(), DiskFault> {
+    let writes: [(FileId, u64, &[u8]); 3] = [
+        (FileId::A, 0, b"first file"),
+        (FileId::B, 0, b"second"),
+        (FileId::A, 6, b"FILE, longer"),
+    ];
+    for (file, at, bytes) in writes {
+        put(disk, file, at, bytes)?;
+    }
+    disk.sync(FileId::A)?;
+    disk.sync(FileId::B)
+}
+
+fn written(rt: &HostRuntime, directory: &str) -> Result<(), Fail> {
+    fresh(rt, directory)?;
+    let mut disk = disk_of(rt, directory)?;
+    if lengths(&mut disk)? != (0, 0) {
+        return Err("the new files have bytes".into());
+    }
+    write_both(&mut disk)?;
+    Ok(())
 }
 
 #[test]
 fn written_bytes_come_back(rt: HostRuntime) -> Result<(), Fail> {
-    fresh(&rt, "kept")?;
-    let mut disk = FileDisk::open(&rt, "kept")?;
-    assert_eq!(rt; disk.len(FileId::A), Ok(0));
-    assert_eq!(rt; disk.write_at(FileId::A, 0, b"first file"), Ok(()));
-    assert_eq!(rt; disk.write_at(FileId::B, 0, b"second"), Ok(()));
-    assert_eq!(rt; disk.write_at(FileId::A, 6, b"FILE, longer"), Ok(()));
-    assert_eq!(rt; disk.sync(FileId::A), Ok(()));
-    assert_eq!(rt; disk.sync(FileId::B), Ok(()));
-    drop(disk);
-    let mut disk = FileDisk::open(&rt, "kept/")?;
-    assert_eq!(rt; disk.len(FileId::A), Ok(18));
-    assert_eq!(rt; disk.len(FileId::B), Ok(6));
+    written(&rt, "kept")?;
+    let mut disk = disk_of(&rt, "kept/")?;
+    assert_eq!(rt; lengths(&mut disk)?, (18, 6));
     let mut bytes = [0; 8];
-    assert_eq!(rt; disk.read_at(FileId::A, 4, &mut bytes), Ok(()));
-    assert_eq!(rt; bytes, *b"t FILE, ");
+    get(&mut disk, FileId::A, 4, &mut bytes)?;
+    assert!(rt; bytes == *b"t FILE, ");
     assert_eq!(rt; disk.failures(), 0);
-    drop(disk);
-    assert_eq!(rt;
-        fs::read(&rt, "kept/natgw.a")?.as_slice(),
-        b"first FILE, longer".as_slice()
-    );
-    assert_eq!(rt;
-        fs::read(&rt, "kept/natgw.b")?.as_slice(),
-        b"second".as_slice()
-    );
-    assert_eq!(rt;
-        (name_of(FileId::A), name_of(FileId::B)),
-        ("natgw.a", "natgw.b")
-    );
+    Ok(())
+}
+
+#[test]
+fn written_bytes_stand_in_the_files(rt: HostRuntime) -> Result<(), Fail> {
+    written(&rt, "files")?;
+    assert!(rt; is_file(&rt, "files/natgw.a", b"first FILE, longer")?);
+    assert!(rt; is_file(&rt, "files/natgw.b", b"second")?);
+    assert_eq!(rt; name_of(FileId::A), "natgw.a");
+    assert_eq!(rt; name_of(FileId::B), "natgw.b");
     Ok(())
 }
 
@@ -53,62 +85,95 @@ fn written_bytes_come_back(rt: HostRuntime) -> Result<(), Fail> {
 #[test]
 fn past_the_end(rt: HostRuntime) -> Result<(), Fail> {
     fresh(&rt, "ends")?;
-    let mut disk = FileDisk::open(&rt, "ends")?;
-    assert_eq!(rt; disk.write_at(FileId::B, 2, b"xy"), Ok(()));
+    let mut disk = disk_of(&rt, "ends")?;
+    put(&mut disk, FileId::B, 2, b"xy")?;
     let mut bytes = [7; 3];
-    assert_eq!(rt; disk.read_at(FileId::B, 2, &mut bytes), Err(DiskFault));
+    assert_eq!(rt; get(&mut disk, FileId::B, 2, &mut bytes), Err(DiskFault));
     assert_eq!(rt; disk.failures(), 1);
-    assert_eq!(rt; disk.read_at(FileId::B, 1, &mut bytes), Ok(()));
-    assert_eq!(rt; bytes, *b"\0xy");
-    assert_eq!(rt; disk.read_at(FileId::B, 4, &mut []), Ok(()));
-    assert_eq!(rt; disk.write_at(FileId::B, u64::MAX, b"z"), Err(DiskFault));
-    assert_eq!(rt; disk.failures(), 2);
-    assert_eq!(rt; fs::metadata(&rt, "ends/natgw.b")?.len(), 4);
-    assert_eq!(rt; fs::metadata(&rt, "ends/natgw.a")?.len(), 0);
+    get(&mut disk, FileId::B, 1, &mut bytes)?;
+    assert!(rt; bytes == *b"\0xy");
+    get(&mut disk, FileId::B, 4, &mut [])?;
+    assert_eq!(rt; disk.failures(), 1);
     Ok(())
+}
+
+fn length_of(rt: &HostRuntime, path: &str) -> Result<u64, Fail> {
+    Ok(fs::metadata(rt, path)?.len())
+}
+
+#[test]
+fn past_all_places(rt: HostRuntime) -> Result<(), Fail> {
+    fresh(&rt, "places")?;
+    let mut disk = disk_of(&rt, "places")?;
+    put(&mut disk, FileId::B, 2, b"xy")?;
+    assert_eq!(rt; put(&mut disk, FileId::B, u64::MAX, b"z"), Err(DiskFault));
+    assert_eq!(rt; disk.failures(), 1);
+    assert_eq!(rt; length_of(&rt, "places/natgw.b")?, 4);
+    assert_eq!(rt; length_of(&rt, "places/natgw.a")?, 0);
+    Ok(())
+}
+
+fn is_locked(rt: &HostRuntime, directory: &str) -> bool {
+    matches!(FileDisk::open(rt, directory), Err(OpenError::Locked))
 }
 
 // While one disk lives there is no second one, and once it is dropped there is.
 #[test]
 fn one_disk_a_directory(rt: HostRuntime) -> Result<(), Fail> {
     fresh(&rt, "locked")?;
-    let first = FileDisk::open(&rt, "locked")?;
-    assert!(rt; matches!(FileDisk::open(&rt, "locked"), Err(OpenError::Locked)));
+    let first = disk_of(&rt, "locked")?;
+    assert!(rt; is_locked(&rt, "locked"));
     // Not where the first file has gone either.
     fs::remove_file(&rt, "locked/natgw.a")?;
-    assert!(rt; matches!(FileDisk::open(&rt, "locked"), Err(OpenError::Locked)));
+    assert!(rt; is_locked(&rt, "locked"));
     drop(first);
-    assert!(rt; FileDisk::open(&rt, "locked").is_ok());
+    assert!(rt; !is_locked(&rt, "locked"));
+    let _second = disk_of(&rt, "locked")?;
     Ok(())
+}
+
+fn is_missing(rt: &HostRuntime, directory: &str) -> bool {
+    matches!(FileDisk::open(rt, directory), Err(OpenError::Missing))
+}
+
+#[test]
+fn missing_directories(rt: HostRuntime) -> Result<(), Fail> {
+    fresh(&rt, "empty")?;
+    assert!(rt; is_missing(&rt, "empty/none") && is_missing(&rt, ""));
+    assert!(rt; !fs::exists(&rt, "empty/none")?);
+    Ok(())
+}
+
+fn is_no_directory(rt: &HostRuntime, directory: &str) -> bool {
+    matches!(FileDisk::open(rt, directory), Err(OpenError::NotDirectory))
+}
+
+#[test]
+fn no_directories(rt: HostRuntime) -> Result<(), Fail> {
+    fresh(&rt, "other")?;
+    fs::write(&rt, "other/file", b"x".as_slice())?;
+    assert!(rt; is_no_directory(&rt, "other/file"));
+    assert!(rt; is_no_directory(&rt, "other/file/in"));
+    Ok(())
+}
+
+// What is said of a directory that is refused by the system.
+fn refusal(rt: &HostRuntime, directory: &str) -> Result<String, Fail> {
+    match FileDisk::open(rt, directory) {
+        Err(OpenError::System(error)) => Ok(format!(in rt.alloc();
+            "{}",
+            OpenError::System(error)
+        )?),
+        _ => Err("not refused by the system".into()),
+    }
 }
 
 #[test]
 fn refused_directories(rt: HostRuntime) -> Result<(), Fail> {
     fresh(&rt, "refused")?;
-    assert!(rt; matches!(FileDisk::open(&rt, "refused/none"), Err(OpenError::Missing)));
-    assert!(rt; !fs::exists(&rt, "refused/none")?);
-    assert!(rt; matches!(FileDisk::open(&rt, ""), Err(OpenError::Missing)));
-    fs::write(&rt, "refused/file", b"x".as_slice())?;
-    assert!(rt;
-        matches!(
-            FileDisk::open(&rt, "refused/file"),
-            Err(OpenError::NotDirectory)
-        )
-    );
-    assert!(rt;
-        matches!(
-            FileDisk::open(&rt, "refused/file/in"),
-            Err(OpenError::NotDirectory)
-        )
-    );
     fs::create_dir(&rt, "refused/natgw.b")?;
-    let Err(refusal) = FileDisk::open(&rt, "refused") else {
-        return Err(Fail::from(OpenError::NoMemory));
-    };
-    assert!(rt; matches!(refusal, OpenError::System(_)));
-    assert_eq!(rt;
-        text(&rt, &refusal)?.as_str(),
-        "natgw.a and natgw.b can't be opened there: Is a directory (os error 21)"
-    );
+    let found = refusal(&rt, "refused")?;
+    let expected = "natgw.a and natgw.b can't be opened there: Is a directory (os error 21)";
+    assert!(rt; found.as_str() == expected);
     Ok(())
 }

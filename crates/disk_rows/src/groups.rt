@@ -41,79 +41,92 @@ fn read_all<D: Disk>(alloc: Global, disk: &mut D) -> Result<Vec<Vec<u8>>, Journa
     Ok(bodies)
 }
 
+fn two_groups(alloc: Global) -> Result<(Group, Group), AllocError> {
+    let first = group_of(alloc, FIRST)?;
+    let second = group_of(alloc, SECOND)?;
+    Ok((first, second))
+}
+
+// Whether there are as many bodies as were acknowledged, or more, and each is a whole one.
+fn are_whole(bodies: &[Vec<u8>], acknowledged: u64) -> bool {
+    for (body, expected) in bodies.iter().zip([FIRST, SECOND]) {
+        if body.as_slice() != expected {
+            return false;
+        }
+    }
+    acknowledged <= bodies.len() as u64
+}
+
+// Appends both groups to a disk that stops at this call, and says how many were acknowledged, and what there is after
+// a crash.
+fn stopped(alloc: Global, stop: u64, choice: u64) -> Result<(u64, Vec<Vec<u8>>), Fail> {
+    let (first, second) = two_groups(alloc)?;
+    let mut disk = SimDisk::of(alloc, &[0], b"")?;
+    disk.fuse_after(stop);
+    let acknowledged = append_two(&mut disk, &first, &second);
+    disk.crash(choice)?;
+    let bodies = read_all(alloc, &mut disk)?;
+    Ok((acknowledged, bodies))
+}
+
 // Stopped at each device call, and after each choice of a crash, there is never less than what was acknowledged, and
 // never a part of a group.
 #[test]
 fn each_stop(rt: HostRuntime) -> Result<(), Fail> {
-    let alloc = rt.alloc();
-    let first = group_of(alloc, FIRST)?;
-    let second = group_of(alloc, SECOND)?;
     for stop in 0..9 {
         for choice in [0, 1, 2, 3, 5, 10] {
-            let mut disk = SimDisk::of(alloc, &[0], b"")?;
-            disk.fuse_after(stop);
-            let acknowledged = append_two(&mut disk, &first, &second);
+            let (acknowledged, bodies) = stopped(rt.alloc(), stop, choice)?;
             assert_eq!(rt; acknowledged, stop / 4, "stop {stop}");
-            disk.crash(choice)?;
-            let bodies = read_all(alloc, &mut disk)?;
             assert!(rt;
-                acknowledged <= bodies.len() as u64,
+                are_whole(&bodies, acknowledged),
                 "stop {stop}, choice {choice}"
             );
-            for (body, expected) in bodies.iter().zip([FIRST, SECOND]) {
-                assert_eq!(rt; body.as_slice(), expected, "stop {stop}, choice {choice}");
-            }
         }
     }
     Ok(())
+}
+
+// Appends both groups to a disk of which this call fails, and says how many were acknowledged, how many calls failed,
+// and what there is.
+fn failing(alloc: Global, call: u64) -> Result<(u64, u64, Vec<Vec<u8>>), Fail> {
+    let (first, second) = two_groups(alloc)?;
+    let mut disk = SimDisk::of(alloc, &[0], b"")?;
+    disk.fail_once(call);
+    let acknowledged = append_two(&mut disk, &first, &second);
+    let failures = disk.failures();
+    let bodies = read_all(alloc, &mut disk)?;
+    Ok((acknowledged, failures, bodies))
 }
 
 // One failing call at each place: the answer is Device, and what the file then gives is never a part.
 #[test]
 fn each_fault(rt: HostRuntime) -> Result<(), Fail> {
-    let alloc = rt.alloc();
-    let first = group_of(alloc, FIRST)?;
-    let second = group_of(alloc, SECOND)?;
     for call in 0..8 {
-        let mut disk = SimDisk::of(alloc, &[0], b"")?;
-        disk.fail_once(call);
-        let acknowledged = append_two(&mut disk, &first, &second);
-        assert_eq!(rt;
-            (acknowledged, disk.failures()),
-            (call / 4, 1),
-            "call {call}"
-        );
-        let bodies = read_all(alloc, &mut disk)?;
-        assert!(rt; acknowledged <= bodies.len() as u64, "call {call}");
-        for (body, expected) in bodies.iter().zip([FIRST, SECOND]) {
-            assert_eq!(rt; body.as_slice(), expected, "call {call}");
-        }
+        let (acknowledged, failures, bodies) = failing(rt.alloc(), call)?;
+        assert_eq!(rt; (acknowledged, failures), (call / 4, 1), "call {call}");
+        assert!(rt; are_whole(&bodies, acknowledged), "call {call}");
     }
     Ok(())
 }
 
-fn contents(alloc: Global, disk: &mut SimDisk) -> Result<Vec<u8>, Fail> {
-    let len = disk.len(FileId::A)?;
-    let mut bytes = vec![in alloc; 0; len as usize]?;
-    disk.read_at(FileId::A, 0, &mut bytes)?;
-    Ok(bytes)
+// The bytes of the first file after two groups, and how many calls they made.
+fn written(alloc: Global) -> Result<([u8; 14], u64), Fail> {
+    let mut disk = SimDisk::of(alloc, &[0], b"other")?;
+    append_two(&mut disk, &group_of(alloc, b"abc")?, &group_of(alloc, b"")?);
+    let calls = disk.calls();
+    let mut bytes = [0xee; 14];
+    if disk.len(FileId::A)? >= 14 {
+        disk.read_at(FileId::A, 0, &mut bytes)?;
+    }
+    Ok((bytes, calls))
 }
 
 // The bytes of two groups, and their four calls each.
 #[test]
 fn written_form(rt: HostRuntime) -> Result<(), Fail> {
-    let alloc = rt.alloc();
-    let mut disk = SimDisk::of(alloc, &[0], b"other")?;
-    let acknowledged = append_two(&mut disk, &group_of(alloc, b"abc")?, &group_of(alloc, b"")?);
-    assert_eq!(rt; (acknowledged, disk.calls()), (2, 8));
-    let mut bytes = [0xee; 14];
-    if disk.len(FileId::A)? >= 14 {
-        disk.read_at(FileId::A, 0, &mut bytes)?;
-    }
-    assert_eq!(rt;
-        bytes.as_slice(),
-        b"\x01\x00\x00\x00\x03abc\x01\x00\x00\x00\x00\x00".as_slice()
-    );
+    let (bytes, calls) = written(rt.alloc())?;
+    assert_eq!(rt; calls, 8);
+    assert!(rt; bytes == *b"\x01\x00\x00\x00\x03abc\x01\x00\x00\x00\x00\x00");
     Ok(())
 }
 
@@ -134,6 +147,37 @@ fn bodies_of<'a>(alloc: Global, mut file: &'a [u8]) -> Result<Option<Vec<&'a [u8
     })
 }
 
+fn are_same(found: &[Vec<u8>], expected: &[&[u8]]) -> bool {
+    for (body, expected) in found.iter().zip(expected.iter()) {
+        if body.as_slice() != *expected {
+            return false;
+        }
+    }
+    found.len() == expected.len()
+}
+
+fn found_in(alloc: Global, file: &[u8]) -> Result<Result<Vec<Vec<u8>>, JournalFault>, AllocError> {
+    let mut disk = SimDisk::of(alloc, file, b"")?;
+    Ok(read_all(alloc, &mut disk))
+}
+
+// Whether the file is answered as the format reads it, or as Damaged where the format finds nothing.
+fn is_read_right(alloc: Global, file: &[u8]) -> Result<bool, AllocError> {
+    let found = found_in(alloc, file)?;
+    match bodies_of(alloc, file)? {
+        Some(expected) => Ok(matches!(&found, Ok(bodies) if are_same(bodies, &expected))),
+        None => Ok(matches!(found, Err(JournalFault::Damaged))),
+    }
+}
+
+fn changed(alloc: Global, file: &[u8], place: usize, byte: u8) -> Result<Vec<u8>, AllocError> {
+    let mut bytes = Vec::from_slice(alloc, file)?;
+    if place < bytes.len() {
+        bytes[place] = byte;
+    }
+    Ok(bytes)
+}
+
 // Damaged at any byte, in any way, a file is answered as the format reads it, or as Damaged.
 #[test]
 fn damaged_bytes(rt: HostRuntime) -> Result<(), Fail> {
@@ -141,49 +185,52 @@ fn damaged_bytes(rt: HostRuntime) -> Result<(), Fail> {
     let file = b"\x01\x00\x00\x00\x02ab\x01\x00\x00\x00\x01c\x00rest".as_slice();
     for place in 0..file.len() {
         for byte in [0, 1, 2, 5, 12, 255] {
-            let mut damaged = Vec::from_slice(alloc, file)?;
-            damaged[place] = byte;
-            let mut disk = SimDisk::of(alloc, &damaged, b"")?;
-            let expected = bodies_of(alloc, &damaged)?;
-            match (read_all(alloc, &mut disk), expected) {
-                (Ok(bodies), Some(expected)) => {
-                    assert_eq!(rt; bodies.len(), expected.len(), "{byte} at {place}");
-                    for (body, expected) in bodies.iter().zip(expected.iter()) {
-                        assert_eq!(rt; body.as_slice(), *expected, "{byte} at {place}");
-                    }
-                }
-                (result, expected) => {
-                    assert_eq!(rt;
-                        result.err(),
-                        Some(JournalFault::Damaged),
-                        "{byte} at {place}"
-                    );
-                    assert!(rt; expected.is_none(), "{byte} at {place}");
-                }
-            }
+            let damaged = changed(alloc, file, place, byte)?;
+            assert!(rt; is_read_right(alloc, &damaged)?, "{byte} at {place}");
         }
     }
     Ok(())
 }
 
+// Puts a few bytes behind those of a small group.
+fn extend(group: &mut Group, piece: &[u8]) -> Result<(), Fail> {
+    if group.len() > 100 || piece.len() > 100 {
+        return Err("the group has grown too far".into());
+    }
+    group.extend(piece)?;
+    Ok(())
+}
+
+// A group of `abcde`, in three pieces.
+fn grown(alloc: Global) -> Result<Box<Group>, Fail> {
+    let mut group = Box::new(alloc, Group::new(alloc)?)?;
+    for piece in [b"abc".as_slice(), b"", b"de"] {
+        extend(&mut group, piece)?;
+    }
+    Ok(group)
+}
+
 #[test]
 fn growing(rt: HostRuntime) -> Result<(), Fail> {
-    let mut group = Group::new(rt.alloc())?;
-    assert!(rt; group.is_empty());
-    group.extend(b"abc")?;
-    group.extend(b"")?;
-    group.extend(b"de")?;
-    assert_eq!(rt;
-        (group.len(), group.as_bytes()),
-        (5, b"\x00\x00\x00\x05abcde\x00".as_slice())
-    );
-    group.truncate(2);
-    assert_eq!(rt; group.as_bytes(), b"\x00\x00\x00\x02ab\x00".as_slice());
+    assert!(rt; Group::new(rt.alloc())?.is_empty());
+    let group = grown(rt.alloc())?;
+    assert_eq!(rt; group.len(), 5);
+    assert!(rt; group.as_bytes() == b"\x00\x00\x00\x05abcde\x00".as_slice());
+    Ok(())
+}
+
+#[test]
+fn shrinking(rt: HostRuntime) -> Result<(), Fail> {
+    let mut group = grown(rt.alloc())?;
+    if group.len() == 5 {
+        group.truncate(2);
+    }
+    assert!(rt; group.as_bytes() == b"\x00\x00\x00\x02ab\x00".as_slice());
     group.clear();
-    assert_eq!(rt; group.as_bytes(), [0; 5].as_slice());
+    assert!(rt; group.as_bytes() == [0; 5].as_slice());
     group.reserve(3)?;
     group.put(b"fgh");
-    assert_eq!(rt; group.as_bytes(), b"\x00\x00\x00\x03fgh\x00".as_slice());
+    assert!(rt; group.as_bytes() == b"\x00\x00\x00\x03fgh\x00".as_slice());
     Ok(())
 }
 

@@ -3,11 +3,20 @@ use disk_model::{Disk, DiskFault, FileId, SimDisk};
 use std::alloc::Global;
 use std::test::Fail;
 
+fn disk_of(alloc: Global, a: &[u8], b: &[u8]) -> Result<Box<SimDisk>, Fail> {
+    Ok(Box::new(alloc, SimDisk::of(alloc, a, b)?)?)
+}
+
 fn contents(alloc: Global, disk: &mut SimDisk, file: FileId) -> Result<Vec<u8>, Fail> {
     let len = disk.len(file)?;
     let mut bytes = vec![in alloc; 0; len as usize]?;
     disk.read_at(file, 0, &mut bytes)?;
     Ok(bytes)
+}
+
+fn holds(alloc: Global, disk: &mut SimDisk, file: FileId, expected: &[u8]) -> Result<bool, Fail> {
+    let bytes = contents(alloc, disk, file)?;
+    Ok(bytes.as_slice() == expected)
 }
 
 // Writes at a place that the file reaches.
@@ -18,77 +27,101 @@ fn write(disk: &mut SimDisk, file: FileId, at: u64, bytes: &[u8]) -> Result<(), 
     disk.write_at(file, at, bytes)
 }
 
+fn crash(disk: &mut SimDisk, choice: u64) -> Result<(), Fail> {
+    disk.crash(choice)?;
+    Ok(())
+}
+
+// The calls of a disk, and those that failed.
+fn counts(disk: &SimDisk) -> (u64, u64) {
+    (disk.calls(), disk.failures())
+}
+
+fn written_thrice(alloc: Global, choice: u64) -> Result<Box<SimDisk>, Fail> {
+    let mut disk = disk_of(alloc, b"abcdef", b"b")?;
+    let writes: [(u64, &[u8]); 3] = [(1, b"XY"), (6, b"ZZ"), (0, &[0])];
+    for (at, bytes) in writes {
+        write(&mut disk, FileId::A, at, bytes)?;
+    }
+    crash(&mut disk, choice)?;
+    Ok(disk)
+}
+
+const CHOICES: [(u64, &[u8]); 9] = [
+    (0, b"abcdef"),
+    (1, b"\x00XYdefZZ"),
+    (2, b"\x00\x01\x01def\x01\x01"),
+    (3, b"\xff\xff\xffdef\xff\xff"),
+    (4, b"\x00bcdef"),
+    (5, b"\x00XYdef"),
+    (6, b"\x00bcdefZZ"),
+    (8, b"abcdef"),
+    (7, b"\x00XYdefZZ"),
+];
+
 #[test]
 fn crash_choices(rt: HostRuntime) -> Result<(), Fail> {
     let alloc = rt.alloc();
-    let rows: [(u64, &[u8]); 9] = [
-        (0, b"abcdef"),
-        (1, b"\x00XYdefZZ"),
-        (2, b"\x00\x01\x01def\x01\x01"),
-        (3, b"\xff\xff\xffdef\xff\xff"),
-        (4, b"\x00bcdef"),
-        (5, b"\x00XYdef"),
-        (6, b"\x00bcdefZZ"),
-        (8, b"abcdef"),
-        (7, b"\x00XYdefZZ"),
-    ];
-    for (choice, expected) in rows {
-        let mut disk = SimDisk::of(alloc, b"abcdef", b"b")?;
-        write(&mut disk, FileId::A, 1, b"XY")?;
-        write(&mut disk, FileId::A, 6, b"ZZ")?;
-        write(&mut disk, FileId::A, 0, &[0])?;
-        disk.crash(choice)?;
-        assert_eq!(rt;
-            contents(alloc, &mut disk, FileId::A)?.as_slice(),
-            expected,
+    for (choice, expected) in &CHOICES {
+        let mut disk = written_thrice(alloc, *choice)?;
+        assert!(rt;
+            holds(alloc, &mut disk, FileId::A, *expected)?,
             "choice {choice}"
         );
-        assert_eq!(rt;
-            contents(alloc, &mut disk, FileId::B)?.as_slice(),
-            b"b".as_slice()
-        );
+        assert!(rt; holds(alloc, &mut disk, FileId::B, b"b")?);
     }
     Ok(())
+}
+
+// What a crash leaves of 66 writes of a byte, of which it is to leave the first, the fourth and the 65th.
+fn left_of_many(alloc: Global) -> Result<Vec<u8>, Fail> {
+    let mut disk = disk_of(alloc, b"", b"")?;
+    for place in 0..66 {
+        write(&mut disk, FileId::B, place, b"x")?;
+    }
+    crash(&mut disk, 0b1001)?;
+    contents(alloc, &mut disk, FileId::B)
 }
 
 // A place past the old end that no chosen write covers is 00, and the choice has 64 bits.
 #[test]
 fn chosen_writes(rt: HostRuntime) -> Result<(), Fail> {
-    let alloc = rt.alloc();
-    let mut disk = SimDisk::of(alloc, b"", b"")?;
-    for place in 0..66 {
-        write(&mut disk, FileId::B, place, b"x")?;
-    }
-    disk.crash(0b1001)?;
-    let left = contents(alloc, &mut disk, FileId::B)?;
+    let left = left_of_many(rt.alloc())?;
     assert_eq!(rt; left.len(), 65);
     for (place, byte) in left.iter().enumerate() {
-        let expected = if place == 0 || place == 3 || place == 64 {
-            b'x'
-        } else {
-            0
-        };
-        assert_eq!(rt; *byte, expected, "place {place}");
+        let is_left = place == 0 || place == 3 || place == 64;
+        assert_eq!(rt; *byte, if is_left { b'x' } else { 0 }, "place {place}");
     }
     Ok(())
+}
+
+fn crashed_behind_a_sync(alloc: Global, choice: u64) -> Result<Box<SimDisk>, Fail> {
+    let mut disk = disk_of(alloc, b"a", b"b")?;
+    write(&mut disk, FileId::B, 1, b"cd")?;
+    disk.sync(FileId::B)?;
+    write(&mut disk, FileId::A, 0, &[0])?;
+    crash(&mut disk, choice)?;
+    Ok(disk)
 }
 
 #[test]
 fn synced_stays(rt: HostRuntime) -> Result<(), Fail> {
     let alloc = rt.alloc();
     for choice in 0..12 {
-        let mut disk = SimDisk::of(alloc, b"a", b"b")?;
-        write(&mut disk, FileId::B, 1, b"cd")?;
-        disk.sync(FileId::B)?;
-        write(&mut disk, FileId::A, 0, &[0])?;
-        disk.crash(choice)?;
-        assert_eq!(rt;
-            contents(alloc, &mut disk, FileId::B)?.as_slice(),
-            b"bcd".as_slice(),
+        let mut disk = crashed_behind_a_sync(alloc, choice)?;
+        assert!(rt;
+            holds(alloc, &mut disk, FileId::B, b"bcd")?,
             "choice {choice}"
         );
     }
     Ok(())
+}
+
+fn closed(alloc: Global, before: &[u8]) -> Result<Box<SimDisk>, Fail> {
+    let mut disk = disk_of(alloc, before, b"")?;
+    write(&mut disk, FileId::A, 0, &[0])?;
+    crash(&mut disk, 2)?;
+    Ok(disk)
 }
 
 // Each choice leaves 01 under a closing byte only where it stood before.
@@ -97,32 +130,66 @@ fn closing_byte(rt: HostRuntime) -> Result<(), Fail> {
     let alloc = rt.alloc();
     let rows: [(&[u8], &[u8]); 3] = [(b"\x01", b"\x01"), (b"\x05", b"\x00"), (b"", b"\x00")];
     for (before, expected) in rows {
-        let mut disk = SimDisk::of(alloc, before, b"")?;
-        disk.write_at(FileId::A, 0, &[0])?;
-        disk.crash(2)?;
-        assert_eq!(rt; contents(alloc, &mut disk, FileId::A)?.as_slice(), expected);
+        let mut disk = closed(alloc, before)?;
+        assert!(rt; holds(alloc, &mut disk, FileId::A, expected)?);
     }
     Ok(())
+}
+
+// A call of the first file; what is written stands at its start.
+#[derive(Clone, Copy)]
+enum Call<'a> {
+    Len,
+    Write(&'a [u8]),
+    Sync,
+}
+
+// The length that the call tells, and none where it tells nothing.
+fn answer(disk: &mut SimDisk, call: Call<'_>) -> Result<Option<u64>, DiskFault> {
+    match call {
+        Call::Len => Ok(Some(disk.len(FileId::A)?)),
+        Call::Write(bytes) => {
+            disk.write_at(FileId::A, 0, bytes)?;
+            Ok(None)
+        }
+        Call::Sync => {
+            disk.sync(FileId::A)?;
+            Ok(None)
+        }
+    }
 }
 
 #[test]
 fn fuse(rt: HostRuntime) -> Result<(), Fail> {
     let alloc = rt.alloc();
-    let mut disk = SimDisk::of(alloc, b"abc", b"")?;
+    let mut disk = disk_of(alloc, b"abc", b"")?;
     disk.fuse_after(2);
-    assert_eq!(rt; disk.len(FileId::A), Ok(3));
-    assert_eq!(rt; disk.write_at(FileId::A, 0, b"X"), Ok(()));
-    assert_eq!(rt; disk.write_at(FileId::A, 0, b"YYYY"), Err(DiskFault));
-    assert_eq!(rt; disk.sync(FileId::A), Err(DiskFault));
-    assert_eq!(rt; disk.len(FileId::A), Err(DiskFault));
-    assert_eq!(rt; (disk.calls(), disk.failures()), (5, 3));
-    disk.crash(1)?;
-    assert_eq!(rt;
-        contents(alloc, &mut disk, FileId::A)?.as_slice(),
-        b"Xbc".as_slice()
-    );
-    assert_eq!(rt; (disk.calls(), disk.failures()), (7, 3));
+    let rows = [
+        (Call::Len, Ok(Some(3))),
+        (Call::Write(b"X"), Ok(None)),
+        (Call::Write(b"YYYY"), Err(DiskFault)),
+        (Call::Sync, Err(DiskFault)),
+        (Call::Len, Err(DiskFault)),
+    ];
+    for (call, expected) in rows {
+        assert_eq!(rt; answer(&mut disk, call), expected);
+    }
+    assert_eq!(rt; counts(&disk), (5, 3));
+    crash(&mut disk, 1)?;
+    assert!(rt; holds(alloc, &mut disk, FileId::A, b"Xbc")?);
+    assert_eq!(rt; counts(&disk), (7, 3));
     Ok(())
+}
+
+// A disk of which the second call is to fail, the write of these bytes.
+fn fails_at_the_write(alloc: Global, bytes: &[u8]) -> Result<Box<SimDisk>, Fail> {
+    let mut disk = disk_of(alloc, b"abc", b"")?;
+    disk.fail_once(1);
+    answer(&mut disk, Call::Sync)?;
+    if answer(&mut disk, Call::Write(bytes)).is_ok() {
+        return Err("the write has passed".into());
+    }
+    Ok(disk)
 }
 
 // A write that fails so puts its first half, and the next call passes.
@@ -136,12 +203,9 @@ fn fails_once(rt: HostRuntime) -> Result<(), Fail> {
         (b"UVWXYZXYZ", b"UVWX"),
     ];
     for (bytes, expected) in rows {
-        let mut disk = SimDisk::of(alloc, b"abc", b"")?;
-        disk.fail_once(1);
-        assert_eq!(rt; disk.sync(FileId::A), Ok(()));
-        assert_eq!(rt; disk.write_at(FileId::A, 0, bytes), Err(DiskFault));
+        let mut disk = fails_at_the_write(alloc, bytes)?;
         assert_eq!(rt; disk.failures(), 1);
-        assert_eq!(rt; contents(alloc, &mut disk, FileId::A)?.as_slice(), expected);
+        assert!(rt; holds(alloc, &mut disk, FileId::A, expected)?);
     }
     Ok(())
 }
@@ -150,20 +214,13 @@ fn fails_once(rt: HostRuntime) -> Result<(), Fail> {
 #[test]
 fn refused_growth(rt: HostRuntime) -> Result<(), Fail> {
     let alloc = rt.alloc();
-    let mut disk = SimDisk::of(alloc, b"abc", b"")?;
-    let written = disk.write_at(FileId::A, 1, b"WXYZ");
-    let expected = if written.is_ok() {
-        b"aWXYZ".as_slice()
-    } else {
-        b"abc".as_slice()
-    };
-    assert_eq!(rt;
-        (disk.calls(), disk.failures()),
-        (1, u64::from(written.is_err()))
-    );
-    assert_eq!(rt; contents(alloc, &mut disk, FileId::A)?.as_slice(), expected);
-    let synced = disk.sync(FileId::A);
-    let failures = u64::from(written.is_err()) + u64::from(synced.is_err());
-    assert_eq!(rt; disk.failures(), failures);
+    let mut disk = disk_of(alloc, b"abc", b"")?;
+    let has_written = write(&mut disk, FileId::A, 1, b"WXYZ").is_ok();
+    let failures = u64::from(!has_written);
+    assert_eq!(rt; counts(&disk), (2, failures));
+    let expected: &[u8] = if has_written { b"aWXYZ" } else { b"abc" };
+    assert!(rt; holds(alloc, &mut disk, FileId::A, expected)?);
+    let has_synced = answer(&mut disk, Call::Sync).is_ok();
+    assert_eq!(rt; disk.failures(), failures + u64::from(!has_synced));
     Ok(())
 }

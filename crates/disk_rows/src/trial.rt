@@ -4,30 +4,63 @@ use std::alloc::Global;
 use std::test::*;
 use trial_disk::Trial;
 
-fn write(disk: &mut Trial, at: u64, bytes: &[u8]) -> Result<(), DiskFault> {
-    disk.write_at(FileId::A, at, bytes)
+fn abc(alloc: Global) -> Result<Box<Trial>, Fail> {
+    Ok(Box::new(alloc, Trial::of(alloc, b"abc", b"")?)?)
 }
 
-fn first(alloc: Global, disk: &mut Trial) -> Result<Vec<u8>, DiskFault> {
-    disk.bytes(alloc, FileId::A)
+// A call of the first file: a write, or a read of one byte or two, at a place of it.
+#[derive(Clone, Copy)]
+enum Call<'a> {
+    Len,
+    Write(u64, &'a [u8]),
+    ReadOne(u64),
+    ReadTwo(u64),
+    Sync,
+}
+
+// The length that the call tells, and none where it tells nothing.
+fn answer(disk: &mut Trial, call: Call<'_>) -> Result<Option<u64>, DiskFault> {
+    match call {
+        Call::Len => return Ok(Some(disk.len(FileId::A)?)),
+        Call::Write(at, bytes) => disk.write_at(FileId::A, at, bytes)?,
+        Call::ReadOne(at) => disk.read_at(FileId::A, at, &mut [0])?,
+        Call::ReadTwo(at) => disk.read_at(FileId::A, at, &mut [0, 0])?,
+        Call::Sync => disk.sync(FileId::A)?,
+    }
+    Ok(None)
+}
+
+fn holds(alloc: Global, disk: &mut Trial, expected: &[u8]) -> Result<bool, DiskFault> {
+    let bytes = disk.bytes(alloc, FileId::A)?;
+    Ok(bytes.as_slice() == expected)
+}
+
+// The calls of a disk, and those that failed.
+fn counts(disk: &Trial) -> (u64, u64) {
+    (disk.calls(), disk.failures())
 }
 
 #[test]
 fn fuse(rt: HostRuntime) -> Result<(), Fail> {
     let alloc = rt.alloc();
-    let mut disk = Trial::of(alloc, b"abc", b"")?;
+    let mut disk = abc(alloc)?;
     disk.fuse_after(2);
-    assert_eq!(rt; disk.len(FileId::A), Ok(3));
-    assert_eq!(rt; write(&mut disk, 1, b"X"), Ok(()));
-    assert_eq!(rt; write(&mut disk, 0, b"YYYY"), Err(DiskFault));
-    assert_eq!(rt; disk.sync(FileId::A), Err(DiskFault));
-    assert_eq!(rt; disk.len(FileId::A), Err(DiskFault));
-    assert_eq!(rt; disk.read_at(FileId::A, 0, &mut [0]), Err(DiskFault));
-    assert_eq!(rt; (disk.calls(), disk.failures()), (6, 4));
-    assert_eq!(rt; first(alloc, &mut disk)?.as_slice(), b"aXc".as_slice());
+    let rows = [
+        (Call::Len, Ok(Some(3))),
+        (Call::Write(1, b"X"), Ok(None)),
+        (Call::Write(0, b"YYYY"), Err(DiskFault)),
+        (Call::Sync, Err(DiskFault)),
+        (Call::Len, Err(DiskFault)),
+        (Call::ReadOne(0), Err(DiskFault)),
+    ];
+    for (call, expected) in rows {
+        assert_eq!(rt; answer(&mut disk, call), expected);
+    }
+    assert_eq!(rt; counts(&disk), (6, 4));
+    assert!(rt; holds(alloc, &mut disk, b"aXc")?);
     disk.crash(0)?;
-    assert_eq!(rt; first(alloc, &mut disk)?.as_slice(), b"abc".as_slice());
-    assert_eq!(rt; disk.sync(FileId::A), Ok(()));
+    assert!(rt; holds(alloc, &mut disk, b"abc")?);
+    assert_eq!(rt; answer(&mut disk, Call::Sync), Ok(None));
     Ok(())
 }
 
@@ -35,16 +68,18 @@ fn fuse(rt: HostRuntime) -> Result<(), Fail> {
 #[test]
 fn fails_once(rt: HostRuntime) -> Result<(), Fail> {
     let alloc = rt.alloc();
-    let mut disk = Trial::of(alloc, b"abc", b"")?;
+    let mut disk = abc(alloc)?;
     disk.fail_once(1);
-    assert_eq!(rt; disk.sync(FileId::A), Ok(()));
-    assert_eq!(rt; write(&mut disk, 0, b"UVWXYZXYZ"), Err(DiskFault));
-    assert_eq!(rt; first(alloc, &mut disk)?.as_slice(), b"UVWX".as_slice());
+    let has_synced = answer(&mut disk, Call::Sync).is_ok();
+    let has_written = answer(&mut disk, Call::Write(0, b"UVWXYZXYZ")).is_ok();
+    assert_eq!(rt; (has_synced, has_written), (true, false));
+    assert!(rt; holds(alloc, &mut disk, b"UVWX")?);
     disk.fail_once(0);
-    assert_eq!(rt; disk.sync(FileId::A), Err(DiskFault));
-    assert_eq!(rt; write(&mut disk, 4, b"12"), Ok(()));
-    assert_eq!(rt; (disk.calls(), disk.failures()), (4, 2));
-    assert_eq!(rt; first(alloc, &mut disk)?.as_slice(), b"UVWX12".as_slice());
+    let has_synced = answer(&mut disk, Call::Sync).is_ok();
+    let has_written = answer(&mut disk, Call::Write(4, b"12")).is_ok();
+    assert_eq!(rt; (has_synced, has_written), (false, true));
+    assert_eq!(rt; counts(&disk), (4, 2));
+    assert!(rt; holds(alloc, &mut disk, b"UVWX12")?);
     Ok(())
 }
 
@@ -52,12 +87,16 @@ fn fails_once(rt: HostRuntime) -> Result<(), Fail> {
 #[test]
 fn strays(rt: HostRuntime) -> Result<(), Fail> {
     let alloc = rt.alloc();
-    let mut disk = Trial::of(alloc, b"abc", b"")?;
-    assert_eq!(rt; disk.read_at(FileId::A, 1, &mut [0, 0]), Ok(()));
-    assert_eq!(rt; write(&mut disk, 3, b"d"), Ok(()));
-    assert!(rt; !disk.has_strayed());
-    assert_eq!(rt; write(&mut disk, 5, b"e"), Ok(()));
-    assert!(rt; disk.has_strayed());
-    assert_eq!(rt; first(alloc, &mut disk)?.as_slice(), b"abcd".as_slice());
+    let mut disk = abc(alloc)?;
+    let rows = [
+        (Call::ReadTwo(1), false),
+        (Call::Write(3, b"d"), false),
+        (Call::Write(5, b"e"), true),
+    ];
+    for (call, has_strayed) in rows {
+        assert_eq!(rt; answer(&mut disk, call), Ok(None));
+        assert_eq!(rt; disk.has_strayed(), has_strayed);
+    }
+    assert!(rt; holds(alloc, &mut disk, b"abcd")?);
     Ok(())
 }
