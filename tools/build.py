@@ -1,0 +1,163 @@
+#!/usr/bin/env python3
+"""Proves and builds natgw: first the crates that it stands on, side by side where none of them stands on another.
+
+usage: tools/build.py [CRATE]
+
+A line tells of each crate as it is done. What is done stays done: after Ctrl-C, or a fault, the next call goes on from
+there, and where nothing is left to do a call takes some seconds. With CRATE, the name of a library, that one is built in
+the place of natgw.
+
+As many jobs run at once as there are processors, and fewer where memory is short. Each crate is built as `rt lib` builds
+it; but `rt lib` keeps every other `rt` out of the crates below while it works. So this calls what `rt lib` calls, rtlib.py
+of the kit, and keeps others out of all the crates until it has ended. The program itself is built by `rt run`.
+"""
+import importlib.util
+import os
+import shutil
+import signal
+import subprocess
+import sys
+import tempfile
+import time
+from concurrent.futures import FIRST_COMPLETED, ThreadPoolExecutor, wait
+
+TOP = os.path.dirname(os.path.dirname(os.path.realpath(__file__)))
+PROGRAM = "natgw"
+# What a job may take of memory, in bytes.
+MEMORY = 2_500_000_000
+# More jobs than these don't make the check of one crate faster.
+MOST = 4
+
+
+def load_rtlib():
+    """Returns the kit's rtlib.py, which lies beside the command rt."""
+    rt = shutil.which("rt")
+    if not rt:
+        sys.exit("build: there is no command rt: the kit that README.md names has it")
+    file = os.path.join(os.path.dirname(os.path.realpath(rt)), "rtlib.py")
+    spec = importlib.util.spec_from_file_location("rtlib", file)
+    sys.dont_write_bytecode = True
+    rtlib = importlib.util.module_from_spec(spec)
+    spec.loader.exec_module(rtlib)
+    return rtlib
+
+
+def say(text):
+    print(text, flush=True)
+
+
+def most_jobs(rtlib):
+    """Returns how many jobs there are processors and memory for, at least one."""
+    jobs = 1
+    while rtlib.fits(*[MEMORY] * (jobs + 1)):
+        jobs += 1
+    return jobs
+
+
+def lines_behind(crates):
+    """Returns for each crate the lines of the longest chain of crates that begins with it and goes up."""
+    behind = {}
+    for crate in reversed(crates):
+        above = [behind[it] for it in behind if crate in it.below()]
+        behind[crate] = crate.count(rb"\n") + max(above, default=0)
+    return behind
+
+
+def build(crate, jobs):
+    """Builds a library. Returns whether it is proved, what was said, and the seconds that it took."""
+    began = time.monotonic()
+    with tempfile.TemporaryFile("w+", errors="replace") as crate.out:
+        try:
+            status = crate.build_rlib(["--jobs", str(jobs)], anew=False)
+        except SystemExit:
+            status = 2
+        crate.out.seek(0)
+        return status == 0, crate.out.read(), time.monotonic() - began
+
+
+def shares(idle, ready):
+    """Returns the jobs of each of the crates that begin now. The first one has the longest chain above, which is waited for
+    in the end, so it gets two where there are two."""
+    given = []
+    while idle > 0 and len(given) < ready:
+        share = max(idle // (ready - len(given)), 1 if given else 2)
+        given.append(min(share, idle, MOST))
+        idle -= given[-1]
+    return given
+
+
+def build_libraries(left, jobs, tell):
+    """Builds libraries, each once those below it are there. Returns whether all are proved."""
+    behind = lines_behind(left)
+    left = sorted(left, key=lambda it: -behind[it])
+    running, failed = {}, False
+    with ThreadPoolExecutor(jobs) as pool:
+        while running or (left and not failed):
+            waited_for = {*left, *(crate for crate, _ in running.values())}
+            ready = [it for it in left if waited_for.isdisjoint(it.below())]
+            idle = 0 if failed else jobs - sum(share for _, share in running.values())
+            for crate, share in zip(ready, shares(idle, len(ready))):
+                left.remove(crate)
+                running[pool.submit(build, crate, share)] = crate, share
+            for it in wait(running, return_when=FIRST_COMPLETED).done:
+                crate, _ = running.pop(it)
+                is_proved, said, seconds = it.result()
+                tell(crate.name, is_proved, said, seconds)
+                failed = failed or not is_proved
+    return not failed
+
+
+def build_program(folder):
+    """Proves and builds the program, and asks it for its help. Returns as build does."""
+    began = time.monotonic()
+    how = {"stdin": subprocess.DEVNULL, "stdout": subprocess.PIPE, "stderr": subprocess.STDOUT}
+    ran = subprocess.run(["rt", "run", "--", "--help"], cwd=folder, errors="replace", **how)
+    return ran.returncode == 0, ran.stdout, time.monotonic() - began
+
+
+def main(name=PROGRAM, *more):
+    if more or name.startswith("-"):
+        sys.exit(__doc__.strip())
+    folder = f"{TOP}/crates/{name}"
+    if not os.path.isdir(f"{folder}/src"):
+        sys.exit(f"build: there is no crate {name}")
+    rtlib = load_rtlib()
+    # Its first call starts what ends all checks when this program ends, however that ends.
+    rtlib.guarded()
+    crate = rtlib.Crate(folder, TOP, {})
+    libraries = crate.below() if crate.is_program else [*crate.below(), crate]
+    held = rtlib.lock([*crate.below(), crate])
+    left = [it for it in libraries if not it.is_built()]
+    done, most = len(libraries) - len(left), len(libraries) + crate.is_program
+
+    def stop(*_):
+        say(f"build: stopped. {done} of {most} crates are done, and stay so: call it again to go on")
+        os._exit(130)
+
+    def tell(name, is_proved, said, seconds):
+        nonlocal done
+        done += is_proved
+        if is_proved:
+            say(f"{done} of {most}: {name}, {seconds:.0f} s")
+        else:
+            say(f"{said}build: {name} is not proved; {done} of {most} crates are done, and stay so")
+
+    signal.signal(signal.SIGINT, stop)
+    signal.signal(signal.SIGTERM, stop)
+    jobs = most_jobs(rtlib)
+    say(f"build: {done} of {most} crates are done; at most {jobs} at a time")
+    if not build_libraries(left, jobs, tell):
+        return 1
+    for it in held:
+        os.close(it)
+    if not crate.is_program:
+        return 0
+    is_proved, said, seconds = build_program(folder)
+    tell(name, is_proved, said, seconds)
+    if is_proved:
+        say(f"build: the program is {folder}/out/{name}")
+    return 0 if is_proved else 1
+
+
+if __name__ == "__main__":
+    sys.exit(main(*sys.argv[1:]))
