@@ -25,11 +25,18 @@ pub enum Turn {
     End,
 }
 
-/// Memory that is kept from read to read: each use begins by letting go of what stands there.
+/// Memory that is kept from read to read. What stands there means nothing to the next one.
 #[derive(Drop)]
 struct Room {
     answers: Vec<(u64, Answer)>,
+    spare: Spare,
+}
+
+/// Memory for the frames of answers, and for bodies of requests.
+#[derive(Drop)]
+struct Spare {
     frames: Vec<u8>,
+    bodies: Vec<Vec<u8>>,
 }
 
 /// Takes the first `at` bytes away.
@@ -52,7 +59,7 @@ fn answer_front<W: Write, D: Disk + Drop>(
     gateway: &mut Gateway<D>,
     pending: &mut Vec<u8>,
     answers: &mut Vec<(u64, Answer)>,
-    frames: &mut Vec<u8>,
+    spare: &mut Spare,
 ) -> Result<u64, EdgeFault>
     requires stands { gateway.old.fallen ≡ false }
     requires none { answers.old.items ≡ [] }
@@ -63,9 +70,15 @@ fn answer_front<W: Write, D: Disk + Drop>(
     ensures room { vec_len answers.new + length gateway.new.told.held ≤ vec_capacity answers.new }
 {
     begin(gateway);
-    let (at, count, stop) = offer_all(alloc, pending.as_slice(), answers, gateway);
+    let (at, count, stop) = offer_all(
+        alloc,
+        &mut spare.bodies,
+        pending.as_slice(),
+        answers,
+        gateway,
+    );
     let closed = close(stop, answers, gateway);
-    send_by(frames, writer, answers.as_slice())?;
+    send_by(&mut spare.frames, writer, answers.as_slice())?;
     closed?;
     remove_front(pending, at);
     Ok(count)
@@ -89,7 +102,7 @@ fn serve<W: Write, D: Disk + Drop>(
     ensures grown { OnOk result (gateway.new.grown ≤ 1048576) }
 {
     begin(gateway);
-    if empty_for(&mut room.answers, gateway.held()).is_err() {
+    if empty_for(&mut room.answers, &mut room.spare.bodies, gateway.held()).is_err() {
         return Err(EdgeFault::Gateway(GatewayFault::NoMemory));
     }
     let count = answer_front(
@@ -98,7 +111,7 @@ fn serve<W: Write, D: Disk + Drop>(
         gateway,
         pending,
         &mut room.answers,
-        &mut room.frames,
+        &mut room.spare,
     )?;
     match tidy(gateway, &mut room.answers) {
         Ok(()) => Ok(count),
@@ -221,7 +234,10 @@ pub fn run<R: Read, W: Write, D: Disk + Drop>(
     let mut pending = Vec::new(alloc);
     let mut room = Room {
         answers: Vec::new(alloc),
-        frames: Vec::new(alloc),
+        spare: Spare {
+            frames: Vec::new(alloc),
+            bodies: Vec::new(alloc),
+        },
     };
     let mut count: u64 = 0;
     for _ in 0..u64::MAX {

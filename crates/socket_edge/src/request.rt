@@ -118,13 +118,29 @@ fn what_from(kind: Kind, body: Vec<u8>) -> What
     }
 }
 
-/// Takes what stands at the front of the bytes.
+/// The bytes, where another body was, if one was let go.
+fn copied(alloc: Global, bodies: &mut Vec<Vec<u8>>, bytes: &[u8]) -> Result<Vec<u8>, AllocError>
+    ensures { IfOk result (λ body. body.items ≡ bytes.now) }
+{
+    let Some(mut body) = bodies.pop() else {
+        return Vec::from_slice(alloc, bytes);
+    };
+    body.clear();
+    body.extend_from_slice(bytes)?;
+    Ok(body)
+}
+
+/// Takes what stands at the front of the bytes. Its body is put where one of `bodies` was, if there are any.
 ///
 /// # Errors
 ///
 /// `AllocError` where memory for a body is refused.
 #[tactic(auto, unfolding(crate::specs::Requests::next), using(crate::proofs::Heads::frame_is_short))]
-pub fn take_frame(alloc: Global, bytes: &[u8]) -> Result<Taken, AllocError>
+pub fn take_frame(
+    alloc: Global,
+    bodies: &mut Vec<Vec<u8>>,
+    bytes: &[u8],
+) -> Result<Taken, AllocError>
     ensures { IfOk result (λ taken. TakesNext taken bytes.now) }
 {
     match read_head(bytes) {
@@ -135,7 +151,7 @@ pub fn take_frame(alloc: Global, bytes: &[u8]) -> Result<Taken, AllocError>
             if bytes.len() < end {
                 return Ok(Taken::Cut);
             }
-            let body = Vec::from_slice(alloc, &bytes[14..end])?;
+            let body = copied(alloc, bodies, &bytes[14..end])?;
             let what = what_from(kind, body);
             Ok(Taken::Whole(Event { moment, what }, end))
         }

@@ -14,6 +14,12 @@ use std::alloc::{AllocError, Global};
 /// The most bytes of groups that a file keeps when what was read is answered.
 const MOST_GROWN: u64 = 1_048_576;
 
+/// The most bodies that are kept, about as many as one read of short packets has.
+const MOST_KEPT: usize = 1_024;
+
+/// The most bytes of memory that a kept body has.
+const LONGEST_KEPT: usize = 2_048;
+
 /// Why no more frames are offered.
 #[derive(Clone, Copy, Drop)]
 pub enum Stop {
@@ -59,12 +65,34 @@ fn make_slots(answers: &mut Vec<(u64, Answer)>, more: usize) -> Result<(), Alloc
     answers.reserve(more)
 }
 
+/// Lets the answers go, and keeps the memory of some of their packets for bodies of requests.
+fn keep_bodies(answers: &mut Vec<(u64, Answer)>, bodies: &mut Vec<Vec<u8>>)
+    ensures { answers.new.items ≡ [] }
+{
+    while let Some((_, answer)) = answers.pop() {
+        if let Answer::Forward(_, packet) = answer {
+            keep_body(bodies, packet.into_vec());
+        }
+    }
+}
+
+/// Keeps a body, unless many are kept already, it is great, or memory for its place is refused.
+fn keep_body(bodies: &mut Vec<Vec<u8>>, body: Vec<u8>) {
+    if bodies.len() < MOST_KEPT && body.capacity() <= LONGEST_KEPT {
+        let _ = bodies.push(body);
+    }
+}
+
 /// Lets the answers go, and makes room for so many where they were.
-pub fn empty_for(answers: &mut Vec<(u64, Answer)>, count: usize) -> Result<(), AllocError>
+pub fn empty_for(
+    answers: &mut Vec<(u64, Answer)>,
+    bodies: &mut Vec<Vec<u8>>,
+    count: usize,
+) -> Result<(), AllocError>
     ensures none { answers.new.items ≡ [] }
     ensures ok { OnOk result (vec_len answers.new + count ≤ vec_capacity answers.new) }
 {
-    answers.clear();
+    keep_bodies(answers, bodies);
     make_slots(answers, count)
 }
 
@@ -93,6 +121,7 @@ fn offer_event<D: Disk + Drop>(
 /// Offers the frame at the front.
 fn offer_next<D: Disk + Drop>(
     alloc: Global,
+    bodies: &mut Vec<Vec<u8>>,
     bytes: &[u8],
     answers: &mut Vec<(u64, Answer)>,
     gateway: &mut Gateway<D>,
@@ -104,7 +133,7 @@ fn offer_next<D: Disk + Drop>(
     ensures stands { GoesOn result → gateway.new.fallen ≡ false }
     ensures room { vec_len answers.new + length gateway.new.told.held ≤ vec_capacity answers.new }
 {
-    match take_frame(alloc, bytes) {
+    match take_frame(alloc, bodies, bytes) {
         Err(_) => Step::Ends(Stop::Refused(GatewayFault::NoMemory)),
         Ok(Taken::Cut) => Step::Ends(Stop::Cut),
         Ok(Taken::Bad(fault)) => Step::Ends(Stop::Bad(fault)),
@@ -118,6 +147,7 @@ fn offer_next<D: Disk + Drop>(
 /// Offers each whole frame at the front, and says how many bytes they are, how many frames, and why no more are offered.
 pub fn offer_all<D: Disk + Drop>(
     alloc: Global,
+    bodies: &mut Vec<Vec<u8>>,
     bytes: &[u8],
     answers: &mut Vec<(u64, Answer)>,
     gateway: &mut Gateway<D>,
@@ -132,7 +162,7 @@ pub fn offer_all<D: Disk + Drop>(
     let mut at = 0;
     let mut count: usize = 0;
     loop {
-        match offer_next(alloc, &bytes[at..], answers, gateway) {
+        match offer_next(alloc, bodies, &bytes[at..], answers, gateway) {
             Step::Took(n) => {
                 at += n;
                 count += 1;
