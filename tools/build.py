@@ -107,11 +107,12 @@ def build_libraries(left, jobs, tell):
     return not failed
 
 
-def build_program(folder):
+def build_program(rtlib, folder):
     """Proves and builds the program, and asks it for its help. Returns as build does."""
     began = time.monotonic()
     how = {"stdin": subprocess.DEVNULL, "stdout": subprocess.PIPE, "stderr": subprocess.STDOUT}
-    ran = subprocess.run(["rt", "run", "--", "--help"], cwd=folder, errors="replace", **how)
+    words = [*rtlib.guarded(), "rt", "run", "--", "--help"]
+    ran = subprocess.run(words, cwd=folder, errors="replace", **how)
     return ran.returncode == 0, ran.stdout, time.monotonic() - began
 
 
@@ -152,7 +153,7 @@ def main(name=PROGRAM, *more):
         os.close(it)
     if not crate.is_program:
         return 0
-    is_proved, said, seconds = build_program(folder)
+    is_proved, said, seconds = build_program(rtlib, folder)
     tell(name, is_proved, said, seconds)
     if is_proved:
         say(f"build: the program is {folder}/out/{name}")
