@@ -1,22 +1,25 @@
 -- What a move makes of a walk that stands.
 use Rattle.std.proofs.Common.{◌≡◌, ◌⊎◌, ℕ, zero, suc, ◌+◌, ◌-◌, ◌<◌, ◌≤◌, List, [], ◌∷◌, Option, Some, None, IfSome, MatchOption, length, drop, slice_get, slice_index_or, slice_set, refl, sym, ap, ◌∙◌, subst, inl, inr, arith}
-use Rattle.std.specs.Option.{unwrap_or}
+use Rattle.std.specs.Option.{unwrap_or, option_map_or}
 use Rattle.std.proofs.lemmas.Bool.{cases_eq}
 use Rattle.std.proofs.lemmas.List.{drop_all, get_or-set_other}
-use Rattle.std.proofs.lemmas.Option.{slice_get_within}
+use Rattle.std.proofs.lemmas.Option.{slice_get_within, get_or_from_slice_get}
 use Rattle.packet.specs.Config.{Config}
 use Rattle.rulesyntax.specs.declared.tree.Rule.{Rule}
+use Rattle.rulesyntax.specs.declared.tree.Chain.{Chain}
 use Rattle.rulesyntax.specs.declared.tree.Table.{Table}
 use Rattle.ruletext.proofs.Edges.{drop_at}
 use Rattle.verdict.specs.declared.facts.Facts.{Facts}
 use Rattle.verdict.specs.declared.chain.Outcome.{Outcome}
 use Rattle.verdict.specs.declared.chain.Outcome.TheVariants.{Accepts, Drops, To, From, Ends}
+use Rattle.verdict.specs.declared.row.Line.{Line}
+use Rattle.verdict.specs.declared.row.Span.{Span}
 use Rattle.verdict.specs.declared.stack.Place.{Place}
 use Rattle.verdict.specs.declared.walk.Move.{Move}
 use Rattle.verdict.specs.declared.walk.Move.TheVariants.{Next, Gives, Jumps, Goes}
 use Rattle.verdict.specs.Evaluation.{unless_ended, after}
 use Rattle.verdict.specs.Targets.{OfEach, TargetsHave, IsShort}
-use Rattle.verdict.specs.Lines.{place_among}
+use Rattle.verdict.specs.Lines.{place_among, IsLine, AreSpans}
 use Rattle.verdict.specs.Places.{move_of, ending_by, rules_at, rest_of, comes, comes_at, AreKnown, IsResolved, after_call, whole, Reads, Standing, GoesOn, Stepped, IsRead, AreRemembered, told_of, AreSkipped, Calling, GoesTo, EndsAll, Acts}
 use Rattle.verdict.proofs.Steady.{rules_weaken}
 use Rattle.verdict.proofs.Known.{short_within}
@@ -286,3 +289,16 @@ returned config facts table here places standing at known known2 here2 places2 N
 returned config facts table here places standing at known known2 here2 places2 (Some outcome) rise le skipped past are more back =
     let ended = ends_at config facts table here places standing at rise le skipped past in
     (ended_known config facts table here places standing ended known known2 are more, back.0 ∙ back_all config facts table here places standing ended back.1)
+
+-- the line of a rule that is met
+pub line_at : (table : Table) (lines : List Line) (targets : List ℕ) (spans : List Span) (a i : ℕ) (rules : List Rule) (rule : Rule) (s : Span) (l : Line)
+    → AreSpans table lines targets table.chains spans → a < length table.chains → rules ≡ rules_at table.chains a → slice_get rules i ≡ Some rule
+    → IsLine table targets rule (slice_index_or lines ((slice_index_or spans a s).start + i) l)
+line_at table lines targets spans a i rules rule s l are lt same at =
+    let chain = found_at table.chains a lt in
+    let span = are a chain.0 chain.1 in
+    let here : slice_get chain.0.rules i ≡ Some rule = ap (λ (rs : List Rule). slice_get rs i) (sym (same ∙ ap (λ (c : Option Chain). option_map_or (λ (x : Chain). x.rules) c []) chain.1)) ∙ at in
+    let line = span.2.rules i rule here in
+    let there : slice_index_or spans a s ≡ span.0 = get_or_from_slice_get spans a span.0 s span.1 in
+    let read : slice_index_or lines (span.0.start + i) l ≡ line.0 = get_or_from_slice_get lines (span.0.start + i) line.0 l line.1 in
+    subst (IsLine table targets rule) (sym (ap (λ (x : Span). slice_index_or lines (x.start + i) l) there ∙ read)) line.2

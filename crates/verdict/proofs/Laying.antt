@@ -18,7 +18,7 @@ pub front_more : {X : Type 0} (xs : List X) (i : ℕ) (x : X) → i < length xs 
 front_more xs i x lt is = ap (λ k. take k xs) (add-one i) ∙ take-suc xs i x lt ∙ ap (λ y. take i xs ++ y ∷ []) (sym is)
 
 -- what stands in a list stays where it stands when more comes behind
-stays : {X : Type 0} (xs ys : List X) (i : ℕ) (x : X) → slice_get xs i ≡ Some x → slice_get (xs ++ ys) i ≡ Some x
+pub stays : {X : Type 0} (xs ys : List X) (i : ℕ) (x : X) → slice_get xs i ≡ Some x → slice_get (xs ++ ys) i ≡ Some x
 stays [] ys i x at = cc
 stays (y ∷ xs) ys zero x at = at
 stays (y ∷ xs) ys (suc i) x at = stays xs ys i x at
@@ -27,7 +27,7 @@ behind : {X : Type 0} (xs ys : List X) (k : ℕ) → slice_get (xs ++ ys) (lengt
 behind [] ys k = let e : 0 + k ≡ k = omega arith in ap (slice_get ys) e
 behind (x ∷ xs) ys k = let e : suc (length xs) + k ≡ suc (length xs + k) = omega arith in ap (slice_get (x ∷ (xs ++ ys))) e ∙ behind xs ys k
 
-either : {X : Type 0} (xs : List X) (y x : X) (i : ℕ) → slice_get (xs ++ y ∷ []) i ≡ Some x → (slice_get xs i ≡ Some x) ⊎ ((i ≡ length xs) × (y ≡ x))
+pub either : {X : Type 0} (xs : List X) (y x : X) (i : ℕ) → slice_get (xs ++ y ∷ []) i ≡ Some x → (slice_get xs i ≡ Some x) ⊎ ((i ≡ length xs) × (y ≡ x))
 either [] y x zero at = inr (refl, cc)
 either [] y x (suc i) at = cc
 either (z ∷ xs) y x zero at = inl at
@@ -36,7 +36,7 @@ either (z ∷ xs) y x (suc i) at = elim (either xs y x i at) [
   | inr new ↦ inr (ap suc new.0, new.1)
 ]
 
-last_at : {X : Type 0} (xs : List X) (y : X) (i : ℕ) → i ≡ length xs → slice_get (xs ++ y ∷ []) i ≡ Some y
+pub last_at : {X : Type 0} (xs : List X) (y : X) (i : ℕ) → i ≡ length xs → slice_get (xs ++ y ∷ []) i ≡ Some y
 last_at xs y i is = let e : i ≡ length xs + 0 = omega (arith, is) in ap (slice_get (xs ++ y ∷ [])) e ∙ behind xs (y ∷ []) 0
 
 line_stays : (table : Table) (targets more : List ℕ) (rule : Rule) (line : Line) → IsLine table targets rule line → IsLine table (targets ++ more) rule line

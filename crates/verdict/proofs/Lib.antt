@@ -16,3 +16,4 @@ pub mod Moves
 pub mod Stepping
 pub mod Acting
 pub mod Spending
+pub mod Pooled

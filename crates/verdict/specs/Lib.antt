@@ -3,6 +3,7 @@ pub mod Evaluation
 pub mod Hooks
 pub mod Ranking
 pub mod Targets
+pub mod Pools
 pub mod Lines
 pub mod Places
 pub mod Costs

@@ -18,12 +18,14 @@ use Rattle.rulesyntax.specs.declared.tree.Table.{Table}
 use Rattle.rulesyntax.specs.declared.tree.Spelled.{Spelled}
 use Rattle.ruletext.specs.Runnable.{IsRunnable}
 use Rattle.ruletext.specs.Said.{verdicts_of, target_of}
+use Rattle.ruletext.specs.Types.{HasWrongType}
 use Rattle.verdict.specs.declared.facts.Facts.{Facts}
 use Rattle.verdict.specs.declared.row.Probe.{Probe}
 use Rattle.verdict.specs.declared.row.Line.{Line}
 use Rattle.verdict.specs.declared.row.Span.{Span}
 use Rattle.verdict.specs.declared.row.Laid.{Laid}
 use Rattle.verdict.specs.Matching.{is_between, state_number, is_of, holds}
+use Rattle.verdict.specs.Pools.{ArePools}
 
 -- a port of a packet of this protocol; a packet of another one has 2^32, which no value stands for
 abbrev pub port_of : Transport → Facts → ℕ → ℕ
@@ -119,8 +121,14 @@ AreSpans table lines targets chains spans =
     → (span : Span) × (slice_get spans a ≡ Some span) × IsSpan table lines targets chain span
 
 -- the chains of a table, laid one behind the other
-abbrev pub IsLaid : Table → Laid → Type 0
-IsLaid table laid = AreSpans table laid.lines laid.targets table.chains laid.spans
+abbrev pub AreChainsLaid : Table → Laid → Type 0
+AreChainsLaid table laid = AreSpans table laid.lines laid.targets table.chains laid.spans
+
+-- a table in which nothing is of a wrong type, with its chains in a row and its named sets as pools
+pub record IsLaid (table : Table) (laid : Laid) : Type 0 where
+  pub chains : AreChainsLaid table laid
+  pub sets : ArePools table.sets laid.pools
+  pub typed : ¬ HasWrongType table.sets table.chains
 
 abbrev pub AreLaid : List Table → List Laid → Type 0
 AreLaid tables rows =

@@ -4,6 +4,7 @@
 //! - `facts`: `Facts`, what rules may ask about a packet.
 //! - `value`, `matching`: whether a fact is one of those that a match names, and whether a rule's matches
 //!   hold.
+//! - `pool`: the named sets of a table as unions, which packets are looked up in by halving.
 //! - `row`: the rules of a table in one row, with the places that jumps and gotos lead to as numbers.
 //! - `chain`: what a chain of rules comes to, and the ends of rules.
 //! - `stack`, `walk`: the walk over a row, with at most 16 places to return to and without recursion.
@@ -23,6 +24,7 @@ pub mod facts;
 pub mod hook;
 pub mod laws;
 mod matching;
+mod pool;
 mod row;
 pub mod rules;
 mod stack;

@@ -1,9 +1,12 @@
 //! Whether the matches of a rule hold of a packet.
 
-ghost use Rattle.std.specs.Prelude.{◌≡◌};
-ghost use Rattle.std.specs.List.{list_all};
+ghost use Rattle.std.specs.Prelude.{◌≡◌, false};
+ghost use Rattle.std.specs.List.{list_all, list_any};
 ghost use Rattle.sets.specs.Members.{fact_of};
-ghost use Rattle.verdict.specs.Matching.{is_in_set as set_holds, is_in_named as named_set_holds, is_on_side, name_of as name_of_iface, name_out as name_out_of, state_number as number_of_state, asked as asked_fact, is_of as is_of_transport, has_protocol as head_has_protocol, holds as test_holds};
+ghost use Rattle.ruletext.specs.Classes.{class_of as class_of_head};
+ghost use Rattle.ruletext.specs.Types.{has_other_class, is_wrong_match};
+ghost use Rattle.verdict.specs.Pools.{ArePools};
+ghost use Rattle.verdict.specs.Matching.{is_in_named as named_set_holds, is_on_side, name_of as name_of_iface, name_out as name_out_of, state_number as number_of_state, asked as asked_fact, is_of as is_of_transport, has_protocol as head_has_protocol, holds as test_holds};
 
 use crate::facts::{Facts, State};
 use crate::value::{is_member, lies};
@@ -11,37 +14,33 @@ use packet::bounds::Bounds;
 use packet::endpoint::{Iface, Proto};
 use rulesyntax::tree::{Head, Match, Set, Side, Transport};
 use ruletext::class::{Class, class_of};
-use sets::Value as Fact;
-
-fn is_in_set(class: Class, fact: Fact<'_>, set: &Set) -> bool
-    ensures { result ≡ set_holds class (fact_of fact.entry) set.now }
-{
-    let lines = set.elements.as_slice();
-    lines
-        .iter()
-        .any(|line| is_member(class, line.elements.as_slice(), fact))
-}
+use sets::{Set as Pool, Value as Fact};
 
 #[tactic(auto, unfolding(crate::specs::Matching::is_in_named))]
-fn is_in_named(class: Class, fact: Fact<'_>, sets: &[Set], name: &[u8]) -> bool
+fn is_in_named(sets: &[Set], pools: &[Pool], class: Class, name: &[u8], fact: Fact<'_>) -> bool
+    requires pools { ArePools sets.now pools.now }
+    requires typed { has_other_class sets.now class name.now ≡ false }
     ensures { result ≡ named_set_holds sets.now class name.now (fact_of fact.entry) }
 {
-    for set in sets {
+    for (place, set) in sets.iter().enumerate() {
         if set.name.as_slice() == name {
-            return is_in_set(class, fact, set);
+            return pools[place].contains(fact);
         }
     }
     false
 }
 
 #[tactic(auto, unfolding(crate::specs::Matching::is_on_side))]
-fn is_in_side(sets: &[Set], class: Class, side: &Side, fact: Fact<'_>) -> bool
-    ensures { result ≡ is_on_side sets.now class side.now (fact_of fact.entry) }
+fn is_in_side(sets: &[Set], pools: &[Pool], test: &Match, fact: Fact<'_>) -> bool
+    requires pools { ArePools sets.now pools.now }
+    requires typed { is_wrong_match sets.now test.now ≡ false }
+    ensures { result ≡ is_on_side sets.now (class_of_head test.now.head) test.now.side (fact_of fact.entry) }
 {
-    match side {
+    let class = class_of(test.head);
+    match &test.side {
         Side::One(element) => lies(class, &element.value, fact),
         Side::Several(elements) => is_member(class, elements.as_slice(), fact),
-        Side::Named(named) => is_in_named(class, fact, sets, named.name.as_slice()),
+        Side::Named(named) => is_in_named(sets, pools, class, named.name.as_slice(), fact),
     }
 }
 
@@ -111,23 +110,38 @@ pub fn has_protocol(head: Head, proto: Proto) -> bool
 }
 
 #[tactic(auto, unfolding(crate::specs::Matching::holds))]
-fn holds(bounds: &Bounds, sets: &[Set], facts: &Facts, test: &Match) -> bool
+fn holds(bounds: &Bounds, sets: &[Set], pools: &[Pool], facts: &Facts, test: &Match) -> bool
+    requires pools { ArePools sets.now pools.now }
+    requires typed { is_wrong_match sets.now test.now ≡ false }
     ensures { result ≡ test_holds bounds.now sets.now facts.now test.now }
 {
     if !has_protocol(test.head, facts.proto) {
         return false;
     }
     let fact = asked(bounds, facts, test.head);
-    let inside = is_in_side(sets, class_of(test.head), &test.side, fact);
+    let inside = is_in_side(sets, pools, test, fact);
     if test.negated {
         return !inside;
     }
     inside
 }
 
-/// Whether all the matches of a rule hold.
-pub fn all_hold(bounds: &Bounds, sets: &[Set], facts: &Facts, tests: &[Match]) -> bool
+/// Whether all the matches of a rule hold. Each named set is its pool.
+pub(crate) fn all_hold(
+    bounds: &Bounds,
+    sets: &[Set],
+    pools: &[Pool],
+    facts: &Facts,
+    tests: &[Match],
+) -> bool
+    requires pools { ArePools sets.now pools.now }
+    requires typed { list_any (is_wrong_match sets.now) tests.now ≡ false }
     ensures { result ≡ list_all (test_holds bounds.now sets.now facts.now) tests.now }
 {
-    tests.iter().all(|test| holds(bounds, sets, facts, test))
+    for test in tests {
+        if !holds(bounds, sets, pools, facts, test) {
+            return false;
+        }
+    }
+    true
 }

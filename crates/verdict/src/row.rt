@@ -1,8 +1,11 @@
 //! The rules of a table in one row.
 
-ghost use Rattle.std.specs.Prelude.{◌≡◌, ◌+◌, ◌++◌, ℕ, [], true, false, length, map, IfOk, IfSome, OnOk, slice_get};
+ghost use Rattle.std.specs.Prelude.{◌≡◌, ◌+◌, ◌++◌, ◌≤◌, ℕ, [], true, false, length, map, IfOk, IfSome, OnOk, slice_get};
 ghost use Rattle.std.specs.List.{list_all};
+ghost use Rattle.ruletext.specs.Calls.{OfSome};
+ghost use Rattle.ruletext.specs.Counts.{elements_of_table, is_much};
 ghost use Rattle.ruletext.specs.Said.{verdicts_of};
+ghost use Rattle.ruletext.specs.Types.{HasWrongType};
 ghost use Rattle.sets.specs.Members.{Fact as Asked, IsWithin};
 ghost use Rattle.std.specs.Prelude.{List};
 ghost use Rattle.rulesyntax.specs.declared.tree.Set.{Set};
@@ -11,12 +14,13 @@ ghost use Rattle.verdict.specs.Lines.{numbers_of as numbers_of_facts, port_of as
 
 use crate::facts::Facts;
 use crate::matching::{is_of, state_number};
+use crate::pool::pools_of;
 use packet::endpoint::Prefix;
 use rulesyntax::tree::{
     Chain, End, Head, Match, Pair, Rule, Side, Table, Transport, Value, Verdict,
 };
 use ruletext::class::{Class, class_of};
-use sets::Range;
+use sets::{Range, Set as Pool};
 use sqlite_items::Items;
 use std::alloc::{AllocError, Global};
 
@@ -47,7 +51,7 @@ pub(crate) struct Span {
     pub(crate) end: usize,
 }
 
-/// The rules of a table's chains, one chain behind the other.
+/// The rules of a table's chains, one chain behind the other, and its named sets.
 #[derive(Drop)]
 pub(crate) struct Laid {
     /// One for each chain.
@@ -56,6 +60,8 @@ pub(crate) struct Laid {
     pub(crate) lines: Items<Line>,
     /// One for each verdict of a rule: the place of the chain that it jumps or goes to, of those of the table.
     pub(crate) targets: Items<usize>,
+    /// One for each named set of the table.
+    pub(crate) pools: Items<Pool>,
 }
 
 // The number that a packet of another protocol has for a port: no value stands for it.
@@ -254,14 +260,17 @@ fn lay_chain(
     Ok(())
 }
 
-/// The chains of a table in a row.
+/// The chains of a table in a row, and its named sets as pools.
 ///
 /// # Errors
 ///
 /// `AllocError` only where memory is refused.
 pub(crate) fn lay(alloc: Global, table: &Table) -> Result<Laid, AllocError>
+    requires typed { ¬ HasWrongType table.now.sets table.now.chains }
+    requires few { elements_of_table table.now ≤ 16384 }
     ensures { IfOk result (IsLaid table.now) }
 {
+    let pools = pools_of(alloc, table.sets.as_slice())?;
     let mut spans = Items::new(alloc);
     let mut lines = Items::new(alloc);
     let mut targets = Items::new(alloc);
@@ -275,15 +284,18 @@ pub(crate) fn lay(alloc: Global, table: &Table) -> Result<Laid, AllocError>
         spans,
         lines,
         targets,
+        pools,
     })
 }
 
-/// The chains of each table in a row of their own.
+/// Each table in a row of its own.
 ///
 /// # Errors
 ///
 /// `AllocError` only where memory is refused.
 pub(crate) fn lay_all(alloc: Global, tables: &[Table]) -> Result<Items<Laid>, AllocError>
+    requires typed { ¬ OfSome (λ table. HasWrongType table.sets table.chains) tables.now }
+    requires few { is_much tables.now ≡ false }
     ensures { IfOk result (AreLaid tables.now) }
 {
     let mut rows = Items::new(alloc);

@@ -3,9 +3,12 @@
 ghost use Rattle.std.specs.Prelude.{◌≡◌, ◌+◌, ◌-◌, ◌^◌, ◌<◌, ◌≤◌, ℕ, [], ◌∷◌, Some, false, IfSome, MatchOption, length, slice_get};
 ghost use Rattle.ruletext.specs.Said.{verdicts_in};
 ghost use Rattle.ruletext.specs.Calls.{IsLooped};
+ghost use Rattle.std.specs.List.{list_any};
+ghost use Rattle.ruletext.specs.Types.{is_wrong_match, HasWrongType};
+ghost use Rattle.verdict.specs.Pools.{ArePools};
 ghost use Rattle.verdict.specs.declared.row.Line.{Line as LineOf};
 ghost use Rattle.verdict.specs.Targets.{OfEach, TargetsHave, IsShort};
-ghost use Rattle.verdict.specs.Lines.{numbers_of as numbers_of_facts, may_hold as line_may_hold, IsLine, IsLaid, LeadsFrom, place_led};
+ghost use Rattle.verdict.specs.Lines.{numbers_of as numbers_of_facts, may_hold as line_may_hold, IsLine, AreChainsLaid, IsLaid, LeadsFrom, place_led};
 ghost use Rattle.verdict.specs.Evaluation.{chain_outcome as outcome_of_chain};
 ghost use Rattle.packet.specs.Config.{Config};
 ghost use Rattle.verdict.specs.declared.chain.Outcome.TheVariants as outcomes;
@@ -97,16 +100,19 @@ fn move_of(
     bounds: &Bounds,
     facts: &Facts,
     table: &Table,
+    laid: &Laid,
     rule: &Rule,
     line: Line,
-    targets: &[usize],
 ) -> Move
-    requires { IsLine table.now targets.now rule.now line }
+    requires line { IsLine table.now laid.now.targets rule.now line }
+    requires pools { ArePools table.now.sets laid.now.pools }
+    requires typed { list_any (is_wrong_match table.now.sets) rule.now.matches ≡ false }
     ensures { result ≡ move_of_rule bounds.now facts.now table.now rule.now }
 {
     if !all_hold(
         bounds,
         table.sets.as_slice(),
+        laid.pools.as_slice(),
         facts,
         rule.matches.as_slice(),
     ) {
@@ -114,7 +120,14 @@ fn move_of(
     }
     match &rule.end {
         None => Move::Next,
-        Some(end) => move_at(bounds, facts, table, end, targets, line.first),
+        Some(end) => move_at(
+            bounds,
+            facts,
+            table,
+            end,
+            laid.targets.as_slice(),
+            line.first,
+        ),
     }
 }
 
@@ -197,7 +210,7 @@ fn next_rule(
     here: Place,
     steps: &mut Steps,
 ) -> usize
-    requires laid { IsLaid table.now laid.now }
+    requires laid { AreChainsLaid table.now laid.now }
     requires numbers { numbers.now ≡ numbers_of_facts facts.now }
     requires chain { here.chain < length table.now.chains }
     requires at { here.at ≤ length (rules_at table.now.chains here.chain) }
@@ -222,7 +235,9 @@ fn move_from(
     rules: &[Rule],
     here: Place,
 ) -> Move
-    requires laid { IsLaid table.now laid.now }
+    requires laid { AreChainsLaid table.now laid.now }
+    requires sets { ArePools table.now.sets laid.now.pools }
+    requires typed { ¬ HasWrongType table.now.sets table.now.chains }
     requires rules { rules.now ≡ rules_at table.now.chains here.chain }
     requires chain { here.chain < length table.now.chains }
     requires at { here.at < length rules.now }
@@ -230,14 +245,7 @@ fn move_from(
 {
     let span = laid.spans.as_slice()[here.chain];
     let line = laid.lines.as_slice()[span.start + here.at];
-    move_of(
-        bounds,
-        facts,
-        table,
-        &rules[here.at],
-        line,
-        laid.targets.as_slice(),
-    )
+    move_of(bounds, facts, table, laid, &rules[here.at], line)
 }
 
 // Remembers an outcome that ends the base chain of each chain that is read.

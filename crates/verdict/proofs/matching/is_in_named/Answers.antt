@@ -1,0 +1,20 @@
+use Rattle.std.proofs.Common.{◌≡◌, ◌∙◌, true, Some, cond, drop, find, refl, sym, ap, arith, bytes_eq, ◌+◌}
+use Rattle.std.proofs.lemmas.Option.{slice_get_read}
+use Rattle.rulesyntax.specs.declared.tree.Set.{Set}
+use Rattle.ruletext.proofs.Edges.{drop_at}
+use Rattle.sets.specs.Members.{fact_of}
+use Rattle.verdict.proofs.Pooled.{looked_up}
+use Rattle.verdict.proofs.matching.is_in_named.Goals as goal
+
+pub returns-then-eq : goal.returns-then-eq
+returns-then-eq c =
+    let sets = c.args.sets.now in
+    let name = c.args.name.now in
+    let place = c.loop-place.place in
+    let set = c.index-sets-place.result in
+    let at = slice_get_read sets _ place set refl (omega arith) c.index-sets-place.is in
+    let here = drop_at sets place set at in
+    let named : bytes_eq set.name name ≡ true = ap (λ n. bytes_eq n name) (sym c.as_slice.ensures) ∙ (sym c.eq.ensures ∙ c.if-eq.true) in
+    let found : find (λ (s : Set). bytes_eq s.name name) sets ≡ Some set =
+    sym c.loop-place.invariant ∙ ap (find (λ (s : Set). bytes_eq s.name name)) here ∙ ap (λ b. cond b (Some set) (find (λ (s : Set). bytes_eq s.name name) (drop (place + 1) sets))) named in
+    looked_up sets c.args.pools.now c.args.class name (fact_of c.args.fact) set place c.index-pools-place.result c.contains.result c.requires.pools c.requires.typed found at c.index-pools-place.is c.contains.ensures
