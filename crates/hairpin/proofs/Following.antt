@@ -15,37 +15,32 @@ use Rattle.hairpin.specs.Translations.{endpoint, IsOutside, IsOutsideOf, Follows
 pub as_held : (m : Pairs) (p : Pair) (q : Proto) (e : Endpoint) → IsOutsideOf p q e → IsOutside m p.proto p.outside → IsOutside m q e
 as_held m p q e is held = subst (λ r. IsOutside m r e) (sym is.0) (subst (λ f. IsOutside m p.proto f) (sym is.1) held)
 
-module _ (m : Pairs) (p : Pair) (old new : TakenPorts) where
+module _ (p : Pair) (old new : TakenPorts) where
   -- a port is taken that is taken already, or that was free
-  pub took_held : ((q : Proto) (r : ℕ) → IsTaken old q p.outside.addr r ↔ IsOutside m q (endpoint p.outside.addr r)) → IsOutside m p.proto p.outside
-      → (q : Proto) (r : ℕ) → IsTaken old q p.outside.addr r ↔ (IsOutside m q (endpoint p.outside.addr r) ⊎ IsOutsideOf p q (endpoint p.outside.addr r))
-  took_held taken held q r = (
-    (λ t. inl ((taken q r).0 t)),
+  pub took_again : IsTaken old p.proto p.outside.addr p.outside.port
+      → (q : Proto) (r : ℕ) → IsTaken old q p.outside.addr r ↔ (IsTaken old q p.outside.addr r ⊎ IsOutsideOf p q (endpoint p.outside.addr r))
+  took_again taken q r = (
+    inl,
     (λ h. elim h [
-      | inl o ↦ (taken q r).1 o
-      | inr is ↦ (taken q r).1 (as_held m p q (endpoint p.outside.addr r) is held)
+      | inl was ↦ was
+      | inr is ↦ subst (λ x. IsTaken old x p.outside.addr r) (sym is.0) (subst (λ x. IsTaken old p.proto p.outside.addr x) (sym (ap (λ (e : Endpoint). e.port) is.1)) taken)
     ]),
   )
 
-  pub took_new : ((q : Proto) (r : ℕ) → IsTaken old q p.outside.addr r ↔ IsOutside m q (endpoint p.outside.addr r)) → Takes old new p.proto p.outside.addr p.outside.port
-      → (q : Proto) (r : ℕ) → IsTaken new q p.outside.addr r ↔ (IsOutside m q (endpoint p.outside.addr r) ⊎ IsOutsideOf p q (endpoint p.outside.addr r))
-  took_new taken takes q r = (
+  pub took_new : Takes old new p.proto p.outside.addr p.outside.port
+      → (q : Proto) (r : ℕ) → IsTaken new q p.outside.addr r ↔ (IsTaken old q p.outside.addr r ⊎ IsOutsideOf p q (endpoint p.outside.addr r))
+  took_new takes q r = (
     (λ t. elim ((takes q p.outside.addr r).0 t) [
-      | inl was ↦ inl ((taken q r).0 was)
+      | inl was ↦ inl was
       | inr is ↦ inr (is.0, ap (endpoint p.outside.addr) is.2)
     ]),
     (λ h. elim h [
-      | inl o ↦ (takes q p.outside.addr r).1 (inl ((taken q r).1 o))
+      | inl was ↦ (takes q p.outside.addr r).1 (inl was)
       | inr is ↦ (takes q p.outside.addr r).1 (inr (is.0, refl, ap (λ (e : Endpoint). e.port) is.1))
     ]),
   )
 
-  pub not_taken : ((q : Proto) (r : ℕ) → IsTaken old q p.outside.addr r ↔ IsOutside m q (endpoint p.outside.addr r)) → ((inside : Endpoint) → times m (pair p.proto inside p.outside) ≡ 0)
-      → ¬ IsTaken old p.proto p.outside.addr p.outside.port
-  not_taken taken none t =
-      let held = (taken p.proto p.outside.port).0 t in
-      omega (arith, held.1, none held.0)
-
+module _ (m : Pairs) (p : Pair) (old new : TakenPorts) where
   -- a port is free again, or stays taken
   pub freed_none : ((q : Proto) (r : ℕ) → IsTaken old q p.outside.addr r ↔ (IsOutside m q (endpoint p.outside.addr r) ⊎ IsOutsideOf p q (endpoint p.outside.addr r))) → IsOutside m p.proto p.outside
       → (q : Proto) (r : ℕ) → IsTaken old q p.outside.addr r ↔ IsOutside m q (endpoint p.outside.addr r)
@@ -101,18 +96,24 @@ module _ (external : ℕ) (old new : Pairs) (p : Pair) (ports ports' : TakenPort
   taken_at : p.outside.addr ≡ external → (q : Proto) (r : ℕ) → IsTaken ports q p.outside.addr r ↔ IsOutside old q (endpoint p.outside.addr r)
   taken_at at q r = subst (λ a. IsTaken ports q a r ↔ IsOutside old q (endpoint a r)) (sym at) (follows.taken q r)
 
-  pub before_hold : p.outside.addr ≡ external → (q : Proto) (r : ℕ) → IsTaken ports q p.outside.addr r ↔ IsOutside old q (endpoint p.outside.addr r)
-  before_hold at = taken_at at
-
   pub after_hold : p.outside.addr ≡ external → 0 < p.outside.port → Gains old new p → ports'.external ≡ ports.external
-      → ((q : Proto) (r : ℕ) → IsTaken ports' q p.outside.addr r ↔ (IsOutside old q (endpoint p.outside.addr r) ⊎ IsOutsideOf p q (endpoint p.outside.addr r)))
+      → ((q : Proto) (r : ℕ) → IsTaken ports' q p.outside.addr r ↔ (IsTaken ports q p.outside.addr r ⊎ IsOutsideOf p q (endpoint p.outside.addr r)))
       → Follows external new ports'
   after_hold at some gains same taken = record {
     address = subst (λ (xs : List ℕ). Contains xs external) (sym same) follows.address;
     taken = λ q r.
-        let t = subst (λ a. IsTaken ports' q a r ↔ (IsOutside old q (endpoint a r) ⊎ IsOutsideOf p q (endpoint a r))) at (taken q r) in
-        let g = gains_outside old new p gains q (endpoint external r) in
-        ((λ h. g.1 (t.0 h)), (λ h. t.1 (g.0 h)));
+        let t = subst (λ a. IsTaken ports' q a r ↔ (IsTaken ports q a r ⊎ IsOutsideOf p q (endpoint a r))) at (taken q r) in
+        let f = follows.taken q r in
+        let g = gains_outside old new p gains q (endpoint external r) in (
+          (λ h. g.1 (elim (t.0 h) [
+            | inl was ↦ inl (f.0 was)
+            | inr is ↦ inr is
+          ])),
+          (λ h. t.1 (elim (g.0 h) [
+            | inl held ↦ inl (f.1 held)
+            | inr is ↦ inr is
+          ])),
+        );
     placed = λ x lt. elim (gained_here old new p x gains lt) [
       | inl was ↦ follows.placed x was
       | inr is ↦ (ap (λ (y : Pair). y.outside.addr) is ∙ at, subst (λ (y : Pair). 0 < y.outside.port) (sym is) some)

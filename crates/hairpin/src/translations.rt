@@ -146,7 +146,7 @@ impl Translations {
         ensures room { (n : ℕ) → HasRoom (n + 1) self.old → HasRoom n self.new }
         ensures external { self.new.external ≡ self.old.external }
     {
-        take_port(&self.map, &mut self.ports, pair);
+        take_port(&mut self.ports, pair);
         match self.map.hold(pair) {
             Ok(()) => {}
             Err(_) => unreachable!(),
@@ -182,23 +182,21 @@ fn is_translated(session: &Session) -> bool
 }
 
 // The pair's port is taken, if it isn't yet.
-fn take_port(map: &Map, ports: &mut Ports, pair: Pair)
+fn take_port(ports: &mut Ports, pair: Pair)
     requires address { Contains ports.old.external pair.outside.addr }
     requires not_zero { 0 < pair.outside.port }
     requires room { 0 < ports.old.room }
-    requires taken { (proto : Protocol) (port : ℕ) → IsTaken ports.old proto pair.outside.addr port
-        ↔ IsOutside map.now proto (endpoint pair.outside.addr port) }
     ensures taken { (proto : Protocol) (port : ℕ) → IsTaken ports.new proto pair.outside.addr port
-        ↔ (IsOutside map.now proto (endpoint pair.outside.addr port) ⊎ IsOutsideOf pair proto (endpoint pair.outside.addr port)) }
+        ↔ (IsTaken ports.old proto pair.outside.addr port ⊎ IsOutsideOf pair proto (endpoint pair.outside.addr port)) }
     ensures addresses { ports.new.external ≡ ports.old.external }
     ensures room { ports.old.room ≤ ports.new.room + 1 }
 {
-    match map.inside_of(pair.proto, pair.outside) {
-        Some(_) => {}
-        None => match ports.take(pair.proto, pair.outside.addr, pair.outside.port) {
-            Ok(()) => {}
-            Err(_) => unreachable!(),
-        },
+    if ports.is_taken(pair.proto, pair.outside.addr, pair.outside.port) {
+        return;
+    }
+    match ports.take(pair.proto, pair.outside.addr, pair.outside.port) {
+        Ok(()) => {}
+        Err(_) => unreachable!(),
     }
 }
 

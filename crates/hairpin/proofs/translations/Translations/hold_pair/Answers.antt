@@ -1,10 +1,5 @@
-use Rattle.hairpin.proofs.Following.{before_hold, after_hold}
+use Rattle.hairpin.proofs.Following.{after_hold}
 use Rattle.hairpin.proofs.translations.Translations.hold_pair.Goals as goal
-
-pub take_port-requires-clause-taken : goal.take_port-requires-clause-taken
-take_port-requires-clause-taken c =
-    let at = rw (← c.self.view_is) at c.requires.address in
-    before_hold c.self.inside.external c.self.inside.map c.self.inside.map c.args.pair c.self.inside.ports c.self.inside.ports c.self.invariant at
 
 pub invariant_of-self : goal.invariant_of-self
 invariant_of-self c =
