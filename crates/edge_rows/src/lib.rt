@@ -6,11 +6,14 @@
 //! - `sending`: frames that are written in one piece or in parts;
 //! - `streams`: streams of a few frames;
 //! - `each_call`: each read, write and call of the disk failing in turn;
+//! - `each_cut`: frames that are cut at each byte, and headers with one byte set to each value;
 //! - `turns`: what was asked is answered before more is read, and a file that has grown is made anew.
 #![tactic(auto)]
 
 #[cfg(test)]
 mod each_call;
+#[cfg(test)]
+mod each_cut;
 #[cfg(test)]
 mod pieces;
 #[cfg(test)]
