@@ -4,7 +4,7 @@
 usage: tools/build.py [CRATE]
 
 A line tells of each crate as it is done. What is done stays done: after Ctrl-C, or a fault, the next call goes on from
-there, and where nothing is left to do a call takes some seconds. With CRATE, the name of a library, that one is built in
+there, and where nothing is left to do a call takes half a minute. With CRATE, the name of a library, that one is built in
 the place of natgw.
 
 As many jobs run at once as there are processors, and fewer where memory is short. Each crate is built as `rt lib` builds
