@@ -94,101 +94,130 @@ fn configurations_are_refused(rt: HostRuntime) -> Result<(), Fail> {
     Ok(())
 }
 
+fn boxed(alloc: Global) -> Result<Box<Bounds>, Fail> {
+    match bounds(alloc, ("en-0.a_B", "0123456789abcde"), &INSIDE, EXTERNAL)? {
+        Ok(bounds) => Ok(Box::new(alloc, bounds)?),
+        Err(_) => Err("refused".into()),
+    }
+}
+
+#[test]
+fn configurations_are_shown(rt: HostRuntime) -> Result<(), Fail> {
+    let bounds = boxed(rt.alloc())?;
+    bounds.facts();
+    assert!(rt; bounds.lan() == b"en-0.a_B".as_slice());
+    assert!(rt; bounds.wan() == b"0123456789abcde".as_slice());
+    assert!(rt; bounds.inside() == INSIDE.as_slice());
+    assert_eq!(rt; bounds.external(), EXTERNAL);
+    Ok(())
+}
+
+#[test]
+fn addresses_are_placed(rt: HostRuntime) -> Result<(), Fail> {
+    let bounds = boxed(rt.alloc())?;
+    for (addr, is_inside) in [(0xc0a8ffff, true), (0xc0a90000, false)] {
+        assert_eq!(rt; bounds.is_inside(addr), is_inside);
+    }
+    for (addr, is_external) in [(EXTERNAL, true), (HOST, false)] {
+        assert_eq!(rt; bounds.is_external(addr), is_external);
+    }
+    Ok(())
+}
+
+// Where a packet is put through that comes from this interface, or why it isn't.
+fn route_of(
+    bounds: &Bounds,
+    from: Iface,
+    src: u32,
+    dst: u32,
+    ttl: u8,
+) -> Result<Route, RouteFault> {
+    let view = View {
+        src: endpoint(src, 5000),
+        dst: endpoint(dst, 53),
+        proto: Proto::Udp,
+        ttl,
+        flags: Flags::none(),
+    };
+    bounds.route(from, &view)
+}
+
+const ROUTES: [(&str, Iface, u32, u32, u8, Result<Route, RouteFault>); 10] = [
+    ("out", Iface::Lan, HOST, SERVER, 2, Ok(Route::Out)),
+    ("in", Iface::Wan, SERVER, EXTERNAL, 2, Ok(Route::In)),
+    (
+        "in, untranslated",
+        Iface::Wan,
+        SERVER,
+        HOST,
+        2,
+        Ok(Route::In),
+    ),
+    ("hairpin", Iface::Lan, HOST, EXTERNAL, 2, Ok(Route::Hairpin)),
+    (
+        "last hop",
+        Iface::Lan,
+        SERVER,
+        HOST,
+        1,
+        Err(RouteFault::Ttl),
+    ),
+    (
+        "foreign source",
+        Iface::Lan,
+        SERVER,
+        HOST,
+        2,
+        Err(RouteFault::Spoofed),
+    ),
+    (
+        "inside source",
+        Iface::Wan,
+        HOST,
+        SERVER,
+        2,
+        Err(RouteFault::Spoofed),
+    ),
+    (
+        "own source",
+        Iface::Wan,
+        EXTERNAL,
+        SERVER,
+        2,
+        Err(RouteFault::Spoofed),
+    ),
+    (
+        "lan to lan",
+        Iface::Lan,
+        HOST,
+        HOST,
+        2,
+        Err(RouteFault::NoRoute),
+    ),
+    (
+        "wan to wan",
+        Iface::Wan,
+        SERVER,
+        SERVER,
+        2,
+        Err(RouteFault::NoRoute),
+    ),
+];
+
 #[test]
 fn packets_are_routed(rt: HostRuntime) -> Result<(), Fail> {
-    let bounds = bounds(
-        rt.alloc(),
-        ("en-0.a_B", "0123456789abcde"),
-        &INSIDE,
-        EXTERNAL,
-    )?;
-    let Ok(bounds) = bounds else {
-        return Err("refused".into());
-    };
-    bounds.facts();
-    assert_eq!(rt; bounds.lan(), b"en-0.a_B".as_slice());
-    assert_eq!(rt; bounds.wan(), b"0123456789abcde".as_slice());
-    assert_eq!(rt; bounds.inside(), INSIDE.as_slice());
-    assert_eq!(rt; bounds.external(), EXTERNAL);
-    assert!(rt; bounds.is_inside(0xc0a8ffff) && !bounds.is_inside(0xc0a90000));
-    assert!(rt; bounds.is_external(EXTERNAL) && !bounds.is_external(HOST));
-
-    let cases = [
-        ("out", Iface::Lan, HOST, SERVER, 2, Ok(Route::Out)),
-        ("in", Iface::Wan, SERVER, EXTERNAL, 2, Ok(Route::In)),
-        (
-            "in, untranslated",
-            Iface::Wan,
-            SERVER,
-            HOST,
-            2,
-            Ok(Route::In),
-        ),
-        ("hairpin", Iface::Lan, HOST, EXTERNAL, 2, Ok(Route::Hairpin)),
-        (
-            "last hop",
-            Iface::Lan,
-            SERVER,
-            HOST,
-            1,
-            Err(RouteFault::Ttl),
-        ),
-        (
-            "foreign source",
-            Iface::Lan,
-            SERVER,
-            HOST,
-            2,
-            Err(RouteFault::Spoofed),
-        ),
-        (
-            "inside source",
-            Iface::Wan,
-            HOST,
-            SERVER,
-            2,
-            Err(RouteFault::Spoofed),
-        ),
-        (
-            "own source",
-            Iface::Wan,
-            EXTERNAL,
-            SERVER,
-            2,
-            Err(RouteFault::Spoofed),
-        ),
-        (
-            "lan to lan",
-            Iface::Lan,
-            HOST,
-            HOST,
-            2,
-            Err(RouteFault::NoRoute),
-        ),
-        (
-            "wan to wan",
-            Iface::Wan,
-            SERVER,
-            SERVER,
-            2,
-            Err(RouteFault::NoRoute),
-        ),
-    ];
-    for (case, from, src, dst, ttl, expected) in cases {
-        let view = View {
-            src: endpoint(src, 5000),
-            dst: endpoint(dst, 53),
-            proto: Proto::Udp,
-            ttl,
-            flags: Flags::none(),
-        };
-        assert_eq!(rt; bounds.route(from, &view), expected, "at {case}");
+    let bounds = boxed(rt.alloc())?;
+    for (case, from, src, dst, ttl, expected) in &ROUTES {
+        let found = route_of(&bounds, *from, *src, *dst, *ttl);
+        assert_eq!(rt; found, *expected, "at {case}");
     }
-    assert_eq!(rt;
-        (RouteFault::Ttl.number(), RouteFault::NoRoute.number()),
-        (10, 12)
-    );
     Ok(())
+}
+
+#[test]
+fn route_faults_are_numbered(rt: HostRuntime) {
+    assert_eq!(rt; RouteFault::Ttl.number(), 10);
+    assert_eq!(rt; RouteFault::NoRoute.number(), 12);
 }
 
 #[test]

@@ -21,6 +21,10 @@ fn fields_are_read(rt: HostRuntime) {
         flags: Flags::none(),
     };
     assert_eq!(rt; View::read(&UDP), Ok(udp));
+}
+
+#[test]
+fn flags_are_read(rt: HostRuntime) {
     let syn = View {
         src: endpoint(HOST, 40000),
         dst: endpoint(SERVER, 443),
@@ -34,30 +38,47 @@ fn fields_are_read(rt: HostRuntime) {
         },
     };
     assert_eq!(rt; View::read(&SYN), Ok(syn));
+}
+
+#[test]
+fn protocols_are_numbered(rt: HostRuntime) {
     assert_eq!(rt; (Proto::Tcp.number(), Proto::Udp.number()), (6, 17));
     assert_eq!(rt; Proto::of_number(17), Some(Proto::Udp));
     assert_eq!(rt; Proto::of_number(1), None);
 }
 
+// The packet with two bytes changed, and its fault.
+const FAULTS: [((usize, u8), (usize, u8), Fault); 10] = [
+    ((0, 0x65), (3, 0x1d), Fault::Version),
+    ((0, 0x44), (3, 0x1d), Fault::HeaderLength),
+    ((0, 0x48), (3, 0x1d), Fault::HeaderLength),
+    ((3, 0x1d), (10, 0x8f), Fault::Length),
+    ((10, 0x8f), (9, 1), Fault::HeaderSum),
+    ((6, 0x20), (10, 0x6e), Fault::Fragment),
+    ((7, 1), (11, 0xea), Fault::Fragment),
+    ((9, 1), (11, 0xfb), Fault::Protocol),
+    ((25, 9), (21, 0), Fault::Transport),
+    ((23, 0), (26, 0), Fault::PortZero),
+];
+
 #[test]
 fn faults_are_found(rt: HostRuntime) {
     assert_eq!(rt; View::read(&EMPTY), Err(Fault::Short));
-    assert_eq!(rt; fault_of((0, 0x65), (3, 0x1d)), Some(Fault::Version));
-    assert_eq!(rt; fault_of((0, 0x44), (3, 0x1d)), Some(Fault::HeaderLength));
-    assert_eq!(rt; fault_of((0, 0x48), (3, 0x1d)), Some(Fault::HeaderLength));
-    assert_eq!(rt; fault_of((3, 0x1d), (10, 0x8f)), Some(Fault::Length));
-    assert_eq!(rt; fault_of((10, 0x8f), (9, 1)), Some(Fault::HeaderSum));
-    assert_eq!(rt; fault_of((6, 0x20), (10, 0x6e)), Some(Fault::Fragment));
-    assert_eq!(rt; fault_of((7, 1), (11, 0xea)), Some(Fault::Fragment));
-    assert_eq!(rt; fault_of((9, 1), (11, 0xfb)), Some(Fault::Protocol));
-    assert_eq!(rt; fault_of((25, 9), (21, 0)), Some(Fault::Transport));
-    assert_eq!(rt; fault_of((23, 0), (26, 0)), Some(Fault::PortZero));
+    for (first, second, fault) in &FAULTS {
+        assert_eq!(rt; fault_of(*first, *second), Some(*fault));
+    }
+}
 
-    let mut short_offset = SYN;
-    short_offset[32] = 0x40;
-    assert_eq!(rt; View::read(&short_offset), Err(Fault::Transport));
-    let mut long_offset = SYN;
-    long_offset[32] = 0x60;
-    assert_eq!(rt; View::read(&long_offset), Err(Fault::Transport));
+#[test]
+fn wrong_offsets_are_found(rt: HostRuntime) {
+    for offset in [0x40, 0x60] {
+        let mut packet = SYN;
+        packet[32] = offset;
+        assert_eq!(rt; View::read(&packet), Err(Fault::Transport));
+    }
+}
+
+#[test]
+fn faults_are_numbered(rt: HostRuntime) {
     assert_eq!(rt; (Fault::Short.number(), Fault::PortZero.number()), (1, 9));
 }

@@ -22,10 +22,10 @@ fn put(bytes: &mut [u8], at: usize, word: u64) {
 }
 
 fn put_endpoints(packet: &mut [u8], options: usize, src: Endpoint, dst: Endpoint) {
-    put(packet, 12, src.addr as u64 / 65536);
-    put(packet, 14, src.addr as u64);
-    put(packet, 16, dst.addr as u64 / 65536);
-    put(packet, 18, dst.addr as u64);
+    for (place, addr) in [(12, src.addr as u64), (16, dst.addr as u64)] {
+        put(packet, place, addr / 65536);
+        put(packet, place.saturating_add(2), addr);
+    }
     put(packet, options.saturating_add(20), src.port as u64);
     put(packet, options.saturating_add(22), dst.port as u64);
 }
@@ -132,43 +132,54 @@ fn agree(
     is_rewritten(packet, src, dst) && &*packet == &*whole
 }
 
+// The packets of one length and one checksum: their options, and the endpoints that they leave with.
+const PACKETS: [(Proto, usize, Endpoint, Endpoint); 7] = [
+    (Proto::Udp, 0, OTHER, SAME),
+    (Proto::Udp, 0, INSIDE, SAME),
+    (Proto::Udp, 0, ONES, LEAST),
+    (Proto::Udp, 8, OTHER, ONES),
+    (Proto::Tcp, 0, OTHER, SAME),
+    (Proto::Tcp, 24, ONES, SAME),
+    (Proto::Tcp, 4, INSIDE, SAME),
+];
+
+const SAME: Endpoint = Endpoint {
+    addr: SERVER,
+    port: 53,
+};
+
+const INSIDE: Endpoint = Endpoint {
+    addr: HOST,
+    port: 5000,
+};
+
+const OTHER: Endpoint = Endpoint {
+    addr: EXTERNAL,
+    port: 5001,
+};
+
+const ONES: Endpoint = Endpoint {
+    addr: 0xffffffff,
+    port: 65535,
+};
+
+const LEAST: Endpoint = Endpoint { addr: 0, port: 1 };
+
+fn all_agree(length: usize, field: u64) -> bool {
+    for (proto, options, src, dst) in &PACKETS {
+        let is_short = length < 64 && (*options > 0 || *proto == Proto::Tcp);
+        if !is_short && !agree(length, *proto, *options, field, *src, *dst) {
+            return false;
+        }
+    }
+    true
+}
+
 #[test]
 fn sums(rt: HostRuntime) {
-    let same = endpoint(SERVER, 53);
-    let ones = endpoint(0xffffffff, 65535);
     for length in 28usize..201 {
         for field in [0, 1, 0x7a57, 0xfffe, 0xffff] {
-            let src = endpoint(EXTERNAL, 5001);
-            assert!(rt;
-                agree(length, Proto::Udp, 0, field, src, same),
-                "at {length}"
-            );
-            assert!(rt;
-                agree(length, Proto::Udp, 0, field, endpoint(HOST, 5000), same),
-                "at {length}"
-            );
-            assert!(rt;
-                agree(length, Proto::Udp, 0, field, ones, endpoint(0, 1)),
-                "at {length}"
-            );
-            if length >= 64 {
-                assert!(rt;
-                    agree(length, Proto::Udp, 8, field, src, ones),
-                    "at {length}"
-                );
-                assert!(rt;
-                    agree(length, Proto::Tcp, 0, field, src, same),
-                    "at {length}"
-                );
-                assert!(rt;
-                    agree(length, Proto::Tcp, 24, field, ones, same),
-                    "at {length}"
-                );
-                assert!(rt;
-                    agree(length, Proto::Tcp, 4, field, endpoint(HOST, 5000), same),
-                    "at {length}"
-                );
-            }
+            assert!(rt; all_agree(length, field), "{field} at {length}");
         }
     }
 }
