@@ -210,14 +210,10 @@ impl Flows {
         ensures external { self.new.translations.external ≡ self.old.translations.external }
     {
         self.table.is_sound();
-        match self.table.add(session) {
-            Ok(slot) => {
-                watch(&mut self.due, slot, session.last, session.timeout());
-                self.translations.hold(&session);
-                self.table.is_sound();
-            }
-            Err(_) => unreachable!(),
-        }
+        let slot = self.table.add_reserved(session);
+        watch(&mut self.due, slot, session.last, session.timeout());
+        self.translations.hold(&session);
+        self.table.is_sound();
     }
 
     /// Does what a change says, for which there is room.

@@ -20,24 +20,23 @@ hold-requires-clause-few c =
 
 pub invariant_of-self : goal.invariant_of-self
 invariant_of-self c =
-    let free = c.in-Ok.ensures.was_free in
-    Tied-update c.self.inside.table c.add.new.self c.self.inside.due c.watch.new.due c.self.inside.translations.pairs c.hold.new.self.pairs c.in-Ok.slot (Some c.args.session) c.self.invariant c.in-Ok.ensures.updates (rw c.timeout.ensures.value at c.watch.ensures.updates)
+    let free = c.add_reserved-slot.ensures.was_free in
+    Tied-update c.self.inside.table c.add_reserved-slot.new.self c.self.inside.due c.watch.new.due c.self.inside.translations.pairs c.hold.new.self.pairs c.add_reserved-slot.result (Some c.args.session) c.self.invariant c.add_reserved-slot.ensures.updates (rw c.timeout.ensures.value at c.watch.ensures.updates)
     (λ p. let a = c.hold.ensures.counts p in let b = ap (weight p) free in omega arith)
 
 pub returns-clause-became : goal.returns-clause-became
 returns-clause-became c =
-    let free = c.in-Ok.ensures.was_free in
-    let e = became c.self.inside.table c.add.new.self (Begin c.args.session) c.in-Ok.slot c.args.session c.is_sound.ensures c.is_sound-in-Ok.ensures c.in-Ok.ensures.updates
+    let free = c.add_reserved-slot.ensures.was_free in
+    let e = became c.self.inside.table c.add_reserved-slot.new.self (Begin c.args.session) c.add_reserved-slot.result c.args.session c.is_sound.ensures c.is_sound-2.ensures c.add_reserved-slot.ensures.updates
     (λ s is. absurd (none-some s (sym free ∙ is)))
     (λ k s is other here. none-some s (sym free ∙ subst (λ j. at c.self.inside.table j ≡ Some s) here is)) in
     rw (← c.self.view_is) e
 
 pub returns-clause-latest : goal.returns-clause-latest
 returns-clause-latest c =
-    latest_update c.self.inside.table c.add.new.self c.in-Ok.slot c.args.session c.args.session.last c.in-Ok.ensures.updates (omega arith) (rw (← c.self.view_is) at c.requires.latest)
+    latest_update c.self.inside.table c.add_reserved-slot.new.self c.add_reserved-slot.result c.args.session c.args.session.last c.add_reserved-slot.ensures.updates (omega arith) (rw (← c.self.view_is) at c.requires.latest)
 
 pub returns-clause-ready : goal.returns-clause-ready
 returns-clause-ready c = λ n was.
     let before = rw (← c.self.view_is) at was in
-    let slots = c.add.ensures.had_room (omega (arith, before.table)) in
-    record { table = omega (arith, before.table, c.add.ensures.room); watched = omega (arith, before.watched, slots, c.watch.ensures.ready); translations = c.hold.ensures.room n before.translations }
+    record { table = omega (arith, before.table, c.add_reserved-slot.ensures.room); watched = omega (arith, before.watched, c.add_reserved-slot.ensures.slots, c.watch.ensures.ready); translations = c.hold.ensures.room n before.translations }
