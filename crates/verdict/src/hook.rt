@@ -4,6 +4,7 @@ ghost use Rattle.std.specs.Prelude.{◌≡◌, ◌+◌, ◌^◌, ◌<◌, ◌≤
 ghost use Rattle.std.specs.Option.{option_map_or};
 ghost use Rattle.ruletext.specs.Calls.{OfSome, IsLooped, IsDeep};
 ghost use Rattle.ruletext.specs.Counts.{rules_of_table, is_much};
+ghost use Rattle.rulesyntax.specs.declared.tree.Table.{Table as TableOf};
 ghost use Rattle.verdict.specs.Lines.{IsLaid, AreLaid};
 ghost use Rattle.verdict.specs.Places.{AreKnown};
 ghost use Rattle.verdict.specs.Costs.{unread, rules_of_tables, rules_in_force};
@@ -18,7 +19,7 @@ use crate::walk::chain_outcome;
 use packet::bounds::Bounds;
 use packet::endpoint::Endpoint;
 use packet::steps::Steps;
-use rulesyntax::tree::{Hook, Policy, Table};
+use rulesyntax::tree::{Chain, Hook, Policy, Table};
 
 /// What the forward chains decide about a packet.
 #[derive(Clone, Copy, Debug, PartialEq, Eq, Drop)]
@@ -172,7 +173,31 @@ fn final_over(
     first
 }
 
-// Most tables have few chains, and for them little memory is cleared.
+// Whether the chain is a base chain of the hook.
+fn stands_at(chain: &Chain, hook: Hook) -> bool
+    ensures { result ≡ false → (table : TableOf) → option_map_or (at_hook hook table chain.now) chain.now.base [] ≡ [] }
+{
+    match &chain.base {
+        None => false,
+        Some(base) => is_same_hook(base.hook, hook),
+    }
+}
+
+// Whether one of the chains is a base chain of the hook.
+fn any_stands_at(chains: &[Chain], hook: Hook) -> bool
+    ensures { result ≡ false → (table : TableOf) → bases_among hook table chains.now ≡ [] }
+{
+    let mut rest = chains;
+    while let [chain, tail @ ..] = rest {
+        if stands_at(chain, hook) {
+            return true;
+        }
+        rest = tail;
+    }
+    false
+}
+
+// Most tables have few chains, and for them little memory is cleared; a table without base chains of the hook takes none.
 fn final_among(
     bounds: &Bounds,
     facts: &Facts,
@@ -189,6 +214,9 @@ fn final_among(
     ensures first { result ≡ first_final bounds.now facts.now (bases_among hook table.now table.now.chains) }
     ensures spent { steps.new ≤ steps.old + rules_of_table table.now }
 {
+    if !any_stands_at(table.chains.as_slice(), hook) {
+        return None;
+    }
     if table.chains.len() <= FEW_CHAINS {
         let mut known = [None; FEW_CHAINS];
         return final_over(bounds, facts, hook, table, laid, &mut known, steps);
