@@ -2,8 +2,8 @@
 
 use disk_model::FileId;
 use durable::{
-    DurableFault, Flow, begin_code, end_code, load_front, put_heading, recover, restart_code,
-    seen_code,
+    DurableFault, Flow, Recovered, begin_code, end_code, load_front, put_heading, recover,
+    restart_code, seen_code,
 };
 use packet::bounds::Bounds;
 use packet::endpoint::{Endpoint, Prefix, Proto};
@@ -71,6 +71,11 @@ const FLOW: Flow = Flow {
     },
 };
 
+const TCP: Flow = Flow {
+    proto: Proto::Tcp,
+    ..FLOW
+};
+
 fn bounds(alloc: Global, wan: &str) -> Result<Bounds, AllocError> {
     let lan = String::from_str(alloc, "lan")?;
     let wan = String::from_str(alloc, wan)?;
@@ -120,6 +125,12 @@ fn outcome(alloc: Global, a: &[u8], b: &[u8]) -> u8 {
     }
 }
 
+// The same where the second group of a file has this entry alone.
+fn outcome_behind(alloc: Global, entry: &[u8]) -> Result<u8, AllocError> {
+    let file = followed(alloc, entry)?;
+    Ok(outcome(alloc, &file, b""))
+}
+
 // The file with the highest bit of one byte turned.
 fn turned(alloc: Global, file: &[u8], place: usize) -> Result<Vec<u8>, AllocError> {
     let mut made = Vec::new(alloc);
@@ -140,104 +151,121 @@ fn cut(alloc: Global, file: &[u8], place: usize) -> Result<Vec<u8>, AllocError> 
     Ok(made)
 }
 
+// What stands in two files, of which one is open. It lies behind a box, so that a test lets it go by one call.
+fn found<'a>(alloc: Global, a: &'a [u8], b: &'a [u8]) -> Result<Box<Recovered<'a>>, Fail> {
+    match recover(alloc, a, b)? {
+        Some(found) => Ok(Box::new(alloc, found)?),
+        None => Err("no file is open".into()),
+    }
+}
+
+// Which file it is, its generation, and where its groups begin and end.
+fn place_of(found: &Recovered<'_>) -> (FileId, u64, usize, usize) {
+    (found.file, found.generation, found.start, found.end)
+}
+
 #[test]
-fn fresh_file(rt: HostRuntime) -> Result<(), Fail> {
+fn fresh_heading(rt: HostRuntime) -> Result<(), Fail> {
     let alloc = rt.alloc();
     let ours = bounds(alloc, "wan")?;
     let mut made = Vec::from_slice(alloc, &[1])?;
     put_heading(&mut made, 1, &ours, b"", &[])?;
     made.push(0)?;
-    assert_eq!(rt; made.as_slice(), FRESH.as_slice());
-    let found = recover(alloc, &made, b"")?.ok_or("a file is open")?;
-    assert_eq!(rt; found.file, FileId::A);
-    assert_eq!(rt; found.generation, 1);
-    assert!(rt; found.is_configured(&ours));
-    assert!(rt; !found.is_configured(&bounds(alloc, "dsl")?));
+    assert!(rt; made.as_slice() == FRESH.as_slice());
+    Ok(())
+}
+
+#[test]
+fn fresh_file(rt: HostRuntime) -> Result<(), Fail> {
+    let found = found(rt.alloc(), &FRESH, b"")?;
+    assert!(rt; place_of(&found) == (FileId::A, 1, 39, 39));
     assert!(rt; found.text.is_empty());
     assert!(rt; found.sessions.is_empty());
-    assert_eq!(rt; found.start, 39);
-    assert_eq!(rt; found.end, 39);
+    Ok(())
+}
+
+// Whether the fresh file has a configuration of this name.
+fn is_of_wan(alloc: Global, wan: &str) -> Result<bool, Fail> {
+    let bounds = bounds(alloc, wan)?;
+    Ok(found(alloc, &FRESH, b"")?.is_configured(&bounds))
+}
+
+#[test]
+fn fresh_configuration(rt: HostRuntime) -> Result<(), Fail> {
+    for (wan, expected) in [("wan", true), ("dsl", false)] {
+        assert_eq!(rt; is_of_wan(rt.alloc(), wan)?, expected, "{wan}");
+    }
+    Ok(())
+}
+
+#[test]
+fn codes_of_two_events(rt: HostRuntime) -> Result<(), Fail> {
+    assert_eq!(rt; loaded(rt.alloc(), &NEWER)?.len(), 173);
+    assert!(rt; load_front(MASQUERADE).as_slice() == [1u8, 0, 0, 0, 0x65].as_slice());
+    assert!(rt; begin_code(&QUERY).as_slice() == BEGIN.as_slice());
     Ok(())
 }
 
 #[test]
 fn two_events(rt: HostRuntime) -> Result<(), Fail> {
-    let alloc = rt.alloc();
-    let file = loaded(alloc, &NEWER)?;
-    assert_eq!(rt; file.len(), 173);
-    assert_eq!(rt;
-        load_front(MASQUERADE).as_slice(),
-        [1u8, 0, 0, 0, 0x65].as_slice()
-    );
-    assert_eq!(rt; begin_code(&QUERY).as_slice(), BEGIN.as_slice());
-    let found = recover(alloc, &FRESH, &file)?.ok_or("a file is open")?;
-    assert_eq!(rt; found.file, FileId::B);
-    assert_eq!(rt; found.generation, 2);
-    assert_eq!(rt; found.text, MASQUERADE.as_slice());
-    assert_eq!(rt; found.sessions.as_slice(), [QUERY].as_slice());
-    assert_eq!(rt; found.end, 172);
+    let file = loaded(rt.alloc(), &NEWER)?;
+    let found = found(rt.alloc(), &FRESH, &file)?;
+    assert!(rt; place_of(&found) == (FileId::B, 2, 39, 172));
+    assert!(rt; found.text == MASQUERADE.as_slice());
+    assert!(rt; found.sessions.as_slice() == [QUERY].as_slice());
     Ok(())
 }
 
 #[test]
 fn closed_files(rt: HostRuntime) -> Result<(), Fail> {
-    let alloc = rt.alloc();
-    let file = loaded(alloc, &FRESH)?;
-    assert_eq!(rt; outcome(alloc, b"", b""), b'-');
-    assert_eq!(rt; outcome(alloc, b"\x02NGW1", b"\0"), b'-');
-    assert_eq!(rt; outcome(alloc, b"\x02NGW1", &FRESH), b'0');
-    // The closed gate of the fresh file stands where the group would begin.
-    assert_eq!(rt; outcome(alloc, &file, b""), b'0');
-    // One generation.
-    assert_eq!(rt; outcome(alloc, &FRESH, &FRESH), b'D');
+    let file = loaded(rt.alloc(), &FRESH)?;
+    let rows: [(&[u8], &[u8], u8); 5] = [
+        (b"", b"", b'-'),
+        (b"\x02NGW1", b"\0", b'-'),
+        (b"\x02NGW1", &FRESH, b'0'),
+        // The closed gate of the fresh file stands where the group would begin.
+        (&file, b"", b'0'),
+        // One generation.
+        (&FRESH, &FRESH, b'D'),
+    ];
+    for (a, b, expected) in rows {
+        assert_eq!(rt; outcome(rt.alloc(), a, b), expected);
+    }
     Ok(())
 }
 
 #[test]
 fn one_more_group(rt: HostRuntime) -> Result<(), Fail> {
-    let alloc = rt.alloc();
-    let tcp = Flow {
-        proto: Proto::Tcp,
-        ..FLOW
-    };
-    assert_eq!(rt;
-        outcome(alloc, &followed(alloc, &seen_code(&FLOW, 1))?, b""),
-        b'1'
-    );
-    assert_eq!(rt;
-        outcome(alloc, &followed(alloc, &seen_code(&FLOW, 2))?, b""),
-        b'D'
-    );
-    assert_eq!(rt;
-        outcome(alloc, &followed(alloc, &seen_code(&tcp, 1))?, b""),
-        b'D'
-    );
-    assert_eq!(rt;
-        outcome(
-            alloc,
-            &followed(alloc, &restart_code(&FLOW, Opener::Remote, 0))?,
-            b""
-        ),
-        b'1'
-    );
-    assert_eq!(rt;
-        outcome(alloc, &followed(alloc, &end_code(&FLOW))?, b""),
-        b'0'
-    );
-    assert_eq!(rt;
-        outcome(alloc, &followed(alloc, &end_code(&tcp))?, b""),
-        b'D'
-    );
-    assert_eq!(rt;
-        outcome(alloc, &followed(alloc, &begin_code(&QUERY))?, b""),
-        b'D'
-    );
-    assert_eq!(rt;
-        outcome(alloc, &followed(alloc, b"\x01\0\0\0\0")?, b""),
-        b'1'
-    );
-    assert_eq!(rt; outcome(alloc, &followed(alloc, b"")?, b""), b'1');
-    assert_eq!(rt; outcome(alloc, &followed(alloc, b"\x06")?, b""), b'D');
+    let restart = restart_code(&FLOW, Opener::Remote, 0);
+    let begin = begin_code(&QUERY);
+    let rows: [(&[u8], u8); 5] = [
+        (&restart, b'1'),
+        (&begin, b'D'),
+        (b"\x01\0\0\0\0", b'1'),
+        (b"", b'1'),
+        (b"\x06", b'D'),
+    ];
+    for (entry, expected) in rows {
+        assert_eq!(rt; outcome_behind(rt.alloc(), entry)?, expected);
+    }
+    Ok(())
+}
+
+#[test]
+fn one_more_group_of_seen(rt: HostRuntime) -> Result<(), Fail> {
+    for (flow, seen, expected) in [(FLOW, 1, b'1'), (FLOW, 2, b'D'), (TCP, 1, b'D')] {
+        let entry = seen_code(&flow, seen);
+        assert_eq!(rt; outcome_behind(rt.alloc(), &entry)?, expected);
+    }
+    Ok(())
+}
+
+#[test]
+fn one_more_group_of_end(rt: HostRuntime) -> Result<(), Fail> {
+    for (flow, expected) in [(FLOW, b'0'), (TCP, b'D')] {
+        let entry = end_code(&flow);
+        assert_eq!(rt; outcome_behind(rt.alloc(), &entry)?, expected);
+    }
     Ok(())
 }
 
@@ -275,24 +303,41 @@ const TURNED_OLDER: [(usize, u8); 9] = [
     (1, b'1'), // whatever gate stands behind the snapshot
 ];
 
+// The newer file alone, with the highest bit of one byte turned.
+fn outcome_turned(alloc: Global, newer: &[u8], place: usize) -> Result<u8, AllocError> {
+    let newer = turned(alloc, newer, place)?;
+    Ok(outcome(alloc, &newer, b""))
+}
+
+// The files with the highest bit of one byte of the older one turned.
+fn outcome_older_turned(alloc: Global, newer: &[u8], place: usize) -> Result<u8, AllocError> {
+    let older = turned(alloc, &FRESH, place)?;
+    Ok(outcome(alloc, newer, &older))
+}
+
 #[test]
 fn each_byte_turned(rt: HostRuntime) -> Result<(), Fail> {
-    let alloc = rt.alloc();
-    let newer = loaded(alloc, &NEWER)?;
+    let newer = loaded(rt.alloc(), &NEWER)?;
     let mut place: usize = 0;
     for (count, wanted) in &TURNED_ACTIVE {
         for _ in 0..*count {
-            let came = outcome(alloc, &turned(alloc, &newer, place)?, b"");
+            let came = outcome_turned(rt.alloc(), &newer, place)?;
             assert_eq!(rt; came, *wanted, "place {place}");
             place = place.saturating_add(1);
         }
     }
     assert_eq!(rt; place, newer.len());
+    Ok(())
+}
+
+#[test]
+fn each_byte_of_the_older_file_turned(rt: HostRuntime) -> Result<(), Fail> {
+    let newer = loaded(rt.alloc(), &NEWER)?;
     let mut place: usize = 0;
     for (count, wanted) in &TURNED_OLDER {
         for _ in 0..*count {
-            let came = outcome(alloc, &newer, &turned(alloc, &FRESH, place)?);
-            assert_eq!(rt; came, *wanted, "place {place} of the older file");
+            let came = outcome_older_turned(rt.alloc(), &newer, place)?;
+            assert_eq!(rt; came, *wanted, "place {place}");
             place = place.saturating_add(1);
         }
     }
@@ -300,21 +345,44 @@ fn each_byte_turned(rt: HostRuntime) -> Result<(), Fail> {
     Ok(())
 }
 
+// The first file cut at this place, and the fresh one.
+fn outcome_cut(alloc: Global, newer: &[u8], place: usize) -> Result<u8, AllocError> {
+    let newer = cut(alloc, newer, place)?;
+    Ok(outcome(alloc, &newer, &FRESH))
+}
+
 #[test]
 fn each_cut(rt: HostRuntime) -> Result<(), Fail> {
-    let alloc = rt.alloc();
-    let newer = loaded(alloc, &NEWER)?;
-    assert_eq!(rt; outcome(alloc, &cut(alloc, &newer, 0)?, &FRESH), b'0');
-    for place in 1..newer.len() {
-        let came = outcome(alloc, &cut(alloc, &newer, place)?, &FRESH);
-        assert_eq!(rt; came, b'D', "cut at {place}");
+    let newer = loaded(rt.alloc(), &NEWER)?;
+    for place in 0..newer.len() {
+        let wanted = if place == 0 { b'0' } else { b'D' };
+        assert_eq!(rt;
+            outcome_cut(rt.alloc(), &newer, place)?,
+            wanted,
+            "cut at {place}"
+        );
     }
-    assert_eq!(rt; outcome(alloc, &newer, b""), b'1');
-    // Cut at 39 it ends with its snapshot, and has no gate behind it.
+    assert_eq!(rt; outcome(rt.alloc(), &newer, b""), b'1');
+    assert_eq!(rt; outcome(rt.alloc(), &newer, &FRESH), b'1');
+    Ok(())
+}
+
+// The first file, and the fresh one cut at this place.
+fn outcome_older_cut(alloc: Global, newer: &[u8], place: usize) -> Result<u8, AllocError> {
+    let older = cut(alloc, &FRESH, place)?;
+    Ok(outcome(alloc, newer, &older))
+}
+
+// Cut at 39 it ends with its snapshot, and has no gate behind it.
+#[test]
+fn each_cut_of_the_older_file(rt: HostRuntime) -> Result<(), Fail> {
+    let newer = loaded(rt.alloc(), &NEWER)?;
     for place in 1..FRESH.len() {
-        let came = outcome(alloc, &newer, &cut(alloc, &FRESH, place)?);
-        assert_eq!(rt; came, b'D', "older one cut at {place}");
+        assert_eq!(rt;
+            outcome_older_cut(rt.alloc(), &newer, place)?,
+            b'D',
+            "cut at {place}"
+        );
     }
-    assert_eq!(rt; outcome(alloc, &newer, &FRESH), b'1');
     Ok(())
 }
