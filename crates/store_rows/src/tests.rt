@@ -102,10 +102,13 @@ fn open(alloc: Global, disk: Trial, bounds: &Bounds) -> Result<Opened<Trial>, (T
     Store::open(alloc, disk, bounds)
 }
 
+// A store that was opened. It lies behind a box, so that a test lets it go by one call.
+type Found = Box<Opened<Trial>>;
+
 // Opens it, where nothing is to fail.
-fn opened(alloc: Global, disk: Trial, bounds: &Bounds) -> Result<Opened<Trial>, Fail> {
+fn opened(alloc: Global, disk: Trial, bounds: &Bounds) -> Result<Found, Fail> {
     match open(alloc, disk, bounds) {
-        Ok(opened) => Ok(opened),
+        Ok(opened) => Ok(Box::new(alloc, opened)?),
         Err((_, fault)) => Err(fault.into()),
     }
 }
@@ -149,12 +152,11 @@ fn compact(alloc: Global, store: &mut Store<Trial>) -> Came {
     }
 }
 
-// Looks at the bytes of both files, and whether each call was within its file.
-fn look(rt: &impl Abort, alloc: Global, disk: &mut Trial, a: &[u8], b: &[u8]) -> Result<(), Fail> {
-    assert_eq!(rt; disk.bytes(alloc, FileId::A)?.as_slice(), a);
-    assert_eq!(rt; disk.bytes(alloc, FileId::B)?.as_slice(), b);
-    assert!(rt; !disk.has_strayed());
-    Ok(())
+// Whether each call was within its file, and these are the bytes of both.
+fn holds(alloc: Global, disk: &mut Trial, a: &[u8], b: &[u8]) -> Result<bool, Fail> {
+    let is_first = disk.bytes(alloc, FileId::A)?.as_slice() == a;
+    let is_second = disk.bytes(alloc, FileId::B)?.as_slice() == b;
+    Ok(is_first && is_second && !disk.has_strayed())
 }
 
 // How much of loading the text with the session, and then ending the session, leads to this state, if some of it does.
@@ -173,25 +175,30 @@ fn reached(opened: &Opened<Trial>) -> Option<u8> {
 }
 
 // Opens a file A with these bytes.
-fn started(alloc: Global, file: &[u8]) -> Result<Opened<Trial>, Fail> {
+fn started(alloc: Global, file: &[u8]) -> Result<Found, Fail> {
     let disk = Trial::of(alloc, file, b"")?;
     opened(alloc, disk, &bounds(alloc, "wan")?)
 }
 
-// Looks at the places of the active file, and gives the disk back.
-fn closed(rt: &impl Abort, store: Store<Trial>, grown: u64, end: u64) -> Trial {
-    assert_eq!(rt; store.grown(), grown);
-    assert_eq!(rt; store.end(), end);
-    store.into_disk()
+// How far the active file has grown, and where it ends.
+fn places(found: &Found) -> (u64, u64) {
+    (found.store.grown(), found.store.end())
+}
+
+// Looks at the bytes of both files, and gives the disk back.
+fn left(rt: &impl Abort, alloc: Global, found: Found, a: &[u8], b: &[u8]) -> Result<Trial, Fail> {
+    let mut disk = Box::into_inner(found).store.into_disk();
+    assert!(rt; holds(alloc, &mut disk, a, b)?);
+    Ok(disk)
 }
 
 #[test]
 fn fresh(rt: HostRuntime) -> Result<(), Fail> {
-    let alloc = rt.alloc();
-    let found = started(alloc, b"")?;
-    assert_eq!(rt; reached(&found), Some(0));
-    let mut disk = closed(&rt, found.store, 0, 39);
-    look(&rt, alloc, &mut disk, &FRESH, b"")
+    let found = started(rt.alloc(), b"")?;
+    assert!(rt; reached(&found) == Some(0));
+    assert!(rt; places(&found) == (0, 39));
+    let _ = left(&rt, rt.alloc(), found, &FRESH, b"")?;
+    Ok(())
 }
 
 // The bytes of a file with a group in which the text is loaded and the session begins.
@@ -205,15 +212,27 @@ fn with_group(alloc: Global) -> Result<Vec<u8>, AllocError> {
 }
 
 #[test]
-fn group(rt: HostRuntime) -> Result<(), Fail> {
-    let alloc = rt.alloc();
-    let file = with_group(alloc)?;
-    assert_eq!(rt; file.len(), 173);
+fn length_of_a_group(rt: HostRuntime) -> Result<(), Fail> {
+    assert_eq!(rt; with_group(rt.alloc())?.len(), 173);
+    Ok(())
+}
+
+// A store whose one group loads the text and begins the session.
+fn grown(alloc: Global) -> Result<(Found, Came), Fail> {
     let group = loaded(alloc)?;
-    let mut store = started(alloc, b"")?.store;
-    assert_eq!(rt; commit(&mut store, &group), Came::Through);
-    let mut disk = closed(&rt, store, 133, 172);
-    look(&rt, alloc, &mut disk, &file, b"")
+    let mut found = started(alloc, b"")?;
+    let came = commit(&mut found.store, &group);
+    Ok((found, came))
+}
+
+#[test]
+fn group(rt: HostRuntime) -> Result<(), Fail> {
+    let (found, came) = grown(rt.alloc())?;
+    assert!(rt; came == Came::Through);
+    assert!(rt; places(&found) == (133, 172));
+    let file = with_group(rt.alloc())?;
+    let _ = left(&rt, rt.alloc(), found, &file, b"")?;
+    Ok(())
 }
 
 // The bytes of a file with the text and the session as its snapshot.
@@ -227,50 +246,66 @@ fn with_snapshot(alloc: Global) -> Result<Vec<u8>, AllocError> {
 }
 
 #[test]
-fn compacted(rt: HostRuntime) -> Result<(), Fail> {
-    let alloc = rt.alloc();
-    let older = with_group(alloc)?;
-    let newer = with_snapshot(alloc)?;
-    assert_eq!(rt; newer.len(), 162);
-    let mut store = started(alloc, &older)?.store;
-    assert_eq!(rt; compact(alloc, &mut store), Came::Through);
-    let mut disk = closed(&rt, store, 0, 161);
-    look(&rt, alloc, &mut disk, &older, &newer)?;
-    let found = opened(alloc, disk, &bounds(alloc, "wan")?)?;
-    assert_eq!(rt; reached(&found), Some(1));
-    let _ = closed(&rt, found.store, 0, 161);
+fn length_of_a_snapshot(rt: HostRuntime) -> Result<(), Fail> {
+    assert_eq!(rt; with_snapshot(rt.alloc())?.len(), 162);
     Ok(())
 }
 
-// Opens a store that is refused.
-fn refused(alloc: Global, a: &[u8], bounds: &Bounds) -> Result<(Trial, OpenFault), Fail> {
-    match open(alloc, Trial::of(alloc, a, b"")?, bounds) {
+// The disk on which a store with one group was compacted.
+fn compacted_disk(rt: &impl Abort, alloc: Global) -> Result<Trial, Fail> {
+    let older = with_group(alloc)?;
+    let newer = with_snapshot(alloc)?;
+    let mut found = started(alloc, &older)?;
+    assert!(rt; compact(alloc, &mut found.store) == Came::Through);
+    assert!(rt; places(&found) == (0, 161));
+    left(rt, alloc, found, &older, &newer)
+}
+
+// Opens the store again: the text is loaded, the session has begun, and these are the places.
+fn comes_back(rt: &impl Abort, alloc: Global, disk: Trial, at: (u64, u64)) -> Result<(), Fail> {
+    let found = opened(alloc, disk, &bounds(alloc, "wan")?)?;
+    assert!(rt; reached(&found) == Some(1));
+    assert!(rt; places(&found) == at);
+    Ok(())
+}
+
+#[test]
+fn compacted(rt: HostRuntime) -> Result<(), Fail> {
+    let disk = compacted_disk(&rt, rt.alloc())?;
+    comes_back(&rt, rt.alloc(), disk, (0, 161))
+}
+
+// Opens a store that is refused, and looks at the files.
+fn refused(
+    rt: &impl Abort,
+    alloc: Global,
+    file: &[u8],
+    wan: &str,
+    expected: OpenFault,
+) -> Result<Trial, Fail> {
+    match open(alloc, Trial::of(alloc, file, b"")?, &bounds(alloc, wan)?) {
         Ok(_) => Err(Fail::new("it was opened")),
-        Err(refused) => Ok(refused),
+        Err((mut disk, fault)) => {
+            assert!(rt; fault == expected);
+            assert!(rt; holds(alloc, &mut disk, file, b"")?);
+            Ok(disk)
+        }
     }
 }
 
 #[test]
 fn other_name(rt: HostRuntime) -> Result<(), Fail> {
-    let alloc = rt.alloc();
-    let file = with_group(alloc)?;
-    let (mut disk, fault) = refused(alloc, &file, &bounds(alloc, "dsl")?)?;
-    assert_eq!(rt; fault, OpenFault::ConfigDiffers);
-    look(&rt, alloc, &mut disk, &file, b"")?;
-    let found = opened(alloc, disk, &bounds(alloc, "wan")?)?;
-    assert_eq!(rt; reached(&found), Some(1));
-    let _ = closed(&rt, found.store, 133, 172);
-    Ok(())
+    let file = with_group(rt.alloc())?;
+    let disk = refused(&rt, rt.alloc(), &file, "dsl", OpenFault::ConfigDiffers)?;
+    comes_back(&rt, rt.alloc(), disk, (133, 172))
 }
 
 #[test]
 fn other_mark(rt: HostRuntime) -> Result<(), Fail> {
-    let alloc = rt.alloc();
     let mut file = FRESH;
     file[1] = b'M';
-    let (mut disk, fault) = refused(alloc, &file, &bounds(alloc, "wan")?)?;
-    assert_eq!(rt; fault, OpenFault::Damaged);
-    look(&rt, alloc, &mut disk, &file, b"")
+    let _ = refused(&rt, rt.alloc(), &file, "wan", OpenFault::Damaged)?;
+    Ok(())
 }
 
 /// What the script needs.
@@ -281,12 +316,13 @@ struct Script {
     ended: Group,
 }
 
-fn make_script(alloc: Global) -> Result<Script, AllocError> {
-    Ok(Script {
+fn make_script(alloc: Global) -> Result<Box<Script>, AllocError> {
+    let script = Script {
         bounds: bounds(alloc, "wan")?,
         loaded: loaded(alloc)?,
         ended: ended(alloc)?,
-    })
+    };
+    Ok(Box::new(alloc, script)?)
 }
 
 // Commits the one group, compacts, and commits the other, up to the first fault; and how many commits were acknowledged.
@@ -349,17 +385,21 @@ fn expected(call: u64) -> (Came, u8) {
     }
 }
 
+// Such a call fails, and later ones pass.
+fn fail(rt: &impl Abort, alloc: Global, script: &Script, call: u64) -> Result<(), Fail> {
+    let mut disk = Trial::of(alloc, b"", b"")?;
+    disk.fail_once(call);
+    let (disk, came, acknowledged) = run(alloc, disk, script);
+    assert!(rt; (came, acknowledged) == expected(call), "call {call}");
+    assert!(rt; disk.failures() == 1, "call {call}");
+    check(rt, alloc, disk, script, acknowledged)
+}
+
 #[test]
 fn each_fault(rt: HostRuntime) -> Result<(), Fail> {
-    let alloc = rt.alloc();
-    let script = make_script(alloc)?;
+    let script = make_script(rt.alloc())?;
     for call in 0..CALLS {
-        let mut disk = Trial::of(alloc, b"", b"")?;
-        disk.fail_once(call);
-        let (disk, came, acknowledged) = run(alloc, disk, &script);
-        assert_eq!(rt; (came, acknowledged), expected(call), "call {call}");
-        assert_eq!(rt; disk.failures(), 1, "call {call}");
-        check(&rt, alloc, disk, &script, acknowledged)?;
+        fail(&rt, rt.alloc(), &script, call)?;
     }
     Ok(())
 }
@@ -377,7 +417,7 @@ fn reopen(rt: &impl Abort, alloc: Global, disk: Trial, bounds: &Bounds) -> Trial
     match open(alloc, disk, bounds) {
         Ok(opened) => opened.store.into_disk(),
         Err((disk, fault)) => {
-            assert_eq!(rt; fault, OpenFault::Device);
+            assert!(rt; fault == OpenFault::Device);
             disk
         }
     }
@@ -388,7 +428,7 @@ fn stop(rt: &impl Abort, alloc: Global, script: &Script, stops: Stops) -> Result
     let mut disk = Trial::of(alloc, b"", b"")?;
     disk.fuse_after(stops.first);
     let (mut disk, came, acknowledged) = run(alloc, disk, script);
-    assert_eq!(rt; (came, acknowledged), expected(stops.first), "{stops:?}");
+    assert!(rt; (came, acknowledged) == expected(stops.first), "{stops:?}");
     disk.crash(stops.choice)?;
     disk.fuse_after(stops.second);
     let mut disk = reopen(rt, alloc, disk, &script.bounds);
@@ -403,16 +443,12 @@ fn each_stop(rt: HostRuntime) -> Result<(), Fail> {
     for first in 0..=CALLS {
         for second in 0..=12 {
             for choice in [0, 1, 2, 3, 5, 10] {
-                stop(
-                    &rt,
-                    alloc,
-                    &script,
-                    Stops {
-                        first,
-                        second,
-                        choice,
-                    },
-                )?;
+                let stops = Stops {
+                    first,
+                    second,
+                    choice,
+                };
+                stop(&rt, alloc, &script, stops)?;
             }
         }
     }
