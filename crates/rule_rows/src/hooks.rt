@@ -59,9 +59,17 @@ fn bounds(alloc: Global) -> Result<Bounds, Fail> {
     Ok(Bounds::new(lan, wan, prefixes, EXTERNAL)?)
 }
 
-fn rules(alloc: Global, text: &[u8]) -> Result<Rules, Fail> {
-    let loaded = load(alloc, parse(alloc, text)?, &bounds(alloc)?)?;
-    Ok(Rules::of(alloc, loaded)?)
+// Rules, and the configuration that they were loaded for. They lie behind a box, so that a test lets them go by one call.
+#[derive(Drop)]
+struct Loaded {
+    rules: Rules,
+    bounds: Bounds,
+}
+
+fn rules_of(alloc: Global, text: &[u8]) -> Result<Box<Loaded>, Fail> {
+    let bounds = bounds(alloc)?;
+    let rules = Rules::of(alloc, load(alloc, parse(alloc, text)?, &bounds)?)?;
+    Ok(Box::new(alloc, Loaded { rules, bounds })?)
 }
 
 fn at(addr: u32, port: u16) -> Endpoint {
@@ -94,8 +102,8 @@ fn inward(port: u16) -> Facts {
 
 fn filtered(alloc: Global, chains: &str, facts: &Facts) -> Result<Forwarding, Fail> {
     let text = format!(in alloc; "table ip f {{ {chains} }}")?;
-    let rules = rules(alloc, text.as_bytes())?;
-    Ok(forward(&rules, &bounds(alloc)?, facts))
+    let loaded = rules_of(alloc, text.as_bytes())?;
+    Ok(forward(&loaded.rules, &loaded.bounds, facts))
 }
 
 const ROWS: [(&str, u16, Forwarding); 8] = [
@@ -203,58 +211,108 @@ fn matches(rt: HostRuntime) -> Result<(), Fail> {
     Ok(())
 }
 
-#[test]
-fn translations(rt: HostRuntime) -> Result<(), Fail> {
-    let text = "
-    table ip late {
-        chain pre { type nat hook prerouting priority 10; dnat to 192.168.1.3; }
-        chain post { type nat hook postrouting priority srcnat; ip saddr 192.168.1.2 masquerade; }
+const TRANSLATIONS: &[u8] = b"
+table ip late {
+    chain pre { type nat hook prerouting priority 10; dnat to 192.168.1.3; }
+    chain post { type nat hook postrouting priority srcnat; ip saddr 192.168.1.2 masquerade; }
+}
+table ip early {
+    chain pre {
+        type nat hook prerouting priority dstnat;
+        udp dport 443 drop;
+        udp dport 80 dnat to 192.168.1.2:8080;
+        udp dport 81 oifname != lan0 accept;
+        udp dport 82 jump own;
     }
-    table ip early {
-        chain pre {
-            type nat hook prerouting priority dstnat;
-            udp dport 443 drop;
-            udp dport 80 dnat to 192.168.1.2:8080;
-            udp dport 81 oifname != lan0 accept;
-            udp dport 82 jump own;
-        }
-        chain own { dnat to 192.168.1.4; }
-        chain post { type nat hook postrouting priority srcnat; ip saddr 192.168.1.3 snat to 203.0.113.1; drop; }
-    }";
-    let bounds = bounds(rt.alloc())?;
-    let rules = rules(rt.alloc(), text.as_bytes())?;
-    assert_eq!(rt;
-        prerouting(&rules, &bounds, &inward(443)),
-        Destination::Drop
-    );
-    assert_eq!(rt;
-        prerouting(&rules, &bounds, &inward(80)),
-        Destination::To(at(0xc0a80102, 8080))
-    );
-    assert_eq!(rt;
-        prerouting(&rules, &bounds, &inward(81)),
-        Destination::To(at(0xc0a80103, 81))
-    );
-    assert_eq!(rt;
-        prerouting(&rules, &bounds, &inward(82)),
-        Destination::To(at(0xc0a80104, 82))
-    );
-    assert_eq!(rt;
-        postrouting(&rules, &bounds, &outward(53)),
-        Source::From(EXTERNAL)
-    );
-    let mut other = outward(53);
-    other.src.addr = 0xc0a80103;
-    assert_eq!(rt;
-        postrouting(&rules, &bounds, &other),
-        Source::From(EXTERNAL)
-    );
-    other.src.addr = 0xc0a80104;
-    assert_eq!(rt; postrouting(&rules, &bounds, &other), Source::Drop);
-    assert_eq!(rt; forward(&rules, &bounds, &other), Forwarding::Pass);
-    let none = self::rules(rt.alloc(), b"")?;
-    assert_eq!(rt; prerouting(&none, &bounds, &inward(80)), Destination::None);
-    assert_eq!(rt; postrouting(&none, &bounds, &other), Source::None);
+    chain own { dnat to 192.168.1.4; }
+    chain post { type nat hook postrouting priority srcnat; ip saddr 192.168.1.3 snat to 203.0.113.1; drop; }
+}";
+
+const NEIGHBOUR: u32 = 0xc0a80103;
+
+const STRANGER: u32 = 0xc0a80104;
+
+// What a packet to the external address comes to, by its port.
+const DESTINATIONS: [(u16, Destination); 4] = [
+    (443, Destination::Drop),
+    (
+        80,
+        Destination::To(Endpoint {
+            addr: HOST,
+            port: 8080,
+        }),
+    ),
+    (
+        81,
+        Destination::To(Endpoint {
+            addr: NEIGHBOUR,
+            port: 81,
+        }),
+    ),
+    (
+        82,
+        Destination::To(Endpoint {
+            addr: STRANGER,
+            port: 82,
+        }),
+    ),
+];
+
+fn destination(loaded: &Loaded, port: u16) -> Destination {
+    prerouting(&loaded.rules, &loaded.bounds, &inward(port))
+}
+
+#[test]
+fn destinations(rt: HostRuntime) -> Result<(), Fail> {
+    let loaded = rules_of(rt.alloc(), TRANSLATIONS)?;
+    for (port, expected) in DESTINATIONS {
+        assert!(rt; destination(&loaded, port) == expected, "{port}");
+    }
+    Ok(())
+}
+
+// What a packet to the server comes to, by the host that it comes from.
+const SOURCES: [(u32, Source); 3] = [
+    (HOST, Source::From(EXTERNAL)),
+    (NEIGHBOUR, Source::From(EXTERNAL)),
+    (STRANGER, Source::Drop),
+];
+
+fn outward_of(host: u32) -> Facts {
+    let mut facts = outward(53);
+    facts.src.addr = host;
+    facts
+}
+
+fn source(loaded: &Loaded, host: u32) -> Source {
+    postrouting(&loaded.rules, &loaded.bounds, &outward_of(host))
+}
+
+#[test]
+fn sources(rt: HostRuntime) -> Result<(), Fail> {
+    let loaded = rules_of(rt.alloc(), TRANSLATIONS)?;
+    for (host, expected) in SOURCES {
+        assert!(rt; source(&loaded, host) == expected, "{host}");
+    }
+    Ok(())
+}
+
+fn passes(loaded: &Loaded, host: u32) -> bool {
+    forward(&loaded.rules, &loaded.bounds, &outward_of(host)) == Forwarding::Pass
+}
+
+#[test]
+fn nat_chains_do_not_filter(rt: HostRuntime) -> Result<(), Fail> {
+    let loaded = rules_of(rt.alloc(), TRANSLATIONS)?;
+    assert!(rt; passes(&loaded, STRANGER));
+    Ok(())
+}
+
+#[test]
+fn no_rules_translate_nothing(rt: HostRuntime) -> Result<(), Fail> {
+    let none = rules_of(rt.alloc(), b"")?;
+    assert!(rt; destination(&none, 80) == Destination::None);
+    assert!(rt; source(&none, STRANGER) == Source::None);
     Ok(())
 }
 
