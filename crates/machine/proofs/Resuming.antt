@@ -1,5 +1,5 @@
 -- Sessions that take their places again, one after the other.
-use Rattle.std.proofs.Common.{◌≡◌, ◌≢◌, ◌⊎◌, ℕ, suc, ◌+◌, ◌<◌, ◌≤◌, List, [], ◌∷◌, ◌++◌, length, drop, map, get_or, Option, Some, None, true, false, cond, not, append_assoc, refl, sym, ap, subst, ◌∙◌, inl, inr, arith}
+use Rattle.std.proofs.Common.{◌≡◌, ℕ, ◌<◌, ◌≤◌, List, [], ◌∷◌, ◌++◌, length, drop, map, Option, true, false, cond, not, append_assoc, refl, sym, ap, subst, ◌∙◌, inl, inr, arith}
 use Rattle.std.proofs.lemmas.Bool.{false≢true, false_from_ne_true}
 use Rattle.std.proofs.lemmas.List.{append-nil, drop_all}
 use Rattle.packet.specs.Config.{Config}
@@ -19,8 +19,8 @@ use Rattle.sessions.proofs.Sets.{below-itself, below-trans, listing-In}
 use Rattle.sessions.proofs.Stilled.{last-moved, sound-moved}
 use Rattle.hairpin.proofs.Soundness.{filter-all, other-flow}
 use Rattle.hairpin.specs.Plans.{MayBegin}
-use Rattle.durable.specs.Entering.{Durable, IsRuleset, durable}
-use Rattle.machine.specs.Core.{IsCore, state_of}
+use Rattle.durable.specs.Entering.{IsRuleset}
+use Rattle.machine.specs.Core.{IsCore}
 use Rattle.machine.specs.Flows.{Flows, IsLatest, MayJoin}
 use Rattle.machine.specs.Sound.{IsInForce}
 

@@ -1,6 +1,6 @@
 -- The entry of a change, as the table tells it.
-use Rattle.std.proofs.Common.{◌≡◌, ◌≢◌, ◌<◌, ◌≤◌, ◌+◌, arith, inr, inl, ◌++◌, is_some, ℕ, List, [], ◌∷◌, Option, Some, None, true, false, get_or, bit_or, refl, sym, ap, subst, ◌∙◌}
-use Rattle.std.proofs.lemmas.Bool.{cases_lt, false≢true}
+use Rattle.std.proofs.Common.{◌≡◌, ◌≢◌, ◌<◌, ◌≤◌, ◌+◌, arith, inr, inl, ◌++◌, ℕ, List, [], ◌∷◌, Option, Some, None, true, get_or, bit_or, refl, sym, ap, subst, ◌∙◌}
+use Rattle.std.proofs.lemmas.Bool.{cases_lt}
 use Rattle.std.proofs.lemmas.Option.{same_Some}
 use Rattle.sessions.specs.declared.session.Session.{Session}
 use Rattle.sessions.specs.Life.{IsSeen}
@@ -15,12 +15,10 @@ use Rattle.sessions.proofs.Puts.{find-is, find-none, flow-keys, has_inside-true,
 use Rattle.sessions.proofs.Sets.{Apart, Apart-sound, In-listing, Rises-listing, listing-In}
 use Rattle.sessions.proofs.Stilled.{one-of-key}
 use Rattle.hairpin.specs.Plans.{Gives, GivesThen, GiveAll, IsApart, IsOf, MayBegin}
-use Rattle.durable.specs.declared.coding.Entry as declared
 use Rattle.durable.specs.Coding.{Begin, Entry}
-use Rattle.durable.specs.Viewing.{view}
 use Rattle.machine.specs.Flows.{adds, adds_second}
 use Rattle.machine.specs.Noted.{between, noted, noted_all, noted_by}
-use Rattle.machine.specs.Notes.{bytes_of, listed}
+use Rattle.machine.specs.Notes.{bytes_of}
 use Rattle.machine.proofs.Costs.{bytes_of-one, bytes_of-two, noted-few}
 use Rattle.machine.proofs.Later.{Leads, change-leads}
 
@@ -112,14 +110,6 @@ module _ (held : List (Option Session)) (apart : Apart held) (external now : ℕ
 pub cons≢nil : (x : Entry) (xs : List Entry) → x ∷ xs ≢ []
 cons≢nil x xs e = absurd cc
 
-pub some-told : (o : Option declared.Entry) (es more : List Entry) → listed o ≡ es → is_some o ≡ true → es ++ more ≢ []
-some-told None es more e some = absurd (false≢true some)
-some-told (Some x) es more e some = λ none. absurd (cons≢nil (view x) more (ap (λ l. l ++ more) e ∙ none))
-
-pub none-told : (o : Option declared.Entry) (es : List Entry) → listed o ≡ es → is_some o ≡ false → es ≡ []
-none-told None es e none = sym e
-none-told (Some x) es e none = absurd (false≢true (sym none))
-
 some-behind : (es : List Entry) (x : Entry) (xs : List Entry) → es ++ x ∷ xs ≢ []
 some-behind [] x xs e = absurd cc
 some-behind (y ∷ ys) x xs e = absurd cc
@@ -185,6 +175,10 @@ quiet-adds held sound external now first (Some second) ts gives none =
 pub nil-unless : (es : List Entry) → (es ≢ [] → ⊥) → es ≡ []
 nil-unless [] h = refl
 nil-unless (e ∷ es) h = absurd (h (λ q. absurd cc))
+
+pub nil-before : (es more : List Entry) → es ++ more ≡ [] → es ≡ []
+nil-before [] more none = refl
+nil-before (e ∷ es) more none = absurd (cons≢nil e (es ++ more) none)
 
 -- a plan makes few bytes of entries
 pub plan-few : (external : ℕ) (held : List (Option Session)) (now : ℕ) (first : changes.Change) (second : Option changes.Change) (ts : List Session)

@@ -120,11 +120,11 @@ fn put_through<N: Notes>(
     ensures quiet { (way : Outcome Passage Reason) → Plans flows.old.translations.external flows.old.table.held now plan way
         → of_way (listing flows.old.table.held) way ≡ [] → IsOk result }
 {
-    match plan {
-        Err(cause) => Ok(drop_for(cause)),
+    match &plan {
+        Err(cause) => Ok(drop_for(*cause)),
         Ok(plan) => {
             flows.table().is_sound();
-            match flows.carry_out(ready, &plan, now, notes) {
+            match flows.carry_out(ready, plan, now, notes) {
                 Ok(()) => Ok(Answer::Forward(plan.iface, translate(bytes, plan.src, plan.dst))),
                 Err(fault) => Err((bytes, fault)),
             }

@@ -19,7 +19,7 @@ ghost use Rattle.machine.specs.Notes.{bytes_of};
 ghost use Rattle.machine.specs.Flows.{IsDue, IsLatest, IsReady, MayJoin, adds as adds_by, adds_second};
 
 use crate::notes::{Notes, StepFault};
-use crate::noting::{entry_of, flow_of, note};
+use crate::noting::{entry_of, flow_of, makes_entry, note};
 use durable::Entry;
 use hairpin::Plan;
 use hairpin::translations::Translations;
@@ -217,43 +217,47 @@ impl Flows {
     }
 
     /// Does what a change says, for which there is room.
-    fn apply(&mut self, change: Change, now: u64)
+    fn apply(&mut self, change: &Change, now: u64)
         requires latest { IsLatest self.old.table.held now }
-        requires gives { (t : Flow) × Gives self.old.translations.external self.old.table.held now change t }
-        requires ready { 0 < adds_by change → IsReady 1 self.old }
-        ensures became { (t : Flow) → Gives self.old.translations.external self.old.table.held now change t
-            → Became self.old.table.held change t self.new.table.held }
+        requires gives { (t : Flow) × Gives self.old.translations.external self.old.table.held now change.now t }
+        requires ready { 0 < adds_by change.now → IsReady 1 self.old }
+        ensures became { (t : Flow) → Gives self.old.translations.external self.old.table.held now change.now t
+            → Became self.old.table.held change.now t self.new.table.held }
         ensures latest { IsLatest self.new.table.held now }
-        ensures ready { (n : ℕ) → IsReady (n + adds_by change) self.old → IsReady n self.new }
+        ensures ready { (n : ℕ) → IsReady (n + adds_by change.now) self.old → IsReady n self.new }
         ensures external { self.new.translations.external ≡ self.old.translations.external }
     {
         match change {
-            Change::Begin(session) => self.begin(session),
-            Change::Seen(slot, bits) => self.see(slot, bits, now),
-            Change::Restart(slot, opener) => self.restart(slot, opener, now),
+            Change::Begin(session) => self.begin(*session),
+            Change::Seen(slot, bits) => self.see(*slot, *bits, now),
+            Change::Restart(slot, opener) => self.restart(*slot, *opener, now),
             Change::End(_) => unreachable!(),
         }
     }
 
     /// Does what a change says, for which there is room, and notes it.
-    fn apply_noted<N: Notes>(&mut self, change: Change, now: u64, notes: &mut N)
+    fn apply_noted<N: Notes>(&mut self, change: &Change, now: u64, notes: &mut N)
         requires latest { IsLatest self.old.table.held now }
-        requires gives { (t : Flow) × Gives self.old.translations.external self.old.table.held now change t
+        requires gives { (t : Flow) × Gives self.old.translations.external self.old.table.held now change.now t
             × (N.keeps notes.old → bytes_of (noted (listing self.old.table.held) t) ≤ N.room notes.old) }
-        requires ready { 0 < adds_by change → IsReady 1 self.old }
-        ensures became { (t : Flow) → Gives self.old.translations.external self.old.table.held now change t
-            → Became self.old.table.held change t self.new.table.held }
+        requires ready { 0 < adds_by change.now → IsReady 1 self.old }
+        ensures became { (t : Flow) → Gives self.old.translations.external self.old.table.held now change.now t
+            → Became self.old.table.held change.now t self.new.table.held }
         ensures latest { IsLatest self.new.table.held now }
-        ensures ready { (n : ℕ) → IsReady (n + adds_by change) self.old → IsReady n self.new }
+        ensures ready { (n : ℕ) → IsReady (n + adds_by change.now) self.old → IsReady n self.new }
         ensures external { self.new.translations.external ≡ self.old.translations.external }
         ensures keeps { N.keeps notes.old ↔ N.keeps notes.new }
         ensures beside { N.beside notes.new ≡ N.beside notes.old }
-        ensures noted { (t : Flow) → Gives self.old.translations.external self.old.table.held now change t → N.keeps notes.old
+        ensures noted { (t : Flow) → Gives self.old.translations.external self.old.table.held now change.now t → N.keeps notes.old
             → N.noted notes.new ≡ N.noted notes.old ++ noted (listing self.old.table.held) t }
-        ensures room { (t : Flow) → Gives self.old.translations.external self.old.table.held now change t → N.keeps notes.old
+        ensures room { (t : Flow) → Gives self.old.translations.external self.old.table.held now change.now t → N.keeps notes.old
             → N.room notes.old ≤ N.room notes.new + bytes_of (noted (listing self.old.table.held) t) }
     {
-        let entry = entry_of(&self.table, &change, now);
+        if !makes_entry(&self.table, change) {
+            self.apply(change, now);
+            return;
+        }
+        let entry = entry_of(&self.table, change, now);
         self.apply(change, now);
         note(notes, entry);
     }
@@ -273,8 +277,8 @@ impl Flows {
         ensures latest { IsLatest self.new.table.held now }
         ensures external { self.new.translations.external ≡ self.old.translations.external }
     {
-        self.apply_noted(plan.first, now, notes);
-        if let Some(second) = plan.second {
+        self.apply_noted(&plan.first, now, notes);
+        if let Some(second) = &plan.second {
             self.apply_noted(second, now, notes);
         }
     }
@@ -308,7 +312,7 @@ impl Flows {
         if ready {
             return Ok(());
         }
-        if !is_noted(&self.table, plan, now) {
+        if !is_noted(&self.table, plan) {
             return Ok(());
         }
         if adds_any(plan) && self.reserve().is_err() {
@@ -461,13 +465,13 @@ impl Flows {
 }
 
 // Whether the plan makes an entry.
-fn is_noted(table: &Table, plan: &Plan, now: u64) -> bool
-    requires { (external : ℕ) × (ts : List Flow) × GiveAll external table.now.held now plan.now.first plan.now.second ts }
-    ensures { (external : ℕ) (ts : List Flow) → GiveAll external table.now.held now plan.now.first plan.now.second ts
+fn is_noted(table: &Table, plan: &Plan) -> bool
+    requires { (external now : ℕ) × (ts : List Flow) × GiveAll external table.now.held now plan.now.first plan.now.second ts }
+    ensures { (external now : ℕ) (ts : List Flow) → GiveAll external table.now.held now plan.now.first plan.now.second ts
         → IsTrue result ↔ (noted_all ts (listing table.now.held) ≢ []) }
 {
     table.is_sound();
-    if entry_of(table, &plan.first, now).is_some() {
+    if makes_entry(table, &plan.first) {
         return true;
     }
     match &plan.second {
@@ -475,7 +479,7 @@ fn is_noted(table: &Table, plan: &Plan, now: u64) -> bool
             if adds(second) > 0 {
                 return true;
             }
-            entry_of(table, second, now).is_some()
+            makes_entry(table, second)
         }
         None => false,
     }

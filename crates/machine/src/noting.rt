@@ -1,5 +1,5 @@
 //! The entries by which a change of a session is noted.
-ghost use Rattle.std.specs.Prelude.{◌≡◌, ◌↔◌, ◌+◌, ◌^◌, ◌<◌, ◌≤◌, ◌++◌, ℕ, List};
+ghost use Rattle.std.specs.Prelude.{◌≡◌, ◌≢◌, ◌↔◌, ◌+◌, ◌^◌, ◌<◌, ◌≤◌, ◌++◌, [], ℕ, List, IsTrue};
 ghost use Rattle.durable.specs.Coding.{AreEntries, IsEndpoint, IsFlow, IsSession};
 ghost use Rattle.durable.specs.Entering.{flow_of as flow_in};
 ghost use Rattle.hairpin.specs.Plans.{Gives};
@@ -9,11 +9,12 @@ ghost use Rattle.sessions.specs.Life.{IsSeen};
 ghost use Rattle.sessions.specs.Listing.{listing};
 ghost use Rattle.sessions.specs.declared.session.Session.{Session as Flowing};
 ghost use Rattle.sessions.specs.Stilled.{stilled as without_moment};
+ghost use Rattle.sessions.specs.Table.{restarted, seen as seen_with};
 
 use crate::notes::Notes;
 use durable::{Entry, Flow};
 use packet::endpoint::Endpoint;
-use sessions::{Change, Session, Table};
+use sessions::{Change, Opener, Session, Table};
 
 fn address_fits(address: u32)
     ensures { address < 2 ^ 32 }
@@ -73,6 +74,41 @@ pub fn between(old: &Session, new: &Session) -> Option<Entry<'static>>
         return Some(Entry::Seen(flow_of(new), new.seen));
     }
     Some(Entry::Restart(flow_of(new), new.opener, new.seen))
+}
+
+// Whether more was seen of the session, with these bits.
+fn shows_more(session: &Session, bits: u8) -> bool
+    ensures { (now : ℕ) → IsTrue result ↔ (entries_between session.now (seen_with session.now bits now) ≢ []) }
+{
+    session.seen | bits != session.seen
+}
+
+// Whether the session isn't as one that begins from this side.
+fn begins_anew(session: &Session, opener: Opener) -> bool
+    ensures { (now : ℕ) → IsTrue result ↔ (entries_between session.now (restarted session.now opener now) ≢ []) }
+{
+    session.opener != opener || session.seen != 0
+}
+
+/// Whether a change of a session makes an entry; the table is that before the change.
+pub fn makes_entry(table: &Table, change: &Change) -> bool
+    requires { (external now : ℕ) × (t : Flowing) × Gives external table.now.held now change.now t }
+    ensures { (external now : ℕ) (t : Flowing) → Gives external table.now.held now change.now t
+        → IsTrue result ↔ (noted (listing table.now.held) t ≢ []) }
+{
+    table.is_sound();
+    match change {
+        Change::Begin(_) => true,
+        Change::Seen(slot, bits) => match table.get(*slot) {
+            Some(session) => shows_more(&session, *bits),
+            None => false,
+        },
+        Change::Restart(slot, opener) => match table.get(*slot) {
+            Some(session) => begins_anew(&session, *opener),
+            None => false,
+        },
+        Change::End(_) => false,
+    }
 }
 
 /// The entry that a change of a session makes, if it makes one; the table is that before the change.

@@ -21,7 +21,7 @@ returns-then-not-is_noted-clause-ready g c = λ some.
     let second = c.args.plan.now.second in
     let ts = c.requires.give.0 in
     let give = rw (← c.self.view_is) at c.requires.give.1 in
-    let none : noted_all ts (listing held) ≡ [] = nil-unless (noted_all ts (listing held)) (λ away. false≢true (sym c.if-not-is_noted.true ∙ (c.is_noted.ensures external ts give).1 away)) in
+    let none : noted_all ts (listing held) ≡ [] = nil-unless (noted_all ts (listing held)) (λ away. false≢true (sym c.if-not-is_noted.true ∙ (c.is_noted.ensures external c.args.now ts give).1 away)) in
     absurd (omega (arith, some, quiet-adds held c.is_sound.ensures external c.args.now first second ts give none))
 
 pub returns-clause-room : goal.returns-clause-room

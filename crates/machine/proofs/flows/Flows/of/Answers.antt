@@ -1,4 +1,4 @@
-use Rattle.std.proofs.Common.{◌++◌, ◌+◌, drop, get_or, map, ap, ◌∙◌, subst, arith}
+use Rattle.std.proofs.Common.{◌++◌, ◌+◌, drop, get_or, map, ap, ◌∙◌, subst}
 use Rattle.std.proofs.lemmas.List.{drop_more}
 use Rattle.sessions.specs.Stilled.{moved}
 use Rattle.hairpin.proofs.Beginning.{listing-none}
