@@ -10,10 +10,10 @@ pub struct Plan {
     pub first: Change,
     /// Of a hairpin, what becomes of the session that it comes in by, once `first` is made.
     pub second: Option<Change>,
+    /// The interface that it leaves on.
+    pub iface: Iface,
     /// The source that it leaves with.
     pub src: Endpoint,
     /// The destination that it leaves with.
     pub dst: Endpoint,
-    /// The interface that it leaves on.
-    pub iface: Iface,
 }

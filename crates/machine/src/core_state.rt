@@ -94,7 +94,7 @@ fn translate(bytes: Bytes, src: Endpoint, dst: Endpoint) -> Bytes
 fn put_through<N: Notes>(
     flows: &mut Flows,
     ready: bool,
-    plan: Result<Plan, Cause>,
+    plan: &Result<Plan, Cause>,
     bytes: Bytes,
     now: u64,
     notes: &mut N,
@@ -103,24 +103,24 @@ fn put_through<N: Notes>(
     requires latest { IsLatest flows.old.table.held now }
     requires ready { IsTrue ready → IsReady 2 flows.old }
     requires room { IsTrue ready → N.keeps notes.old → 44 ≤ N.room notes.old }
-    requires planned { (way : Outcome Passage Reason) × Plans flows.old.translations.external flows.old.table.held now plan way }
-    ensures ok { IfOk result (λ answer. (way : Outcome Passage Reason) → Plans flows.old.translations.external flows.old.table.held now plan way
+    requires planned { (way : Outcome Passage Reason) × Plans flows.old.translations.external flows.old.table.held now plan.now way }
+    ensures ok { IfOk result (λ answer. (way : Outcome Passage Reason) → Plans flows.old.translations.external flows.old.table.held now plan.now way
         → Leads (λ s. sent s bytes way) flows.old.table.held flows.new.table.held now answer) }
     ensures err { IfErr result (λ e. (e.0 ≡ bytes) × (flows.new.table.held ≡ flows.old.table.held)) }
     ensures external { flows.new.translations.external ≡ flows.old.translations.external }
     ensures ready { IsTrue ready → IsOk result }
-    ensures adds_none { (way : Outcome Passage Reason) → Plans flows.old.translations.external flows.old.table.held now plan way
+    ensures adds_none { (way : Outcome Passage Reason) → Plans flows.old.translations.external flows.old.table.held now plan.now way
         → LeadsFew (λ s. sent s bytes way) flows.old.table.held now → N.grants notes.old → IsOk result }
     ensures keeps { N.keeps notes.old ↔ N.keeps notes.new }
     ensures beside { N.beside notes.new ≡ N.beside notes.old }
-    ensures noted { OnOk result ((way : Outcome Passage Reason) → Plans flows.old.translations.external flows.old.table.held now plan way
+    ensures noted { OnOk result ((way : Outcome Passage Reason) → Plans flows.old.translations.external flows.old.table.held now plan.now way
         → N.keeps notes.old → N.noted notes.new ≡ N.noted notes.old ++ of_way (listing flows.old.table.held) way) }
     ensures err_noted { OnErr result (N.noted notes.new ≡ N.noted notes.old) }
     ensures full { IfErr result (λ e. e.1 ≡ StepFault.Full → N.too_many notes.old 44) }
-    ensures quiet { (way : Outcome Passage Reason) → Plans flows.old.translations.external flows.old.table.held now plan way
+    ensures quiet { (way : Outcome Passage Reason) → Plans flows.old.translations.external flows.old.table.held now plan.now way
         → of_way (listing flows.old.table.held) way ≡ [] → IsOk result }
 {
-    match &plan {
+    match plan {
         Err(cause) => Ok(drop_for(*cause)),
         Ok(plan) => {
             flows.table().is_sound();
@@ -132,7 +132,9 @@ fn put_through<N: Notes>(
     }
 }
 
-// The plan of a packet with these fields, on its route.
+// The plan of a packet with these fields, on its route. It is made where it then stays: taken apart and put together again,
+// as it is where this is compiled into its caller, it costs more than all that is looked up.
+#[inline(never)]
 fn plan_for(
     flows: &Flows,
     rules: &Rules,
@@ -198,7 +200,7 @@ fn pass_on<N: Notes>(
             Err(fault) => Ok(drop_for(Cause::Route(fault))),
             Ok(route) => {
                 let plan = plan_for(flows, &in_force.rules, bounds, route, &view, now);
-                put_through(flows, ready, plan, bytes, now, notes)
+                put_through(flows, ready, &plan, bytes, now, notes)
             }
         },
     }
