@@ -33,12 +33,8 @@ fn put_address(out: &mut Vec<u8>, addr: u32) -> Result<(), AllocError>
     Ok(())
 }
 
-/// Appends an endpoint, as 192.0.2.1:80.
-///
-/// # Errors
-///
-/// `AllocError` where a growth was refused. A beginning of the endpoint may have been appended then.
-pub fn put_endpoint(out: &mut Vec<u8>, endpoint: Endpoint) -> Result<(), AllocError>
+// Appends an endpoint, as 192.0.2.1:80.
+fn put_endpoint(out: &mut Vec<u8>, endpoint: Endpoint) -> Result<(), AllocError>
     ensures ok { OnOk result (out.new.items ≡ out.old.items ++ endpoint_text endpoint) }
     ensures err { OnErr result (take (length out.old.items) out.new.items ≡ out.old.items) }
 {
@@ -64,7 +60,7 @@ fn fill(out: &mut Vec<u8>, end: usize) -> Result<(), AllocError>
 ///
 /// `AllocError` where a growth was refused. A beginning of the column may have been appended then.
 #[tactic(auto, using(crate::proofs::Grown::kept_before))]
-pub fn put_column(out: &mut Vec<u8>, endpoint: Endpoint) -> Result<(), AllocError>
+pub(crate) fn put_column(out: &mut Vec<u8>, endpoint: Endpoint) -> Result<(), AllocError>
     ensures ok { OnOk result (out.new.items ≡ out.old.items ++ column endpoint) }
     ensures err { OnErr result (take (length out.old.items) out.new.items ≡ out.old.items) }
 {

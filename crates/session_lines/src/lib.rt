@@ -13,6 +13,5 @@ mod column;
 mod laws;
 mod line;
 
-pub use column::{put_column, put_endpoint};
 pub use laws::columns_are_aligned;
-pub use line::{proto_word, put_line, put_lines, state_word};
+pub use line::{put_line, put_lines};

@@ -8,8 +8,8 @@ use packet::endpoint::Proto;
 use sessions::{Phase, Session};
 use std::alloc::AllocError;
 
-/// The protocol's word: `tcp` or `udp`.
-pub fn proto_word(proto: Proto) -> &'static str
+// The protocol's word: `tcp` or `udp`.
+fn proto_word(proto: Proto) -> &'static str
     ensures { result.now ≡ proto_word proto }
 {
     match proto {
@@ -18,8 +18,8 @@ pub fn proto_word(proto: Proto) -> &'static str
     }
 }
 
-/// How far a session has come: `partial`, `established` or `closing`; `-` for UDP.
-pub fn state_word(session: &Session) -> &'static str
+// How far a session has come: `partial`, `established` or `closing`; `-` for UDP.
+fn state_word(session: &Session) -> &'static str
     ensures { result.now ≡ state_word session.now }
 {
     match session.proto {
