@@ -21,10 +21,4 @@ mod sentence;
 mod wanted;
 
 pub use laws::{marks_are_short, the_line_holds_the_place};
-pub use line::{Spot, spot_of};
-pub use mark::put_marked;
-pub use piece::{put_named, token_length};
 pub use report::explain;
-pub use search::{Found, place_of};
-pub use sentence::{right, wrong};
-pub use wanted::what_fits;

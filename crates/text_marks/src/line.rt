@@ -5,7 +5,7 @@ ghost use Rattle.text_marks.specs.Lines.{is_newline, line_front, line_number, li
 
 /// A place of a text, and the line that holds it.
 #[derive(Clone, Copy, Debug, Drop)]
-pub struct Spot<'a> {
+pub(crate) struct Spot<'a> {
     /// The number of the line, from 1.
     pub line: usize,
     /// What stands before the place in its line.
@@ -15,7 +15,7 @@ pub struct Spot<'a> {
 }
 
 /// How many newlines there are.
-pub fn newlines(bytes: &[u8]) -> usize
+pub(crate) fn newlines(bytes: &[u8]) -> usize
     ensures value { result ≡ count_by is_newline bytes.now }
     ensures few { result ≤ length bytes.now }
 {
@@ -48,7 +48,7 @@ fn first_line(bytes: &[u8]) -> &[u8]
 
 /// The line of a text that holds a place, which is at most the text's length. A newline belongs to the line that it
 /// ends.
-pub fn spot_of(text: &[u8], at: usize) -> Spot<'_>
+pub(crate) fn spot_of(text: &[u8], at: usize) -> Spot<'_>
     requires { at ≤ length text.now }
     ensures line { result.line ≡ line_number text.now at }
     ensures front { result.front.now ≡ line_front text.now at }

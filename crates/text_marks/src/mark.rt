@@ -36,7 +36,7 @@ fn under(b: u8) -> u8
 /// # Errors
 ///
 /// `AllocError` where a growth was refused. A part may have been appended then.
-pub fn put_visible(out: &mut Vec<u8>, bytes: &[u8]) -> Result<(), AllocError>
+pub(crate) fn put_visible(out: &mut Vec<u8>, bytes: &[u8]) -> Result<(), AllocError>
     ensures { OnOk result (out.new.items ≡ out.old.items ++ map visible bytes.now) }
 {
     for b in bytes {
@@ -59,7 +59,7 @@ fn put_under(out: &mut Vec<u8>, bytes: &[u8]) -> Result<(), AllocError>
 /// # Errors
 ///
 /// `AllocError` where a growth was refused.
-pub fn put_dots(out: &mut Vec<u8>, cut: bool) -> Result<(), AllocError>
+pub(crate) fn put_dots(out: &mut Vec<u8>, cut: bool) -> Result<(), AllocError>
     ensures { OnOk result (out.new.items ≡ out.old.items ++ dots_if cut) }
 {
     if cut {
@@ -129,7 +129,7 @@ fn put_marked_line(
 /// # Errors
 ///
 /// `AllocError` where a growth was refused. A part may have been appended then.
-pub fn put_marked(
+pub(crate) fn put_marked(
     alloc: Global,
     out: &mut Vec<u8>,
     text: &[u8],

@@ -83,7 +83,7 @@ fn length_from(b: u8, behind: &[u8]) -> usize
 
 /// How many bytes the token has that stands at the front of a text: a name, a number or an address, quotes with what
 /// they hold, `==` and `!=`, or one byte. No byte is left out of a token, right or wrong.
-pub fn token_length(text: &[u8]) -> usize
+pub(crate) fn token_length(text: &[u8]) -> usize
     ensures value { result ≡ token_length text.now }
     ensures some { 0 < length text.now → 0 < result }
     ensures within { result ≤ length text.now }
@@ -118,7 +118,7 @@ fn put_quoted(out: &mut Vec<u8>, token: &[u8]) -> Result<(), AllocError>
 /// # Errors
 ///
 /// `AllocError` where a growth was refused. A part may have been appended then.
-pub fn put_named(out: &mut Vec<u8>, text: &[u8]) -> Result<(), AllocError>
+pub(crate) fn put_named(out: &mut Vec<u8>, text: &[u8]) -> Result<(), AllocError>
     ensures { OnOk result (out.new.items ≡ out.old.items ++ named text.now) }
 {
     match text {

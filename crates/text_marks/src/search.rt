@@ -14,7 +14,7 @@ use std::alloc::{AllocError, Global};
 
 /// A token of a text.
 #[derive(Clone, Copy, Debug, Drop)]
-pub struct Found {
+pub(crate) struct Found {
     /// Where it begins, from 0; the text's length where the text ends there.
     pub at: usize,
     /// Where the token before it in its line ends, or its line begins.
@@ -175,7 +175,7 @@ fn token_at_fault(
 /// # Errors
 ///
 /// `AllocError` where a growth was refused.
-pub fn place_of(
+pub(crate) fn place_of(
     alloc: Global,
     text: &[u8],
     bounds: &Bounds,

@@ -2,7 +2,7 @@
 use rulesyntax::fault::Kind;
 
 /// What is wrong where a fault of this kind is.
-pub fn wrong(kind: Kind) -> &'static str {
+pub(crate) fn wrong(kind: Kind) -> &'static str {
     match kind {
         Kind::TooLong => "the first byte that is too many",
         Kind::Syntax => "which can't stand here",
@@ -26,7 +26,7 @@ pub fn wrong(kind: Kind) -> &'static str {
 
 /// What would be right in its place. For `Syntax`, `Unsupported` and `Family` this depends on the place: `what_fits`
 /// tells it.
-pub fn right(kind: Kind) -> &'static str {
+pub(crate) fn right(kind: Kind) -> &'static str {
     match kind {
         Kind::TooLong => "a text of at most 262144 bytes",
         Kind::Syntax | Kind::Unsupported | Kind::Family => "a text that goes on otherwise",

@@ -220,7 +220,7 @@ impl<'a> Probe<'a> {
 /// # Errors
 ///
 /// `AllocError` where a growth was refused.
-pub fn what_fits(alloc: Global, before: &[u8]) -> Result<Vec<u8>, AllocError> {
+pub(crate) fn what_fits(alloc: Global, before: &[u8]) -> Result<Vec<u8>, AllocError> {
     let mut probe = Probe {
         alloc,
         before,
