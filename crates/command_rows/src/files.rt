@@ -1,6 +1,6 @@
 //! What stands in the files, and the sessions that come back.
 use crate::shared::{ANSWERS, LINE, REQUESTS, SIDES, answered, fresh, opened};
-use commands::{Refusal, Sides, Stop, show};
+use commands::{Refusal, Sides, show};
 use std::fs;
 use std::test::Fail;
 
@@ -11,46 +11,59 @@ const FRESH: [u8; 40] = [
     0x00, 0x00, 0x00, 0x00, 0x00, 0x00, 0x00, 0x00,
 ];
 
-// The refusal of a directory.
-fn refused(rt: &HostRuntime, sides: &Sides<'_>, directory: &str) -> Result<Stop, Fail> {
+// Whether the directory is refused with this word and second line.
+fn is_refused(
+    rt: &HostRuntime,
+    sides: &Sides<'_>,
+    directory: &str,
+    refusal: Refusal,
+    line: &str,
+) -> bool {
     match opened(rt, sides, directory, 0) {
-        Ok(_) => Err(Fail::from(Refusal::File)),
-        Err(stop) => Ok(stop),
+        Ok(_) => false,
+        Err(stop) => stop.refusal == refusal && stop.second_line() == line,
+    }
+}
+
+const BUSY: &str = "fresh: another program works in that directory: stop it, or name another one";
+
+const OTHER_CONFIGURATION: &str =
+    "fresh: the files were written with another configuration: start natgw with --wan wan, or name another directory";
+
+const DAMAGED: &str =
+    "fresh: natgw.a holds generation 1, no session; natgw.b is no file of natgw, or one of another version: put both back from one backup, or move natgw.b away to go on with what natgw.a holds";
+
+// While one gateway holds the directory no other one does.
+fn make(rt: &HostRuntime) -> Result<bool, Fail> {
+    fresh(rt, "fresh")?;
+    let gateway = opened(rt, &SIDES, "fresh", 0)?;
+    let is_busy = is_refused(rt, &SIDES, "fresh", Refusal::File, BUSY);
+    drop(gateway);
+    Ok(is_busy)
+}
+
+// What is in a directory that isn't there is no file.
+fn is_missing(rt: &HostRuntime, directory: &str) -> bool {
+    match opened(rt, &SIDES, directory, 0) {
+        Ok(_) => false,
+        Err(stop) => stop.refusal == Refusal::File,
     }
 }
 
 #[test]
 fn files(rt: HostRuntime) -> Result<(), Fail> {
-    fresh(&rt, "fresh")?;
-    let gateway = opened(&rt, &SIDES, "fresh", 0)?;
-    let second = refused(&rt, &SIDES, "fresh")?;
-    assert_eq!(rt; second.refusal, Refusal::File);
-    assert_eq!(rt;
-        second.second_line(),
-        "fresh: another program works in that directory: stop it, or name another one"
-    );
-    drop(gateway);
+    assert!(rt; make(&rt)?);
     assert!(rt; fs::read(&rt, "fresh/natgw.a")?.as_slice() == FRESH.as_slice());
     assert!(rt; fs::read(&rt, "fresh/natgw.b")?.is_empty());
     let renamed = Sides {
         wan: "wan0",
         ..SIDES
     };
-    let stop = refused(&rt, &renamed, "fresh")?;
-    assert_eq!(rt; stop.refusal, Refusal::ConfigDiffers);
-    assert_eq!(rt;
-        stop.second_line(),
-        "fresh: the files were written with another configuration: start natgw with --wan wan, or name another directory"
-    );
+    let refusal = Refusal::ConfigDiffers;
+    assert!(rt; is_refused(&rt, &renamed, "fresh", refusal, OTHER_CONFIGURATION));
     fs::write(&rt, "fresh/natgw.b", b"\x01".as_slice())?;
-    let stop = refused(&rt, &SIDES, "fresh")?;
-    assert_eq!(rt; stop.refusal, Refusal::Damaged);
-    assert_eq!(rt;
-        stop.second_line(),
-        "fresh: natgw.a holds generation 1, no session; natgw.b is no file of natgw, or one of another version: put both back from one backup, or move natgw.b away to go on with what natgw.a holds"
-    );
-    let missing = refused(&rt, &SIDES, "fresh/none")?;
-    assert_eq!(rt; missing.refusal, Refusal::File);
+    assert!(rt; is_refused(&rt, &SIDES, "fresh", Refusal::Damaged, DAMAGED));
+    assert!(rt; is_missing(&rt, "fresh/none"));
     Ok(())
 }
 

@@ -35,107 +35,156 @@ fn refuses(ended: Result<ExitCode, Stop>, refusal: Refusal, line: &str) -> bool 
     }
 }
 
+// A command over a directory, and the refusal that it ends with.
+struct Row {
+    sides: Sides<'static>,
+    directory: &'static str,
+    work: Work<'static>,
+    refusal: Refusal,
+    line: &'static str,
+}
+
+fn is_refused(rt: &HostRuntime, row: &Row) -> bool {
+    refuses(
+        ended(rt, row.sides, row.directory, row.work),
+        row.refusal,
+        row.line,
+    )
+}
+
+const MISSING: Work<'static> = Work::Loop { path: "order/none" };
+
+const LONG: Work<'static> = Work::Loop { path: "order/long" };
+
+const FITS: Work<'static> = Work::Loop { path: "order/fits" };
+
+const SERVE: Work<'static> = Work::Serve {
+    socket: "order/natgw.sock",
+    connections: 1,
+};
+
 // Each has the faults of those behind it as well.
+const OVER_DAMAGED_FILES: [Row; 6] = [
+    Row {
+        sides: NONE,
+        directory: "order",
+        work: MISSING,
+        refusal: Refusal::Config,
+        line: "the external address",
+    },
+    Row {
+        sides: SIDES,
+        directory: "order",
+        work: MISSING,
+        refusal: Refusal::File,
+        line: "order/none can't be read",
+    },
+    Row {
+        sides: SIDES,
+        directory: "order",
+        work: LONG,
+        refusal: Refusal::File,
+        line: "order/long has more than 2048",
+    },
+    Row {
+        sides: SIDES,
+        directory: "order",
+        work: FITS,
+        refusal: Refusal::Damaged,
+        line: "order: natgw.a ",
+    },
+    Row {
+        sides: SIDES,
+        directory: "order",
+        work: SERVE,
+        refusal: Refusal::Damaged,
+        line: "order: natgw.a ",
+    },
+    Row {
+        sides: SIDES,
+        directory: "order/none",
+        work: SERVE,
+        refusal: Refusal::File,
+        line: "order/none: there is no",
+    },
+];
+
+// The same where both files can be made.
+const OVER_NO_FILES: [Row; 2] = [
+    Row {
+        sides: SIDES,
+        directory: "order",
+        work: FITS,
+        refusal: Refusal::File,
+        line: "order/natgw.sock exists",
+    },
+    Row {
+        sides: SIDES,
+        directory: "order",
+        work: SERVE,
+        refusal: Refusal::File,
+        line: "order/natgw.sock exists",
+    },
+];
+
+fn write_zeros(rt: &HostRuntime, path: &str, count: usize) -> Result<(), Fail> {
+    let zeros = vec![in rt.alloc(); 0u8; count]?;
+    fs::write(rt, path, zeros.as_slice())?;
+    Ok(())
+}
+
+// A damaged file, one in the way of the socket, and streams of one byte too many and of as many as there may be.
+fn fill(rt: &HostRuntime) -> Result<(), Fail> {
+    fresh(rt, "order")?;
+    fs::write(rt, "order/natgw.a", b"\x01".as_slice())?;
+    fs::write(rt, "order/natgw.sock", b"kept".as_slice())?;
+    write_zeros(rt, "order/long", 2_049)?;
+    write_zeros(rt, "order/fits", 2_048)
+}
+
 #[test]
 fn first_faults(rt: HostRuntime) -> Result<(), Fail> {
-    fresh(&rt, "order")?;
-    fs::write(&rt, "order/natgw.a", b"\x01".as_slice())?;
-    fs::write(&rt, "order/natgw.sock", b"kept".as_slice())?;
-    fs::write(
-        &rt,
-        "order/long",
-        vec![in rt.alloc(); 0u8; 2_049]?.as_slice(),
-    )?;
-    fs::write(
-        &rt,
-        "order/fits",
-        vec![in rt.alloc(); 0u8; 2_048]?.as_slice(),
-    )?;
-    let missing = Work::Loop { path: "order/none" };
-    let long = Work::Loop { path: "order/long" };
-    let fits = Work::Loop { path: "order/fits" };
-    let serve = Work::Serve {
-        socket: "order/natgw.sock",
-        connections: 1,
-    };
-    assert!(rt;
-        refuses(
-            ended(&rt, NONE, "order", missing),
-            Refusal::Config,
-            "the external address"
-        )
-    );
-    assert!(rt;
-        refuses(
-            ended(&rt, SIDES, "order", missing),
-            Refusal::File,
-            "order/none can't be read"
-        )
-    );
-    assert!(rt;
-        refuses(
-            ended(&rt, SIDES, "order", long),
-            Refusal::File,
-            "order/long has more than 2048"
-        )
-    );
-    assert!(rt;
-        refuses(
-            ended(&rt, SIDES, "order", fits),
-            Refusal::Damaged,
-            "order: natgw.a "
-        )
-    );
-    assert!(rt;
-        refuses(
-            ended(&rt, SIDES, "order", serve),
-            Refusal::Damaged,
-            "order: natgw.a "
-        )
-    );
-    assert!(rt;
-        refuses(
-            ended(&rt, SIDES, "order/none", serve),
-            Refusal::File,
-            "order/none: there is no"
-        )
-    );
+    fill(&rt)?;
+    for row in &OVER_DAMAGED_FILES {
+        assert!(rt; is_refused(&rt, row), "{}", row.line);
+    }
     fs::remove_file(&rt, "order/natgw.a")?;
-    assert!(rt;
-        refuses(
-            ended(&rt, SIDES, "order", fits),
-            Refusal::File,
-            "order/natgw.sock exists"
-        )
-    );
-    assert!(rt;
-        refuses(
-            ended(&rt, SIDES, "order", serve),
-            Refusal::File,
-            "order/natgw.sock exists"
-        )
-    );
+    for row in &OVER_NO_FILES {
+        assert!(rt; is_refused(&rt, row), "{}", row.line);
+    }
     assert!(rt; fs::read(&rt, "order/natgw.sock")?.as_slice() == b"kept".as_slice());
     Ok(())
+}
+
+// Whether the command succeeds, and no socket is left behind it.
+fn ends_well(rt: &HostRuntime, work: Work<'_>, socket: &str) -> bool {
+    let is_well = match ended(rt, SIDES, "socket", work) {
+        Ok(code) => code == ExitCode::SUCCESS,
+        Err(_) => false,
+    };
+    is_well && fs::read(rt, socket).is_err()
 }
 
 // A socket that was made goes at the end.
 #[test]
 fn sockets_go(rt: HostRuntime) -> Result<(), Fail> {
     fresh(&rt, "socket")?;
+    fs::write(&rt, "socket/empty", b"".as_slice())?;
     let none = Work::Serve {
         socket: "socket/sock",
         connections: 0,
     };
-    assert!(rt; ended(&rt, SIDES, "socket", none)? == ExitCode::SUCCESS);
-    assert!(rt; fs::read(&rt, "socket/sock").is_err());
-    assert!(rt; ended(&rt, SIDES, "socket", Work::Show)? == ExitCode::SUCCESS);
-    fs::write(&rt, "socket/empty", b"".as_slice())?;
     let empty = Work::Loop {
         path: "socket/empty",
     };
-    assert!(rt; ended(&rt, SIDES, "socket", empty)? == ExitCode::SUCCESS);
-    assert!(rt; fs::read(&rt, "socket/natgw.sock").is_err());
+    let rows = [
+        (none, "socket/sock"),
+        (Work::Show, "socket/sock"),
+        (empty, "socket/natgw.sock"),
+    ];
+    for (work, socket) in rows {
+        assert!(rt; ends_well(&rt, work, socket), "{socket}");
+    }
     Ok(())
 }
 
@@ -148,24 +197,20 @@ fn checked(rt: &HostRuntime, path: &str) -> Result<ExitCode, Stop> {
     run(rt, &Options { sides: SIDES, task })
 }
 
+// Whether `check` ends with this status over a file of so many spaces.
+fn is_status(rt: &HostRuntime, count: usize, status: ExitCode) -> Result<bool, Fail> {
+    let spaces = vec![in rt.alloc(); b' '; count]?;
+    fs::write(rt, "status/text", spaces.as_slice())?;
+    Ok(checked(rt, "status/text")? == status)
+}
+
 // The longest text is one of 262,144 bytes.
 #[test]
 fn statuses(rt: HostRuntime) -> Result<(), Fail> {
     fresh(&rt, "status")?;
-    let spaces = vec![in rt.alloc(); b' '; 262_145]?;
-    let Some((_, fewer)) = spaces.as_slice().split_first() else {
-        return Err(Fail::new("no spaces"));
-    };
-    fs::write(&rt, "status/long", spaces.as_slice())?;
-    fs::write(&rt, "status/longest", fewer)?;
-    assert!(rt; checked(&rt, "status/longest")? == ExitCode::SUCCESS);
-    assert!(rt; checked(&rt, "status/long")? == ExitCode::FAILURE);
-    assert!(rt;
-        refuses(
-            checked(&rt, "status/none"),
-            Refusal::File,
-            "status/none can't be read"
-        )
-    );
+    assert!(rt; is_status(&rt, 262_144, ExitCode::SUCCESS)?);
+    assert!(rt; is_status(&rt, 262_145, ExitCode::FAILURE)?);
+    let missing = checked(&rt, "status/none");
+    assert!(rt; refuses(missing, Refusal::File, "status/none can't be read"));
     Ok(())
 }

@@ -1,41 +1,61 @@
 //! Requests through sockets.
-use crate::shared::{ANSWERS, REQUESTS, SIDES, fresh, opened};
-use commands::{Refusal, bind, loop_back, serve_clients, settle};
+use crate::shared::{ANSWERS, OverFiles, REQUESTS, SIDES, fresh, opened};
+use commands::{Refusal, Stop, bind, loop_back, serve_clients, settle};
 use gateway::GatewayFault;
 use socket_edge::EdgeFault;
+use std::alloc::Global;
 use std::fs;
 use std::io::{Read, Write};
 use std::net::Shutdown;
 use std::os::unix::net::UnixStream;
 use std::test::Fail;
 
+// Whether a socket that is there is refused.
+fn is_bound_once(rt: &HostRuntime, path: &str, line: &str) -> Result<bool, Stop> {
+    let _listener = bind(rt, rt.alloc(), path)?;
+    match bind(rt, rt.alloc(), path) {
+        Ok(_) => Ok(false),
+        Err(stop) => Ok(stop.refusal == Refusal::File && stop.second_line() == line),
+    }
+}
+
 #[test]
-fn through_a_loop(rt: HostRuntime) -> Result<(), Fail> {
-    let alloc = rt.alloc();
+fn a_socket_that_is_there(rt: HostRuntime) -> Result<(), Fail> {
     fresh(&rt, "loop")?;
-    let mut gateway = opened(&rt, &SIDES, "loop", 1_000)?;
-    let path = "loop/natgw.sock";
-    let listener = bind(&rt, alloc, path)?;
-    let Err(second) = bind(&rt, alloc, path) else {
-        return Err(Fail::from("bound twice"));
-    };
-    assert_eq!(rt; second.refusal, Refusal::File);
-    assert_eq!(rt;
-        second.second_line(),
-        "loop/natgw.sock exists: if no natgw listens there any more, remove it, otherwise name another path"
-    );
+    let line =
+        "loop/natgw.sock exists: if no natgw listens there any more, remove it, otherwise name another path";
+    assert!(rt; is_bound_once(&rt, "loop/natgw.sock", line)?);
+    Ok(())
+}
+
+// What a loop writes to standard output and standard error.
+fn looped(
+    rt: &HostRuntime,
+    gateway: &mut OverFiles,
+    path: &str,
+) -> Result<(Vec<u8>, Vec<u8>), Stop> {
+    let alloc = rt.alloc();
+    let listener = bind(rt, alloc, path)?;
     let mut output = Vec::new(alloc);
     let mut errors = Vec::new(alloc);
     loop_back(
-        &rt,
+        rt,
         alloc,
         &listener,
         path,
         REQUESTS,
         &mut output,
         &mut errors,
-        &mut gateway,
+        gateway,
     )?;
+    Ok((output, errors))
+}
+
+#[test]
+fn through_a_loop(rt: HostRuntime) -> Result<(), Fail> {
+    fresh(&rt, "through")?;
+    let mut gateway = opened(&rt, &SIDES, "through", 1_000)?;
+    let (output, errors) = looped(&rt, &mut gateway, "through/natgw.sock")?;
     assert!(rt; output.as_slice() == ANSWERS);
     assert!(rt; errors.is_empty());
     Ok(())
@@ -49,27 +69,52 @@ pub fn client(rt: &HostRuntime, path: &str, requests: &[u8]) -> Result<UnixStrea
     Ok(client)
 }
 
-// Two clients that wait: the first one ends within a request, and the second one is served all the same.
+// What two clients are answered that wait, and what stands on standard error.
+#[derive(Drop)]
+struct Served {
+    first: Vec<u8>,
+    second: Vec<u8>,
+    errors: Vec<u8>,
+}
+
+fn rest_of(alloc: Global, stream: &mut UnixStream) -> Result<Vec<u8>, Fail> {
+    let mut rest = Vec::new(alloc);
+    stream.read_to_end(&mut rest)?;
+    Ok(rest)
+}
+
+fn serve_both(
+    rt: &HostRuntime,
+    gateway: &mut OverFiles,
+    path: &str,
+    requests: [&[u8]; 2],
+) -> Result<Served, Fail> {
+    let alloc = rt.alloc();
+    let listener = bind(rt, alloc, path)?;
+    let [first, second] = requests;
+    let mut first = client(rt, path, first)?;
+    let mut second = client(rt, path, second)?;
+    let mut errors = Vec::new(alloc);
+    serve_clients(alloc, &listener, path, 2, &mut errors, gateway)?;
+    Ok(Served {
+        first: rest_of(alloc, &mut first)?,
+        second: rest_of(alloc, &mut second)?,
+        errors,
+    })
+}
+
+// The first one ends within a request, and the second one is served all the same.
 #[test]
 fn clients_that_wait(rt: HostRuntime) -> Result<(), Fail> {
-    let alloc = rt.alloc();
     fresh(&rt, "serve")?;
     let mut gateway = opened(&rt, &SIDES, "serve", 1_000)?;
-    let path = "serve/sock";
-    let listener = bind(&rt, alloc, path)?;
-    let (load, packet) = REQUESTS.split_at(115);
-    let mut first = client(&rt, path, &REQUESTS[..128])?;
-    let mut second = client(&rt, path, packet)?;
-    let mut errors = Vec::new(alloc);
-    serve_clients(alloc, &listener, path, 2, &mut errors, &mut gateway)?;
-    assert_eq!(rt; load.len(), 115);
-    let mut answers = Vec::new(alloc);
-    first.read_to_end(&mut answers)?;
-    assert!(rt; answers.as_slice() == &ANSWERS[..13]);
-    second.read_to_end(&mut answers)?;
-    assert!(rt; answers.as_slice() == ANSWERS);
-    assert!(rt; errors.as_slice() == b"natgw: truncated\n".as_slice());
-    fs::remove_file(&rt, path)?;
+    let packet = REQUESTS.split_at(115).1;
+    let requests = [&REQUESTS[..128], packet];
+    let served = serve_both(&rt, &mut gateway, "serve/sock", requests)?;
+    assert!(rt; served.first.as_slice() == &ANSWERS[..13]);
+    assert!(rt; served.second.as_slice() == &ANSWERS[13..]);
+    assert!(rt; served.errors.as_slice() == b"natgw: truncated\n".as_slice());
+    fs::remove_file(&rt, "serve/sock")?;
     Ok(())
 }
 

@@ -1,5 +1,6 @@
 //! The two lines of each refusal.
 use commands::{Refusal, Stop, tell};
+use std::alloc::Global;
 use std::test::Fail;
 
 /// Each refusal with its first line.
@@ -22,25 +23,28 @@ const ALL: [(Refusal, &[u8]); 16] = [
     (Refusal::Output, b"natgw: output\n"),
 ];
 
-// Two lines each, of which the second one says something.
+// Whether the second line says something, and both lines are told.
+fn is_told(alloc: Global, refusal: Refusal, line: &[u8]) -> Result<bool, Fail> {
+    let stop = Stop::from(refusal);
+    let mut told = Vec::new(alloc);
+    tell(&mut told, &stop)?;
+    let second = stop.second_line().as_bytes();
+    let mut wanted = Vec::from_slice(alloc, line)?;
+    wanted.extend_from_slice(second)?;
+    wanted.push(b'\n')?;
+    Ok(told.as_slice() == wanted.as_slice() && second.len() > 20 && !second.contains(&b'\n'))
+}
+
+fn is_spelled(alloc: Global, refusal: Refusal, line: &[u8]) -> Result<bool, Fail> {
+    let spelled = format!(in alloc; "natgw: {refusal}\n")?;
+    Ok(spelled.as_bytes() == line)
+}
+
 #[test]
 fn both_lines(rt: HostRuntime) -> Result<(), Fail> {
-    let alloc = rt.alloc();
     for (refusal, line) in ALL {
-        let stop = Stop::from(refusal);
-        let mut told = Vec::new(alloc);
-        tell(&mut told, &stop)?;
-        let second = stop.second_line().as_bytes();
-        let mut wanted = Vec::from_slice(alloc, line)?;
-        wanted.extend_from_slice(second)?;
-        wanted.push(b'\n')?;
-        assert!(rt; told.as_slice() == wanted.as_slice(), "{refusal}");
-        assert!(rt;
-            format!(in alloc; "natgw: {refusal}\n")?.as_bytes() == line,
-            "{refusal}"
-        );
-        assert!(rt; second.len() > 20, "{refusal}");
-        assert!(rt; !second.contains(&b'\n'), "{refusal}");
+        assert!(rt; is_told(rt.alloc(), refusal, line)?, "{refusal}");
+        assert!(rt; is_spelled(rt.alloc(), refusal, line)?, "{refusal}");
     }
     Ok(())
 }
