@@ -82,9 +82,7 @@ impl Index {
         put(&mut self.flows, flow_key(session), slot);
         put(&mut self.insides, inside_key(session), slot);
         put(&mut self.outsides, outside_key(session), slot);
-        let (proto, remote) = (session.proto, session.remote);
-        self.hints.put(proto, session.inside, remote, slot);
-        self.hints.put(proto, session.outside, remote, slot);
+        self.hints.put_both(session, slot);
     }
 
     /// Takes a session out of each row.

@@ -76,7 +76,7 @@ fn reserve_two(sessions: &mut Slab<Session>, hints: &mut Hints) -> Result<(), Al
         return Ok(());
     }
     sessions.reserve_exact(more_slots(count))?;
-    hints.grow(sessions.capacity());
+    hints.grow(sessions);
     Ok(())
 }
 
