@@ -19,7 +19,7 @@ mod duplicate;
 mod earlier;
 mod excess;
 mod graph;
-pub mod hooks;
+mod hooks;
 mod lines;
 pub mod load;
 mod loops;

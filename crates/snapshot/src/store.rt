@@ -1,5 +1,5 @@
 //! The store.
-ghost use Rattle.std.specs.Prelude.{◌≡◌, ◌+◌, ◌-◌, ◌^◌, ◌<◌, ◌≤◌, ◌↔◌, List, ℕ, length, IsTrue, MatchResult, IfOk, IfErr, OnOk, IsErrOf, true, false};
+ghost use Rattle.std.specs.Prelude.{◌≡◌, ◌+◌, ◌-◌, ◌^◌, ◌<◌, ◌≤◌, ◌↔◌, List, ℕ, length, MatchResult, IfOk, IfErr, OnOk, IsErrOf, true, false};
 ghost use Rattle.disk_model.specs.Disk.{Files, Leaves, LeavesNow, LeavesOnly, Looks, Called, Grew};
 ghost use Rattle.durable.specs.Coding.{heading_bytes};
 ghost use Rattle.durable.specs.Entering.{Durable, IsDurable, durable, BodyEnters};
@@ -12,7 +12,7 @@ use crate::opening::{Ready, make_ready};
 use crate::remaking::{beside, remake};
 use crate::{CommitFault, CompactFault, OpenFault};
 use disk_model::{Disk, FileId};
-use journal::{Group, JournalFault, LIMIT, append};
+use journal::{Group, JournalFault, append};
 use packet::bounds::Bounds;
 use sessions::Session;
 use std::alloc::Global;
@@ -177,18 +177,6 @@ impl<D: Disk + Drop> Store<D> {
         ensures { result ≡ self.now.end }
     {
         self.end
-    }
-
-    /// Whether a group with a body of so many bytes can be committed: whether it ends within the greatest length of a
-    /// file.
-    pub fn has_room(&self, body: u64) -> bool
-        ensures { IsTrue result ↔ self.now.end + body + 6 ≤ 67108864 }
-    {
-        if self.end > LIMIT {
-            return false;
-        }
-        let room = LIMIT - self.end;
-        6 <= room && body <= room - 6
     }
 
     /// How many calls of the disk have failed since it was made.
