@@ -1,5 +1,6 @@
 -- The word that people read for each way in which a command gives up.
-use Rattle.std.specs.Prelude.{ℕ, List, ◌++◌, codes, ⊤}
+use Rattle.std.specs.Prelude.{ℕ, Bool, List, ◌++◌, ◌&&◌, nat_lt, length, codes, ⊤}
+use Rattle.std.specs.List.{list_all}
 use Rattle.std.specs.declared.io.ErrorKind.{ErrorKind}
 use Rattle.std.specs.declared.io.ErrorKind.TheVariants as kind
 use Rattle.gateway.specs.declared.fault.GatewayFault.{GatewayFault}
@@ -32,6 +33,10 @@ word_of refusal.Output = codes "output"
 -- the word in its line
 abbrev pub first_line : Refusal → List ℕ
 first_line r = codes "natgw: " ++ word_of r ++ codes "\n"
+
+-- there are some bytes, and none of them ends a line or is another control byte
+abbrev pub is_one_line : List ℕ → Bool
+is_one_line bytes = nat_lt 0 (length bytes) && list_all (nat_lt 31) bytes
 
 -- a gateway that holds too many answers has no room either
 abbrev pub gateway_refusal : GatewayFault → Refusal

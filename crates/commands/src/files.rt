@@ -12,7 +12,7 @@ use std::io::Read;
 /// # Errors
 ///
 /// That of the reader, or of kind `OutOfMemory` where memory is refused.
-pub fn read_front<R: Read + Drop>(alloc: Global, reader: R, most: u64) -> io::Result<Vec<u8>>
+pub(crate) fn read_front<R: Read + Drop>(alloc: Global, reader: R, most: u64) -> io::Result<Vec<u8>>
     ensures { IfOk result (λ bytes. IfSome (R.remaining reader) (λ known. bytes.items ≡ take most known)) }
 {
     let mut bytes = Vec::new(alloc);

@@ -88,7 +88,7 @@ impl Refusal {
     }
 
     /// The refusal for a fault of the gateway. `HeldFull`, which no run ends with, counts as `Full`.
-    pub fn of_gateway(fault: GatewayFault) -> Refusal
+    pub(crate) fn of_gateway(fault: GatewayFault) -> Refusal
         ensures { result ≡ gateway_refusal fault }
     {
         match fault {
@@ -102,7 +102,7 @@ impl Refusal {
     }
 
     /// The refusal for an opening that failed.
-    pub fn of_opening(fault: OpenFault) -> Refusal
+    pub(crate) fn of_opening(fault: OpenFault) -> Refusal
         ensures { result ≡ opening_refusal fault }
     {
         match fault {
@@ -114,7 +114,7 @@ impl Refusal {
     }
 
     /// The refusal for a stream of requests that ended early.
-    pub fn of_edge(fault: EdgeFault) -> Refusal
+    pub(crate) fn of_edge(fault: EdgeFault) -> Refusal
         ensures { result ≡ edge_refusal fault }
     {
         match fault {
@@ -131,7 +131,7 @@ impl Refusal {
 
 /// Whether a fault of one stream ends the program. Any other one ends a connection alone: the gateway stands, and
 /// whoever connects next can be served.
-pub fn ends_program(fault: EdgeFault) -> bool
+pub(crate) fn ends_program(fault: EdgeFault) -> bool
     ensures { IsTrue result ↔ IsOfGateway fault }
 {
     matches!(fault, EdgeFault::Gateway(_))

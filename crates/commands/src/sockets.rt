@@ -14,8 +14,16 @@ use std::os::unix::net::{UnixListener, UnixStream};
 ///
 /// # Errors
 ///
-/// `File` where something stands there, or a socket can't be bound there; `NoMemory` where memory is refused.
+/// `File` where the path is empty, something stands there, or a socket can't be bound there; `NoMemory` where memory is
+/// refused.
 pub fn bind<R: Files + Net>(rt: &R, alloc: Global, path: &str) -> Result<UnixListener, Stop> {
+    // The system would take no path for a name of its own choice, at which no client finds the socket.
+    if path.is_empty() {
+        return Err(Stop::with(
+            Refusal::File,
+            format!(in alloc; "the path of the socket is empty: name one by --socket"),
+        ));
+    }
     match UnixListener::bind(rt, path) {
         Ok(listener) => Ok(listener),
         Err(error) => Err(unbound(alloc, path, &error)),

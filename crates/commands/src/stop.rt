@@ -1,9 +1,10 @@
 //! The two lines that people read where a command gives up: the word, and what to do.
-ghost use Rattle.std.specs.Prelude.{◌≡◌, ◌++◌, ℕ, List, OnOk, codes};
+ghost use Rattle.std.specs.Prelude.{◌≡◌, ◌++◌, ℕ, List, IsTrue, OnOk, codes, nat_lt};
+ghost use Rattle.std.specs.List.{list_all};
 ghost use Rattle.std.specs.Io.KnownBytes.{Appends};
 ghost use Rattle.std.specs.IoError.{error_kind};
 ghost use Rattle.commands.specs.declared.refusal.Refusal.TheVariants.{NoMemory};
-ghost use Rattle.commands.specs.Words.{first_line, path_refusal};
+ghost use Rattle.commands.specs.Words.{first_line, is_one_line, path_refusal};
 
 use crate::Refusal;
 use std::alloc::{AllocError, AllocFailed, Global};
@@ -59,7 +60,7 @@ impl Stop {
 
     /// A call of the system failed on this path: `NoMemory` exactly where memory was refused, otherwise `File`.
     /// `what` says what couldn't be done.
-    pub fn at_path(alloc: Global, path: &str, what: &str, error: &io::Error) -> Stop
+    pub(crate) fn at_path(alloc: Global, path: &str, what: &str, error: &io::Error) -> Stop
         ensures { result.refusal ≡ path_refusal (error_kind error.now) }
     {
         match error.kind() {
@@ -68,17 +69,50 @@ impl Stop {
         }
     }
 
-    /// The second line, without its end.
-    pub fn second_line(&self) -> &str {
+    /// The second line, without its end. It is one line, also where the advice isn't, as that may be which tells a path.
+    pub fn second_line(&self) -> &str
+        ensures { IsTrue (is_one_line result.now) }
+    {
         match &self.advice {
-            Some(advice) => advice.as_str(),
+            Some(advice) => shown_or_general(advice.as_str(), self.refusal),
             None => general(self.refusal),
         }
     }
 }
 
+fn is_shown(byte: u8) -> bool
+    ensures { result ≡ nat_lt 31 byte }
+{
+    byte > 31
+}
+
+fn are_shown(bytes: &[u8]) -> bool
+    ensures { result ≡ list_all (nat_lt 31) bytes.now }
+{
+    bytes.iter().all(|byte| is_shown(*byte))
+}
+
+// Whether the bytes can stand in one line.
+fn stands_in_a_line(bytes: &[u8]) -> bool
+    ensures { result ≡ is_one_line bytes.now }
+{
+    !bytes.is_empty() && are_shown(bytes)
+}
+
+// The advice, or what the word says where that isn't one line.
+fn shown_or_general(advice: &str, refusal: Refusal) -> &str
+    ensures { IsTrue (is_one_line result.now) }
+{
+    if stands_in_a_line(advice.as_bytes()) {
+        return advice;
+    }
+    general(refusal)
+}
+
 // What to do where no more is known than the word.
-fn general(refusal: Refusal) -> &'static str {
+fn general(refusal: Refusal) -> &'static str
+    ensures { IsTrue (is_one_line result.now) }
+{
     match refusal {
         Refusal::Config => "the options are no configuration: `natgw --help` tells of them",
         Refusal::File => "a file, a directory or a socket can't be had: look at its path",
@@ -146,7 +180,7 @@ fn tell_lines<W: Write>(writer: &mut W, refusal: Refusal, advice: &str) -> io::R
 ///
 /// That of the writer. A part may have been written then.
 pub fn tell<W: Write>(writer: &mut W, stop: &Stop) -> io::Result<()>
-    ensures { OnOk result ((advice : List ℕ) × Appends (W.contents writer.old) (W.contents writer.new)
+    ensures { OnOk result ((advice : List ℕ) × IsTrue (is_one_line advice) × Appends (W.contents writer.old) (W.contents writer.new)
         (first_line stop.now.refusal ++ advice ++ codes "\n")) }
 {
     tell_lines(writer, stop.refusal, stop.second_line())
