@@ -50,28 +50,6 @@ fn a_socket_without_a_path(rt: HostRuntime) -> Result<(), Fail> {
     Ok(())
 }
 
-// Whether a path is refused with this second line before anything is bound to it.
-fn is_no_path(rt: &HostRuntime, path: &str, line: &str) -> bool {
-    match bind(rt, rt.alloc(), path) {
-        Ok(_) => false,
-        Err(stop) => stop.refusal == Refusal::File && stop.second_line() == line,
-    }
-}
-
-#[test]
-fn a_socket_without_a_path(rt: HostRuntime) -> Result<(), Fail> {
-    assert!(rt;
-        is_no_path(
-            &rt,
-            "",
-            "the path of the socket is empty: name one by --socket"
-        )
-    );
-    let line = "a file, a directory or a socket can't be had: look at its path";
-    assert!(rt; is_no_path(&rt, "none\nthere/natgw.sock", line));
-    Ok(())
-}
-
 // What a loop writes to standard output and standard error.
 fn looped(
     rt: &HostRuntime,
