@@ -132,8 +132,7 @@ fn put_through<N: Notes>(
     }
 }
 
-// The plan of a packet with these fields, on its route. It is made where it then stays: taken apart and put together again,
-// as it is where this is compiled into its caller, it costs more than all that is looked up.
+// The plan of a packet with these fields, on its route. Not compiled into its caller, it is made where it then stays.
 #[inline(never)]
 fn plan_for(
     flows: &Flows,
