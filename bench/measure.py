@@ -1,5 +1,5 @@
 #!/usr/bin/env python3
-"""How many packets a second natgw takes on this machine, for seven loads.
+"""How many packets a second natgw takes on this machine, for eight loads.
 
     bench/measure.py                            all loads, files in memory
     bench/measure.py --loads churn,full         some of them
@@ -8,8 +8,8 @@
 
 Each load is a stream of request frames (docs/frames.md) that stands in a file before natgw starts. `natgw replay` reads
 it, in a directory of its own, and writes its answers to nowhere; the figure is the packets over the best wall time of
-several runs, with start and end counted in. Before that one run's answers are read: a load whose packets don't all pass
-is a fault of the load, and is not measured.
+several runs, with start and end counted in. Before that one run's answers are read: a load whose packets don't all pass,
+or of flood aren't dropped from the 65,537th on, is a fault of the load, and is not measured.
 
     flows   1,000 living flows of UDP, both ways, 128 bytes
     churn   new flows alone, 100 a second, 30,000 of which live
@@ -17,6 +17,7 @@ is a fault of the load, and is not measured.
     sets    a packet passes two sets of 8,000 elements each, and is in neither
     big     as flows, with 1,400 bytes
     full    65,000 sessions, any of them at random
+    flood   65,536 sessions, which are all that there may be, and then new flows alone, all of them dropped
     tcp     connections: three packets begin one, six carry data, four end it
 """
 import argparse
@@ -35,7 +36,7 @@ SIDES = ["--inside", "192.168.0.0/16", "--external", "203.0.113.1"]
 REQUEST = struct.Struct(">BBIQ")        # kind, interface, length of the body, moment in seconds
 ANSWER = struct.Struct(">BQI")          # kind, number of the event, length of the body
 PACKET, LOAD = 1, 2
-FORWARD, LOADED = 1, 3
+FORWARD, DROPPED, LOADED = 1, 2, 3
 LAN, WAN = 0, 1
 
 ADDRESSES = struct.Struct(">HHHHBBHII")
@@ -44,6 +45,7 @@ FIN, SYN, ACK = 1, 2, 16
 
 INSIDE, EXTERNAL, REMOTE = 0xC0A80000, 0xCB007101, 0xC6336400
 START = 1000
+MOST_SESSIONS, TABLE_FULL = 65_536, 20
 MASQUERADE = 'table ip nat { chain post { type nat hook postrouting priority srcnat; oifname "wan" masquerade; }; }\n'
 
 
@@ -162,6 +164,16 @@ def full(count):
         yield packets[draw.randrange(65_000)]
 
 
+def flood(count):
+    """As many sessions as there may be, and then new flows, of hosts that have none yet. All of it takes one second."""
+    yield load(MASQUERADE)
+    for inside, _, remote in map(endpoints, range(MOST_SESSIONS)):
+        yield request(LAN, START, datagram(inside, remote, 60))
+    for index in range(max(0, count - MOST_SESSIONS)):
+        inside = (INSIDE + 256 + 60_000 + index % 5000, 1024 + index * 7919 % 60_000)
+        yield request(LAN, START, datagram(inside, (REMOTE + 7, 53), 60))
+
+
 def tcp(count):
     """Connections one after the other, 100 in each second; a closed one is over after 240 seconds."""
     yield load(MASQUERADE)
@@ -181,7 +193,8 @@ def tcp(count):
 
 
 LOADS = {"flows": (flows, 1_000_000), "churn": (churn, 300_000), "rules": (rules, 100_000), "sets": (sets, 300_000),
-         "big": (big, 300_000), "full": (full, 500_000), "tcp": (tcp, 500_000)}
+         "big": (big, 300_000), "full": (full, 500_000), "flood": (flood, 500_000), "tcp": (tcp, 500_000)}
+PASSING = {"flood": MOST_SESSIONS}      # how many packets pass, where they aren't all
 
 
 def write_stream(path, make, count):
@@ -198,14 +211,15 @@ def play(natgw, stream, base, answers):
         return time.perf_counter() - start
 
 
-def passed(path):
-    """How many packets passed; gives up at an answer of any other kind."""
+def answered(path, passing):
+    """How many packets were answered; gives up unless the first so many passed, and all others met a full table."""
     with open(path, "rb") as file:
         data = file.read()
     at = count = 0
     while at < len(data):
         kind, number, length = ANSWER.unpack_from(data, at)
-        if kind != (LOADED if number == 1 else FORWARD):
+        wanted = LOADED if number == 1 else FORWARD if number <= passing + 1 else DROPPED
+        if kind != wanted or kind == DROPPED and data[at + ANSWER.size] != TABLE_FULL:
             raise SystemExit(f"event {number} is answered by the kind {kind}: the load isn't what it says")
         at += ANSWER.size + length
         count += 1
@@ -220,7 +234,7 @@ def measure(given, name, folder):
     write_stream(stream, make, max(1000, int(count * given.scale)))
     with open(answers, "wb") as file:
         play(given.natgw, stream, given.directory, file)
-    packets = passed(answers)
+    packets = answered(answers, PASSING.get(name, sys.maxsize))
     os.remove(answers)
     best = min(play(given.natgw, stream, given.directory, subprocess.DEVNULL) for _ in range(given.runs))
     os.remove(stream)
@@ -228,7 +242,7 @@ def measure(given, name, folder):
 
 
 def main():
-    words = argparse.ArgumentParser(description="Packets a second of natgw, for seven loads.")
+    words = argparse.ArgumentParser(description="Packets a second of natgw, for eight loads.")
     words.add_argument("--natgw", default=NATGW, help="the program (default: the one that ./natgw builds)")
     words.add_argument("--loads", default=",".join(LOADS), help="names of loads, with commas between them")
     words.add_argument("--scale", type=float, default=1.0, help="the length of the streams (default: 1)")

@@ -1,6 +1,7 @@
-//! Packets that are cut at each byte, and headers with one byte changed.
+//! Packets that are cut at each byte, and headers with each byte set to each value.
 use crate::leaving::{COMES_TO_ZERO, NEIGHBOUR, OPTIONS_AND_ODD};
 use crate::shared::{SYN, UDP};
+use crate::sums::sum_header;
 use packet::fault::Fault;
 use packet::view::View;
 use std::process::Abort;
@@ -74,6 +75,80 @@ fn each_byte_of_the_header(rt: HostRuntime) {
     for at in 0usize..20 {
         for byte in 0..=255u8 {
             assert!(rt; is_told(at, byte), "byte {at}: {byte}");
+        }
+    }
+}
+
+// What speaks against a packet of so many bytes with this other byte in its header of IP, whose sum is right again. A
+// header of more words leaves too few bytes for the transport.
+fn fault_in_header(length: usize, at: usize, byte: u8) -> Option<Fault> {
+    match (at, byte) {
+        (0, 0x46..=0x4f) if (byte % 16) as usize * 4 <= length => Some(Fault::Transport),
+        (0, 0x40..=0x4f) => Some(Fault::HeaderLength),
+        (0, _) => Some(Fault::Version),
+        (2 | 3, _) => Some(Fault::Length),
+        (6, _) if byte % 64 == 0 => None,
+        (6 | 7, _) => Some(Fault::Fragment),
+        (9, 6 | 17) => Some(Fault::Transport),
+        (9, _) => Some(Fault::Protocol),
+        _ => None,
+    }
+}
+
+// The length of the UDP part, and a port whose other byte is 0.
+fn fault_in_udp(at: usize, byte: u8) -> Option<Fault> {
+    match (at, byte) {
+        (23, 0) => Some(Fault::PortZero),
+        (24 | 25, _) => Some(Fault::Transport),
+        _ => None,
+    }
+}
+
+// The data offset: the segment has five words.
+fn fault_in_tcp(at: usize, byte: u8) -> Option<Fault> {
+    match (at, byte / 16) {
+        (32, 5) => None,
+        (32, _) => Some(Fault::Transport),
+        _ => None,
+    }
+}
+
+// Whether the packet with this byte has this fault; unchanged it has none.
+fn has_fault(packet: &mut [u8], at: usize, byte: u8, fault: Option<Fault>) -> bool {
+    let Some(place) = packet.get_mut(at) else {
+        return false;
+    };
+    let wanted = if *place == byte { None } else { fault };
+    *place = byte;
+    let words = packet.first().map_or(5, |first| (*first % 16) as usize);
+    sum_header(packet, words.saturating_mul(4).saturating_sub(20));
+    View::read(packet).err() == wanted
+}
+
+#[test]
+fn each_byte_of_udp(rt: HostRuntime) {
+    for at in 0usize..28 {
+        for byte in 0..=255u8 {
+            let mut packet = UDP;
+            let fault = fault_in_header(28, at, byte).or(fault_in_udp(at, byte));
+            assert!(rt;
+                has_fault(&mut packet, at, byte, fault),
+                "byte {at}: {byte}"
+            );
+        }
+    }
+}
+
+#[test]
+fn each_byte_of_tcp(rt: HostRuntime) {
+    for at in 0usize..40 {
+        for byte in 0..=255u8 {
+            let mut packet = SYN;
+            let fault = fault_in_header(40, at, byte).or(fault_in_tcp(at, byte));
+            assert!(rt;
+                has_fault(&mut packet, at, byte, fault),
+                "byte {at}: {byte}"
+            );
         }
     }
 }

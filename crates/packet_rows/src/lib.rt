@@ -4,7 +4,7 @@
 //! The rows stand above the crate that they try, `packet`, so that it is proved once, without them.
 //!
 //! - `reading`: the fields of a packet, or its first fault;
-//! - `each_cut`: packets that are cut at each byte, and headers with one byte changed;
+//! - `each_cut`: packets that are cut at each byte, and headers with each byte set to each value;
 //! - `leaving`: packets that leave with other endpoints, byte for byte;
 //! - `sums`: their checksums against those of whole sums, over lengths of 28 to 200 bytes;
 //! - `bounds`: configurations, the routes between their interfaces, and counted steps;

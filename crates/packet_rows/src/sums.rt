@@ -46,7 +46,7 @@ fn missing(present: u64, wanted: u64) -> u64 {
 }
 
 /// Puts the header checksum in, by the sum over the header.
-fn sum_header(packet: &mut [u8], options: usize) {
+pub fn sum_header(packet: &mut [u8], options: usize) {
     put(packet, 10, 0);
     let header_length = options.saturating_add(20);
     if header_length <= packet.len() {
