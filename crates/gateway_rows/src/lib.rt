@@ -5,9 +5,11 @@
 //! - `words`: events, answers and sessions as lines of text; `script`: lines that are played;
 //! - `held_rows`: answers that are held; `opening`: what an opening finds; `stop_rows`: losses of power in a flush;
 //!   `faults`: each refusal, and what stays; `growth`: compaction, and runs; `each_stop`: a long script, stopped or failing
-//!   at each call of the disk; `each_growth`: memory that is refused.
+//!   at each call of the disk; `each_growth`: memory that is refused; `each_cut`: texts that are cut, and texts at a limit.
 #![tactic(auto)]
 
+#[cfg(test)]
+mod each_cut;
 #[cfg(test)]
 mod each_growth;
 #[cfg(test)]

@@ -60,9 +60,9 @@ pub fn first_word(line: &str) -> (&str, &str) {
     line.split_once(' ').unwrap_or((line, ""))
 }
 
-// The bytes of a load or a packet.
-fn body(bytes: Vec<u8>) -> Result<Bytes, Fail> {
-    if bytes.len() > 65_535 {
+/// The bytes of a load or a packet: of a text, one more than it may have.
+pub fn body(bytes: Vec<u8>) -> Result<Bytes, Fail> {
+    if bytes.len() > 262_145 {
         return Err(Fail::new("too many bytes"));
     }
     Ok(Bytes::of(bytes))

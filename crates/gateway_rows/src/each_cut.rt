@@ -1,0 +1,162 @@
+//! Texts that are cut at each byte, and texts at a limit and past it, loaded through a gateway: what is refused leaves the
+//! rules as they were.
+use crate::script::{flush, offer, play};
+use crate::shared::{Answer, Event, Given, MASQUERADE, Trials, What, fresh};
+use crate::words::body;
+use std::alloc::Global;
+use std::test::*;
+
+const WHOLE: &str = "\
+load 1000 table ip nat { chain post { type nat hook postrouting priority srcnat; oifname \"wan\" masquerade; }; }
+= held 1
+flush
+= 1 loaded";
+
+// The text up to a byte, as the event behind that of the whole text.
+fn refused(alloc: Global, cut: usize) -> Result<String, Fail> {
+    let number = cut.saturating_add(1);
+    let text = MASQUERADE.get(..cut).ok_or("a longer text")?;
+    Ok(format!(in alloc; "load 1000 {text}\n= now {number} refused\nrules\n= {MASQUERADE}")?)
+}
+
+// A packet is translated as before, and the text that is cut to nothing is a ruleset.
+const STAYS: &str = "\
+lan 1000 4500001c00010000 40118eeb c0a80102 c6336407 13880035 0008003c
+= held 102
+flush
+= 102 wan 4500001c00010000 3f111594 cb007101 c6336407 13880035 000885e4
+load 1000
+= held 103
+flush
+= 103 loaded
+rules
+=
+lan 1000 4500001c00010000 40118eea c0a80103 c6336407 13880035 0008003b
+= held 104
+flush
+= 104 wan 4500001c00010000 3f118fea c0a80103 c6336407 13880035 0008003b";
+
+#[test]
+fn each_cut(rt: HostRuntime) -> Result<(), Fail> {
+    let alloc = rt.alloc();
+    let mut gateway = fresh(alloc)?;
+    play(alloc, &mut gateway, WHOLE)?;
+    for cut in 1..=100 {
+        play(alloc, &mut gateway, refused(alloc, cut)?.as_str())?;
+    }
+    play(alloc, &mut gateway, STAYS)
+}
+
+// A text of so many lines between the two others.
+fn repeated(
+    alloc: Global,
+    before: &str,
+    line: &str,
+    count: u32,
+    behind: &str,
+) -> Result<String, Fail> {
+    let mut text = String::from_str(alloc, before)?;
+    for _ in 0..count {
+        text.push_str(line)?;
+    }
+    text.push_str(behind)?;
+    Ok(text)
+}
+
+// So many chains without a rule.
+fn chains(alloc: Global, count: u32) -> Result<String, Fail> {
+    let mut text = String::from_str(alloc, "table t {\n")?;
+    for number in 0..count {
+        text.push_str(format!(in alloc; "chain c{number} {{ }}\n")?.as_str())?;
+    }
+    text.push_str("}")?;
+    Ok(text)
+}
+
+// So many rules, each of which leads to the next chain by these words.
+fn path(alloc: Global, words: &str, count: u32, behind: &str) -> Result<String, Fail> {
+    let mut text = String::from_str(alloc, "table t {\n")?;
+    for number in 0..count {
+        let next = number.saturating_add(1);
+        let chain = format!(in alloc; "chain c{number} {{ {words} c{next}{behind}; }}\n")?;
+        text.push_str(chain.as_str())?;
+    }
+    text.push_str(format!(in alloc; "chain c{count} {{ }}\n}}")?.as_str())?;
+    Ok(text)
+}
+
+// A text at a limit, and one that has one thing more.
+#[derive(Drop)]
+struct Limit {
+    at: String,
+    past: String,
+}
+
+fn limits_of_counts(alloc: Global) -> Result<[Limit; 4], Fail> {
+    let rules = "table t { chain c {\n";
+    let elements = "table t { set s { type inet_service; elements = {\n";
+    Ok([
+        Limit {
+            at: repeated(alloc, rules, "drop\n", 4096, "} }")?,
+            past: repeated(alloc, rules, "drop\n", 4097, "} }")?,
+        },
+        Limit {
+            at: repeated(alloc, elements, "1,\n", 16384, "} } }")?,
+            past: repeated(alloc, elements, "1,\n", 16385, "} } }")?,
+        },
+        Limit {
+            at: repeated(alloc, "", "\n", 262_144, "")?,
+            past: repeated(alloc, "", "\n", 262_145, "")?,
+        },
+        Limit {
+            at: chains(alloc, 256)?,
+            past: chains(alloc, 257)?,
+        },
+    ])
+}
+
+fn limit_of_path(alloc: Global, words: &str, behind: &str) -> Result<Limit, Fail> {
+    Ok(Limit {
+        at: path(alloc, words, 16, behind)?,
+        past: path(alloc, words, 17, behind)?,
+    })
+}
+
+fn limits_of_paths(alloc: Global) -> Result<[Limit; 3], Fail> {
+    Ok([
+        limit_of_path(alloc, "jump", "")?,
+        limit_of_path(alloc, "goto", "")?,
+        limit_of_path(alloc, "tcp dport vmap { 1 : jump", " }")?,
+    ])
+}
+
+fn is_loaded(gateway: &mut Trials, text: Vec<u8>) -> Result<bool, Fail> {
+    let moment = 1000;
+    let what = What::Load(body(text)?);
+    match offer(gateway, Event { moment, what }) {
+        Ok(Given::Now(_, Answer::Refused)) => Ok(false),
+        Ok(Given::Held(_)) => Ok(matches!(flush(gateway)?.as_slice(), [(_, Answer::Loaded)])),
+        _ => Err(Fail::new("neither loaded nor refused")),
+    }
+}
+
+// The text at the limit is loaded, the other one is refused, and the first stays.
+fn keeps_to(alloc: Global, limit: &Limit) -> Result<bool, Fail> {
+    let mut gateway = fresh(alloc)?;
+    let at = Vec::from_slice(alloc, limit.at.as_bytes())?;
+    let past = Vec::from_slice(alloc, limit.past.as_bytes())?;
+    let is_kept = is_loaded(&mut gateway, at)? && !is_loaded(&mut gateway, past)?;
+    Ok(is_kept && gateway.rules() == limit.at.as_bytes())
+}
+
+#[test]
+fn at_the_limits(rt: HostRuntime) -> Result<(), Fail> {
+    let alloc = rt.alloc();
+    for limit in &limits_of_counts(alloc)? {
+        assert!(rt; keeps_to(alloc, limit)?, "{} bytes", limit.at.len());
+    }
+    for limit in &limits_of_paths(alloc)? {
+        assert!(rt; keeps_to(alloc, limit)?, "{} bytes", limit.at.len());
+    }
+    Ok(())
+}
