@@ -104,7 +104,7 @@ fn begins_anew(rt: &impl Abort, alloc: Global, core: &mut Core) -> Result<(), Fa
 }
 
 #[test]
-fn full_table(rt: HostRuntime) -> Result<(), Fail> {
+fn full(rt: HostRuntime) -> Result<(), Fail> {
     let alloc = rt.alloc();
     let mut core = Box::new(alloc, opened(alloc)?)?;
     fill(&rt, alloc, &mut core)?;

@@ -6,7 +6,7 @@
 //! - `reading`: the fields of a packet, or its first fault;
 //! - `each_cut`: packets that are cut at each byte, and headers with each byte set to each value;
 //! - `leaving`: packets that leave with other endpoints, byte for byte;
-//! - `sums`: their checksums against those of whole sums, over lengths of 28 to 200 bytes;
+//! - `sums`: their checksums against those of whole sums, over lengths of 28 to 200 bytes, and of 65,535;
 //! - `bounds`: configurations, the routes between their interfaces, and counted steps;
 //! - `shared`: the packets that more than one of these has.
 #![tactic(auto)]

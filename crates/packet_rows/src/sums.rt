@@ -1,6 +1,8 @@
 //! The checksums of packets that leave, against whole sums: each made anew here, over every byte.
 use crate::shared::{EXTERNAL, HOST, SERVER, endpoint, is_rewritten};
 use packet::endpoint::{Endpoint, Proto};
+use packet::fault::Fault;
+use packet::view::View;
 use std::test::*;
 
 fn total(bytes: &[u8]) -> u64 {
@@ -126,6 +128,19 @@ fn agree(
     }
     let (packet, _) = packet.split_at_mut(length);
     let (whole, _) = whole.split_at_mut(length);
+    agree_in(packet, whole, proto, options, field, src, dst)
+}
+
+// Both are as long as the packet is to be.
+fn agree_in(
+    packet: &mut [u8],
+    whole: &mut [u8],
+    proto: Proto,
+    options: usize,
+    field: u64,
+    src: Endpoint,
+    dst: Endpoint,
+) -> bool {
     put_packet(packet, proto, options, field);
     put_packet(whole, proto, options, field);
     put_through(whole, proto, options, field, src, dst);
@@ -182,4 +197,18 @@ fn sums(rt: HostRuntime) {
             assert!(rt; all_agree(length, field), "{field} at {length}");
         }
     }
+}
+
+// As many bytes as a length can tell, and one more.
+#[test]
+fn longest(rt: HostRuntime) -> Result<(), Fail> {
+    let mut packet = vec![in rt.alloc(); 0u8; 65_535]?;
+    let mut whole = vec![in rt.alloc(); 0u8; 65_535]?;
+    for proto in [Proto::Udp, Proto::Tcp] {
+        let (packet, whole) = (packet.as_mut_slice(), whole.as_mut_slice());
+        assert!(rt; agree_in(packet, whole, proto, 0, 0x7a57, OTHER, SAME));
+    }
+    packet.push(0)?;
+    assert_eq!(rt; View::read(packet.as_slice()).err(), Some(Fault::Length));
+    Ok(())
 }
