@@ -1,5 +1,5 @@
 -- The word that people read for each way in which a command gives up.
-use Rattle.std.specs.Prelude.{ℕ, Bool, List, ◌++◌, ◌&&◌, nat_lt, length, codes, ⊤}
+use Rattle.std.specs.Prelude.{◌≡◌, ◌⊎◌, ℕ, Bool, List, Option, None, Some, ◌++◌, ◌&&◌, nat_lt, length, codes, ⊤}
 use Rattle.std.specs.List.{list_all}
 use Rattle.std.specs.declared.io.ErrorKind.{ErrorKind}
 use Rattle.std.specs.declared.io.ErrorKind.TheVariants as kind
@@ -34,9 +34,42 @@ word_of refusal.Output = codes "output"
 abbrev pub first_line : Refusal → List ℕ
 first_line r = codes "natgw: " ++ word_of r ++ codes "\n"
 
+-- what to do where no more is known than the word
+abbrev pub sentence_of : Refusal → List ℕ
+sentence_of refusal.Config = codes "the options are no configuration: `natgw --help` tells of them"
+sentence_of refusal.File = codes "a file, a directory or a socket can't be had: look at its path"
+sentence_of refusal.Device =
+    codes "a read, write or sync of natgw.a or natgw.b failed: look into the kernel's log and at the space that is left, then start again"
+sentence_of refusal.Full = codes "natgw.a or natgw.b has no room below 67108864 bytes: start again"
+sentence_of refusal.Damaged =
+    codes "natgw.a and natgw.b hold what natgw didn't write: put both back from one backup, or name another directory"
+sentence_of refusal.ConfigDiffers =
+    codes "the files were written with another configuration: start natgw with that one, or name another directory"
+sentence_of refusal.Generations = codes "the files can't be made anew any more: name a new directory"
+sentence_of refusal.NoMemory = codes "memory was refused: allow natgw more, and start again"
+sentence_of refusal.Reopen = codes "a read, write or sync of natgw.a or natgw.b failed before: start again"
+sentence_of refusal.NumbersOut = codes "the last event had the greatest number: start again"
+sentence_of refusal.BadKind =
+    codes "the first byte of a request is none of 1, 2 and 3: correct what sends the requests"
+sentence_of refusal.BadInterface =
+    codes "the second byte of a packet is neither 0 nor 1, or that of another request isn't 0: correct what sends the requests"
+sentence_of refusal.TooLong =
+    codes "a packet of more than 65535 bytes, a ruleset of more than 262144, or a moment with a body: correct what sends the requests"
+sentence_of refusal.Truncated =
+    codes "the input ends within a request: all whole requests before it are answered, send the rest again"
+sentence_of refusal.Input =
+    codes "the requests can't be read any further: all whole requests before are answered, send the rest again"
+sentence_of refusal.Output =
+    codes "standard output or standard error takes no more: look at what reads it; what was answered stands in the files"
+
 -- there are some bytes, and none of them ends a line or is another control byte
 abbrev pub is_one_line : List ℕ → Bool
 is_one_line bytes = nat_lt 0 (length bytes) && list_all (nat_lt 31) bytes
+
+-- the second line: what is known besides the word, where that is one line
+abbrev pub second_line_of : Refusal → Option (List ℕ) → List ℕ
+second_line_of r None = sentence_of r
+second_line_of r (Some advice) = if is_one_line advice then advice else sentence_of r
 
 -- a gateway that holds too many answers has no room either
 abbrev pub gateway_refusal : GatewayFault → Refusal
@@ -72,3 +105,23 @@ IsOfGateway fault = ⊥
 abbrev pub path_refusal : ErrorKind → Refusal
 path_refusal kind.OutOfMemory = refusal.NoMemory
 path_refusal _ = refusal.File
+
+-- what may be the matter with a path
+abbrev pub IsOfPath : Refusal → Type 0
+IsOfPath r = (r ≡ refusal.File) ⊎ (r ≡ refusal.NoMemory)
+
+-- what may be the matter with the files of a directory
+abbrev pub IsOfFiles : Refusal → Type 0
+IsOfFiles r = IsOfPath r ⊎ ((fault : OpenFault) × (r ≡ opening_refusal fault))
+
+-- what may be the matter where something is printed
+abbrev pub IsOfPrinting : Refusal → Type 0
+IsOfPrinting r = (r ≡ refusal.NoMemory) ⊎ (r ≡ refusal.Output)
+
+-- what may end a stream of requests
+abbrev pub IsOfStream : Refusal → Type 0
+IsOfStream r = (fault : EdgeFault) × (r ≡ edge_refusal fault)
+
+-- what may end the serving of clients: the socket, the gateway, or that a client's word can't be told
+abbrev pub IsOfServing : Refusal → Type 0
+IsOfServing r = IsOfPath r ⊎ (r ≡ refusal.Output) ⊎ ((fault : GatewayFault) × (r ≡ gateway_refusal fault))

@@ -2,7 +2,7 @@
 ghost use Rattle.std.specs.Prelude.{◌≡◌, IsOk, IfErr, OnOk};
 ghost use Rattle.std.specs.Io.KnownBytes.{Appends};
 ghost use Rattle.commands.specs.declared.refusal.Refusal.TheVariants.{Output};
-ghost use Rattle.commands.specs.Words.{IsOfGateway, edge_refusal, first_line};
+ghost use Rattle.commands.specs.Words.{IsOfGateway, IsOfStream, edge_refusal, first_line};
 
 use crate::stop::tell_word;
 use crate::{Refusal, ends_program};
@@ -33,7 +33,9 @@ pub fn replay<R: Read, W: Write, D: Disk + Drop>(
     reader: &mut R,
     writer: &mut W,
     gateway: &mut Gateway<D>,
-) -> Result<(), Refusal> {
+) -> Result<(), Refusal>
+    ensures { IfErr result IsOfStream }
+{
     match answer_all(alloc, reader, writer, gateway) {
         Ok(_) => Ok(()),
         Err(fault) => Err(Refusal::of_edge(fault)),

@@ -3,6 +3,7 @@ ghost use Rattle.std.specs.Prelude.{◌≡◌, ℕ, List, true, false, [], IfOk,
 ghost use Rattle.std.specs.Io.KnownBytes.{Appends};
 ghost use Rattle.commands.specs.declared.refusal.Refusal.TheVariants.{NoMemory};
 ghost use Rattle.commands.specs.Verdicts.{IsVerdict, TellsOf};
+ghost use Rattle.commands.specs.Words.{IsOfPrinting};
 
 use crate::Refusal;
 use packet::bounds::Bounds;
@@ -94,6 +95,8 @@ pub fn check<W: Write, E: Write>(
     ensures ok { IfOk result (λ loads. (line : List ℕ) × IsVerdict bounds.now text.now loads line
         × Appends (W.contents output.old) (W.contents output.new) line) }
     ensures quiet { explains ≡ false → errors.new ≡ errors.old }
+    ensures causes { IfErr result IsOfPrinting }
+    ensures memory { IfErr result (λ refusal. refusal ≡ NoMemory → (output.new ≡ output.old) × (errors.new ≡ errors.old)) }
 {
     let finding = report(alloc, text, bounds, explains)?;
     if output.write_all(finding.line.as_slice()).is_err() {

@@ -6,7 +6,7 @@ ghost use Rattle.commands.specs.Spelling.{IsNoConfig, SpellsAddress, SpellsNumbe
 
 use crate::{Refusal, Stop};
 use itoa::Buffer;
-use packet::bounds::Bounds;
+use packet::bounds::{Bounds, ConfigFault};
 use packet::endpoint::Prefix;
 use std::alloc::{AllocError, Global};
 use std::net::Ipv4Addr;
@@ -114,6 +114,15 @@ fn external_of(alloc: Global, text: &str) -> Result<u32, Stop>
     }
 }
 
+// The options that have to be other for this fault to go.
+fn options_of(fault: ConfigFault) -> &'static str {
+    match fault {
+        ConfigFault::BadName | ConfigFault::EqualNames => "--lan and --wan",
+        ConfigFault::PrefixCount | ConfigFault::BadPrefix => "--inside",
+        ConfigFault::ExternalInside => "--inside and --external",
+    }
+}
+
 /// The configuration that the options spell.
 ///
 /// # Errors
@@ -137,7 +146,7 @@ pub fn bounds(alloc: Global, sides: &Sides<'_>) -> Result<Bounds, Stop>
         Ok(bounds) => Ok(bounds),
         Err(fault) => Err(Stop::with(
             Refusal::Config,
-            format!(in alloc; "{fault}: set --lan, --wan, --inside and --external right"),
+            format!(in alloc; "{fault}: set {} right", options_of(fault)),
         )),
     }
 }

@@ -1,4 +1,7 @@
 //! A gateway over the files of a directory, or what is the matter with them.
+ghost use Rattle.std.specs.Prelude.{◌≡◌, IfErr};
+ghost use Rattle.commands.specs.Words.{IsOfFiles, IsOfPath};
+
 use crate::config::bounds;
 use crate::{Refusal, Sides, Stop};
 use diagnosis::diagnose;
@@ -17,7 +20,9 @@ pub struct Opening<'a> {
 }
 
 // Why the files of a directory can't be opened.
-fn unopened(alloc: Global, directory: &str, error: &OpenError) -> Stop {
+fn unopened(alloc: Global, directory: &str, error: &OpenError) -> Stop
+    ensures { IsOfPath result.refusal }
+{
     match error {
         OpenError::NoMemory => Stop::from(Refusal::NoMemory),
         _ => Stop::with(Refusal::File, format!(in alloc; "{directory}: {error}")),
@@ -31,7 +36,9 @@ fn unsound(
     sides: &Sides<'_>,
     directory: &str,
     refusal: Refusal,
-) -> Stop {
+) -> Stop
+    ensures { result.refusal ≡ refusal }
+{
     let Ok(bounds) = bounds(alloc, sides) else {
         return Stop::from(refusal);
     };
@@ -52,7 +59,9 @@ pub fn open(
     sides: &Sides<'_>,
     bounds: Bounds,
     opening: Opening<'_>,
-) -> Result<Gateway<FileDisk>, Stop> {
+) -> Result<Gateway<FileDisk>, Stop>
+    ensures { IfErr result (λ stop. IsOfFiles stop.refusal) }
+{
     let alloc = rt.alloc();
     let disk = match FileDisk::open(rt, opening.directory) {
         Ok(disk) => disk,

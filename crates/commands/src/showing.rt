@@ -1,7 +1,9 @@
 //! The lines of a gateway's sessions.
-ghost use Rattle.std.specs.Prelude.{OnOk};
+ghost use Rattle.std.specs.Prelude.{◌≡◌, IfErr, OnOk};
 ghost use Rattle.std.specs.List.{flat_map};
 ghost use Rattle.std.specs.Io.KnownBytes.{Appends};
+ghost use Rattle.commands.specs.declared.refusal.Refusal.TheVariants.{NoMemory};
+ghost use Rattle.commands.specs.Words.{IsOfPrinting};
 ghost use Rattle.session_lines.specs.Lines.{line};
 
 use crate::Refusal;
@@ -20,8 +22,10 @@ pub fn show<W: Write, D: Disk + Drop>(
     gateway: &Gateway<D>,
     output: &mut W,
 ) -> Result<(), Refusal>
-    ensures { OnOk result (Appends (W.contents output.old) (W.contents output.new)
+    ensures ok { OnOk result (Appends (W.contents output.old) (W.contents output.new)
         (flat_map line gateway.now.told.state.sessions)) }
+    ensures causes { IfErr result IsOfPrinting }
+    ensures memory { IfErr result (λ refusal. refusal ≡ NoMemory → output.new ≡ output.old) }
 {
     let Ok(sessions) = gateway.sessions() else {
         return Err(Refusal::NoMemory);

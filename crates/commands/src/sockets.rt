@@ -1,4 +1,7 @@
 //! The clients of a Unix socket, one after the other.
+ghost use Rattle.std.specs.Prelude.{◌≡◌, [], IsErr, IsOk, IfErr};
+ghost use Rattle.commands.specs.Words.{IsOfPath, IsOfServing};
+
 use crate::answering::{answer_all, settle};
 use crate::{Refusal, Stop};
 use disk_model::Disk;
@@ -16,7 +19,10 @@ use std::os::unix::net::{UnixListener, UnixStream};
 ///
 /// `File` where the path is empty, something stands there, or a socket can't be bound there; `NoMemory` where memory is
 /// refused.
-pub fn bind<R: Files + Net>(rt: &R, alloc: Global, path: &str) -> Result<UnixListener, Stop> {
+pub fn bind<R: Files + Net>(rt: &R, alloc: Global, path: &str) -> Result<UnixListener, Stop>
+    ensures empty { path.now ≡ [] → IsErr result }
+    ensures causes { IfErr result (λ stop. IsOfPath stop.refusal) }
+{
     // The system would take no path for a name of its own choice, at which no client finds the socket.
     if path.is_empty() {
         return Err(Stop::with(
@@ -31,7 +37,9 @@ pub fn bind<R: Files + Net>(rt: &R, alloc: Global, path: &str) -> Result<UnixLis
 }
 
 // Why there is no socket at a path.
-fn unbound(alloc: Global, path: &str, error: &io::Error) -> Stop {
+fn unbound(alloc: Global, path: &str, error: &io::Error) -> Stop
+    ensures { IsOfPath result.refusal }
+{
     match error.kind() {
         ErrorKind::AddrInUse => Stop::with(
             Refusal::File,
@@ -56,7 +64,10 @@ pub fn serve_clients<W: Write, D: Disk + Drop>(
     connections: u64,
     errors: &mut W,
     gateway: &mut Gateway<D>,
-) -> Result<(), Stop> {
+) -> Result<(), Stop>
+    ensures none { connections ≡ 0 → IsOk result × (gateway.new ≡ gateway.old) × (errors.new ≡ errors.old) }
+    ensures causes { IfErr result (λ stop. IsOfServing stop.refusal) }
+{
     for _ in 0..connections {
         let stream = match listener.accept() {
             Ok((stream, _)) => stream,
@@ -82,7 +93,9 @@ fn print_answers<W: Write>(
     path: &str,
     client: &UnixStream,
     output: &mut W,
-) -> Result<(), Stop> {
+) -> Result<(), Stop>
+    ensures { IfErr result (λ stop. IsOfServing stop.refusal) }
+{
     let mut answers = Vec::new(alloc);
     let mut reader = client;
     if let Err(error) = reader.read_to_end(&mut answers) {
@@ -110,7 +123,9 @@ pub fn loop_back<R: Net, W: Write, E: Write, D: Disk + Drop>(
     output: &mut W,
     errors: &mut E,
     gateway: &mut Gateway<D>,
-) -> Result<(), Stop> {
+) -> Result<(), Stop>
+    ensures { IfErr result (λ stop. IsOfServing stop.refusal) }
+{
     let client = match client_of(rt, path, requests) {
         Ok(client) => client,
         Err(error) => return Err(Stop::at_path(alloc, path, "takes no requests", &error)),

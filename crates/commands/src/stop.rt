@@ -1,10 +1,10 @@
 //! The two lines that people read where a command gives up: the word, and what to do.
-ghost use Rattle.std.specs.Prelude.{◌≡◌, ◌++◌, ℕ, List, IsTrue, OnOk, codes, nat_lt};
+ghost use Rattle.std.specs.Prelude.{◌≡◌, ◌++◌, ℕ, List, IsTrue, IfOk, OnErr, None, OnOk, Some, codes, nat_lt};
 ghost use Rattle.std.specs.List.{list_all};
 ghost use Rattle.std.specs.Io.KnownBytes.{Appends};
 ghost use Rattle.std.specs.IoError.{error_kind};
 ghost use Rattle.commands.specs.declared.refusal.Refusal.TheVariants.{NoMemory};
-ghost use Rattle.commands.specs.Words.{first_line, is_one_line, path_refusal};
+ghost use Rattle.commands.specs.Words.{first_line, is_one_line, path_refusal, second_line_of, sentence_of};
 
 use crate::Refusal;
 use std::alloc::{AllocError, AllocFailed, Global};
@@ -50,7 +50,9 @@ impl<T: Drop> From<AllocFailed<T>> for Stop {
 impl Stop {
     /// A refusal with its line, which is left out where memory for it was refused.
     pub fn with(refusal: Refusal, advice: Result<String, AllocError>) -> Stop
-        ensures { result.refusal ≡ refusal }
+        ensures refusal { result.refusal ≡ refusal }
+        ensures advice { IfOk advice (λ line. result.advice ≡ Some line) }
+        ensures none { OnErr advice (result.advice ≡ None) }
     {
         Stop {
             refusal,
@@ -69,9 +71,11 @@ impl Stop {
         }
     }
 
-    /// The second line, without its end. It is one line, also where the advice isn't, as that may be which tells a path.
+    /// The second line, without its end: the advice, or what the word says where there is none, or it isn't one line, as
+    /// that may be which tells a path.
     pub fn second_line(&self) -> &str
-        ensures { IsTrue (is_one_line result.now) }
+        ensures says { result.now ≡ second_line_of self.now.refusal self.now.advice }
+        ensures one { IsTrue (is_one_line result.now) }
     {
         match &self.advice {
             Some(advice) => shown_or_general(advice.as_str(), self.refusal),
@@ -101,7 +105,8 @@ fn stands_in_a_line(bytes: &[u8]) -> bool
 
 // The advice, or what the word says where that isn't one line.
 fn shown_or_general(advice: &str, refusal: Refusal) -> &str
-    ensures { IsTrue (is_one_line result.now) }
+    ensures says { result.now ≡ second_line_of refusal (Some advice.now) }
+    ensures one { IsTrue (is_one_line result.now) }
 {
     if stands_in_a_line(advice.as_bytes()) {
         return advice;
@@ -111,7 +116,8 @@ fn shown_or_general(advice: &str, refusal: Refusal) -> &str
 
 // What to do where no more is known than the word.
 fn general(refusal: Refusal) -> &'static str
-    ensures { IsTrue (is_one_line result.now) }
+    ensures says { result.now ≡ sentence_of refusal }
+    ensures one { IsTrue (is_one_line result.now) }
 {
     match refusal {
         Refusal::Config => "the options are no configuration: `natgw --help` tells of them",
@@ -180,7 +186,9 @@ fn tell_lines<W: Write>(writer: &mut W, refusal: Refusal, advice: &str) -> io::R
 ///
 /// That of the writer. A part may have been written then.
 pub fn tell<W: Write>(writer: &mut W, stop: &Stop) -> io::Result<()>
-    ensures { OnOk result ((advice : List ℕ) × IsTrue (is_one_line advice) × Appends (W.contents writer.old) (W.contents writer.new)
+    ensures says { OnOk result (Appends (W.contents writer.old) (W.contents writer.new)
+        (first_line stop.now.refusal ++ second_line_of stop.now.refusal stop.now.advice ++ codes "\n")) }
+    ensures two { OnOk result ((advice : List ℕ) × IsTrue (is_one_line advice) × Appends (W.contents writer.old) (W.contents writer.new)
         (first_line stop.now.refusal ++ advice ++ codes "\n")) }
 {
     tell_lines(writer, stop.refusal, stop.second_line())

@@ -160,9 +160,9 @@ fn no_directories(rt: HostRuntime) -> Result<(), Fail> {
 // What is said of a directory that is refused by the system.
 fn refusal(rt: &HostRuntime, directory: &str) -> Result<String, Fail> {
     match FileDisk::open(rt, directory) {
-        Err(OpenError::System(error)) => Ok(format!(in rt.alloc();
+        Err(OpenError::File(file, error)) => Ok(format!(in rt.alloc();
             "{}",
-            OpenError::System(error)
+            OpenError::File(file, error)
         )?),
         _ => Err("not refused by the system".into()),
     }
@@ -173,7 +173,7 @@ fn refused_directories(rt: HostRuntime) -> Result<(), Fail> {
     fresh(&rt, "refused")?;
     fs::create_dir(&rt, "refused/natgw.b")?;
     let found = refusal(&rt, "refused")?;
-    let expected = "natgw.a and natgw.b can't be opened there: Is a directory (os error 21)";
+    let expected = "natgw.b can't be opened there: Is a directory (os error 21)";
     assert!(rt; found.as_str() == expected);
     Ok(())
 }

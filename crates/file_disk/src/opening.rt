@@ -1,7 +1,7 @@
 //! The files of a directory are opened.
 ghost use Rattle.std.specs.Prelude.{◌≡◌, IfOk};
 ghost use Rattle.file_disk.specs.Named.{file_name};
-ghost use Rattle.file_disk.specs.Refused.{IsLockToldAs, IsToldAs};
+ghost use Rattle.file_disk.specs.Refused.{IsLockToldAs, IsToldAs, IsToldOf};
 ghost use Rattle.file_disk.specs.declared.opening.OpenError.TheVariants.{NoMemory};
 
 use crate::FileDisk;
@@ -21,13 +21,16 @@ pub enum OpenError {
     /// What stands there is no directory.
     #[error("that is no directory: name another one")]
     NotDirectory,
-    /// What stands at the name of a file is none.
-    #[error("natgw.a or natgw.b there is no regular file: move it away")]
-    NotFile,
+    /// What stands at the name of this file is none.
+    #[error("{name} there is no regular file: move it away", name = name_of(*.0))]
+    NotFile(FileId),
     /// Another program has the files.
     #[error("another program works in that directory: stop it, or name another one")]
     Locked,
-    /// A call of the system has failed.
+    /// A call of the system on this file has failed.
+    #[error("{name} can't be opened there: {1}", name = name_of(*.0))]
+    File(FileId, io::Error),
+    /// A call of the system on the directory has failed.
     #[error("natgw.a and natgw.b can't be opened there: {0}")]
     System(io::Error),
     /// Memory was refused.
@@ -65,6 +68,16 @@ impl From<TryLockError> for OpenError {
     }
 }
 
+// The error of this file, where the system refused a call on it.
+fn of_file(file: FileId, error: OpenError) -> OpenError
+    ensures { IsToldOf file error result }
+{
+    match error {
+        OpenError::System(error) => OpenError::File(file, error),
+        other => other,
+    }
+}
+
 /// The name of a file in its directory.
 pub fn name_of(file: FileId) -> &'static str
     ensures { result.now ≡ file_name file }
@@ -89,8 +102,8 @@ fn open_directory(rt: &HostRuntime, directory: &str) -> Result<File, OpenError> 
 }
 
 // One of the files, made where it is missing, and locked until it is closed.
-fn open_file(rt: &HostRuntime, directory: &str, file: FileId) -> Result<File, OpenError> {
-    let path = format!(in rt.alloc(); "{directory}/{}", name_of(file))?;
+fn open_file(rt: &HostRuntime, directory: &str, id: FileId) -> Result<File, OpenError> {
+    let path = format!(in rt.alloc(); "{directory}/{}", name_of(id))?;
     let mut file = OpenOptions::new()
         .read(true)
         .write(true)
@@ -102,7 +115,7 @@ fn open_file(rt: &HostRuntime, directory: &str, file: FileId) -> Result<File, Op
         file = file.try_clone()?;
     }
     if !file.metadata()?.is_file() {
-        return Err(OpenError::NotFile);
+        return Err(OpenError::NotFile(id));
     }
     file.try_lock()?;
     Ok(file)
@@ -119,6 +132,21 @@ fn settle(file: &File) -> Result<(), OpenError> {
     Ok(())
 }
 
+// One of the files, opened and settled.
+fn settled_file(rt: &HostRuntime, directory: &str, id: FileId) -> Result<File, OpenError> {
+    let file = open_file(rt, directory, id)?;
+    settle(&file)?;
+    Ok(file)
+}
+
+// One of the files, or what is the matter with it.
+fn file_in(rt: &HostRuntime, directory: &str, id: FileId) -> Result<File, OpenError> {
+    match settled_file(rt, directory, id) {
+        Ok(file) => Ok(file),
+        Err(error) => Err(of_file(id, error)),
+    }
+}
+
 impl FileDisk<File> {
     /// Opens the files `natgw.a` and `natgw.b` of a directory, makes those that are missing, with access for their
     /// owner alone, and locks both until the disk is dropped. Both and the directory are synced, so that a loss of power
@@ -130,16 +158,14 @@ impl FileDisk<File> {
     /// - `NotDirectory` where that is none, `NotFile` where a file is no regular one.
     /// - `Locked` where another program has the files, or a second disk of this one.
     /// - `NoMemory` where memory is refused.
-    /// - `System` where another call of the system fails.
+    /// - `File` where another call of the system on a file fails, `System` where one on the directory does.
     pub fn open(rt: &HostRuntime, directory: &str) -> Result<FileDisk<File>, OpenError>
         ensures calls { IfOk result (λ disk. disk.calls ≡ 0) }
         ensures failures { IfOk result (λ disk. disk.failures ≡ 0) }
     {
         let folder = open_directory(rt, directory)?;
-        let a = open_file(rt, directory, FileId::A)?;
-        let b = open_file(rt, directory, FileId::B)?;
-        settle(&a)?;
-        settle(&b)?;
+        let a = file_in(rt, directory, FileId::A)?;
+        let b = file_in(rt, directory, FileId::B)?;
         folder.sync_all()?;
         Ok(FileDisk::of(a, b))
     }
