@@ -1,5 +1,5 @@
 -- The word that people read for each way in which a command gives up.
-use Rattle.std.specs.Prelude.{◌≡◌, ◌⊎◌, ℕ, Bool, List, Option, None, Some, ◌++◌, ◌&&◌, nat_lt, length, codes, ⊤}
+use Rattle.std.specs.Prelude.{◌≡◌, ◌⊎◌, ℕ, Bool, List, Option, None, Some, ◌++◌, ◌&&◌, nat_lt, length, codes, option_map, string_bytes, ⊤, if◌then◌else◌}
 use Rattle.std.specs.List.{list_all}
 use Rattle.std.specs.declared.io.ErrorKind.{ErrorKind}
 use Rattle.std.specs.declared.io.ErrorKind.TheVariants as kind
@@ -11,6 +11,7 @@ use Rattle.socket_edge.specs.declared.fault.EdgeFault.{EdgeFault}
 use Rattle.socket_edge.specs.declared.fault.EdgeFault.TheVariants as edge
 use Rattle.commands.specs.declared.refusal.Refusal.{Refusal}
 use Rattle.commands.specs.declared.refusal.Refusal.TheVariants as refusal
+use Rattle.commands.specs.declared.stop.Stop.{Stop}
 
 abbrev pub word_of : Refusal → List ℕ
 word_of refusal.Config = codes "config"
@@ -66,10 +67,13 @@ sentence_of refusal.Output =
 abbrev pub is_one_line : List ℕ → Bool
 is_one_line bytes = nat_lt 0 (length bytes) && list_all (nat_lt 31) bytes
 
--- the second line: what is known besides the word, where that is one line
-abbrev pub second_line_of : Refusal → Option (List ℕ) → List ℕ
-second_line_of r None = sentence_of r
-second_line_of r (Some advice) = if is_one_line advice then advice else sentence_of r
+-- what is known besides the word, where that is one line, and otherwise what the word says
+abbrev pub advised : Refusal → Option (List ℕ) → List ℕ
+advised r None = sentence_of r
+advised r (Some advice) = if is_one_line advice then advice else sentence_of r
+
+abbrev pub second_line : Stop → List ℕ
+second_line stop = advised stop.refusal (option_map string_bytes stop.advice)
 
 -- a gateway that holds too many answers has no room either
 abbrev pub gateway_refusal : GatewayFault → Refusal

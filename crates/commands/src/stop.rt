@@ -4,7 +4,7 @@ ghost use Rattle.std.specs.List.{list_all};
 ghost use Rattle.std.specs.Io.KnownBytes.{Appends};
 ghost use Rattle.std.specs.IoError.{error_kind};
 ghost use Rattle.commands.specs.declared.refusal.Refusal.TheVariants.{NoMemory};
-ghost use Rattle.commands.specs.Words.{first_line, is_one_line, path_refusal, second_line_of, sentence_of};
+ghost use Rattle.commands.specs.Words.{advised, first_line, is_one_line, path_refusal, second_line, sentence_of};
 
 use crate::Refusal;
 use std::alloc::{AllocError, AllocFailed, Global};
@@ -74,7 +74,7 @@ impl Stop {
     /// The second line, without its end: the advice, or what the word says where there is none, or it isn't one line, as
     /// that may be which tells a path.
     pub fn second_line(&self) -> &str
-        ensures says { result.now ≡ second_line_of self.now.refusal self.now.advice }
+        ensures says { result.now ≡ second_line self.now }
         ensures one { IsTrue (is_one_line result.now) }
     {
         match &self.advice {
@@ -105,7 +105,7 @@ fn stands_in_a_line(bytes: &[u8]) -> bool
 
 // The advice, or what the word says where that isn't one line.
 fn shown_or_general(advice: &str, refusal: Refusal) -> &str
-    ensures says { result.now ≡ second_line_of refusal (Some advice.now) }
+    ensures says { result.now ≡ advised refusal (Some advice.now) }
     ensures one { IsTrue (is_one_line result.now) }
 {
     if stands_in_a_line(advice.as_bytes()) {
@@ -187,7 +187,7 @@ fn tell_lines<W: Write>(writer: &mut W, refusal: Refusal, advice: &str) -> io::R
 /// That of the writer. A part may have been written then.
 pub fn tell<W: Write>(writer: &mut W, stop: &Stop) -> io::Result<()>
     ensures says { OnOk result (Appends (W.contents writer.old) (W.contents writer.new)
-        (first_line stop.now.refusal ++ second_line_of stop.now.refusal stop.now.advice ++ codes "\n")) }
+        (first_line stop.now.refusal ++ second_line stop.now ++ codes "\n")) }
     ensures two { OnOk result ((advice : List ℕ) × IsTrue (is_one_line advice) × Appends (W.contents writer.old) (W.contents writer.new)
         (first_line stop.now.refusal ++ advice ++ codes "\n")) }
 {
