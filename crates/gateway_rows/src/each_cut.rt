@@ -1,5 +1,5 @@
-//! Texts that are cut at each byte, and texts at a limit and past it, loaded through a gateway: what is refused leaves the
-//! rules as they were.
+//! Texts and packets that are cut at each byte, and texts at a limit and past it, offered to a gateway: what is refused
+//! leaves the rules as they were.
 use crate::script::{flush, offer, play};
 use crate::shared::{Answer, Event, Given, MASQUERADE, Trials, What, fresh};
 use crate::words::body;
@@ -45,6 +45,39 @@ fn each_cut(rt: HostRuntime) -> Result<(), Fail> {
         play(alloc, &mut gateway, refused(alloc, cut)?.as_str())?;
     }
     play(alloc, &mut gateway, STAYS)
+}
+
+const UDP: &str = "4500001c0001000040118eebc0a80102c6336407138800350008003c";
+
+const SYN: &str =
+    "450000280001000040068eeac0a80102c63364079c4001bb00000001000000005002ffff26010000";
+
+// The packet up to a byte, as the event with this number.
+fn dropped(alloc: Global, packet: &str, cut: usize, number: usize) -> Result<String, Fail> {
+    let bytes = packet
+        .get(..cut.saturating_mul(2))
+        .ok_or("a longer packet")?;
+    let cause = if cut < 20 { 1 } else { 4 };
+    Ok(format!(in alloc; "lan 1000 {bytes}\n= now {number} drop {cause}")?)
+}
+
+#[test]
+fn each_cut_of_packets(rt: HostRuntime) -> Result<(), Fail> {
+    let alloc = rt.alloc();
+    let mut gateway = fresh(alloc)?;
+    let mut number = 0_usize;
+    for packet in [UDP, SYN] {
+        for cut in 0..packet.len() / 2 {
+            number = number.saturating_add(1);
+            let lines = dropped(alloc, packet, cut, number)?;
+            play(alloc, &mut gateway, lines.as_str())?;
+        }
+    }
+    play(
+        alloc,
+        &mut gateway,
+        "sessions\ngrown\n= 0\nat 1000\n= now 69 ticked",
+    )
 }
 
 // A text of so many lines between the two others.

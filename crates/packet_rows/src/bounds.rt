@@ -94,6 +94,18 @@ fn configurations_are_refused(rt: HostRuntime) -> Result<(), Fail> {
     Ok(())
 }
 
+const SIXTEEN: [Prefix; 16] = [Prefix {
+    addr: 0xc0a80000,
+    len: 16,
+}; 16];
+
+#[test]
+fn sixteen_prefixes_are_taken(rt: HostRuntime) -> Result<(), Fail> {
+    let found = bounds(rt.alloc(), ("lan", "wan"), &SIXTEEN, EXTERNAL)?;
+    assert!(rt; found.is_ok());
+    Ok(())
+}
+
 fn boxed(alloc: Global) -> Result<Box<Bounds>, Fail> {
     match bounds(alloc, ("en-0.a_B", "0123456789abcde"), &INSIDE, EXTERNAL)? {
         Ok(bounds) => Ok(Box::new(alloc, bounds)?),
