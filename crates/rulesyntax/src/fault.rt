@@ -95,7 +95,7 @@ pub struct LoadFault {
 
 impl LoadFault {
     /// A growth was refused.
-    pub fn no_memory() -> LoadFault
+    pub(crate) fn no_memory() -> LoadFault
         ensures { result ≡ record { kind = NoMemory; line = tt } }
     {
         LoadFault {

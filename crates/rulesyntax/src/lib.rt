@@ -22,7 +22,7 @@ pub mod ruleset;
 mod set;
 mod source;
 mod table;
-pub mod token;
+mod token;
 pub mod tree;
 
 pub use ruleset::{GREATEST_LENGTH, one_ruleset, parse};

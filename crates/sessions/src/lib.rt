@@ -23,5 +23,5 @@ pub use laws::{
     restarted_awaits_reply,
 };
 pub use life::{Phase, are_known_bits, is_syn_alone};
-pub use session::{Change, Opener, Session, clash, order};
+pub use session::{Change, Opener, Session, order};
 pub use table::{AddFault, MOST_SESSIONS, Slot, Table};

@@ -107,7 +107,7 @@ impl Element {
     }
 
     /// Whether some value lies in both. A number and a name never share one.
-    pub fn shares_with(&self, other: &Element) -> bool
+    pub(crate) fn shares_with(&self, other: &Element) -> bool
         ensures { IsTrue result ↔ Share self.now other.now }
     {
         match (self, other) {
