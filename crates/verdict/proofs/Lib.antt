@@ -9,6 +9,7 @@ pub mod PortsSpelled
 pub mod Bounded
 pub mod Turns
 pub mod Probed
+pub mod Sought
 pub mod Laying
 pub mod Pushed
 pub mod Led

@@ -5,6 +5,7 @@ pub mod Ranking
 pub mod Targets
 pub mod Pools
 pub mod Lines
+pub mod Keyed
 pub mod Places
 pub mod Costs
 pub mod Laws

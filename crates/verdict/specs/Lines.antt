@@ -26,6 +26,7 @@ use Rattle.verdict.specs.declared.row.Span.{Span}
 use Rattle.verdict.specs.declared.row.Laid.{Laid}
 use Rattle.verdict.specs.Matching.{is_between, state_number, is_of, holds}
 use Rattle.verdict.specs.Pools.{ArePools}
+use Rattle.verdict.specs.Keyed.{AreKeys}
 
 -- a port of a packet of this protocol; a packet of another one has 2^32, which no value stands for
 abbrev pub port_of : Transport → Facts → ℕ → ℕ
@@ -128,6 +129,7 @@ AreChainsLaid table laid = AreSpans table laid.lines laid.targets table.chains l
 pub record IsLaid (table : Table) (laid : Laid) : Type 0 where
   pub chains : AreChainsLaid table laid
   pub sets : ArePools table.sets laid.pools
+  pub keys : AreKeys laid.lines laid.keys
   pub typed : ¬ HasWrongType table.sets table.chains
 
 abbrev pub AreLaid : List Table → List Laid → Type 0

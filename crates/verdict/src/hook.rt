@@ -281,7 +281,7 @@ pub fn forward(rules: &Rules, bounds: &Bounds, facts: &Facts) -> Forwarding
 }
 
 /// Whether a packet passes, and with how many steps that was found: at most one for each rule, however many
-/// jumps and base chains lead to it. A step is one rule that is looked at. Takes no memory.
+/// jumps and base chains lead to it. A step is one rule that is looked at or passed over. Takes no memory.
 #[tactic(auto, unfolding(crate::specs::Hooks::forward_verdict))]
 pub fn forward_counted(rules: &Rules, bounds: &Bounds, facts: &Facts) -> (Forwarding, Steps)
     ensures verdict { result.0 ≡ forward_verdict bounds.now facts.now rules.now }
@@ -303,8 +303,8 @@ pub fn prerouting(rules: &Rules, bounds: &Bounds, facts: &Facts) -> Destination
 }
 
 /// The new destination of a packet for the external address, and with how many steps it was found: at most one
-/// for each rule, however many jumps and base chains lead to it. A step is one rule that is looked at. Takes
-/// no memory.
+/// for each rule, however many jumps and base chains lead to it. A step is one rule that is looked at or passed
+/// over. Takes no memory.
 #[tactic(auto, unfolding(crate::specs::Hooks::prerouting_verdict))]
 pub fn prerouting_counted(rules: &Rules, bounds: &Bounds, facts: &Facts) -> (Destination, Steps)
     ensures verdict { result.0 ≡ prerouting_verdict bounds.now facts.now rules.now }
@@ -327,7 +327,8 @@ pub fn postrouting(rules: &Rules, bounds: &Bounds, facts: &Facts) -> Source
 }
 
 /// The new source address of a packet for wan, and with how many steps it was found: at most one for each
-/// rule, however many jumps and base chains lead to it. A step is one rule that is looked at. Takes no memory.
+/// rule, however many jumps and base chains lead to it. A step is one rule that is looked at or passed over.
+/// Takes no memory.
 #[tactic(auto, unfolding(crate::specs::Hooks::postrouting_verdict))]
 pub fn postrouting_counted(rules: &Rules, bounds: &Bounds, facts: &Facts) -> (Source, Steps)
     ensures verdict { result.0 ≡ postrouting_verdict bounds.now facts.now rules.now }

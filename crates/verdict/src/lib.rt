@@ -6,6 +6,7 @@
 //!   hold.
 //! - `pool`: the named sets of a table as unions, which packets are looked up in by halving.
 //! - `row`: the rules of a table in one row, with the places that jumps and gotos lead to as numbers.
+//! - `keys`: keys in order, by which the walk passes over rules that ask for other numbers than a packet has.
 //! - `chain`: what a chain of rules comes to, and the ends of rules.
 //! - `stack`, `walk`: the walk over a row, with at most 16 places to return to and without recursion.
 //! - `hook`: `forward`, `prerouting` and `postrouting`, what the base chains of a hook decide, of which the
@@ -15,13 +16,14 @@
 //! The definitions stand in `specs/`: `Matching` says when a match holds, `Evaluation` what a chain
 //! comes to, and `Hooks` what a hook decides. Only `Rules::of` takes memory, no call for a packet does. For
 //! one packet at one hook the rules of each chain are read at most once: what each chain came to is
-//! remembered for the packet, the hook and the table. So at most as many rules are looked at as there are
-//! (`Costs`), whatever jumps and base chains there are.
+//! remembered for the packet, the hook and the table. So at most as many rules are looked at or passed over as there
+//! are (`Costs`), whatever jumps and base chains there are.
 #![tactic(auto)]
 
 mod chain;
 pub mod facts;
 pub mod hook;
+mod keys;
 pub mod laws;
 mod matching;
 mod pool;

@@ -13,6 +13,7 @@ ghost use Rattle.verdict.specs.Matching.{lies, state_number as number_of_state};
 ghost use Rattle.verdict.specs.Lines.{numbers_of as numbers_of_facts, port_of as port_of_facts, place_of_head, may_hold as may_hold_of, Tells, TestTells, place_among, place_led, IsLaid, AreLaid, IsRuleLaid, IsChainLaid};
 
 use crate::facts::Facts;
+use crate::keys::keys_of;
 use crate::matching::{is_of, state_number};
 use crate::pool::pools_of;
 use packet::endpoint::Prefix;
@@ -58,6 +59,8 @@ pub(crate) struct Laid {
     pub(crate) spans: Items<Span>,
     /// One for each rule.
     pub(crate) lines: Items<Line>,
+    /// One for each rule, in order: by them rules are passed over that ask for other numbers.
+    pub(crate) keys: Items<u64>,
     /// One for each verdict of a rule: the place of the chain that it jumps or goes to, of those of the table.
     pub(crate) targets: Items<usize>,
     /// One for each named set of the table.
@@ -280,9 +283,11 @@ pub(crate) fn lay(alloc: Global, table: &Table) -> Result<Laid, AllocError>
         let end = lines.len();
         spans.push(Span { start, end })?;
     }
+    let keys = keys_of(alloc, lines.as_slice())?;
     Ok(Laid {
         spans,
         lines,
+        keys,
         targets,
         pools,
     })

@@ -9,6 +9,7 @@ ghost use Rattle.verdict.specs.Pools.{ArePools};
 ghost use Rattle.verdict.specs.declared.row.Line.{Line as LineOf};
 ghost use Rattle.verdict.specs.Targets.{OfEach, TargetsHave, IsShort};
 ghost use Rattle.verdict.specs.Lines.{numbers_of as numbers_of_facts, may_hold as line_may_hold, IsLine, AreChainsLaid, IsLaid, LeadsFrom, place_led};
+ghost use Rattle.verdict.specs.Keyed.{AreKeys};
 ghost use Rattle.verdict.specs.Evaluation.{chain_outcome as outcome_of_chain};
 ghost use Rattle.packet.specs.Config.{Config};
 ghost use Rattle.verdict.specs.declared.chain.Outcome.TheVariants as outcomes;
@@ -17,6 +18,7 @@ ghost use Rattle.verdict.specs.Costs.{unread, IsNew, Reading, Spent};
 
 use crate::chain::{Outcome, key_for, known_at, remember, translation, unless_ended};
 use crate::facts::Facts;
+use crate::keys::{NEAR, next_met, pass};
 use crate::matching::all_hold;
 use crate::row::{Laid, Line, Probe, may_hold, numbers_of};
 use crate::stack::{Place, Stack};
@@ -180,8 +182,8 @@ fn look(numbers: &[u64], probe: Probe, steps: &mut Steps) -> bool
     may_hold(numbers, probe)
 }
 
-// The first line from the one up to the other whose rule may match.
-fn candidate(lines: &[Line], numbers: &[u64], from: usize, end: usize, steps: &mut Steps) -> usize
+// The first line from the one up to the other whose rule may match, or the other one.
+fn near(lines: &[Line], numbers: &[u64], from: usize, end: usize, steps: &mut Steps) -> usize
     requires rises { from ≤ end }
     requires within { end ≤ length lines.now }
     requires room { steps.old + end < 2 ^ 32 + from }
@@ -201,6 +203,39 @@ fn candidate(lines: &[Line], numbers: &[u64], from: usize, end: usize, steps: &m
     end
 }
 
+// The same, which reads no line that its key lets pass over. A step is then a rule that is looked at or passed over.
+fn candidate(
+    lines: &[Line],
+    keys: &[u64],
+    numbers: &[u64],
+    from: usize,
+    end: usize,
+    steps: &mut Steps,
+) -> usize
+    requires rises { from ≤ end }
+    requires within { end ≤ length lines.now }
+    requires room { steps.old + end < 2 ^ 32 + from }
+    requires keys { AreKeys lines.now keys.now }
+    requires numbers { length numbers.now ≡ 8 }
+    ensures from { from ≤ result }
+    ensures to { result ≤ end }
+    ensures skipped { (i : ℕ) (line : LineOf) → from ≤ i → i < result → slice_get lines.now i ≡ Some line → line_may_hold numbers.now line.probe ≡ false }
+    ensures found { result < end → steps.new + from ≡ steps.old + result + 1 }
+    ensures none { result ≡ end → steps.new + from ≡ steps.old + end }
+{
+    let mut start = from;
+    while start < end {
+        let stop = start + NEAR.min(end - start);
+        let found = near(lines, numbers, start, stop, steps);
+        if found < stop {
+            return found;
+        }
+        start = next_met(keys, numbers, stop, end);
+        pass(steps, start - stop);
+    }
+    end
+}
+
 // The number of the next rule of the chain that may match, or of all its rules where there is none.
 fn next_rule(
     table: &Table,
@@ -211,6 +246,7 @@ fn next_rule(
     steps: &mut Steps,
 ) -> usize
     requires laid { AreChainsLaid table.now laid.now }
+    requires keys { AreKeys laid.now.lines laid.now.keys }
     requires numbers { numbers.now ≡ numbers_of_facts facts.now }
     requires chain { here.chain < length table.now.chains }
     requires at { here.at ≤ length (rules_at table.now.chains here.chain) }
@@ -223,7 +259,8 @@ fn next_rule(
 {
     let span = laid.spans.as_slice()[here.chain];
     let lines = laid.lines.as_slice();
-    candidate(lines, numbers, span.start + here.at, span.end, steps) - span.start
+    let from = span.start + here.at;
+    candidate(lines, laid.keys.as_slice(), numbers, from, span.end, steps) - span.start
 }
 
 // What the rule of that number makes of the walk.

@@ -4,13 +4,13 @@ use Rattle.verdict.specs.Lines.{may_hold}
 use Rattle.verdict.proofs.walk.candidate.Given as goal
 
 -- no rule before may match
-abbrev pub invariant-loop-at : goal.invariant-loop-at
-invariant-loop-at l = record {
-  from : l.from ≤ l.at;
-  to : l.at ≤ l.end;
-  counted : l.steps + l.from ≡ l.fn.steps + l.at;
-  skipped : (i : ℕ) (line : Line) → l.from ≤ i → i < l.at → slice_get l.lines i ≡ Some line → may_hold l.numbers line.probe ≡ false;
+abbrev pub invariant-loop-start : goal.invariant-loop-start
+invariant-loop-start l = record {
+  from : l.from ≤ l.start;
+  to : l.start ≤ l.end;
+  counted : l.steps + l.from ≡ l.fn.steps + l.start;
+  skipped : (i : ℕ) (line : Line) → l.from ≤ i → i < l.start → slice_get l.lines i ≡ Some line → may_hold l.numbers line.probe ≡ false;
 }
 
-abbrev pub decreases-loop-at : goal.decreases-loop-at
-decreases-loop-at l = l.end - l.at
+abbrev pub decreases-loop-start : goal.decreases-loop-start
+decreases-loop-start l = l.end - l.start
