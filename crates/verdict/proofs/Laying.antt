@@ -50,9 +50,9 @@ lines_stay table lines more targets more_targets from rules are i rule at =
     let old = are i rule at in
     (old.0, stays lines more (from + i) old.0 old.1, line_stays table targets more_targets rule old.0 old.2)
 
-new_line : (table : Table) (rule : Rule) (lines lines2 : List Line) (targets targets2 : List ℕ) (laid : IsRuleLaid table.chains rule lines targets lines2 targets2) → IsLine table targets2 rule laid.line
+new_line : (table : Table) (rule : Rule) (lines lines2 : List Line) (targets targets2 : List ℕ) (laid : IsRuleLaid table rule lines targets lines2 targets2) → IsLine table targets2 rule laid.line
 new_line table rule lines lines2 targets targets2 laid = record {
-  tells = laid.tells table.sets;
+  tells = laid.tells;
   leads = λ k verdict at.
       ap (λ ts. slice_get ts (laid.line.first + k)) laid.led
       ∙ ap (λ n. slice_get (targets ++ map (place_led table.chains) (verdicts_of rule.end)) (n + k)) laid.first
@@ -72,7 +72,7 @@ chain_begun table lines targets = record {
 }
 
 pub chain_more : (table : Table) (done : List Rule) (rule : Rule) (lines lines1 lines2 : List Line) (targets targets1 targets2 : List ℕ)
-    → IsChainLaid table done lines targets lines1 targets1 → IsRuleLaid table.chains rule lines1 targets1 lines2 targets2
+    → IsChainLaid table done lines targets lines1 targets1 → IsRuleLaid table rule lines1 targets1 lines2 targets2
     → IsChainLaid table (done ++ rule ∷ []) lines targets lines2 targets2
 chain_more table done rule lines lines1 lines2 targets targets1 targets2 old new = record {
   more = old.more ++ new.line ∷ [];

@@ -162,8 +162,18 @@ looked_up sets pools class name fact set a pool result are typed found at here i
     same_truth result (is_in_set class fact set) (IsMember fact pool) is (subst (λ p. IsMember fact p ↔ IsTrue (is_in_set class fact set)) same held)
     ∙ sym (ap (λ f. option_map_or (is_in_set class fact) f false) found)
 
+-- what lies in the first set of the name lies in the pool at its place
+pub member_found : (sets : List Set) (pools : List (List Part)) (class : Class) (name : List ℕ) (fact : Fact) (set : Set) (a : ℕ) (pool : List Part)
+    → ArePools sets pools → has_other_class sets class name ≡ false → find (λ set. bytes_eq set.name name) sets ≡ Some set → slice_get sets a ≡ Some set → pool ≡ get_or pools a pool
+    → is_in_named sets class name fact ≡ true → IsMember fact pool
+unfolding is_in_named
+member_found sets pools class name fact set a pool are typed found at here is =
+    let own = are a set at in
+    let same : own.0 ≡ pool = sym (get_or_from_slice_get pools a own.0 pool own.1) ∙ sym here in
+    subst (IsMember fact) same ((own.2 class fact (class_of_found sets class name set found typed)).1 (sym (ap (λ f. option_map_or (is_in_set class fact) f false) found) ∙ is))
+
 -- what holds of none holds not of one
-none_found : {X : Type 0} (p : X → Bool) (xs : List X) (i : ℕ) (x : X) → slice_get xs i ≡ Some x → list_any p xs ≡ false → p x ≡ false
+pub none_found : {X : Type 0} (p : X → Bool) (xs : List X) (i : ℕ) (x : X) → slice_get xs i ≡ Some x → list_any p xs ≡ false → p x ≡ false
 none_found p [] i x at fails = cc
 none_found p (y ∷ ys) zero x at fails = let same : y ≡ x = cc in ap p (sym same) ∙ (or_parts (p y) (list_any p ys) fails).0
 none_found p (y ∷ ys) (suc i) x at fails = none_found p ys i x at (or_parts (p y) (list_any p ys) fails).1

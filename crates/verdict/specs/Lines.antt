@@ -67,6 +67,11 @@ abbrev pub TestTells : Match → Probe → Type 0
 TestTells test probe =
     (config : Config) (sets : List Set) (facts : Facts) → may_hold (numbers_of facts) probe ≡ false → holds config sets facts test ≡ false
 
+-- the same where these are the table's sets
+abbrev pub TellsIn : List Set → Match → Probe → Type 0
+TellsIn sets test probe =
+    (config : Config) (facts : Facts) → may_hold (numbers_of facts) probe ≡ false → holds config sets facts test ≡ false
+
 -- the place of the first chain of that name, or behind all of them
 abbrev pub place_among : List Chain → List ℕ → ℕ
 place_among [] name = 0
@@ -87,12 +92,12 @@ pub record IsLine (table : Table) (targets : List ℕ) (rule : Rule) (line : Lin
   pub leads : LeadsFrom table.chains targets line.first (verdicts_of rule.end)
 
 -- a rule is laid behind others
-pub record IsRuleLaid (chains : List Chain) (rule : Rule) (lines : List Line) (targets : List ℕ) (lines2 : List Line) (targets2 : List ℕ) : Type 0 where
+pub record IsRuleLaid (table : Table) (rule : Rule) (lines : List Line) (targets : List ℕ) (lines2 : List Line) (targets2 : List ℕ) : Type 0 where
   pub line : Line
   pub last : lines2 ≡ lines ++ line ∷ []
-  pub tells : (sets : List Set) → Tells sets rule.matches line.probe
+  pub tells : Tells table.sets rule.matches line.probe
   pub first : line.first ≡ length targets
-  pub led : targets2 ≡ targets ++ map (place_led chains) (verdicts_of rule.end)
+  pub led : targets2 ≡ targets ++ map (place_led table.chains) (verdicts_of rule.end)
 
 -- the rules stand in the row from this number on
 abbrev pub AreLines : Table → List Line → List ℕ → ℕ → List Rule → Type 0

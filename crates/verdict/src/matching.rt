@@ -1,14 +1,15 @@
 //! Whether the matches of a rule hold of a packet.
 
-ghost use Rattle.std.specs.Prelude.{◌≡◌, false};
+ghost use Rattle.std.specs.Prelude.{◌≡◌, ◌≤◌, ℕ, false, true};
 ghost use Rattle.std.specs.List.{list_all, list_any};
-ghost use Rattle.sets.specs.Members.{fact_of};
+ghost use Rattle.sets.specs.Members.{Fact as Asked, fact_of};
 ghost use Rattle.ruletext.specs.Classes.{class_of as class_of_head};
 ghost use Rattle.ruletext.specs.Types.{has_other_class, is_wrong_match};
 ghost use Rattle.verdict.specs.Pools.{ArePools};
 ghost use Rattle.verdict.specs.Matching.{is_in_named as named_set_holds, is_on_side, name_of as name_of_iface, name_out as name_out_of, state_number as number_of_state, asked as asked_fact, is_of as is_of_transport, has_protocol as head_has_protocol, holds as test_holds};
 
 use crate::facts::{Facts, State};
+use crate::pool::ends_of;
 use crate::value::{is_member, lies};
 use packet::bounds::Bounds;
 use packet::endpoint::{Iface, Proto};
@@ -28,6 +29,21 @@ fn is_in_named(sets: &[Set], pools: &[Pool], class: Class, name: &[u8], fact: Fa
         }
     }
     false
+}
+
+/// The least and the greatest number of the first set of that name.
+#[tactic(auto, unfolding(crate::specs::Matching::is_in_named))]
+pub(crate) fn ends_of_named(sets: &[Set], pools: &[Pool], class: Class, name: &[u8]) -> (u32, u32)
+    requires pools { ArePools sets.now pools.now }
+    requires typed { has_other_class sets.now class name.now ≡ false }
+    ensures { (n : ℕ) → named_set_holds sets.now class name.now (Asked.Number n) ≡ true → (result.0 ≤ n) × (n ≤ result.1) }
+{
+    for (place, set) in sets.iter().enumerate() {
+        if set.name.as_slice() == name {
+            return ends_of(pools[place].intervals());
+        }
+    }
+    (0, u32::MAX)
 }
 
 #[tactic(auto, unfolding(crate::specs::Matching::is_on_side))]

@@ -1,8 +1,8 @@
 //! The named sets of a table, each made once into the union that packets are looked up in.
 
-ghost use Rattle.std.specs.Prelude.{◌≡◌, ◌↔◌, ◌≤◌, true, false, [], length, sum_by, IfOk, OnOk};
+ghost use Rattle.std.specs.Prelude.{◌≡◌, ◌↔◌, ◌≤◌, ℕ, true, false, [], length, sum_by, IfOk, OnOk};
 ghost use Rattle.std.specs.List.{list_any};
-ghost use Rattle.sets.specs.Members.{Fact, IsMember, limit};
+ghost use Rattle.sets.specs.Members.{Fact, IsIn, IsMember, limit};
 ghost use Rattle.ruletext.specs.Classes.{is_value};
 ghost use Rattle.ruletext.specs.Counts.{elements_of_set};
 ghost use Rattle.ruletext.specs.Types.{has_stranger, is_wrong_set};
@@ -79,6 +79,30 @@ fn pool_of(alloc: Global, set: &Set) -> Result<Pool, AllocError>
     };
     let parts = parts_of(alloc, class, set.elements.as_slice())?;
     Ok(union_of(parts))
+}
+
+// The ends, so far apart that the numbers of the part lie between them too.
+#[tactic(auto, unfolding(sets::specs::Members::IsIn))]
+fn widened(ends: (u32, u32), part: &Part) -> (u32, u32)
+    ensures low { result.0 ≤ ends.0 }
+    ensures high { ends.1 ≤ result.1 }
+    ensures own { (n : ℕ) → IsIn (Fact.Number n) part.now → (result.0 ≤ n) × (n ≤ result.1) }
+{
+    match part {
+        Part::Numbers(range) => (ends.0.min(range.low), ends.1.max(range.high)),
+        Part::Name(_) => ends,
+    }
+}
+
+/// The least and the greatest of the numbers that lie in the parts, where there are any.
+pub(crate) fn ends_of(parts: &[Part]) -> (u32, u32)
+    ensures { (n : ℕ) → IsMember (Fact.Number n) parts.now → (result.0 ≤ n) × (n ≤ result.1) }
+{
+    let mut ends = (u32::MAX, 0);
+    for part in parts {
+        ends = widened(ends, part);
+    }
+    ends
 }
 
 /// The named sets of a table as pools, each at its set's place. A set is read as of the class that its type

@@ -1,24 +1,24 @@
 //! The rules of a table in one row.
 
-ghost use Rattle.std.specs.Prelude.{◌≡◌, ◌+◌, ◌++◌, ◌≤◌, ℕ, [], true, false, length, map, IfOk, IfSome, OnOk, slice_get};
-ghost use Rattle.std.specs.List.{list_all};
+ghost use Rattle.std.specs.Prelude.{◌≡◌, ◌+◌, ◌++◌, ◌≤◌, ℕ, [], Some, true, false, length, map, IfOk, IfSome, OnOk, slice_get};
+ghost use Rattle.std.specs.List.{list_all, list_any};
 ghost use Rattle.ruletext.specs.Calls.{OfSome};
 ghost use Rattle.ruletext.specs.Counts.{elements_of_table, is_much};
 ghost use Rattle.ruletext.specs.Said.{verdicts_of};
-ghost use Rattle.ruletext.specs.Types.{HasWrongType};
+ghost use Rattle.ruletext.specs.Types.{is_wrong_match, HasWrongType};
 ghost use Rattle.sets.specs.Members.{Fact as Asked, IsWithin};
-ghost use Rattle.std.specs.Prelude.{List};
-ghost use Rattle.rulesyntax.specs.declared.tree.Set.{Set};
+ghost use Rattle.rulesyntax.specs.declared.tree.Rule.{Rule as RuleOf};
+ghost use Rattle.verdict.specs.Pools.{ArePools};
 ghost use Rattle.verdict.specs.Matching.{lies, state_number as number_of_state};
-ghost use Rattle.verdict.specs.Lines.{numbers_of as numbers_of_facts, port_of as port_of_facts, place_of_head, may_hold as may_hold_of, Tells, TestTells, place_among, place_led, IsLaid, AreLaid, IsRuleLaid, IsChainLaid};
+ghost use Rattle.verdict.specs.Lines.{numbers_of as numbers_of_facts, port_of as port_of_facts, place_of_head, may_hold as may_hold_of, Tells, TestTells, TellsIn, place_among, place_led, IsLaid, AreLaid, IsRuleLaid, IsChainLaid};
 
 use crate::facts::Facts;
 use crate::keys::keys_of;
-use crate::matching::{is_of, state_number};
+use crate::matching::{ends_of_named, is_of, state_number};
 use crate::pool::pools_of;
 use packet::endpoint::Prefix;
 use rulesyntax::tree::{
-    Chain, End, Head, Match, Pair, Rule, Side, Table, Transport, Value, Verdict,
+    Chain, End, Head, Match, Pair, Rule, Set, Side, Table, Transport, Value, Verdict,
 };
 use ruletext::class::{Class, class_of};
 use sets::{Range, Set as Pool};
@@ -170,12 +170,34 @@ fn bounds_of(test: &Match) -> Option<Probe>
     })
 }
 
-// What a rule asks first: the bounds that one of its matches sets by itself, or none.
-fn probe_of(matches: &[Match]) -> Probe
-    ensures { (sets : List Set) → Tells sets matches.now result }
+// The bounds of a named set that a match looks into.
+fn bounds_of_set(sets: &[Set], pools: &[Pool], test: &Match) -> Option<Probe>
+    requires pools { ArePools sets.now pools.now }
+    requires typed { is_wrong_match sets.now test.now ≡ false }
+    ensures { IfSome result (TellsIn sets.now test.now) }
+{
+    if test.negated {
+        return None;
+    }
+    let Side::Named(named) = &test.side else {
+        return None;
+    };
+    let (low, high) = ends_of_named(sets, pools, class_of(test.head), named.name.as_slice());
+    Some(Probe {
+        asks: place_of(test.head),
+        low,
+        high,
+    })
+}
+
+// What a rule asks first whose matches set no bounds by themselves: those of one of its named sets, or none.
+fn probe_of_sets(sets: &[Set], pools: &[Pool], matches: &[Match]) -> Probe
+    requires pools { ArePools sets.now pools.now }
+    requires typed { list_any (is_wrong_match sets.now) matches.now ≡ false }
+    ensures { Tells sets.now matches.now result }
 {
     for test in matches {
-        if let Some(probe) = bounds_of(test) {
+        if let Some(probe) = bounds_of_set(sets, pools, test) {
             return probe;
         }
     }
@@ -184,6 +206,20 @@ fn probe_of(matches: &[Match]) -> Probe
         low: 0,
         high: u32::MAX,
     }
+}
+
+// What a rule asks first: the bounds that one of its matches sets by itself, or those of a named set, or none.
+fn probe_of(sets: &[Set], pools: &[Pool], matches: &[Match]) -> Probe
+    requires pools { ArePools sets.now pools.now }
+    requires typed { list_any (is_wrong_match sets.now) matches.now ≡ false }
+    ensures { Tells sets.now matches.now result }
+{
+    for test in matches {
+        if let Some(probe) = bounds_of(test) {
+            return probe;
+        }
+    }
+    probe_of_sets(sets, pools, matches)
 }
 
 fn place_named(chains: &[Chain], name: &[u8]) -> usize
@@ -235,17 +271,18 @@ fn lay_keys(targets: &mut Items<usize>, chains: &[Chain], pairs: &[Pair]) -> Res
 fn lay_rule(
     lines: &mut Items<Line>,
     targets: &mut Items<usize>,
-    chains: &[Chain],
+    table: &Table,
+    pools: &[Pool],
     rule: &Rule,
 ) -> Result<(), AllocError>
-    ensures { OnOk result (IsRuleLaid chains.now rule.now lines.old targets.old lines.new targets.new) }
+    requires pools { ArePools table.now.sets pools.now }
+    requires typed { list_any (is_wrong_match table.now.sets) rule.now.matches ≡ false }
+    ensures { OnOk result (IsRuleLaid table.now rule.now lines.old targets.old lines.new targets.new) }
 {
     let first = targets.len();
-    lay_targets(targets, chains, &rule.end)?;
-    lines.push(Line {
-        probe: probe_of(rule.matches.as_slice()),
-        first,
-    })
+    lay_targets(targets, table.chains.as_slice(), &rule.end)?;
+    let probe = probe_of(table.sets.as_slice(), pools, rule.matches.as_slice());
+    lines.push(Line { probe, first })
 }
 
 // Lays the rules of a chain behind those that lie in the row.
@@ -253,12 +290,15 @@ fn lay_chain(
     lines: &mut Items<Line>,
     targets: &mut Items<usize>,
     table: &Table,
+    pools: &[Pool],
     rules: &[Rule],
 ) -> Result<(), AllocError>
+    requires pools { ArePools table.now.sets pools.now }
+    requires typed { (i : ℕ) (rule : RuleOf) → slice_get rules.now i ≡ Some rule → list_any (is_wrong_match table.now.sets) rule.matches ≡ false }
     ensures { OnOk result (IsChainLaid table.now rules.now lines.old targets.old lines.new targets.new) }
 {
     for rule in rules {
-        lay_rule(lines, targets, table.chains.as_slice(), rule)?;
+        lay_rule(lines, targets, table, pools, rule)?;
     }
     Ok(())
 }
@@ -274,12 +314,14 @@ pub(crate) fn lay(alloc: Global, table: &Table) -> Result<Laid, AllocError>
     ensures { IfOk result (IsLaid table.now) }
 {
     let pools = pools_of(alloc, table.sets.as_slice())?;
+    let held = pools.as_slice();
     let mut spans = Items::new(alloc);
     let mut lines = Items::new(alloc);
     let mut targets = Items::new(alloc);
     for chain in table.chains.as_slice() {
         let start = lines.len();
-        lay_chain(&mut lines, &mut targets, table, chain.rules.as_slice())?;
+        let rules = chain.rules.as_slice();
+        lay_chain(&mut lines, &mut targets, table, held, rules)?;
         let end = lines.len();
         spans.push(Span { start, end })?;
     }

@@ -1,0 +1,23 @@
+use Rattle.std.proofs.Common.{◌≡◌, ◌∙◌, true, Some, cond, drop, find, refl, sym, ap, subst, arith, bytes_eq, ◌+◌}
+use Rattle.std.proofs.lemmas.Option.{slice_get_read}
+use Rattle.rulesyntax.specs.declared.tree.Set.{Set}
+use Rattle.ruletext.proofs.Edges.{drop_at}
+use Rattle.sets.specs.Members.{Fact, IsMember}
+use Rattle.verdict.proofs.Pooled.{member_found}
+use Rattle.verdict.proofs.matching.ends_of_named.Goals as goal
+
+pub returns-then-eq : goal.returns-then-eq
+returns-then-eq c =
+    let sets = c.args.sets.now in
+    let name = c.args.name.now in
+    let place = c.loop-place.place in
+    let set = c.index-sets-place.result in
+    let at = slice_get_read sets _ place set refl (omega arith) c.index-sets-place.is in
+    let here = drop_at sets place set at in
+    let named : bytes_eq set.name name ≡ true = ap (λ n. bytes_eq n name) (sym c.as_slice.ensures) ∙ (sym c.eq.ensures ∙ c.if-eq.true) in
+    let found : find (λ (s : Set). bytes_eq s.name name) sets ≡ Some set =
+    sym c.loop-place.invariant ∙ ap (find (λ (s : Set). bytes_eq s.name name)) here ∙ ap (λ b. cond b (Some set) (find (λ (s : Set). bytes_eq s.name name) (drop (place + 1) sets))) named in
+    let pool = c.index-pools-place.result in
+    λ n held.
+    let member = member_found sets c.args.pools.now c.args.class name (Fact.Number n) set place pool c.requires.pools c.requires.typed found at c.index-pools-place.is held in
+    c.ends_of.ensures n (subst (IsMember (Fact.Number n)) (sym c.intervals.ensures) member)
