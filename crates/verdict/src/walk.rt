@@ -203,6 +203,17 @@ fn near(lines: &[Line], numbers: &[u64], from: usize, end: usize, steps: &mut St
     end
 }
 
+// How many lines are looked at before keys are asked again: where they passed over none, twice as many.
+fn many_next(many: usize, is_passed: bool) -> usize
+    requires { 0 < many }
+    ensures { 0 < result }
+{
+    if is_passed {
+        return NEAR;
+    }
+    many.saturating_mul(2)
+}
+
 // The same, which reads no line that its key lets pass over. A step is then a rule that is looked at or passed over.
 fn candidate(
     lines: &[Line],
@@ -224,13 +235,15 @@ fn candidate(
     ensures none { result ≡ end → steps.new + from ≡ steps.old + end }
 {
     let mut start = from;
+    let mut many = NEAR;
     while start < end {
-        let stop = start + NEAR.min(end - start);
+        let stop = start + many.min(end - start);
         let found = near(lines, numbers, start, stop, steps);
         if found < stop {
             return found;
         }
         start = next_met(keys, numbers, stop, end);
+        many = many_next(many, start > stop);
         pass(steps, start - stop);
     }
     end

@@ -12,6 +12,7 @@ loop-start-preserved c =
     record {
       from = omega (arith, before.from, met.from);
       to = met.to;
+      many = c.many_next-many.ensures;
       counted = omega (arith, before.counted, counted, c.pass.ensures, met.from);
       skipped = λ i line le lt at. elim (cases_lt i c.loop-start.start) [
         | inl old ↦ before.skipped i line le old at
