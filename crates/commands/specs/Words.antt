@@ -1,5 +1,5 @@
 -- The word that people read for each way in which a command gives up.
-use Rattle.std.specs.Prelude.{◌≡◌, ◌⊎◌, ℕ, Bool, List, Option, None, Some, ◌++◌, ◌&&◌, nat_lt, length, codes, option_map, string_bytes, ⊤, if◌then◌else◌}
+use Rattle.std.specs.Prelude.{◌≡◌, ◌⊎◌, ℕ, Bool, List, Result, Ok, Err, Option, None, Some, ◌++◌, ◌&&◌, nat_lt, length, codes, option_map, string_bytes, ⊤, if◌then◌else◌}
 use Rattle.std.specs.List.{list_all}
 use Rattle.std.specs.declared.io.ErrorKind.{ErrorKind}
 use Rattle.std.specs.declared.io.ErrorKind.TheVariants as kind
@@ -99,6 +99,13 @@ edge_refusal edge.Truncated = refusal.Truncated
 edge_refusal edge.Input = refusal.Input
 edge_refusal edge.Output = refusal.Output
 edge_refusal (edge.Gateway fault) = gateway_refusal fault
+
+-- a run that ended well is told as that, and a fault by its refusal
+abbrev pub IsToldAs : Result ℕ EdgeFault → Result (Unit {0}) Refusal → Type 0
+IsToldAs (Ok count) (Ok done) = Unit {0}
+IsToldAs (Ok count) (Err r) = ⊥
+IsToldAs (Err fault) (Ok done) = ⊥
+IsToldAs (Err fault) (Err r) = r ≡ edge_refusal fault
 
 -- the gateway has failed, and not what came in or went out
 abbrev pub IsOfGateway : EdgeFault → Type 0

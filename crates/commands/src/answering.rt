@@ -1,8 +1,10 @@
 //! Streams of requests, and what the end of one means.
-ghost use Rattle.std.specs.Prelude.{◌≡◌, IsOk, IfErr, OnOk};
-ghost use Rattle.std.specs.Io.KnownBytes.{Appends};
+ghost use Rattle.std.specs.Prelude.{◌≡◌, ℕ, List, Result, IsOk, IfErr, OnOk};
+ghost use Rattle.std.specs.Io.KnownBytes.{Appends, Consumes, IsAtEnd};
 ghost use Rattle.commands.specs.declared.refusal.Refusal.TheVariants.{Output};
-ghost use Rattle.commands.specs.Words.{IsOfGateway, IsOfStream, edge_refusal, first_line};
+ghost use Rattle.commands.specs.Words.{IsOfGateway, IsOfStream, IsToldAs, edge_refusal, first_line};
+ghost use Rattle.socket_edge.specs.Running.{Ran};
+ghost use Rattle.socket_edge.specs.declared.fault.EdgeFault.{EdgeFault as Fault};
 
 use crate::stop::tell_word;
 use crate::{Refusal, ends_program};
@@ -12,14 +14,17 @@ use socket_edge::EdgeFault;
 use std::alloc::Global;
 use std::io::{Read, Write};
 
-/// Answers the requests of one stream. It has no clause: the contract of the call within is long, and what is said of
-/// streams is said there.
+/// Answers the requests of one stream. What a crash leaves of the files is said of the call within.
 pub(crate) fn answer_all<R: Read, W: Write, D: Disk + Drop>(
     alloc: Global,
     reader: &mut R,
     writer: &mut W,
     gateway: &mut Gateway<D>,
-) -> Result<u64, EdgeFault> {
+) -> Result<u64, EdgeFault>
+    ensures ran { (given written : List ℕ) × Consumes (R.remaining reader.old) (R.remaining reader.new) given
+        × Appends (W.contents writer.old) (W.contents writer.new) written
+        × Ran result gateway.old.told gateway.new.told given written (IsAtEnd (R.remaining reader.new)) }
+{
     socket_edge::run(alloc, reader, writer, gateway)
 }
 
@@ -34,7 +39,12 @@ pub fn replay<R: Read, W: Write, D: Disk + Drop>(
     writer: &mut W,
     gateway: &mut Gateway<D>,
 ) -> Result<(), Refusal>
-    ensures { IfErr result IsOfStream }
+    // What was read and what was written, and how the run ended that this tells of.
+    ensures ran { (ended : Result ℕ Fault) × IsToldAs ended result × (given written : List ℕ)
+        × Consumes (R.remaining reader.old) (R.remaining reader.new) given
+        × Appends (W.contents writer.old) (W.contents writer.new) written
+        × Ran ended gateway.old.told gateway.new.told given written (IsAtEnd (R.remaining reader.new)) }
+    ensures causes { IfErr result IsOfStream }
 {
     match answer_all(alloc, reader, writer, gateway) {
         Ok(_) => Ok(()),
