@@ -11,6 +11,7 @@ use std::fs::Files;
 use std::io;
 use std::io::{ErrorKind, Read, Write};
 use std::net::{Net, Shutdown};
+use std::os::fd::AsRawFd;
 use std::os::unix::net::{UnixListener, UnixStream};
 
 /// Binds a socket to a path where nothing is yet.
@@ -51,6 +52,19 @@ fn unbound(alloc: Global, path: &str, error: &io::Error) -> Stop
     }
 }
 
+// What is printed on a standard stream that was closed must not go to whom the socket leads to.
+fn off_standard_streams(stream: UnixStream) -> io::Result<UnixStream> {
+    if stream.as_raw_fd() <= 2 {
+        return stream.try_clone();
+    }
+    Ok(stream)
+}
+
+fn next_client(listener: &UnixListener) -> io::Result<UnixStream> {
+    let (stream, _) = listener.accept()?;
+    off_standard_streams(stream)
+}
+
 /// Serves so many connections of a socket, one after the other, with one gateway. The word of a fault that ends a
 /// connection alone goes to `errors`.
 ///
@@ -69,8 +83,8 @@ pub fn serve_clients<W: Write, D: Disk + Drop>(
     ensures causes { IfErr result (λ stop. IsOfServing stop.refusal) }
 {
     for _ in 0..connections {
-        let stream = match listener.accept() {
-            Ok((stream, _)) => stream,
+        let stream = match next_client(listener) {
+            Ok(stream) => stream,
             Err(error) => return Err(Stop::at_path(alloc, path, "accepts no client", &error)),
         };
         let ended = answer_all(alloc, &mut &stream, &mut &stream, gateway);
@@ -81,7 +95,7 @@ pub fn serve_clients<W: Write, D: Disk + Drop>(
 
 // A client that has sent these requests and nothing behind them.
 fn client_of<R: Net>(rt: &R, path: &str, requests: &[u8]) -> io::Result<UnixStream> {
-    let client = UnixStream::connect(rt, path)?;
+    let client = off_standard_streams(UnixStream::connect(rt, path)?)?;
     (&client).write_all(requests)?;
     client.shutdown(Shutdown::Write)?;
     Ok(client)
