@@ -50,6 +50,40 @@ fn refusal_of(alloc: Global, inside: &str, external: &str) -> Option<Refusal> {
     }
 }
 
+// Whether a configuration is refused, and the second line says that this is to be set right.
+fn is_told(alloc: Global, sides: &Sides<'_>, end: &str) -> bool {
+    match bounds(alloc, sides) {
+        Ok(_) => false,
+        Err(stop) => stop.second_line().ends_with(end),
+    }
+}
+
+// Each fault of a configuration names the options that it lies in.
+#[test]
+fn options_of_faults(rt: HostRuntime) {
+    let rows = [
+        ("", "wan", "10.0.0.0/8", "set --lan and --wan right"),
+        ("wan", "wan", "10.0.0.0/8", "set --lan and --wan right"),
+        ("lan", "wan", "10.0.0.1/8", "set --inside right"),
+        (
+            "lan",
+            "wan",
+            "1.2.3.4/32",
+            "set --inside and --external right",
+        ),
+        ("lan", "wan", "10.0.0.0", "write it like 192.168.0.0/16"),
+    ];
+    for (lan, wan, inside, end) in rows {
+        let sides = Sides {
+            lan,
+            wan,
+            inside,
+            external: "1.2.3.4",
+        };
+        assert!(rt; is_told(rt.alloc(), &sides, end), "{inside}");
+    }
+}
+
 #[test]
 fn configurations(rt: HostRuntime) {
     let refused = Some(Refusal::Config);

@@ -79,7 +79,13 @@ fn checked(alloc: Global, text: &[u8], explains: bool) -> Result<(Vec<u8>, Vec<u
     Ok((output, errors))
 }
 
-// Whether this line stands on standard output, and on standard error what begins so; where that is empty, nothing.
+// How many lines end there.
+fn lines_of(bytes: &[u8]) -> usize {
+    bytes.iter().filter(|byte| **byte == b'\n').count()
+}
+
+// Whether this line stands on standard output, and on standard error four lines that begin so; where that is empty,
+// nothing.
 fn is_told(
     alloc: Global,
     text: &[u8],
@@ -89,7 +95,8 @@ fn is_told(
 ) -> Result<bool, Stop> {
     let (output, errors) = checked(alloc, text, explains)?;
     let is_line = output.as_slice() == line;
-    Ok(is_line && errors.as_slice().starts_with(mark) && errors.is_empty() == mark.is_empty())
+    let lines = if mark.is_empty() { 0 } else { 4 };
+    Ok(is_line && errors.as_slice().starts_with(mark) && lines_of(errors.as_slice()) == lines)
 }
 
 #[test]
