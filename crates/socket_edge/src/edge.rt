@@ -131,6 +131,7 @@ fn read_once<R: Read, W: Write, D: Disk + Drop>(
 ) -> Result<Turn, EdgeFault>
     requires stands { gateway.old.fallen ≡ false }
     requires room { 0 < length buffer.old }
+    requires most { length buffer.old ≤ 65536 }
     requires cut { next pending.old.items ≡ Cut }
     ensures turned { (got sent : List ℕ) × Consumes (R.remaining reader.old) (R.remaining reader.new) got
         × Appends (W.contents writer.old) (W.contents writer.new) sent
@@ -167,7 +168,7 @@ fn read_once<R: Read, W: Write, D: Disk + Drop>(
 /// Room for a read.
 fn zeros(alloc: Global, size: usize) -> Result<Vec<u8>, AllocError>
     requires { 0 < size }
-    ensures { IfOk result (λ room. 0 < length room.items) }
+    ensures { IfOk result (λ room. length room.items ≡ size) }
 {
     Vec::from_elem(alloc, 0u8, size)
 }

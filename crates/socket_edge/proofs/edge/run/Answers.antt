@@ -1,4 +1,4 @@
-use Rattle.std.proofs.Common.{◌≡◌, ◌+◌, ◌<◌, [], ◌++◌, List, ℕ, length, take, drop, arith, refl, sym, subst, ◌∙◌}
+use Rattle.std.proofs.Common.{◌≡◌, ◌+◌, [], ◌++◌, List, ℕ, length, take, drop, arith, refl, sym, subst, ◌∙◌}
 use Rattle.std.specs.Io.KnownBytes.{IsAtEnd}
 use Rattle.std.proofs.lemmas.List.{take_at}
 use Rattle.socket_edge.specs.Running.{Done, events_in}
@@ -8,8 +8,8 @@ use Rattle.socket_edge.proofs.Runs.{Done-then, Ends-then, Served-answered, falle
 use Rattle.socket_edge.proofs.Tending.{idle-fares}
 use Rattle.socket_edge.proofs.edge.run.Goals as goal
 
-room_stays : (b rest : List ℕ) (n : ℕ) → length b ≡ n → 0 < n → 0 < length (take n (b ++ rest))
-room_stays b rest n e h = rw (take_at b rest n e) (omega arith)
+room_stays : (b rest : List ℕ) (n m : ℕ) → length b ≡ n → n ≡ m → length (take n (b ++ rest)) ≡ m
+room_stays b rest n m e h = rw (take_at b rest n e) (e ∙ h)
 
 zero_more : (n : ℕ) → n + 0 ≡ n
 zero_more n = omega arith
@@ -78,14 +78,14 @@ loop-preserved g c =
     let i = c.loop.invariant in
     let t = rw c.in-Ok-More.field-0-is at c.in-Ok-More.ensures.turned in
     let len : length c.as_mut_slice.result.now ≡ c.loop.buffer.len = c.as_mut_slice.ensures.len in
-    let room : 0 < length c.as_mut_slice.result.now = rw c.as_mut_slice.ensures.value i.5 in (
+    let room : length c.as_mut_slice.result.now ≡ 65536 = rw c.as_mut_slice.ensures.value i.5 in (
       i.0 ++ t.0,
       i.1 ++ t.1,
       Consumes-then (g.R.Read.remaining c.args.reader.now) (g.R.Read.remaining c.loop.reader) (g.R.Read.remaining c.read_once.new.reader) i.0 t.0 i.2 t.2,
       Appends-then (g.W.Write.contents c.args.writer.now) (g.W.Write.contents c.loop.writer) (g.W.Write.contents c.read_once.new.writer) i.1 t.1 i.3 t.3,
       rw c.sum-count.ensures (going-next g.D.Disk.honest g.D.Disk.moment g.D.Disk.left g.D.Disk.failed g.met.D.Disk.earlier c.args.gateway.now c.loop.gateway c.read_once.new.gateway i.0 c.loop.pending.items t.0 c.read_once.new.pending.items i.1 t.1 c.loop.count c.in-Ok-More.more i.4 t.4 t.5
           c.in-Ok-More.ensures.stands c.in-Ok-More.ensures.passed (c.in-Ok-More.ensures.grown (λ is. absurd cc))),
-      room_stays c.read_once.new.buffer (drop (length c.read_once.new.buffer) c.loop.buffer.items) c.loop.buffer.len (c.read_once.auto.buffer ∙ len) (rw (← len) room),
+      room_stays c.read_once.new.buffer (drop (length c.read_once.new.buffer) c.loop.buffer.items) c.loop.buffer.len 65536 (c.read_once.auto.buffer ∙ len) (rw (← len) room),
     )
 
 pub returns-clause-ran : goal.returns-clause-ran
