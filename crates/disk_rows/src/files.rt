@@ -2,6 +2,7 @@
 use disk_model::{Disk, DiskFault, FileId};
 use file_disk::{FileDisk, OpenError, name_of};
 use std::fs;
+use std::os::unix::fs::PermissionsExt;
 use std::test::Fail;
 
 // An empty directory.
@@ -78,6 +79,20 @@ fn written_bytes_stand_in_the_files(rt: HostRuntime) -> Result<(), Fail> {
     assert!(rt; is_file(&rt, "files/natgw.b", b"second")?);
     assert_eq!(rt; name_of(FileId::A), "natgw.a");
     assert_eq!(rt; name_of(FileId::B), "natgw.b");
+    Ok(())
+}
+
+fn is_private(rt: &HostRuntime, path: &str) -> Result<bool, Fail> {
+    Ok(fs::metadata(rt, path)?.permissions().mode() & 0o777 == 0o600)
+}
+
+// The sessions are for no one else to read.
+#[test]
+fn access_of_the_owner_alone(rt: HostRuntime) -> Result<(), Fail> {
+    written(&rt, "private")?;
+    for path in ["private/natgw.a", "private/natgw.b"] {
+        assert!(rt; is_private(&rt, path)?, "{path}");
+    }
     Ok(())
 }
 
