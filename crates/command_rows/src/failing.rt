@@ -6,6 +6,7 @@ use gateway::Gateway;
 use std::alloc::Global;
 use std::fs;
 use std::io::Read;
+use std::net::Shutdown;
 use std::test::Fail;
 use trial_disk::Trial;
 
@@ -100,5 +101,34 @@ fn a_loop_over_a_gateway_that_fails(rt: HostRuntime) -> Result<(), Fail> {
     let count = printed(&rt, &mut gateway, "failing-loop/natgw.sock")?;
     assert!(rt; count == Some(64 * 13));
     fs::remove_file(&rt, "failing-loop/natgw.sock")?;
+    Ok(())
+}
+
+// Why serving ends a client that takes no answer, where that is told as such.
+fn ended_by_a_deaf_client(
+    rt: &HostRuntime,
+    gateway: &mut Trials,
+    path: &str,
+) -> Result<Option<Refusal>, Fail> {
+    let alloc = rt.alloc();
+    let listener = bind(rt, alloc, path)?;
+    let deaf = client(rt, path, requests(alloc)?.as_slice())?;
+    deaf.shutdown(Shutdown::Read)?;
+    let mut errors = Vec::new(alloc);
+    let served = serve_clients(alloc, &listener, path, 1, &mut errors, gateway);
+    match served {
+        Err(stop) if errors.as_slice() == b"natgw: output\n" => Ok(Some(stop.refusal)),
+        _ => Ok(None),
+    }
+}
+
+// The second flush fails, and what the first one handed out can't be written.
+#[test]
+fn a_deaf_client_of_a_gateway_that_fails(rt: HostRuntime) -> Result<(), Fail> {
+    fresh(&rt, "failing-deaf")?;
+    let mut gateway = troubled(rt.alloc(), 4)?;
+    let ended = ended_by_a_deaf_client(&rt, &mut gateway, "failing-deaf/sock")?;
+    assert!(rt; ended == Some(Refusal::Reopen));
+    fs::remove_file(&rt, "failing-deaf/sock")?;
     Ok(())
 }

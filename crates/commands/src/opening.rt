@@ -23,9 +23,14 @@ pub struct Opening<'a> {
 fn unopened(alloc: Global, directory: &str, error: &OpenError) -> Stop
     ensures { IsOfPath result.refusal }
 {
+    let named = if directory.is_empty() {
+        "--dir"
+    } else {
+        directory
+    };
     match error {
         OpenError::NoMemory => Stop::from(Refusal::NoMemory),
-        _ => Stop::with(Refusal::File, format!(in alloc; "{directory}: {error}")),
+        _ => Stop::with(Refusal::File, format!(in alloc; "{named}: {error}")),
     }
 }
 

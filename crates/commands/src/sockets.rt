@@ -1,5 +1,5 @@
 //! The clients of a Unix socket, one after the other.
-ghost use Rattle.std.specs.Prelude.{◌≡◌, [], IsErr, IsOk, IfErr};
+ghost use Rattle.std.specs.Prelude.{◌≡◌, [], false, IsErr, IsOk, IfErr, OnOk};
 ghost use Rattle.commands.specs.Words.{IsOfPath, IsOfServing};
 
 use crate::answering::{answer_all, settle};
@@ -65,12 +65,37 @@ fn next_client(listener: &UnixListener) -> io::Result<UnixStream> {
     off_standard_streams(stream)
 }
 
+// Serves the next client. Where the gateway stands no more behind it, that is the refusal, even if the client's own fault
+// was that it took no answer.
+fn serve_next<W: Write, D: Disk + Drop>(
+    alloc: Global,
+    listener: &UnixListener,
+    path: &str,
+    errors: &mut W,
+    gateway: &mut Gateway<D>,
+) -> Result<(), Stop>
+    ensures stands { OnOk result (gateway.new.fallen ≡ false) }
+    ensures causes { IfErr result (λ stop. IsOfServing stop.refusal) }
+{
+    let stream = match next_client(listener) {
+        Ok(stream) => stream,
+        Err(error) => return Err(Stop::at_path(alloc, path, "accepts no client", &error)),
+    };
+    let ended = answer_all(alloc, &mut &stream, &mut &stream, gateway);
+    settle(ended, errors)?;
+    if gateway.has_fallen() {
+        return Err(Stop::from(Refusal::Reopen));
+    }
+    Ok(())
+}
+
 /// Serves so many connections of a socket, one after the other, with one gateway. The word of a fault that ends a
 /// connection alone goes to `errors`.
 ///
 /// # Errors
 ///
-/// `File` where no connection can be accepted, at `path`; a fault of the gateway; `Output` where a word can't be told.
+/// `File` where no connection can be accepted, at `path`; a fault of the gateway, which is `Reopen` where a call of the
+/// disk failed and the client took no answer; `Output` where a word can't be told.
 pub fn serve_clients<W: Write, D: Disk + Drop>(
     alloc: Global,
     listener: &UnixListener,
@@ -80,15 +105,11 @@ pub fn serve_clients<W: Write, D: Disk + Drop>(
     gateway: &mut Gateway<D>,
 ) -> Result<(), Stop>
     ensures none { connections ≡ 0 → IsOk result × (gateway.new ≡ gateway.old) × (errors.new ≡ errors.old) }
+    ensures stands { OnOk result (gateway.old.fallen ≡ false → gateway.new.fallen ≡ false) }
     ensures causes { IfErr result (λ stop. IsOfServing stop.refusal) }
 {
     for _ in 0..connections {
-        let stream = match next_client(listener) {
-            Ok(stream) => stream,
-            Err(error) => return Err(Stop::at_path(alloc, path, "accepts no client", &error)),
-        };
-        let ended = answer_all(alloc, &mut &stream, &mut &stream, gateway);
-        settle(ended, errors)?;
+        serve_next(alloc, listener, path, errors, gateway)?;
     }
     Ok(())
 }

@@ -43,16 +43,16 @@ fn start(rt: &HostRuntime) -> Result<ExitCode, Stop> {
             return Err(Stop::from(Refusal::NoMemory));
         }
         Err(_) => {
-            eprintln!(rt; "error: an argument isn't UTF-8").map_err(|_| Refusal::Output)?;
+            let _ = eprintln!(rt; "error: an argument isn't UTF-8");
             return Ok(ExitCode::from(USAGE));
         }
     };
     let words: Vec<String> = arguments.collect(alloc)?;
     match options::parse(alloc, words.as_slice())? {
         Parsed::Run(options) => run(rt, &options),
-        Parsed::Stopped(error) => {
-            error.print(rt).map_err(|_| Refusal::Output)?;
-            Ok(ExitCode::from(error.exit_code() as u8))
-        }
+        Parsed::Stopped(error) => match (error.print(rt), error.exit_code()) {
+            (Err(_), 0) => Err(Stop::from(Refusal::Output)),
+            (_, code) => Ok(ExitCode::from(code as u8)),
+        },
     }
 }

@@ -7,7 +7,9 @@ use ruletext::load::load;
 use std::alloc::{AllocError, AllocFailed, Global};
 use std::test::*;
 use verdict::facts::{Facts, State};
-use verdict::hook::{Destination, Forwarding, Source, forward, postrouting, prerouting};
+use verdict::hook::{
+    Destination, Forwarding, Source, forward, forward_counted, postrouting, prerouting,
+};
 use verdict::rules::Rules;
 
 const HOST: u32 = 0xc0a80102;
@@ -357,5 +359,35 @@ fn deep(rt: HostRuntime) -> Result<(), Fail> {
             Forwarding::Pass
         );
     }
+    Ok(())
+}
+
+// As many rules as a ruleset may have, each of which asks for a port of its own.
+fn most_rules(alloc: Global) -> Result<String, AllocError> {
+    let mut text = String::from_str(
+        alloc,
+        "table ip f {\nchain fw { type filter hook forward priority 0;\n",
+    )?;
+    for port in 1000u32..5096 {
+        let line = format!(in alloc; "udp dport {port} drop\n")?;
+        text.push_str(line.as_str())?;
+    }
+    text.push_str("}\n}\n")?;
+    Ok(text)
+}
+
+// What becomes of a packet to this port, and how many rules were looked at or passed over.
+fn counted(loaded: &Loaded, port: u16) -> (Forwarding, u32) {
+    let (found, steps) = forward_counted(&loaded.rules, &loaded.bounds, &outward(port));
+    (found, steps.count())
+}
+
+#[test]
+fn greatest(rt: HostRuntime) -> Result<(), Fail> {
+    let loaded = rules_of(rt.alloc(), most_rules(rt.alloc())?.as_bytes())?;
+    assert_eq!(rt; counted(&loaded, 1000), (Forwarding::Drop, 1));
+    assert_eq!(rt; counted(&loaded, 1100), (Forwarding::Drop, 101));
+    assert_eq!(rt; counted(&loaded, 5095), (Forwarding::Drop, 4096));
+    assert_eq!(rt; counted(&loaded, 5096), (Forwarding::Pass, 4096));
     Ok(())
 }

@@ -200,9 +200,9 @@ module _ {D : Type 0} (honest : D → Type 0) (moment : D → ℕ) (left : D →
 
   pub sent-bad : (e : EdgeFault) (now : Kept D) (bytes rest : List ℕ) (count : ℕ) (out : List (ℕ × Answer)) → Closed honest moment left failed (Err e) bytes rest count start now out
       → (left_over : List ℕ) (others : List (ℕ × Answer)) → SettledAndSent honest moment left failed (Err e) start now bytes left_over others (flat_map frame out)
-  sent-bad BadKind now bytes rest count out k left_over others = (bad-answered header.BadKind now bytes rest out k, fares-all (Err BadKind) now bytes rest count out k, tt)
-  sent-bad BadInterface now bytes rest count out k left_over others = (bad-answered header.BadInterface now bytes rest out k, fares-all (Err BadInterface) now bytes rest count out k, tt)
-  sent-bad TooLong now bytes rest count out k left_over others = (bad-answered header.TooLong now bytes rest out k, fares-all (Err TooLong) now bytes rest count out k, tt)
+  sent-bad BadKind now bytes rest count out k left_over others = (bad-answered header.BadKind now bytes rest out k, fares-all (Err BadKind) now bytes rest count out k, k.settled.stands.stands)
+  sent-bad BadInterface now bytes rest count out k left_over others = (bad-answered header.BadInterface now bytes rest out k, fares-all (Err BadInterface) now bytes rest count out k, k.settled.stands.stands)
+  sent-bad TooLong now bytes rest count out k left_over others = (bad-answered header.TooLong now bytes rest out k, fares-all (Err TooLong) now bytes rest count out k, k.settled.stands.stands)
   sent-bad Truncated now bytes rest count out k left_over others = absurd k
   sent-bad Input now bytes rest count out k left_over others = absurd k
   sent-bad Output now bytes rest count out k left_over others = absurd k

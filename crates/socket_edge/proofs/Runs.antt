@@ -179,11 +179,11 @@ module _ {D : Type 0} (honest : D → Type 0) (moment : D → ℕ) (left : D →
 
   -- why it ends, said of the whole run
   pub going-why : (a b c : Kept D) (given pending w : List ℕ) (n : ℕ) (e : EdgeFault) → Going a b given pending w n → Explains honest moment left failed e b c → Explains honest moment left failed e a c
-  going-why a b c given pending w n BadKind g x = tt
-  going-why a b c given pending w n BadInterface g x = tt
-  going-why a b c given pending w n TooLong g x = tt
-  going-why a b c given pending w n Truncated g x = tt
-  going-why a b c given pending w n Input g x = tt
+  going-why a b c given pending w n BadKind g x = x
+  going-why a b c given pending w n BadInterface g x = x
+  going-why a b c given pending w n TooLong g x = x
+  going-why a b c given pending w n Truncated g x = x
+  going-why a b c given pending w n Input g x = x
   going-why a b c given pending w n Output g x = tt
   going-why a b c given pending w n (Gateway fault) g x = record {
     stood = x.stood;

@@ -124,13 +124,13 @@ GoesOn (step.Ends (stop.Bad fault)) = Unit {0}
 GoesOn (step.Ends (stop.Refused fault)) = ⊥
 
 module _ {D : Type 0} (honest : D → Type 0) (moment : D → ℕ) (left : D → ℕ → Files → Type 0) (failed : D → ℕ) where
-  -- a fault of the gateway has its cause
+  -- where what was read ended it the gateway stands, and a fault of the gateway has its cause
   abbrev pub Explains : EdgeFault → Kept D → Kept D → Type 0
-  Explains BadKind old new = Unit {0}
-  Explains BadInterface old new = Unit {0}
-  Explains TooLong old new = Unit {0}
-  Explains Truncated old new = Unit {0}
-  Explains Input old new = Unit {0}
+  Explains BadKind old new = new.fallen ≡ false
+  Explains BadInterface old new = new.fallen ≡ false
+  Explains TooLong old new = new.fallen ≡ false
+  Explains Truncated old new = new.fallen ≡ false
+  Explains Input old new = new.fallen ≡ false
   Explains Output old new = Unit {0}
   Explains (Gateway fault) old new = IsWhy honest moment left failed old new fault
 

@@ -1,0 +1,7 @@
+use Rattle.std.proofs.Common.{inr, refl, sym, subst}
+use Rattle.gateway.specs.declared.fault.GatewayFault.TheVariants as fault
+use Rattle.commands.specs.Words.{IsOfServing}
+use Rattle.commands.proofs.sockets.serve_next.Goals as goal
+
+pub returns-then-has_fallen-clause-causes : goal.returns-then-has_fallen-clause-causes
+returns-then-has_fallen-clause-causes g c = subst IsOfServing (sym c.from.ensures) (inr (inr (fault.Reopen, refl)))
