@@ -117,7 +117,7 @@ fn ended_by_a_deaf_client(
     let mut errors = Vec::new(alloc);
     let served = serve_clients(alloc, &listener, path, 1, &mut errors, gateway);
     match served {
-        Err(stop) if errors.as_slice() == b"natgw: output\n" => Ok(Some(stop.refusal)),
+        Err(stop) if errors.as_slice() == b"natgw: output\n".as_slice() => Ok(Some(stop.refusal)),
         _ => Ok(None),
     }
 }

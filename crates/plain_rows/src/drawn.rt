@@ -198,10 +198,9 @@ impl Draw {
     // Up to 255 rules.
     fn rules(&mut self, alloc: Global) -> Result<Vec<Rule>, AllocError> {
         let mut rules = Vec::new(alloc);
-        let mut left = self.byte();
-        while left > 0 {
+        let count = self.byte();
+        for _ in 0..count {
             rules.push(self.rule())?;
-            left -= 1;
         }
         Ok(rules)
     }
