@@ -120,7 +120,7 @@ fn gather(bytes: &mut Vec<u8>, answers: &[(u64, Answer)]) -> Result<(), AllocErr
 ///
 /// `Output` where a write fails or takes no byte. A beginning of the frames is written then, also a
 /// part of a frame.
-pub fn send_by<W: Write>(
+pub(crate) fn send_by<W: Write>(
     bytes: &mut Vec<u8>,
     writer: &mut W,
     answers: &[(u64, Answer)],
