@@ -65,7 +65,9 @@ pub const SHOW: &str = "Lists the sessions that the two files keep";
 
 pub const COLUMNS: &str = "\
 One line a session: the protocol, the inside, the outside and the remote endpoint, and partial,
-established or closing, or - for UDP.
+established or closing, or - for UDP:
+  tcp 192.168.1.3:40000     203.0.113.1:40000     198.51.100.7:443      established
+  udp 192.168.1.2:5000      203.0.113.1:5000      198.51.100.7:53       -
 
 Example:
   natgw show --dir state --inside 192.168.0.0/16 --external 203.0.113.1";
