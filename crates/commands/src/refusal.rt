@@ -129,7 +129,7 @@ impl Refusal {
     }
 }
 
-/// Whether a fault of one stream ends the program. Any other one ends a connection alone: the gateway stands, and
+/// Whether a fault of one stream ends the program. Any other one ends a connection alone, and where the gateway stands
 /// whoever connects next can be served.
 pub(crate) fn ends_program(fault: EdgeFault) -> bool
     ensures { IsTrue result ↔ IsOfGateway fault }
