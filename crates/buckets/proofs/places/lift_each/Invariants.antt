@@ -1,0 +1,11 @@
+use Rattle.std.proofs.Common.{◌≡◌, ◌≤◌, ℕ}
+use Rattle.rows.specs.Held.{value_at}
+use Rattle.buckets.specs.Places.{all_in, AreSound}
+use Rattle.buckets.proofs.places.lift_each.Given as goal
+
+abbrev pub invariant-loop : goal.invariant-loop
+invariant-loop l = record {
+  sound : AreSound l.places l.overflow.held;
+  same : (key : ℕ) → value_at (all_in l.places l.overflow.held) key ≡ value_at (all_in l.fn.places l.fn.overflow.held) key;
+  room : l.fn.overflow.room ≤ l.overflow.room;
+}

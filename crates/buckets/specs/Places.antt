@@ -1,0 +1,80 @@
+-- How the entries lie in places. No public clause cites this module.
+use Rattle.std.specs.Prelude.{◌≡◌, ◌≢◌, ℕ, ◌+◌, ◌*◌, ◌/◌, ◌%◌, ◌<◌, ◌≤◌, max, List, [], ◌∷◌, ◌++◌, length, Option, Some, None, IsSomeAnd, slice_index_or}
+use Rattle.rows.specs.declared.Entry.{Entry}
+use Rattle.rows.specs.Held.{value_at}
+
+-- the entries of the places that have one
+abbrev pub entries_in : List (Option Entry) → List Entry
+entries_in [] = []
+entries_in (None ∷ places) = entries_in places
+entries_in (Some entry ∷ places) = entry ∷ entries_in places
+
+-- the entries of the places, and those for which there was none
+abbrev pub all_in : List (Option Entry) → List Entry → List Entry
+all_in places overflow = entries_in places ++ overflow
+
+-- a number of 24 bits in which all bits of a key have a part
+unfoldable pub spread : ℕ → ℕ
+spread key = key * 11400714819323198485 % 18446744073709551616 / 1099511627776
+
+-- where the bucket of a key begins, of so many places
+unfoldable pub bucket_of : ℕ → ℕ → ℕ
+bucket_of count key = spread key % max (count / 8) 1 * 8
+
+-- the place belongs to the bucket of the key, of so many places
+pub record IsHome (count key place : ℕ) : Type 0 where
+  pub from : bucket_of count key ≤ place
+  pub to : place < bucket_of count key + 8
+
+-- the entry stands at this place
+abbrev pub Stands : List (Option Entry) → ℕ → Entry → Type 0
+Stands places place entry = slice_index_or places place None ≡ Some entry
+
+-- an entry with the key stands at this place
+abbrev pub HasKey : List (Option Entry) → ℕ → ℕ → Type 0
+HasKey places key place = IsSomeAnd (slice_index_or places place None) (λ entry. entry.key ≡ key)
+
+-- no place has the key
+abbrev pub HasNowhere : List (Option Entry) → ℕ → Type 0
+HasNowhere places key = (place : ℕ) (entry : Entry) → Stands places place entry → entry.key ≢ key
+
+-- each entry stands in the bucket of its key
+abbrev pub AreHome : List (Option Entry) → Type 0
+AreHome places = (place : ℕ) (entry : Entry) → Stands places place entry → IsHome (length places) entry.key place
+
+-- each key stands once
+abbrev pub AreApart : List (Option Entry) → Type 0
+AreApart places = (i j : ℕ) (e f : Entry) → Stands places i e → Stands places j f → e.key ≡ f.key → i ≡ j
+
+-- each entry stands in the bucket of its key, and each key once, whether in a place or in the overflow
+pub record AreSound (places : List (Option Entry)) (overflow : List Entry) : Type 0 where
+  pub home : AreHome places
+  pub apart : AreApart places
+  pub once : (place : ℕ) (entry : Entry) → Stands places place entry → value_at overflow entry.key ≡ None
+
+-- the place is free, and belongs to the bucket of the key
+pub record IsFreeFor (places : List (Option Entry)) (key place : ℕ) : Type 0 where
+  pub in_range : place < length places
+  pub free : slice_index_or places place None ≡ None
+  pub home : IsHome (length places) key place
+
+-- the place has this now, and each other what it had
+pub record IsSetTo (old new : List (Option Entry)) (place : ℕ) (value : Option Entry) : Type 0 where
+  pub same_length : length new ≡ length old
+  pub there : slice_index_or new place None ≡ value
+  pub others : (k : ℕ) → k ≢ place → slice_index_or new k None ≡ slice_index_or old k None
+
+-- the entry of a place, if it has one, stands now in a free place of its bucket
+abbrev pub IsCopied : Option Entry → List (Option Entry) → List (Option Entry) → Type 0
+IsCopied None old new = new ≡ old
+IsCopied (Some entry) old new = (place : ℕ) × IsFreeFor old entry.key place × IsSetTo old new place (Some entry)
+
+-- the entries of so many of the old places stand in the new ones, each in its bucket, and no others
+pub record IsMoved (old : List (Option Entry)) (count : ℕ) (new : List (Option Entry)) : Type 0 where
+  pub sound : AreSound new []
+  pub to : (place : ℕ) (entry : Entry) → place < count → Stands old place entry → (k : ℕ) × Stands new k entry
+  pub from : (place : ℕ) (entry : Entry) → Stands new place entry → (k : ℕ) × (k < count) × Stands old k entry
+
+-- the same entries stand in the new places, each in its bucket
+abbrev pub HaveSame : List (Option Entry) → List (Option Entry) → Type 0
+HaveSame old new = IsMoved old (length old) new

@@ -1,0 +1,148 @@
+//! Buckets: an exact map from keys of 64 bits to slots, in no order, for great tables.
+//!
+//! A key is spread over a vector of places, of which eight that lie side by side are a bucket: a look-up reads the
+//! places of one bucket, 96 bytes. An entry whose bucket is full, or whose value is too great for a place, lies
+//! in the overflow, whose rows are exact and ordered: so nothing rests on how keys spread but time, and of keys
+//! that all meet in one bucket each costs a search in rows.
+//!
+//! - `place`: a place, which is empty or has an entry
+//! - `places`: the places and the overflow, and what is done to them
+//! - `specs/Held`: the entries, as contracts see them; `Rows` of crate `rows` has the words for them
+#![tactic(auto)]
+
+ghost use Rattle.std.specs.Prelude.{◌≡◌, ◌+◌, ◌<◌, ◌≤◌, ℕ, None, Some, IsOk, OnOk, OnErr};
+ghost use Rattle.rows.specs.Held.{at, Puts};
+ghost use Rattle.buckets.specs.Held.{KeepsAll};
+
+mod place;
+mod places;
+
+use crate::place::Place;
+use crate::places::{add, find, grow, take_out};
+use rows::Rows;
+use std::alloc::{AllocError, Global};
+use std::marker::Model;
+
+/// Entries, each key at most once, in no order.
+///
+/// A place takes 12 bytes. Where memory was granted, three quarters of the places or fewer have an entry, and
+/// after they were made twice as many some three eighths.
+#[derive(Drop)]
+pub struct Buckets {
+    alloc: Global,
+    places: Vec<Place>,
+    overflow: Rows,
+    // How many entries there are, by which it is told when places get few. Nothing rests on it but time.
+    count: usize,
+}
+
+impl Model for Buckets {
+    ghost use Rattle.rows.specs.Held.{Entries};
+    ghost use Rattle.buckets.specs.Places.{all_in, AreSound};
+
+    ghost Value = { Entries };
+
+    ghost view = { λ b. record {
+      held = all_in b.places.items b.overflow.held;
+      room = b.overflow.room;
+    } };
+
+    ghost invariant = { λ b. AreSound b.places.items b.overflow.held };
+}
+
+impl Buckets {
+    /// Buckets with no entry. This takes no memory.
+    pub fn new(alloc: Global) -> Buckets
+        ensures { (key : ℕ) → at result key ≡ None }
+    {
+        Buckets {
+            alloc,
+            places: Vec::new(alloc),
+            overflow: Rows::new(alloc),
+            count: 0,
+        }
+    }
+
+    /// The value of the key, if an entry has it. It takes a look at the places of one bucket and, where none of
+    /// them has the key, a search in the overflow.
+    pub fn get(&self, key: u64) -> Option<usize>
+        ensures { result ≡ at self.now key }
+    {
+        find(&self.places, &self.overflow, key)
+    }
+
+    /// Puts an entry in, whose key no other has. It goes into a free place of its bucket, or into the overflow.
+    ///
+    /// # Errors
+    ///
+    /// `AllocError` where memory for it is refused, and never where there is room. Each key has the value that it
+    /// had then, and no room is lost.
+    pub fn insert(&mut self, key: u64, value: usize) -> Result<(), AllocError>
+        requires { at self.old key ≡ None }
+        ensures ok { OnOk result (Puts self.old.held self.new.held key (Some value)) }
+        ensures err { OnErr result (KeepsAll self.old self.new) }
+        ensures succeeds { 0 < self.old.room → IsOk result }
+        ensures room_ok { OnOk result (self.old.room ≤ self.new.room + 1) }
+        ensures room_err { OnErr result (self.old.room ≤ self.new.room) }
+    {
+        add(&mut self.places, &mut self.overflow, key, value)?;
+        self.count = self.count.saturating_add(1);
+        Ok(())
+    }
+
+    /// Takes the entry of the key out, if there is one, and returns its value. This takes no memory.
+    pub fn remove(&mut self, key: u64) -> Option<usize>
+        ensures value { result ≡ at self.old key }
+        ensures gone { Puts self.old.held self.new.held key None }
+        ensures room { self.old.room ≤ self.new.room }
+    {
+        let value = take_out(&mut self.places, &mut self.overflow, key)?;
+        self.count = self.count.saturating_sub(1);
+        Some(value)
+    }
+
+    /// Makes room for two more entries, so that the next two insertions take no memory, whatever is removed
+    /// before them. Where three quarters of the places have an entry it makes twice as many, if memory is granted,
+    /// and puts all entries there.
+    ///
+    /// # Errors
+    ///
+    /// `AllocError` where memory for the two is refused, and never where there is room for two already. Each key
+    /// has the value that it had in any case, and no room is lost.
+    pub fn reserve(&mut self) -> Result<(), AllocError>
+        ensures ok { OnOk result (2 ≤ self.new.room) }
+        ensures succeeds { 2 ≤ self.old.room → IsOk result }
+        ensures same { KeepsAll self.old self.new }
+        ensures room { self.old.room ≤ self.new.room }
+    {
+        self.overflow.reserve()?;
+        self.spread();
+        Ok(())
+    }
+
+    /// Makes room for one more entry, as `reserve` does for two.
+    ///
+    /// # Errors
+    ///
+    /// As of `reserve`.
+    pub fn reserve_one(&mut self) -> Result<(), AllocError>
+        ensures ok { OnOk result (0 < self.new.room) }
+        ensures succeeds { 0 < self.old.room → IsOk result }
+        ensures same { KeepsAll self.old self.new }
+        ensures room { self.old.room ≤ self.new.room }
+    {
+        self.overflow.reserve_one()?;
+        self.spread();
+        Ok(())
+    }
+
+    // Makes more places where few are free.
+    fn spread(&mut self)
+        ensures same { KeepsAll self.old self.new }
+        ensures room { self.old.room ≤ self.new.room }
+    {
+        if self.count >= self.places.len() / 4 * 3 {
+            grow(self.alloc, &mut self.places, &mut self.overflow);
+        }
+    }
+}
