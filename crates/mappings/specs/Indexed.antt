@@ -1,5 +1,5 @@
--- How the pairs are kept: each in a slot, and two rows that lead to it. No public clause cites this
--- module.
+-- How the pairs are kept: each in a slot, and two maps that lead to it, of each of which a row is the list of
+-- its entries. No public clause cites this module.
 use Rattle.std.specs.Prelude.{◌≡◌, ◌↔◌, ℕ, ◌+◌, ◌-◌, ◌*◌, ◌<◌, List, [], ◌∷◌, Option, Some, None, min, slice_index_or}
 use Rattle.slab.specs.Slab.{slab_len}
 use Rattle.packet.specs.Numbers.{proto_number}

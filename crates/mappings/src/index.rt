@@ -1,4 +1,4 @@
-//! The pairs, each in a slot of its own, and the two rows that lead to it.
+//! The pairs, each in a slot of its own, and the two maps that lead to it.
 ghost use Rattle.std.specs.Prelude.{◌≡◌, ◌⊎◌, ℕ, ◌+◌, ◌-◌, ◌*◌, ◌<◌, ◌≤◌, Some, None, OnOk, OnErr, IsOk, IfSome, IfNone, IsSomeAnd};
 ghost use Rattle.packet.specs.declared.endpoint.Endpoint.{Endpoint as Place};
 ghost use Rattle.slab.specs.Slab.{get, with_value, slab_len};
@@ -8,26 +8,26 @@ ghost use Rattle.mappings.specs.Map.{times_in, pair, GainsIn};
 ghost use Rattle.mappings.specs.Indexed.{key, IsSmall, IsIndexed, KeepsOneToOneIn, held_in, room_in};
 
 use crate::map::{Counted, Pair};
+use buckets::Buckets;
 use packet::endpoint::{Endpoint, Proto};
-use rows::Rows;
 use slab::Slab;
 use std::alloc::AllocError;
 
-/// The pairs that are held. From the protocol and either endpoint a row leads to the slot of the pair.
+/// The pairs that are held. From the protocol and either endpoint a map leads to the slot of the pair.
 #[derive(Drop)]
 pub struct Index {
-    pub inside: Rows,
-    pub outside: Rows,
+    pub inside: Buckets,
+    pub outside: Buckets,
     pub pairs: Slab<Counted>,
 }
 
 // Protocol, address and port, one behind another: a number of 56 bits.
-fn key(proto: Proto, endpoint: Endpoint) -> u128
+fn key(proto: Proto, endpoint: Endpoint) -> u64
     ensures key { result ≡ key proto endpoint }
     ensures small { IsSmall endpoint }
 {
-    let addr = u128::from(endpoint.addr) * 0x1_0000;
-    u128::from(proto.number()) * 0x1_0000_0000_0000 + addr + u128::from(endpoint.port)
+    let addr = u64::from(endpoint.addr) * 0x1_0000;
+    u64::from(proto.number()) * 0x1_0000_0000_0000 + addr + u64::from(endpoint.port)
 }
 
 /// The outside endpoint of the pair with this inside endpoint.
@@ -73,7 +73,7 @@ pub fn add(index: &mut Index, pair: Pair) -> Result<(), AllocError>
     }
 }
 
-// Takes a pair in to which no row leads.
+// Takes a pair in to which no map leads.
 fn add_new(index: &mut Index, pair: Pair) -> Result<(), AllocError>
     requires indexed { IsIndexed index.old }
     requires one_to_one { KeepsOneToOneIn (held_in index.old) pair }
@@ -94,12 +94,12 @@ fn add_new(index: &mut Index, pair: Pair) -> Result<(), AllocError>
     Ok(())
 }
 
-// Lets the first row lead from one number to the slot, and the second from the other one, or neither.
+// Lets the first map lead from one number to the slot, and the second from the other one, or neither.
 fn insert(
-    inside: &mut Rows,
-    outside: &mut Rows,
-    near: u128,
-    far: u128,
+    inside: &mut Buckets,
+    outside: &mut Buckets,
+    near: u64,
+    far: u64,
     slot: usize,
 ) -> Result<(), AllocError>
     requires inside { at inside.old near ≡ None }
@@ -107,7 +107,7 @@ fn insert(
     ensures inside { OnOk result (Puts inside.old.held inside.new.held near (Some slot)) }
     ensures outside { OnOk result (Puts outside.old.held outside.new.held far (Some slot)) }
     ensures err_inside { OnErr result ((number : ℕ) → at inside.new number ≡ at inside.old number) }
-    ensures err_outside { OnErr result (outside.new.held ≡ outside.old.held) }
+    ensures err_outside { OnErr result ((number : ℕ) → at outside.new number ≡ at outside.old number) }
     ensures succeeds { 0 < inside.old.room → 0 < outside.old.room → IsOk result }
     ensures room_inside { inside.old.room ≤ inside.new.room + 1 }
     ensures room_outside { OnOk result (outside.old.room ≤ outside.new.room + 1) }
@@ -152,7 +152,7 @@ fn count_down(pairs: &mut Slab<Counted>, slot: usize)
     pairs[slot].count -= 1;
 }
 
-/// The pair is held once less, and with its last hold it is gone from both rows.
+/// The pair is held once less, and with its last hold it is gone from both maps.
 pub fn take_one(index: &mut Index, pair: Pair)
     requires indexed { IsIndexed index.old }
     requires some { 0 < times_in (held_in index.old) pair }

@@ -5,11 +5,12 @@
 //! the mappings are one-to-one: an inside endpoint has one outside endpoint, whatever the remote
 //! (RFC 4787, REQ-1), and an outside endpoint stands for one inside endpoint.
 //!
-//! Each pair has a slot, with its count. Two rows that rise lead to it, one from the protocol and the inside
-//! endpoint, the other from the protocol and the outside endpoint; so no call walks over all pairs.
+//! Each pair has a slot, with its count. Two maps lead to it, one from the protocol and the inside endpoint, the
+//! other from the protocol and the outside endpoint; so no call walks over all pairs, and a look-up reads one
+//! bucket. Nothing asks for the pairs in order.
 //!
 //! - `map`: the pairs that are held, and the look-ups by either endpoint
-//! - `index`: the slots, and the two rows
+//! - `index`: the slots, and the two maps
 //! - `specs/Map`: how often a pair is held, as contracts see it
 #![tactic(auto)]
 

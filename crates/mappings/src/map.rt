@@ -5,8 +5,8 @@ ghost use Rattle.mappings.specs.declared.map.Pair.{Pair as Mapping};
 ghost use Rattle.mappings.specs.Map.{times, pair, KeepsOneToOne, IsOneToOne, Gains, SameTimes};
 
 use crate::index::{Index, add, find_inside, find_outside, reserve, take_one};
+use buckets::Buckets;
 use packet::endpoint::{Endpoint, Proto};
-use rows::Rows;
 use slab::Slab;
 use std::alloc::{AllocError, Global};
 use std::marker::Model;
@@ -34,9 +34,8 @@ const _: () = prove!(size_of::<Counted>() == 24);
 
 /// The pairs that are held.
 ///
-/// A look-up halves twice, among the runs of a row and in one of them, however many pairs are held. A pair
-/// takes 32 bytes in its slot, and 24 in each of two rows whose runs are some two thirds full where keys
-/// come in any order: about 100 bytes.
+/// A look-up reads one bucket and one slot, however many pairs are held. A pair takes 32 bytes in its slot, and
+/// between 16 and 32 in each of two maps, 12 for each place of theirs.
 #[derive(Drop)]
 pub struct Map {
     index: Index,
@@ -63,15 +62,15 @@ impl Map {
     {
         Map {
             index: Index {
-                inside: Rows::new(alloc),
-                outside: Rows::new(alloc),
+                inside: Buckets::new(alloc),
+                outside: Buckets::new(alloc),
                 pairs: Slab::new(alloc),
             },
         }
     }
 
     /// The outside endpoint that stands for this inside endpoint, where a pair of it is held. It takes one
-    /// look-up in a row.
+    /// look-up in a map.
     pub fn outside_of(&self, proto: Proto, inside: Endpoint) -> Option<Endpoint>
         ensures found { IfSome result (λ outside. 0 < times self.now (pair proto inside outside)) }
         ensures only { IfSome result (λ outside. (other : Place)
@@ -82,7 +81,7 @@ impl Map {
     }
 
     /// The inside endpoint that this outside endpoint stands for, where a pair of it is held. It takes one
-    /// look-up in a row.
+    /// look-up in a map.
     pub fn inside_of(&self, proto: Proto, outside: Endpoint) -> Option<Endpoint>
         ensures found { IfSome result (λ inside. 0 < times self.now (pair proto inside outside)) }
         ensures only { IfSome result (λ inside. (other : Place)
@@ -94,7 +93,7 @@ impl Map {
 
     /// Holds the pair once more, but no more often than a table holds sessions. It may share neither
     /// endpoint with another pair of its protocol that is held. It takes one look-up, and where the pair is
-    /// not held yet an insertion into each row.
+    /// not held yet an insertion into each of two maps.
     ///
     /// # Errors
     ///
@@ -115,7 +114,7 @@ impl Map {
     }
 
     /// Gives one hold of a held pair back; with its last hold the pair is gone. This takes no memory, and
-    /// loses no room. It takes one look-up, and with the last hold a removal from each row.
+    /// loses no room. It takes one look-up, and with the last hold a removal from each of two maps.
     pub fn release(&mut self, pair: Pair)
         requires { 0 < times self.old pair }
         ensures loses { Gains self.new self.old pair }
