@@ -3,6 +3,7 @@
 //! The rows stand above the crates that they try, so that each of these is proved once, without them.
 //!
 //! - `ordered`: entries that rise by their keys (`rows`);
+//! - `unordered`: entries in no order (`buckets`);
 //! - `members`: sets of values and maps to verdicts (`sets`);
 //! - `living`: the table of sessions (`sessions`);
 //! - `idle`: the sessions that are over (`timers`);
@@ -22,3 +23,5 @@ mod members;
 mod ordered;
 #[cfg(test)]
 mod ports;
+#[cfg(test)]
+mod unordered;

@@ -1,0 +1,143 @@
+use buckets::Buckets;
+use std::alloc::{AllocError, Global};
+use std::process::Abort;
+use std::test::*;
+
+// Puts an entry in. A refusal of memory must change nothing, and the entry go in at the second try.
+fn put(rt: &impl Abort, map: &mut Buckets, key: u64, value: usize) -> Result<(), AllocError> {
+    if map.reserve().is_err() {
+        map.reserve()?;
+    }
+    if map.get(key).is_some() {
+        return Ok(());
+    }
+    if map.insert(key, value).is_err() {
+        assert_eq!(rt; map.get(key), None);
+        if map.get(key).is_none() {
+            map.insert(key, value)?;
+        }
+    }
+    Ok(())
+}
+
+#[test]
+fn entries_go_in_and_out(rt: HostRuntime) -> Result<(), AllocError> {
+    let mut map = Buckets::new(rt.alloc());
+    assert_eq!(rt; map.get(7), None);
+    if map.reserve_one().is_err() {
+        map.reserve_one()?;
+    }
+    for (key, value) in [
+        (u64::MAX, 1),
+        (7, 2),
+        (0, 3),
+        (1, usize::MAX),
+        (2, 0xffff_ffff),
+    ] {
+        put(&rt, &mut map, key, value)?;
+    }
+    for value in [Some(2), None] {
+        assert_eq!(rt; map.remove(7), value);
+    }
+    for (key, value) in [(u64::MAX, 1), (0, 3), (1, usize::MAX), (2, 0xffff_ffff)] {
+        assert_eq!(rt; map.get(key), Some(value));
+    }
+    assert_eq!(rt; map.remove(1), Some(usize::MAX));
+    assert_eq!(rt; map.get(1), None);
+    Ok(())
+}
+
+// With no call of `reserve` there are no places, and each entry lies in the overflow.
+#[test]
+fn entries_are_found_without_places(rt: HostRuntime) -> Result<(), AllocError> {
+    let mut map = Buckets::new(rt.alloc());
+    for number in 0..200 {
+        if map.get(number).is_none() && map.insert(number, 5).is_err() {
+            return Ok(());
+        }
+    }
+    put(&rt, &mut map, 200, 5)?;
+    for number in 0..201 {
+        assert_eq!(rt; map.get(number), Some(5));
+    }
+    Ok(())
+}
+
+// A key that differs from others in its high half alone, or in its low half.
+fn key_of(number: usize) -> u64 {
+    let high = number as u64 % 7 * 0x1_0000_0000;
+    high + number as u64 / 7
+}
+
+// As many entries as places are made for again and again, put in and taken out as numbers are drawn.
+#[test]
+fn drawn_calls_agree_with_a_plain_list(rt: HostRuntime) -> Result<(), AllocError> {
+    let mut map = Buckets::new(rt.alloc());
+    let mut plain = [None; 499];
+    let mut drawn: u64 = 1;
+    for value in 0..6000 {
+        drawn = drawn
+            .wrapping_mul(0x5851_f42d_4c95_7f2d)
+            .wrapping_add(0x1405_7b7e_f767_814f);
+        let number = (drawn >> 33) as usize % 499;
+        if plain[number].is_some() {
+            assert_eq!(rt; map.remove(key_of(number)), plain[number]);
+            plain[number] = None;
+        } else {
+            put(&rt, &mut map, key_of(number), value)?;
+            plain[number] = Some(value);
+        }
+        assert_eq!(rt; map.get(key_of(number)), plain[number]);
+    }
+    for number in 0..499 {
+        assert_eq!(rt; map.get(key_of(number)), plain[number]);
+    }
+    Ok(())
+}
+
+// Keys that all meet in the first bucket, however many there are: this number undoes the one by which keys are
+// spread.
+fn meeting(number: usize) -> u64 {
+    (number as u64).wrapping_mul(0xf1de_83e1_9937_733d)
+}
+
+fn many_meeting(rt: &impl Abort, alloc: Global) -> Result<Buckets, AllocError> {
+    let mut map = Buckets::new(alloc);
+    for number in 0..300 {
+        put(rt, &mut map, meeting(number), number)?;
+    }
+    Ok(map)
+}
+
+#[test]
+fn keys_that_meet_are_told_apart(rt: HostRuntime) -> Result<(), AllocError> {
+    let mut map = many_meeting(&rt, rt.alloc())?;
+    for number in 0..300 {
+        assert_eq!(rt; map.get(meeting(number)), Some(number));
+    }
+    for number in 0..290 {
+        assert_eq!(rt; map.remove(meeting(299 - number)), Some(299 - number));
+        assert_eq!(rt; map.get(meeting(299 - number)), None);
+    }
+    for number in 0..300 {
+        let value = if number < 10 { Some(number) } else { None };
+        assert_eq!(rt; map.get(meeting(number)), value);
+    }
+    Ok(())
+}
+
+// What stays in the overflow goes into places again, and nothing is lost.
+#[test]
+fn keys_that_met_are_found_again(rt: HostRuntime) -> Result<(), AllocError> {
+    let mut map = many_meeting(&rt, rt.alloc())?;
+    for number in 0..20 {
+        assert_eq!(rt; map.remove(meeting(number)), Some(number));
+    }
+    for number in 0..900 {
+        put(&rt, &mut map, key_of(number), number)?;
+    }
+    for number in 20..300 {
+        assert_eq!(rt; map.get(meeting(number)), Some(number));
+    }
+    Ok(())
+}
