@@ -27,16 +27,21 @@ pub cond-some : (b : Bool) (k key : ℕ) → cond b (Some k) None ≡ Some key �
 cond-some true k key e = (refl, same_Some k key e)
 cond-some false k key e = absurd (none-some key e)
 
+-- the key under which only the others stand
+pub cond-none : (b : Bool) (k key : ℕ) → cond b None (Some k) ≡ Some key → (b ≡ false) × (k ≡ key)
+cond-none true k key e = absurd (none-some key e)
+cond-none false k key e = (refl, same_Some k key e)
+
 -- two sessions of one key clash
 module _ (s t : Session) (fits : AreEndpoints s) (fits' : AreEndpoints t) (key : ℕ) where
-  same-inside : key_number s.proto s.inside s.remote ≡ key → key_number t.proto t.inside t.remote ≡ key → Clash s t
+  pub same-inside : key_number s.proto s.inside s.remote ≡ key → key_number t.proto t.inside t.remote ≡ key → Clash s t
   same-inside e f = inl (key-parts t.proto s.proto t.inside s.inside t.remote s.remote fits'.0 fits.0 fits'.2 fits.2 (f ∙ sym e))
 
   same-outside : key_number s.proto s.outside s.remote ≡ key → key_number t.proto t.outside t.remote ≡ key → Clash s t
   same-outside e f = inr (inl (key-parts t.proto s.proto t.outside s.outside t.remote s.remote fits'.1 fits.1 fits'.2 fits.2 (f ∙ sym e)))
 
   pub flow-clash : flow_name s ≡ Some key → flow_name t ≡ Some key → Clash s t
-  flow-clash e f = same-inside (same_Some _ key e) (same_Some _ key f)
+  flow-clash e f = same-inside (cond-none _ _ key e).1 (cond-none _ _ key f).1
 
   pub inside-clash : inside_name s ≡ Some key → inside_name t ≡ Some key → Clash s t
   inside-clash e f = same-inside (cond-some _ _ key e).1 (cond-some _ _ key f).1
@@ -93,14 +98,17 @@ module _ (held held' : List (Option Session)) (index index' : Index) (slot : ℕ
 
 -- names are told by protocol and endpoints alone
 module _ (s t : Session) (same : SameKeys s t) where
-  same-flow : flow_name t ≡ flow_name s
-  same-flow = ap Some (key-from t.proto s.proto t.inside s.inside t.remote s.remote (sym same.proto, sym same.inside, sym same.remote))
+  same-key : key_number t.proto t.inside t.remote ≡ key_number s.proto s.inside s.remote
+  same-key = key-from t.proto s.proto t.inside s.inside t.remote s.remote (sym same.proto, sym same.inside, sym same.remote)
 
   same-translated : is_translated t ≡ is_translated s
   same-translated = ap (λ e. not (same_endpoint e t.outside)) (sym same.inside) ∙ ap (λ e. not (same_endpoint s.inside e)) (sym same.outside)
 
+  same-flow : flow_name t ≡ flow_name s
+  same-flow = ap (λ b. cond b None (Some (key_number t.proto t.inside t.remote))) same-translated ∙ ap (λ n. cond (is_translated s) None (Some n)) same-key
+
   same-inside_name : inside_name t ≡ inside_name s
-  same-inside_name = ap (λ b. cond b (flow_name t) None) same-translated ∙ ap (λ n. cond (is_translated s) n None) same-flow
+  same-inside_name = ap (λ b. cond b (Some (key_number t.proto t.inside t.remote)) None) same-translated ∙ ap (λ n. cond (is_translated s) (Some n) None) same-key
 
   same-outside_name : outside_name t ≡ outside_name s
   same-outside_name = ap (λ b. cond b (Some (key_number t.proto t.outside t.remote)) None) same-translated
@@ -122,17 +130,34 @@ IsIndexed-set held index slot s t is same seen indexed = record {
   outsides = Finds-set outside_name held index.outsides.held indexed.outsides slot s t is (same-outside_name s t same);
 }
 
--- a session that neither row of an outside endpoint has isn't held
-module _ (held : List (Option Session)) (index : Index) (proto : Proto) (outside remote : Endpoint) (indexed : IsIndexed held index)
-    (absent : value_at index.outsides.held (key_number proto outside remote) ≡ None) where
-  pub no-outside : ((slot : ℕ) (s : Session) → value_at index.flows.held (key_number proto outside remote) ≡ Some slot → get_or held slot None ≡ Some s → s.outside ≢ outside) → (slot : ℕ) (o : Option Session) → get_or held slot None ≡ o → IfSome o (λ s. ¬ HasOutside proto outside remote s)
-  no-outside differs slot None is = tt
-  no-outside differs slot (Some s) is = λ h. elim (cases_Bool (is_translated s)) [
+one-endpoint : (s : Session) → is_translated s ≡ false → s.inside ≡ s.outside
+one-endpoint s not_so = same_endpoint-true s.inside s.outside (from_not_false _ not_so)
+
+-- a session that neither row of a side has isn't held
+module _ (held : List (Option Session)) (index : Index) (proto : Proto) (near remote : Endpoint) (indexed : IsIndexed held index) where
+  pub no-inside : value_at index.insides.held (key_number proto near remote) ≡ None → value_at index.flows.held (key_number proto near remote) ≡ None
+      → (slot : ℕ) (o : Option Session) → get_or held slot None ≡ o → IfSome o (λ s. ¬ HasInside proto near remote s)
+  no-inside absent_in absent slot None is = tt
+  no-inside absent_in absent slot (Some s) is = λ h.
+      let key = key-from s.proto proto s.inside near s.remote remote h in
+      elim (cases_Bool (is_translated s)) [
+        | inl so ↦
+            let named : inside_name s ≡ Some (key_number proto near remote) = ap (λ b. cond b (Some (key_number s.proto s.inside s.remote)) None) so ∙ ap Some key in
+            none-some slot (sym absent_in ∙ indexed.insides.slot_of slot _ s is named)
+        | inr not_so ↦
+            let named : flow_name s ≡ Some (key_number proto near remote) = ap (λ b. cond b None (Some (key_number s.proto s.inside s.remote))) not_so ∙ ap Some key in
+            none-some slot (sym absent ∙ indexed.flows.slot_of slot _ s is named)
+      ]
+
+  pub no-outside : value_at index.outsides.held (key_number proto near remote) ≡ None → value_at index.flows.held (key_number proto near remote) ≡ None
+      → (slot : ℕ) (o : Option Session) → get_or held slot None ≡ o → IfSome o (λ s. ¬ HasOutside proto near remote s)
+  no-outside absent_out absent slot None is = tt
+  no-outside absent_out absent slot (Some s) is = λ h. elim (cases_Bool (is_translated s)) [
     | inl so ↦
-        let named : outside_name s ≡ Some (key_number proto outside remote) = ap (λ b. cond b (Some (key_number s.proto s.outside s.remote)) None) so ∙ ap Some (key-from s.proto proto s.outside outside s.remote remote h) in
-        none-some slot (sym absent ∙ indexed.outsides.slot_of slot _ s is named)
+        let named : outside_name s ≡ Some (key_number proto near remote) = ap (λ b. cond b (Some (key_number s.proto s.outside s.remote)) None) so ∙ ap Some (key-from s.proto proto s.outside near s.remote remote h) in
+        none-some slot (sym absent_out ∙ indexed.outsides.slot_of slot _ s is named)
     | inr not_so ↦
-        let one : s.inside ≡ s.outside = same_endpoint-true s.inside s.outside (from_not_false _ not_so) in
-        let named : flow_name s ≡ Some (key_number proto outside remote) = ap Some (key-from s.proto proto s.inside outside s.remote remote (h.0, one ∙ h.1, h.2)) in
-        differs slot s (indexed.flows.slot_of slot _ s is named) is h.1
+        let key = key-from s.proto proto s.inside near s.remote remote (h.0, one-endpoint s not_so ∙ h.1, h.2) in
+        let named : flow_name s ≡ Some (key_number proto near remote) = ap (λ b. cond b None (Some (key_number s.proto s.inside s.remote))) not_so ∙ ap Some key in
+        none-some slot (sym absent ∙ indexed.flows.slot_of slot _ s is named)
   ]

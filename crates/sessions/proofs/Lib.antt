@@ -12,3 +12,4 @@ pub mod OneToOne
 pub mod Puts
 pub mod Sets
 pub mod Stilled
+pub mod TwoRows

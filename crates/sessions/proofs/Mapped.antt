@@ -20,10 +20,17 @@ use Rattle.sessions.proofs.OneToOne.{one_endpoint}
 
 -- ---- entries that rise
 
+abbrev pub Each : (Entry → Type 0) → List Entry → Type 0
+Each P [] = Unit {0}
+Each P (e ∷ es) = P e × Each P es
+
+pub each-weaker : (P Q : Entry → Type 0) → ((e : Entry) → P e → Q e) → (es : List Entry) → Each P es → Each Q es
+each-weaker P Q h [] each = tt
+each-weaker P Q h (e ∷ es) each = (h e each.0, each-weaker P Q h es each.1)
+
 -- each key is above this one
 abbrev pub After : ℕ → List Entry → Type 0
-After k [] = Unit {0}
-After k (e ∷ es) = (k < e.key) × After k es
+After k es = Each (λ e. k < e.key) es
 
 abbrev pub Climbs : List Entry → Type 0
 Climbs [] = Unit {0}
@@ -194,6 +201,6 @@ pub where-held : (P : Session → Type 0) (o : Option Session) → ((u : Session
 where-held P None h = tt
 where-held P (Some u) h = h u refl
 
-pub where-none : (P : Type 0) (o : Option ℕ) → P → IfNone o P
-where-none P None h = h
-where-none P (Some n) h = tt
+pub none-weaker : (P Q : Type 0) (o : Option ℕ) → (P → Q) → IfNone o P → IfNone o Q
+none-weaker P Q None then h = then h
+none-weaker P Q (Some n) then h = tt

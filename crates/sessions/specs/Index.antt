@@ -25,11 +25,11 @@ IsEndpoint e = (e.addr < 4294967296) × (e.port < 65536)
 abbrev pub AreEndpoints : Session → Type 0
 AreEndpoints s = IsEndpoint s.inside × IsEndpoint s.outside × IsEndpoint s.remote
 
--- the key by which each session is found from inside
+-- the key by which a session that isn't translated is found from both sides
 abbrev pub flow_name : Session → Option ℕ
-flow_name s = Some (key_number s.proto s.inside s.remote)
+flow_name s = cond (is_translated s) None (Some (key_number s.proto s.inside s.remote))
 
--- the keys by which a translated session is found among its like, from either side
+-- the keys by which a translated session is found, from either side
 abbrev pub inside_name : Session → Option ℕ
 inside_name s = cond (is_translated s) (Some (key_number s.proto s.inside s.remote)) None
 
@@ -41,7 +41,7 @@ pub record Finds (name : Session → Option ℕ) (held : List (Option Session)) 
   pub session_of : (key slot : ℕ) → value_at entries key ≡ Some slot → (s : Session) × (slice_index_or held slot None ≡ Some s) × (name s ≡ Some key)
   pub slot_of : (slot key : ℕ) (s : Session) → slice_index_or held slot None ≡ Some s → name s ≡ Some key → value_at entries key ≡ Some slot
 
--- the sessions are sound, and each row has its own
+-- the sessions are sound, and each row has just those of its kind
 pub record IsIndexed (held : List (Option Session)) (index : Index) : Type 0 where
   pub sound : IsSound held
   pub endpoints : (slot : ℕ) (s : Session) → slice_index_or held slot None ≡ Some s → AreEndpoints s

@@ -59,11 +59,13 @@ impl Hints {
         }
     }
 
-    /// Puts both guesses of a session.
+    /// Puts both guesses of a session, which are one where it isn't translated.
     pub fn put_both(&mut self, session: &Session, slot: usize) {
         let (proto, remote) = (session.proto, session.remote);
         self.put(proto, session.inside, remote, slot);
-        self.put(proto, session.outside, remote, slot);
+        if session.outside != session.inside {
+            self.put(proto, session.outside, remote, slot);
+        }
     }
 
     /// Makes two places for each slot of the table, as far as memory is granted, and no more than a full table

@@ -1,10 +1,10 @@
 //! The rows of slots by which a table finds its sessions, and the guesses that are looked at before them.
 //!
-//! A translated session stands in two rows more than any other, which have its like alone: so whichever
-//! entry of an endpoint comes first tells the mapping of that endpoint.
-ghost use Rattle.std.specs.Prelude.{◌≡◌, ◌↔◌, ◌+◌, ◌<◌, ◌≤◌, [], IsTrue, IsOk, None, Some, IfSome, IfNone, OnOk, IfOk};
-ghost use Rattle.rows.specs.Held.{AreRising, entries_from};
-ghost use Rattle.sessions.specs.Index.{ClashesAt, IsAt, IsIndexed, IsNowhere, LacksName, LacksNames, PutsName, PutsNames, along, first_value, room_of};
+//! A translated session stands in two rows, which have its like alone: so whichever entry of an endpoint comes
+//! first tells the mapping of that endpoint. Any other stands in one, since it is called the same on both sides.
+ghost use Rattle.std.specs.Prelude.{◌≡◌, ◌⊎◌, ◌↔◌, ◌+◌, ◌<◌, ◌≤◌, [], IsTrue, IsOk, None, Some, IfSome, IfNone, OnOk};
+ghost use Rattle.rows.specs.Held.{AreRising, at, entries_from};
+ghost use Rattle.sessions.specs.Index.{ClashesAt, IsAt, IsIndexed, IsNowhere, LacksName, LacksNames, PutsName, PutsNames, first_value, room_of};
 ghost use Rattle.sessions.specs.Table.{AnyClash, BreakMapping, HasInside, HasOutside};
 
 use crate::Session;
@@ -19,7 +19,7 @@ use std::alloc::{AllocError, Global};
 /// The slots of sessions, by keys of 104 bits each.
 #[derive(Drop)]
 pub struct Index {
-    /// All of them, by protocol, inside and remote endpoint.
+    /// Those that aren't translated, by protocol, their own and remote endpoint.
     pub flows: Rows,
     /// The translated ones, by protocol, inside and remote endpoint.
     pub insides: Rows,
@@ -135,7 +135,18 @@ pub fn find_inside(
     if is_inside(sessions, hint, proto, inside, remote) {
         return Some(hint);
     }
-    index.flows.get(key(proto, inside, remote))
+    in_either(&index.insides, &index.flows, key(proto, inside, remote))
+}
+
+// The slot under this key in the first of the two rows that has it.
+fn in_either(translated: &Rows, others: &Rows, wanted: u128) -> Option<usize>
+    ensures found { IfSome result (λ slot. (at translated.now wanted ≡ Some slot) ⊎ (at others.now wanted ≡ Some slot)) }
+    ensures absent { IfNone result ((at translated.now wanted ≡ None) × (at others.now wanted ≡ None)) }
+{
+    if let Some(slot) = translated.get(wanted) {
+        return Some(slot);
+    }
+    others.get(wanted)
 }
 
 // Whether the slot holds the session of this protocol, inside and remote endpoint.
@@ -170,17 +181,8 @@ pub fn find_outside(
     if is_outside(sessions, hint, proto, outside, remote) {
         return Some(hint);
     }
-    let wanted = key(proto, outside, remote);
-    if let Some(slot) = index.outsides.get(wanted) {
-        return Some(slot);
-    }
     // One that isn't translated is called the same on both sides.
-    let slot = index.flows.get(wanted)?;
-    if sessions[slot].outside == outside {
-        Some(slot)
-    } else {
-        None
-    }
+    in_either(&index.outsides, &index.flows, key(proto, outside, remote))
 }
 
 // Whether the slot holds the session of this protocol, outside and remote endpoint.
@@ -252,23 +254,4 @@ fn clashes_at(sessions: &Slab<Session>, slot: Option<usize>, session: &Session) 
         Some(held) => clash(session, held),
         None => false,
     }
-}
-
-/// The sessions in the order of a row.
-pub fn listed(
-    alloc: Global,
-    sessions: &Slab<Session>,
-    row: &Rows,
-) -> Result<Vec<Session>, AllocError>
-    ensures listed { IfOk result (λ listed. listed.items ≡ along sessions.now.slots row.now.held) }
-    ensures rising { AreRising row.now.held }
-{
-    row.is_rising();
-    let mut listed = Vec::new(alloc);
-    for entry in row.iter() {
-        if let Some(session) = sessions.get(entry.value) {
-            listed.push(*session)?;
-        }
-    }
-    Ok(listed)
 }

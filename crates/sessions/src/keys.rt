@@ -28,14 +28,17 @@ fn number_of(endpoint: Endpoint) -> u128
     endpoint.addr as u128 * 65_536 + endpoint.port as u128
 }
 
-/// The key by which each session is found from inside.
+/// The key by which a session that isn't translated is found from both sides.
 pub fn flow_key(session: &Session) -> Option<u128>
     ensures { result ≡ flow_name session.now }
 {
+    if is_translated(session) {
+        return None;
+    }
     Some(key(session.proto, session.inside, session.remote))
 }
 
-/// The key by which a translated session is found among its like from inside.
+/// The key by which a translated session is found from inside.
 pub fn inside_key(session: &Session) -> Option<u128>
     ensures { result ≡ inside_name session.now }
 {
@@ -45,7 +48,7 @@ pub fn inside_key(session: &Session) -> Option<u128>
     Some(key(session.proto, session.inside, session.remote))
 }
 
-/// The key by which a translated session is found among its like from outside.
+/// The key by which a translated session is found from outside.
 pub fn outside_key(session: &Session) -> Option<u128>
     ensures { result ≡ outside_name session.now }
 {

@@ -5,6 +5,7 @@
 //! - `life`: what its packets have shown, its phase, and how long it may be idle
 //! - `table`: the sessions that are held, each in a slot that stays until the session ends
 //! - `index`: the rows of slots by which a table finds its sessions
+//! - `merging`: two of those rows taken as one, which lists the sessions
 //! - `hints`: guesses of slots, which are looked at before the rows
 //! - `keys`: the numbers that those rows go by
 //! - `laws`: what the definitions promise, as functions without a body
@@ -15,6 +16,7 @@ mod index;
 mod keys;
 mod laws;
 mod life;
+mod merging;
 mod session;
 mod table;
 

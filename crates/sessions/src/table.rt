@@ -7,8 +7,9 @@ ghost use Rattle.sessions.specs.Listing.{listing};
 ghost use Rattle.sessions.specs.Table.{at, count, most_sessions, Updates, HasInside, HasOutside, Clash, ClashesWith, AnyClash, IsSound, amended, seen as seen_with, restarted};
 
 use crate::hints::Hints;
-use crate::index::{Index, clashes, find_inside, find_outside, listed};
+use crate::index::{Index, clashes, find_inside, find_outside};
 use crate::keys::has_endpoints;
+use crate::merging::merged;
 use crate::{Opener, Session};
 use packet::endpoint::{Endpoint, Proto};
 use slab::Slab;
@@ -324,6 +325,6 @@ impl Table {
     pub fn list(&self, alloc: Global) -> Result<Vec<Session>, AllocError>
         ensures { IfOk result (λ sessions. sessions.items ≡ listing self.now.held) }
     {
-        listed(alloc, &self.sessions, &self.index.flows)
+        merged(alloc, &self.sessions, &self.index)
     }
 }
