@@ -1,5 +1,5 @@
 -- The sessions that both rows of inside endpoints lead to are what is held, rising.
-use Rattle.std.proofs.Common.{◌≡◌, ◌≢◌, ◌⊎◌, ℕ, ◌<◌, true, false, cond, List, [], ◌∷◌, get_or, Option, Some, None, refl, sym, ap, ◌∙◌, subst, inl, inr, arith}
+use Rattle.std.proofs.Common.{◌≡◌, ◌≢◌, ℕ, ◌<◌, cond, List, [], ◌∷◌, get_or, Option, Some, None, refl, sym, ap, ◌∙◌, subst, inl, inr, arith}
 use Rattle.std.proofs.lemmas.Bool.{cases_Bool, cases_eq, false≢true}
 use Rattle.std.proofs.lemmas.Option.{none-some, same_Some}
 use Rattle.std.specs.List.{cons_option}
@@ -8,8 +8,8 @@ use Rattle.rows.specs.Held.{value_at, AreRising}
 use Rattle.rows.proofs.Lookups.{value_at-same, value_at-other}
 use Rattle.sessions.specs.declared.session.Session.{Session}
 use Rattle.sessions.specs.declared.index.Index.{Index}
-use Rattle.sessions.specs.Listing.{In, IsSetOf, Rises, Holds, below, is_translated}
-use Rattle.sessions.specs.Index.{AreEndpoints, Finds, IsIndexed, along, flow_name, inside_name, key_number}
+use Rattle.sessions.specs.Listing.{In, IsSetOf, Rises, Holds, is_translated}
+use Rattle.sessions.specs.Index.{AreEndpoints, IsIndexed, along, flow_name, inside_name, key_number}
 use Rattle.sessions.specs.Merging.{merge}
 use Rattle.sessions.proofs.Indexed.{cond-none, cond-some, same-inside}
 use Rattle.sessions.proofs.KeyNumbers.{below-key}

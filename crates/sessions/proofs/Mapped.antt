@@ -1,10 +1,8 @@
 -- The first translated session of an endpoint tells its mapping.
-use Rattle.std.proofs.Common.{◌≡◌, ◌≢◌, ℕ, zero, suc, ◌+◌, ◌<◌, ◌≤◌, Bool, true, false, cond, eqb, ltb, not, List, [], ◌∷◌, length, get_or, Option, Some, None, IfNone, IfSome, refl, sym, ap, ◌∙◌, subst, inl, inr, arith}
-use Rattle.std.proofs.lemmas.Bool.{cases_Bool, cases_eq, eq-eqb, ne_eqb, ltb-true, ltb-false, not-true}
+use Rattle.std.proofs.Common.{◌≡◌, ◌≢◌, ℕ, zero, suc, ◌<◌, ◌≤◌, true, cond, ltb, not, List, [], ◌∷◌, length, get_or, Option, Some, None, IfNone, IfSome, refl, sym, ap, ◌∙◌, subst, inl, inr, arith}
+use Rattle.std.proofs.lemmas.Bool.{cases_Bool, cases_eq, ltb-true, ltb-false, not-true}
 use Rattle.std.proofs.lemmas.Option.{none-some, same_Some}
-use Rattle.packet.specs.declared.endpoint.Proto.{Proto}
 use Rattle.packet.specs.declared.endpoint.Endpoint.{Endpoint}
-use Rattle.packet.specs.Same.{same_endpoint}
 use Rattle.rows.specs.declared.Entry.{Entry}
 use Rattle.rows.specs.Held.{value_at, entries_from, AreRising}
 use Rattle.rows.proofs.Lookups.{value_at-same, value_at-other}

@@ -1,5 +1,5 @@
 -- How a table finds its sessions. No public clause cites this module.
-use Rattle.std.specs.Prelude.{◌≡◌, ℕ, ◌+◌, ◌*◌, ◌^◌, ◌<◌, min, List, [], ◌∷◌, Option, Some, None, cond, IfSome, IsSomeAnd, slice_index_or, filter_map}
+use Rattle.std.specs.Prelude.{◌≡◌, ℕ, ◌+◌, ◌*◌, ◌<◌, min, List, [], ◌∷◌, Option, Some, None, cond, IfSome, IsSomeAnd, slice_index_or, filter_map}
 use Rattle.packet.specs.declared.endpoint.Proto.{Proto}
 use Rattle.packet.specs.declared.endpoint.Endpoint.{Endpoint}
 use Rattle.packet.specs.Numbers.{proto_number}

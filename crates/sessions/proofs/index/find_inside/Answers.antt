@@ -1,4 +1,4 @@
-use Rattle.std.proofs.Common.{◌≡◌, None, get_or, refl, sym, ap, ◌∙◌}
+use Rattle.std.proofs.Common.{None, get_or, refl, sym, ap, ◌∙◌}
 use Rattle.rows.specs.Held.{value_at}
 use Rattle.sessions.proofs.Indexed.{no-inside}
 use Rattle.sessions.proofs.Mapped.{none-weaker}

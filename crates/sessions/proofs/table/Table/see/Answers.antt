@@ -1,4 +1,4 @@
-use Rattle.std.proofs.Common.{refl, sym, arith}
+use Rattle.std.proofs.Common.{refl, sym}
 use Rattle.sessions.specs.Life.{IsSeen}
 use Rattle.sessions.proofs.Indexed.{IsIndexed-set}
 use Rattle.sessions.proofs.LifeLemmas.{IsSeen-or}
