@@ -1,13 +1,13 @@
 -- Laws of what has been answered.
-use Rattle.std.proofs.Common.{◌≡◌, ℕ, ◌+◌, List, [], ◌∷◌, ◌++◌, length, take, drop, refl, sym, ap, ◌∙◌, arith, append_assoc, length-append, subst}
+use Rattle.std.proofs.Common.{◌≡◌, ℕ, ◌+◌, List, [], ◌++◌, length, refl, sym, ap, ◌∙◌, arith, append_assoc, length-append, subst}
 use Rattle.std.specs.List.{flat_map}
-use Rattle.std.proofs.lemmas.List.{append-nil, take-append-drop}
+use Rattle.std.proofs.lemmas.List.{append-nil}
 use Rattle.std.proofs.lemmas.List.Concat.{flat_map-append}
 use Rattle.packet.specs.Config.{Config}
 use Rattle.machine.specs.declared.event.Event.{Event}
 use Rattle.machine.specs.declared.event.Answer.{Answer}
 use Rattle.machine.specs.Judged.{Judged, AreJudged}
-use Rattle.machine.specs.Machine.{step, after, answers, numbered}
+use Rattle.machine.specs.Machine.{after, answers, numbered}
 use Rattle.gateway.specs.Told.{Told, TookAll}
 use Rattle.machine.proofs.Judging.{AreJudged-append, AreJudged-length}
 use Rattle.gateway.proofs.Taking.{after-append, answers-append, length-answers, numbered-append}

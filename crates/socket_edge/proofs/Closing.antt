@@ -1,5 +1,5 @@
 -- The end of the frames at the front.
-use Rattle.std.proofs.Common.{◌≡◌, ◌≢◌, ◌≤◌, ℕ, List, [], ◌++◌, true, false, inl, inr, refl, sym, ap, ◌∙◌, arith, append_assoc, subst, Result, Ok, Err}
+use Rattle.std.proofs.Common.{◌≡◌, ◌≢◌, ◌≤◌, ℕ, List, [], ◌++◌, true, false, refl, sym, ap, ◌∙◌, arith, append_assoc, subst, Result, Ok, Err}
 use Rattle.std.specs.List.{flat_map}
 use Rattle.std.proofs.lemmas.List.{append-nil}
 use Rattle.disk_model.specs.Disk.{Files}
@@ -19,8 +19,8 @@ use Rattle.socket_edge.specs.declared.serving.Stop.{Stop}
 use Rattle.socket_edge.specs.declared.serving.Stop.TheVariants as stop
 use Rattle.socket_edge.specs.Requests.{Cut, Bad, next}
 use Rattle.socket_edge.specs.Framing.{Framed, Rest, Fault, behind, framed}
-use Rattle.socket_edge.specs.Answering.{frame, Progress, AnsweredFirst, BeginsFrames}
-use Rattle.socket_edge.specs.Running.{Answered, Closed, Explains, Fares, IsBad, IsRefused, IsSettled, Offered, Reads, Served, SettledAndSent, end_of, events_in}
+use Rattle.socket_edge.specs.Answering.{frame, Progress, AnsweredFirst}
+use Rattle.socket_edge.specs.Running.{Answered, Closed, Fares, IsBad, IsRefused, Offered, Reads, Served, SettledAndSent, end_of, events_in}
 use Rattle.socket_edge.proofs.Frames.{framed_cut, framed_bad, Reads-is}
 use Rattle.socket_edge.proofs.Answers.{AnsweredFirst-told, BeginsFrames-told, Progress-told, all_sent}
 use Rattle.socket_edge.proofs.Lasting.{fares}

@@ -1,12 +1,12 @@
 -- What a crash leaves while events are taken and their answers sent.
-use Rattle.std.proofs.Common.{◌≡◌, ◌↔◌, ◌⊎◌, inl, inr, ⊎_elim, ℕ, zero, suc, ◌+◌, ◌-◌, ◌<◌, ◌≤◌, List, [], ◌∷◌, ◌++◌, false, length, take, drop, refl, sym, ap, ◌∙◌, subst, arith, append_assoc, length-append}
+use Rattle.std.proofs.Common.{◌≡◌, ◌↔◌, ◌⊎◌, inl, inr, ⊎_elim, ℕ, zero, suc, ◌+◌, ◌-◌, ◌<◌, ◌≤◌, List, [], ◌∷◌, ◌++◌, false, length, take, refl, sym, ap, ◌∙◌, subst, arith, append_assoc, length-append}
 use Rattle.std.specs.List.{flat_map}
-use Rattle.std.proofs.lemmas.List.{append-nil, length-take-le, take_at, take-append-le}
+use Rattle.std.proofs.lemmas.List.{append-nil, length-take-le}
 use Rattle.std.proofs.lemmas.List.Concat.{flat_map-append}
 use Rattle.std.proofs.Math.Seq.{take-append-add}
 use Rattle.packet.specs.Config.{Config}
-use Rattle.disk_model.specs.Disk.{Files, LeavesNow, LeavesOnly}
-use Rattle.disk_model.proofs.Moments.{narrows, only_then}
+use Rattle.disk_model.specs.Disk.{Files, LeavesOnly}
+use Rattle.disk_model.proofs.Moments.{only_then}
 use Rattle.durable.specs.Recovery.{IsConfigured, Recovers}
 use Rattle.machine.specs.Judged.{Judged, AreJudged}
 use Rattle.machine.specs.Machine.{State, after, answers, numbered}
@@ -19,8 +19,8 @@ use Rattle.gateway.specs.Running.{Ends}
 use Rattle.gateway.specs.Told.{Told, TookAll}
 use Rattle.gateway.proofs.Runs.{safe-less}
 use Rattle.gateway.proofs.Taking.{after-append, length-answers}
-use Rattle.socket_edge.specs.Answering.{frame, replies, due, Progress, Reached}
-use Rattle.socket_edge.specs.Running.{Fares, Outlives}
+use Rattle.socket_edge.specs.Answering.{frame, replies, due, Progress}
+use Rattle.socket_edge.specs.Running.{Fares}
 use Rattle.socket_edge.proofs.Answers.{Reached-by, Reached-then, all_sent, last_of, reached-told, replies-append}
 
 -- a frame has its head at least

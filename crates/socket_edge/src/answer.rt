@@ -1,11 +1,14 @@
 //! The frames of answers.
 ghost use Rattle.std.specs.Prelude.{◌≡◌, ℕ, ◌++◌, OnOk, OnErr, length, take};
-ghost use Rattle.socket_edge.specs.Answering.{iface_byte, kind_byte, body_of, frame, frames};
+ghost use Rattle.socket_edge.specs.Answering.{iface_byte, kind_byte, body_of, frame_head, frame, frames};
 
 use gateway::{Answer, Iface};
 use std::alloc::AllocError;
 
-pub fn kind_of(answer: &Answer) -> u8
+/// The bytes of a frame before its body.
+pub const HEAD_LEN: usize = 13;
+
+fn kind_of(answer: &Answer) -> u8
     ensures { result ≡ kind_byte answer.now }
 {
     match answer {
@@ -36,6 +39,17 @@ pub fn body_len(answer: &Answer) -> u32
     }
 }
 
+/// The bytes of a frame before its body.
+pub fn head_bytes(number: u64, answer: &Answer) -> [u8; HEAD_LEN]
+    ensures { result ≡ frame_head (number, answer.now) }
+{
+    let mut bytes = [0; HEAD_LEN];
+    bytes[0] = kind_of(answer);
+    bytes[1..9].copy_from_slice(&number.to_be_bytes());
+    bytes[9..13].copy_from_slice(&body_len(answer).to_be_bytes());
+    bytes
+}
+
 /// Puts a body at the end. An `Err` may leave a part of it there.
 fn put_body(out: &mut Vec<u8>, answer: &Answer) -> Result<(), AllocError>
     ensures ok { OnOk result (out.new.items ≡ out.old.items ++ body_of answer.now) }
@@ -60,9 +74,7 @@ fn put_parts(out: &mut Vec<u8>, number: u64, answer: &Answer) -> Result<(), Allo
     ensures ok { OnOk result (out.new.items ≡ out.old.items ++ frame (number, answer.now)) }
     ensures front { take (length out.old.items) out.new.items ≡ out.old.items }
 {
-    out.push(kind_of(answer))?;
-    out.extend_from_slice(&number.to_be_bytes())?;
-    out.extend_from_slice(&body_len(answer).to_be_bytes())?;
+    out.extend_from_slice(&head_bytes(number, answer))?;
     put_body(out, answer)
 }
 

@@ -7,14 +7,12 @@ ghost use Rattle.socket_edge.specs.Running.{Came, Explains, Fares, Ran, SettledA
 use crate::fault::EdgeFault;
 use crate::sending::send_by;
 use crate::serving::{close, empty_for, offer_all, tidy};
+use crate::waiting::{Unread, Waiting};
 use disk_model::Disk;
 use gateway::running::begin;
 use gateway::{Answer, Gateway, GatewayFault};
-use std::alloc::{AllocError, Global};
+use std::alloc::Global;
 use std::io::{Read, Write};
-
-/// The most bytes that one read takes.
-const MOST_READ: usize = 65_536;
 
 /// Whether the input goes on.
 #[derive(Clone, Copy, Drop)]
@@ -39,25 +37,12 @@ struct Spare {
     bodies: Vec<Vec<u8>>,
 }
 
-/// Takes the first `at` bytes away.
-fn remove_front(pending: &mut Vec<u8>, at: usize)
-    requires { at ≤ length pending.old.items }
-    ensures { pending.new.items ≡ drop at pending.old.items }
-{
-    if at == 0 {
-        return;
-    }
-    let len = pending.as_slice().len();
-    pending.as_mut_slice().copy_within(at.., 0);
-    pending.truncate(len - at);
-}
-
 /// Offers the whole frames at the front of `pending`, and writes their answers. Answers how many there were.
 fn answer_front<W: Write, D: Disk + Drop>(
     alloc: Global,
     writer: &mut W,
     gateway: &mut Gateway<D>,
-    pending: &mut Vec<u8>,
+    pending: &mut Waiting,
     answers: &mut Vec<(u64, Answer)>,
     spare: &mut Spare,
 ) -> Result<u64, EdgeFault>
@@ -66,7 +51,7 @@ fn answer_front<W: Write, D: Disk + Drop>(
     requires room { vec_len answers.old + length gateway.old.told.held ≤ vec_capacity answers.old }
     ensures came { (sent : List ℕ) × Appends (W.contents writer.old) (W.contents writer.new) sent
         × SettledAndSent D.honest D.moment D.left D.failed result gateway.old gateway.new
-        pending.old.items pending.new.items answers.new.items sent }
+        pending.old pending.new answers.new.items sent }
     ensures room { vec_len answers.new + length gateway.new.told.held ≤ vec_capacity answers.new }
 {
     begin(gateway);
@@ -80,7 +65,7 @@ fn answer_front<W: Write, D: Disk + Drop>(
     let closed = close(stop, answers, gateway);
     send_by(&mut spare.frames, writer, answers.as_slice())?;
     closed?;
-    remove_front(pending, at);
+    pending.remove_front(at);
     Ok(count)
 }
 
@@ -89,13 +74,13 @@ fn serve<W: Write, D: Disk + Drop>(
     alloc: Global,
     writer: &mut W,
     gateway: &mut Gateway<D>,
-    pending: &mut Vec<u8>,
+    pending: &mut Waiting,
     room: &mut Room,
 ) -> Result<u64, EdgeFault>
     requires stands { gateway.old.fallen ≡ false }
     ensures served { (sent : List ℕ) × Appends (W.contents writer.old) (W.contents writer.new) sent
-        × Came result gateway.old.told gateway.new.told pending.old.items pending.new.items sent
-        × Fares D.honest D.moment D.left gateway.old gateway.new (events_in pending.old.items) sent }
+        × Came result gateway.old.told gateway.new.told pending.old pending.new sent
+        × Fares D.honest D.moment D.left gateway.old gateway.new (events_in pending.old) sent }
     ensures why { IfErr result (λ e. Explains D.honest D.moment D.left D.failed e gateway.old gateway.new) }
     ensures stands { OnOk result (gateway.new.fallen ≡ false) }
     ensures passed { OnOk result (D.failed gateway.new.disk ≡ D.failed gateway.old.disk) }
@@ -125,19 +110,16 @@ fn read_once<R: Read, W: Write, D: Disk + Drop>(
     reader: &mut R,
     writer: &mut W,
     gateway: &mut Gateway<D>,
-    buffer: &mut [u8],
-    pending: &mut Vec<u8>,
+    pending: &mut Waiting,
     room: &mut Room,
 ) -> Result<Turn, EdgeFault>
     requires stands { gateway.old.fallen ≡ false }
-    requires room { 0 < length buffer.old }
-    requires most { length buffer.old ≤ 65536 }
-    requires cut { next pending.old.items ≡ Cut }
+    requires cut { next pending.old ≡ Cut }
     ensures turned { (got sent : List ℕ) × Consumes (R.remaining reader.old) (R.remaining reader.new) got
         × Appends (W.contents writer.old) (W.contents writer.new) sent
-        × Turned result gateway.old.told gateway.new.told (pending.old.items ++ got) pending.new.items sent
+        × Turned result gateway.old.told gateway.new.told (pending.old ++ got) pending.new sent
         (IsAtEnd (R.remaining reader.new))
-        × Fares D.honest D.moment D.left gateway.old gateway.new (events_in (pending.old.items ++ got)) sent }
+        × Fares D.honest D.moment D.left gateway.old gateway.new (events_in (pending.old ++ got)) sent }
     ensures why { IfErr result (λ e. Explains D.honest D.moment D.left D.failed e gateway.old gateway.new) }
     ensures stands { OnOk result (gateway.new.fallen ≡ false) }
     ensures passed { OnOk result (D.failed gateway.new.disk ≡ D.failed gateway.old.disk) }
@@ -145,9 +127,10 @@ fn read_once<R: Read, W: Write, D: Disk + Drop>(
     ensures stays { IfOk result (λ turn. turn ≡ Turn.End → gateway.new ≡ gateway.old) }
 {
     begin(gateway);
-    let n = match reader.read(buffer) {
+    let n = match pending.read(reader) {
         Ok(n) => n,
-        Err(_) => return Err(EdgeFault::Input),
+        Err(Unread::NoMemory) => return Err(EdgeFault::Gateway(GatewayFault::NoMemory)),
+        Err(Unread::Failed) => return Err(EdgeFault::Input),
     };
     if n == 0 {
         if pending.as_slice().is_empty() {
@@ -155,22 +138,10 @@ fn read_once<R: Read, W: Write, D: Disk + Drop>(
         }
         return Err(EdgeFault::Truncated);
     }
-    match pending.extend_from_slice(&buffer[..n]) {
-        Ok(()) => {}
-        Err(_) => return Err(EdgeFault::Gateway(GatewayFault::NoMemory)),
-    }
     match serve(alloc, writer, gateway, pending, room) {
         Ok(count) => Ok(Turn::More(count)),
         Err(fault) => Err(fault),
     }
-}
-
-/// Room for a read.
-fn zeros(alloc: Global, size: usize) -> Result<Vec<u8>, AllocError>
-    requires { 0 < size }
-    ensures { IfOk result (λ room. length room.items ≡ size) }
-{
-    Vec::from_elem(alloc, 0u8, size)
 }
 
 /// The sum, which has 64 bits.
@@ -228,11 +199,7 @@ pub fn run<R: Read, W: Write, D: Disk + Drop>(
         return Err(EdgeFault::Gateway(GatewayFault::Reopen));
     }
     begin(gateway);
-    let mut buffer = match zeros(alloc, MOST_READ) {
-        Ok(buffer) => buffer,
-        Err(_) => return Err(EdgeFault::Gateway(GatewayFault::NoMemory)),
-    };
-    let mut pending = Vec::new(alloc);
+    let mut pending = Waiting::new(alloc);
     let mut room = Room {
         answers: Vec::new(alloc),
         spare: Spare {
@@ -242,15 +209,7 @@ pub fn run<R: Read, W: Write, D: Disk + Drop>(
     };
     let mut count: u64 = 0;
     for _ in 0..u64::MAX {
-        match read_once(
-            alloc,
-            reader,
-            writer,
-            gateway,
-            buffer.as_mut_slice(),
-            &mut pending,
-            &mut room,
-        ) {
+        match read_once(alloc, reader, writer, gateway, &mut pending, &mut room) {
             Ok(Turn::More(more)) => {
                 gateway.facts();
                 count = sum(count, more);

@@ -5,6 +5,7 @@
 //!
 //! `run` reads request frames, offers each whole one to the gateway, and writes the frames of the
 //! answers, in whatever pieces the bytes come and go. The rooms:
+//! - `waiting`: the bytes that were read and aren't answered yet;
 //! - `request`: what stands at the front of the bytes: a whole frame, a part of one, or a fault;
 //! - `answer`: the frames of answers;
 //! - `serving`: all whole frames at the front, offered in order;
@@ -21,6 +22,7 @@ pub mod laws;
 mod request;
 pub mod sending;
 mod serving;
+mod waiting;
 
 pub use edge::run;
 pub use fault::{EdgeFault, HeaderFault};

@@ -3,14 +3,11 @@ ghost use Rattle.std.specs.Prelude.{◌≡◌, ◌++◌, OnOk, IfErr};
 ghost use Rattle.std.specs.Io.KnownBytes.{Appends};
 ghost use Rattle.socket_edge.specs.Answering.{body_of, frame_head, frame, frames, frames_len, AppendsFront};
 
-use crate::answer::{body_len, byte_of, kind_of, put_frames};
+use crate::answer::{HEAD_LEN, body_len, byte_of, head_bytes, put_frames};
 use crate::fault::EdgeFault;
 use gateway::Answer;
 use std::alloc::{AllocError, Global};
 use std::io::Write;
-
-/// The bytes of a frame before its body.
-const HEAD_LEN: usize = 13;
 
 /// Writes the bytes.
 fn write_out<W: Write>(writer: &mut W, bytes: &[u8]) -> Result<(), EdgeFault>
@@ -35,16 +32,6 @@ fn write_both<W: Write>(writer: &mut W, first: &[u8], second: &[u8]) -> Result<(
 {
     write_out(writer, first)?;
     write_out(writer, second)
-}
-
-fn head_bytes(number: u64, answer: &Answer) -> [u8; HEAD_LEN]
-    ensures { result ≡ frame_head (number, answer.now) }
-{
-    let mut bytes = [0; HEAD_LEN];
-    bytes[0] = kind_of(answer);
-    bytes[1..9].copy_from_slice(&number.to_be_bytes());
-    bytes[9..13].copy_from_slice(&body_len(answer).to_be_bytes());
-    bytes
 }
 
 fn write_head<W: Write>(writer: &mut W, number: u64, answer: &Answer) -> Result<(), EdgeFault>

@@ -1,8 +1,5 @@
-use Rattle.std.proofs.Common.{◌≡◌, [], List, ℕ, drop, sym, subst, Result, Ok, Err}
+use Rattle.std.proofs.Common.{drop}
 use Rattle.std.proofs.lemmas.Result.{err_from_is_err_and}
-use Rattle.machine.specs.declared.event.Answer.{Answer}
-use Rattle.socket_edge.specs.declared.fault.EdgeFault.{EdgeFault}
-use Rattle.socket_edge.specs.Running.{Closed, Offered, SettledAndSent}
 use Rattle.socket_edge.proofs.Closing.{sent-bad, sent-some}
 use Rattle.socket_edge.proofs.edge.answer_front.Goals as goal
 
@@ -10,9 +7,9 @@ pub returns-in_err-send_by-clause-came : goal.returns-in_err-send_by-clause-came
 returns-in_err-send_by-clause-came g c =
     let p = err_from_is_err_and c.from_residual.result c.from_residual.ensures.1 in
     let e = c.in_err-send_by.ensures.err in
-    let bytes = c.args.pending.now.items in
+    let bytes = c.args.pending.now in
     let rest = drop c.offer_all-at.result.0 bytes in
-    let offered = rw (c.as_slice.ensures.value, c.requires.none) at c.offer_all-at.ensures.offered in
+    let offered = rw (c.as_slice.ensures, c.requires.none) at c.offer_all-at.ensures.offered in
     let closed = c.close-closed.ensures.closed c.args.gateway.now bytes rest c.offer_all-at.result.1 c.begin.ensures offered in
     let front = rw c.as_slice-2.ensures.value at e.1 in (
       front.written,
@@ -24,9 +21,9 @@ returns-in_err-send_by-clause-came g c =
 pub returns-in_err-closed-clause-came : goal.returns-in_err-closed-clause-came
 returns-in_err-closed-clause-came g c =
     let p = err_from_is_err_and c.from_residual-in_err-closed.result c.from_residual-in_err-closed.ensures.1 in
-    let bytes = c.args.pending.now.items in
+    let bytes = c.args.pending.now in
     let rest = drop c.offer_all-at.result.0 bytes in
-    let offered = rw (c.as_slice.ensures.value, c.requires.none) at c.offer_all-at.ensures.offered in
+    let offered = rw (c.as_slice.ensures, c.requires.none) at c.offer_all-at.ensures.offered in
     let closed = c.in_err-closed.ensures.closed c.args.gateway.now bytes rest c.offer_all-at.result.1 c.begin.ensures offered in
     let sent = rw c.as_slice-2.ensures.value at c.in_ok-send_by.ensures.ok in (
       _,

@@ -1,15 +1,11 @@
-use Rattle.std.proofs.Common.{◌≡◌, ◌+◌, [], ◌++◌, List, ℕ, length, take, drop, arith, refl, sym, subst, ◌∙◌}
+use Rattle.std.proofs.Common.{◌≡◌, ◌+◌, [], ◌++◌, ℕ, arith, sym, subst, ◌∙◌}
 use Rattle.std.specs.Io.KnownBytes.{IsAtEnd}
-use Rattle.std.proofs.lemmas.List.{take_at}
 use Rattle.socket_edge.specs.Running.{Done, events_in}
 use Rattle.socket_edge.proofs.Streams.{Appends-then, Consumes-then, Appends-nil, Consumes-nil}
 use Rattle.socket_edge.proofs.Answers.{AnsweredFirst-nothing}
-use Rattle.socket_edge.proofs.Runs.{Done-then, Ends-then, Served-answered, fallen-fares, going-ends, going-first, going-fits, going-next, going-stops, going-why, not-full, not-reopen}
+use Rattle.socket_edge.proofs.Runs.{Done-then, Ends-then, Served-answered, fallen-fares, going-ends, going-first, going-next, going-stops}
 use Rattle.socket_edge.proofs.Tending.{idle-fares}
 use Rattle.socket_edge.proofs.edge.run.Goals as goal
-
-room_stays : (b rest : List ℕ) (n m : ℕ) → length b ≡ n → n ≡ m → length (take n (b ++ rest)) ≡ m
-room_stays b rest n m e h = rw (take_at b rest n e) (e ∙ h)
 
 zero_more : (n : ℕ) → n + 0 ≡ n
 zero_more n = omega arith
@@ -25,25 +21,13 @@ returns-then-has_fallen-clause-ran g c = (
   fallen-fares g.D.Disk.honest g.D.Disk.moment g.D.Disk.left g.D.Disk.failed g.met.D.Disk.earlier c.args.gateway.now (events_in []) (sym c.has_fallen.ensures.value ∙ c.if-has_fallen.true),
 )
 
--- memory for a read was refused
-pub returns-in-Err-clause-ran : goal.returns-in-Err-clause-ran
-returns-in-Err-clause-ran g c = (
-  [],
-  [],
-  Consumes-nil (g.R.Read.remaining c.args.reader.now),
-  Appends-nil (g.W.Write.contents c.args.writer.now),
-  AnsweredFirst-nothing c.args.gateway.now.told (events_in []),
-  idle-fares g.D.Disk.honest g.D.Disk.moment g.D.Disk.left g.D.Disk.seen g.D.Disk.failed g.met.D.Disk.reads g.met.D.Disk.earlier c.args.gateway.now c.begin.ensures (events_in []),
-)
-
 pub loop-init : goal.loop-init
 loop-init g c = (
   [],
   [],
   Consumes-nil (g.R.Read.remaining c.args.reader.now),
   Appends-nil (g.W.Write.contents c.args.writer.now),
-  rw c.new-pending.ensures.items (going-first g.D.Disk.honest g.D.Disk.moment g.D.Disk.left g.D.Disk.failed g.met.D.Disk.earlier c.args.gateway.now c.begin.ensures),
-  c.in-Ok.ensures,
+  rw c.new-pending.ensures (going-first g.D.Disk.honest g.D.Disk.moment g.D.Disk.left g.D.Disk.failed g.met.D.Disk.earlier c.args.gateway.now c.begin.ensures),
 )
 
 pub returns-in-Ok-End-clause-ran : goal.returns-in-Ok-End-clause-ran
@@ -56,36 +40,33 @@ returns-in-Ok-End-clause-ran g c =
       Consumes-then (g.R.Read.remaining c.args.reader.now) (g.R.Read.remaining c.loop.reader) (g.R.Read.remaining c.read_once.new.reader) i.0 t.0 i.2 t.2,
       Appends-then (g.W.Write.contents c.args.writer.now) (g.W.Write.contents c.loop.writer) (g.W.Write.contents c.read_once.new.writer) i.1 t.1 i.3 t.3,
       subst (λ (n : ℕ). Done n c.args.gateway.now.told c.read_once.new.gateway.told (i.0 ++ t.0) (i.1 ++ t.1) at_end) (zero_more c.loop.count)
-          (Done-then c.args.gateway.now.told c.loop.gateway.told c.read_once.new.gateway.told i.0 c.loop.pending.items t.0 i.1 t.1 c.loop.count 0 at_end i.4.served t.4),
-      going-ends g.D.Disk.honest g.D.Disk.moment g.D.Disk.left g.D.Disk.failed g.met.D.Disk.earlier c.args.gateway.now c.loop.gateway c.read_once.new.gateway i.0 c.loop.pending.items t.0 i.1 t.1 c.loop.count i.4 t.5,
+          (Done-then c.args.gateway.now.told c.loop.gateway.told c.read_once.new.gateway.told i.0 c.loop.pending t.0 i.1 t.1 c.loop.count 0 at_end i.4.served t.4),
+      going-ends g.D.Disk.honest g.D.Disk.moment g.D.Disk.left g.D.Disk.failed g.met.D.Disk.earlier c.args.gateway.now c.loop.gateway c.read_once.new.gateway i.0 c.loop.pending t.0 i.1 t.1 c.loop.count i.4 t.5,
     )
 
-pub returns-in-Err-read_once-clause-ran : goal.returns-in-Err-read_once-clause-ran
-returns-in-Err-read_once-clause-ran g c =
+pub returns-in-Err-clause-ran : goal.returns-in-Err-clause-ran
+returns-in-Err-clause-ran g c =
     let i = c.loop.invariant in
-    let t = c.in-Err-read_once.ensures.turned in
+    let t = c.in-Err.ensures.turned in
     let at_end = IsAtEnd (g.R.Read.remaining c.read_once.new.reader) in (
       i.0 ++ t.0,
       i.1 ++ t.1,
       Consumes-then (g.R.Read.remaining c.args.reader.now) (g.R.Read.remaining c.loop.reader) (g.R.Read.remaining c.read_once.new.reader) i.0 t.0 i.2 t.2,
       Appends-then (g.W.Write.contents c.args.writer.now) (g.W.Write.contents c.loop.writer) (g.W.Write.contents c.read_once.new.writer) i.1 t.1 i.3 t.3,
-      Ends-then c.in-Err-read_once.fault c.args.gateway.now.told c.loop.gateway.told c.read_once.new.gateway.told i.0 c.loop.pending.items t.0 i.1 t.1 c.loop.count at_end i.4.served t.4,
-      going-ends g.D.Disk.honest g.D.Disk.moment g.D.Disk.left g.D.Disk.failed g.met.D.Disk.earlier c.args.gateway.now c.loop.gateway c.read_once.new.gateway i.0 c.loop.pending.items t.0 i.1 t.1 c.loop.count i.4 t.5,
+      Ends-then c.in-Err.fault c.args.gateway.now.told c.loop.gateway.told c.read_once.new.gateway.told i.0 c.loop.pending t.0 i.1 t.1 c.loop.count at_end i.4.served t.4,
+      going-ends g.D.Disk.honest g.D.Disk.moment g.D.Disk.left g.D.Disk.failed g.met.D.Disk.earlier c.args.gateway.now c.loop.gateway c.read_once.new.gateway i.0 c.loop.pending t.0 i.1 t.1 c.loop.count i.4 t.5,
     )
 
 pub loop-preserved : goal.loop-preserved
 loop-preserved g c =
     let i = c.loop.invariant in
-    let t = rw c.in-Ok-More.field-0-is at c.in-Ok-More.ensures.turned in
-    let len : length c.as_mut_slice.result.now ≡ c.loop.buffer.len = c.as_mut_slice.ensures.len in
-    let room : length c.as_mut_slice.result.now ≡ 65536 = rw c.as_mut_slice.ensures.value i.5 in (
+    let t = rw c.in-Ok-More.field-0-is at c.in-Ok-More.ensures.turned in (
       i.0 ++ t.0,
       i.1 ++ t.1,
       Consumes-then (g.R.Read.remaining c.args.reader.now) (g.R.Read.remaining c.loop.reader) (g.R.Read.remaining c.read_once.new.reader) i.0 t.0 i.2 t.2,
       Appends-then (g.W.Write.contents c.args.writer.now) (g.W.Write.contents c.loop.writer) (g.W.Write.contents c.read_once.new.writer) i.1 t.1 i.3 t.3,
-      rw c.sum-count.ensures (going-next g.D.Disk.honest g.D.Disk.moment g.D.Disk.left g.D.Disk.failed g.met.D.Disk.earlier c.args.gateway.now c.loop.gateway c.read_once.new.gateway i.0 c.loop.pending.items t.0 c.read_once.new.pending.items i.1 t.1 c.loop.count c.in-Ok-More.more i.4 t.4 t.5
+      rw c.sum-count.ensures (going-next g.D.Disk.honest g.D.Disk.moment g.D.Disk.left g.D.Disk.failed g.met.D.Disk.earlier c.args.gateway.now c.loop.gateway c.read_once.new.gateway i.0 c.loop.pending t.0 c.read_once.new.pending i.1 t.1 c.loop.count c.in-Ok-More.more i.4 t.4 t.5
           c.in-Ok-More.ensures.stands c.in-Ok-More.ensures.passed (c.in-Ok-More.ensures.grown (λ is. absurd cc))),
-      room_stays c.read_once.new.buffer (drop (length c.read_once.new.buffer) c.loop.buffer.items) c.loop.buffer.len 65536 (c.read_once.auto.buffer ∙ len) (rw (← len) room),
     )
 
 pub returns-clause-ran : goal.returns-clause-ran
@@ -95,6 +76,6 @@ returns-clause-ran g c =
       i.1,
       i.2,
       i.3,
-      Served-answered c.args.gateway.now.told c.loop.gateway.told i.0 c.loop.pending.items i.1 c.loop.count i.4.served,
-      going-stops g.D.Disk.honest g.D.Disk.moment g.D.Disk.left g.D.Disk.failed g.met.D.Disk.earlier c.args.gateway.now c.loop.gateway i.0 c.loop.pending.items i.1 c.loop.count i.4 (idle-fares g.D.Disk.honest g.D.Disk.moment g.D.Disk.left g.D.Disk.seen g.D.Disk.failed g.met.D.Disk.reads g.met.D.Disk.earlier c.loop.gateway c.begin-2.ensures),
+      Served-answered c.args.gateway.now.told c.loop.gateway.told i.0 c.loop.pending i.1 c.loop.count i.4.served,
+      going-stops g.D.Disk.honest g.D.Disk.moment g.D.Disk.left g.D.Disk.failed g.met.D.Disk.earlier c.args.gateway.now c.loop.gateway i.0 c.loop.pending i.1 c.loop.count i.4 (idle-fares g.D.Disk.honest g.D.Disk.moment g.D.Disk.left g.D.Disk.seen g.D.Disk.failed g.met.D.Disk.reads g.met.D.Disk.earlier c.loop.gateway c.begin-2.ensures),
     )
