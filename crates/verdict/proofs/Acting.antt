@@ -13,6 +13,7 @@ use Rattle.verdict.specs.declared.facts.Facts.{Facts}
 use Rattle.verdict.specs.declared.chain.Outcome.{Outcome}
 use Rattle.verdict.specs.declared.chain.Outcome.TheVariants.{Accepts, Drops, To, From, Ends}
 use Rattle.verdict.specs.declared.row.Line.{Line}
+use Rattle.verdict.specs.declared.row.Row.{Row}
 use Rattle.verdict.specs.declared.row.Span.{Span}
 use Rattle.verdict.specs.declared.stack.Place.{Place}
 use Rattle.verdict.specs.declared.walk.Move.{Move}
@@ -291,14 +292,14 @@ returned config facts table here places standing at known known2 here2 places2 (
     (ended_known config facts table here places standing ended known known2 are more, back.0 ∙ back_all config facts table here places standing ended back.1)
 
 -- the line of a rule that is met
-pub line_at : (table : Table) (lines : List Line) (targets : List ℕ) (spans : List Span) (a i : ℕ) (rules : List Rule) (rule : Rule) (s : Span) (l : Line)
-    → AreSpans table lines targets table.chains spans → a < length table.chains → rules ≡ rules_at table.chains a → slice_get rules i ≡ Some rule
-    → IsLine table targets rule (slice_index_or lines ((slice_index_or spans a s).start + i) l)
-line_at table lines targets spans a i rules rule s l are lt same at =
+pub line_at : (table : Table) (row : Row) (spans : List Span) (a i : ℕ) (rules : List Rule) (rule : Rule) (s : Span) (l : Line)
+    → AreSpans table row table.chains spans → a < length table.chains → rules ≡ rules_at table.chains a → slice_get rules i ≡ Some rule
+    → IsLine table row rule (slice_index_or row.lines ((slice_index_or spans a s).start + i) l)
+line_at table row spans a i rules rule s l are lt same at =
     let chain = found_at table.chains a lt in
     let span = are a chain.0 chain.1 in
     let here : slice_get chain.0.rules i ≡ Some rule = ap (λ (rs : List Rule). slice_get rs i) (sym (same ∙ ap (λ (c : Option Chain). option_map_or (λ (x : Chain). x.rules) c []) chain.1)) ∙ at in
     let line = span.2.rules i rule here in
     let there : slice_index_or spans a s ≡ span.0 = get_or_from_slice_get spans a span.0 s span.1 in
-    let read : slice_index_or lines (span.0.start + i) l ≡ line.0 = get_or_from_slice_get lines (span.0.start + i) line.0 l line.1 in
-    subst (IsLine table targets rule) (sym (ap (λ (x : Span). slice_index_or lines (x.start + i) l) there ∙ read)) line.2
+    let read : slice_index_or row.lines (span.0.start + i) l ≡ line.0 = get_or_from_slice_get row.lines (span.0.start + i) line.0 l line.1 in
+    subst (IsLine table row rule) (sym (ap (λ (x : Span). slice_index_or row.lines (x.start + i) l) there ∙ read)) line.2

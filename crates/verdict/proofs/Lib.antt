@@ -8,7 +8,6 @@ pub mod Said
 pub mod PortsSpelled
 pub mod Bounded
 pub mod Turns
-pub mod Probed
 pub mod Sought
 pub mod Laying
 pub mod Pushed
@@ -16,5 +15,8 @@ pub mod Led
 pub mod Moves
 pub mod Stepping
 pub mod Acting
+pub mod Probed
 pub mod Spending
 pub mod Pooled
+pub mod Tested
+pub mod Mapped

@@ -7,32 +7,39 @@ use Rattle.std.proofs.lemmas.Bool.{false≢true, cases_Bool, false_from_ne_true,
 use Rattle.std.proofs.lemmas.Bool.Decides.{nat_tests}
 use Rattle.std.proofs.lemmas.List.Quantifiers.{Any-push}
 use Rattle.std.proofs.lemmas.List.Sums.{get_or-le-sum_by}
-use Rattle.std.proofs.lemmas.Option.{get_or_from_slice_get}
+use Rattle.std.proofs.lemmas.Option.{get_or_from_slice_get, slice_get_within}
 use Rattle.sets.specs.declared.element.Element.{Element as Part}
 use Rattle.sets.specs.Members.{Fact, IsIn, IsMember}
 use Rattle.sets.proofs.Unions.{either_of, whole_of_first}
 use Rattle.rulesyntax.specs.declared.tree.Value.{Value}
 use Rattle.rulesyntax.specs.declared.tree.Set.{Set}
+use Rattle.rulesyntax.specs.declared.tree.Side.{Side}
+use Rattle.rulesyntax.specs.declared.tree.Side.TheVariants.{One, Several, Named}
+use Rattle.rulesyntax.specs.declared.tree.Match.{Match}
 use Rattle.rulesyntax.specs.declared.tree.Rule.{Rule}
 use Rattle.rulesyntax.specs.declared.tree.Chain.{Chain}
 use Rattle.rulesyntax.specs.declared.tree.Table.{Table}
 use Rattle.ruletext.specs.declared.class.Class.{Class}
 use Rattle.ruletext.specs.declared.class.Class.TheVariants.{Addresses, Services, Protocols, Interfaces, States}
-use Rattle.ruletext.specs.Counts.{elements_of_table, rules_of_table, is_much}
+use Rattle.ruletext.specs.Classes.{class_of}
+use Rattle.ruletext.specs.Calls.{OfSome}
+use Rattle.ruletext.specs.Overlap.{EndOverlaps, TableOverlaps}
+use Rattle.ruletext.specs.Counts.{elements_of_rule, elements_of_table, rules_of_table, is_much}
 use Rattle.ruletext.specs.Parts.{IsPart}
-use Rattle.ruletext.specs.Types.{same_class, class_in, has_other_class, is_wrong_set, is_wrong_match, is_wrong_rule, is_wrong_chain, HasWrongType}
-use Rattle.verdict.specs.Matching.{lies, is_in_set, is_in_named}
-use Rattle.verdict.specs.Places.{rules_at}
+use Rattle.ruletext.specs.Types.{same_class, class_in, has_other_class, is_wrong_set, is_wrong_side, is_wrong_match, is_wrong_rule, is_wrong_chain, HasWrongType}
+use Rattle.verdict.specs.Matching.{lies, is_in_set, is_in_named, is_on_side}
 use Rattle.verdict.specs.Pools.{Adds, IsPool, ArePools}
 use Rattle.verdict.proofs.Exact.{exact}
+use Rattle.verdict.specs.Tests.{HasSide, set_named, AreValues, stands_on, IsReady}
 use Rattle.verdict.proofs.Laying.{either, stays, last_at}
+use Rattle.verdict.proofs.Steady.{some_at}
 
 only : {X : Type 0} (P : X → Type 0) (y : X) → Any P (y ∷ []) → P y
 only P y (zero, x, lt, at, p) = subst P (sym at) p
 only P y (suc k, x, lt, at, p) = absurd (omega arith)
 
-none : {X : Type 0} (P : X → Type 0) → ¬ Any P []
-none P (k, x, lt, at, p) = absurd (omega arith)
+none_in : {X : Type 0} (P : X → Type 0) → ¬ Any P []
+none_in P (k, x, lt, at, p) = absurd (omega arith)
 
 or_true : (a b : Bool) → IsTrue (a || b) ↔ (IsTrue a ⊎ IsTrue b)
 or_true true b = (λ t. inl refl, λ some. refl)
@@ -85,7 +92,7 @@ pub pool_made : (set : Set) (class : Class) (parts pool : List Part) (n : ℕ) �
 pool_made set class parts pool n named adds union own fact typed =
     let same : class ≡ own = cc in
     subst (λ c. IsMember fact pool ↔ IsTrue (is_in_set c fact set)) same (
-      λ a. elim ((adds.holds fact).0 ((union fact).0 a)) [ inl nowhere ↦ absurd (none (IsIn fact) nowhere) | inr t ↦ t ],
+      λ a. elim ((adds.holds fact).0 ((union fact).0 a)) [ inl nowhere ↦ absurd (none_in (IsIn fact) nowhere) | inr t ↦ t ],
       λ t. (union fact).1 ((adds.holds fact).1 (inr t)),
     )
 
@@ -145,32 +152,51 @@ pub class_of_found : (sets : List Set) (class : Class) (name : List ℕ) (set : 
 class_of_found sets class name set found typed =
     class_is class (class_in set.types) (sym (ap (λ f. option_map_or (λ (s : Set). not (option_map_or (same_class class) (class_in s.types) false)) f false) found) ∙ typed)
 
-same_truth : (a b : Bool) (P : Type 0) → IsTrue a ↔ P → P ↔ IsTrue b → a ≡ b
-same_truth true b P one other = sym (other.0 (one.0 refl))
-same_truth false true P one other = one.1 (other.1 refl)
-same_truth false false P one other = refl
+set_found : (sets : List Set) (pools : List (List Part)) (class : Class) (negated : Bool) (side : Side) (place : ℕ) (set : Set) → ArePools sets pools → is_wrong_side sets class negated side ≡ false
+    → slice_get sets place ≡ Some set → set_named sets side ≡ Some set → (pool : List Part) × (slice_get pools place ≡ Some pool) × ((fact : Fact) → IsMember fact pool ↔ IsTrue (is_on_side sets class side fact))
+unfolding is_on_side is_in_named
+set_found sets pools class negated (One element) place set are typed at named = cc
+set_found sets pools class negated (Several elements) place set are typed at named = cc
+set_found sets pools class negated (Named name) place set are typed at named =
+    let own = are place set at in
+    let typed_so = (or_parts _ _ typed).1 in
+    (own.0, own.1, λ fact. subst (λ f. IsMember fact own.0 ↔ IsTrue (option_map_or (is_in_set class fact) f false)) (sym named) (own.2 class fact (class_of_found sets class name.name set named typed_so)))
 
--- what is looked up in the pool at the place of the first set of the name is looked up in that set
-pub looked_up : (sets : List Set) (pools : List (List Part)) (class : Class) (name : List ℕ) (fact : Fact) (set : Set) (a : ℕ) (pool : List Part) (result : Bool)
-    → ArePools sets pools → has_other_class sets class name ≡ false → find (λ set. bytes_eq set.name name) sets ≡ Some set → slice_get sets a ≡ Some set → pool ≡ get_or pools a pool
-    → IsTrue result ↔ IsMember fact pool → result ≡ is_in_named sets class name fact
-unfolding is_in_named
-looked_up sets pools class name fact set a pool result are typed found at here is =
-    let own = are a set at in
-    let same : own.0 ≡ pool = sym (get_or_from_slice_get pools a own.0 pool own.1) ∙ sym here in
-    let held = own.2 class fact (class_of_found sets class name set found typed) in
-    same_truth result (is_in_set class fact set) (IsMember fact pool) is (subst (λ p. IsMember fact p ↔ IsTrue (is_in_set class fact set)) same held)
-    ∙ sym (ap (λ f. option_map_or (is_in_set class fact) f false) found)
+-- the pool of the set that a side names is the side's
+pub named_side : (sets : List Set) (pools : List (List Part)) (own : Match) (place : ℕ) (set : Set) → ArePools sets pools → is_wrong_match sets own ≡ false → slice_get sets place ≡ Some set → set_named sets own.side ≡ Some set → HasSide sets pools own place
+named_side sets pools own place set are typed at named =
+    let found = set_found sets pools (class_of own.head) own.negated own.side place set are typed at named in
+    record { pool = found.0; at = found.1; side = found.2 }
 
--- what lies in the first set of the name lies in the pool at its place
-pub member_found : (sets : List Set) (pools : List (List Part)) (class : Class) (name : List ℕ) (fact : Fact) (set : Set) (a : ℕ) (pool : List Part)
-    → ArePools sets pools → has_other_class sets class name ≡ false → find (λ set. bytes_eq set.name name) sets ≡ Some set → slice_get sets a ≡ Some set → pool ≡ get_or pools a pool
-    → is_in_named sets class name fact ≡ true → IsMember fact pool
-unfolding is_in_named
-member_found sets pools class name fact set a pool are typed found at here is =
-    let own = are a set at in
-    let same : own.0 ≡ pool = sym (get_or_from_slice_get pools a own.0 pool own.1) ∙ sym here in
-    subst (IsMember fact) same ((own.2 class fact (class_of_found sets class name set found typed)).1 (sym (ap (λ f. option_map_or (is_in_set class fact) f false) found) ∙ is))
+standing : (sets : List Set) (class : Class) (side : Side) (fact : Fact) → set_named sets side ≡ None → is_on_side sets class side fact ≡ stands_on class side fact
+unfolding is_on_side is_in_named
+standing sets class (One element) fact none = refl
+standing sets class (Several elements) fact none = refl
+standing sets class (Named name) fact none = ap (λ f. option_map_or (is_in_set class fact) f false) none
+
+not_not : (b : Bool) → not b ≡ false → b ≡ true
+not_not true is = refl
+not_not false is = absurd (false≢true (sym is))
+
+values_of : (sets : List Set) (class : Class) (negated : Bool) (side : Side) → is_wrong_side sets class negated side ≡ false → AreValues class side
+values_of sets class negated (One element) typed = not_not _ typed
+values_of sets class negated (Several elements) typed = (or_parts _ _ typed).0
+values_of sets class negated (Named name) typed = tt
+
+pub values_on : (sets : List Set) (own : Match) → is_wrong_match sets own ≡ false → AreValues (class_of own.head) own.side
+values_on sets own typed = values_of sets (class_of own.head) own.negated own.side typed
+
+-- the pool of the elements that stand on a side is the side's
+pub standing_side : (sets : List Set) (pools pools2 : List (List Part)) (own : Match) (parts pool : List Part) (n : ℕ) → set_named sets own.side ≡ None → Adds [] parts (stands_on (class_of own.head) own.side) n
+    → ((fact : Fact) → IsMember fact pool ↔ IsMember fact parts) → pools2 ≡ pools ++ pool ∷ [] → HasSide sets pools2 own (length pools)
+standing_side sets pools pools2 own parts pool n none adds union last = record {
+  pool = pool;
+  at = ap (λ ps. slice_get ps (length pools)) last ∙ last_at pools pool (length pools) refl;
+  side = λ fact. subst (λ b. IsMember fact pool ↔ IsTrue b) (sym (standing sets (class_of own.head) own.side fact none)) (
+    λ a. elim ((adds.holds fact).0 ((union fact).0 a)) [ inl nowhere ↦ absurd (none_in (IsIn fact) nowhere) | inr t ↦ t ],
+    λ t. (union fact).1 ((adds.holds fact).1 (inr t)),
+  );
+}
 
 -- what holds of none holds not of one
 pub none_found : {X : Type 0} (p : X → Bool) (xs : List X) (i : ℕ) (x : X) → slice_get xs i ≡ Some x → list_any p xs ≡ false → p x ≡ false
@@ -178,18 +204,25 @@ none_found p [] i x at fails = cc
 none_found p (y ∷ ys) zero x at fails = let same : y ≡ x = cc in ap p (sym same) ∙ (or_parts (p y) (list_any p ys) fails).0
 none_found p (y ∷ ys) (suc i) x at fails = none_found p ys i x at (or_parts (p y) (list_any p ys) fails).1
 
-typed_in : (sets : List Set) (found : Option Chain) (i : ℕ) (rule : Rule) → ((chain : Chain) → found ≡ Some chain → is_wrong_chain sets chain ≡ false)
-    → slice_get (option_map_or (λ chain. chain.rules) found []) i ≡ Some rule → list_any (is_wrong_match sets) rule.matches ≡ false
-typed_in sets None i rule right at = cc
-typed_in sets (Some chain) i rule right at = (or_parts _ _ (none_found (is_wrong_rule sets) chain.rules i rule at (right chain refl))).0
+-- what counts in one of a list is no more than what counts in all
+pub some_of_sum : {X : Type 0} (f : X → ℕ) (xs : List X) (i : ℕ) (x : X) → slice_get xs i ≡ Some x → f x ≤ sum_by f xs
+some_of_sum f xs i x at =
+    let own = get_or_from_slice_get xs i x x at in
+    let le = get_or-le-sum_by f xs i x (slice_get_within xs i x at) in
+    let same = ap f own in
+    omega (arith, le, same)
 
--- the matches of each rule of a table in which nothing is of a wrong type
-pub typed_at : (table : Table) (a i : ℕ) (rules : List Rule) (rule : Rule) → ¬ HasWrongType table.sets table.chains → rules ≡ rules_at table.chains a → slice_get rules i ≡ Some rule
-    → list_any (is_wrong_match table.sets) rule.matches ≡ false
-typed_at table a i rules rule typed are at =
-    typed_in table.sets (slice_get table.chains a) i rule
-    (λ chain here. none_found (is_wrong_chain table.sets) table.chains a chain here (false_from_ne_true _ (λ wrong. typed (inr (inl wrong)))))
-    (subst (λ rs. slice_get rs i ≡ Some rule) are at)
+-- what the rules of a table of a loaded text may be relied on for
+pub ready_at : (table : Table) (a i : ℕ) (chain : Chain) (rule : Rule) → ¬ HasWrongType table.sets table.chains → elements_of_table table ≤ 16384 → ¬ TableOverlaps table
+    → slice_get table.chains a ≡ Some chain → slice_get chain.rules i ≡ Some rule → IsReady table.sets rule
+ready_at table a i chain rule typed few apart here at = record {
+  typed = none_found (is_wrong_rule table.sets) chain.rules i rule at
+      (none_found (is_wrong_chain table.sets) table.chains a chain here (false_from_ne_true _ (λ wrong. typed (inr (inl wrong)))));
+  apart = λ overlaps. apart (some_at (λ (c : Chain). OfSome (λ (r : Rule). EndOverlaps r.end) c.rules) table.chains a chain here (some_at (λ (r : Rule). EndOverlaps r.end) chain.rules i rule at overlaps));
+  few = let own = some_of_sum elements_of_rule chain.rules i rule at in
+      let all = some_of_sum (λ (c : Chain). sum_by elements_of_rule c.rules) table.chains a chain here in
+      omega (arith, own, all, few);
+}
 
 pub sets_typed : (sets : List Set) (chains : List Chain) → ¬ HasWrongType sets chains → list_any is_wrong_set sets ≡ false
 sets_typed sets chains typed = false_from_ne_true _ (λ wrong. typed (inl wrong))

@@ -1,24 +1,26 @@
 -- A packet whose number lies outside the bounds that a match sets does not match.
-use Rattle.std.proofs.Common.{◌≡◌, ◌<◌, ◌≤◌, ℕ, Bool, true, false, ◌&&◌, List, length, get_or, slice_get, refl, sym, ap, ◌∙◌, if◌then◌else◌, arith}
+use Rattle.std.proofs.Common.{◌≡◌, ◌<◌, ◌≤◌, ℕ, ◌+◌, ◌-◌, Bool, true, false, ◌&&◌, List, Some, length, get_or, slice_get, refl, sym, ap, ◌∙◌, subst, if◌then◌else◌, arith}
 use Rattle.std.specs.Option.{option_map_or}
 use Rattle.std.proofs.lemmas.Bool.{false≢true}
 use Rattle.std.proofs.lemmas.List.Folds.{list_all_at}
+use Rattle.std.proofs.lemmas.Option.{slice_get_within, get_or_from_slice_get}
 use Rattle.packet.specs.Config.{Config}
-use Rattle.sets.specs.Members.{Fact, IsWithin}
-use Rattle.sets.specs.declared.element.Range.{Range}
+use Rattle.sets.specs.Members.{Fact, IsMember}
+use Rattle.sets.specs.declared.element.Element.{Element as Part}
 use Rattle.rulesyntax.specs.declared.tree.Transport.TheVariants.{Tcp, Udp}
 use Rattle.rulesyntax.specs.declared.tree.Head.{Head}
 use Rattle.rulesyntax.specs.declared.tree.Head.TheVariants.{Iifname, Oifname, Saddr, Daddr, Protocol, Sport, Dport, State as StateOf}
-use Rattle.rulesyntax.specs.declared.tree.Element.{Element}
 use Rattle.rulesyntax.specs.declared.tree.Set.{Set}
-use Rattle.rulesyntax.specs.declared.tree.Side.TheVariants.{One, Named}
-use Rattle.rulesyntax.specs.declared.tree.SetName.{SetName}
 use Rattle.rulesyntax.specs.declared.tree.Match.{Match}
 use Rattle.ruletext.specs.Classes.{class_of}
 use Rattle.verdict.specs.declared.facts.Facts.{Facts}
 use Rattle.verdict.specs.declared.row.Probe.{Probe}
-use Rattle.verdict.specs.Matching.{is_between, lies, is_on_side, asked, has_protocol, is_of, is_in_named, holds}
-use Rattle.verdict.specs.Lines.{numbers_of, place_of_head, may_hold, Tells, TestTells, TellsIn}
+use Rattle.verdict.specs.Matching.{is_between, is_on_side, asked, has_protocol, is_of, holds}
+use Rattle.verdict.specs.Lines.{numbers_of, place_of_head, may_hold, Tells, TellsIn}
+use Rattle.verdict.specs.declared.matching.Test.{Test}
+use Rattle.verdict.specs.declared.row.Span.{Span}
+use Rattle.verdict.specs.Tests.{IsTest, AreTests}
+use Rattle.verdict.proofs.Acting.{found_at}
 
 excluded : (low high n : ℕ) (b : Bool) → (b ≡ true → is_between low high n ≡ true) → is_between low high n ≡ false → b ≡ false
 excluded low high n true fits out = absurd (false≢true (sym out ∙ fits refl))
@@ -44,23 +46,19 @@ module _ (config : Config) (facts : Facts) (low high : ℕ) (inside : Fact → B
   outside (Dport Udp) fits out = excluded_port (is_of Udp facts.proto) low high _ _ (fits _) out
   outside StateOf fits out = excluded low high _ _ (fits _) out
 
-within : (n : ℕ) (range : Range) → IsWithin n range → is_between range.low range.high n ≡ true
-within n range is = let a = is.from in let b = is.to in grind arith
-
-pub bounded : (test : Match) (element : Element) (range : Range) (probe : Probe) → test.negated ≡ false → test.side ≡ One element
-    → probe.asks ≡ place_of_head test.head → probe.low ≡ range.low → probe.high ≡ range.high
-    → ((n : ℕ) → lies (class_of test.head) element.value (Fact.Number n) ≡ true → IsWithin n range) → TestTells test probe
-unfolding holds may_hold is_on_side
-bounded test element range probe plain side asks low high fits config sets facts out =
-    rw (plain, side) (outside config facts range.low range.high (lies (class_of test.head) element.value) test.head (λ n is. within n range (fits n is)) (rw (asks, low, high) at out))
-
--- a packet whose number lies outside the bounds of the set that a match names does not match
-pub named_bounded : (sets : List Set) (test : Match) (named : SetName) (probe : Probe) (low high : ℕ) → test.negated ≡ false → test.side ≡ Named named
-    → probe.asks ≡ place_of_head test.head → probe.low ≡ low → probe.high ≡ high
-    → ((n : ℕ) → is_in_named sets (class_of test.head) named.name (Fact.Number n) ≡ true → (low ≤ n) × (n ≤ high)) → TellsIn sets test probe
-unfolding holds may_hold is_on_side
-named_bounded sets test named probe low high plain is asks first last fits config facts out =
-    rw (plain, is) (outside config facts low high (is_in_named sets (class_of test.head) named.name) test.head (λ n held. let a = (fits n held).0 in let b = (fits n held).1 in grind arith) (rw (asks, first, last) at out))
+-- a packet whose number lies outside the bounds of the pool that a test looks into does not match
+pub bounded : (sets : List Set) (pools : List (List Part)) (own : Match) (test : Test) (pool : List Part) (probe : Probe) → IsTest sets pools own test → test.negated ≡ false → slice_get pools test.pool ≡ Some pool
+    → probe.asks ≡ place_of_head test.head → ((n : ℕ) → IsMember (Fact.Number n) pool → (probe.low ≤ n) × (n ≤ probe.high)) → TellsIn sets own probe
+unfolding holds may_hold
+bounded sets pools own test pool probe is plain there asks fits config facts out =
+    let e : Some pool ≡ Some is.held.pool = sym there ∙ is.held.at in
+    let same : is.held.pool ≡ pool = cc in
+    let inside = is_on_side sets (class_of own.head) own.side in
+    let positive : own.negated ≡ false = sym is.negated ∙ plain in
+    let asked_for : probe.asks ≡ place_of_head own.head = asks ∙ ap place_of_head is.head in
+    rw positive (outside config facts probe.low probe.high inside own.head
+    (λ n held. let both = fits n (subst (IsMember (Fact.Number n)) same ((is.held.side (Fact.Number n)).1 held)) in let a = both.0 in let b = both.1 in grind arith)
+    (rw asked_for at out))
 
 -- a probe that asks for no number fails for no packet
 pub asks_none : (sets : List Set) (matches : List Match) (probe : Probe) → probe.asks ≡ 8 → Tells sets matches probe
@@ -68,6 +66,18 @@ unfolding may_hold
 asks_none sets matches probe asks config facts out = absurd (false≢true (sym (rw asks at out)))
 
 -- what a match tells its rule tells
-pub rule_told : (sets : List Set) (matches : List Match) (i : ℕ) (test : Match) (probe : Probe) → i < length matches → test ≡ get_or matches i test → TellsIn sets test probe → Tells sets matches probe
-rule_told sets matches i test probe lt is tells config facts out =
-    list_all_at (holds config sets facts) matches i test lt (ap (holds config sets facts) (sym is) ∙ tells config facts out)
+pub rule_told : (sets : List Set) (matches : List Match) (i : ℕ) (test : Match) (probe : Probe) → slice_get matches i ≡ Some test → TellsIn sets test probe → Tells sets matches probe
+rule_told sets matches i test probe at tells config facts out =
+    list_all_at (holds config sets facts) matches i test (slice_get_within matches i test at) (ap (holds config sets facts) (get_or_from_slice_get matches i test test at) ∙ tells config facts out)
+
+-- the match whose test stands at that place
+pub own_at : (sets : List Set) (pools : List (List Part)) (tests : List Test) (span : Span) (matches : List Match) (at : ℕ) (test : Test) → AreTests sets pools tests span matches → span.start ≤ at → at < span.end → slice_get tests at ≡ Some test
+    → (own : Match) × (slice_get matches (at - span.start) ≡ Some own) × IsTest sets pools own test
+own_at sets pools tests span matches at test are from to there =
+    let ends = are.ends in
+    let found = found_at matches (at - span.start) (omega (arith, from, to, ends)) in
+    let own = are.each (at - span.start) found.0 found.1 in
+    let place : span.start + (at - span.start) ≡ at = omega (arith, from) in
+    let e : Some own.0 ≡ Some test = sym own.1 ∙ ap (slice_get tests) place ∙ there in
+    let same : own.0 ≡ test = cc in
+    (found.0, found.1, subst (IsTest sets pools found.0) same own.2)

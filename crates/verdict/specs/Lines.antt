@@ -18,14 +18,17 @@ use Rattle.rulesyntax.specs.declared.tree.Table.{Table}
 use Rattle.rulesyntax.specs.declared.tree.Spelled.{Spelled}
 use Rattle.ruletext.specs.Runnable.{IsRunnable}
 use Rattle.ruletext.specs.Said.{verdicts_of, target_of}
-use Rattle.ruletext.specs.Types.{HasWrongType}
 use Rattle.verdict.specs.declared.facts.Facts.{Facts}
 use Rattle.verdict.specs.declared.row.Probe.{Probe}
 use Rattle.verdict.specs.declared.row.Line.{Line}
 use Rattle.verdict.specs.declared.row.Span.{Span}
+use Rattle.verdict.specs.declared.row.Row.{Row}
 use Rattle.verdict.specs.declared.row.Laid.{Laid}
+use Rattle.verdict.specs.declared.matching.Test.{Test}
+use Rattle.sets.specs.declared.element.Element.{Element as Part}
+use Rattle.sets.specs.declared.element.Pair.{Pair as Key}
 use Rattle.verdict.specs.Matching.{is_between, state_number, is_of, holds}
-use Rattle.verdict.specs.Pools.{ArePools}
+use Rattle.verdict.specs.Tests.{Keeps, AreTests, HasMap}
 use Rattle.verdict.specs.Keyed.{AreKeys}
 
 -- a port of a packet of this protocol; a packet of another one has 2^32, which no value stands for
@@ -63,11 +66,6 @@ Tells sets matches probe =
     (config : Config) (facts : Facts) → may_hold (numbers_of facts) probe ≡ false → list_all (holds config sets facts) matches ≡ false
 
 -- where the probe fails, the match does not hold
-abbrev pub TestTells : Match → Probe → Type 0
-TestTells test probe =
-    (config : Config) (sets : List Set) (facts : Facts) → may_hold (numbers_of facts) probe ≡ false → holds config sets facts test ≡ false
-
--- the same where these are the table's sets
 abbrev pub TellsIn : List Set → Match → Probe → Type 0
 TellsIn sets test probe =
     (config : Config) (facts : Facts) → may_hold (numbers_of facts) probe ≡ false → holds config sets facts test ≡ false
@@ -87,55 +85,58 @@ LeadsFrom chains targets from verdicts =
     (k : ℕ) (verdict : Verdict) → slice_get verdicts k ≡ Some verdict → slice_get targets (from + k) ≡ Some (place_led chains verdict)
 
 -- what a line says of its rule
-pub record IsLine (table : Table) (targets : List ℕ) (rule : Rule) (line : Line) : Type 0 where
+pub record IsLine (table : Table) (row : Row) (rule : Rule) (line : Line) : Type 0 where
   pub tells : Tells table.sets rule.matches line.probe
-  pub leads : LeadsFrom table.chains targets line.first (verdicts_of rule.end)
+  pub tests : AreTests table.sets row.pools row.tests line.tests rule.matches
+  pub leads : LeadsFrom table.chains row.targets line.first (verdicts_of rule.end)
+  pub map : HasMap row.maps line.map rule.end
+
+-- what rules refer to stays where it stands
+pub record Stays (old new : Row) : Type 0 where
+  pub targets : Keeps ℕ old.targets new.targets
+  pub tests : Keeps Test old.tests new.tests
+  pub pools : Keeps (List Part) old.pools new.pools
+  pub maps : Keeps (List (Key ℕ)) old.maps new.maps
 
 -- a rule is laid behind others
-pub record IsRuleLaid (table : Table) (rule : Rule) (lines : List Line) (targets : List ℕ) (lines2 : List Line) (targets2 : List ℕ) : Type 0 where
+pub record IsRuleLaid (table : Table) (rule : Rule) (old new : Row) : Type 0 where
+  pub stays : Stays old new
   pub line : Line
-  pub last : lines2 ≡ lines ++ line ∷ []
-  pub tells : Tells table.sets rule.matches line.probe
-  pub first : line.first ≡ length targets
-  pub led : targets2 ≡ targets ++ map (place_led table.chains) (verdicts_of rule.end)
+  pub last : new.lines ≡ old.lines ++ line ∷ []
+  pub is : IsLine table new rule line
 
 -- the rules stand in the row from this number on
-abbrev pub AreLines : Table → List Line → List ℕ → ℕ → List Rule → Type 0
-AreLines table lines targets from rules =
-    (i : ℕ) (rule : Rule) → slice_get rules i ≡ Some rule
-    → (line : Line) × (slice_get lines (from + i) ≡ Some line) × IsLine table targets rule line
+abbrev pub AreLines : Table → Row → ℕ → List Rule → Type 0
+AreLines table row from rules =
+    (i : ℕ) (rule : Rule) → slice_get rules i ≡ Some rule → (line : Line) × (slice_get row.lines (from + i) ≡ Some line) × IsLine table row rule line
 
 -- rules are laid behind others
-pub record IsChainLaid (table : Table) (rules : List Rule) (lines : List Line) (targets : List ℕ) (lines2 : List Line) (targets2 : List ℕ) : Type 0 where
+pub record IsChainLaid (table : Table) (rules : List Rule) (old new : Row) : Type 0 where
+  pub stays : Stays old new
   pub more : List Line
-  pub behind : lines2 ≡ lines ++ more
+  pub behind : new.lines ≡ old.lines ++ more
   pub count : length more ≡ length rules
-  pub more_targets : List ℕ
-  pub behind_targets : targets2 ≡ targets ++ more_targets
-  pub laid : AreLines table lines2 targets2 (length lines) rules
+  pub laid : AreLines table new (length old.lines) rules
 
 -- the chain stands in the row at this span
-pub record IsSpan (table : Table) (lines : List Line) (targets : List ℕ) (chain : Chain) (span : Span) : Type 0 where
+pub record IsSpan (table : Table) (row : Row) (chain : Chain) (span : Span) : Type 0 where
   pub ends : span.start + length chain.rules ≡ span.end
-  pub within : span.end ≤ length lines
-  pub rules : AreLines table lines targets span.start chain.rules
+  pub within : span.end ≤ length row.lines
+  pub rules : AreLines table row span.start chain.rules
 
 -- so do all these chains
-abbrev pub AreSpans : Table → List Line → List ℕ → List Chain → List Span → Type 0
-AreSpans table lines targets chains spans =
-    (a : ℕ) (chain : Chain) → slice_get chains a ≡ Some chain
-    → (span : Span) × (slice_get spans a ≡ Some span) × IsSpan table lines targets chain span
+abbrev pub AreSpans : Table → Row → List Chain → List Span → Type 0
+AreSpans table row chains spans =
+    (a : ℕ) (chain : Chain) → slice_get chains a ≡ Some chain → (span : Span) × (slice_get spans a ≡ Some span) × IsSpan table row chain span
 
 -- the chains of a table, laid one behind the other
 abbrev pub AreChainsLaid : Table → Laid → Type 0
-AreChainsLaid table laid = AreSpans table laid.lines laid.targets table.chains laid.spans
+AreChainsLaid table laid = AreSpans table laid.row table.chains laid.spans
 
--- a table in which nothing is of a wrong type, with its chains in a row and its named sets as pools
+-- a table whose chains lie in a row
 pub record IsLaid (table : Table) (laid : Laid) : Type 0 where
   pub chains : AreChainsLaid table laid
-  pub sets : ArePools table.sets laid.pools
-  pub keys : AreKeys laid.lines laid.keys
-  pub typed : ¬ HasWrongType table.sets table.chains
+  pub keys : AreKeys laid.row.lines laid.keys
 
 abbrev pub AreLaid : List Table → List Laid → Type 0
 AreLaid tables rows =

@@ -1,18 +1,18 @@
 //! What a chain of rules comes to.
 
-ghost use Rattle.std.specs.Prelude.{◌≡◌, Some, None, slice_index_or, slice_set};
-ghost use Rattle.sets.specs.Members.{fact_of};
+ghost use Rattle.std.specs.Prelude.{◌≡◌, ◌↔◌, ℕ, Some, None, IfSome, IfNone, slice_index_or, slice_set};
+ghost use Rattle.sets.specs.Members.{fact_of, Leads};
+ghost use Rattle.rulesyntax.specs.declared.tree.End.TheVariants as ends;
+ghost use Rattle.verdict.specs.Tests.{HasMap};
 ghost use Rattle.verdict.specs.Places.{IsKey};
-ghost use Rattle.verdict.specs.Evaluation.{looked_up as verdict_in, mapped as mapped_to, unless_ended as outcome_unless_ended, translation as translation_of};
+ghost use Rattle.verdict.specs.Evaluation.{mapped as mapped_to, unless_ended as outcome_unless_ended, translation as translation_of};
 
 use crate::facts::Facts;
 use crate::matching::{asked, has_protocol};
-use crate::value::lies;
 use packet::bounds::Bounds;
 use packet::endpoint::Endpoint;
-use rulesyntax::tree::{End, Pair, Vmap};
-use ruletext::class::{Class, class_of};
-use sets::Value as Fact;
+use rulesyntax::tree::{End, Vmap};
+use sets::{Value as Fact, Vmap as Map};
 
 /// What a chain comes to for a packet.
 #[derive(Clone, Copy, Debug, PartialEq, Eq, Drop)]
@@ -29,28 +29,36 @@ pub enum Outcome {
     Ends,
 }
 
-// The first key that holds the fact.
-fn key_of(class: Class, pairs: &[Pair], fact: Fact<'_>) -> Option<usize>
-    ensures { IsKey pairs.now (verdict_in class pairs.now (fact_of fact.entry)) result }
+// The place to which the map leads the fact.
+fn place_led(map: &Map<usize>, fact: Fact<'_>) -> Option<usize>
+    ensures found { IfSome result (λ place. (other : ℕ) → Leads (fact_of fact.entry) other map.now ↔ (other ≡ place)) }
+    ensures absent { IfNone result ((place : ℕ) → ¬ Leads (fact_of fact.entry) place map.now) }
 {
-    for (key, pair) in pairs.iter().enumerate() {
-        if lies(class, &pair.key.value, fact) {
-            return Some(key);
-        }
+    match map.look_up(fact) {
+        None => None,
+        Some(place) => Some(*place),
     }
-    None
 }
 
-/// The key of a map that holds the packet's fact.
+/// The key of a map that holds the packet's fact, looked up in the map at this place.
 #[tactic(auto, unfolding(crate::specs::Evaluation::mapped))]
-pub(crate) fn key_for(bounds: &Bounds, facts: &Facts, vmap: &Vmap) -> Option<usize>
+pub(crate) fn key_for(
+    bounds: &Bounds,
+    facts: &Facts,
+    vmap: &Vmap,
+    maps: &[Map<usize>],
+    at: usize,
+) -> Option<usize>
+    requires { HasMap maps.now at (Some (ends.Vmap vmap.now)) }
     ensures { IsKey vmap.now.pairs (mapped_to bounds.now facts.now vmap.now) result }
 {
     if !has_protocol(vmap.head, facts.proto) {
         return None;
     }
-    let fact = asked(bounds, facts, vmap.head);
-    key_of(class_of(vmap.head), vmap.pairs.as_slice(), fact)
+    let Some(map) = maps.get(at) else {
+        return None;
+    };
+    place_led(map, asked(bounds, facts, vmap.head))
 }
 
 pub(crate) fn unless_ended(outcome: Outcome) -> Option<Outcome>

@@ -2,10 +2,11 @@
 //!
 //! - `rules`: `Rules`, the rules of a text that has loaded.
 //! - `facts`: `Facts`, what rules may ask about a packet.
-//! - `value`, `matching`: whether a fact is one of those that a match names, and whether a rule's matches
-//!   hold.
-//! - `pool`: the named sets of a table as unions, which packets are looked up in by halving.
-//! - `row`: the rules of a table in one row, with the places that jumps and gotos lead to as numbers.
+//! - `pool`, `map`: the sides of a table's matches as sets, and its verdict maps, which packets are looked up in by
+//!   halving.
+//! - `matching`: whether a rule's matches hold.
+//! - `row`: the rules of a table in one row, with the places of sets and maps, and of the chains that jumps and gotos
+//!   lead to, as numbers.
 //! - `keys`: keys in order, by which the walk passes over rules that ask for other numbers than a packet has.
 //! - `chain`: what a chain of rules comes to, and the ends of rules.
 //! - `stack`, `walk`: the walk over a row, with at most 16 places to return to and without recursion.
@@ -25,12 +26,12 @@ pub mod facts;
 pub mod hook;
 mod keys;
 pub mod laws;
+mod map;
 mod matching;
 mod pool;
 mod row;
 pub mod rules;
 mod stack;
-mod value;
 mod walk;
 
 pub use facts::{Facts, State};

@@ -1,63 +1,29 @@
-//! Whether the matches of a rule hold of a packet.
+//! Whether the tests of a rule hold of a packet.
 
-ghost use Rattle.std.specs.Prelude.{◌≡◌, ◌≤◌, ℕ, false, true};
-ghost use Rattle.std.specs.List.{list_all, list_any};
-ghost use Rattle.sets.specs.Members.{Fact as Asked, fact_of};
-ghost use Rattle.ruletext.specs.Classes.{class_of as class_of_head};
-ghost use Rattle.ruletext.specs.Types.{has_other_class, is_wrong_match};
-ghost use Rattle.verdict.specs.Pools.{ArePools};
-ghost use Rattle.verdict.specs.Matching.{is_in_named as named_set_holds, is_on_side, name_of as name_of_iface, name_out as name_out_of, state_number as number_of_state, asked as asked_fact, is_of as is_of_transport, has_protocol as head_has_protocol, holds as test_holds};
+ghost use Rattle.std.specs.Prelude.{◌≡◌, ◌≤◌, List, length};
+ghost use Rattle.std.specs.List.{list_all};
+ghost use Rattle.sets.specs.Members.{fact_of};
+ghost use Rattle.rulesyntax.specs.declared.tree.Match.{Match as MatchOf};
+ghost use Rattle.rulesyntax.specs.declared.tree.Set.{Set as SetOf};
+ghost use Rattle.verdict.specs.Tests.{IsTest, AreTests};
+ghost use Rattle.verdict.specs.Matching.{name_of as name_of_iface, name_out as name_out_of, state_number as number_of_state, asked as asked_fact, is_of as is_of_transport, has_protocol as head_has_protocol, holds as match_holds};
 
 use crate::facts::{Facts, State};
-use crate::pool::ends_of;
-use crate::value::{is_member, lies};
+use crate::row::Span;
 use packet::bounds::Bounds;
 use packet::endpoint::{Iface, Proto};
-use rulesyntax::tree::{Head, Match, Set, Side, Transport};
-use ruletext::class::{Class, class_of};
+use rulesyntax::tree::{Head, Transport};
 use sets::{Set as Pool, Value as Fact};
 
-#[tactic(auto, unfolding(crate::specs::Matching::is_in_named))]
-fn is_in_named(sets: &[Set], pools: &[Pool], class: Class, name: &[u8], fact: Fact<'_>) -> bool
-    requires pools { ArePools sets.now pools.now }
-    requires typed { has_other_class sets.now class name.now ≡ false }
-    ensures { result ≡ named_set_holds sets.now class name.now (fact_of fact.entry) }
-{
-    for (place, set) in sets.iter().enumerate() {
-        if set.name.as_slice() == name {
-            return pools[place].contains(fact);
-        }
-    }
-    false
-}
-
-/// The least and the greatest number of the first set of that name.
-#[tactic(auto, unfolding(crate::specs::Matching::is_in_named))]
-pub(crate) fn ends_of_named(sets: &[Set], pools: &[Pool], class: Class, name: &[u8]) -> (u32, u32)
-    requires pools { ArePools sets.now pools.now }
-    requires typed { has_other_class sets.now class name.now ≡ false }
-    ensures { (n : ℕ) → named_set_holds sets.now class name.now (Asked.Number n) ≡ true → (result.0 ≤ n) × (n ≤ result.1) }
-{
-    for (place, set) in sets.iter().enumerate() {
-        if set.name.as_slice() == name {
-            return ends_of(pools[place].intervals());
-        }
-    }
-    (0, u32::MAX)
-}
-
-#[tactic(auto, unfolding(crate::specs::Matching::is_on_side))]
-fn is_in_side(sets: &[Set], pools: &[Pool], test: &Match, fact: Fact<'_>) -> bool
-    requires pools { ArePools sets.now pools.now }
-    requires typed { is_wrong_match sets.now test.now ≡ false }
-    ensures { result ≡ is_on_side sets.now (class_of_head test.now.head) test.now.side (fact_of fact.entry) }
-{
-    let class = class_of(test.head);
-    match &test.side {
-        Side::One(element) => lies(class, &element.value, fact),
-        Side::Several(elements) => is_member(class, elements.as_slice(), fact),
-        Side::Named(named) => is_in_named(sets, pools, class, named.name.as_slice(), fact),
-    }
+/// A match of a rule, whose side is one of the pools of its table.
+#[derive(Clone, Copy)]
+pub(crate) struct Test {
+    /// What it asks a packet for.
+    pub(crate) head: Head,
+    /// Whether it holds of what the pool doesn't hold.
+    pub(crate) negated: bool,
+    /// The place of the pool.
+    pub(crate) pool: usize,
 }
 
 fn name_of(bounds: &Bounds, iface: Iface) -> &[u8]
@@ -125,39 +91,39 @@ pub fn has_protocol(head: Head, proto: Proto) -> bool
     }
 }
 
-#[tactic(auto, unfolding(crate::specs::Matching::holds))]
-fn holds(bounds: &Bounds, sets: &[Set], pools: &[Pool], facts: &Facts, test: &Match) -> bool
-    requires pools { ArePools sets.now pools.now }
-    requires typed { is_wrong_match sets.now test.now ≡ false }
-    ensures { result ≡ test_holds bounds.now sets.now facts.now test.now }
+fn holds(bounds: &Bounds, facts: &Facts, pools: &[Pool], test: &Test) -> bool
+    ensures { (sets : List SetOf) (own : MatchOf) → IsTest sets pools.now own test.now → result ≡ match_holds bounds.now sets facts.now own }
 {
     if !has_protocol(test.head, facts.proto) {
         return false;
     }
-    let fact = asked(bounds, facts, test.head);
-    let inside = is_in_side(sets, pools, test, fact);
+    let Some(pool) = pools.get(test.pool) else {
+        return false;
+    };
+    let inside = pool.contains(asked(bounds, facts, test.head));
     if test.negated {
         return !inside;
     }
     inside
 }
 
-/// Whether all the matches of a rule hold. Each named set is its pool.
+/// Whether the tests at these places all hold.
 pub(crate) fn all_hold(
     bounds: &Bounds,
-    sets: &[Set],
-    pools: &[Pool],
     facts: &Facts,
-    tests: &[Match],
+    pools: &[Pool],
+    tests: &[Test],
+    span: Span,
 ) -> bool
-    requires pools { ArePools sets.now pools.now }
-    requires typed { list_any (is_wrong_match sets.now) tests.now ≡ false }
-    ensures { result ≡ list_all (test_holds bounds.now sets.now facts.now) tests.now }
+    requires { span.end ≤ length tests.now }
+    ensures { (sets : List SetOf) (matches : List MatchOf) → AreTests sets pools.now tests.now span matches → result ≡ list_all (match_holds bounds.now sets facts.now) matches }
 {
-    for test in tests {
-        if !holds(bounds, sets, pools, facts, test) {
+    let mut at = span.start;
+    while at < span.end {
+        if !holds(bounds, facts, pools, &tests[at]) {
             return false;
         }
+        at += 1;
     }
     true
 }

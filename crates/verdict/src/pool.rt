@@ -1,16 +1,20 @@
-//! The named sets of a table, each made once into the union that packets are looked up in.
+//! The sides of a table's matches as unions that packets are looked up in: each named set once, and what stands in a rule.
 
-ghost use Rattle.std.specs.Prelude.{◌≡◌, ◌↔◌, ◌≤◌, ℕ, true, false, [], length, sum_by, IfOk, OnOk};
+ghost use Rattle.std.specs.Prelude.{◌≡◌, ◌↔◌, ◌≤◌, ℕ, true, false, [], Some, find, length, slice_get, sum_by, List, None, IfOk, OnOk, IfSome, IfNone};
 ghost use Rattle.std.specs.List.{list_any};
+ghost use Rattle.std.specs.Str.{bytes_eq};
 ghost use Rattle.sets.specs.Members.{Fact, IsIn, IsMember, limit};
+ghost use Rattle.sets.specs.declared.element.Element.{Element as PartOf};
 ghost use Rattle.ruletext.specs.Classes.{is_value};
-ghost use Rattle.ruletext.specs.Counts.{elements_of_set};
-ghost use Rattle.ruletext.specs.Types.{has_stranger, is_wrong_set};
+ghost use Rattle.ruletext.specs.Counts.{elements_of_set, elements_of_side};
+ghost use Rattle.rulesyntax.specs.declared.tree.Set.{Set as SetOf};
+ghost use Rattle.ruletext.specs.Types.{has_stranger, is_wrong_set, is_wrong_match};
 ghost use Rattle.verdict.specs.Matching.{lies, is_member};
 ghost use Rattle.verdict.specs.Pools.{Adds, IsPool, ArePools};
+ghost use Rattle.verdict.specs.Tests.{Keeps, HasSide, set_named, AreValues, stands_on};
 
-use rulesyntax::tree::{Element, Set, SetElements, Value};
-use ruletext::class::{Class, class_in};
+use rulesyntax::tree::{Element, Match, Set, SetElements, Side, Value};
+use ruletext::class::{Class, class_in, class_of};
 use ruletext::parts::part_of;
 use sets::{Element as Part, Set as Pool};
 use sqlite_items::Items;
@@ -121,4 +125,85 @@ pub(crate) fn pools_of(alloc: Global, sets: &[Set]) -> Result<Items<Pool>, Alloc
         pools.push(pool_of(alloc, set)?)?;
     }
     Ok(pools)
+}
+
+fn place_of_set(sets: &[Set], name: &[u8]) -> Option<usize>
+    ensures found { IfSome result (λ place. (set : SetOf) × (slice_get sets.now place ≡ Some set) × (find (λ set. bytes_eq set.name name.now) sets.now ≡ Some set)) }
+    ensures absent { IfNone result (find (λ set. bytes_eq set.name name.now) sets.now ≡ None) }
+{
+    for (place, set) in sets.iter().enumerate() {
+        if set.name.as_slice() == name {
+            return Some(place);
+        }
+    }
+    None
+}
+
+fn place_named(sets: &[Set], side: &Side) -> Option<usize>
+    ensures found { IfSome result (λ place. (set : SetOf) × (slice_get sets.now place ≡ Some set) × (set_named sets.now side.now ≡ Some set)) }
+    ensures absent { IfNone result (set_named sets.now side.now ≡ None) }
+{
+    match side {
+        Side::Named(named) => place_of_set(sets, named.name.as_slice()),
+        Side::One(_) | Side::Several(_) => None,
+    }
+}
+
+fn part_alone(alloc: Global, class: Class, value: &Value) -> Result<Vec<Part>, AllocError>
+    requires { is_value class value.now ≡ true }
+    ensures { IfOk result (λ parts. Adds [] parts.items (lies class value.now) 1) }
+{
+    let mut parts = Vec::new(alloc);
+    push_part(alloc, &mut parts, class, value)?;
+    Ok(parts)
+}
+
+fn parts_standing(
+    alloc: Global,
+    class: Class,
+    elements: &[Element],
+) -> Result<Vec<Part>, AllocError>
+    requires { has_stranger class elements.now ≡ false }
+    ensures { IfOk result (λ parts. Adds [] parts.items (is_member class elements.now) (length elements.now)) }
+{
+    let mut parts = Vec::new(alloc);
+    push_parts(alloc, &mut parts, class, elements)?;
+    Ok(parts)
+}
+
+// The parts of the elements that stand in the rule itself.
+fn parts_of_side(alloc: Global, class: Class, side: &Side) -> Result<Vec<Part>, AllocError>
+    requires { AreValues class side.now }
+    ensures { IfOk result (λ parts. Adds [] parts.items (stands_on class side.now) (elements_of_side side.now)) }
+{
+    match side {
+        Side::One(element) => part_alone(alloc, class, &element.value),
+        Side::Several(elements) => parts_standing(alloc, class, elements.as_slice()),
+        Side::Named(_) => Ok(Vec::new(alloc)),
+    }
+}
+
+/// The place of the pool of a match's side: that of the set which it names, or of a new one behind all others.
+///
+/// # Errors
+///
+/// `AllocError` only where memory is refused.
+pub(crate) fn lay_side(
+    alloc: Global,
+    pools: &mut Items<Pool>,
+    sets: &[Set],
+    own: &Match,
+) -> Result<usize, AllocError>
+    requires sets { ArePools sets.now pools.old }
+    requires typed { is_wrong_match sets.now own.now ≡ false }
+    requires few { elements_of_side own.now.side ≤ 16384 }
+    ensures { IfOk result (λ place. Keeps (List PartOf) pools.old pools.new × HasSide sets.now pools.new own.now place) }
+{
+    if let Some(place) = place_named(sets, &own.side) {
+        return Ok(place);
+    }
+    let parts = parts_of_side(alloc, class_of(own.head), &own.side)?;
+    let place = pools.len();
+    pools.push(union_of(parts))?;
+    Ok(place)
 }

@@ -1,27 +1,27 @@
 //! The rules of a table in one row.
 
-ghost use Rattle.std.specs.Prelude.{◌≡◌, ◌+◌, ◌++◌, ◌≤◌, ℕ, [], Some, true, false, length, map, IfOk, IfSome, OnOk, slice_get};
-ghost use Rattle.std.specs.List.{list_all, list_any};
+ghost use Rattle.std.specs.Prelude.{◌≡◌, ◌+◌, ◌++◌, ◌≤◌, ℕ, List, [], Some, true, false, length, map, sum_by, IfOk, IfSome, OnOk, slice_get};
+ghost use Rattle.std.specs.List.{list_any};
 ghost use Rattle.ruletext.specs.Calls.{OfSome};
-ghost use Rattle.ruletext.specs.Counts.{elements_of_table, is_much};
+ghost use Rattle.ruletext.specs.Counts.{elements_of_side, elements_of_table, is_much};
+ghost use Rattle.ruletext.specs.Overlap.{TableOverlaps};
 ghost use Rattle.ruletext.specs.Said.{verdicts_of};
 ghost use Rattle.ruletext.specs.Types.{is_wrong_match, HasWrongType};
-ghost use Rattle.sets.specs.Members.{Fact as Asked, IsWithin};
+ghost use Rattle.rulesyntax.specs.declared.tree.Match.{Match as MatchOf};
 ghost use Rattle.rulesyntax.specs.declared.tree.Rule.{Rule as RuleOf};
+ghost use Rattle.rulesyntax.specs.declared.tree.Set.{Set as SetOf};
 ghost use Rattle.verdict.specs.Pools.{ArePools};
-ghost use Rattle.verdict.specs.Matching.{lies, state_number as number_of_state};
-ghost use Rattle.verdict.specs.Lines.{numbers_of as numbers_of_facts, port_of as port_of_facts, place_of_head, may_hold as may_hold_of, Tells, TestTells, TellsIn, place_among, place_led, IsLaid, AreLaid, IsRuleLaid, IsChainLaid};
+ghost use Rattle.verdict.specs.Tests.{IsTest, AreTests, AreTestsLaid, IsReady};
+ghost use Rattle.verdict.specs.Matching.{state_number as number_of_state};
+ghost use Rattle.verdict.specs.Lines.{numbers_of as numbers_of_facts, port_of as port_of_facts, place_of_head, may_hold as may_hold_of, Tells, TellsIn, place_among, place_led, IsLaid, AreLaid, IsRuleLaid, IsChainLaid};
 
 use crate::facts::Facts;
 use crate::keys::keys_of;
-use crate::matching::{ends_of_named, is_of, state_number};
-use crate::pool::pools_of;
-use packet::endpoint::Prefix;
-use rulesyntax::tree::{
-    Chain, End, Head, Match, Pair, Rule, Set, Side, Table, Transport, Value, Verdict,
-};
-use ruletext::class::{Class, class_of};
-use sets::{Range, Set as Pool};
+use crate::map::lay_map;
+use crate::matching::{Test, is_of, state_number};
+use crate::pool::{ends_of, lay_side, pools_of};
+use rulesyntax::tree::{Chain, End, Head, Match, Pair, Rule, Set, Table, Transport, Verdict};
+use sets::{LIMIT, Set as Pool, Vmap as Map};
 use sqlite_items::Items;
 use std::alloc::{AllocError, Global};
 
@@ -36,39 +36,58 @@ pub(crate) struct Probe {
     pub(crate) high: u32,
 }
 
-/// A rule in a row.
-#[derive(Clone, Copy)]
-pub(crate) struct Line {
-    /// What it asks first.
-    pub(crate) probe: Probe,
-    /// Where in the row of targets those of its verdicts begin.
-    pub(crate) first: usize,
-}
-
-/// Where in a row the rules of a chain stand: from the start up to the end, which is not among them.
+/// Where in a row things stand that belong together: from the start up to the end, which is not among them.
 #[derive(Clone, Copy)]
 pub(crate) struct Span {
     pub(crate) start: usize,
     pub(crate) end: usize,
 }
 
-/// The rules of a table's chains, one chain behind the other, and its named sets.
+/// A rule in a row.
+#[derive(Clone, Copy)]
+pub(crate) struct Line {
+    /// What it asks first.
+    pub(crate) probe: Probe,
+    /// Where its matches stand in the row of tests.
+    pub(crate) tests: Span,
+    /// Where in the row of targets those of its verdicts begin.
+    pub(crate) first: usize,
+    /// The place of its verdict map, if it ends in one.
+    pub(crate) map: usize,
+}
+
+/// The rules of a table's chains, one chain behind the other, and what they refer to by places.
 #[derive(Drop)]
-pub(crate) struct Laid {
-    /// One for each chain.
-    pub(crate) spans: Items<Span>,
+pub(crate) struct Row {
     /// One for each rule.
     pub(crate) lines: Items<Line>,
-    /// One for each rule, in order: by them rules are passed over that ask for other numbers.
-    pub(crate) keys: Items<u64>,
     /// One for each verdict of a rule: the place of the chain that it jumps or goes to, of those of the table.
     pub(crate) targets: Items<usize>,
-    /// One for each named set of the table.
+    /// One for each match of a rule.
+    pub(crate) tests: Items<Test>,
+    /// One for each named set of the table, at its set's place, and behind them one for each side whose elements
+    /// stand in a rule.
     pub(crate) pools: Items<Pool>,
+    /// One for each verdict map. A key leads to its pair's place.
+    pub(crate) maps: Items<Map<usize>>,
+}
+
+/// A table as packets meet it.
+#[derive(Drop)]
+pub(crate) struct Laid {
+    /// One for each chain: where its rules stand.
+    pub(crate) spans: Items<Span>,
+    /// One for each rule, in order: by them rules are passed over that ask for other numbers.
+    pub(crate) keys: Items<u64>,
+    /// The rules.
+    pub(crate) row: Row,
 }
 
 // The number that a packet of another protocol has for a port: no value stands for it.
 const NO_PORT: u64 = 4_294_967_296;
+
+// The place of no number: what asks for an interface name asks for none.
+const NO_NUMBER: u8 = 8;
 
 fn port_of(transport: Transport, facts: &Facts, port: u16) -> u64
     ensures { result ≡ port_of_facts transport facts.now port }
@@ -118,108 +137,60 @@ fn place_of(head: Head) -> u8
         Head::Dport(Transport::Tcp) => 5,
         Head::Dport(Transport::Udp) => 6,
         Head::State => 7,
-        Head::Iifname | Head::Oifname => 8,
+        Head::Iifname | Head::Oifname => NO_NUMBER,
     }
 }
 
-fn between(low: u64, high: u64) -> Option<Range>
-    ensures { IfSome result (λ range. (range.low ≡ low) × (range.high ≡ high)) }
+// The bounds that a test sets whose pool has at most so many intervals: the ends of its pool.
+fn bounds_of(pools: &[Pool], test: &Test, most: usize) -> Option<Probe>
+    ensures { IfSome result (λ probe. (sets : List SetOf) (own : MatchOf) → IsTest sets pools.now own test.now → TellsIn sets own probe) }
 {
-    if low > high || high > u64::from(u32::MAX) {
+    let asks = place_of(test.head);
+    if test.negated || asks == NO_NUMBER {
         return None;
     }
-    Some(Range::new(low as u32, high as u32))
-}
-
-// The range that a value stands for, where it stands for numbers by themselves.
-#[tactic(auto, unfolding(crate::specs::Matching::lies))]
-fn range_of(class: Class, value: &Value) -> Option<Range>
-    ensures { IfSome result (λ range. (n : ℕ) → lies class value.now (Asked.Number n) ≡ true → IsWithin n range) }
-{
-    match (class, value) {
-        (Class::Addresses, Value::Address(address)) => Some(Range::one(*address)),
-        (Class::Addresses, Value::Prefix(addr, len)) => Some(Range::of_prefix(Prefix {
-            addr: *addr,
-            len: *len,
-        })),
-        (Class::Addresses, Value::Addresses(low, high)) => between(
-            u64::from(*low),
-            u64::from(*high),
-        ),
-        (Class::Services | Class::Protocols, Value::Number(number)) => between(*number, *number),
-        (Class::Services, Value::Numbers(low, high)) => between(*low, *high),
-        _ => None,
-    }
-}
-
-// The bounds that a match sets by itself: where it compares a number with one range.
-fn bounds_of(test: &Match) -> Option<Probe>
-    ensures { IfSome result (TestTells test.now) }
-{
-    if test.negated {
-        return None;
-    }
-    let Side::One(element) = &test.side else {
+    let Some(pool) = pools.get(test.pool) else {
         return None;
     };
-    let range = range_of(class_of(test.head), &element.value)?;
-    Some(Probe {
-        asks: place_of(test.head),
-        low: range.low,
-        high: range.high,
-    })
-}
-
-// The bounds of a named set that a match looks into.
-fn bounds_of_set(sets: &[Set], pools: &[Pool], test: &Match) -> Option<Probe>
-    requires pools { ArePools sets.now pools.now }
-    requires typed { is_wrong_match sets.now test.now ≡ false }
-    ensures { IfSome result (TellsIn sets.now test.now) }
-{
-    if test.negated {
+    let intervals = pool.intervals();
+    if intervals.len() > most {
         return None;
     }
-    let Side::Named(named) = &test.side else {
-        return None;
-    };
-    let (low, high) = ends_of_named(sets, pools, class_of(test.head), named.name.as_slice());
-    Some(Probe {
-        asks: place_of(test.head),
-        low,
-        high,
-    })
+    let (low, high) = ends_of(intervals);
+    Some(Probe { asks, low, high })
 }
 
-// What a rule asks first whose matches set no bounds by themselves: those of one of its named sets, or none.
-fn probe_of_sets(sets: &[Set], pools: &[Pool], matches: &[Match]) -> Probe
-    requires pools { ArePools sets.now pools.now }
-    requires typed { list_any (is_wrong_match sets.now) matches.now ≡ false }
-    ensures { Tells sets.now matches.now result }
+// The bounds of the first of the tests that sets any.
+fn first_bounds(pools: &[Pool], tests: &[Test], span: Span, most: usize) -> Option<Probe>
+    requires { span.end ≤ length tests.now }
+    ensures { IfSome result (λ probe. (sets : List SetOf) (matches : List MatchOf) → AreTests sets pools.now tests.now span matches → Tells sets matches probe) }
 {
-    for test in matches {
-        if let Some(probe) = bounds_of_set(sets, pools, test) {
-            return probe;
+    let mut at = span.start;
+    while at < span.end {
+        if let Some(probe) = bounds_of(pools, &tests[at], most) {
+            return Some(probe);
         }
+        at += 1;
+    }
+    None
+}
+
+// What a rule asks first: the bounds of a test whose pool is one interval, or else of one with more, or none.
+fn probe_of(pools: &[Pool], tests: &[Test], span: Span) -> Probe
+    requires { span.end ≤ length tests.now }
+    ensures { (sets : List SetOf) (matches : List MatchOf) → AreTests sets pools.now tests.now span matches → Tells sets matches result }
+{
+    if let Some(probe) = first_bounds(pools, tests, span, 1) {
+        return probe;
+    }
+    if let Some(probe) = first_bounds(pools, tests, span, LIMIT) {
+        return probe;
     }
     Probe {
-        asks: place_of(Head::Iifname),
+        asks: NO_NUMBER,
         low: 0,
         high: u32::MAX,
     }
-}
-
-// What a rule asks first: the bounds that one of its matches sets by itself, or those of a named set, or none.
-fn probe_of(sets: &[Set], pools: &[Pool], matches: &[Match]) -> Probe
-    requires pools { ArePools sets.now pools.now }
-    requires typed { list_any (is_wrong_match sets.now) matches.now ≡ false }
-    ensures { Tells sets.now matches.now result }
-{
-    for test in matches {
-        if let Some(probe) = bounds_of(test) {
-            return probe;
-        }
-    }
-    probe_of_sets(sets, pools, matches)
 }
 
 fn place_named(chains: &[Chain], name: &[u8]) -> usize
@@ -268,42 +239,67 @@ fn lay_keys(targets: &mut Items<usize>, chains: &[Chain], pairs: &[Pair]) -> Res
     Ok(())
 }
 
-fn lay_rule(
-    lines: &mut Items<Line>,
-    targets: &mut Items<usize>,
-    table: &Table,
-    pools: &[Pool],
-    rule: &Rule,
-) -> Result<(), AllocError>
-    requires pools { ArePools table.now.sets pools.now }
-    requires typed { list_any (is_wrong_match table.now.sets) rule.now.matches ≡ false }
-    ensures { OnOk result (IsRuleLaid table.now rule.now lines.old targets.old lines.new targets.new) }
+// Lays matches behind the tests that lie in the row, and tells where they stand.
+fn lay_tests(
+    alloc: Global,
+    tests: &mut Items<Test>,
+    pools: &mut Items<Pool>,
+    sets: &[Set],
+    matches: &[Match],
+) -> Result<Span, AllocError>
+    requires sets { ArePools sets.now pools.old }
+    requires typed { list_any (is_wrong_match sets.now) matches.now ≡ false }
+    requires few { sum_by (λ own. elements_of_side own.side) matches.now ≤ 16384 }
+    ensures { IfOk result (AreTestsLaid sets.now matches.now tests.old pools.old tests.new pools.new) }
 {
-    let first = targets.len();
-    lay_targets(targets, table.chains.as_slice(), &rule.end)?;
-    let probe = probe_of(table.sets.as_slice(), pools, rule.matches.as_slice());
-    lines.push(Line { probe, first })
+    let start = tests.len();
+    for own in matches {
+        let pool = lay_side(alloc, pools, sets, own)?;
+        tests.push(Test {
+            head: own.head,
+            negated: own.negated,
+            pool,
+        })?;
+    }
+    let end = tests.len();
+    Ok(Span { start, end })
+}
+
+fn lay_rule(alloc: Global, row: &mut Row, table: &Table, rule: &Rule) -> Result<(), AllocError>
+    requires sets { ArePools table.now.sets row.old.pools }
+    requires ready { IsReady table.now.sets rule.now }
+    ensures { OnOk result (IsRuleLaid table.now rule.now row.old row.new) }
+{
+    let first = row.targets.len();
+    lay_targets(&mut row.targets, table.chains.as_slice(), &rule.end)?;
+    let map = row.maps.len();
+    lay_map(alloc, &mut row.maps, &rule.end)?;
+    let sets = table.sets.as_slice();
+    let matches = rule.matches.as_slice();
+    let tests = lay_tests(alloc, &mut row.tests, &mut row.pools, sets, matches)?;
+    let probe = probe_of(row.pools.as_slice(), row.tests.as_slice(), tests);
+    row.lines.push(Line {
+        probe,
+        tests,
+        first,
+        map,
+    })?;
+    Ok(())
 }
 
 // Lays the rules of a chain behind those that lie in the row.
-fn lay_chain(
-    lines: &mut Items<Line>,
-    targets: &mut Items<usize>,
-    table: &Table,
-    pools: &[Pool],
-    rules: &[Rule],
-) -> Result<(), AllocError>
-    requires pools { ArePools table.now.sets pools.now }
-    requires typed { (i : ℕ) (rule : RuleOf) → slice_get rules.now i ≡ Some rule → list_any (is_wrong_match table.now.sets) rule.matches ≡ false }
-    ensures { OnOk result (IsChainLaid table.now rules.now lines.old targets.old lines.new targets.new) }
+fn lay_chain(alloc: Global, row: &mut Row, table: &Table, rules: &[Rule]) -> Result<(), AllocError>
+    requires sets { ArePools table.now.sets row.old.pools }
+    requires ready { (i : ℕ) (rule : RuleOf) → slice_get rules.now i ≡ Some rule → IsReady table.now.sets rule }
+    ensures { OnOk result (IsChainLaid table.now rules.now row.old row.new) }
 {
     for rule in rules {
-        lay_rule(lines, targets, table, pools, rule)?;
+        lay_rule(alloc, row, table, rule)?;
     }
     Ok(())
 }
 
-/// The chains of a table in a row, and its named sets as pools.
+/// The chains of a table in a row, with its sets, maps and targets.
 ///
 /// # Errors
 ///
@@ -311,28 +307,25 @@ fn lay_chain(
 pub(crate) fn lay(alloc: Global, table: &Table) -> Result<Laid, AllocError>
     requires typed { ¬ HasWrongType table.now.sets table.now.chains }
     requires few { elements_of_table table.now ≤ 16384 }
+    requires apart { ¬ TableOverlaps table.now }
     ensures { IfOk result (IsLaid table.now) }
 {
-    let pools = pools_of(alloc, table.sets.as_slice())?;
-    let held = pools.as_slice();
+    let mut row = Row {
+        lines: Items::new(alloc),
+        targets: Items::new(alloc),
+        tests: Items::new(alloc),
+        pools: pools_of(alloc, table.sets.as_slice())?,
+        maps: Items::new(alloc),
+    };
     let mut spans = Items::new(alloc);
-    let mut lines = Items::new(alloc);
-    let mut targets = Items::new(alloc);
     for chain in table.chains.as_slice() {
-        let start = lines.len();
-        let rules = chain.rules.as_slice();
-        lay_chain(&mut lines, &mut targets, table, held, rules)?;
-        let end = lines.len();
+        let start = row.lines.len();
+        lay_chain(alloc, &mut row, table, chain.rules.as_slice())?;
+        let end = row.lines.len();
         spans.push(Span { start, end })?;
     }
-    let keys = keys_of(alloc, lines.as_slice())?;
-    Ok(Laid {
-        spans,
-        lines,
-        keys,
-        targets,
-        pools,
-    })
+    let keys = keys_of(alloc, row.lines.as_slice())?;
+    Ok(Laid { spans, keys, row })
 }
 
 /// Each table in a row of its own.
@@ -343,6 +336,7 @@ pub(crate) fn lay(alloc: Global, table: &Table) -> Result<Laid, AllocError>
 pub(crate) fn lay_all(alloc: Global, tables: &[Table]) -> Result<Items<Laid>, AllocError>
     requires typed { ¬ OfSome (λ table. HasWrongType table.sets table.chains) tables.now }
     requires few { is_much tables.now ≡ false }
+    requires apart { ¬ OfSome TableOverlaps tables.now }
     ensures { IfOk result (AreLaid tables.now) }
 {
     let mut rows = Items::new(alloc);

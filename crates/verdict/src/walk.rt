@@ -3,9 +3,7 @@
 ghost use Rattle.std.specs.Prelude.{◌≡◌, ◌+◌, ◌-◌, ◌^◌, ◌<◌, ◌≤◌, ℕ, [], ◌∷◌, Some, false, IfSome, MatchOption, length, slice_get};
 ghost use Rattle.ruletext.specs.Said.{verdicts_in};
 ghost use Rattle.ruletext.specs.Calls.{IsLooped};
-ghost use Rattle.std.specs.List.{list_any};
-ghost use Rattle.ruletext.specs.Types.{is_wrong_match, HasWrongType};
-ghost use Rattle.verdict.specs.Pools.{ArePools};
+ghost use Rattle.verdict.specs.Tests.{HasMap};
 ghost use Rattle.verdict.specs.declared.row.Line.{Line as LineOf};
 ghost use Rattle.verdict.specs.Targets.{OfEach, TargetsHave, IsShort};
 ghost use Rattle.verdict.specs.Lines.{numbers_of as numbers_of_facts, may_hold as line_may_hold, IsLine, AreChainsLaid, IsLaid, LeadsFrom, place_led};
@@ -20,7 +18,7 @@ use crate::chain::{Outcome, key_for, known_at, remember, translation, unless_end
 use crate::facts::Facts;
 use crate::keys::{NEAR, next_met, pass};
 use crate::matching::all_hold;
-use crate::row::{Laid, Line, Probe, may_hold, numbers_of};
+use crate::row::{Laid, Line, Probe, Row, may_hold, numbers_of};
 use crate::stack::{Place, Stack};
 use packet::bounds::Bounds;
 use packet::steps::Steps;
@@ -69,27 +67,23 @@ fn move_led(table: &Table, targets: &[usize], at: usize, verdict: &Verdict) -> M
     }
 }
 
-fn move_at(
-    bounds: &Bounds,
-    facts: &Facts,
-    table: &Table,
-    end: &End,
-    targets: &[usize],
-    first: usize,
-) -> Move
-    requires { LeadsFrom table.now.chains targets.now first (verdicts_in end.now) }
+fn move_at(bounds: &Bounds, facts: &Facts, table: &Table, end: &End, row: &Row, line: Line) -> Move
+    requires leads { LeadsFrom table.now.chains row.now.targets line.first (verdicts_in end.now) }
+    requires map { HasMap row.now.maps line.map (Some end.now) }
     ensures { result ≡ move_at_end bounds.now facts.now table.now.chains end.now }
 {
+    let targets = row.targets.as_slice();
     match end {
-        End::Verdict(verdict) => move_led(table, targets, first, verdict),
+        End::Verdict(verdict) => move_led(table, targets, line.first, verdict),
         End::Vmap(vmap) => {
-            let Some(key) = key_for(bounds, facts, vmap) else {
+            let maps = row.maps.as_slice();
+            let Some(key) = key_for(bounds, facts, vmap, maps, line.map) else {
                 return Move::Next;
             };
             let Some(pair) = vmap.pairs.get(key) else {
                 return Move::Next;
             };
-            move_led(table, targets, first + key, &pair.verdict)
+            move_led(table, targets, line.first + key, &pair.verdict)
         }
         other => match translation(bounds, facts, other) {
             None => Move::Next,
@@ -102,34 +96,20 @@ fn move_of(
     bounds: &Bounds,
     facts: &Facts,
     table: &Table,
-    laid: &Laid,
+    row: &Row,
     rule: &Rule,
     line: Line,
 ) -> Move
-    requires line { IsLine table.now laid.now.targets rule.now line }
-    requires pools { ArePools table.now.sets laid.now.pools }
-    requires typed { list_any (is_wrong_match table.now.sets) rule.now.matches ≡ false }
+    requires { IsLine table.now row.now rule.now line }
     ensures { result ≡ move_of_rule bounds.now facts.now table.now rule.now }
 {
-    if !all_hold(
-        bounds,
-        table.sets.as_slice(),
-        laid.pools.as_slice(),
-        facts,
-        rule.matches.as_slice(),
-    ) {
+    let pools = row.pools.as_slice();
+    if !all_hold(bounds, facts, pools, row.tests.as_slice(), line.tests) {
         return Move::Next;
     }
     match &rule.end {
         None => Move::Next,
-        Some(end) => move_at(
-            bounds,
-            facts,
-            table,
-            end,
-            laid.targets.as_slice(),
-            line.first,
-        ),
+        Some(end) => move_at(bounds, facts, table, end, row, line),
     }
 }
 
@@ -259,7 +239,7 @@ fn next_rule(
     steps: &mut Steps,
 ) -> usize
     requires laid { AreChainsLaid table.now laid.now }
-    requires keys { AreKeys laid.now.lines laid.now.keys }
+    requires keys { AreKeys laid.now.row.lines laid.now.keys }
     requires numbers { numbers.now ≡ numbers_of_facts facts.now }
     requires chain { here.chain < length table.now.chains }
     requires at { here.at ≤ length (rules_at table.now.chains here.chain) }
@@ -271,7 +251,7 @@ fn next_rule(
     ensures all { steps.new + here.at ≤ steps.old + length (rules_at table.now.chains here.chain) }
 {
     let span = laid.spans.as_slice()[here.chain];
-    let lines = laid.lines.as_slice();
+    let lines = laid.row.lines.as_slice();
     let from = span.start + here.at;
     candidate(lines, laid.keys.as_slice(), numbers, from, span.end, steps) - span.start
 }
@@ -286,16 +266,14 @@ fn move_from(
     here: Place,
 ) -> Move
     requires laid { AreChainsLaid table.now laid.now }
-    requires sets { ArePools table.now.sets laid.now.pools }
-    requires typed { ¬ HasWrongType table.now.sets table.now.chains }
     requires rules { rules.now ≡ rules_at table.now.chains here.chain }
     requires chain { here.chain < length table.now.chains }
     requires at { here.at < length rules.now }
     ensures { IfSome (slice_get rules.now here.at) (λ rule. result ≡ move_of_rule bounds.now facts.now table.now rule) }
 {
     let span = laid.spans.as_slice()[here.chain];
-    let line = laid.lines.as_slice()[span.start + here.at];
-    move_of(bounds, facts, table, laid, &rules[here.at], line)
+    let line = laid.row.lines.as_slice()[span.start + here.at];
+    move_of(bounds, facts, table, &laid.row, &rules[here.at], line)
 }
 
 // Remembers an outcome that ends the base chain of each chain that is read.

@@ -9,7 +9,7 @@ use Rattle.verdict.proofs.keys.keys_of.Goals as goal
 pub loop-place-preserved : goal.loop-place-preserved
 loop-place-preserved c =
     let place = c.loop-place.place in
-    let d : Line = record { probe = record { asks = 0; low = 0; high = 0 }; first = 0 } in
+    let d : Line = record { probe = record { asks = 0; low = 0; high = 0 }; tests = record { start = 0; end = 0 }; first = 0; map = 0 } in
     let line = get_or c.args.lines.now place d in
     let lt : place < length c.args.lines.now = omega arith in
     let is : place < 134217728 → IsKey line.probe place c.key_of.result = λ near.

@@ -1,5 +1,6 @@
 use Rattle.std.proofs.Common.{refl, sym, subst, arith, take}
 use Rattle.std.proofs.lemmas.Option.{slice_get_read}
+use Rattle.ruletext.specs.Overlap.{TableOverlaps}
 use Rattle.ruletext.specs.Types.{HasWrongType}
 use Rattle.verdict.proofs.Laying.{front_more, TablesSoFar, tables_more}
 use Rattle.verdict.proofs.Pooled.{elements_few}
@@ -20,3 +21,8 @@ lay-requires-clause-typed c wrong =
 
 pub lay-requires-clause-few : goal.lay-requires-clause-few
 lay-requires-clause-few c = elements_few c.args.tables.now c.loop-table.table-index c.table-item.result (omega arith) c.table-item.is c.requires.few
+
+pub lay-requires-clause-apart : goal.lay-requires-clause-apart
+lay-requires-clause-apart c overlaps =
+    let at = slice_get_read c.args.tables.now _ c.loop-table.table-index c.table-item.result refl (omega arith) c.table-item.is in
+    c.requires.apart (some_at TableOverlaps c.args.tables.now c.loop-table.table-index c.table-item.result at overlaps)

@@ -1,7 +1,7 @@
 use Rattle.std.proofs.Common.{◌≡◌, drop}
 use Rattle.std.specs.Prelude.{find}
 use Rattle.std.specs.Str.{bytes_eq}
-use Rattle.verdict.proofs.matching.ends_of_named.Given as goal
+use Rattle.verdict.proofs.pool.place_of_set.Given as goal
 
 -- the set is among those from here on, or there is none
 abbrev pub invariant-loop-place : goal.invariant-loop-place
