@@ -21,7 +21,7 @@ use Rattle.verdict.specs.declared.row.Laid.{Laid}
 use Rattle.verdict.specs.declared.row.Row.{Row}
 use Rattle.verdict.specs.declared.matching.Test.{Test}
 use Rattle.verdict.specs.Pools.{ArePools}
-use Rattle.verdict.specs.Tests.{Keeps, HasSide, IsTest, AreTests, AreTestsLaid, HasMap}
+use Rattle.verdict.specs.Tests.{Keeps, IsTest, AreTests, AreTestsLaid, HasMap}
 use Rattle.verdict.specs.Lines.{place_led, Tells, Stays, IsLine, IsRuleLaid, AreLines, IsChainLaid, IsSpan, AreSpans, IsLaid, AreLaid}
 
 -- what is got of a list stands there

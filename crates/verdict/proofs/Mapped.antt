@@ -1,8 +1,8 @@
 -- Verdict maps that are made once: a key leads to its pair's place, and the place that a fact leads to has the verdict of the first
 -- key that holds it.
-use Rattle.std.proofs.Common.{◌≡◌, ◌↔◌, ◌<◌, ◌≤◌, ℕ, zero, suc, ◌+◌, Bool, true, false, not, List, [], ◌∷◌, ◌++◌, Option, Some, None, IfSome, IfNone, length, get_or, slice_get, IsTrue, refl, sym, ap, ◌∙◌, subst, inl, inr, arith, length-append}
-use Rattle.std.specs.List.{Any, list_any}
-use Rattle.std.proofs.lemmas.Bool.{false≢true, cases_Bool, false_from_ne_true}
+use Rattle.std.proofs.Common.{◌≡◌, ◌↔◌, ◌<◌, ℕ, zero, suc, Bool, true, false, not, List, [], ◌∷◌, ◌++◌, Option, Some, None, IfSome, IfNone, length, slice_get, IsTrue, refl, sym, ap, ◌∙◌, subst, inl, inr, arith, length-append}
+use Rattle.std.specs.List.{list_any}
+use Rattle.std.proofs.lemmas.Bool.{false≢true, false_from_ne_true}
 use Rattle.std.proofs.lemmas.Option.{slice_get_read, slice_get_within, get_or_from_slice_get}
 use Rattle.sets.specs.declared.element.Element.{Element as Part}
 use Rattle.sets.specs.declared.element.Pair.{Pair as Key}
@@ -10,7 +10,6 @@ use Rattle.sets.specs.Members.{Fact, IsIn, Leads, Share as PartsShare, Overlaps}
 use Rattle.rulesyntax.specs.declared.tree.Pair.{Pair}
 use Rattle.ruletext.specs.declared.class.Class.{Class}
 use Rattle.ruletext.specs.Classes.{is_value, class_of, StandsFor}
-use Rattle.ruletext.specs.Calls.{OfSome}
 use Rattle.ruletext.specs.Overlap.{Share, KeysOverlap}
 use Rattle.ruletext.specs.Parts.{IsPart}
 use Rattle.packet.specs.Config.{Config}

@@ -1,11 +1,10 @@
 -- A test holds where its match does.
-use Rattle.std.proofs.Common.{◌≡◌, ◌↔◌, ℕ, ◌+◌, ◌-◌, ◌<◌, ◌≤◌, Bool, true, false, not, ◌&&◌, List, [], ◌∷◌, Some, length, drop, slice_get, IsTrue, if◌then◌else◌, refl, sym, ap, ◌∙◌, subst, arith}
+use Rattle.std.proofs.Common.{◌≡◌, ◌↔◌, ℕ, ◌+◌, ◌-◌, ◌<◌, ◌≤◌, Bool, true, false, not, ◌&&◌, List, ◌∷◌, Some, drop, slice_get, IsTrue, refl, sym, ap, ◌∙◌, subst, arith}
 use Rattle.std.specs.List.{list_all}
-use Rattle.std.proofs.lemmas.Bool.{false≢true}
 use Rattle.std.proofs.lemmas.List.{drop_all}
 use Rattle.packet.specs.Config.{Config}
 use Rattle.sets.specs.declared.element.Element.{Element as Part}
-use Rattle.sets.specs.Members.{Fact, IsMember}
+use Rattle.sets.specs.Members.{IsMember}
 use Rattle.rulesyntax.specs.declared.tree.Set.{Set}
 use Rattle.rulesyntax.specs.declared.tree.Match.{Match}
 use Rattle.ruletext.specs.Classes.{class_of}

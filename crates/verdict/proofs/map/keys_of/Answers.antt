@@ -1,7 +1,7 @@
 use Rattle.std.proofs.Common.{sym, subst, arith, take}
 use Rattle.verdict.specs.Tests.{ArePairs}
 use Rattle.verdict.proofs.Laying.{front_more}
-use Rattle.verdict.proofs.Mapped.{pairs_begun, pairs_more}
+use Rattle.verdict.proofs.Mapped.{pairs_more}
 use Rattle.verdict.proofs.map.keys_of.Goals as goal
 
 pub loop-pair-preserved : goal.loop-pair-preserved

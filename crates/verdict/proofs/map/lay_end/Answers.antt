@@ -1,7 +1,6 @@
-use Rattle.std.proofs.Common.{◌≡◌, Some, refl, sym, ap, ◌∙◌, subst, slice_get, length}
-use Rattle.rulesyntax.specs.declared.tree.End.TheVariants as ends
+use Rattle.std.proofs.Common.{Some, ap, subst}
 use Rattle.ruletext.specs.Classes.{class_of}
-use Rattle.verdict.specs.Tests.{HasMap, IsMap}
+use Rattle.verdict.specs.Tests.{IsMap}
 use Rattle.verdict.proofs.Mapped.{map_laid}
 use Rattle.verdict.proofs.map.lay_end.Goals as goal
 

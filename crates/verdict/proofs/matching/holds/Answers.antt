@@ -1,4 +1,4 @@
-use Rattle.std.proofs.Common.{◌≡◌, ◌↔◌, ◌∙◌, Some, None, IsTrue, sym, ap, subst, slice_get}
+use Rattle.std.proofs.Common.{◌≡◌, ◌↔◌, ◌∙◌, None, IsTrue, sym, subst, slice_get}
 use Rattle.sets.specs.Members.{IsMember}
 use Rattle.verdict.proofs.Laying.{got, got_none}
 use Rattle.verdict.proofs.Tested.{protocol_lacks, negated_holds, plain_holds}

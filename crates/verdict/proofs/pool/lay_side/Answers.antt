@@ -1,7 +1,7 @@
-use Rattle.std.proofs.Common.{◌≡◌, ◌∙◌, [], ◌∷◌, refl, sym, ap, subst}
+use Rattle.std.proofs.Common.{[], ◌∷◌, sym, subst}
 use Rattle.ruletext.specs.Counts.{elements_of_side}
 use Rattle.verdict.specs.Pools.{Adds}
-use Rattle.verdict.specs.Tests.{Keeps, AreValues, stands_on, HasSide}
+use Rattle.verdict.specs.Tests.{AreValues, stands_on, HasSide}
 use Rattle.verdict.proofs.Laying.{keeps_all}
 use Rattle.verdict.proofs.Pooled.{named_side, standing_side, values_on}
 use Rattle.verdict.proofs.pool.lay_side.Goals as goal

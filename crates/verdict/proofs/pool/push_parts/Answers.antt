@@ -1,5 +1,4 @@
-use Rattle.std.proofs.Common.{◌≡◌, ◌||◌, ◌+◌, ◌∙◌, Bool, refl, sym, ap, subst, arith, length, take, take_all}
-use Rattle.std.specs.List.{list_any}
+use Rattle.std.proofs.Common.{◌≡◌, ◌||◌, ◌+◌, ◌∙◌, refl, sym, ap, subst, arith, length, take, take_all}
 use Rattle.std.proofs.lemmas.List.Folds.{list_any_more}
 use Rattle.rulesyntax.specs.declared.tree.Element.{Element}
 use Rattle.verdict.specs.Matching.{lies, is_member}

@@ -1,4 +1,4 @@
-use Rattle.std.proofs.Common.{◌≡◌, ◌≤◌, ◌∙◌, ℕ, sym, ap, subst}
+use Rattle.std.proofs.Common.{sym, subst}
 use Rattle.verdict.proofs.Laying.{got}
 use Rattle.sets.specs.Members.{Fact, IsMember}
 use Rattle.verdict.proofs.Probed.{bounded}

@@ -5,8 +5,7 @@ use Rattle.rulesyntax.specs.declared.tree.Rule.{Rule}
 use Rattle.ruletext.specs.Types.{is_wrong_set}
 use Rattle.verdict.specs.declared.row.Span.{Span}
 use Rattle.verdict.specs.Lines.{IsChainLaid}
-use Rattle.verdict.specs.Pools.{ArePools}
-use Rattle.verdict.proofs.Laying.{front_more, SpansSoFar, spans_begun, spans_more}
+use Rattle.verdict.proofs.Laying.{front_more, SpansSoFar, spans_more}
 use Rattle.verdict.proofs.Pooled.{sets_typed, ready_at}
 use Rattle.verdict.proofs.row.lay.Goals as goal
 

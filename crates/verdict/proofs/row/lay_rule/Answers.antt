@@ -1,14 +1,11 @@
-use Rattle.std.proofs.Common.{◌≡◌, ◌++◌, false, map, subst, sym, ap, ◌∙◌, arith, sum_by}
+use Rattle.std.proofs.Common.{◌≡◌, ◌++◌, false, map, subst, sym}
 use Rattle.std.specs.List.{list_any}
 use Rattle.std.proofs.lemmas.Bool.{or_parts}
-use Rattle.rulesyntax.specs.declared.tree.Match.{Match}
-use Rattle.ruletext.specs.Counts.{elements_of_side}
 use Rattle.ruletext.specs.Said.{verdicts_of}
 use Rattle.ruletext.specs.Types.{is_wrong_match}
 use Rattle.verdict.specs.declared.row.Line.{Line}
-use Rattle.verdict.specs.Lines.{place_led, Tells}
+use Rattle.verdict.specs.Lines.{place_led}
 use Rattle.verdict.specs.Tests.{AreTests, AreTestsLaid}
-use Rattle.verdict.specs.Pools.{ArePools}
 use Rattle.verdict.proofs.Laying.{rule_laid}
 use Rattle.verdict.proofs.row.lay_rule.Goals as goal
 
