@@ -44,7 +44,7 @@ timeout-some : (proto : Proto) (seen : ℕ) → 0 < timeout_by proto seen
 timeout-some Udp seen = omega arith
 timeout-some Tcp seen = phase-some (is_closing seen) (is_acknowledged seen)
 
-alive-last : (now : ℕ) (t : Session) → t.last ≡ now → IsAlive now t
+pub alive-last : (now : ℕ) (t : Session) → t.last ≡ now → IsAlive now t
 alive-last now t e = omega (arith, timeout-some t.proto t.seen, e)
 
 module _ (config : Config) (is_one : is_config config ≡ true) where

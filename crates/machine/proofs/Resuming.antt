@@ -1,6 +1,6 @@
 -- Sessions that take their places again, one after the other.
 use Rattle.std.proofs.Common.{◌≡◌, ℕ, ◌<◌, ◌≤◌, List, [], ◌∷◌, ◌++◌, length, drop, map, Option, true, false, cond, not, append_assoc, refl, sym, ap, subst, ◌∙◌, inl, inr, arith}
-use Rattle.std.proofs.lemmas.Bool.{false≢true, false_from_ne_true}
+use Rattle.std.proofs.lemmas.Bool.{false≢true, false_from_ne_true, lt-ltb}
 use Rattle.std.proofs.lemmas.List.{append-nil, drop_all}
 use Rattle.packet.specs.Config.{Config}
 use Rattle.packet.specs.declared.endpoint.Proto.TheVariants.{Tcp}
@@ -22,6 +22,7 @@ use Rattle.hairpin.specs.Plans.{MayBegin}
 use Rattle.durable.specs.Entering.{IsRuleset}
 use Rattle.machine.specs.Core.{IsCore}
 use Rattle.machine.specs.Flows.{Flows, IsLatest, MayJoin}
+use Rattle.machine.proofs.Lasting.{alive-last}
 use Rattle.machine.specs.Sound.{IsInForce}
 
 -- ---- a list around one of its members
@@ -142,6 +143,7 @@ resumed config text rules flows moment sessions sound external listed in_force =
     latest = λ s is. let last = last-moved moment sessions s (subst (In s) listed is) in omega (arith, last);
     in_force = in_force;
   };
+  live = λ s is. lt-ltb _ _ (alive-last moment s (last-moved moment sessions s (subst (In s) listed is)));
 }
 
 -- ---- the text

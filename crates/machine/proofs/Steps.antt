@@ -24,7 +24,7 @@ use Rattle.hairpin.specs.declared.cause.Cause.{Cause}
 use Rattle.hairpin.specs.declared.plan.Plan.{Plan}
 use Rattle.machine.specs.Core.{Core, IsCore, Leads, LeadsFew, state_of}
 use Rattle.machine.specs.Judged.{Judged}
-use Rattle.machine.specs.Machine.{State, AddsNone, act, aged, later, no_tables, on_route, pass, sent, step, with_fields}
+use Rattle.machine.specs.Machine.{State, EndsNone, AddsNone, act, aged, later, no_tables, on_route, pass, sent, step, with_fields}
 use Rattle.machine.specs.Sound.{IsSound}
 use Rattle.machine.specs.Flows.{Flows, IsLatest, adds, adds_second}
 use Rattle.machine.specs.declared.deed.Deed.{Deed}
@@ -93,4 +93,5 @@ pub started : (config : Config) (text : List ℕ) (rules : Spelled) (flows : Flo
 started config text rules flows moment external none_said none_ruled none = record {
   external = external;
   sound = subst (IsSound config) (sym (ap (λ (c : Core). c.state) (begins config text rules flows.table.held moment none_said none_ruled none))) (start-sound config moment);
+  live = subst (EndsNone moment) (sym (ap (λ (c : Core). c.state) (begins config text rules flows.table.held moment none_said none_ruled none))) (λ s held. absurd held);
 }

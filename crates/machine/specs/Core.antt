@@ -4,7 +4,7 @@ use Rattle.packet.specs.Config.{Config}
 use Rattle.rulesyntax.specs.declared.tree.Spelled.{Spelled}
 use Rattle.sessions.specs.Listing.{listing}
 use Rattle.sessions.specs.declared.session.Session.{Session}
-use Rattle.machine.specs.Machine.{State, AddsNone}
+use Rattle.machine.specs.Machine.{State, AddsNone, EndsNone}
 use Rattle.machine.specs.Sound.{IsSound}
 use Rattle.machine.specs.Flows.{Flows}
 use Rattle.machine.specs.declared.event.Answer.{Answer}
@@ -18,10 +18,11 @@ pub record Core : Type 0 where
 abbrev pub state_of : List ℕ → Spelled → List (Option Session) → ℕ → State
 state_of text rules held now = record { text = text; rules = rules; sessions = listing held; clock = now }
 
--- the flows are those of a sound state, and translate at its external address
+-- the flows are those of a sound state, all of them alive, and translate at its external address
 pub record IsCore (config : Config) (text : List ℕ) (rules : Spelled) (flows : Flows) (clock : ℕ) : Type 0 where
   pub external : flows.translations.external ≡ config.external
   pub sound : IsSound config (state_of text rules flows.table.held clock)
+  pub live : EndsNone clock (state_of text rules flows.table.held clock)
 
 -- what is done leads from the sessions that were held to those that are held, whatever the rules
 abbrev pub Leads : (State → State × Answer) → List (Option Session) → List (Option Session) → ℕ → Answer → Type 0

@@ -291,6 +291,7 @@ fn age_and_act<N: Notes>(
     requires sound { AreSound bounds.now (listing flows.old.table.held) }
     requires in_force { IsInForce bounds.now in_force.old.text in_force.old.rules }
     requires latest { IsLatest flows.old.table.held now }
+    requires live { EndsNone clock (state_of in_force.old.text in_force.old.rules flows.old.table.held clock) }
     ensures ok { IfOk result (λ answer. act bounds.now (aged now (state_of in_force.old.text in_force.old.rules flows.old.table.held clock)) deed
         ≡ (state_of in_force.new.text in_force.new.rules flows.new.table.held now, answer)) }
     ensures err { IfErr result (λ e. (e.0 ≡ bringer deed) × (flows.new.table.held ≡ flows.old.table.held)) }
@@ -309,7 +310,7 @@ fn age_and_act<N: Notes>(
     ensures quiet { let s = state_of in_force.old.text in_force.old.rules flows.old.table.held clock in
         EndsNone now s → of_deed bounds.now (aged now s) deed ≡ [] → IsOk result }
 {
-    match flows.expire(alloc, now, deed.most_bytes(), notes) {
+    match flows.expire_since(alloc, clock, now, deed.most_bytes(), notes) {
         Ok(ready) => act_on(flows, in_force, bounds, ready, deed, now, notes),
         Err(fault) => Err((deed.into_what(), fault)),
     }

@@ -1,9 +1,9 @@
 //! The sessions with their timers and mappings, which change together.
-ghost use Rattle.std.specs.Prelude.{◌≡◌, ◌≢◌, ◌↔◌, ◌+◌, ◌-◌, ◌*◌, ◌<◌, ◌≤◌, ◌++◌, ◌∷◌, [], ℕ, List, false, IsErrOf, IsTrue, Some, None, IfOk, OnOk, OnErr, IsOk, IfSome, IsSome, IsSomeAnd, length, map, slice_index};
+ghost use Rattle.std.specs.Prelude.{◌≡◌, ◌≢◌, ◌↔◌, ◌+◌, ◌-◌, ◌*◌, ◌<◌, ◌≤◌, ◌++◌, ◌∷◌, [], ℕ, List, true, false, IsErrOf, IsTrue, Some, None, IfOk, OnOk, OnErr, IsOk, IfSome, IsSome, IsSomeAnd, length, map, slice_index};
 ghost use Rattle.std.specs.List.{Contains, filter};
 ghost use Rattle.std.specs.Option.{option_map};
 ghost use Rattle.sessions.specs.Life.{IsSeen, IsTimeout, alive, timeout_of};
-ghost use Rattle.sessions.specs.Listing.{listing, put};
+ghost use Rattle.sessions.specs.Listing.{In, listing, put};
 ghost use Rattle.sessions.specs.Sound.{AreSound};
 ghost use Rattle.sessions.specs.Stilled.{moved};
 ghost use Rattle.sessions.specs.Table.{at, Updates, IsSound, seen as seen_with, restarted};
@@ -461,6 +461,40 @@ impl Flows {
         notes.reserve(slots.len(), others)?;
         self.end_all(&slots, notes);
         Ok(true)
+    }
+
+    /// As `expire`, where all sessions were alive at the second `clock`: before the clock rises none ends, and nothing
+    /// is looked at.
+    pub fn expire_since<N: Notes>(
+        &mut self,
+        alloc: Global,
+        clock: u64,
+        now: u64,
+        others: u64,
+        notes: &mut N,
+    ) -> Result<bool, StepFault>
+        requires latest { IsLatest self.old.table.held now }
+        requires live { (s : Flow) → In s (listing self.old.table.held) → alive clock s ≡ true }
+        ensures ok { OnOk result (listing self.new.table.held ≡ filter (alive now) (listing self.old.table.held)) }
+        ensures err { OnErr result (self.new.table.held ≡ self.old.table.held) }
+        ensures external { self.new.translations.external ≡ self.old.translations.external }
+        ensures ready { IfOk result (λ any. IsTrue any → IsReady 2 self.new) }
+        ensures room { IfOk result (λ any. IsTrue any → N.keeps notes.old → others ≤ N.room notes.new) }
+        ensures none { IfOk result (λ any. any ≡ false → self.new.table.held ≡ self.old.table.held) }
+        ensures keeps { N.keeps notes.old ↔ N.keeps notes.new }
+        ensures beside { N.beside notes.new ≡ N.beside notes.old }
+        ensures noted { OnOk result (N.keeps notes.old → (gone : List Flow) × AreOver now (listing self.old.table.held) gone
+            × (N.noted notes.new ≡ N.noted notes.old ++ ends gone)) }
+        ensures unchanged { IfOk result (λ any. any ≡ false → notes.new ≡ notes.old) }
+        ensures err_noted { OnErr result (N.noted notes.new ≡ N.noted notes.old) }
+        ensures full { IsErrOf result StepFault.Full → (gone : List Flow) × AreOver now (listing self.old.table.held) gone
+            × N.too_many notes.old (14 * length gone + others) }
+        ensures succeeds { ((slot : ℕ) → ¬ IsSomeAnd (at self.old.table slot) (IsDue now)) → IsOk result }
+    {
+        if now == clock {
+            return Ok(false);
+        }
+        self.expire(alloc, now, others, notes)
     }
 }
 

@@ -10,10 +10,10 @@ use Rattle.machine.proofs.Steps.{live-sound}
 use Rattle.machine.proofs.core_state.age_and_act.Goals as goal
 
 pub act_on-requires-clause-sound : goal.act_on-requires-clause-sound
-act_on-requires-clause-sound g c = live-sound c.args.bounds.now c.args.flows.now.table.held c.expire.new.self.table.held c.args.now c.in-Ok.ensures.ok c.requires.sound
+act_on-requires-clause-sound g c = live-sound c.args.bounds.now c.args.flows.now.table.held c.expire_since.new.self.table.held c.args.now c.in-Ok.ensures.ok c.requires.sound
 
 pub act_on-requires-clause-latest : goal.act_on-requires-clause-latest
-act_on-requires-clause-latest g c = latest_expired c.args.flows.now.table.held c.expire.new.self.table.held c.args.now c.in-Ok.ensures.ok c.requires.latest
+act_on-requires-clause-latest g c = latest_expired c.args.flows.now.table.held c.expire_since.new.self.table.held c.args.now c.in-Ok.ensures.ok c.requires.latest
 
 pub returns-in-Err-clause-succeeds : goal.returns-in-Err-clause-succeeds
 returns-in-Err-clause-succeeds g c = λ none few granted. c.in-Err.ensures.succeeds (none_due c.args.flows.now.table.held c.args.now none)
@@ -22,7 +22,7 @@ pub returns-in-Ok-clause-full : goal.returns-in-Ok-clause-full
 returns-in-Ok-clause-full g c =
     let sessions = listing c.args.flows.now.table.held in
     let most = most_bytes c.args.deed in
-    if_err_unready c.in-Ok.ready c.act_on.result (λ e. e.1 ≡ Full → g.N.Notes.too_many c.expire.new.notes most) _ c.act_on.ensures.ready c.act_on.ensures.full
+    if_err_unready c.in-Ok.ready c.act_on.result (λ e. e.1 ≡ Full → g.N.Notes.too_many c.expire_since.new.notes most) _ c.act_on.ensures.ready c.act_on.ensures.full
     (λ unready e said full.
     let stay : sessions ≡ filter (alive c.args.now) sessions = sym (ap listing (c.in-Ok.ensures.none unready)) ∙ c.in-Ok.ensures.ok in
     let many : most ≡ 14 * 0 + most = omega arith in

@@ -1,4 +1,5 @@
 use Rattle.std.proofs.Common.{◌∙◌, ap, refl, subst, sym}
+use Rattle.std.proofs.lemmas.Bool.{lt-ltb}
 use Rattle.machine.specs.Judged.{Judged, IsNoLoad}
 use Rattle.machine.specs.Machine.{State, EndsNone, later}
 use Rattle.machine.specs.Core.{state_of}
@@ -6,6 +7,7 @@ use Rattle.machine.specs.Noted.{AreOver}
 use Rattle.machine.specs.Sound.{IsSound}
 use Rattle.machine.specs.declared.event.Answer.{Answer}
 use Rattle.machine.proofs.Judging.{same_unread}
+use Rattle.machine.proofs.Lasting.{step-alive}
 use Rattle.machine.proofs.Stepping.{entries-of, quiet-deed, quiet-ends}
 use Rattle.machine.proofs.Steps.{few-acts, latest_later, step-is}
 use Rattle.machine.proofs.Soundness.{step-sound}
@@ -25,6 +27,7 @@ invariant_of-self g c =
     record {
       external = c.in-Ok-age_and_act.ensures.external ∙ c.self.invariant.external;
       sound = subst (IsSound own.bounds) (ap (λ (p : State × Answer). p.0) e) (step-sound own.bounds c.facts.ensures.valid old judged c.in-Ok.ensures.right c.self.invariant.sound);
+      live = subst (λ (s : State). EndsNone s.clock s) (ap (λ (p : State × Answer). p.0) e) (λ t is. lt-ltb _ _ (step-alive own.bounds c.facts.ensures.valid old judged t c.self.invariant.sound is));
     }
 
 pub returns-in-Ok-age_and_act-clause-ok : goal.returns-in-Ok-age_and_act-clause-ok
