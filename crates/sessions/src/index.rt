@@ -119,6 +119,23 @@ fn take(row: &mut Rows, name: Option<u128>)
     }
 }
 
+/// The slot of the session of this protocol, inside and remote endpoint, if it is the one that is guessed.
+pub fn guess_inside(
+    sessions: &Slab<Session>,
+    index: &Index,
+    proto: Proto,
+    inside: Endpoint,
+    remote: Endpoint,
+) -> Option<usize>
+    ensures { IfSome result (IsAt sessions.now.slots (HasInside proto inside remote)) }
+{
+    let slot = index.hints.guess(proto, inside, remote);
+    if is_inside(sessions, slot, proto, inside, remote) {
+        return Some(slot);
+    }
+    None
+}
+
 /// The slot of the session of this protocol, inside and remote endpoint.
 pub fn find_inside(
     sessions: &Slab<Session>,
@@ -131,9 +148,8 @@ pub fn find_inside(
     ensures found { IfSome result (IsAt sessions.now.slots (HasInside proto inside remote)) }
     ensures absent { IfNone result (IsNowhere sessions.now.slots (HasInside proto inside remote)) }
 {
-    let hint = index.hints.guess(proto, inside, remote);
-    if is_inside(sessions, hint, proto, inside, remote) {
-        return Some(hint);
+    if let Some(slot) = guess_inside(sessions, index, proto, inside, remote) {
+        return Some(slot);
     }
     in_either(&index.insides, &index.flows, key(proto, inside, remote))
 }
@@ -165,6 +181,23 @@ fn is_inside(
     }
 }
 
+/// The slot of the session of this protocol, outside and remote endpoint, if it is the one that is guessed.
+pub fn guess_outside(
+    sessions: &Slab<Session>,
+    index: &Index,
+    proto: Proto,
+    outside: Endpoint,
+    remote: Endpoint,
+) -> Option<usize>
+    ensures { IfSome result (IsAt sessions.now.slots (HasOutside proto outside remote)) }
+{
+    let slot = index.hints.guess(proto, outside, remote);
+    if is_outside(sessions, slot, proto, outside, remote) {
+        return Some(slot);
+    }
+    None
+}
+
 /// The slot of the session of this protocol, outside and remote endpoint.
 pub fn find_outside(
     sessions: &Slab<Session>,
@@ -177,9 +210,8 @@ pub fn find_outside(
     ensures found { IfSome result (IsAt sessions.now.slots (HasOutside proto outside remote)) }
     ensures absent { IfNone result (IsNowhere sessions.now.slots (HasOutside proto outside remote)) }
 {
-    let hint = index.hints.guess(proto, outside, remote);
-    if is_outside(sessions, hint, proto, outside, remote) {
-        return Some(hint);
+    if let Some(slot) = guess_outside(sessions, index, proto, outside, remote) {
+        return Some(slot);
     }
     // One that isn't translated is called the same on both sides.
     in_either(&index.outsides, &index.flows, key(proto, outside, remote))

@@ -7,7 +7,7 @@ ghost use Rattle.sessions.specs.Listing.{listing};
 ghost use Rattle.sessions.specs.Table.{at, count, most_sessions, Updates, HasInside, HasOutside, Clash, ClashesWith, AnyClash, IsSound, amended, seen as seen_with, restarted};
 
 use crate::hints::Hints;
-use crate::index::{Index, clashes, find_inside, find_outside};
+use crate::index::{Index, clashes, find_inside, find_outside, guess_inside, guess_outside};
 use crate::keys::has_endpoints;
 use crate::merging::merged;
 use crate::{Opener, Session};
@@ -159,6 +159,23 @@ impl Table {
         ensures absent { IfNone result ((slot : ℕ) → IfSome (at self.now slot) (λ s. ¬ HasOutside proto outside remote s)) }
     {
         let slot = find_outside(&self.sessions, &self.index, proto, outside, remote)?;
+        Some(Slot(slot))
+    }
+
+    /// The slot of the session of this protocol, inside and remote endpoint, where the first look tells it. `None`
+    /// says nothing of whether it is held. However many sessions are held, this reads two places of memory.
+    pub fn glance_inside(&self, proto: Proto, inside: Endpoint, remote: Endpoint) -> Option<Slot>
+        ensures { IfSome result (λ slot. IsSomeAnd (at self.now slot) (HasInside proto inside remote)) }
+    {
+        let slot = guess_inside(&self.sessions, &self.index, proto, inside, remote)?;
+        Some(Slot(slot))
+    }
+
+    /// As `glance_inside`, of the session of this protocol, outside and remote endpoint.
+    pub fn glance_outside(&self, proto: Proto, outside: Endpoint, remote: Endpoint) -> Option<Slot>
+        ensures { IfSome result (λ slot. IsSomeAnd (at self.now slot) (HasOutside proto outside remote)) }
+    {
+        let slot = guess_outside(&self.sessions, &self.index, proto, outside, remote)?;
         Some(Slot(slot))
     }
 
