@@ -1,5 +1,5 @@
 -- How the entries lie in places. No public clause cites this module.
-use Rattle.std.specs.Prelude.{◌≡◌, ◌≢◌, ℕ, ◌+◌, ◌*◌, ◌/◌, ◌%◌, ◌<◌, ◌≤◌, max, List, [], ◌∷◌, ◌++◌, length, Option, Some, None, IsSomeAnd, slice_index_or}
+use Rattle.std.specs.Prelude.{◌≡◌, ◌≢◌, ℕ, ◌+◌, ◌*◌, ◌/◌, ◌%◌, ◌<◌, ◌≤◌, min, List, [], ◌∷◌, ◌++◌, length, Option, Some, None, IsSomeAnd, slice_index_or}
 use Rattle.rows.specs.declared.Entry.{Entry}
 use Rattle.rows.specs.Held.{value_at}
 
@@ -19,7 +19,7 @@ spread key = key * 11400714819323198485 % 18446744073709551616 / 1099511627776
 
 -- where the bucket of a key begins, of so many places
 unfoldable pub bucket_of : ℕ → ℕ → ℕ
-bucket_of count key = spread key % max (count / 8) 1 * 8
+bucket_of count key = spread key * min (count / 8) 16777216 / 16777216 * 8
 
 -- the place belongs to the bucket of the key, of so many places
 pub record IsHome (count key place : ℕ) : Type 0 where

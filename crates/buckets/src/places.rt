@@ -14,6 +14,10 @@ use std::alloc::{AllocError, Global};
 // The places of a bucket.
 const WIDTH: usize = 8;
 
+// No vector has more buckets that are told apart: each is said by its part of a number of 24 bits, so that
+// none is said by a division by how many there are, which takes long.
+const MOST: usize = 1 << 24;
+
 // The places of a vector that is made first.
 const FEWEST: usize = 64;
 
@@ -28,7 +32,7 @@ fn bucket_of(count: usize, key: u64) -> usize
     ensures small { result < 134217728 }
 {
     let spread = (key.wrapping_mul(SPREAD) >> 40) as usize;
-    spread % (count / WIDTH).max(1) * WIDTH
+    spread * (count / WIDTH).min(MOST) / MOST * WIDTH
 }
 
 // Where the bucket of the key ends.

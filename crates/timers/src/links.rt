@@ -1,5 +1,5 @@
 //! The row of links: three queues, each a ring of places from its head on and back to it.
-ghost use Rattle.std.specs.Prelude.{◌≡◌, ◌⊎◌, ◌↔◌, ◌+◌, ◌-◌, ◌<◌, ◌≤◌, ℕ, Some, None, OnOk, IsOk, IsSome, length, slice_set};
+ghost use Rattle.std.specs.Prelude.{◌≡◌, ◌⊎◌, ◌↔◌, ◌+◌, ◌-◌, ◌<◌, ◌≤◌, ℕ, Some, None, OnOk, IsOk, IsSome, IsTrue, length, slice_set};
 ghost use Rattle.sessions.specs.Life.{IsTimeout};
 ghost use Rattle.timers.specs.Links.{head_of, timeout_in, most_places, link, next, previous, watch, tag, last as last_at, IsPut, IsRow, IsJoined, IsWatchPut, idle_in};
 
@@ -141,7 +141,8 @@ pub fn append(links: &mut Vec<Cell>, slot: Slot, idle: Idle)
     put_at_end(links, place, end, Watch { slot, last, queue });
 }
 
-/// Moves a watched slot to the end of the queue of its timeout from now on, in constant time.
+/// Moves a watched slot to the end of the queue of its timeout from now on, in constant time. Where it has this
+/// moment and timeout already it stays where it is, since no moment is later.
 pub fn renew(links: &mut Vec<Cell>, slot: Slot, idle: Idle)
     requires row { IsRow links.old.items }
     requires held { IsSome (watch links.old.items (slot + 3)) }
@@ -151,6 +152,9 @@ pub fn renew(links: &mut Vec<Cell>, slot: Slot, idle: Idle)
     ensures idle { IsPut (idle_in links.old.items) (idle_in links.new.items) slot (Some idle) }
     ensures length { length links.new.items ≡ length links.old.items }
 {
+    if stands(links, slot, idle) {
+        return;
+    }
     let queue = Queue::of(idle.timeout);
     let place = slot.number() + HEADS;
     let last = idle.last;
@@ -160,6 +164,17 @@ pub fn renew(links: &mut Vec<Cell>, slot: Slot, idle: Idle)
     }
     cut(links, slot);
     append(links, slot, idle);
+}
+
+// Whether the slot is watched with this moment and timeout already.
+fn stands(links: &[Cell], slot: Slot, idle: Idle) -> bool
+    requires { slot + 3 < length links.now }
+    ensures { IsTrue result → idle_in links.now slot ≡ Some idle }
+{
+    match links[slot.number() + HEADS].watch() {
+        Some(watch) => watch.last == idle.last && watch.queue.timeout() == idle.timeout,
+        None => false,
+    }
 }
 
 // Gives the last place of a queue another moment. It stays where it is.
