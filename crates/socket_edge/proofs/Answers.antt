@@ -11,7 +11,7 @@ use Rattle.machine.specs.Machine.{after, answers, numbered}
 use Rattle.gateway.specs.Told.{Told, TookAll}
 use Rattle.machine.proofs.Judging.{AreJudged-append, AreJudged-length}
 use Rattle.gateway.proofs.Taking.{after-append, answers-append, length-answers, numbered-append}
-use Rattle.socket_edge.specs.Answering.{frame, replies, due, AreFirst, Reached, Progress, AnsweredFirst, BeginsFrames}
+use Rattle.socket_edge.specs.Answering.{frame, replies, answers_due, AreFirst, Reached, Progress, AnsweredFirst, BeginsFrames}
 
 -- the answers to the first events, and then those to the others
 pub replies-append : (old middle : Told) (es fs : List Judged) → middle.config ≡ old.config → middle.state ≡ after old.config old.state es → middle.last ≡ old.last + length es
@@ -25,10 +25,10 @@ replies-append old middle es fs c s l =
     ap (numbered old.last) a ∙ numbered-append old.last (answers old.config old.state es) (answers middle.config middle.state fs)
     ∙ ap (λ (k : ℕ). numbered old.last (answers old.config old.state es) ++ numbered k (answers middle.config middle.state fs)) n
 
-pub due-append : (old middle : Told) (es fs : List Judged) (handed : List (ℕ × Answer)) → middle.config ≡ old.config → middle.state ≡ after old.config old.state es → middle.last ≡ old.last + length es
-    → handed ++ middle.held ≡ due old es → handed ++ due middle fs ≡ due old (es ++ fs)
-unfolding due
-due-append old middle es fs handed c s l o =
+pub answers_due-append : (old middle : Told) (es fs : List Judged) (handed : List (ℕ × Answer)) → middle.config ≡ old.config → middle.state ≡ after old.config old.state es → middle.last ≡ old.last + length es
+    → handed ++ middle.held ≡ answers_due old es → handed ++ answers_due middle fs ≡ answers_due old (es ++ fs)
+unfolding answers_due
+answers_due-append old middle es fs handed c s l o =
     sym (append_assoc handed middle.held (replies middle fs))
     ∙ ap (λ (xs : List (ℕ × Answer)). xs ++ replies middle fs) o
     ∙ append_assoc old.held (replies old es) (replies middle fs)
@@ -55,7 +55,7 @@ pub last_of : (old new : Told) (es : List Event) (a b : List ℕ) (p : Progress 
 last_of old new es a b p = omega (arith, p.last, AreJudged-length old.config es p.judged p.are_judged)
 
 pub Progress-nil : (old : Told) (before : List ℕ) → Progress old old [] before before
-unfolding due replies
+unfolding answers_due replies
 Progress-nil old before = record { judged = []; are_judged = tt; config = refl; state = refl; last = omega arith; handed = []; sent = sym (append-nil before); order = sym (append-nil old.held) }
 
 -- one after the other
@@ -69,7 +69,7 @@ Progress-then old middle new es fs a b c p q = record {
   handed = p.handed ++ q.handed;
   sent = q.sent ∙ ap (λ (zs : List ℕ). zs ++ flat_map frame q.handed) p.sent ∙ frames-append a p.handed q.handed;
   order = append_assoc p.handed q.handed new.held ∙ ap (λ (zs : List (ℕ × Answer)). p.handed ++ zs) q.order
-      ∙ due-append old middle p.judged q.judged p.handed p.config p.state (last_of old middle es a b p) p.order;
+      ∙ answers_due-append old middle p.judged q.judged p.handed p.config p.state (last_of old middle es a b p) p.order;
 }
 
 pub Reached-by : (old new : Told) (es : List Event) (a b : List ℕ) (p : Progress old new es a b) → Reached old new p.judged
@@ -85,7 +85,7 @@ Reached-then old middle new xs ys p q = record {
 
 -- the answers that were handed out are sent
 pub Progress-told : (old new : Told) (events : List Event) (out : List (ℕ × Answer)) → TookAll old new events out → Progress old new events [] (flat_map frame out)
-unfolding due replies
+unfolding answers_due replies
 Progress-told old new events out t = record { judged = t.judged; are_judged = t.are_judged; config = t.config; state = t.state; last = t.last; handed = out; sent = refl; order = t.order }
 
 pub reached-told : (old new : Told) (events : List Event) (out : List (ℕ × Answer)) (t : TookAll old new events out) → Reached old new t.judged
@@ -93,7 +93,7 @@ reached-told old new events out t = record { config = t.config; state = t.state;
 
 -- the first of the events were taken
 pub AnsweredFirst-told : (old new : Told) (events front back : List Event) (out : List (ℕ × Answer)) → events ≡ front ++ back → TookAll old new front out → AnsweredFirst old new events (flat_map frame out)
-unfolding due replies
+unfolding answers_due replies
 AnsweredFirst-told old new events front back out split t = record {
   judged = t.judged;
   are_first = record { front = front; back = back; split = split; are_judged = t.are_judged };
@@ -106,7 +106,7 @@ AnsweredFirst-told old new events front back out split t = record {
 -- and a beginning of the frames was sent
 pub BeginsFrames-told : (old new : Told) (events front back : List Event) (out : List (ℕ × Answer)) (sent lost : List ℕ) → events ≡ front ++ back → TookAll old new front out
     → sent ++ lost ≡ flat_map frame out → BeginsFrames old new events sent
-unfolding due replies
+unfolding answers_due replies
 BeginsFrames-told old new events front back out sent lost split t begins = record {
   judged = t.judged;
   are_first = record { front = front; back = back; split = split; are_judged = t.are_judged };
@@ -117,7 +117,7 @@ BeginsFrames-told old new events front back out sent lost split t begins = recor
 }
 
 pub AnsweredFirst-nothing : (old : Told) (events : List Event) → AnsweredFirst old old events []
-unfolding due replies
+unfolding answers_due replies
 AnsweredFirst-nothing old events = record { judged = []; are_first = first-none old.config events; reached = record { config = refl; state = refl; last = omega arith }; handed = []; sent_are = refl; order = sym (append-nil old.held) }
 
 -- behind events that were all taken
@@ -129,12 +129,12 @@ AnsweredFirst-then old middle new es fs w sent p q = record {
   handed = p.handed ++ q.handed;
   sent_are = ap (λ (x : List ℕ). w ++ x) q.sent_are ∙ ap (λ (x : List ℕ). x ++ flat_map frame q.handed) p.sent ∙ sym (flat_map-append frame p.handed q.handed);
   order = append_assoc p.handed q.handed new.held ∙ ap (λ (zs : List (ℕ × Answer)). p.handed ++ zs) q.order
-      ∙ due-append old middle p.judged q.judged p.handed p.config p.state (last_of old middle es [] w p) p.order;
+      ∙ answers_due-append old middle p.judged q.judged p.handed p.config p.state (last_of old middle es [] w p) p.order;
 }
 
 -- everything that stands out was handed out
 pub all_sent : (old new : Told) (events : List Event) (out : List ℕ) (p : Progress old new events [] out) → (old.held ≡ [] → new.held ≡ []) → old.held ≡ [] → out ≡ flat_map frame (replies old p.judged)
-unfolding due
+unfolding answers_due
 all_sent old new events out p none h =
     let e : p.handed ≡ replies old p.judged = sym (append-nil p.handed) ∙ ap (λ (xs : List (ℕ × Answer)). p.handed ++ xs) (sym (none h)) ∙ p.order ∙ ap (λ (xs : List (ℕ × Answer)). xs ++ replies old p.judged) h in
     p.sent ∙ ap (flat_map frame) e

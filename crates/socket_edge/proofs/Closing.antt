@@ -15,10 +15,10 @@ use Rattle.socket_edge.specs.declared.fault.HeaderFault.{HeaderFault}
 use Rattle.socket_edge.specs.declared.fault.HeaderFault.TheVariants as header
 use Rattle.socket_edge.specs.declared.fault.EdgeFault.{EdgeFault}
 use Rattle.socket_edge.specs.declared.fault.EdgeFault.TheVariants.{BadKind, BadInterface, TooLong, Truncated, Input, Output, Gateway}
-use Rattle.socket_edge.specs.declared.serving.Stop.{Stop}
-use Rattle.socket_edge.specs.declared.serving.Stop.TheVariants as stop
+use Rattle.socket_edge.specs.declared.serving.Halt.{Halt}
+use Rattle.socket_edge.specs.declared.serving.Halt.TheVariants as halt
 use Rattle.socket_edge.specs.Requests.{Cut, Bad, next}
-use Rattle.socket_edge.specs.Framing.{Framed, Rest, Fault, behind, framed}
+use Rattle.socket_edge.specs.Framing.{Framed, Rest, Fault, behind, whole_frames}
 use Rattle.socket_edge.specs.Answering.{frame, Progress, AnsweredFirst}
 use Rattle.socket_edge.specs.Running.{Answered, Closed, Fares, IsBad, IsRefused, Offered, Reads, Served, SettledAndSent, end_of, events_in}
 use Rattle.socket_edge.proofs.Frames.{framed_cut, framed_bad, Reads-is}
@@ -26,15 +26,15 @@ use Rattle.socket_edge.proofs.Answers.{AnsweredFirst-told, BeginsFrames-told, Pr
 use Rattle.socket_edge.proofs.Lasting.{fares}
 
 -- what the bytes are, where no whole frame is left
-pub framed_then_cut : (bytes rest : List ℕ) (events : List Event) → Reads bytes events rest → next rest ≡ Cut → framed bytes ≡ record { events = events; stop = Rest rest }
-framed_then_cut bytes rest events r e = Reads-is bytes events rest r ∙ ap (behind events) (framed_cut rest e) ∙ ap (λ (xs : List Event). record { events = xs; stop = Rest rest }) (append-nil events)
+pub framed_then_cut : (bytes rest : List ℕ) (events : List Event) → Reads bytes events rest → next rest ≡ Cut → whole_frames bytes ≡ record { events = events; remainder = Rest rest }
+framed_then_cut bytes rest events r e = Reads-is bytes events rest r ∙ ap (behind events) (framed_cut rest e) ∙ ap (λ (xs : List Event). record { events = xs; remainder = Rest rest }) (append-nil events)
 
-pub framed_then_bad : (bytes rest : List ℕ) (events : List Event) (fault : HeaderFault) → Reads bytes events rest → next rest ≡ Bad fault → framed bytes ≡ record { events = events; stop = Fault fault }
-framed_then_bad bytes rest events fault r e = Reads-is bytes events rest r ∙ ap (behind events) (framed_bad rest fault e) ∙ ap (λ (xs : List Event). record { events = xs; stop = Fault fault }) (append-nil events)
+pub framed_then_bad : (bytes rest : List ℕ) (events : List Event) (fault : HeaderFault) → Reads bytes events rest → next rest ≡ Bad fault → whole_frames bytes ≡ record { events = events; remainder = Fault fault }
+framed_then_bad bytes rest events fault r e = Reads-is bytes events rest r ∙ ap (behind events) (framed_bad rest fault e) ∙ ap (λ (xs : List Event). record { events = xs; remainder = Fault fault }) (append-nil events)
 
 -- the events were taken and answered
-pub Answered-of : (old new : Told) (bytes sent : List ℕ) → Progress old new (framed bytes).events [] sent → (old.held ≡ [] → new.held ≡ []) → Answered old new bytes sent
-Answered-of old new bytes sent p none = record { progress = p; none = none; all = all_sent old new (framed bytes).events sent p none }
+pub Answered-of : (old new : Told) (bytes sent : List ℕ) → Progress old new (whole_frames bytes).events [] sent → (old.held ≡ [] → new.held ≡ []) → Answered old new bytes sent
+Answered-of old new bytes sent p none = record { progress = p; none = none; all = all_sent old new (whole_frames bytes).events sent p none }
 
 -- the events of the bytes are those of a front, and those behind it
 pub events_then : (bytes later : List ℕ) (events : List Event) → Reads bytes events later → events_in bytes ≡ events ++ events_in later
@@ -82,17 +82,17 @@ module _ {D : Type 0} (honest : D → Type 0) (moment : D → ℕ) (left : D →
   }
 
   -- what is held is handed out
-  pub closes : (s : Stop) (mid now : Kept D) (bytes rest : List ℕ) (count : ℕ) (b c : List (ℕ × Answer)) → Up start [] [] → Offered honest moment left failed s bytes rest count start mid [] b
+  pub closes : (s : Halt) (mid now : Kept D) (bytes rest : List ℕ) (count : ℕ) (b c : List (ℕ × Answer)) → Up start [] [] → Offered honest moment left failed s bytes rest count start mid [] b
       → CarriesOn honest moment left failed mid now [] b c → mid.fallen ≡ false → now.told.held ≡ [] → now.generation ≡ mid.generation → Closed honest moment left failed (end_of s) bytes rest count start now c
-  closes stop.Cut mid now bytes rest count b c begun o on up none same =
+  closes halt.Cut mid now bytes rest count b c begun o on up none same =
       (o.0, o.1, o.2, o.3, record { stands = carry mid now o.0 b c on (o.4 start [] begun); none = none })
-  closes (stop.Bad header.BadKind) mid now bytes rest count b c begun o on up none same =
+  closes (halt.Bad header.BadKind) mid now bytes rest count b c begun o on up none same =
       record { events = o.0; reads = o.1; bad = o.2; settled = record { stands = carry mid now o.0 b c on (o.3 start [] begun); none = none } }
-  closes (stop.Bad header.BadInterface) mid now bytes rest count b c begun o on up none same =
+  closes (halt.Bad header.BadInterface) mid now bytes rest count b c begun o on up none same =
       record { events = o.0; reads = o.1; bad = o.2; settled = record { stands = carry mid now o.0 b c on (o.3 start [] begun); none = none } }
-  closes (stop.Bad header.TooLong) mid now bytes rest count b c begun o on up none same =
+  closes (halt.Bad header.TooLong) mid now bytes rest count b c begun o on up none same =
       record { events = o.0; reads = o.1; bad = o.2; settled = record { stands = carry mid now o.0 b c on (o.3 start [] begun); none = none } }
-  closes (stop.Refused why) mid now bytes rest count b c begun o on up none same =
+  closes (halt.Refused why) mid now bytes rest count b c begun o on up none same =
       let off = o.3 start [] begun in
       let stops = off.3 in
       let other = no-device mid off.0 b why stops up in
@@ -121,22 +121,22 @@ module _ {D : Type 0} (honest : D → Type 0) (moment : D → ℕ) (left : D →
       }
 
   -- handing out has failed
-  pub fails : (s : Stop) (mid now : Kept D) (bytes rest : List ℕ) (count : ℕ) (b c : List (ℕ × Answer)) (why : GatewayFault) → Up start [] [] → Offered honest moment left failed s bytes rest count start mid [] b
+  pub fails : (s : Halt) (mid now : Kept D) (bytes rest : List ℕ) (count : ℕ) (b c : List (ℕ × Answer)) (why : GatewayFault) → Up start [] [] → Offered honest moment left failed s bytes rest count start mid [] b
       → BreaksOff honest moment left failed mid now [] b c why → mid.fallen ≡ false → why ≡ fault.Device → IsRefused honest moment left failed why bytes start now c
-  fails stop.Cut mid now bytes rest count b c why begun o breaks up device =
+  fails halt.Cut mid now bytes rest count b c why begun o breaks up device =
       fails-behind mid now bytes rest o.0 [] o.0 b c why (all_of o.0 o.0 refl) (events_then bytes rest o.0 o.1) (o.4 start [] begun) breaks device
-  fails (stop.Bad h) mid now bytes rest count b c why begun o breaks up device =
+  fails (halt.Bad h) mid now bytes rest count b c why begun o breaks up device =
       fails-behind mid now bytes rest o.0 [] o.0 b c why (all_of o.0 o.0 refl) (events_then bytes rest o.0 o.1) (o.3 start [] begun) breaks device
-  fails (stop.Refused first) mid now bytes rest count b c why begun o breaks up device =
+  fails (halt.Refused first) mid now bytes rest count b c why begun o breaks up device =
       let off = o.3 start [] begun in
       fails-behind mid now bytes o.1 o.0 off.1 off.0 b c why off.2 (events_then bytes o.1 o.0 o.2) (off.3.stays (no-device mid off.0 b first off.3 up)) breaks device
 
   -- a call of the disk has failed before
-  pub fallen : (s : Stop) (mid : Kept D) (bytes rest : List ℕ) (count : ℕ) (b : List (ℕ × Answer)) → Up start [] [] → Offered honest moment left failed s bytes rest count start mid [] b
+  pub fallen : (s : Halt) (mid : Kept D) (bytes rest : List ℕ) (count : ℕ) (b : List (ℕ × Answer)) → Up start [] [] → Offered honest moment left failed s bytes rest count start mid [] b
       → mid.fallen ≡ true → Closed honest moment left failed (end_of s) bytes rest count start mid b
-  fallen stop.Cut mid bytes rest count b begun o down = absurd (true-false mid.fallen down (o.4 start [] begun).stands)
-  fallen (stop.Bad h) mid bytes rest count b begun o down = absurd (true-false mid.fallen down (o.3 start [] begun).stands)
-  fallen (stop.Refused why) mid bytes rest count b begun o down =
+  fallen halt.Cut mid bytes rest count b begun o down = absurd (true-false mid.fallen down (o.4 start [] begun).stands)
+  fallen (halt.Bad h) mid bytes rest count b begun o down = absurd (true-false mid.fallen down (o.3 start [] begun).stands)
+  fallen (halt.Refused why) mid bytes rest count b begun o down =
       let off = o.3 start [] begun in
       record {
         front = off.0;
@@ -160,10 +160,10 @@ module _ {D : Type 0} (honest : D → Type 0) (moment : D → ℕ) (left : D →
   )
 
   bad-answered : (h : HeaderFault) (now : Kept D) (bytes rest : List ℕ) (out : List (ℕ × Answer)) → IsBad honest moment left failed h bytes rest start now out
-      → ((framed bytes).stop ≡ Fault h) × Answered start.told now.told bytes (flat_map frame out)
+      → ((whole_frames bytes).remainder ≡ Fault h) × Answered start.told now.told bytes (flat_map frame out)
   bad-answered h now bytes rest out k =
       let f = framed_then_bad bytes rest k.events h k.reads k.bad in (
-        ap (λ (x : Framed). x.stop) f,
+        ap (λ (x : Framed). x.remainder) f,
         Answered-of start.told now.told bytes (flat_map frame out)
             (subst (λ (x : Framed). Progress start.told now.told x.events [] (flat_map frame out)) (sym f) (Progress-told start.told now.told k.events out k.settled.stands.ran.took)) (λ _. k.settled.none),
       )

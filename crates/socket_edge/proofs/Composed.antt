@@ -18,8 +18,8 @@ use Rattle.socket_edge.specs.declared.request.Kind.TheVariants as kind
 use Rattle.socket_edge.specs.declared.request.Head.{Head}
 use Rattle.socket_edge.specs.declared.request.Head.TheVariants as head
 use Rattle.socket_edge.specs.Requests.{Whole, Cut, Bad, announced, longest, head_with, head_of, what_of, next}
-use Rattle.socket_edge.specs.Framing.{Stop, Rest, Fault, Framed, behind, framed}
-use Rattle.socket_edge.specs.Streams.{kind_of, interface_of, body_of, longest_body, header, request, Fits, IsNoFrame, header_fault, IsFaulty, Ending, IsStream}
+use Rattle.socket_edge.specs.Framing.{Remainder, Rest, Fault, Framed, behind, whole_frames}
+use Rattle.socket_edge.specs.Streams.{kind_of, interface_of, request_body, longest_body, header, request, Fits, IsNoFrame, header_fault, IsFaulty, Ending, IsStream}
 use Rattle.socket_edge.proofs.Fronts.{head_stays}
 use Rattle.socket_edge.proofs.Frames.{framed_whole, framed_cut, framed_bad}
 
@@ -62,7 +62,7 @@ announced_for (what.Packet Wan packet) = refl
 announced_for (what.Load text) = refl
 announced_for what.Moment = refl
 
-what_for : (w : What) → what_of (kind_for w) (body_of w) ≡ w
+what_for : (w : What) → what_of (kind_for w) (request_body w) ≡ w
 what_for (what.Packet iface packet) = refl
 what_for (what.Load text) = refl
 what_for what.Moment = refl
@@ -81,10 +81,10 @@ longest_small what.Moment = omega arith
 pub request_reads : (event : Event) (more : List ℕ) → Fits event → next (request event ++ more) ≡ Whole event more
 request_reads event more f =
     let w = event.what in
-    let h = header (kind_of w) (interface_of w) (length (body_of w)) event.moment in
-    let l : length (body_of w) ≤ longest (kind_for w) = rw (longest_for w) f.body in
-    let r = frame_reads (kind_of w) (interface_of w) event.moment (kind_for w) (body_of w) more (announced_for w) l (omega (arith, f.body, longest_small w)) f.moment in
-    ap next (append_assoc h (body_of w) more) ∙ r ∙ ap (λ (x : What). Whole (record { moment = event.moment; what = x }) more) (what_for w)
+    let h = header (kind_of w) (interface_of w) (length (request_body w)) event.moment in
+    let l : length (request_body w) ≤ longest (kind_for w) = rw (longest_for w) f.body in
+    let r = frame_reads (kind_of w) (interface_of w) event.moment (kind_for w) (request_body w) more (announced_for w) l (omega (arith, f.body, longest_small w)) f.moment in
+    ap next (append_assoc h (request_body w) more) ∙ r ∙ ap (λ (x : What). Whole (record { moment = event.moment; what = x }) more) (what_for w)
 
 short_cut : (rest : List ℕ) → length rest < 14 → next rest ≡ Cut
 unfolding next head_of
@@ -107,12 +107,12 @@ no_frame_cut rest (inl h) = short_cut rest h
 no_frame_cut rest (inr p) =
     let event = p.0 in
     let w = event.what in
-    let l : length (body_of w) ≤ longest (kind_for w) = rw (longest_for w) p.2.body in
+    let l : length (request_body w) ≤ longest (kind_for w) = rw (longest_for w) p.2.body in
     by_length (ltb (length rest) 14) refl l
   where
-    by_length : (b : Bool) → ltb (length rest) 14 ≡ b → length (body_of p.0.what) ≤ longest (kind_for p.0.what) → next rest ≡ Cut
+    by_length : (b : Bool) → ltb (length rest) 14 ≡ b → length (request_body p.0.what) ≤ longest (kind_for p.0.what) → next rest ≡ Cut
     by_length true t l = short_cut rest (ltb-true _ _ t)
-    by_length false t l = lacking_cut (kind_of p.0.what) (interface_of p.0.what) p.0.moment (kind_for p.0.what) (body_of p.0.what) rest p.1 (announced_for p.0.what) l (omega (arith, p.2.body, longest_small p.0.what)) p.2.moment p.3 p.4 (ltb-false _ _ t)
+    by_length false t l = lacking_cut (kind_of p.0.what) (interface_of p.0.what) p.0.moment (kind_for p.0.what) (request_body p.0.what) rest p.1 (announced_for p.0.what) l (omega (arith, p.2.body, longest_small p.0.what)) p.2.moment p.3 p.4 (ltb-false _ _ t)
 
 -- the length is the last test
 too_long : (t : Bool) (fault : HeaderFault) (h : Head) → cond t (Some TooLong) None ≡ Some fault → cond t (head.Bad TooLong) h ≡ head.Bad fault
@@ -141,16 +141,16 @@ faulty_bad fault bytes f =
     let h : head_of bytes ≡ head.Bad fault = ap head_of f.bytes_are ∙ head_reads f.kind f.iface f.len f.moment f.more f.fits ∙ fault_is f.kind f.iface f.len (big_number 8 (big_bytes 8 f.moment ++ f.more)) fault f.faulty in
     rw h refl
 
-ending_reads : (tail : List ℕ) (stop : Stop) → Ending tail stop → framed tail ≡ record { events = []; stop = stop }
-ending_reads tail (Rest rest) e = ap framed e.0 ∙ framed_cut rest (no_frame_cut rest e.1)
+ending_reads : (tail : List ℕ) (left : Remainder) → Ending tail left → whole_frames tail ≡ record { events = []; remainder = left }
+ending_reads tail (Rest rest) e = ap whole_frames e.0 ∙ framed_cut rest (no_frame_cut rest e.1)
 ending_reads tail (Fault fault) e = framed_bad tail fault (faulty_bad fault tail e)
 
 -- the frames of any events, and then an end
-composed_reads : (events : List Event) (tail : List ℕ) (stop : Stop) → AllByRecursion Fits events → Ending tail stop → framed (flat_map request events ++ tail) ≡ record { events = events; stop = stop }
-composed_reads [] tail stop fit e = ending_reads tail stop e
-composed_reads (event ∷ events) tail stop fit e =
+composed_reads : (events : List Event) (tail : List ℕ) (left : Remainder) → AllByRecursion Fits events → Ending tail left → whole_frames (flat_map request events ++ tail) ≡ record { events = events; remainder = left }
+composed_reads [] tail left fit e = ending_reads tail left e
+composed_reads (event ∷ events) tail left fit e =
     let assoc : flat_map request (event ∷ events) ++ tail ≡ request event ++ (flat_map request events ++ tail) = ap (λ (x : List ℕ). x ++ tail) (flat_map-cons request event events) ∙ append_assoc (request event) (flat_map request events) tail in
-    ap framed assoc ∙ framed_whole _ event (flat_map request events ++ tail) (request_reads event (flat_map request events ++ tail) fit.0) ∙ ap (behind (event ∷ [])) (composed_reads events tail stop fit.1 e)
+    ap whole_frames assoc ∙ framed_whole _ event (flat_map request events ++ tail) (request_reads event (flat_map request events ++ tail) fit.0) ∙ ap (behind (event ∷ [])) (composed_reads events tail left fit.1 e)
 
-pub stream_reads : (bytes : List ℕ) (f : Framed) → IsStream bytes f → framed bytes ≡ f
-stream_reads bytes f s = ap framed s.bytes_are ∙ composed_reads f.events s.tail f.stop s.fit s.ending
+pub stream_reads : (bytes : List ℕ) (f : Framed) → IsStream bytes f → whole_frames bytes ≡ f
+stream_reads bytes f s = ap whole_frames s.bytes_are ∙ composed_reads f.events s.tail f.remainder s.fit s.ending

@@ -20,8 +20,8 @@ use Rattle.socket_edge.specs.declared.request.Head.{Head}
 use Rattle.socket_edge.specs.declared.request.Head.TheVariants as head
 use Rattle.socket_edge.specs.Answering.{iface_byte}
 use Rattle.socket_edge.specs.Requests.{Next, Whole, Cut, Bad, announced, longest, head_with, head_of, what_of, with_body, next}
-use Rattle.socket_edge.specs.Framing.{Framed, framed}
-use Rattle.socket_edge.specs.Streams.{AreBytes, kind_of, interface_of, body_of, longest_body, header, request, Fits, IsNoFrame, header_fault, IsFaulty, IsStream}
+use Rattle.socket_edge.specs.Framing.{Framed, whole_frames}
+use Rattle.socket_edge.specs.Streams.{AreBytes, kind_of, interface_of, request_body, longest_body, header, request, Fits, IsNoFrame, header_fault, IsFaulty, IsStream}
 use Rattle.socket_edge.proofs.Frames.{framed_whole, framed_cut, framed_bad}
 use Rattle.socket_edge.proofs.Fronts.{head_stays, next_shorter}
 
@@ -142,7 +142,7 @@ good_with (Ok t) k i len moment kd len' moment' a e = tested (ltb (longest t) le
 event_of : ℕ → Kind → List ℕ → Event
 event_of moment kd body = record { moment = moment; what = what_of kd body }
 
-body_is : (kd : Kind) (body : List ℕ) → length body ≤ longest kd → body_of (what_of kd body) ≡ body
+body_is : (kd : Kind) (body : List ℕ) → length body ≤ longest kd → request_body (what_of kd body) ≡ body
 body_is (kind.Packet iface) body l = refl
 body_is kind.Load body l = refl
 body_is kind.Moment [] l = refl
@@ -309,7 +309,7 @@ bad_was : (bytes : List ℕ) (fault : HeaderFault) → AreBytes bytes → next b
 unfolding next
 bad_was bytes fault h w = faulty_was bytes fault h (bad_with (head_of bytes) bytes fault w)
 
-stream_of : (n : ℕ) (bytes : List ℕ) (front : Next) → length bytes ≤ n → AreBytes bytes → next bytes ≡ front → IsStream bytes (framed bytes)
+stream_of : (n : ℕ) (bytes : List ℕ) (front : Next) → length bytes ≤ n → AreBytes bytes → next bytes ≡ front → IsStream bytes (whole_frames bytes)
 stream_of n bytes Cut l h e =
     subst (λ (f : Framed). IsStream bytes f) (sym (framed_cut bytes e)) (record { fit = tt; tail = bytes; bytes_are = refl; ending = (refl, cut_was bytes h e) })
 stream_of n bytes (Bad fault) l h e =
@@ -320,11 +320,11 @@ stream_of (suc n) bytes (Whole event rest) l h e =
     let r : AreBytes rest = subst (λ (x : List ℕ). AreBytes x) (ap (drop (length (request event))) p.0 ∙ drop-append_seam (request event) rest) (drop_bytes (length (request event)) bytes h) in
     let short : length rest ≤ n = omega (arith, next_shorter bytes event rest e, l) in
     let s = stream_of n rest (next rest) short r refl in
-    let all : bytes ≡ flat_map request (event ∷ (framed rest).events) ++ s.tail =
-    p.0 ∙ ap (λ (x : List ℕ). request event ++ x) s.bytes_are ∙ sym (append_assoc (request event) (flat_map request (framed rest).events) s.tail)
-    ∙ ap (λ (x : List ℕ). x ++ s.tail) (sym (flat_map-cons request event (framed rest).events)) in
+    let all : bytes ≡ flat_map request (event ∷ (whole_frames rest).events) ++ s.tail =
+    p.0 ∙ ap (λ (x : List ℕ). request event ++ x) s.bytes_are ∙ sym (append_assoc (request event) (flat_map request (whole_frames rest).events) s.tail)
+    ∙ ap (λ (x : List ℕ). x ++ s.tail) (sym (flat_map-cons request event (whole_frames rest).events)) in
     subst (λ (f : Framed). IsStream bytes f) (sym (framed_whole bytes event rest e)) (record { fit = (p.1, s.fit); tail = s.tail; bytes_are = all; ending = s.ending })
 
 -- bytes are a stream of what they read as
-pub bytes_stream : (bytes : List ℕ) (f : Framed) → AreBytes bytes → framed bytes ≡ f → IsStream bytes f
+pub bytes_stream : (bytes : List ℕ) (f : Framed) → AreBytes bytes → whole_frames bytes ≡ f → IsStream bytes f
 bytes_stream bytes f h e = subst (λ (x : Framed). IsStream bytes x) e (stream_of (length bytes) bytes (next bytes) (omega arith) h refl)

@@ -19,7 +19,7 @@ use Rattle.gateway.specs.Running.{Ends}
 use Rattle.gateway.specs.Told.{Told, TookAll}
 use Rattle.gateway.proofs.Runs.{safe-less}
 use Rattle.gateway.proofs.Taking.{after-append, length-answers}
-use Rattle.socket_edge.specs.Answering.{frame, replies, due, Progress}
+use Rattle.socket_edge.specs.Answering.{frame, replies, answers_due, Progress}
 use Rattle.socket_edge.specs.Running.{Fares}
 use Rattle.socket_edge.proofs.Answers.{Reached-by, Reached-then, all_sent, last_of, reached-told, replies-append}
 
@@ -79,13 +79,13 @@ unfolding replies
 replies-length old judged = length-numbered old.last (answers old.config old.state judged) ∙ length-answers old.config old.state judged
 
 -- what stands out is the answers, where nothing was held
-due-replies : (old : Told) (judged : List Judged) → old.held ≡ [] → due old judged ≡ replies old judged
-unfolding due
-due-replies old judged none = ap (λ (xs : List (ℕ × Answer)). xs ++ replies old judged) none
+answers_due-replies : (old : Told) (judged : List Judged) → old.held ≡ [] → answers_due old judged ≡ replies old judged
+unfolding answers_due
+answers_due-replies old judged none = ap (λ (xs : List (ℕ × Answer)). xs ++ replies old judged) none
 
-due-is : (old new : Told) (events : List Event) (out : List (ℕ × Answer)) (t : TookAll old new events out) → out ++ new.held ≡ due old t.judged
-unfolding due replies
-due-is old new events out t = t.order
+answers_due-is : (old new : Told) (events : List Event) (out : List (ℕ × Answer)) (t : TookAll old new events out) → out ++ new.held ≡ answers_due old t.judged
+unfolding answers_due replies
+answers_due-is old new events out t = t.order
 
 module _ {D : Type 0} (honest : D → Type 0) (moment : D → ℕ) (left : D → ℕ → Files → Type 0) (failed : D → ℕ) where
   -- the first of the events were taken, and a beginning of the frames of what was handed out was sent
@@ -98,7 +98,7 @@ module _ {D : Type 0} (honest : D → Type 0) (moment : D → ℕ) (left : D →
         configured = λ h stood. e.ran.configured h;
         none = λ held stands. none stands;
         outlives = λ ready.
-            let answered : out ++ now.told.held ≡ replies start.told t.judged = due-is start.told now.told front out t ∙ due-replies start.told t.judged ready.none in
+            let answered : out ++ now.told.held ≡ replies start.told t.judged = answers_due-is start.told now.told front out t ∙ answers_due-replies start.told t.judged ready.none in
             record {
               front = front;
               back = back;

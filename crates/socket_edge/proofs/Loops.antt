@@ -7,8 +7,8 @@ use Rattle.machine.specs.declared.event.Event.{Event}
 use Rattle.gateway.specs.Kept.{Kept}
 use Rattle.gateway.specs.Running.{CarriesOn}
 use Rattle.gateway.proofs.Runs.{breaks-then, carries-none, carries-then}
-use Rattle.socket_edge.specs.declared.serving.Stop.{Stop}
-use Rattle.socket_edge.specs.declared.serving.Stop.TheVariants as stop
+use Rattle.socket_edge.specs.declared.serving.Halt.{Halt}
+use Rattle.socket_edge.specs.declared.serving.Halt.TheVariants as halt
 use Rattle.socket_edge.specs.declared.serving.Step.TheVariants as step
 use Rattle.socket_edge.specs.Requests.{Whole, next}
 use Rattle.socket_edge.specs.Running.{Reads, Stepped, Offered}
@@ -55,15 +55,15 @@ module _ {D : Type 0} (honest : D → Type 0) (moment : D → ℕ) (left : D →
       subst (λ (es : List Event). CarriesOn honest moment left failed old new es a c) (append-nil events) (carries-then honest moment left failed old now new events [] a b c first then)
 
   -- the loop's end
-  pub SoFar-ends : (old now new : Kept D) (bytes : List ℕ) (at count : ℕ) (a b c : List (ℕ × Answer)) (s : Stop) → SoFar old now bytes at count a b
+  pub SoFar-ends : (old now new : Kept D) (bytes : List ℕ) (at count : ℕ) (a b c : List (ℕ × Answer)) (s : Halt) → SoFar old now bytes at count a b
       → Stepped honest moment left failed (step.Ends s) (take (length bytes - at) (drop at bytes)) now new b c → Offered honest moment left failed s bytes (drop at bytes) count old new a c
-  SoFar-ends old now new bytes at count a b c stop.Cut s t =
+  SoFar-ends old now new bytes at count a b c halt.Cut s t =
       let r = rest_whole at bytes in
       (s.events, s.reads, ap next (sym r) ∙ t.0, s.count_is, carries-still old now new s.events a b c s.carries t.1)
-  SoFar-ends old now new bytes at count a b c (stop.Bad fault) s t =
+  SoFar-ends old now new bytes at count a b c (halt.Bad fault) s t =
       let r = rest_whole at bytes in
       (s.events, s.reads, ap next (sym r) ∙ t.0, carries-still old now new s.events a b c s.carries t.1)
-  SoFar-ends old now new bytes at count a b c (stop.Refused fault) s t =
+  SoFar-ends old now new bytes at count a b c (halt.Refused fault) s t =
       let r = rest_whole at bytes in
       let reads : Reads (drop at bytes) t.0 t.1 = subst (λ (x : List ℕ). Reads x t.0 t.1) r t.2 in
       (s.events ++ t.0, t.1, Reads-then bytes (drop at bytes) t.1 s.events t.0 s.reads reads, breaks-then honest moment left failed old now new s.events t.0 a b c fault s.carries t.3)

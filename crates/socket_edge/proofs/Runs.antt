@@ -16,16 +16,16 @@ use Rattle.gateway.proofs.Runs.{safe-less, true-false}
 use Rattle.socket_edge.specs.declared.fault.EdgeFault.{EdgeFault}
 use Rattle.socket_edge.specs.declared.fault.EdgeFault.TheVariants.{BadKind, BadInterface, TooLong, Truncated, Input, Output, Gateway}
 use Rattle.socket_edge.specs.Requests.{Cut, next}
-use Rattle.socket_edge.specs.Framing.{Framed, Stop, Rest, behind, framed}
-use Rattle.socket_edge.specs.Answering.{frame, due, AreFirst, Progress, AnsweredFirst, BeginsFrames}
+use Rattle.socket_edge.specs.Framing.{Framed, Remainder, Rest, behind, whole_frames}
+use Rattle.socket_edge.specs.Answering.{frame, answers_due, AreFirst, Progress, AnsweredFirst, BeginsFrames}
 use Rattle.socket_edge.specs.Running.{Answered, Ends, Done, Explains, Fares, Reads, Served, events_in}
 use Rattle.socket_edge.proofs.Frames.{next_nil, Reads-nil, Reads-more, Reads-then}
-use Rattle.socket_edge.proofs.Answers.{AnsweredFirst-then, Progress-nil, Progress-then, Reached-by, Reached-then, due-append, first-then, last_of}
+use Rattle.socket_edge.proofs.Answers.{AnsweredFirst-then, Progress-nil, Progress-then, Reached-by, Reached-then, answers_due-append, first-then, last_of}
 use Rattle.socket_edge.proofs.Lasting.{any-then, configured-then, fares-then}
 use Rattle.socket_edge.proofs.Closing.{events_cut, framed_then_cut, Answered-of}
 
 -- the events of the bytes that came before, and of those that come
-pub framed_more : (given pending got : List ℕ) (events : List Event) → Reads given events pending → framed (given ++ got) ≡ behind events (framed (pending ++ got))
+pub framed_more : (given pending got : List ℕ) (events : List Event) → Reads given events pending → whole_frames (given ++ got) ≡ behind events (whole_frames (pending ++ got))
 framed_more given pending got events r = r.goes got
 
 -- behind what was sent before
@@ -49,23 +49,23 @@ answered_then : (a b c : Told) (given pending got w sent : List ℕ) (n : ℕ) �
 answered_then a b c given pending got w sent n p q =
     Answered-of a c (given ++ got) (w ++ sent)
     (subst (λ (f : Framed). Progress a c f.events [] (w ++ sent)) (sym (framed_more given pending got p.events p.reads))
-    (Progress-then a b c p.events (framed (pending ++ got)).events [] w (w ++ sent) p.progress (Progress-shift b c (framed (pending ++ got)).events w sent q.progress)))
+    (Progress-then a b c p.events (whole_frames (pending ++ got)).events [] w (w ++ sent) p.progress (Progress-shift b c (whole_frames (pending ++ got)).events w sent q.progress)))
     (λ h. q.none (p.none h))
 
-stop_then : (a b : Told) (given pending got w : List ℕ) (n : ℕ) (s : Stop) → Served a b given pending w n → (framed (pending ++ got)).stop ≡ s → (framed (given ++ got)).stop ≡ s
-stop_then a b given pending got w n s p e = ap (λ (f : Framed). f.stop) (framed_more given pending got p.events p.reads) ∙ e
+stop_then : (a b : Told) (given pending got w : List ℕ) (n : ℕ) (s : Remainder) → Served a b given pending w n → (whole_frames (pending ++ got)).remainder ≡ s → (whole_frames (given ++ got)).remainder ≡ s
+stop_then a b given pending got w n s p e = ap (λ (f : Framed). f.remainder) (framed_more given pending got p.events p.reads) ∙ e
 
 begins_then : (a b c : Told) (es fs : List Event) (w sent : List ℕ) → Progress a b es [] w → BeginsFrames b c fs sent → BeginsFrames a c (es ++ fs) (w ++ sent)
 begins_then a b c es fs w sent p q =
     let behind_it : List ℕ = q.lost ++ flat_map frame c.held in
-    let d : due a (p.judged ++ q.judged) ≡ p.handed ++ due b q.judged = sym (due-append a b p.judged q.judged p.handed p.config p.state (last_of a b es [] w p) p.order) in
+    let d : answers_due a (p.judged ++ q.judged) ≡ p.handed ++ answers_due b q.judged = sym (answers_due-append a b p.judged q.judged p.handed p.config p.state (last_of a b es [] w p) p.order) in
     record {
       judged = p.judged ++ q.judged;
       are_first = first-then a.config es fs p.judged q.judged p.are_judged (subst (λ (x : Config). AreFirst x fs q.judged) p.config q.are_first);
       reached = Reached-then a b c p.judged q.judged (Reached-by a b es [] w p) q.reached;
       lost = q.lost;
-      begins = append_assoc w sent behind_it ∙ ap (λ (x : List ℕ). w ++ x) q.begins ∙ ap (λ (x : List ℕ). x ++ flat_map frame (due b q.judged)) p.sent
-          ∙ sym (flat_map-append frame p.handed (due b q.judged)) ∙ ap (flat_map frame) (sym d);
+      begins = append_assoc w sent behind_it ∙ ap (λ (x : List ℕ). w ++ x) q.begins ∙ ap (λ (x : List ℕ). x ++ flat_map frame (answers_due b q.judged)) p.sent
+          ∙ sym (flat_map-append frame p.handed (answers_due b q.judged)) ∙ ap (flat_map frame) (sym d);
     }
 
 pub Ends-then : (e : EdgeFault) (a b c : Told) (given pending got w sent : List ℕ) (n : ℕ) (at_end : Type 0) → Served a b given pending w n → Ends e b c (pending ++ got) sent at_end → Ends e a c (given ++ got) (w ++ sent) at_end
@@ -75,17 +75,17 @@ Ends-then TooLong a b c given pending got w sent n at_end p q = (stop_then a b g
 Ends-then Truncated a b c given pending got w sent n at_end p q = (q.0, stop_then a b given pending got w n _ p q.1, q.2, answered_then a b c given pending got w sent n p q.3, q.4)
 Ends-then Input a b c given pending got w sent n at_end p q = answered_then a b c given pending got w sent n p q
 Ends-then Output a b c given pending got w sent n at_end p q =
-    let f : (framed (given ++ got)).events ≡ p.events ++ (framed (pending ++ got)).events = ap (λ (x : Framed). x.events) (framed_more given pending got p.events p.reads) in
-    subst (λ (es : List Event). BeginsFrames a c es (w ++ sent)) (sym f) (begins_then a b c p.events (framed (pending ++ got)).events w sent p.progress q)
+    let f : (whole_frames (given ++ got)).events ≡ p.events ++ (whole_frames (pending ++ got)).events = ap (λ (x : Framed). x.events) (framed_more given pending got p.events p.reads) in
+    subst (λ (es : List Event). BeginsFrames a c es (w ++ sent)) (sym f) (begins_then a b c p.events (whole_frames (pending ++ got)).events w sent p.progress q)
 Ends-then (Gateway fault) a b c given pending got w sent n at_end p q =
     subst (λ (f : Framed). AnsweredFirst a c f.events (w ++ sent)) (sym (framed_more given pending got p.events p.reads))
-    (AnsweredFirst-then a b c p.events (framed (pending ++ got)).events w sent p.progress q)
+    (AnsweredFirst-then a b c p.events (whole_frames (pending ++ got)).events w sent p.progress q)
 
 pub Done-then : (a b c : Told) (given pending got w sent : List ℕ) (n m : ℕ) (at_end : Type 0) → Served a b given pending w n → Done m b c (pending ++ got) sent at_end → Done (n + m) a c (given ++ got) (w ++ sent) at_end
 Done-then a b c given pending got w sent n m at_end p q = record {
   answered = answered_then a b c given pending got w sent n p q.answered;
   whole = stop_then a b given pending got w n _ p q.whole;
-  count_is = omega (arith, p.count_is, q.count_is, length-append p.events (framed (pending ++ got)).events, ap (λ (f : Framed). length f.events) (framed_more given pending got p.events p.reads));
+  count_is = omega (arith, p.count_is, q.count_is, length-append p.events (whole_frames (pending ++ got)).events, ap (λ (f : Framed). length f.events) (framed_more given pending got p.events p.reads));
   ended = q.ended;
 }
 
@@ -97,14 +97,14 @@ Served-answered a b given pending w n p =
 -- nothing more came
 pub nothing : (b : Told) (pending : List ℕ) → next pending ≡ Cut → Answered b b (pending ++ []) []
 nothing b pending cut =
-    let f : framed (pending ++ []) ≡ record { events = []; stop = Rest pending } = ap framed (append-nil pending) ∙ framed_then_cut pending pending [] (Reads-nil pending) cut in
+    let f : whole_frames (pending ++ []) ≡ record { events = []; remainder = Rest pending } = ap whole_frames (append-nil pending) ∙ framed_then_cut pending pending [] (Reads-nil pending) cut in
     Answered-of b b (pending ++ []) [] (subst (λ (x : Framed). Progress b b x.events [] []) (sym f) (Progress-nil b [])) (λ h. h)
 
-pub nothing_stops : (pending : List ℕ) → next pending ≡ Cut → (framed (pending ++ [])).stop ≡ Rest pending
-nothing_stops pending cut = ap (λ (f : Framed). f.stop) (ap framed (append-nil pending) ∙ framed_then_cut pending pending [] (Reads-nil pending) cut)
+pub nothing_stops : (pending : List ℕ) → next pending ≡ Cut → (whole_frames (pending ++ [])).remainder ≡ Rest pending
+nothing_stops pending cut = ap (λ (f : Framed). f.remainder) (ap whole_frames (append-nil pending) ∙ framed_then_cut pending pending [] (Reads-nil pending) cut)
 
-pub nothing_counts : (pending : List ℕ) → next pending ≡ Cut → 0 ≡ length (framed (pending ++ [])).events
-nothing_counts pending cut = sym (ap (λ (f : Framed). length f.events) (ap framed (append-nil pending) ∙ framed_then_cut pending pending [] (Reads-nil pending) cut))
+pub nothing_counts : (pending : List ℕ) → next pending ≡ Cut → 0 ≡ length (whole_frames (pending ++ [])).events
+nothing_counts pending cut = sym (ap (λ (f : Framed). length f.events) (ap whole_frames (append-nil pending) ∙ framed_then_cut pending pending [] (Reads-nil pending) cut))
 
 -- ---- how far a run has come
 

@@ -10,7 +10,7 @@ use Rattle.byteorder.specs.Endian.{big_bytes}
 use Rattle.machine.specs.declared.event.Answer.{Answer}
 use Rattle.socket_edge.specs.declared.fault.EdgeFault.{EdgeFault}
 use Rattle.socket_edge.specs.declared.fault.EdgeFault.TheVariants.{Output}
-use Rattle.socket_edge.specs.Answering.{kind_byte, body_of, frame_head, frame, frames_len, AppendsFront}
+use Rattle.socket_edge.specs.Answering.{kind_byte, answer_body, frame_head, frame, frames_len, AppendsFront}
 use Rattle.socket_edge.proofs.Streams.{Appends-then}
 
 -- the first n bytes, and then a write that appends nothing
@@ -42,9 +42,9 @@ pub Fails-behind : (a b c : Option (List ℕ)) (x y : List ℕ) (r : Result (Uni
 Fails-behind a b c x y r p q = IfErr-weaker r (λ e. (e ≡ Output) × AppendsFront b c y) (λ e. (e ≡ Output) × AppendsFront a c (x ++ y)) (λ e h. (h.0, Front-behind a b c x y p h.1)) q
 
 -- a frame is its head and its body
-pub frame_parts : (p : ℕ × Answer) → frame_head p ++ body_of p.1 ≡ frame p
+pub frame_parts : (p : ℕ × Answer) → frame_head p ++ answer_body p.1 ≡ frame p
 unfolding frame
-frame_parts p = append_assoc (kind_byte p.1 ∷ big_bytes 8 p.0) (big_bytes 4 (length (body_of p.1))) (body_of p.1)
+frame_parts p = append_assoc (kind_byte p.1 ∷ big_bytes 8 p.0) (big_bytes 4 (length (answer_body p.1))) (answer_body p.1)
 
 -- one frame more
 frames_step : (answers : List (ℕ × Answer)) (i : ℕ) (p : ℕ × Answer) → i < length answers → p ≡ get_or answers i p
@@ -63,12 +63,12 @@ Front-next a b c answers i p lt is q r =
     ap (λ (z : List ℕ). z ++ after) (sym (frames_step answers i p lt is)) ∙ sym (flat_map-append frame (take (i + 1) answers) (drop (i + 1) answers)) ∙ ap (flat_map frame) (take-append-drop (i + 1) answers) in
     subst (AppendsFront a c) whole (Front-of a c (flat_map frame (take i answers) ++ frame p) after (Front-behind a b c (flat_map frame (take i answers)) (frame p) q r))
 
-frame_len : (p : ℕ × Answer) → length (frame p) ≡ 13 + length (body_of p.1)
+frame_len : (p : ℕ × Answer) → length (frame p) ≡ 13 + length (answer_body p.1)
 unfolding frame
 frame_len p = omega arith
 
 pub frames_len-step : (answers : List (ℕ × Answer)) (i : ℕ) (p : ℕ × Answer) (len more : ℕ) → i < length answers → p ≡ get_or answers i p
-    → len ≡ frames_len (take i answers) → more ≡ length (body_of p.1) → min (len + (13 + more)) (2 ^ 64 - 1) ≡ frames_len (take (i + 1) answers)
+    → len ≡ frames_len (take i answers) → more ≡ length (answer_body p.1) → min (len + (13 + more)) (2 ^ 64 - 1) ≡ frames_len (take (i + 1) answers)
 frames_len-step answers i p len more lt is l m =
     let next : length (flat_map frame (take (i + 1) answers)) ≡ length (flat_map frame (take i answers)) + (13 + more) =
     ap length (frames_step answers i p lt is) ∙ length-append (flat_map frame (take i answers)) (frame p) ∙ ap (λ (n : ℕ). length (flat_map frame (take i answers)) + n) (frame_len p ∙ ap (λ (n : ℕ). 13 + n) (sym m)) in

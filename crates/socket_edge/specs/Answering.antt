@@ -24,16 +24,16 @@ kind_byte answer.Loaded = 3
 kind_byte answer.Refused = 4
 kind_byte answer.Ticked = 5
 
-abbrev pub body_of : Answer → List ℕ
-body_of (answer.Forward iface packet) = iface_byte iface ∷ packet
-body_of (answer.Dropped n) = n ∷ []
-body_of answer.Loaded = []
-body_of answer.Refused = []
-body_of answer.Ticked = []
+abbrev pub answer_body : Answer → List ℕ
+answer_body (answer.Forward iface packet) = iface_byte iface ∷ packet
+answer_body (answer.Dropped n) = n ∷ []
+answer_body answer.Loaded = []
+answer_body answer.Refused = []
+answer_body answer.Ticked = []
 
 -- the frame of an event's number and answer: kind, number, length of the body, body
 unfoldable pub frame : ℕ × Answer → List ℕ
-frame p = kind_byte p.1 ∷ big_bytes 8 p.0 ++ big_bytes 4 (length (body_of p.1)) ++ body_of p.1
+frame p = kind_byte p.1 ∷ big_bytes 8 p.0 ++ big_bytes 4 (length (answer_body p.1)) ++ answer_body p.1
 
 abbrev pub frames : List (ℕ × Answer) → List ℕ
 frames answers = flat_map frame answers
@@ -44,7 +44,7 @@ frames_len answers = min (length (frames answers)) (2 ^ 64 - 1)
 
 -- what stands in a frame before its body
 abbrev pub frame_head : ℕ × Answer → List ℕ
-frame_head p = kind_byte p.1 ∷ big_bytes 8 p.0 ++ big_bytes 4 (length (body_of p.1))
+frame_head p = kind_byte p.1 ∷ big_bytes 8 p.0 ++ big_bytes 4 (length (answer_body p.1))
 
 -- A beginning of the bytes was written, and no more of them.
 pub record AppendsFront (old new : Option (List ℕ)) (bytes : List ℕ) : Type 0 where
@@ -58,8 +58,8 @@ unfoldable pub replies : Told → List Judged → List (ℕ × Answer)
 replies old judged = numbered old.last (answers old.config old.state judged)
 
 -- the numbered answers that stand out once these events are taken
-unfoldable pub due : Told → List Judged → List (ℕ × Answer)
-due old judged = old.held ++ replies old judged
+unfoldable pub answers_due : Told → List Judged → List (ℕ × Answer)
+answers_due old judged = old.held ++ replies old judged
 
 -- The first of the events are judged so.
 pub record AreFirst (config : Config) (events : List Event) (judged : List Judged) : Type 0 where
@@ -77,7 +77,7 @@ pub record Progress (old new : Told) (events : List Event) (before out : List �
   pub last : new.last ≡ old.last + length events
   pub handed : List (ℕ × Answer)
   pub sent : out ≡ before ++ frames handed
-  pub order : handed ++ new.held ≡ due old judged
+  pub order : handed ++ new.held ≡ answers_due old judged
 
 -- The gateway stands where events that are judged so bring it.
 pub record Reached (old new : Told) (judged : List Judged) : Type 0 where
@@ -92,7 +92,7 @@ pub record AnsweredFirst (old new : Told) (events : List Event) (sent : List ℕ
   pub reached : Reached old new judged
   pub handed : List (ℕ × Answer)
   pub sent_are : sent ≡ frames handed
-  pub order : handed ++ new.held ≡ due old judged
+  pub order : handed ++ new.held ≡ answers_due old judged
 
 -- The first of the events were taken, as they are judged. The bytes are a beginning of the frames of the answers that stand out; the last of these are held.
 pub record BeginsFrames (old new : Told) (events : List Event) (out : List ℕ) : Type 0 where
@@ -100,4 +100,4 @@ pub record BeginsFrames (old new : Told) (events : List Event) (out : List ℕ) 
   pub are_first : AreFirst old.config events judged
   pub reached : Reached old new judged
   pub lost : List ℕ
-  pub begins : out ++ (lost ++ frames new.held) ≡ frames (due old judged)
+  pub begins : out ++ (lost ++ frames new.held) ≡ frames (answers_due old judged)

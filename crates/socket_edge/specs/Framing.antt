@@ -5,29 +5,29 @@ use Rattle.socket_edge.specs.declared.fault.HeaderFault.{HeaderFault}
 use Rattle.socket_edge.specs.Requests.{Next, Whole, Cut, Bad, next}
 
 -- behind the whole frames: bytes that are no whole frame, or a faulty header
-pub data Stop : Type 0 where
-  Rest : List ℕ → Stop
-  Fault : HeaderFault → Stop
+pub data Remainder : Type 0 where
+  Rest : List ℕ → Remainder
+  Fault : HeaderFault → Remainder
 
 pub record Framed : Type 0 where
   pub events : List Event
-  pub stop : Stop
+  pub remainder : Remainder
 
 -- these events first
 abbrev pub behind : List Event → Framed → Framed
-behind events f = record { events = events ++ f.events; stop = f.stop }
+behind events f = record { events = events ++ f.events; remainder = f.remainder }
 
 -- what stands at the front, and then what more gives of the rest
 abbrev pub go_on : Next → List ℕ → (List ℕ → Framed) → Framed
 go_on (Whole event rest) bytes more = behind (event ∷ []) (more rest)
-go_on Cut bytes more = record { events = []; stop = Rest bytes }
-go_on (Bad fault) bytes more = record { events = []; stop = Fault fault }
+go_on Cut bytes more = record { events = []; remainder = Rest bytes }
+go_on (Bad fault) bytes more = record { events = []; remainder = Fault fault }
 
 -- of at most n frames
-unfoldable pub framed_within : ℕ → List ℕ → Framed
-framed_within zero bytes = record { events = []; stop = Rest bytes }
-framed_within (suc n) bytes = go_on (next bytes) bytes (λ rest. framed_within n rest)
+unfoldable pub whole_frames_within : ℕ → List ℕ → Framed
+whole_frames_within zero bytes = record { events = []; remainder = Rest bytes }
+whole_frames_within (suc n) bytes = go_on (next bytes) bytes (λ rest. whole_frames_within n rest)
 
 -- the whole frames at the front; each has a byte at least, so there are no more than bytes
-unfoldable pub framed : List ℕ → Framed
-framed bytes = framed_within (length bytes) bytes
+unfoldable pub whole_frames : List ℕ → Framed
+whole_frames bytes = whole_frames_within (length bytes) bytes

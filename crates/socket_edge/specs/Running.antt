@@ -14,37 +14,37 @@ use Rattle.socket_edge.specs.declared.fault.HeaderFault.{HeaderFault}
 use Rattle.socket_edge.specs.declared.fault.HeaderFault.TheVariants as header
 use Rattle.socket_edge.specs.declared.fault.EdgeFault.{EdgeFault}
 use Rattle.socket_edge.specs.declared.fault.EdgeFault.TheVariants.{BadKind, BadInterface, TooLong, Truncated, Input, Output, Gateway}
-use Rattle.socket_edge.specs.declared.serving.Stop.{Stop}
-use Rattle.socket_edge.specs.declared.serving.Stop.TheVariants as stop
+use Rattle.socket_edge.specs.declared.serving.Halt.{Halt}
+use Rattle.socket_edge.specs.declared.serving.Halt.TheVariants as halt
 use Rattle.socket_edge.specs.declared.serving.Step.{Step}
 use Rattle.socket_edge.specs.declared.serving.Step.TheVariants as step
 use Rattle.socket_edge.specs.declared.edge.Turn.{Turn}
 use Rattle.socket_edge.specs.declared.edge.Turn.TheVariants as turn
 use Rattle.socket_edge.specs.Requests.{Whole, Cut, Bad, next}
-use Rattle.socket_edge.specs.Framing.{Rest, Fault, behind, framed}
+use Rattle.socket_edge.specs.Framing.{Rest, Fault, behind, whole_frames}
 use Rattle.socket_edge.specs.Answering.{frames, replies, Progress, Reached, AnsweredFirst, BeginsFrames}
 
 -- The events of the bytes were taken. Where nothing was held before, all of them are answered by the bytes sent, and nothing is held.
 pub record Answered (old new : Told) (bytes sent : List ℕ) : Type 0 where
-  pub progress : Progress old new (framed bytes).events [] sent
+  pub progress : Progress old new (whole_frames bytes).events [] sent
   pub none : old.held ≡ [] → new.held ≡ []
   pub all : old.held ≡ [] → sent ≡ frames (replies old progress.judged)
 
 -- what a fault says of the bytes that were read and sent
 abbrev pub Ends : EdgeFault → Told → Told → List ℕ → List ℕ → Type 0 → Type 0
-Ends BadKind old new bytes sent at_end = ((framed bytes).stop ≡ Fault header.BadKind) × Answered old new bytes sent
-Ends BadInterface old new bytes sent at_end = ((framed bytes).stop ≡ Fault header.BadInterface) × Answered old new bytes sent
-Ends TooLong old new bytes sent at_end = ((framed bytes).stop ≡ Fault header.TooLong) × Answered old new bytes sent
-Ends Truncated old new bytes sent at_end = (rest : List ℕ) × ((framed bytes).stop ≡ Rest rest) × (rest ≢ []) × Answered old new bytes sent × at_end
+Ends BadKind old new bytes sent at_end = ((whole_frames bytes).remainder ≡ Fault header.BadKind) × Answered old new bytes sent
+Ends BadInterface old new bytes sent at_end = ((whole_frames bytes).remainder ≡ Fault header.BadInterface) × Answered old new bytes sent
+Ends TooLong old new bytes sent at_end = ((whole_frames bytes).remainder ≡ Fault header.TooLong) × Answered old new bytes sent
+Ends Truncated old new bytes sent at_end = (rest : List ℕ) × ((whole_frames bytes).remainder ≡ Rest rest) × (rest ≢ []) × Answered old new bytes sent × at_end
 Ends Input old new bytes sent at_end = Answered old new bytes sent
-Ends Output old new bytes sent at_end = BeginsFrames old new (framed bytes).events sent
-Ends (Gateway fault) old new bytes sent at_end = AnsweredFirst old new (framed bytes).events sent
+Ends Output old new bytes sent at_end = BeginsFrames old new (whole_frames bytes).events sent
+Ends (Gateway fault) old new bytes sent at_end = AnsweredFirst old new (whole_frames bytes).events sent
 
 -- all was read and answered, and it was whole frames
 pub record Done (count : ℕ) (old new : Told) (bytes sent : List ℕ) (at_end : Type 0) : Type 0 where
   pub answered : Answered old new bytes sent
-  pub whole : (framed bytes).stop ≡ Rest []
-  pub count_is : count ≡ length (framed bytes).events
+  pub whole : (whole_frames bytes).remainder ≡ Rest []
+  pub count_is : count ≡ length (whole_frames bytes).events
   pub ended : at_end
 
 -- how a run ended
@@ -54,7 +54,7 @@ Ran (Err fault) old new bytes sent at_end = Ends fault old new bytes sent at_end
 
 -- the events of the bytes
 abbrev pub events_in : List ℕ → List Event
-events_in bytes = (framed bytes).events
+events_in bytes = (whole_frames bytes).events
 
 module _ {D : Type 0} (honest : D → Type 0) (moment : D → ℕ) (left : D → ℕ → Files → Type 0) (old new : Kept D) where
   -- Of an honest disk, where nothing was held at the entry. The first of the events were taken, and a beginning of their
@@ -86,7 +86,7 @@ module _ {D : Type 0} (honest : D → Type 0) (moment : D → ℕ) (left : D →
 
 -- the stream so far is these events, and then these bytes
 pub record Reads (given : List ℕ) (events : List Event) (pending : List ℕ) : Type 0 where
-  pub goes : (more : List ℕ) → framed (given ++ more) ≡ behind events (framed (pending ++ more))
+  pub goes : (more : List ℕ) → whole_frames (given ++ more) ≡ behind events (whole_frames (pending ++ more))
 
 -- the whole frames at the front were answered, and these bytes are left
 pub record Served (old new : Told) (bytes rest sent : List ℕ) (count : ℕ) : Type 0 where
@@ -108,20 +108,20 @@ Turned (Ok (turn.More count)) old new bytes rest sent at_end = Served old new by
 Turned (Ok turn.End) old new bytes rest sent at_end = Done 0 old new bytes sent at_end
 Turned (Err fault) old new bytes rest sent at_end = Ends fault old new bytes sent at_end
 
--- what a stop means for the run
-abbrev pub end_of : Stop → Result (Unit {0}) EdgeFault
-end_of stop.Cut = Ok tt
-end_of (stop.Bad header.BadKind) = Err BadKind
-end_of (stop.Bad header.BadInterface) = Err BadInterface
-end_of (stop.Bad header.TooLong) = Err TooLong
-end_of (stop.Refused fault) = Err (Gateway fault)
+-- what a halt means for the run
+abbrev pub end_of : Halt → Result (Unit {0}) EdgeFault
+end_of halt.Cut = Ok tt
+end_of (halt.Bad header.BadKind) = Err BadKind
+end_of (halt.Bad header.BadInterface) = Err BadInterface
+end_of (halt.Bad header.TooLong) = Err TooLong
+end_of (halt.Refused fault) = Err (Gateway fault)
 
 -- the gateway took no fault
 abbrev pub GoesOn : Step → Type 0
 GoesOn (step.Took n) = Unit {0}
-GoesOn (step.Ends stop.Cut) = Unit {0}
-GoesOn (step.Ends (stop.Bad fault)) = Unit {0}
-GoesOn (step.Ends (stop.Refused fault)) = ⊥
+GoesOn (step.Ends halt.Cut) = Unit {0}
+GoesOn (step.Ends (halt.Bad fault)) = Unit {0}
+GoesOn (step.Ends (halt.Refused fault)) = ⊥
 
 module _ {D : Type 0} (honest : D → Type 0) (moment : D → ℕ) (left : D → ℕ → Files → Type 0) (failed : D → ℕ) where
   -- where what was read ended it the gateway stands, and a fault of the gateway has its cause
@@ -138,18 +138,18 @@ module _ {D : Type 0} (honest : D → Type 0) (moment : D → ℕ) (left : D →
   abbrev pub Stepped : Step → List ℕ → Kept D → Kept D → List (ℕ × Answer) → List (ℕ × Answer) → Type 0
   Stepped (step.Took n) bytes old new before out =
       (event : Event) × (next bytes ≡ Whole event (drop n bytes)) × (14 ≤ n) × (n ≤ length bytes) × CarriesOn honest moment left failed old new (event ∷ []) before out
-  Stepped (step.Ends stop.Cut) bytes old new before out = (next bytes ≡ Cut) × CarriesOn honest moment left failed old new [] before out
-  Stepped (step.Ends (stop.Bad fault)) bytes old new before out = (next bytes ≡ Bad fault) × CarriesOn honest moment left failed old new [] before out
-  Stepped (step.Ends (stop.Refused fault)) bytes old new before out =
+  Stepped (step.Ends halt.Cut) bytes old new before out = (next bytes ≡ Cut) × CarriesOn honest moment left failed old new [] before out
+  Stepped (step.Ends (halt.Bad fault)) bytes old new before out = (next bytes ≡ Bad fault) × CarriesOn honest moment left failed old new [] before out
+  Stepped (step.Ends (halt.Refused fault)) bytes old new before out =
       (events : List Event) × (later : List ℕ) × Reads bytes events later × BreaksOff honest moment left failed old new events before out fault
 
   -- what all whole frames at the front came to
-  abbrev pub Offered : Stop → List ℕ → List ℕ → ℕ → Kept D → Kept D → List (ℕ × Answer) → List (ℕ × Answer) → Type 0
-  Offered stop.Cut bytes rest count old new before out =
+  abbrev pub Offered : Halt → List ℕ → List ℕ → ℕ → Kept D → Kept D → List (ℕ × Answer) → List (ℕ × Answer) → Type 0
+  Offered halt.Cut bytes rest count old new before out =
       (events : List Event) × Reads bytes events rest × (next rest ≡ Cut) × (count ≡ length events) × CarriesOn honest moment left failed old new events before out
-  Offered (stop.Bad fault) bytes rest count old new before out =
+  Offered (halt.Bad fault) bytes rest count old new before out =
       (events : List Event) × Reads bytes events rest × (next rest ≡ Bad fault) × CarriesOn honest moment left failed old new events before out
-  Offered (stop.Refused fault) bytes rest count old new before out =
+  Offered (halt.Refused fault) bytes rest count old new before out =
       (events : List Event) × (later : List ℕ) × Reads bytes events later × BreaksOff honest moment left failed old new events before out fault
 
   -- the events of the frames at the front were taken, and their answers handed out; nothing is held

@@ -9,7 +9,7 @@ use Rattle.machine.specs.declared.event.What.TheVariants as what
 use Rattle.socket_edge.specs.declared.fault.HeaderFault.{HeaderFault}
 use Rattle.socket_edge.specs.declared.fault.HeaderFault.TheVariants.{BadKind, BadInterface, TooLong}
 use Rattle.socket_edge.specs.Answering.{iface_byte}
-use Rattle.socket_edge.specs.Framing.{Stop, Rest, Fault, Framed}
+use Rattle.socket_edge.specs.Framing.{Remainder, Rest, Fault, Framed}
 
 -- a byte is below 256
 abbrev pub AreBytes : List ℕ → Type 0
@@ -26,10 +26,10 @@ interface_of (what.Packet iface packet) = iface_byte iface
 interface_of (what.Load text) = 0
 interface_of what.Moment = 0
 
-abbrev pub body_of : What → List ℕ
-body_of (what.Packet iface packet) = packet
-body_of (what.Load text) = text
-body_of what.Moment = []
+abbrev pub request_body : What → List ℕ
+request_body (what.Packet iface packet) = packet
+request_body (what.Load text) = text
+request_body what.Moment = []
 
 -- the greatest length of a body of this kind
 abbrev pub longest_body : ℕ → ℕ
@@ -41,12 +41,12 @@ header kind iface len moment = kind ∷ iface ∷ big_bytes 4 len ++ big_bytes 8
 
 -- the frame of an event
 abbrev pub request : Event → List ℕ
-request event = header (kind_of event.what) (interface_of event.what) (length (body_of event.what)) event.moment ++ body_of event.what
+request event = header (kind_of event.what) (interface_of event.what) (length (request_body event.what)) event.moment ++ request_body event.what
 
 -- a frame can carry the event
 pub record Fits (event : Event) : Type 0 where
   pub moment : event.moment < 2 ^ 64
-  pub body : length (body_of event.what) ≤ longest_body (kind_of event.what)
+  pub body : length (request_body event.what) ≤ longest_body (kind_of event.what)
 
 -- fewer bytes than a header has, or a frame that lacks some of its end
 abbrev pub IsNoFrame : List ℕ → Type 0
@@ -72,7 +72,7 @@ pub record IsFaulty (fault : HeaderFault) (bytes : List ℕ) : Type 0 where
   pub faulty : header_fault kind iface len ≡ Some fault
 
 -- what stands behind the whole frames
-abbrev pub Ending : List ℕ → Stop → Type 0
+abbrev pub Ending : List ℕ → Remainder → Type 0
 Ending tail (Rest rest) = (tail ≡ rest) × IsNoFrame rest
 Ending tail (Fault fault) = IsFaulty fault tail
 
@@ -81,4 +81,4 @@ pub record IsStream (bytes : List ℕ) (framed : Framed) : Type 0 where
   pub fit : AllByRecursion Fits framed.events
   pub tail : List ℕ
   pub bytes_are : bytes ≡ flat_map request framed.events ++ tail
-  pub ending : Ending tail framed.stop
+  pub ending : Ending tail framed.remainder

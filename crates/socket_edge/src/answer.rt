@@ -1,6 +1,6 @@
 //! The frames of answers.
 ghost use Rattle.std.specs.Prelude.{◌≡◌, ℕ, ◌++◌, OnOk, OnErr, length, take};
-ghost use Rattle.socket_edge.specs.Answering.{iface_byte, kind_byte, body_of, frame_head, frame, frames};
+ghost use Rattle.socket_edge.specs.Answering.{iface_byte, kind_byte, answer_body, frame_head, frame, frames};
 
 use gateway::{Answer, Iface};
 use std::alloc::AllocError;
@@ -30,7 +30,7 @@ pub fn byte_of(iface: Iface) -> u8
 }
 
 pub fn body_len(answer: &Answer) -> u32
-    ensures { result ≡ length (body_of answer.now) }
+    ensures { result ≡ length (answer_body answer.now) }
 {
     match answer {
         Answer::Forward(_, packet) => 1 + packet.as_slice().len() as u32,
@@ -52,7 +52,7 @@ pub fn head_bytes(number: u64, answer: &Answer) -> [u8; HEAD_LEN]
 
 /// Puts a body at the end. An `Err` may leave a part of it there.
 fn put_body(out: &mut Vec<u8>, answer: &Answer) -> Result<(), AllocError>
-    ensures ok { OnOk result (out.new.items ≡ out.old.items ++ body_of answer.now) }
+    ensures ok { OnOk result (out.new.items ≡ out.old.items ++ answer_body answer.now) }
     ensures front { take (length out.old.items) out.new.items ≡ out.old.items }
 {
     match answer {

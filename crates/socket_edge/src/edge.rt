@@ -55,14 +55,14 @@ fn answer_front<W: Write, D: Disk + Drop>(
     ensures room { vec_len answers.new + length gateway.new.told.held ≤ vec_capacity answers.new }
 {
     begin(gateway);
-    let (at, count, stop) = offer_all(
+    let (at, count, halt) = offer_all(
         alloc,
         &mut spare.bodies,
         pending.as_slice(),
         answers,
         gateway,
     );
-    let closed = close(stop, answers, gateway);
+    let closed = close(halt, answers, gateway);
     send_by(&mut spare.frames, writer, answers.as_slice())?;
     closed?;
     pending.remove_front(at);

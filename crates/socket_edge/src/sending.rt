@@ -1,7 +1,7 @@
 //! Writing the frames of answers: in one piece, or part by part where memory for that is refused.
 ghost use Rattle.std.specs.Prelude.{◌≡◌, ◌++◌, OnOk, IfErr};
 ghost use Rattle.std.specs.Io.KnownBytes.{Appends};
-ghost use Rattle.socket_edge.specs.Answering.{body_of, frame_head, frame, frames, frames_len, AppendsFront};
+ghost use Rattle.socket_edge.specs.Answering.{answer_body, frame_head, frame, frames, frames_len, AppendsFront};
 
 use crate::answer::{HEAD_LEN, body_len, byte_of, head_bytes, put_frames};
 use crate::fault::EdgeFault;
@@ -43,8 +43,8 @@ fn write_head<W: Write>(writer: &mut W, number: u64, answer: &Answer) -> Result<
 }
 
 fn write_body<W: Write>(writer: &mut W, answer: &Answer) -> Result<(), EdgeFault>
-    ensures ok { OnOk result (Appends (W.contents writer.old) (W.contents writer.new) (body_of answer.now)) }
-    ensures err { IfErr result (λ e. (e ≡ EdgeFault.Output) × AppendsFront (W.contents writer.old) (W.contents writer.new) (body_of answer.now)) }
+    ensures ok { OnOk result (Appends (W.contents writer.old) (W.contents writer.new) (answer_body answer.now)) }
+    ensures err { IfErr result (λ e. (e ≡ EdgeFault.Output) × AppendsFront (W.contents writer.old) (W.contents writer.new) (answer_body answer.now)) }
 {
     match answer {
         Answer::Forward(iface, packet) => {

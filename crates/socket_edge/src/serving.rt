@@ -22,7 +22,7 @@ const LONGEST_KEPT: usize = 2_048;
 
 /// Why no more frames are offered.
 #[derive(Clone, Copy, Drop)]
-pub enum Stop {
+pub enum Halt {
     /// No whole frame is left.
     Cut,
     /// The next header is faulty.
@@ -37,19 +37,19 @@ pub enum Step {
     /// A frame of so many bytes was taken.
     Took(usize),
     /// No more frames are offered.
-    Ends(Stop),
+    Ends(Halt),
 }
 
-/// What a stop means for the run.
-pub fn end_at(stop: Stop) -> Result<(), EdgeFault>
-    ensures { result ≡ end_of stop }
+/// What a halt means for the run.
+pub fn end_at(halt: Halt) -> Result<(), EdgeFault>
+    ensures { result ≡ end_of halt }
 {
-    match stop {
-        Stop::Cut => Ok(()),
-        Stop::Bad(HeaderFault::BadKind) => Err(EdgeFault::BadKind),
-        Stop::Bad(HeaderFault::BadInterface) => Err(EdgeFault::BadInterface),
-        Stop::Bad(HeaderFault::TooLong) => Err(EdgeFault::TooLong),
-        Stop::Refused(fault) => Err(EdgeFault::Gateway(fault)),
+    match halt {
+        Halt::Cut => Ok(()),
+        Halt::Bad(HeaderFault::BadKind) => Err(EdgeFault::BadKind),
+        Halt::Bad(HeaderFault::BadInterface) => Err(EdgeFault::BadInterface),
+        Halt::Bad(HeaderFault::TooLong) => Err(EdgeFault::TooLong),
+        Halt::Refused(fault) => Err(EdgeFault::Gateway(fault)),
     }
 }
 
@@ -134,12 +134,12 @@ fn offer_next<D: Disk + Drop>(
     ensures room { vec_len answers.new + length gateway.new.told.held ≤ vec_capacity answers.new }
 {
     match take_frame(alloc, bodies, bytes) {
-        Err(_) => Step::Ends(Stop::Refused(GatewayFault::NoMemory)),
-        Ok(Taken::Cut) => Step::Ends(Stop::Cut),
-        Ok(Taken::Bad(fault)) => Step::Ends(Stop::Bad(fault)),
+        Err(_) => Step::Ends(Halt::Refused(GatewayFault::NoMemory)),
+        Ok(Taken::Cut) => Step::Ends(Halt::Cut),
+        Ok(Taken::Bad(fault)) => Step::Ends(Halt::Bad(fault)),
         Ok(Taken::Whole(event, n)) => match offer_event(event, answers, gateway) {
             Ok(()) => Step::Took(n),
-            Err(fault) => Step::Ends(Stop::Refused(fault)),
+            Err(fault) => Step::Ends(Halt::Refused(fault)),
         },
     }
 }
@@ -151,7 +151,7 @@ pub fn offer_all<D: Disk + Drop>(
     bytes: &[u8],
     answers: &mut Vec<(u64, Answer)>,
     gateway: &mut Gateway<D>,
-) -> (usize, u64, Stop)
+) -> (usize, u64, Halt)
     requires stands { gateway.old.fallen ≡ false }
     requires room { vec_len answers.old + length gateway.old.told.held ≤ vec_capacity answers.old }
     ensures within { result.0 ≤ length bytes.now }
@@ -167,29 +167,29 @@ pub fn offer_all<D: Disk + Drop>(
                 at += n;
                 count += 1;
             }
-            Step::Ends(stop) => return (at, count as u64, stop),
+            Step::Ends(halt) => return (at, count as u64, halt),
         }
     }
 }
 
-/// Hands out what is held, where the gateway has not fallen, and says what the stop means.
+/// Hands out what is held, where the gateway has not fallen, and says what the halt means.
 pub fn close<D: Disk + Drop>(
-    stop: Stop,
+    halt: Halt,
     answers: &mut Vec<(u64, Answer)>,
     gateway: &mut Gateway<D>,
 ) -> Result<(), EdgeFault>
     requires room { vec_len answers.old + length gateway.old.told.held ≤ vec_capacity answers.old }
     ensures closed { (start : Kept D) (bytes rest : List ℕ) (count : ℕ) → Stands D.honest D.moment D.left D.failed start start [] []
-        → Offered D.honest D.moment D.left D.failed stop bytes rest count start gateway.old [] answers.old.items
+        → Offered D.honest D.moment D.left D.failed halt bytes rest count start gateway.old [] answers.old.items
         → Closed D.honest D.moment D.left D.failed result bytes rest count start gateway.new answers.new.items }
     ensures room { vec_len answers.new + length gateway.new.told.held ≤ vec_capacity answers.new }
 {
     if gateway.has_fallen() {
-        return end_at(stop);
+        return end_at(halt);
     }
     match hand_out(gateway, answers) {
         Err(fault) => Err(EdgeFault::Gateway(fault)),
-        Ok(()) => end_at(stop),
+        Ok(()) => end_at(halt),
     }
 }
 

@@ -14,4 +14,4 @@ loop-n-preserved g c = (
 
 pub returns-in-Ends-clause-offered : goal.returns-in-Ends-clause-offered
 returns-in-Ends-clause-offered g c = SoFar-ends g.D.Disk.honest g.D.Disk.moment g.D.Disk.left g.D.Disk.failed c.args.gateway.now c.loop-n.gateway c.offer_next.new.gateway c.args.bytes.now c.loop-n.at c.loop-n.count c.args.answers.now.items
-    c.loop-n.answers.items c.offer_next.new.answers.items c.in-Ends.stop c.loop-n.invariant.0 c.in-Ends.ensures.step
+    c.loop-n.answers.items c.offer_next.new.answers.items c.in-Ends.halt c.loop-n.invariant.0 c.in-Ends.ensures.step
