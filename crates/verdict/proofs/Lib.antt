@@ -10,6 +10,7 @@ pub mod Bounded
 pub mod Turns
 pub mod Sought
 pub mod Laying
+pub mod Firsts
 pub mod Pushed
 pub mod Led
 pub mod Moves

@@ -4,6 +4,7 @@ pub mod Hooks
 pub mod Ranking
 pub mod Targets
 pub mod Pools
+pub mod Named
 pub mod Tests
 pub mod Lines
 pub mod Keyed

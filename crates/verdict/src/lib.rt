@@ -2,6 +2,7 @@
 //!
 //! - `rules`: `Rules`, the rules of a text that has loaded.
 //! - `facts`: `Facts`, what rules may ask about a packet.
+//! - `named`: the named sets of a table by their names.
 //! - `pool`, `map`: the sides of a table's matches as sets, and its verdict maps, which packets are looked up in by
 //!   halving.
 //! - `matching`: whether a rule's matches hold.
@@ -28,6 +29,7 @@ mod keys;
 pub mod laws;
 mod map;
 mod matching;
+mod named;
 mod pool;
 mod row;
 pub mod rules;

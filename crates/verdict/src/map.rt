@@ -2,7 +2,6 @@
 
 ghost use Rattle.std.specs.Prelude.{◌≡◌, ◌↔◌, ◌≤◌, ℕ, List, Some, true, false, length, IfOk, OnOk, not};
 ghost use Rattle.std.specs.List.{list_any};
-ghost use Rattle.sets.specs.declared.element.Element.{Element as Part};
 ghost use Rattle.sets.specs.declared.element.Pair.{Pair as KeyOf};
 ghost use Rattle.sets.specs.Members.{Fact, Leads, Overlaps, limit};
 ghost use Rattle.ruletext.specs.Classes.{is_value};

@@ -13,6 +13,7 @@ ghost use Rattle.verdict.specs.Matching.{lies, is_member};
 ghost use Rattle.verdict.specs.Pools.{Adds, IsPool, ArePools};
 ghost use Rattle.verdict.specs.Tests.{Keeps, HasSide, set_named, AreValues, stands_on};
 
+use crate::named::Named;
 use rulesyntax::tree::{Element, Match, Set, SetElements, Side, Value};
 use ruletext::class::{Class, class_in, class_of};
 use ruletext::parts::part_of;
@@ -127,24 +128,12 @@ pub(crate) fn pools_of(alloc: Global, sets: &[Set]) -> Result<Items<Pool>, Alloc
     Ok(pools)
 }
 
-fn place_of_set(sets: &[Set], name: &[u8]) -> Option<usize>
-    ensures found { IfSome result (λ place. (set : SetOf) × (slice_get sets.now place ≡ Some set) × (find (λ set. bytes_eq set.name name.now) sets.now ≡ Some set)) }
-    ensures absent { IfNone result (find (λ set. bytes_eq set.name name.now) sets.now ≡ None) }
-{
-    for (place, set) in sets.iter().enumerate() {
-        if set.name.as_slice() == name {
-            return Some(place);
-        }
-    }
-    None
-}
-
-fn place_named(sets: &[Set], side: &Side) -> Option<usize>
+fn place_named(sets: &Named<'_>, side: &Side) -> Option<usize>
     ensures found { IfSome result (λ place. (set : SetOf) × (slice_get sets.now place ≡ Some set) × (set_named sets.now side.now ≡ Some set)) }
     ensures absent { IfNone result (set_named sets.now side.now ≡ None) }
 {
     match side {
-        Side::Named(named) => place_of_set(sets, named.name.as_slice()),
+        Side::Named(named) => sets.place_of(named.name.as_slice()),
         Side::One(_) | Side::Several(_) => None,
     }
 }
@@ -191,7 +180,7 @@ fn parts_of_side(alloc: Global, class: Class, side: &Side) -> Result<Vec<Part>, 
 pub(crate) fn lay_side(
     alloc: Global,
     pools: &mut Items<Pool>,
-    sets: &[Set],
+    sets: &Named<'_>,
     own: &Match,
 ) -> Result<usize, AllocError>
     requires sets { ArePools sets.now pools.old }

@@ -1,6 +1,6 @@
 //! The rules of a table in one row.
 
-ghost use Rattle.std.specs.Prelude.{◌≡◌, ◌+◌, ◌++◌, ◌≤◌, ℕ, List, [], Some, true, false, length, map, sum_by, IfOk, IfSome, OnOk, slice_get};
+ghost use Rattle.std.specs.Prelude.{◌≡◌, ◌+◌, ◌++◌, ◌≤◌, ℕ, List, Some, true, false, length, map, sum_by, IfOk, IfSome, OnOk, slice_get};
 ghost use Rattle.std.specs.List.{list_any};
 ghost use Rattle.ruletext.specs.Calls.{OfSome};
 ghost use Rattle.ruletext.specs.Counts.{elements_of_side, elements_of_table, is_much};
@@ -12,15 +12,15 @@ ghost use Rattle.rulesyntax.specs.declared.tree.Rule.{Rule as RuleOf};
 ghost use Rattle.rulesyntax.specs.declared.tree.Set.{Set as SetOf};
 ghost use Rattle.verdict.specs.Pools.{ArePools};
 ghost use Rattle.verdict.specs.Tests.{IsTest, AreTests, AreTestsLaid, IsReady};
-ghost use Rattle.verdict.specs.Matching.{state_number as number_of_state};
 ghost use Rattle.verdict.specs.Lines.{numbers_of as numbers_of_facts, port_of as port_of_facts, place_of_head, may_hold as may_hold_of, Tells, TellsIn, place_among, place_led, IsLaid, AreLaid, IsRuleLaid, IsChainLaid};
 
 use crate::facts::Facts;
 use crate::keys::keys_of;
 use crate::map::lay_map;
 use crate::matching::{Test, is_of, state_number};
+use crate::named::Named;
 use crate::pool::{ends_of, lay_side, pools_of};
-use rulesyntax::tree::{Chain, End, Head, Match, Pair, Rule, Set, Table, Transport, Verdict};
+use rulesyntax::tree::{Chain, End, Head, Match, Pair, Rule, Table, Transport, Verdict};
 use sets::{LIMIT, Set as Pool, Vmap as Map};
 use sqlite_items::Items;
 use std::alloc::{AllocError, Global};
@@ -244,7 +244,7 @@ fn lay_tests(
     alloc: Global,
     tests: &mut Items<Test>,
     pools: &mut Items<Pool>,
-    sets: &[Set],
+    sets: &Named<'_>,
     matches: &[Match],
 ) -> Result<Span, AllocError>
     requires sets { ArePools sets.now pools.old }
@@ -265,7 +265,14 @@ fn lay_tests(
     Ok(Span { start, end })
 }
 
-fn lay_rule(alloc: Global, row: &mut Row, table: &Table, rule: &Rule) -> Result<(), AllocError>
+fn lay_rule(
+    alloc: Global,
+    row: &mut Row,
+    table: &Table,
+    sets: &Named<'_>,
+    rule: &Rule,
+) -> Result<(), AllocError>
+    requires named { sets.now ≡ table.now.sets }
     requires sets { ArePools table.now.sets row.old.pools }
     requires ready { IsReady table.now.sets rule.now }
     ensures { OnOk result (IsRuleLaid table.now rule.now row.old row.new) }
@@ -274,7 +281,6 @@ fn lay_rule(alloc: Global, row: &mut Row, table: &Table, rule: &Rule) -> Result<
     lay_targets(&mut row.targets, table.chains.as_slice(), &rule.end)?;
     let map = row.maps.len();
     lay_map(alloc, &mut row.maps, &rule.end)?;
-    let sets = table.sets.as_slice();
     let matches = rule.matches.as_slice();
     let tests = lay_tests(alloc, &mut row.tests, &mut row.pools, sets, matches)?;
     let probe = probe_of(row.pools.as_slice(), row.tests.as_slice(), tests);
@@ -288,13 +294,20 @@ fn lay_rule(alloc: Global, row: &mut Row, table: &Table, rule: &Rule) -> Result<
 }
 
 // Lays the rules of a chain behind those that lie in the row.
-fn lay_chain(alloc: Global, row: &mut Row, table: &Table, rules: &[Rule]) -> Result<(), AllocError>
+fn lay_chain(
+    alloc: Global,
+    row: &mut Row,
+    table: &Table,
+    sets: &Named<'_>,
+    rules: &[Rule],
+) -> Result<(), AllocError>
+    requires named { sets.now ≡ table.now.sets }
     requires sets { ArePools table.now.sets row.old.pools }
     requires ready { (i : ℕ) (rule : RuleOf) → slice_get rules.now i ≡ Some rule → IsReady table.now.sets rule }
     ensures { OnOk result (IsChainLaid table.now rules.now row.old row.new) }
 {
     for rule in rules {
-        lay_rule(alloc, row, table, rule)?;
+        lay_rule(alloc, row, table, sets, rule)?;
     }
     Ok(())
 }
@@ -310,6 +323,10 @@ pub(crate) fn lay(alloc: Global, table: &Table) -> Result<Laid, AllocError>
     requires apart { ¬ TableOverlaps table.now }
     ensures { IfOk result (IsLaid table.now) }
 {
+    let sets = match Named::of(alloc, table.sets.as_slice()) {
+        Ok(sets) => sets,
+        Err(error) => return Err(error),
+    };
     let mut row = Row {
         lines: Items::new(alloc),
         targets: Items::new(alloc),
@@ -320,7 +337,7 @@ pub(crate) fn lay(alloc: Global, table: &Table) -> Result<Laid, AllocError>
     let mut spans = Items::new(alloc);
     for chain in table.chains.as_slice() {
         let start = row.lines.len();
-        lay_chain(alloc, &mut row, table, chain.rules.as_slice())?;
+        lay_chain(alloc, &mut row, table, &sets, chain.rules.as_slice())?;
         let end = row.lines.len();
         spans.push(Span { start, end })?;
     }

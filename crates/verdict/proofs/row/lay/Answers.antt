@@ -29,4 +29,4 @@ lay_chain-requires-clause-ready c i rule at =
     ready_at c.args.table.now c.loop-chain.chain-index i c.chain-item.result rule c.requires.typed c.requires.few c.requires.apart here (subst (λ (rules : List Rule). slice_get rules i ≡ Some rule) c.as_slice-in-loop-chain.ensures at)
 
 pub pools_of-requires-clause-typed : goal.pools_of-requires-clause-typed
-pools_of-requires-clause-typed c = subst (λ sets. list_any is_wrong_set sets ≡ false) (sym c.as_slice.ensures) (sets_typed c.args.table.now.sets c.args.table.now.chains c.requires.typed)
+pools_of-requires-clause-typed c = subst (λ sets. list_any is_wrong_set sets ≡ false) (sym c.as_slice-2.ensures) (sets_typed c.args.table.now.sets c.args.table.now.chains c.requires.typed)
