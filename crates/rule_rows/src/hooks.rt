@@ -108,7 +108,10 @@ fn filtered(alloc: Global, chains: &str, facts: &Facts) -> Result<Forwarding, Fa
     Ok(forward(&loaded.rules, &loaded.bounds, facts))
 }
 
-const ROWS: [(&str, u16, Forwarding); 8] = [
+// Its pairs don't stand in the order of their keys: one read in that order is the other's opposite.
+const MAP: &str = "chain sub { return; } chain fw { type filter hook forward priority 0; udp dport vmap { 443 : drop, 80 : accept, 53 : jump sub, 22 : goto sub }; drop; }";
+
+const ROWS: [(&str, u16, Forwarding); 12] = [
     (
         "chain sub { return; } chain fw { type filter hook forward priority 0; jump sub; drop; }",
         53,
@@ -144,6 +147,10 @@ const ROWS: [(&str, u16, Forwarding); 8] = [
         53,
         Forwarding::Drop,
     ),
+    (MAP, 443, Forwarding::Drop),
+    (MAP, 80, Forwarding::Pass),
+    (MAP, 53, Forwarding::Drop),
+    (MAP, 22, Forwarding::Pass),
     ("", 53, Forwarding::Pass),
 ];
 
