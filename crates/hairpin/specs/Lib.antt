@@ -1,4 +1,5 @@
 pub mod Causes
+pub mod Going
 pub mod Legs
 pub mod Plans
 pub mod Sound

@@ -1,0 +1,30 @@
+-- What it means that a session goes on.
+use Rattle.std.specs.Prelude.{◌≡◌, ℕ, Some, None, Result, Ok, Err, bit_or, false}
+use Rattle.packet.specs.declared.endpoint.Flags.{Flags}
+use Rattle.sessions.specs.Life.{IsSeen, restarts, shown}
+use Rattle.sessions.specs.Table.{Sessions, at}
+use Rattle.sessions.specs.declared.session.Change.TheVariants.{Seen}
+use Rattle.sessions.specs.declared.session.Opener.{Opener}
+use Rattle.sessions.specs.declared.session.Session.{Session}
+use Rattle.hairpin.specs.declared.cause.Cause.{Cause}
+use Rattle.hairpin.specs.declared.going.Going.{Going}
+use Rattle.hairpin.specs.declared.plan.Plan.{Plan}
+
+-- the plan of a packet that leaves so
+abbrev pub plan_of : Going → Plan
+plan_of g = record { first = Seen g.slot g.bits; second = None; iface = g.iface; src = g.src; dst = g.dst }
+
+abbrev pub planned : Result Going Cause → Result Plan Cause
+planned (Ok g) = Ok (plan_of g)
+planned (Err cause) = Err cause
+
+-- what the packet shows of its session was seen before
+abbrev pub IsQuiet : Sessions → Going → Type 0
+IsQuiet table g = (s : Session) → at table g.slot ≡ Some s → bit_or s.seen g.bits ≡ s.seen
+
+-- a packet from this side doesn't begin the session anew, and shows these bits of it, which were seen before
+pub record ShowsNone (s : Session) (sender : Opener) (flags : Flags) (bits : ℕ) : Type 0 where
+  pub goes_on : restarts s flags ≡ false
+  pub are : bits ≡ shown s.proto s.opener sender flags
+  pub known : IsSeen s.proto bits
+  pub seen : bit_or s.seen bits ≡ s.seen
