@@ -5,6 +5,7 @@ pub mod Judging
 pub mod Lasting
 pub mod Later
 pub mod Passing
+pub mod Quiet
 pub mod Reading
 pub mod Resuming
 pub mod Slots

@@ -1,12 +1,13 @@
 //! `Core`: all the state of a gateway (the text in force and its rules, the sessions, the clock), and the step
 //! that an event does to it. It gives no numbers and holds nothing: that is for the crates above.
-ghost use Rattle.std.specs.Prelude.{◌≡◌, ◌↔◌, ◌<◌, ◌≤◌, ◌+◌, ◌*◌, ◌++◌, ◌∷◌, [], ℕ, List, length, IsErrOf, OnOk, Ok, Err, Result as Outcome, IsTrue, IfOk, IfErr, IsOk, IsOkAnd, OnErr};
+ghost use Rattle.std.specs.Prelude.{◌≡◌, ◌↔◌, ◌<◌, ◌≤◌, ◌+◌, ◌*◌, ◌++◌, ◌∷◌, [], ℕ, List, length, IsErrOf, OnOk, Ok, Err, Result as Outcome, IsTrue, IfOk, IfErr, IfSome, IsOk, IsOkAnd, OnErr};
 ghost use Rattle.packet.specs.Config.{is_config};
 ghost use Rattle.packet.specs.Fields.{fields};
 ghost use Rattle.packet.specs.Route.{route as route_for};
 ghost use Rattle.packet.specs.Translated.{translated};
 ghost use Rattle.sessions.specs.Listing.{listing};
 ghost use Rattle.hairpin.specs.Causes.{number};
+ghost use Rattle.hairpin.specs.Going.{IsQuiet, planned};
 ghost use Rattle.hairpin.specs.Legs.{Passage};
 ghost use Rattle.hairpin.specs.Plans.{Plans};
 ghost use Rattle.hairpin.specs.Sound.{KeepBounds};
@@ -30,7 +31,7 @@ use crate::event::{Answer, Event, NoMemory, What};
 use crate::flows::Flows;
 use crate::notes::{Notes, StepFault, Unkept};
 use durable::Entry;
-use hairpin::{Cause, Plan, both, in_leg, out_leg};
+use hairpin::{Cause, Going, Plan, both, comes_in, goes_out, in_leg, out_leg};
 use packet::bounds::Bounds;
 use packet::endpoint::{Endpoint, Iface};
 use packet::rewriting::rewrite;
@@ -160,6 +161,47 @@ fn plan_for(
     }
 }
 
+// How a packet with these fields leaves, where its session goes on and the first look tells it.
+fn glance(
+    flows: &Flows,
+    rules: &Rules,
+    bounds: &Bounds,
+    route: Route,
+    view: &View,
+) -> Option<Result<Going, Cause>>
+    ensures way { (text : List ℕ) (now : ℕ) → IfSome result (λ going. Plans flows.now.translations.external flows.now.table.held now (planned going)
+        (leg bounds.now (state_of text rules.now flows.now.table.held now) view.now route)) }
+    ensures quiet { IfSome result (λ going. IfOk going (IsQuiet flows.now.table)) }
+{
+    match route {
+        Route::Out => goes_out(bounds, rules, flows.table(), view),
+        Route::In => comes_in(bounds, rules, flows.table(), view),
+        Route::Hairpin => None,
+    }
+}
+
+// What a packet comes to whose session goes on.
+fn go_through(flows: &mut Flows, going: &Result<Going, Cause>, bytes: Bytes, now: u64) -> Answer
+    requires read { IsOkAnd (fields bytes) (λ view. 2 ≤ view.ttl) }
+    requires latest { IsLatest flows.old.table.held now }
+    requires planned { (way : Outcome Passage Reason) × Plans flows.old.translations.external flows.old.table.held now (planned going.now) way }
+    requires quiet { IfOk going.now (IsQuiet flows.old.table) }
+    ensures leads { (way : Outcome Passage Reason) → Plans flows.old.translations.external flows.old.table.held now (planned going.now) way
+        → Leads (λ s. sent s bytes way) flows.old.table.held flows.new.table.held now result }
+    ensures external { flows.new.translations.external ≡ flows.old.translations.external }
+    ensures none { (way : Outcome Passage Reason) → Plans flows.old.translations.external flows.old.table.held now (planned going.now) way
+        → of_way (listing flows.old.table.held) way ≡ [] }
+{
+    flows.table().is_sound();
+    match going {
+        Err(cause) => drop_for(*cause),
+        Ok(going) => {
+            flows.go_on(going, now);
+            Answer::Forward(going.iface, translate(bytes, going.src, going.dst))
+        }
+    }
+}
+
 // What a packet comes to, at sessions that are alive.
 fn pass_on<N: Notes>(
     flows: &mut Flows,
@@ -197,10 +239,13 @@ fn pass_on<N: Notes>(
         Err(fault) => Ok(drop_for(Cause::Packet(fault))),
         Ok(view) => match bounds.route(iface, &view) {
             Err(fault) => Ok(drop_for(Cause::Route(fault))),
-            Ok(route) => {
-                let plan = plan_for(flows, &in_force.rules, bounds, route, &view, now);
-                put_through(flows, ready, &plan, bytes, now, notes)
-            }
+            Ok(route) => match glance(flows, &in_force.rules, bounds, route, &view) {
+                Some(going) => Ok(go_through(flows, &going, bytes, now)),
+                None => {
+                    let plan = plan_for(flows, &in_force.rules, bounds, route, &view, now);
+                    put_through(flows, ready, &plan, bytes, now, notes)
+                }
+            },
         },
     }
 }

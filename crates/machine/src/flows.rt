@@ -11,6 +11,7 @@ ghost use Rattle.sessions.specs.declared.session.Session.{Session as Flow};
 ghost use Rattle.timers.specs.Due.{at as idle_at, IsLatest as IsLatestIdle, Updates as IdleUpdates};
 ghost use Rattle.mappings.specs.declared.map.Pair.{Pair as Mapping};
 ghost use Rattle.mappings.specs.Map.{times};
+ghost use Rattle.hairpin.specs.Going.{plan_of};
 ghost use Rattle.hairpin.specs.Legs.{put_all};
 ghost use Rattle.hairpin.specs.Plans.{Became, Gives, GiveAll};
 ghost use Rattle.hairpin.specs.Tallies.{tally};
@@ -21,8 +22,8 @@ ghost use Rattle.machine.specs.Flows.{IsDue, IsLatest, IsReady, MayJoin, adds as
 use crate::notes::{Notes, StepFault};
 use crate::noting::{entry_of, flow_of, makes_entry, note};
 use durable::Entry;
-use hairpin::Plan;
 use hairpin::translations::Translations;
+use hairpin::{Going, Plan};
 use packet::bounds::Bounds;
 use sessions::{Change, Opener, Session, Slot, Table};
 use std::alloc::{AllocError, Global};
@@ -362,6 +363,19 @@ impl Flows {
             }
             Err(fault) => Err(fault),
         }
+    }
+
+    /// A packet passed whose session goes on, at the second `now`.
+    pub fn go_on(&mut self, going: &Going, now: u64)
+        requires latest { IsLatest self.old.table.held now }
+        requires give { (ts : List Flow) × GiveAll self.old.translations.external self.old.table.held now (plan_of going.now).first (plan_of going.now).second ts }
+        ensures listing { (ts : List Flow) → GiveAll self.old.translations.external self.old.table.held now (plan_of going.now).first (plan_of going.now).second ts
+            → listing self.new.table.held ≡ put_all ts (listing self.old.table.held) }
+        ensures latest { IsLatest self.new.table.held now }
+        ensures ready { (n : ℕ) → IsReady n self.old → IsReady n self.new }
+        ensures external { self.new.translations.external ≡ self.old.translations.external }
+    {
+        self.see(going.slot, going.bits, now);
     }
 
     /// Ends the session of the slot.

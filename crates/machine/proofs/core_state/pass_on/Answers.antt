@@ -19,3 +19,11 @@ put_through-requires-clause-read g c =
 
 pub put_through-requires-clause-planned : goal.put_through-requires-clause-planned
 put_through-requires-clause-planned g c = (_, c.plan_for-plan.ensures c.args.in_force.now.text)
+
+pub go_through-requires-clause-read : goal.go_through-requires-clause-read
+go_through-requires-clause-read g c =
+    let is = rw c.as_slice.ensures.value at (sym c.read.ensures ∙ c.in-Ok.is) in
+    subst (λ (r : Result View Fault). IsOkAnd r (λ (v : View). 2 ≤ v.ttl)) (sym is) (routed_is_on_route c.args.bounds.now c.args.iface c.in-Ok.view c.in-Ok-route.route (sym c.route.ensures ∙ c.in-Ok-route.is)).0
+
+pub go_through-requires-clause-planned : goal.go_through-requires-clause-planned
+go_through-requires-clause-planned g c = (_, c.in-Some.ensures.way c.args.in_force.now.text c.args.now)
