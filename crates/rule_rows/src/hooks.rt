@@ -108,8 +108,9 @@ fn filtered(alloc: Global, chains: &str, facts: &Facts) -> Result<Forwarding, Fa
     Ok(forward(&loaded.rules, &loaded.bounds, facts))
 }
 
-// Its pairs don't stand in the order of their keys: one read in that order is the other's opposite.
-const MAP: &str = "chain sub { return; } chain fw { type filter hook forward priority 0; udp dport vmap { 443 : drop, 80 : accept, 53 : jump sub, 22 : goto sub }; drop; }";
+// A map whose pairs don't stand in the order of their keys; a row asks for each of them.
+const MAP: &str =
+    "chain sub { return; } chain fw { type filter hook forward priority 0; udp dport vmap { 443 : drop, 80 : accept, 53 : jump sub, 22 : goto sub }; drop; }";
 
 const ROWS: [(&str, u16, Forwarding); 12] = [
     (
