@@ -1,8 +1,8 @@
-pub mod Along
 pub mod Clashing
 pub mod Finding
 pub mod Found
 pub mod Held
+pub mod InOrder
 pub mod Indexed
 pub mod KeyNumbers
 pub mod LifeLemmas
@@ -12,4 +12,3 @@ pub mod OneToOne
 pub mod Puts
 pub mod Sets
 pub mod Stilled
-pub mod TwoRows

@@ -2,7 +2,6 @@ pub mod Index
 pub mod Laws
 pub mod Life
 pub mod Listing
-pub mod Merging
 pub mod Sound
 pub mod Stilled
 pub mod Table

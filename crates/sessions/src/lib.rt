@@ -4,8 +4,8 @@
 //! - `session`: what a session is, and what may happen to it
 //! - `life`: what its packets have shown, its phase, and how long it may be idle
 //! - `table`: the sessions that are held, each in a slot that stays until the session ends
+//! - `listing`: what a table holds, in order
 //! - `index`: the rows of slots by which a table finds its sessions
-//! - `merging`: two of those rows taken as one, which lists the sessions
 //! - `hints`: guesses of slots, which are looked at before the rows
 //! - `keys`: the numbers that those rows go by
 //! - `laws`: what the definitions promise, as functions without a body
@@ -16,7 +16,7 @@ mod index;
 mod keys;
 mod laws;
 mod life;
-mod merging;
+mod listing;
 mod session;
 mod table;
 

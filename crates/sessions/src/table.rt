@@ -9,7 +9,7 @@ ghost use Rattle.sessions.specs.Table.{at, count, most_sessions, Updates, HasIns
 use crate::hints::Hints;
 use crate::index::{Index, clashes, find_inside, find_outside, guess_inside, guess_outside};
 use crate::keys::has_endpoints;
-use crate::merging::merged;
+use crate::listing::sorted;
 use crate::{Opener, Session};
 use packet::endpoint::{Endpoint, Proto};
 use slab::Slab;
@@ -342,6 +342,6 @@ impl Table {
     pub fn list(&self, alloc: Global) -> Result<Vec<Session>, AllocError>
         ensures { IfOk result (λ sessions. sessions.items ≡ listing self.now.held) }
     {
-        merged(alloc, &self.sessions, &self.index)
+        sorted(alloc, &self.sessions)
     }
 }

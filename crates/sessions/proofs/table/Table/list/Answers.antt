@@ -7,4 +7,4 @@ use Rattle.sessions.proofs.table.Table.list.Goals as goal
 pub returns : goal.returns
 returns c =
     let held = c.self.inside.sessions.slots in
-    rw (← c.self.view_is) (IfOk-weaker c.merged.result (λ merged. IsSetOf held merged.items) (λ merged. merged.items ≡ listing held) (λ merged is. IsSetOf-unique held c.self.invariant.sound merged.items is) c.merged.ensures)
+    rw (← c.self.view_is) (IfOk-weaker c.sorted.result (λ sorted. IsSetOf held sorted.items) (λ sorted. sorted.items ≡ listing held) (λ sorted is. IsSetOf-unique held c.self.invariant.sound sorted.items is) c.sorted.ensures)
