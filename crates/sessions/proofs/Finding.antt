@@ -10,10 +10,10 @@ use Rattle.sessions.specs.Table.{AnyClash, Clash}
 use Rattle.sessions.specs.Index.{Finds, LacksName, PutsName}
 use Rattle.sessions.proofs.Held.{held_in_range}
 
-puts-here : (old new : List Entry) (key other : ℕ) (value : Option ℕ) → Puts old new key value → other ≡ key → value_at new other ≡ value
+pub puts-here : (old new : List Entry) (key other : ℕ) (value : Option ℕ) → Puts old new key value → other ≡ key → value_at new other ≡ value
 puts-here old new key other value puts e = puts other ∙ ap (λ b. cond b value (value_at old other)) (eq-eqb other key e)
 
-puts-away : (old new : List Entry) (key other : ℕ) (value : Option ℕ) → Puts old new key value → other ≢ key → value_at new other ≡ value_at old other
+pub puts-away : (old new : List Entry) (key other : ℕ) (value : Option ℕ) → Puts old new key value → other ≢ key → value_at new other ≡ value_at old other
 puts-away old new key other value puts ne = puts other ∙ ap (λ b. cond b value (value_at old other)) (ne_eqb other key ne)
 
 -- a slot that holds none isn't one that holds a session

@@ -10,7 +10,7 @@ use Rattle.packet.specs.declared.endpoint.Endpoint.{Endpoint}
 use Rattle.packet.specs.Numbers.{proto_number}
 use Rattle.sessions.specs.declared.session.Session.{Session}
 use Rattle.sessions.specs.Listing.{key, below}
-use Rattle.sessions.specs.Index.{endpoint_number, key_number, IsEndpoint, AreEndpoints}
+use Rattle.sessions.specs.Index.{endpoint_number, key_number, mapping_number, IsEndpoint, AreEndpoints}
 use Rattle.sessions.proofs.Sets.{number-same, same_endpoints}
 
 -- ---- two numbers behind one another
@@ -54,6 +54,15 @@ key-parts p q a b r s fa fb fr fs is =
 
 pub key-from : (p q : Proto) (a b r s : Endpoint) → (p ≡ q) × (a ≡ b) × (r ≡ s) → key_number p a r ≡ key_number q b s
 key-from p q a b r s h = ap (λ x. key_number x a r) h.0 ∙ ap (λ x. key_number q x r) h.1 ∙ ap (λ x. key_number q b x) h.2
+
+-- a number stands for one protocol and endpoint
+pub mapping-parts : (p q : Proto) (a b : Endpoint) → IsEndpoint a → IsEndpoint b → mapping_number p a ≡ mapping_number q b → (p ≡ q) × (a ≡ b)
+mapping-parts p q a b fa fb is =
+    let parts = long _ _ _ _ (endpoint-few a fa) (endpoint-few b fb) is in
+    (number-same p q parts.0, endpoint-same a b fa fb parts.1)
+
+pub mapping-from : (p q : Proto) (a b : Endpoint) → p ≡ q → a ≡ b → mapping_number p a ≡ mapping_number q b
+mapping-from p q a b proto near = ap (λ x. mapping_number x a) proto ∙ ap (λ x. mapping_number q x) near
 
 -- a key between the least one of an endpoint and one of its own is its own
 pub key-between : (p q : Proto) (a b r s least : Endpoint) → IsEndpoint a → IsEndpoint b → IsEndpoint r → IsEndpoint s → endpoint_number least ≡ 0

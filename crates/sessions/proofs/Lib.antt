@@ -8,6 +8,7 @@ pub mod KeyNumbers
 pub mod LifeLemmas
 pub mod Listed
 pub mod Mapped
+pub mod Moved
 pub mod OneToOne
 pub mod Puts
 pub mod Sets

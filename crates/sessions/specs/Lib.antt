@@ -1,7 +1,9 @@
 pub mod Index
+pub mod Indexed
 pub mod Laws
 pub mod Life
 pub mod Listing
 pub mod Sound
 pub mod Stilled
 pub mod Table
+pub mod Translated

@@ -1,30 +1,33 @@
-//! The rows of slots by which a table finds its sessions, and the guesses that are looked at before them.
+//! By what a table finds its sessions, and the guesses that are looked at before.
 //!
-//! A translated session stands in two rows, which have its like alone: so whichever entry of an endpoint comes
-//! first tells the mapping of that endpoint. Any other stands in one, since it is called the same on both sides.
-ghost use Rattle.std.specs.Prelude.{◌≡◌, ◌⊎◌, ◌↔◌, ◌+◌, ◌<◌, ◌≤◌, [], IsTrue, IsOk, None, Some, IfSome, IfNone, OnOk};
-ghost use Rattle.rows.specs.Held.{AreRising, at, entries_from};
-ghost use Rattle.sessions.specs.Index.{ClashesAt, IsAt, IsIndexed, IsNowhere, LacksName, LacksNames, PutsName, PutsNames, first_value, room_of};
+//! A session that isn't translated is called the same on both sides and stands in a row of its like. The
+//! translated ones are found by their mappings (`translated`).
+ghost use Rattle.std.specs.Prelude.{◌≡◌, ◌≢◌, ◌↔◌, ◌+◌, ◌<◌, ◌≤◌, ℕ, IsTrue, IsOk, true, None, Some, IfSome, IfNone, OnOk, slice_index_or};
+ghost use Rattle.rows.specs.Held.{at};
+ghost use Rattle.buckets.specs.Held.{KeepsAll};
+ghost use Rattle.sessions.specs.Index.{ClashesAt, IsAt, IsNowhere, LacksName, PutsName, flow_name};
+ghost use Rattle.sessions.specs.Indexed.{AddsTo, EndsIn, IsIndexed, KeepsIndex, room_of};
+ghost use Rattle.sessions.specs.Listing.{is_translated as translates};
 ghost use Rattle.sessions.specs.Table.{AnyClash, BreakMapping, HasInside, HasOutside};
+ghost use Rattle.sessions.specs.Translated.{IsTold, LacksMapping, first_by_inside, first_by_outside, room_in};
 
 use crate::Session;
 use crate::hints::Hints;
-use crate::keys::{flow_key, has_endpoints, inside_key, is_translated, key, outside_key};
+use crate::keys::{flow_key, has_endpoints, is_translated, key};
 use crate::session::clash;
+use crate::translated::{Translated, is_inside, is_outside};
 use packet::endpoint::{Endpoint, Proto};
 use rows::Rows;
 use slab::Slab;
 use std::alloc::{AllocError, Global};
 
-/// The slots of sessions, by keys of 104 bits each.
+/// The slots of sessions.
 #[derive(Drop)]
 pub struct Index {
-    /// Those that aren't translated, by protocol, their own and remote endpoint.
+    /// Those that aren't translated, by protocol, their own and remote endpoint: keys of 104 bits.
     pub flows: Rows,
-    /// The translated ones, by protocol, inside and remote endpoint.
-    pub insides: Rows,
-    /// The translated ones, by protocol, outside and remote endpoint.
-    pub outsides: Rows,
+    /// The translated ones.
+    pub translated: Translated,
     /// Guesses of slots, by either side.
     pub hints: Hints,
 }
@@ -32,14 +35,14 @@ pub struct Index {
 impl Index {
     /// The index of no session. This takes no memory.
     pub fn new(alloc: Global) -> Index
-        ensures flows { result.flows.held ≡ [] }
-        ensures insides { result.insides.held ≡ [] }
-        ensures outsides { result.outsides.held ≡ [] }
+        ensures flows { (key : ℕ) → at result.flows key ≡ None }
+        ensures insides { (key : ℕ) → at result.translated.insides key ≡ None }
+        ensures outsides { (key : ℕ) → at result.translated.outsides key ≡ None }
+        ensures others { (key : ℕ) → at result.translated.others key ≡ None }
     {
         Index {
             flows: Rows::new(alloc),
-            insides: Rows::new(alloc),
-            outsides: Rows::new(alloc),
+            translated: Translated::new(alloc),
             hints: Hints::new(alloc),
         }
     }
@@ -48,51 +51,72 @@ impl Index {
     pub fn reserve_one(&mut self) -> Result<(), AllocError>
         ensures ok { OnOk result (0 < room_of self.new) }
         ensures succeeds { 0 < room_of self.old → IsOk result }
-        ensures flows { self.new.flows.held ≡ self.old.flows.held }
-        ensures insides { self.new.insides.held ≡ self.old.insides.held }
-        ensures outsides { self.new.outsides.held ≡ self.old.outsides.held }
+        ensures keeps { KeepsIndex self.old self.new }
         ensures room { room_of self.old ≤ room_of self.new }
     {
         self.flows.reserve_one()?;
-        self.insides.reserve_one()?;
-        self.outsides.reserve_one()
+        self.translated.reserve_one()
     }
 
     /// Makes room for two more sessions.
     pub fn reserve(&mut self) -> Result<(), AllocError>
         ensures ok { OnOk result (2 ≤ room_of self.new) }
         ensures succeeds { 2 ≤ room_of self.old → IsOk result }
-        ensures flows { self.new.flows.held ≡ self.old.flows.held }
-        ensures insides { self.new.insides.held ≡ self.old.insides.held }
-        ensures outsides { self.new.outsides.held ≡ self.old.outsides.held }
+        ensures keeps { KeepsIndex self.old self.new }
         ensures room { room_of self.old ≤ room_of self.new }
     {
         self.flows.reserve()?;
-        self.insides.reserve()?;
-        self.outsides.reserve()
+        self.translated.reserve()
     }
 
-    /// Puts a session in, which no row has, and for which there is room.
+    /// Puts a session in, which isn't in, and for which there is room.
     pub fn insert(&mut self, session: &Session, slot: usize)
-        requires absent { LacksNames self.old session.now }
+        requires flow { LacksName self.old.flows.held (flow_name session.now) }
+        requires mapping { translates session.now ≡ true → LacksMapping self.old.translated session.now }
         requires room { 0 < room_of self.old }
-        ensures names { PutsNames self.old self.new session.now (Some slot) }
+        ensures flow { PutsName self.old.flows.held self.new.flows.held (flow_name session.now) (Some slot) }
+        ensures taken { AddsTo self.old.translated self.new.translated session.now slot }
         ensures room { room_of self.old ≤ room_of self.new + 1 }
     {
         put(&mut self.flows, flow_key(session), slot);
-        put(&mut self.insides, inside_key(session), slot);
-        put(&mut self.outsides, outside_key(session), slot);
+        add_translated(&mut self.translated, session, slot);
         self.hints.put_both(session, slot);
     }
 
-    /// Takes a session out of each row.
-    pub fn remove(&mut self, session: &Session)
-        ensures names { PutsNames self.old self.new session.now None }
+    /// Takes the session of a slot out.
+    pub fn remove(&mut self, sessions: &Slab<Session>, session: &Session, slot: usize)
+        requires indexed { IsIndexed sessions.now.slots self.old }
+        requires held { slice_index_or sessions.now.slots slot None ≡ Some session.now }
+        ensures flow { PutsName self.old.flows.held self.new.flows.held (flow_name session.now) None }
+        ensures gone { EndsIn sessions.now.slots self.old.translated self.new.translated session.now slot }
         ensures room { room_of self.old ≤ room_of self.new }
     {
         take(&mut self.flows, flow_key(session));
-        take(&mut self.insides, inside_key(session));
-        take(&mut self.outsides, outside_key(session));
+        end_translated(&mut self.translated, sessions, session, slot);
+    }
+}
+
+// Puts a session in if it is translated.
+fn add_translated(row: &mut Translated, session: &Session, slot: usize)
+    requires lacks { translates session.now ≡ true → LacksMapping row.old session.now }
+    requires room { 0 < room_in row.old }
+    ensures taken { AddsTo row.old row.new session.now slot }
+    ensures room { room_in row.old ≤ room_in row.new + 1 }
+{
+    if is_translated(session) {
+        row.insert(session, slot);
+    }
+}
+
+// Takes the session of a slot out if it is translated.
+fn end_translated(row: &mut Translated, sessions: &Slab<Session>, session: &Session, slot: usize)
+    requires told { IsTold sessions.now.slots row.old }
+    requires held { slice_index_or sessions.now.slots slot None ≡ Some session.now }
+    ensures gone { EndsIn sessions.now.slots row.old row.new session.now slot }
+    ensures room { room_in row.old ≤ room_in row.new }
+{
+    if is_translated(session) {
+        row.remove(sessions, session, slot);
     }
 }
 
@@ -151,34 +175,31 @@ pub fn find_inside(
     if let Some(slot) = guess_inside(sessions, index, proto, inside, remote) {
         return Some(slot);
     }
-    in_either(&index.insides, &index.flows, key(proto, inside, remote))
+    let first = index.translated.first_inside(proto, inside);
+    seek_inside(sessions, index, first, proto, inside, remote)
 }
 
-// The slot under this key in the first of the two rows that has it.
-fn in_either(translated: &Rows, others: &Rows, wanted: u128) -> Option<usize>
-    ensures found { IfSome result (λ slot. (at translated.now wanted ≡ Some slot) ⊎ (at others.now wanted ≡ Some slot)) }
-    ensures absent { IfNone result ((at translated.now wanted ≡ None) × (at others.now wanted ≡ None)) }
-{
-    if let Some(slot) = translated.get(wanted) {
-        return Some(slot);
-    }
-    others.get(wanted)
-}
-
-// Whether the slot holds the session of this protocol, inside and remote endpoint.
-fn is_inside(
+// As `find_inside`, without a guess, where the first translated session of the inside endpoint is known.
+fn seek_inside(
     sessions: &Slab<Session>,
-    slot: usize,
+    index: &Index,
+    first: Option<usize>,
     proto: Proto,
     inside: Endpoint,
     remote: Endpoint,
-) -> bool
-    ensures { IsTrue result ↔ IsAt sessions.now.slots (HasInside proto inside remote) slot }
+) -> Option<usize>
+    requires indexed { IsIndexed sessions.now.slots index.now }
+    requires first { first ≡ first_by_inside index.now.translated proto inside }
+    ensures found { IfSome result (IsAt sessions.now.slots (HasInside proto inside remote)) }
+    ensures absent { IfNone result (IsNowhere sessions.now.slots (HasInside proto inside remote)) }
 {
-    match sessions.get(slot) {
-        Some(held) => held.proto == proto && held.inside == inside && held.remote == remote,
-        None => false,
+    if let Some(slot) = index
+        .translated
+        .find_inside(sessions, first, proto, inside, remote)
+    {
+        return Some(slot);
     }
+    index.flows.get(key(proto, inside, remote))
 }
 
 /// The slot of the session of this protocol, outside and remote endpoint, if it is the one that is guessed.
@@ -213,67 +234,68 @@ pub fn find_outside(
     if let Some(slot) = guess_outside(sessions, index, proto, outside, remote) {
         return Some(slot);
     }
-    // One that isn't translated is called the same on both sides.
-    in_either(&index.outsides, &index.flows, key(proto, outside, remote))
+    let first = index.translated.first_outside(proto, outside);
+    seek_outside(sessions, index, first, proto, outside, remote)
 }
 
-// Whether the slot holds the session of this protocol, outside and remote endpoint.
-fn is_outside(
+// As `find_outside`, without a guess, where the first translated session of the outside endpoint is known.
+fn seek_outside(
     sessions: &Slab<Session>,
-    slot: usize,
+    index: &Index,
+    first: Option<usize>,
     proto: Proto,
     outside: Endpoint,
     remote: Endpoint,
-) -> bool
-    ensures { IsTrue result ↔ IsAt sessions.now.slots (HasOutside proto outside remote) slot }
+) -> Option<usize>
+    requires indexed { IsIndexed sessions.now.slots index.now }
+    requires first { first ≡ first_by_outside index.now.translated proto outside }
+    ensures found { IfSome result (IsAt sessions.now.slots (HasOutside proto outside remote)) }
+    ensures absent { IfNone result (IsNowhere sessions.now.slots (HasOutside proto outside remote)) }
 {
-    match sessions.get(slot) {
-        Some(held) => held.proto == proto && held.outside == outside && held.remote == remote,
-        None => false,
+    if let Some(slot) = index
+        .translated
+        .find_outside(sessions, first, proto, outside, remote)
+    {
+        return Some(slot);
     }
+    // One that isn't translated is called the same on both sides.
+    index.flows.get(key(proto, outside, remote))
 }
 
-/// Whether some session clashes with this one.
+/// Whether some session clashes with this one. The first sessions of its endpoints serve all that is asked, and
+/// nothing is guessed, since a session that was guessed would be there.
 pub fn clashes(sessions: &Slab<Session>, index: &Index, session: &Session) -> bool
     requires { IsIndexed sessions.now.slots index.now }
     ensures { IsTrue result ↔ AnyClash sessions.now.slots session.now }
 {
     let (proto, remote) = (session.proto, session.remote);
-    if find_inside(sessions, index, proto, session.inside, remote).is_some() {
+    let near = index.translated.first_inside(proto, session.inside);
+    if seek_inside(sessions, index, near, proto, session.inside, remote).is_some() {
         return true;
     }
-    if find_outside(sessions, index, proto, session.outside, remote).is_some() {
+    let far = index.translated.first_outside(proto, session.outside);
+    if seek_outside(sessions, index, far, proto, session.outside, remote).is_some() {
         return true;
     }
-    breaks_mapping(sessions, index, session)
+    breaks_mapping(sessions, index, near, far, session)
 }
 
-// Whether the session clashes with one of the mappings of its endpoints, which one session each tells.
-fn breaks_mapping(sessions: &Slab<Session>, index: &Index, session: &Session) -> bool
-    requires { IsIndexed sessions.now.slots index.now }
+// Whether the session clashes with the first one of either of its endpoints, which tells the mapping of it.
+fn breaks_mapping(
+    sessions: &Slab<Session>,
+    index: &Index,
+    near: Option<usize>,
+    far: Option<usize>,
+    session: &Session,
+) -> bool
+    requires indexed { IsIndexed sessions.now.slots index.now }
+    requires near { near ≡ first_by_inside index.now.translated session.now.proto session.now.inside }
+    requires far { far ≡ first_by_outside index.now.translated session.now.proto session.now.outside }
     ensures broken { IsTrue result → AnyClash sessions.now.slots session.now }
     ensures kept { ¬ IsTrue result → IsNowhere sessions.now.slots (BreakMapping session.now) }
 {
-    if !is_translated(session) {
-        return false;
-    }
     has_endpoints(session);
-    let least = Endpoint { addr: 0, port: 0 };
-    let inside = first_from(&index.insides, key(session.proto, session.inside, least));
-    let outside = first_from(&index.outsides, key(session.proto, session.outside, least));
-    clashes_at(sessions, inside, session) || clashes_at(sessions, outside, session)
-}
-
-// The slot of the first entry whose key isn't below this one.
-fn first_from(row: &Rows, from: u128) -> Option<usize>
-    ensures value { result ≡ first_value (entries_from from row.now.held) }
-    ensures rising { AreRising row.now.held }
-{
-    row.is_rising();
-    match row.iter_from(from).next() {
-        Some(entry) => Some(entry.value),
-        None => None,
-    }
+    clashes_at(sessions, near, session) || clashes_at(sessions, far, session)
 }
 
 fn clashes_at(sessions: &Slab<Session>, slot: Option<usize>, session: &Session) -> bool

@@ -1,6 +1,6 @@
 //! The numbers by which sessions are found.
 ghost use Rattle.std.specs.Prelude.{◌≡◌, ◌+◌, ◌*◌, ◌<◌, IsTrue, true};
-ghost use Rattle.sessions.specs.Index.{AreEndpoints, IsEndpoint, endpoint_number, flow_name, inside_name, key_number, outside_name};
+ghost use Rattle.sessions.specs.Index.{AreEndpoints, IsEndpoint, endpoint_number, flow_name, key_number, mapping_number};
 ghost use Rattle.sessions.specs.Listing.{is_translated as translates};
 
 use crate::Session;
@@ -38,24 +38,13 @@ pub fn flow_key(session: &Session) -> Option<u128>
     Some(key(session.proto, session.inside, session.remote))
 }
 
-/// The key by which a translated session is found from inside.
-pub fn inside_key(session: &Session) -> Option<u128>
-    ensures { result ≡ inside_name session.now }
+/// Protocol and an endpoint behind one another, as a number of 56 bits.
+pub fn mapping_key(proto: Proto, near: Endpoint) -> u64
+    ensures value { result ≡ mapping_number proto near }
+    ensures near { IsEndpoint near }
 {
-    if !is_translated(session) {
-        return None;
-    }
-    Some(key(session.proto, session.inside, session.remote))
-}
-
-/// The key by which a translated session is found from outside.
-pub fn outside_key(session: &Session) -> Option<u128>
-    ensures { result ≡ outside_name session.now }
-{
-    if !is_translated(session) {
-        return None;
-    }
-    Some(key(session.proto, session.outside, session.remote))
+    let addr = u64::from(near.addr) * 0x1_0000;
+    u64::from(proto.number()) * 0x1_0000_0000_0000 + addr + u64::from(near.port)
 }
 
 /// Whether the session is called something else outside.

@@ -4,10 +4,11 @@
 //! - `session`: what a session is, and what may happen to it
 //! - `life`: what its packets have shown, its phase, and how long it may be idle
 //! - `table`: the sessions that are held, each in a slot that stays until the session ends
-//! - `listing`: what a table holds, in order
-//! - `index`: the rows of slots by which a table finds its sessions
-//! - `hints`: guesses of slots, which are looked at before the rows
-//! - `keys`: the numbers that those rows go by
+//! - `index`: by what a table finds its sessions
+//! - `translated`: how those of them that are translated are found, by their mappings
+//! - `listing`: the sessions in order
+//! - `hints`: guesses of slots, which are looked at first
+//! - `keys`: the numbers that sessions and mappings are found by
 //! - `laws`: what the definitions promise, as functions without a body
 #![tactic(auto)]
 
@@ -19,6 +20,7 @@ mod life;
 mod listing;
 mod session;
 mod table;
+mod translated;
 
 pub use laws::{
     clashes_tells_clash, listing_is_the_set, mappings_are_one_to_one, moments_do_not_count,

@@ -94,7 +94,7 @@ pub struct Table {
 impl Model for Table {
     ghost use Rattle.std.specs.Prelude.{◌-◌, min};
     ghost use Rattle.slab.specs.Slab.{slab_len};
-    ghost use Rattle.sessions.specs.Index.{IsIndexed, room_of};
+    ghost use Rattle.sessions.specs.Indexed.{IsIndexed, room_of};
     ghost use Rattle.sessions.specs.Table.{Sessions};
 
     ghost Value = { Sessions };
@@ -282,8 +282,10 @@ impl Table {
         ensures room { self.old.room ≤ self.new.room }
         ensures slots { self.new.slots ≡ self.old.slots }
     {
-        let session = self.sessions.remove(slot.number());
-        self.index.remove(&session);
+        let number = slot.number();
+        let session = self.sessions[number];
+        self.index.remove(&self.sessions, &session, number);
+        self.sessions.remove(number);
     }
 
     /// Puts the bits that a packet showed, and the second in which it passed, into the session of the slot,
