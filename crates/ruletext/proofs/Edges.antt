@@ -13,7 +13,8 @@ use Rattle.rulesyntax.specs.declared.tree.Vmap.{Vmap}
 use Rattle.rulesyntax.specs.declared.tree.End.{End}
 use Rattle.rulesyntax.specs.declared.tree.End.TheVariants as ends
 use Rattle.ruletext.specs.Said.{verdicts_in, verdicts_of, target_of, chain_names, is_among}
-use Rattle.ruletext.specs.Calls.{OfSome, VerdictLeads, RuleLeads, ChainLeads, Leads, HasEdge, AreWithin}
+use Rattle.ruletext.specs.Calls.{OfSome, VerdictLeads, RuleLeads, ChainLeads, Leads}
+use Rattle.digraph.specs.Edges.{HasEdge, AreWithin}
 use Rattle.ruletext.proofs.NameLemmas.{among_at, slice_get_left, slice_get_here, some_is}
 
 some_none : {A : Type 0} {a : A} → Some a ≡ None → ⊥

@@ -7,7 +7,7 @@ use Rattle.rulesyntax.specs.declared.tree.Chain.{Chain}
 use Rattle.rulesyntax.specs.declared.tree.Table.{Table}
 use Rattle.ruletext.specs.Said.{verdicts_of, target_of, chain_names, set_names}
 use Rattle.ruletext.specs.Duplicate.{has_twice}
-use Rattle.ruletext.specs.Paths.{HasLoop, IsDeeper}
+use Rattle.digraph.specs.Paths.{HasLoop, IsDeeper}
 
 -- it holds of some element
 abbrev pub OfSome : {X : Type 0} → (X → Type 0) → List X → Type 0

@@ -15,7 +15,7 @@ use Rattle.ruletext.specs.declared.hooks.Translation.{Translation}
 use Rattle.ruletext.specs.declared.hooks.Translation.TheVariants.{Destination, Source, Masquerade}
 use Rattle.ruletext.specs.declared.hooks.Wrong.{Wrong}
 use Rattle.ruletext.specs.declared.hooks.Wrong.TheVariants as wrong
-use Rattle.ruletext.specs.Paths.{IsReachedFrom}
+use Rattle.digraph.specs.Paths.{IsReachedFrom}
 use Rattle.ruletext.specs.Calls.{Leads}
 
 abbrev pub is_nat : ChainType → Bool

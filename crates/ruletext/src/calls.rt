@@ -5,7 +5,8 @@ ghost use Rattle.std.specs.Option.{option_map};
 ghost use Rattle.std.specs.List.{Contains};
 ghost use Rattle.ruletext.specs.Names.{AreApart};
 ghost use Rattle.ruletext.specs.Said.{target_of as target_name, verdicts_in, verdicts_of, chain_names};
-ghost use Rattle.ruletext.specs.Calls.{OfSome, VerdictLeads, RuleLeads, ChainLeads, Leads, HasEdge, AreWithin};
+ghost use Rattle.ruletext.specs.Calls.{OfSome, VerdictLeads, RuleLeads, ChainLeads, Leads};
+ghost use Rattle.digraph.specs.Edges.{HasEdge, AreWithin};
 
 use crate::names::Names;
 use rulesyntax::tree::{Chain, End, Pair, Rule, Target, Verdict};

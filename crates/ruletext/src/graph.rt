@@ -3,7 +3,8 @@
 ghost use Rattle.std.specs.Prelude.{◌≡◌, ◌↔◌, ℕ, false, IfOk, length};
 ghost use Rattle.ruletext.specs.Said.{chain_names};
 ghost use Rattle.ruletext.specs.Duplicate.{has_twice};
-ghost use Rattle.ruletext.specs.Calls.{Leads, HasEdge, AreWithin};
+ghost use Rattle.ruletext.specs.Calls.{Leads};
+ghost use Rattle.digraph.specs.Edges.{HasEdge, AreWithin};
 
 use crate::calls::rows_of;
 use crate::names::Names;

@@ -2,7 +2,7 @@
 use Rattle.std.proofs.Common.{◌≡◌, ℕ, zero, suc, ◌+◌, ◌-◌, ◌≤◌, List, [], Option, Some, None, slice_get, slice_index_or, replicate, refl, subst, arith}
 use Rattle.std.specs.Option.{option_map_or}
 use Rattle.rulesyntax.specs.declared.tree.Chain.{Chain}
-use Rattle.ruletext.specs.Paths.{HasPath}
+use Rattle.digraph.specs.Paths.{HasPath}
 use Rattle.ruletext.specs.Calls.{Leads, IsDeep}
 use Rattle.verdict.specs.declared.chain.Outcome.{Outcome}
 use Rattle.verdict.specs.Targets.{OfEach, TargetsHave, IsShort}

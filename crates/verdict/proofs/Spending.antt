@@ -13,9 +13,9 @@ use Rattle.rulesyntax.specs.declared.tree.Chain.{Chain}
 use Rattle.rulesyntax.specs.declared.tree.Table.{Table}
 use Rattle.ruletext.specs.Said.{verdicts_of, target_of, chain_names}
 use Rattle.ruletext.specs.Counts.{rules_of_table, elements_of_table, is_much}
-use Rattle.ruletext.specs.Paths.{Path}
+use Rattle.digraph.specs.Paths.{Path}
 use Rattle.ruletext.specs.Calls.{OfSome, VerdictLeads, RuleLeads, Leads, IsLooped}
-use Rattle.ruletext.proofs.Walks.{path_on}
+use Rattle.digraph.proofs.Walks.{path_on}
 use Rattle.verdict.specs.declared.facts.Facts.{Facts}
 use Rattle.verdict.specs.declared.chain.Outcome.{Outcome}
 use Rattle.verdict.specs.declared.chain.Outcome.TheVariants.{Accepts, Drops, To, From, Ends}

@@ -18,7 +18,7 @@ use Rattle.rulesyntax.specs.declared.tree.Table.{Table}
 use Rattle.ruletext.specs.declared.class.Class.{Class}
 use Rattle.ruletext.specs.Classes.{class_of}
 use Rattle.ruletext.specs.Said.{verdicts_of, verdicts_in, chain_names}
-use Rattle.ruletext.specs.Paths.{HasPath}
+use Rattle.digraph.specs.Paths.{HasPath}
 use Rattle.ruletext.specs.Calls.{OfSome, VerdictLeads, RuleLeads, ChainLeads, Leads, IsDeep}
 use Rattle.verdict.specs.declared.facts.Facts.{Facts}
 use Rattle.verdict.specs.declared.chain.Outcome.{Outcome}

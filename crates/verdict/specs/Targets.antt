@@ -4,7 +4,7 @@ use Rattle.rulesyntax.specs.declared.tree.Verdict.{Verdict}
 use Rattle.rulesyntax.specs.declared.tree.Rule.{Rule}
 use Rattle.rulesyntax.specs.declared.tree.Chain.{Chain}
 use Rattle.ruletext.specs.Said.{verdicts_of, target_of, chain_names}
-use Rattle.ruletext.specs.Paths.{HasPath}
+use Rattle.digraph.specs.Paths.{HasPath}
 use Rattle.ruletext.specs.Calls.{Leads}
 
 -- it holds of each element

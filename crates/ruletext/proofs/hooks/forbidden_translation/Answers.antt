@@ -1,5 +1,6 @@
 use Rattle.std.proofs.Common.{◌↔◌, ℕ, List, subst, sym}
-use Rattle.ruletext.specs.Calls.{HasEdge, Leads}
+use Rattle.digraph.specs.Edges.{HasEdge}
+use Rattle.ruletext.specs.Calls.{Leads}
 use Rattle.ruletext.proofs.hooks.forbidden_translation.Goals as goal
 
 pub come_to_some-requires-clause-edges : goal.come_to_some-requires-clause-edges

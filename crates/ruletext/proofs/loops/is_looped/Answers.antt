@@ -1,8 +1,9 @@
 use Rattle.std.proofs.Common.{◌↔◌, ℕ, List, IsTrue, sym, subst}
 use Rattle.std.proofs.lemmas.Result.{IfOk-weaker}
-use Rattle.ruletext.specs.Paths.{HasLoop}
-use Rattle.ruletext.specs.Calls.{HasEdge, Leads, IsLooped}
-use Rattle.ruletext.proofs.Walks.{loop_into}
+use Rattle.digraph.specs.Paths.{HasLoop}
+use Rattle.digraph.specs.Edges.{HasEdge}
+use Rattle.ruletext.specs.Calls.{Leads, IsLooped}
+use Rattle.digraph.proofs.Walks.{loop_into}
 use Rattle.ruletext.proofs.loops.is_looped.Goals as goal
 
 pub returns : goal.returns
