@@ -3,7 +3,7 @@
 ghost use Rattle.std.specs.Prelude.{◌≡◌, ◌↔◌, ℕ, false, IfOk, length};
 ghost use Rattle.ruletext.specs.Said.{chain_names};
 ghost use Rattle.ruletext.specs.Duplicate.{has_twice};
-ghost use Rattle.ruletext.specs.Calls.{Leads};
+ghost use Rattle.ruletext.specs.Calls.{Calls};
 ghost use Rattle.digraph.specs.Edges.{HasEdge, AreWithin};
 
 use crate::calls::rows_of;
@@ -17,7 +17,7 @@ pub fn graph_of(alloc: Global, chains: &[Chain]) -> Result<Items<Items<usize>>, 
     requires { has_twice (chain_names chains.now) ≡ false }
     ensures same { IfOk result (λ rows. length rows ≡ length chains.now) }
     ensures within { IfOk result AreWithin }
-    ensures edges { IfOk result (λ rows. (a b : ℕ) → HasEdge rows a b ↔ Leads chains.now a b) }
+    ensures edges { IfOk result (λ rows. (a b : ℕ) → HasEdge rows a b ↔ Calls chains.now a b) }
 {
     let names = names_of(alloc, chains)?;
     rows_of(alloc, &names, chains)

@@ -7,7 +7,7 @@ ghost use Rattle.ruletext.specs.Said.{chain_names};
 ghost use Rattle.ruletext.specs.Duplicate.{has_twice};
 ghost use Rattle.digraph.specs.Edges.{IsMarked, HasEdge, AreWithin};
 ghost use Rattle.digraph.specs.Paths.{IsReachedFrom, IsDeeper};
-ghost use Rattle.ruletext.specs.Calls.{OfSome, Leads, IsDeep, AreDistinct, AreShallow};
+ghost use Rattle.ruletext.specs.Calls.{OfSome, Calls, IsDeep, AreDistinct, AreShallow};
 ghost use Rattle.ruletext.specs.Hooks.{is_nat, may_stand, may_translate, forbids, ends_in, translates, Forbids, Translates, ComesTo, ComesToSome, is_misplaced, HasWrongHook};
 
 use crate::earlier::earlier;
@@ -161,7 +161,7 @@ fn come_to(
 ) -> Result<Option<Line>, AllocError>
     requires same { length rows.now ≡ length chains.now }
     requires within { AreWithin rows.now }
-    requires edges { (a b : ℕ) → HasEdge rows.now a b ↔ Leads chains.now a b }
+    requires edges { (a b : ℕ) → HasEdge rows.now a b ↔ Calls chains.now a b }
     requires flat { ¬ IsDeep chains.now }
     ensures { IfOk result (λ line. IsSome line ↔ ComesTo why translation chains.now) }
 {
@@ -178,7 +178,7 @@ fn come_to_some(
 ) -> Result<Option<Line>, AllocError>
     requires same { length rows.now ≡ length chains.now }
     requires within { AreWithin rows.now }
-    requires edges { (a b : ℕ) → HasEdge rows.now a b ↔ Leads chains.now a b }
+    requires edges { (a b : ℕ) → HasEdge rows.now a b ↔ Calls chains.now a b }
     requires flat { ¬ IsDeep chains.now }
     ensures { IfOk result (λ line. IsSome line ↔ ComesToSome why chains.now) }
 {
