@@ -42,12 +42,12 @@ none-past : (held : List (Option Session)) (s : Session) → get_or held (length
 none-past held s at = none-some s (sym (get_or_past held (length held) None (omega arith)) ∙ at)
 
 -- what a change leads to
-pub record Leads (held : List (Option Session)) (change : Change) (t : Session) : Type 0 where
+pub record HasSuccessor (held : List (Option Session)) (change : Change) (t : Session) : Type 0 where
   pub later : List (Option Session)
   pub apart : Apart later
   pub became : Became held change t later
 
-begun-later : (external : ℕ) (held : List (Option Session)) (now : ℕ) (s t : Session) → s ≡ t → Apart held → MayBegin external held now t → Leads held (Begin s) t
+begun-later : (external : ℕ) (held : List (Option Session)) (now : ℕ) (s t : Session) → s ≡ t → Apart held → MayBegin external held now t → HasSuccessor held (Begin s) t
 begun-later external held now s t same apart may =
     let end = length held in
     let later = held ++ Some t ∷ [] in
@@ -84,7 +84,7 @@ module _ (held : List (Option Session)) (slot : ℕ) (s t : Session) (at : get_o
   gone-apart : Apart later_held
   gone-apart = later-apart held later_held slot t apart set-is set-others (λ k u ne at_u e. apart.keys k slot u s ne at_u at (e ∙ sym same))
 
-  gone-on : (change : Change) → ((k : ℕ) → ¬ IsOf change k → k ≢ slot) → Leads held change t
+  gone-on : (change : Change) → ((k : ℕ) → ¬ IsOf change k → k ≢ slot) → HasSuccessor held change t
   gone-on change is_of = record {
     later = later_held;
     apart = gone-apart;
@@ -95,7 +95,7 @@ module _ (held : List (Option Session)) (slot : ℕ) (s t : Session) (at : get_o
   }
 
 -- a change that gives a session leads somewhere
-pub change-leads : (external : ℕ) (held : List (Option Session)) (now : ℕ) (change : Change) (t : Session) → Apart held → Gives external held now change t → Leads held change t
+pub change-leads : (external : ℕ) (held : List (Option Session)) (now : ℕ) (change : Change) (t : Session) → Apart held → Gives external held now change t → HasSuccessor held change t
 change-leads external held now (Begin s) t apart gives = begun-later external held now s t gives.0 apart (subst (MayBegin external held now) gives.0 gives.1)
 change-leads external held now (Seen slot bits) t apart gives =
     gone-on held slot gives.0 t gives.1 (ap key (sym gives.3)) apart (Seen slot bits) (λ k other e. other (sym e))

@@ -22,7 +22,7 @@ use Rattle.hairpin.specs.Legs.{Passage, put_all}
 use Rattle.hairpin.specs.Plans.{GiveAll, Plans}
 use Rattle.hairpin.specs.declared.cause.Cause.{Cause}
 use Rattle.hairpin.specs.declared.plan.Plan.{Plan}
-use Rattle.machine.specs.Core.{Core, IsCore, Leads, LeadsFew, state_of}
+use Rattle.machine.specs.Core.{Core, IsCore, IsTransition, AddsNoSession, state_of}
 use Rattle.machine.specs.Judged.{Judged}
 use Rattle.machine.specs.Machine.{State, EndsNone, AddsNone, act, aged, later, no_tables, on_route, pass, sent, step, with_fields}
 use Rattle.machine.specs.Sound.{IsSound}
@@ -35,7 +35,7 @@ use Rattle.machine.proofs.Soundness.{later-above, start-sound}
 
 -- a plan that leads to no more sessions adds none
 pub plans-few : (external : ℕ) (held : List (Option Session)) (now : ℕ) (bytes : List ℕ) (plan : Plan) (way : Result Passage Cause) → IsHeldSound held → Plans external held now (Ok plan) way
-    → LeadsFew (λ s. sent s bytes way) held now → adds plan.first + adds_second plan.second ≡ 0
+    → AddsNoSession (λ s. sent s bytes way) held now → adds plan.first + adds_second plan.second ≡ 0
 plans-few external held now bytes plan (Ok passage) sound is few =
     omega (arith, plan-adds external held now plan.first plan.second passage.sessions (Apart-sound held sound) is.sessions, few [] no_tables)
 plans-few external held now bytes plan (Err cause) sound is few = absurd is
@@ -44,7 +44,7 @@ plans-few external held now bytes plan (Err cause) sound is few = absurd is
 pub plan-leads : (external : ℕ) (old new : List (Option Session)) (now : ℕ) (bytes : List ℕ) (plan : Plan)
     → ((ts : List Session) → GiveAll external old now plan.first plan.second ts → listing new ≡ put_all ts (listing old))
     → (way : Result Passage Cause) → Plans external old now (Ok plan) way
-    → Leads (λ s. sent s bytes way) old new now (answer.Forward plan.iface (translated bytes plan.src plan.dst))
+    → IsTransition (λ s. sent s bytes way) old new now (answer.Forward plan.iface (translated bytes plan.src plan.dst))
 plan-leads external old new now bytes plan made (Ok passage) is = λ text rules.
     let at : List Session → State = λ xs. record { text = text; rules = rules; sessions = xs; clock = now } in
     let said : Iface → Endpoint → Endpoint → Answer = λ iface src dst. answer.Forward iface (translated bytes src dst) in

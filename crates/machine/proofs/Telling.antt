@@ -20,7 +20,7 @@ use Rattle.machine.specs.Flows.{adds, adds_second}
 use Rattle.machine.specs.Noted.{between, noted, noted_all, noted_by}
 use Rattle.machine.specs.Notes.{bytes_of}
 use Rattle.machine.proofs.Costs.{bytes_of-one, bytes_of-two, noted-few}
-use Rattle.machine.proofs.Later.{Leads, change-leads}
+use Rattle.machine.proofs.Later.{HasSuccessor, change-leads}
 
 -- ---- what a table holds
 
@@ -72,7 +72,7 @@ seen-fits external held now slot bits s t sound is gives =
 
 -- the second change of a plan, told before the first is made
 module _ (held : List (Option Session)) (apart : Apart held) (external now : ℕ) (first : changes.Change) (t : Session) (gives : Gives external held now first t) where
-  leads : Leads held first t
+  leads : HasSuccessor held first t
   leads = change-leads external held now first t apart gives
 
   -- a session that is held, and that the first change leaves alone

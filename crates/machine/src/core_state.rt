@@ -13,7 +13,7 @@ ghost use Rattle.hairpin.specs.Plans.{Plans};
 ghost use Rattle.hairpin.specs.Sound.{KeepBounds};
 ghost use Rattle.sessions.specs.Sound.{AreSound};
 ghost use Rattle.hairpin.specs.declared.cause.Cause.{Cause as Reason};
-ghost use Rattle.machine.specs.Core.{Leads, LeadsFew, state_of};
+ghost use Rattle.machine.specs.Core.{IsTransition, AddsNoSession, state_of};
 ghost use Rattle.machine.specs.Judged.{Judged, IsJudged, IsNoLoad, bringer};
 ghost use Rattle.machine.specs.Machine.{AddsNone, EndsNone, act, aged, empty_at, later, leg, on_route, pass, sent, step};
 ghost use Rattle.durable.specs.Coding.{Entry as Noted, Load};
@@ -106,12 +106,12 @@ fn put_through<N: Notes>(
     requires room { IsTrue ready → N.keeps notes.old → 44 ≤ N.room notes.old }
     requires planned { (way : Outcome Passage Reason) × Plans flows.old.translations.external flows.old.table.held now plan.now way }
     ensures ok { IfOk result (λ answer. (way : Outcome Passage Reason) → Plans flows.old.translations.external flows.old.table.held now plan.now way
-        → Leads (λ s. sent s bytes way) flows.old.table.held flows.new.table.held now answer) }
+        → IsTransition (λ s. sent s bytes way) flows.old.table.held flows.new.table.held now answer) }
     ensures err { IfErr result (λ e. (e.0 ≡ bytes) × (flows.new.table.held ≡ flows.old.table.held)) }
     ensures external { flows.new.translations.external ≡ flows.old.translations.external }
     ensures ready { IsTrue ready → IsOk result }
     ensures adds_none { (way : Outcome Passage Reason) → Plans flows.old.translations.external flows.old.table.held now plan.now way
-        → LeadsFew (λ s. sent s bytes way) flows.old.table.held now → N.grants notes.old → IsOk result }
+        → AddsNoSession (λ s. sent s bytes way) flows.old.table.held now → N.grants notes.old → IsOk result }
     ensures keeps { N.keeps notes.old ↔ N.keeps notes.new }
     ensures beside { N.beside notes.new ≡ N.beside notes.old }
     ensures noted { OnOk result ((way : Outcome Passage Reason) → Plans flows.old.translations.external flows.old.table.held now plan.now way
@@ -187,7 +187,7 @@ fn go_through(flows: &mut Flows, going: &Result<Going, Cause>, bytes: Bytes, now
     requires planned { (way : Outcome Passage Reason) × Plans flows.old.translations.external flows.old.table.held now (planned going.now) way }
     requires quiet { IfOk going.now (IsQuiet flows.old.table) }
     ensures leads { (way : Outcome Passage Reason) → Plans flows.old.translations.external flows.old.table.held now (planned going.now) way
-        → Leads (λ s. sent s bytes way) flows.old.table.held flows.new.table.held now result }
+        → IsTransition (λ s. sent s bytes way) flows.old.table.held flows.new.table.held now result }
     ensures external { flows.new.translations.external ≡ flows.old.translations.external }
     ensures none { (way : Outcome Passage Reason) → Plans flows.old.translations.external flows.old.table.held now (planned going.now) way
         → of_way (listing flows.old.table.held) way ≡ [] }

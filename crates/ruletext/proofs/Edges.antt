@@ -13,7 +13,8 @@ use Rattle.rulesyntax.specs.declared.tree.Vmap.{Vmap}
 use Rattle.rulesyntax.specs.declared.tree.End.{End}
 use Rattle.rulesyntax.specs.declared.tree.End.TheVariants as ends
 use Rattle.ruletext.specs.Said.{verdicts_in, verdicts_of, target_of, chain_names, is_among}
-use Rattle.ruletext.specs.Calls.{OfSome, VerdictLeads, RuleLeads, ChainLeads, Leads, HasEdge, AreWithin}
+use Rattle.ruletext.specs.Calls.{OfSome, VerdictCalls, RuleCalls, ChainCalls, Calls}
+use Rattle.digraph.specs.Edges.{HasEdge, AreWithin}
 use Rattle.ruletext.proofs.NameLemmas.{among_at, slice_get_left, slice_get_here, some_is}
 
 some_none : {A : Type 0} {a : A} → Some a ≡ None → ⊥
@@ -22,7 +23,7 @@ some_none e = cc
 -- a found place is where the verdict leads to
 pub led_to : (names : List (List ℕ)) (verdict : Verdict) (name : List ℕ) → target_of verdict ≡ Some name → (r : Option ℕ)
     → IfSome r (λ p. slice_get names p ≡ Some name) → IfSome r (λ p. (other : ℕ) → slice_get names other ≡ Some name → other ≡ p) → is_some r ≡ is_among names name
-    → (b : ℕ) → (r ≡ Some b) ↔ VerdictLeads names b verdict
+    → (b : ℕ) → (r ≡ Some b) ↔ VerdictCalls names b verdict
 led_to names verdict name is None found only any b = (
   λ e. cc,
   λ leads.
@@ -38,7 +39,7 @@ led_to names verdict name is (Some p) found only any b = (
 )
 
 -- no chain is named
-pub led_nowhere : (names : List (List ℕ)) (verdict : Verdict) → target_of verdict ≡ None → (r : Option ℕ) → r ≡ None → (b : ℕ) → (r ≡ Some b) ↔ VerdictLeads names b verdict
+pub led_nowhere : (names : List (List ℕ)) (verdict : Verdict) → target_of verdict ≡ None → (r : Option ℕ) → r ≡ None → (b : ℕ) → (r ≡ Some b) ↔ VerdictCalls names b verdict
 led_nowhere names verdict is r none b = (λ e. cc, λ leads. cc (is, leads.1))
 
 module _ (row row' : List ℕ) (L : ℕ → Type 0) where
@@ -88,9 +89,9 @@ module _ {X : Type 0} (P : ℕ → X → Type 0) (xs : List X) (start : List ℕ
       let whole = subst (λ rest. (Contains row b ⊎ OfSome (P b) rest) ↔ (Contains start b ⊎ OfSome (P b) xs)) none (before b) in
       (λ con. whole.0 (inl con), λ either. elim (whole.1 either) [ inl con ↦ con | inr never ↦ absurd never ])
 
-module _ (chains : List Chain) (rows : List (List ℕ)) (row : List ℕ) (i : ℕ) (c : Chain) (same : length rows ≡ i) (at : slice_get chains i ≡ Some c) (leads : (b : ℕ) → Contains row b ↔ ChainLeads (chain_names chains) b c)
-    (before : (a b : ℕ) → HasEdge rows a b ↔ ((a < i) × Leads chains a b)) where
-  pub rows_more : (a b : ℕ) → HasEdge (rows ++ row ∷ []) a b ↔ ((a < i + 1) × Leads chains a b)
+module _ (chains : List Chain) (rows : List (List ℕ)) (row : List ℕ) (i : ℕ) (c : Chain) (same : length rows ≡ i) (at : slice_get chains i ≡ Some c) (leads : (b : ℕ) → Contains row b ↔ ChainCalls (chain_names chains) b c)
+    (before : (a b : ℕ) → HasEdge rows a b ↔ ((a < i) × Calls chains a b)) where
+  pub rows_more : (a b : ℕ) → HasEdge (rows ++ row ∷ []) a b ↔ ((a < i + 1) × Calls chains a b)
   rows_more a b = elim (cases_lt a i) [
     | inl below ↦
         let e : slice_get (rows ++ row ∷ []) a ≡ slice_get rows a = slice_get_left rows (row ∷ []) a (omega arith) in (
@@ -108,48 +109,48 @@ module _ (chains : List Chain) (rows : List (List ℕ)) (row : List ℕ) (i : �
           let here : a ≡ i = omega (arith, l.0) in
           let e : slice_get (rows ++ row ∷ []) a ≡ Some row = slice_get_here rows row a (here ∙ sym same) in
           let is : l.1.0 ≡ c = cc (ap (slice_get chains) here, l.1.1) in
-          (row, e, (leads b).1 (subst (λ k. ChainLeads (chain_names chains) b k) is l.1.2)),
+          (row, e, (leads b).1 (subst (λ k. ChainCalls (chain_names chains) b k) is l.1.2)),
     )
   ]
 
 -- a chain leads to places of names alone
-verdict_within : (names : List (List ℕ)) (b : ℕ) (verdict : Verdict) → VerdictLeads names b verdict → b < length names
+verdict_within : (names : List (List ℕ)) (b : ℕ) (verdict : Verdict) → VerdictCalls names b verdict → b < length names
 verdict_within names b verdict leads = slice_get_within names b leads.0 leads.2
 
 some_within : {X : Type 0} (P : X → Type 0) (Q : Type 0) → ((x : X) → P x → Q) → (xs : List X) → OfSome P xs → Q
 some_within P Q each [] h = absurd h
 some_within P Q each (x ∷ xs) h = elim h [ inl now ↦ each x now | inr later ↦ some_within P Q each xs later ]
 
-pub chain_within : (names : List (List ℕ)) (b : ℕ) (chain : Chain) → ChainLeads names b chain → b < length names
+pub chain_within : (names : List (List ℕ)) (b : ℕ) (chain : Chain) → ChainCalls names b chain → b < length names
 chain_within names b chain leads =
-    some_within (RuleLeads names b) (b < length names) (λ rule h. some_within (VerdictLeads names b) (b < length names) (verdict_within names b) (verdicts_of rule.end) h) chain.rules leads
+    some_within (RuleCalls names b) (b < length names) (λ rule h. some_within (VerdictCalls names b) (b < length names) (verdict_within names b) (verdicts_of rule.end) h) chain.rules leads
 
 -- rows that are the jumps and gotos of chains lead to places of rows
-pub edges_within : (chains : List Chain) (rows : List (List ℕ)) → length rows ≡ length chains → ((a b : ℕ) → HasEdge rows a b ↔ Leads chains a b) → AreWithin rows
+pub edges_within : (chains : List Chain) (rows : List (List ℕ)) → length rows ≡ length chains → ((a b : ℕ) → HasEdge rows a b ↔ Calls chains a b) → AreWithin rows
 edges_within chains rows same edges = λ a row lt. λ k b lt_k.
     let l = (edges a (get_or (get_or rows a row) k b)).0 (get_or rows a row, slice_get-get_or rows a row lt, Contains-get_or (get_or rows a row) k b lt_k) in
     let w = chain_within (chain_names chains) (get_or (get_or rows a row) k b) l.0 l.2 in
     omega (arith, length-map chains (λ (chain : Chain). chain.name))
 
 -- what a rule's end leads to
-of_verdicts : (names : List (List ℕ)) (b : ℕ) (pairs : List Pair) → OfSome (λ pair. VerdictLeads names b pair.verdict) pairs ↔ OfSome (VerdictLeads names b) (map (λ pair. pair.verdict) pairs)
+of_verdicts : (names : List (List ℕ)) (b : ℕ) (pairs : List Pair) → OfSome (λ pair. VerdictCalls names b pair.verdict) pairs ↔ OfSome (VerdictCalls names b) (map (λ pair. pair.verdict) pairs)
 of_verdicts names b [] = (λ h. h, λ h. h)
 of_verdicts names b (p ∷ ps) =
     let rest = of_verdicts names b ps in
     (λ h. elim h [ inl now ↦ inl now | inr later ↦ inr (rest.0 later) ], λ h. elim h [ inl now ↦ inl now | inr later ↦ inr (rest.1 later) ])
 
 module _ (names : List (List ℕ)) (row row' : List ℕ) (end : End) where
-  pub put_verdict : (r : Result (Unit {0}) AllocError) (verdict : Verdict) → end ≡ ends.Verdict verdict → OnOk r ((b : ℕ) → Contains row' b ↔ (Contains row b ⊎ VerdictLeads names b verdict))
-      → OnOk r ((b : ℕ) → Contains row' b ↔ (Contains row b ⊎ OfSome (VerdictLeads names b) (verdicts_in end)))
-  put_verdict (Ok u) verdict is put = λ b. subst (λ e. Contains row' b ↔ (Contains row b ⊎ OfSome (VerdictLeads names b) (verdicts_in e))) (sym is) (
+  pub put_verdict : (r : Result (Unit {0}) AllocError) (verdict : Verdict) → end ≡ ends.Verdict verdict → OnOk r ((b : ℕ) → Contains row' b ↔ (Contains row b ⊎ VerdictCalls names b verdict))
+      → OnOk r ((b : ℕ) → Contains row' b ↔ (Contains row b ⊎ OfSome (VerdictCalls names b) (verdicts_in end)))
+  put_verdict (Ok u) verdict is put = λ b. subst (λ e. Contains row' b ↔ (Contains row b ⊎ OfSome (VerdictCalls names b) (verdicts_in e))) (sym is) (
     λ con. elim ((put b).0 con) [ inl old ↦ inl old | inr leads ↦ inr (inl leads) ],
     λ either. (put b).1 (elim either [ inl old ↦ inl old | inr some ↦ elim some [ inl leads ↦ inr leads | inr never ↦ absurd never ] ]),
   )
   put_verdict (Err e) verdict is put = tt
 
-  pub put_pairs : (r : Result (Unit {0}) AllocError) (vmap : Vmap) → end ≡ ends.Vmap vmap → OnOk r ((b : ℕ) → Contains row' b ↔ (Contains row b ⊎ OfSome (λ pair. VerdictLeads names b pair.verdict) vmap.pairs))
-      → OnOk r ((b : ℕ) → Contains row' b ↔ (Contains row b ⊎ OfSome (VerdictLeads names b) (verdicts_in end)))
-  put_pairs (Ok u) vmap is put = λ b. subst (λ e. Contains row' b ↔ (Contains row b ⊎ OfSome (VerdictLeads names b) (verdicts_in e))) (sym is) (
+  pub put_pairs : (r : Result (Unit {0}) AllocError) (vmap : Vmap) → end ≡ ends.Vmap vmap → OnOk r ((b : ℕ) → Contains row' b ↔ (Contains row b ⊎ OfSome (λ pair. VerdictCalls names b pair.verdict) vmap.pairs))
+      → OnOk r ((b : ℕ) → Contains row' b ↔ (Contains row b ⊎ OfSome (VerdictCalls names b) (verdicts_in end)))
+  put_pairs (Ok u) vmap is put = λ b. subst (λ e. Contains row' b ↔ (Contains row b ⊎ OfSome (VerdictCalls names b) (verdicts_in e))) (sym is) (
     λ con. elim ((put b).0 con) [ inl old ↦ inl old | inr leads ↦ inr ((of_verdicts names b vmap.pairs).0 leads) ],
     λ either. (put b).1 (elim either [ inl old ↦ inl old | inr some ↦ inr ((of_verdicts names b vmap.pairs).1 some) ]),
   )

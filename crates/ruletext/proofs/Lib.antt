@@ -1,6 +1,3 @@
-pub mod Walks
-pub mod Rows
-pub mod Reaching
 pub mod NameLemmas
 pub mod Edges
 pub mod Twice
@@ -12,4 +9,3 @@ pub mod KeyLemmas
 pub mod NoneBelow
 pub mod MayRunLemmas
 pub mod TextLemmas
-pub mod LoopLemmas

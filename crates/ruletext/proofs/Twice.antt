@@ -1,6 +1,7 @@
 -- Names that are put in one by one, until one stands there already.
-use Rattle.std.proofs.Common.{◌≡◌, ◌+◌, ℕ, Bool, true, false, cond, not, ◌||◌, ◌&&◌, List, [], ◌∷◌, ◌++◌, append_assoc, map, drop, slice_get, Some, refl, sym, ap, ◌∙◌}
+use Rattle.std.proofs.Common.{◌≡◌, ◌+◌, ℕ, Bool, true, false, cond, not, ◌||◌, ◌&&◌, List, [], ◌∷◌, ◌++◌, append_assoc, map, drop, slice_get, Some, length, ◌≤◌, refl, sym, ap, ◌∙◌}
 use Rattle.std.proofs.lemmas.Bool.{or_parts}
+use Rattle.std.proofs.lemmas.List.{drop_all}
 use Rattle.std.specs.List.{list_any, filter}
 use Rattle.std.specs.Str.{bytes_eq}
 use Rattle.std.proofs.lemmas.Slice.Eq.{bytes_eq-Decides}
@@ -104,3 +105,24 @@ module _ {X : Type 0} (f : X → List ℕ) (xs : List X) (i : ℕ) (x : X) (at :
       let here : is_new ≡ true = e ∙ ap not head_fresh in
       let pushed : new ≡ old ++ f x ∷ [] = put ∙ ap (λ b. cond b (old ++ f x ∷ []) old) here in
       ap (λ ns. ns ++ map f (drop (i + 1) xs)) pushed ∙ append_assoc old (f x ∷ []) (map f (drop (i + 1) xs)) ∙ ap (λ rest. old ++ map f rest) (sym (drop_at xs i x at)) ∙ is
+
+-- the names that are in and those that are to come, a name later
+module _ {X : Type 0} (f : X → List ℕ) (xs : List X) (old new : List (List ℕ)) where
+  pub among_on : (i : ℕ) (x : X) → slice_get xs i ≡ Some x → ((other : List ℕ) → is_among new other ≡ (is_among old other || bytes_eq other (f x)))
+      → (name : List ℕ) (whole : Bool) → (is_among old name || is_among (map f (drop i xs)) name) ≡ whole → (is_among new name || is_among (map f (drop (i + 1) xs)) name) ≡ whole
+  among_on i x at among name whole before =
+      ap (λ b. b || is_among (map f (drop (i + 1) xs)) name) (among name) ∙ or_assoc (is_among old name) (bytes_eq name (f x)) (is_among (map f (drop (i + 1) xs)) name)
+      ∙ ap (λ rest. is_among old name || is_among (map f rest) name) (sym (drop_at xs i x at)) ∙ before where
+        or_assoc : (a b c : Bool) → ((a || b) || c) ≡ (a || (b || c))
+        or_assoc true b c = refl
+        or_assoc false b c = refl
+
+  pub among_done : (i : ℕ) → length xs ≤ i → (name : List ℕ) (whole : Bool) → (is_among old name || is_among (map f (drop i xs)) name) ≡ whole → is_among old name ≡ whole
+  among_done i past name whole before =
+      sym (or-false (is_among old name)) ∙ ap (λ rest. is_among old name || is_among (map f rest) name) (sym (drop_all i xs past)) ∙ before
+
+  pub whole_done : (i : ℕ) → length xs ≤ i → (whole : List (List ℕ)) → old ++ map f (drop i xs) ≡ whole → old ≡ whole
+  whole_done i past whole before = sym (append_none old) ∙ ap (λ rest. old ++ map f rest) (sym (drop_all i xs past)) ∙ before where
+    append_none : (ys : List (List ℕ)) → ys ++ [] ≡ ys
+    append_none [] = refl
+    append_none (y ∷ ys) = ap (λ rest. y ∷ rest) (append_none ys)

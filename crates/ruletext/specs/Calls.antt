@@ -7,7 +7,7 @@ use Rattle.rulesyntax.specs.declared.tree.Chain.{Chain}
 use Rattle.rulesyntax.specs.declared.tree.Table.{Table}
 use Rattle.ruletext.specs.Said.{verdicts_of, target_of, chain_names, set_names}
 use Rattle.ruletext.specs.Duplicate.{has_twice}
-use Rattle.ruletext.specs.Paths.{HasLoop, IsDeeper}
+use Rattle.digraph.specs.Paths.{HasLoop, IsDeeper}
 
 -- it holds of some element
 abbrev pub OfSome : {X : Type 0} → (X → Type 0) → List X → Type 0
@@ -15,18 +15,18 @@ OfSome P [] = ⊥
 OfSome P (x ∷ xs) = P x ⊎ OfSome P xs
 
 -- the verdict jumps or goes to the chain at that place among the names
-abbrev pub VerdictLeads : List (List ℕ) → ℕ → Verdict → Type 0
-VerdictLeads names b verdict = (name : List ℕ) × (target_of verdict ≡ Some name) × (slice_get names b ≡ Some name)
+abbrev pub VerdictCalls : List (List ℕ) → ℕ → Verdict → Type 0
+VerdictCalls names b verdict = (name : List ℕ) × (target_of verdict ≡ Some name) × (slice_get names b ≡ Some name)
 
-abbrev pub RuleLeads : List (List ℕ) → ℕ → Rule → Type 0
-RuleLeads names b rule = OfSome (VerdictLeads names b) (verdicts_of rule.end)
+abbrev pub RuleCalls : List (List ℕ) → ℕ → Rule → Type 0
+RuleCalls names b rule = OfSome (VerdictCalls names b) (verdicts_of rule.end)
 
-abbrev pub ChainLeads : List (List ℕ) → ℕ → Chain → Type 0
-ChainLeads names b chain = OfSome (RuleLeads names b) chain.rules
+abbrev pub ChainCalls : List (List ℕ) → ℕ → Chain → Type 0
+ChainCalls names b chain = OfSome (RuleCalls names b) chain.rules
 
 -- the chain at the one place jumps or goes to the chain at the other
-abbrev pub Leads : List Chain → ℕ → ℕ → Type 0
-Leads chains a b = (chain : Chain) × (slice_get chains a ≡ Some chain) × ChainLeads (chain_names chains) b chain
+abbrev pub Calls : List Chain → ℕ → ℕ → Type 0
+Calls chains a b = (chain : Chain) × (slice_get chains a ≡ Some chain) × ChainCalls (chain_names chains) b chain
 
 -- the one row has the place of the other
 abbrev pub HasEdge : List (List ℕ) → ℕ → ℕ → Type 0
@@ -38,11 +38,11 @@ AreWithin rows = All (λ row. All (λ b. b < length rows) row) rows
 
 -- chains of a table that reach themselves by jumps and gotos
 abbrev pub IsLooped : List Chain → Type 0
-IsLooped chains = HasLoop (Leads chains)
+IsLooped chains = HasLoop (Calls chains)
 
 -- a path of more than 16 jumps and gotos in a table
 abbrev pub IsDeep : List Chain → Type 0
-IsDeep chains = IsDeeper (Leads chains) 16
+IsDeep chains = IsDeeper (Calls chains) 16
 
 -- in no table two chains have one name
 abbrev pub AreDistinct : List Table → Type 0

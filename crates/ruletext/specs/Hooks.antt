@@ -15,8 +15,8 @@ use Rattle.ruletext.specs.declared.hooks.Translation.{Translation}
 use Rattle.ruletext.specs.declared.hooks.Translation.TheVariants.{Destination, Source, Masquerade}
 use Rattle.ruletext.specs.declared.hooks.Wrong.{Wrong}
 use Rattle.ruletext.specs.declared.hooks.Wrong.TheVariants as wrong
-use Rattle.ruletext.specs.Paths.{IsReachedFrom}
-use Rattle.ruletext.specs.Calls.{Leads}
+use Rattle.digraph.specs.Paths.{IsReachedFrom}
+use Rattle.ruletext.specs.Calls.{Calls}
 
 abbrev pub is_nat : ChainType → Bool
 is_nat Filter = false
@@ -66,7 +66,7 @@ Translates translation chains b = (chain : Chain) × (slice_get chains b ≡ Som
 
 -- a base chain comes, by jumps and gotos or at once, to a translation that it forbids
 abbrev pub ComesTo : Wrong → Translation → List Chain → Type 0
-ComesTo why translation chains = (b : ℕ) × IsReachedFrom (Leads chains) (Forbids why translation chains) b × Translates translation chains b
+ComesTo why translation chains = (b : ℕ) × IsReachedFrom (Calls chains) (Forbids why translation chains) b × Translates translation chains b
 
 abbrev pub ComesToSome : Wrong → List Chain → Type 0
 ComesToSome why chains = ComesTo why Destination chains ⊎ ComesTo why Source chains ⊎ ComesTo why Masquerade chains

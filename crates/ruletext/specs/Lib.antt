@@ -1,6 +1,5 @@
 pub mod Names
 pub mod Said
-pub mod Paths
 pub mod Unknown
 pub mod Duplicate
 pub mod Calls

@@ -5,7 +5,8 @@ ghost use Rattle.std.specs.Option.{option_map};
 ghost use Rattle.std.specs.List.{Contains};
 ghost use Rattle.ruletext.specs.Names.{AreApart};
 ghost use Rattle.ruletext.specs.Said.{target_of as target_name, verdicts_in, verdicts_of, chain_names};
-ghost use Rattle.ruletext.specs.Calls.{OfSome, VerdictLeads, RuleLeads, ChainLeads, Leads, HasEdge, AreWithin};
+ghost use Rattle.ruletext.specs.Calls.{OfSome, VerdictCalls, RuleCalls, ChainCalls, Calls};
+ghost use Rattle.digraph.specs.Edges.{HasEdge, AreWithin};
 
 use crate::names::Names;
 use rulesyntax::tree::{Chain, End, Pair, Rule, Target, Verdict};
@@ -24,7 +25,7 @@ pub fn target_of(verdict: &Verdict) -> Option<&Target>
 
 /// The place of the chain that a verdict jumps or goes to, where the names have it.
 pub fn place_led_to(names: &Names, verdict: &Verdict) -> Option<usize>
-    ensures { (b : ℕ) → (result ≡ Some b) ↔ VerdictLeads names.now b verdict.now }
+    ensures { (b : ℕ) → (result ≡ Some b) ↔ VerdictCalls names.now b verdict.now }
 {
     let target = target_of(verdict)?;
     names.place_of(target.chain.as_slice())
@@ -32,7 +33,7 @@ pub fn place_led_to(names: &Names, verdict: &Verdict) -> Option<usize>
 
 // Puts the place that a verdict leads to behind the others.
 fn push_verdict(row: &mut Items<usize>, names: &Names, verdict: &Verdict) -> Result<(), AllocError>
-    ensures { OnOk result ((b : ℕ) → Contains row.new b ↔ (Contains row.old b ⊎ VerdictLeads names.now b verdict.now)) }
+    ensures { OnOk result ((b : ℕ) → Contains row.new b ↔ (Contains row.old b ⊎ VerdictCalls names.now b verdict.now)) }
 {
     match place_led_to(names, verdict) {
         Some(place) => row.push(place),
@@ -41,7 +42,7 @@ fn push_verdict(row: &mut Items<usize>, names: &Names, verdict: &Verdict) -> Res
 }
 
 fn push_pairs(row: &mut Items<usize>, names: &Names, pairs: &[Pair]) -> Result<(), AllocError>
-    ensures { OnOk result ((b : ℕ) → Contains row.new b ↔ (Contains row.old b ⊎ OfSome (λ pair. VerdictLeads names.now b pair.verdict) pairs.now)) }
+    ensures { OnOk result ((b : ℕ) → Contains row.new b ↔ (Contains row.old b ⊎ OfSome (λ pair. VerdictCalls names.now b pair.verdict) pairs.now)) }
 {
     for pair in pairs {
         push_verdict(row, names, &pair.verdict)?;
@@ -50,7 +51,7 @@ fn push_pairs(row: &mut Items<usize>, names: &Names, pairs: &[Pair]) -> Result<(
 }
 
 fn push_end(row: &mut Items<usize>, names: &Names, end: &End) -> Result<(), AllocError>
-    ensures { OnOk result ((b : ℕ) → Contains row.new b ↔ (Contains row.old b ⊎ OfSome (VerdictLeads names.now b) (verdicts_in end.now))) }
+    ensures { OnOk result ((b : ℕ) → Contains row.new b ↔ (Contains row.old b ⊎ OfSome (VerdictCalls names.now b) (verdicts_in end.now))) }
 {
     match end {
         End::Verdict(verdict) => push_verdict(row, names, verdict),
@@ -60,7 +61,7 @@ fn push_end(row: &mut Items<usize>, names: &Names, end: &End) -> Result<(), Allo
 }
 
 fn push_rule(row: &mut Items<usize>, names: &Names, rule: &Rule) -> Result<(), AllocError>
-    ensures { OnOk result ((b : ℕ) → Contains row.new b ↔ (Contains row.old b ⊎ RuleLeads names.now b rule.now)) }
+    ensures { OnOk result ((b : ℕ) → Contains row.new b ↔ (Contains row.old b ⊎ RuleCalls names.now b rule.now)) }
 {
     match &rule.end {
         Some(end) => push_end(row, names, end),
@@ -69,7 +70,7 @@ fn push_rule(row: &mut Items<usize>, names: &Names, rule: &Rule) -> Result<(), A
 }
 
 fn push_rules(row: &mut Items<usize>, names: &Names, rules: &[Rule]) -> Result<(), AllocError>
-    ensures { OnOk result ((b : ℕ) → Contains row.new b ↔ (Contains row.old b ⊎ OfSome (RuleLeads names.now b) rules.now)) }
+    ensures { OnOk result ((b : ℕ) → Contains row.new b ↔ (Contains row.old b ⊎ OfSome (RuleCalls names.now b) rules.now)) }
 {
     for rule in rules {
         push_rule(row, names, rule)?;
@@ -79,7 +80,7 @@ fn push_rules(row: &mut Items<usize>, names: &Names, rules: &[Rule]) -> Result<(
 
 // The places of the chains that it jumps or goes to.
 fn row_of(alloc: Global, names: &Names, chain: &Chain) -> Result<Items<usize>, AllocError>
-    ensures { IfOk result (λ row. (b : ℕ) → Contains row b ↔ ChainLeads names.now b chain.now) }
+    ensures { IfOk result (λ row. (b : ℕ) → Contains row b ↔ ChainCalls names.now b chain.now) }
 {
     let mut row = Items::new(alloc);
     push_rules(&mut row, names, chain.rules.as_slice())?;
@@ -95,7 +96,7 @@ pub fn rows_of(
     requires { names.now ≡ chain_names chains.now }
     ensures same { IfOk result (λ rows. length rows ≡ length chains.now) }
     ensures within { IfOk result AreWithin }
-    ensures edges { IfOk result (λ rows. (a b : ℕ) → HasEdge rows a b ↔ Leads chains.now a b) }
+    ensures edges { IfOk result (λ rows. (a b : ℕ) → HasEdge rows a b ↔ Calls chains.now a b) }
 {
     let mut rows = Items::new(alloc);
     for chain in chains {

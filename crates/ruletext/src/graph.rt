@@ -3,32 +3,21 @@
 ghost use Rattle.std.specs.Prelude.{◌≡◌, ◌↔◌, ℕ, false, IfOk, length};
 ghost use Rattle.ruletext.specs.Said.{chain_names};
 ghost use Rattle.ruletext.specs.Duplicate.{has_twice};
-ghost use Rattle.ruletext.specs.Calls.{Leads, HasEdge, AreWithin};
+ghost use Rattle.ruletext.specs.Calls.{Calls};
+ghost use Rattle.digraph.specs.Edges.{HasEdge, AreWithin};
 
 use crate::calls::rows_of;
-use crate::names::Names;
+use crate::named::names_of;
 use rulesyntax::tree::Chain;
 use sqlite_items::Items;
 use std::alloc::{AllocError, Global};
-
-/// The names of the chains, each at its chain's place.
-pub fn names_of(alloc: Global, chains: &[Chain]) -> Result<Names, AllocError>
-    requires { has_twice (chain_names chains.now) ≡ false }
-    ensures { IfOk result (λ names. names ≡ chain_names chains.now) }
-{
-    let mut names = Names::new(alloc);
-    for chain in chains {
-        names.insert(chain.name.as_slice())?;
-    }
-    Ok(names)
-}
 
 /// For each chain the places of those that it jumps or goes to.
 pub fn graph_of(alloc: Global, chains: &[Chain]) -> Result<Items<Items<usize>>, AllocError>
     requires { has_twice (chain_names chains.now) ≡ false }
     ensures same { IfOk result (λ rows. length rows ≡ length chains.now) }
     ensures within { IfOk result AreWithin }
-    ensures edges { IfOk result (λ rows. (a b : ℕ) → HasEdge rows a b ↔ Leads chains.now a b) }
+    ensures edges { IfOk result (λ rows. (a b : ℕ) → HasEdge rows a b ↔ Calls chains.now a b) }
 {
     let names = names_of(alloc, chains)?;
     rows_of(alloc, &names, chains)

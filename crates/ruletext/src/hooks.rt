@@ -5,13 +5,14 @@ ghost use Rattle.std.specs.Option.{option_map_or};
 ghost use Rattle.std.specs.List.{list_any};
 ghost use Rattle.ruletext.specs.Said.{chain_names};
 ghost use Rattle.ruletext.specs.Duplicate.{has_twice};
-ghost use Rattle.ruletext.specs.Paths.{IsMarked, IsReachedFrom, IsDeeper};
-ghost use Rattle.ruletext.specs.Calls.{OfSome, Leads, HasEdge, AreWithin, IsDeep, AreDistinct, AreShallow};
+ghost use Rattle.digraph.specs.Edges.{IsMarked, HasEdge, AreWithin};
+ghost use Rattle.digraph.specs.Paths.{IsReachedFrom, IsDeeper};
+ghost use Rattle.ruletext.specs.Calls.{OfSome, Calls, IsDeep, AreDistinct, AreShallow};
 ghost use Rattle.ruletext.specs.Hooks.{is_nat, may_stand, may_translate, forbids, ends_in, translates, Forbids, Translates, ComesTo, ComesToSome, is_misplaced, HasWrongHook};
 
 use crate::earlier::earlier;
 use crate::graph::graph_of;
-use crate::reach::mark_reached;
+use digraph::reach::mark_reached;
 use rulesyntax::line::Line;
 use rulesyntax::tree::{Base, Chain, ChainType, End, Hook, Rule, Table};
 use sqlite_items::Items;
@@ -160,12 +161,12 @@ fn come_to(
 ) -> Result<Option<Line>, AllocError>
     requires same { length rows.now ≡ length chains.now }
     requires within { AreWithin rows.now }
-    requires edges { (a b : ℕ) → HasEdge rows.now a b ↔ Leads chains.now a b }
+    requires edges { (a b : ℕ) → HasEdge rows.now a b ↔ Calls chains.now a b }
     requires flat { ¬ IsDeep chains.now }
     ensures { IfOk result (λ line. IsSome line ↔ ComesTo why translation chains.now) }
 {
     let mut marks = forbidding(alloc, why, translation, chains)?;
-    mark_reached(rows, marks.as_mut_slice());
+    mark_reached(rows, marks.as_mut_slice(), 16);
     Ok(first_marked(translation, chains, marks.as_slice()))
 }
 
@@ -177,7 +178,7 @@ fn come_to_some(
 ) -> Result<Option<Line>, AllocError>
     requires same { length rows.now ≡ length chains.now }
     requires within { AreWithin rows.now }
-    requires edges { (a b : ℕ) → HasEdge rows.now a b ↔ Leads chains.now a b }
+    requires edges { (a b : ℕ) → HasEdge rows.now a b ↔ Calls chains.now a b }
     requires flat { ¬ IsDeep chains.now }
     ensures { IfOk result (λ line. IsSome line ↔ ComesToSome why chains.now) }
 {

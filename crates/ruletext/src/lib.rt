@@ -7,8 +7,9 @@
 //! - `refusal`: the kinds in the order in which they count. One room a kind: `unknown`, `duplicate`, `loops`,
 //!   `hooks`, `types`, `places`, `counts`, `overlap`.
 //! - `class`, `parts`: the classes of values, and the parts of sets that values stand for.
-//! - `names`, `calls`, `graph`: the jumps and gotos of a table as rows of places. `nesting`, `witness`, `reach`
-//!   tell what they lead to; `strong` only guesses, and `witness` shows.
+//! - `names`, `named`: names by their places, and those of chains and sets.
+//! - `calls`, `graph`: the jumps and gotos of a table as rows of places, a directed graph. The crate `digraph` tells
+//!   what paths it has.
 //! - `lines`, `excess`, `earlier`: which line is named, of which no contract speaks.
 #![tactic(auto)]
 
@@ -23,19 +24,16 @@ mod hooks;
 mod lines;
 pub mod load;
 mod loops;
+mod named;
 mod names;
-mod nesting;
 mod overlap;
 pub mod parts;
 mod places;
-mod reach;
 pub mod reading;
 pub mod refusal;
 pub mod ruleset;
-mod strong;
 mod types;
 mod unknown;
-mod witness;
 
 pub use reading::read;
 pub use refusal::refusal_of;

@@ -5,9 +5,10 @@ ghost use Rattle.ruletext.specs.Said.{chain_names};
 ghost use Rattle.ruletext.specs.Duplicate.{has_twice};
 
 use crate::calls::place_led_to;
-use crate::graph::{graph_of, names_of};
+use crate::graph::graph_of;
+use crate::named::names_of;
 use crate::names::Names;
-use crate::strong::components_of;
+use digraph::strong::components_of;
 use rulesyntax::line::Line;
 use rulesyntax::tree::{Chain, End, Pair, Rule, Verdict};
 use sqlite_items::Items;

@@ -8,7 +8,7 @@ ghost use Rattle.ruletext.specs.Calls.{OfSome, IsLooped, IsDeep, AreDistinct};
 
 use crate::graph::graph_of;
 use crate::lines::{line_of_depth, line_of_loop};
-use crate::nesting::{has_loop, is_deep};
+use digraph::nesting::{has_loop, is_deeper};
 use rulesyntax::line::Line;
 use rulesyntax::tree::{Chain, Table};
 use std::alloc::{AllocError, Global};
@@ -28,7 +28,7 @@ pub fn has_long_path(alloc: Global, chains: &[Chain]) -> Result<bool, AllocError
     ensures { IfOk result (λ yes. IsTrue yes ↔ IsDeep chains.now) }
 {
     let rows = graph_of(alloc, chains)?;
-    is_deep(alloc, rows.as_slice())
+    is_deeper(alloc, rows.as_slice(), 16)
 }
 
 /// The first table with a chain that reaches itself.

@@ -13,6 +13,7 @@ ghost use Rattle.ruletext.specs.Types.{same_class, class_in as class_in_types, h
 use crate::class::{Class, class_in, class_of, is_same, is_value};
 use crate::earlier::earlier;
 use crate::hooks::{Wrong, forbidden_translation};
+use crate::named::names_of;
 use crate::names::Names;
 use rulesyntax::line::Line;
 use rulesyntax::tree::{
@@ -77,18 +78,6 @@ fn wrong_sets(sets: &[Set]) -> Option<Line>
         }
     }
     None
-}
-
-// The names of the sets, each at its set's place.
-fn names_of(alloc: Global, sets: &[Set]) -> Result<Names, AllocError>
-    requires { has_twice (set_names sets.now) ≡ false }
-    ensures { IfOk result (λ names. names ≡ set_names sets.now) }
-{
-    let mut names = Names::new(alloc);
-    for set in sets {
-        names.insert(set.name.as_slice())?;
-    }
-    Ok(names)
 }
 
 fn has_class(set: &Set, class: Class) -> bool

@@ -6,9 +6,10 @@ ghost use Rattle.ruletext.specs.Said.{verdicts_in, chain_names, set_names, is_am
 ghost use Rattle.ruletext.specs.Unknown.{plain_chains, leads_nowhere, rule_leads_nowhere, chain_leads_nowhere, has_unknown_chain_in, is_no_set, names_no_set, rule_names_no_set, chain_names_no_set, has_unknown_set_in};
 
 use crate::calls::target_of;
+use crate::named::names_of;
 use crate::names::Names;
 use rulesyntax::line::Line;
-use rulesyntax::tree::{Chain, End, Match, Pair, Rule, Set, Side, Table, Verdict};
+use rulesyntax::tree::{Chain, End, Match, Pair, Rule, Side, Table, Verdict};
 use std::alloc::{AllocError, Global};
 
 fn lost_verdict(names: &Names, verdict: &Verdict) -> Option<Line>
@@ -157,21 +158,10 @@ fn setless_chains(names: &Names, chains: &[Chain]) -> Option<Line>
     None
 }
 
-// The names of the sets.
-fn names_of_sets(alloc: Global, sets: &[Set]) -> Result<Names, AllocError>
-    ensures { IfOk result (λ names. (name : List ℕ) → is_among names name ≡ is_among (set_names sets.now) name) }
-{
-    let mut names = Names::new(alloc);
-    for set in sets {
-        names.insert(set.name.as_slice())?;
-    }
-    Ok(names)
-}
-
 fn sets_in_table(alloc: Global, table: &Table) -> Result<Option<Line>, AllocError>
     ensures { IfOk result (λ line. is_some line ≡ has_unknown_set_in table.now) }
 {
-    let names = names_of_sets(alloc, table.sets.as_slice())?;
+    let names = names_of(alloc, table.sets.as_slice())?;
     Ok(setless_chains(&names, table.chains.as_slice()))
 }
 

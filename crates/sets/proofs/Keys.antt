@@ -6,7 +6,7 @@ use Rattle.std.specs.List.{Any, HoldsAt, AllWithin}
 use Rattle.sets.specs.declared.element.Range.{Range}
 use Rattle.sets.specs.declared.element.Element.{Element}
 use Rattle.sets.specs.declared.element.Pair.{Pair}
-use Rattle.sets.specs.Members.{Fact, IsIn, Share, Leads, Overlaps}
+use Rattle.sets.specs.Members.{Fact, IsIn, Share, MapsTo, Overlaps}
 
 -- two ranges share a number where neither ends before the other begins
 pub ranges_share : (a b : Range) → a.low ≤ b.high → b.low ≤ a.high → Share (Element.Numbers a) (Element.Numbers b)
@@ -60,7 +60,7 @@ module _ {V : Type 0} (fact : Fact) where
 
   -- the key that holds a fact has the only verdict
   pub only_verdict : (pairs : List (Pair V)) → ¬ Overlaps pairs → (i : ℕ) (p : Pair V) → i < length pairs → slice_index_or pairs i p ≡ p → IsIn fact p.key
-      → (other : V) → Leads fact other pairs ↔ (other ≡ p.verdict)
+      → (other : V) → MapsTo fact other pairs ↔ (other ≡ p.verdict)
   only_verdict pairs apart i p li pi hp other = (
     λ (j, q, lj, qj, (hq, e)). sym e ∙ ap (λ (y : Pair V). y.verdict) (one_key pairs apart j i q p lj li qj pi hq hp),
     λ e. (i, p, li, pi, (hp, sym e)),

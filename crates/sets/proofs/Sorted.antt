@@ -11,7 +11,7 @@ use Rattle.std.specs.List.Sorted.{IsPermutation, IsSortedBy}
 use Rattle.std.specs.Ordering.{nat_cmp, is_lt, ordering_then, ordering_reverse}
 use Rattle.sets.specs.declared.element.Element.{Element}
 use Rattle.sets.specs.declared.element.Pair.{Pair}
-use Rattle.sets.specs.Members.{Fact, Share, Leads, Overlaps}
+use Rattle.sets.specs.Members.{Fact, Share, MapsTo, Overlaps}
 use Rattle.sets.specs.Order.{place_of, is_before, is_key_before}
 use Rattle.sets.proofs.Keys.{ranges_share, share_ranges, names_share, share_names, kinds_differ, kinds_differ_too}
 
@@ -143,12 +143,12 @@ module _ {V : Type 0} where
     λ o. IsPermutation-keeps ys Overlaps o overlaps_swapped xs (IsPermutation-sym xs ys h),
   )
 
-  leads_more : (fact : Fact) (verdict : V) (xs ys : List (Pair V)) → IsPermutation xs ys → Leads fact verdict xs → Leads fact verdict ys
+  leads_more : (fact : Fact) (verdict : V) (xs ys : List (Pair V)) → IsPermutation xs ys → MapsTo fact verdict xs → MapsTo fact verdict ys
   leads_more fact verdict xs ys h (k, pair, lt, is, holds) =
       let there = Contains-permutation xs ys pair h (k, lt, is) in
       (there.0, pair, there.1, there.2, holds)
 
-  pub leads_permuted : (fact : Fact) (verdict : V) (xs ys : List (Pair V)) → IsPermutation xs ys → Leads fact verdict ys ↔ Leads fact verdict xs
+  pub leads_permuted : (fact : Fact) (verdict : V) (xs ys : List (Pair V)) → IsPermutation xs ys → MapsTo fact verdict ys ↔ MapsTo fact verdict xs
   leads_permuted fact verdict xs ys h = (leads_more fact verdict ys xs (IsPermutation-sym xs ys h), leads_more fact verdict xs ys h)
 
   -- no two neighbours share a fact, so no two keys do

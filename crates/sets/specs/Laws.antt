@@ -3,7 +3,7 @@ use Rattle.std.specs.Prelude.{◌≡◌, ◌⊎◌, ◌↔◌, ℕ, ◌+◌, ◌
 use Rattle.sets.specs.declared.element.Range.{Range}
 use Rattle.sets.specs.declared.element.Element.{Element}
 use Rattle.sets.specs.declared.element.Pair.{Pair}
-use Rattle.sets.specs.Members.{Fact, IsWithin, IsMember, Share, Leads, Overlaps}
+use Rattle.sets.specs.Members.{Fact, IsWithin, IsMember, Share, MapsTo, Overlaps}
 
 abbrev pub NoneHoldNothing : Type 0
 NoneHoldNothing = (fact : Fact) → ¬ IsMember fact []
@@ -19,5 +19,5 @@ abbrev pub RangesShare : Type 0
 RangesShare = (one other : Range) → Share (Element.Numbers one) (Element.Numbers other) ↔ ((one.low ≤ other.high) × (other.low ≤ one.high))
 
 module _ (V : Type 0) where
-  abbrev pub LeadsToOne : Type 0
-  LeadsToOne = (pairs : List (Pair V)) → ¬ Overlaps pairs → (fact : Fact) (one other : V) → Leads fact one pairs → Leads fact other pairs → one ≡ other
+  abbrev pub MapsToOne : Type 0
+  MapsToOne = (pairs : List (Pair V)) → ¬ Overlaps pairs → (fact : Fact) (one other : V) → MapsTo fact one pairs → MapsTo fact other pairs → one ≡ other

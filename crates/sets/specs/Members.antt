@@ -40,8 +40,8 @@ Share one other = (fact : Fact) × IsIn fact one × IsIn fact other
 
 module _ {V : Type 0} where
   -- a key in which the fact lies has this verdict
-  abbrev pub Leads : Fact → V → List (Pair V) → Type 0
-  Leads fact verdict pairs = Any (λ pair. IsIn fact pair.key × (pair.verdict ≡ verdict)) pairs
+  abbrev pub MapsTo : Fact → V → List (Pair V) → Type 0
+  MapsTo fact verdict pairs = Any (λ pair. IsIn fact pair.key × (pair.verdict ≡ verdict)) pairs
 
   -- a key shares a fact with a later one
   abbrev pub Overlaps : List (Pair V) → Type 0

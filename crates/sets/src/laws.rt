@@ -1,5 +1,5 @@
 //! What follows from the definitions: each function is proved to meet its clause.
-ghost use Rattle.sets.specs.Laws.{NoneHoldNothing, UnionHoldsBoth, AdjoiningIsJoined, RangesShare, LeadsToOne};
+ghost use Rattle.sets.specs.Laws.{NoneHoldNothing, UnionHoldsBoth, AdjoiningIsJoined, RangesShare, MapsToOne};
 
 /// The union of no elements holds nothing.
 pub fn none_hold_nothing()
@@ -23,5 +23,5 @@ pub fn ranges_share()
 
 /// Where no two keys share a value, a value leads to one verdict.
 pub fn leads_to_one<V>()
-    ensures { LeadsToOne V }
+    ensures { MapsToOne V }
 {}

@@ -4,7 +4,7 @@ ghost use Rattle.std.specs.Cmp.Lexicographic.{slice_cmp};
 ghost use Rattle.std.specs.List.Sorted.{IsSortedBy};
 ghost use Rattle.std.specs.Ordering.{nat_cmp};
 ghost use Rattle.sets.specs.Order.{place_of, is_key_before};
-ghost use Rattle.sets.specs.Members.{Fact, fact_of, Leads, Overlaps, limit};
+ghost use Rattle.sets.specs.Members.{Fact, fact_of, MapsTo, Overlaps, limit};
 
 use crate::element::{Element, Pair, Value};
 use crate::fault::SetFault;
@@ -43,7 +43,7 @@ impl<V: Drop> Vmap<V> {
     /// `Limit` exactly where there are more; otherwise `Overlap` exactly where two keys share a value; no
     /// other. The pairs are dropped then.
     pub fn of(mut pairs: Vec<Pair<V>>) -> Result<Vmap<V>, SetFault>
-        ensures ok { IfOk result (λ vmap. (fact : Fact) (verdict : V) → Leads fact verdict vmap ↔ Leads fact verdict pairs.items) }
+        ensures ok { IfOk result (λ vmap. (fact : Fact) (verdict : V) → MapsTo fact verdict vmap ↔ MapsTo fact verdict pairs.items) }
         ensures apart { OnOk result (¬ Overlaps pairs.items) }
         ensures limit { (result ≡ Err SetFault.Limit) ↔ (limit < length pairs.items) }
         ensures overlap { (result ≡ Err SetFault.Overlap) ↔ ((length pairs.items ≤ limit) × Overlaps pairs.items) }
@@ -61,8 +61,8 @@ impl<V: Drop> Vmap<V> {
 
     /// The verdict of the one key in which the value lies, if there is one. Takes no memory.
     pub fn look_up(&self, value: Value<'_>) -> Option<&V>
-        ensures found { IfSome result (λ verdict. (other : V) → Leads (fact_of value.entry) other self.now ↔ (other ≡ verdict.now)) }
-        ensures absent { IfNone result ((verdict : V) → ¬ Leads (fact_of value.entry) verdict self.now) }
+        ensures found { IfSome result (λ verdict. (other : V) → MapsTo (fact_of value.entry) other self.now ↔ (other ≡ verdict.now)) }
+        ensures absent { IfNone result ((verdict : V) → ¬ MapsTo (fact_of value.entry) verdict self.now) }
     {
         self.look_up_counted(value).0
     }
@@ -70,8 +70,8 @@ impl<V: Drop> Vmap<V> {
     /// The verdict of the one key in which the value lies, if there is one, and with how many probes it was
     /// found. A probe is one key compared with the value. Takes no memory.
     pub fn look_up_counted(&self, value: Value<'_>) -> (Option<&V>, Steps)
-        ensures found { IfSome result.0 (λ verdict. (other : V) → Leads (fact_of value.entry) other self.now ↔ (other ≡ verdict.now)) }
-        ensures absent { IfNone result.0 ((verdict : V) → ¬ Leads (fact_of value.entry) verdict self.now) }
+        ensures found { IfSome result.0 (λ verdict. (other : V) → MapsTo (fact_of value.entry) other self.now ↔ (other ≡ verdict.now)) }
+        ensures absent { IfNone result.0 ((verdict : V) → ¬ MapsTo (fact_of value.entry) verdict self.now) }
         ensures probes { (digits : ℕ) → length self.now < 2 ^ digits → result.1 ≤ digits }
     {
         let (found, steps) = search(&self.pairs, value);

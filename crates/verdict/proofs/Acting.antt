@@ -19,7 +19,7 @@ use Rattle.verdict.specs.declared.stack.Place.{Place}
 use Rattle.verdict.specs.declared.walk.Move.{Move}
 use Rattle.verdict.specs.declared.walk.Move.TheVariants.{Next, Gives, Jumps, Goes}
 use Rattle.verdict.specs.Evaluation.{unless_ended, after}
-use Rattle.verdict.specs.Targets.{OfEach, TargetsHave, IsShort}
+use Rattle.verdict.specs.Targets.{OfEach, TargetsHave, EndsWithin}
 use Rattle.verdict.specs.Lines.{place_among, IsLine, AreSpans}
 use Rattle.verdict.specs.Places.{move_of, ending_by, rules_at, rest_of, comes, comes_at, AreKnown, IsResolved, after_call, whole, Reads, Standing, GoesOn, Stepped, IsRead, AreRemembered, told_of, AreSkipped, Calling, GoesTo, EndsAll, Acts}
 use Rattle.verdict.proofs.Steady.{rules_weaken}
@@ -122,7 +122,7 @@ module _ (config : Config) (facts : Facts) (table : Table) where
     }
 
     -- a chain is called, and this one is read on from this rule afterwards
-    calls_on : (b at : ℕ) → b < length table.chains → length places < 16 → OfEach (TargetsHave (IsShort table.chains (16 - suc (length places)))) (rules_of_place b)
+    calls_on : (b at : ℕ) → b < length table.chains → length places < 16 → OfEach (TargetsHave (EndsWithin table.chains (16 - suc (length places)))) (rules_of_place b)
         → here.at < at → at ≤ length (rules_of_place here.chain)
         → W (rest_of table.chains here) ≡ unwrap_or (unless_ended (comes_at config facts table b)) (W (drop at (rules_of_place here.chain)))
         → GoesOn config facts table (here ∷ places) (record { chain = b; at = 0 } ∷ record { chain = here.chain; at = at } ∷ places)
@@ -161,29 +161,29 @@ module _ (config : Config) (facts : Facts) (table : Table) where
       lt : at < length (rules_of_place here.chain)
       lt = slice_get_within (rules_of_place here.chain) at rule is_at
 
-      short : TargetsHave (IsShort table.chains (16 - length places)) rule
-      short = each_at (TargetsHave (IsShort table.chains (16 - length places))) (rules_of_place here.chain) at rule standing.fit.2 is_at
+      short : TargetsHave (EndsWithin table.chains (16 - length places)) rule
+      short = each_at (TargetsHave (EndsWithin table.chains (16 - length places))) (rules_of_place here.chain) at rule standing.fit.2 is_at
 
-      short16 : TargetsHave (IsShort table.chains 16) rule
-      short16 = (rules_weaken (IsShort table.chains (16 - length places)) (IsShort table.chains 16) (λ name s. short_within table.chains (16 - length places) 16 name (omega arith) s) (rule ∷ []) (short, tt)).0
+      short16 : TargetsHave (EndsWithin table.chains 16) rule
+      short16 = (rules_weaken (EndsWithin table.chains (16 - length places)) (EndsWithin table.chains 16) (λ name s. short_within table.chains (16 - length places) 16 name (omega arith) s) (rule ∷ []) (short, tt)).0
 
-      led : Led table.chains (IsShort table.chains (16 - length places)) (move_of config facts table rule)
-      led = rule_leads config facts table (IsShort table.chains (16 - length places)) rule short
+      led : Led table.chains (EndsWithin table.chains (16 - length places)) (move_of config facts table rule)
+      led = rule_leads config facts table (EndsWithin table.chains (16 - length places)) rule short
 
       -- a called chain leaves room, and no long path begins at it
-      called_room : (b : ℕ) → b < length table.chains → (name : List ℕ) → IsShort table.chains (16 - length places) name → b ≡ place_among table.chains name → length places < 16
+      called_room : (b : ℕ) → b < length table.chains → (name : List ℕ) → EndsWithin table.chains (16 - length places) name → b ≡ place_among table.chains name → length places < 16
       called_room b within name named is =
           let lt_name : place_among table.chains name < length table.chains = omega (arith, within, is) in
           let some = some_left table.chains name lt_name (16 - length places) named in
           omega (arith, some)
 
-      called_short_at : (b : ℕ) → b < length table.chains → (name : List ℕ) → IsShort table.chains (16 - length places) name → b ≡ place_among table.chains name → OfEach (TargetsHave (IsShort table.chains (16 - suc (length places)))) (rules_of_place b)
+      called_short_at : (b : ℕ) → b < length table.chains → (name : List ℕ) → EndsWithin table.chains (16 - length places) name → b ≡ place_among table.chains name → OfEach (TargetsHave (EndsWithin table.chains (16 - suc (length places)))) (rules_of_place b)
       called_short_at b within name named is =
           let room = called_room b within name named is in
           let lt_name : place_among table.chains name < length table.chains = omega (arith, within, is) in
           let e : 16 - length places ≡ suc (16 - suc (length places)) = omega (arith, room) in
-          subst (λ a. OfEach (TargetsHave (IsShort table.chains (16 - suc (length places)))) (rules_of_place a)) (sym is)
-          (called_fits table.chains name lt_name (16 - suc (length places)) (subst (λ k. IsShort table.chains k name) e named))
+          subst (λ a. OfEach (TargetsHave (EndsWithin table.chains (16 - suc (length places)))) (rules_of_place a)) (sym is)
+          (called_fits table.chains name lt_name (16 - suc (length places)) (subst (λ k. EndsWithin table.chains k name) e named))
 
       at_more : here.at < at + 1
       at_more = omega (arith, rise)
@@ -217,8 +217,8 @@ module _ (config : Config) (facts : Facts) (table : Table) where
       pub room : (move : Move) → IsResolved config facts table (move_of config facts table rule) move → Calling move (length places < 16)
       room Next resolved = tt
       room (Gives o) resolved = tt
-      room (Jumps b) resolved = let l = subst (Led table.chains (IsShort table.chains (16 - length places))) resolved.calls.1 led in called_room b resolved.calls.0 l.0 l.1 l.2
-      room (Goes b) resolved = let l = subst (Led table.chains (IsShort table.chains (16 - length places))) resolved.calls.1 led in called_room b resolved.calls.0 l.0 l.1 l.2
+      room (Jumps b) resolved = let l = subst (Led table.chains (EndsWithin table.chains (16 - length places))) resolved.calls.1 led in called_room b resolved.calls.0 l.0 l.1 l.2
+      room (Goes b) resolved = let l = subst (Led table.chains (EndsWithin table.chains (16 - length places))) resolved.calls.1 led in called_room b resolved.calls.0 l.0 l.1 l.2
 
       module _ (known known2 : List (Option Outcome)) (are : AreKnown config facts table known) (here2 : Place) (places2 : List Place) (result : Option Outcome) where
         abbrev Done : Type 0
@@ -251,18 +251,18 @@ module _ (config : Config) (facts : Facts) (table : Table) where
         acted (Gives (To x)) resolved acts = all_ended (To x) acts refl (rest_is (Gives (To x)) (Some (To x)) resolved refl)
         acted (Gives (From x)) resolved acts = all_ended (From x) acts refl (rest_is (Gives (From x)) (Some (From x)) resolved refl)
         acted (Jumps b) resolved acts =
-            let l = subst (Led table.chains (IsShort table.chains (16 - length places))) resolved.calls.1 led in
+            let l = subst (Led table.chains (EndsWithin table.chains (16 - length places))) resolved.calls.1 led in
             landed (record { chain = b; at = 0 }) (record { chain = here.chain; at = at + 1 } ∷ places)
             (calls_on b (at + 1) resolved.calls.0 (called_room b resolved.calls.0 l.0 l.1 l.2) (called_short_at b resolved.calls.0 l.0 l.1 l.2) at_more at_within
             (rest_is (Jumps b) (unless_ended (comes_at config facts table b)) resolved refl)) acts.0 acts.1
         acted (Goes b) resolved acts =
-            let l = subst (Led table.chains (IsShort table.chains (16 - length places))) resolved.calls.1 led in
+            let l = subst (Led table.chains (EndsWithin table.chains (16 - length places))) resolved.calls.1 led in
             landed (record { chain = b; at = 0 }) (record { chain = here.chain; at = length (rules_of_place here.chain) } ∷ places)
             (calls_on b (length (rules_of_place here.chain)) resolved.calls.0 (called_room b resolved.calls.0 l.0 l.1 l.2) (called_short_at b resolved.calls.0 l.0 l.1 l.2) end_more end_within
             (rest_is (Goes b) (Some (comes_at config facts table b)) resolved refl ∙ ends_or (comes_at config facts table b) ∙ ap (unwrap_or (unless_ended (comes_at config facts table b))) (sym no_rest))) acts.0 acts.1
 
 -- a walk begins before the first rule of its base chain
-pub begins : (config : Config) (facts : Facts) (table : Table) (base : ℕ) → base < length table.chains → OfEach (TargetsHave (IsShort table.chains 16)) (rules_at table.chains base) → Standing config facts table (record { chain = base; at = 0 } ∷ [])
+pub begins : (config : Config) (facts : Facts) (table : Table) (base : ℕ) → base < length table.chains → OfEach (TargetsHave (EndsWithin table.chains 16)) (rules_at table.chains base) → Standing config facts table (record { chain = base; at = 0 } ∷ [])
 begins config facts table base within none_long = record { fit = (within, omega arith, none_long, tt); reads = (refl, tt) }
 
 pub found_at : {X : Type 0} (xs : List X) (at : ℕ) → at < length xs → (x : X) × (slice_get xs at ≡ Some x)

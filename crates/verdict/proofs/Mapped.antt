@@ -6,7 +6,7 @@ use Rattle.std.proofs.lemmas.Bool.{false≢true, false_from_ne_true}
 use Rattle.std.proofs.lemmas.Option.{slice_get_read, slice_get_within, get_or_from_slice_get}
 use Rattle.sets.specs.declared.element.Element.{Element as Part}
 use Rattle.sets.specs.declared.element.Pair.{Pair as Key}
-use Rattle.sets.specs.Members.{Fact, IsIn, Leads, Share as PartsShare, Overlaps}
+use Rattle.sets.specs.Members.{Fact, IsIn, MapsTo, Share as PartsShare, Overlaps}
 use Rattle.rulesyntax.specs.declared.tree.Pair.{Pair}
 use Rattle.ruletext.specs.declared.class.Class.{Class}
 use Rattle.ruletext.specs.Classes.{is_value, class_of, StandsFor}
@@ -94,7 +94,7 @@ pub apart_spelled : (class : Class) (pairs : List Pair) (keys : List (Key ℕ)) 
 apart_spelled class pairs keys typed are apart overlaps = apart (overlap_spelled class pairs keys
     (λ k key at. let own = pair_of class pairs keys are k key at in (own.0, own.1, λ fact is. (typed k own.0 own.1, (exact class own.0.key.value fact).0 ((own.3 fact).0 is)))) overlaps)
 
-pub map_made : (class : Class) (pairs : List Pair) (keys map : List (Key ℕ)) → ArePairs class pairs keys → ((fact : Fact) (place : ℕ) → Leads fact place map ↔ Leads fact place keys) → IsMap class pairs map
+pub map_made : (class : Class) (pairs : List Pair) (keys map : List (Key ℕ)) → ArePairs class pairs keys → ((fact : Fact) (place : ℕ) → MapsTo fact place map ↔ MapsTo fact place keys) → IsMap class pairs map
 map_made class pairs keys map are same fact k = (
   λ leads. led ((same fact k).0 leads),
   λ (pair, at, holds).
@@ -103,7 +103,7 @@ map_made class pairs keys map are same fact k = (
       (same fact k).1 (k, record { key = own.0; verdict = k }, lt, get_or_from_slice_get keys k (record { key = own.0; verdict = k }) (record { key = own.0; verdict = k }) own.1, ((own.2 fact).1 holds, refl)),
 )
   where
-    led : Leads fact k keys → (pair : Pair) × (slice_get pairs k ≡ Some pair) × IsTrue (lies class pair.key.value fact)
+    led : MapsTo fact k keys → (pair : Pair) × (slice_get pairs k ≡ Some pair) × IsTrue (lies class pair.key.value fact)
     led (i, key, lt, at, both) =
         let own = pair_of class pairs keys are i key (slice_get_read keys _ i key refl lt (sym at)) in
         let place : i ≡ k = sym own.2 ∙ both.1 in
@@ -123,15 +123,15 @@ none_is class [] fact alone = refl
 none_is class (first ∷ pairs) fact alone = rw (false_from_ne_true _ (alone 0 first refl)) (none_is class pairs fact (λ i other there. alone (suc i) other there))
 
 module _ (class : Class) (pairs : List Pair) (map : List (Key ℕ)) (is : IsMap class pairs map) (fact : Fact) where
-  pub place_found : (place : ℕ) → ((other : ℕ) → Leads fact other map ↔ (other ≡ place)) → IsKey pairs (looked_up class pairs fact) (Some place)
+  pub place_found : (place : ℕ) → ((other : ℕ) → MapsTo fact other map ↔ (other ≡ place)) → IsKey pairs (looked_up class pairs fact) (Some place)
   place_found place only =
       let own = (is fact place).0 ((only place).1 refl) in
       (own.0, own.1, first_is class pairs fact place own.0 own.1 own.2 (λ i other at holds. (only i).0 ((is fact i).1 (other, at, holds))))
 
-  pub place_absent : ((place : ℕ) → ¬ Leads fact place map) → IsKey pairs (looked_up class pairs fact) None
+  pub place_absent : ((place : ℕ) → ¬ MapsTo fact place map) → IsKey pairs (looked_up class pairs fact) None
   place_absent none = none_is class pairs fact (λ i other at holds. none i ((is fact i).1 (other, at, holds)))
 
-  pub place_is : (result : Option ℕ) → IfSome result (λ place. (other : ℕ) → Leads fact other map ↔ (other ≡ place)) → IfNone result ((place : ℕ) → ¬ Leads fact place map) → IsKey pairs (looked_up class pairs fact) result
+  pub place_is : (result : Option ℕ) → IfSome result (λ place. (other : ℕ) → MapsTo fact other map ↔ (other ≡ place)) → IfNone result ((place : ℕ) → ¬ MapsTo fact place map) → IsKey pairs (looked_up class pairs fact) result
   place_is None some none = place_absent none
   place_is (Some place) some none = place_found place some
 
@@ -146,7 +146,7 @@ typed_pair class pairs typed k pair at = not_not _ (none_found (λ (pair : Pair)
 module _ (config : Config) (facts : Facts) (vmap : Vmap) (maps : List (List (Key ℕ))) (at : ℕ) (map : List (Key ℕ)) (fact : Fact) (result : Option ℕ) where
   -- what the map at the place leads to is the key of the verdict map
   pub map_looked_up : HasMap maps at (Some (ends.Vmap vmap)) → slice_get maps at ≡ Some map → has_protocol vmap.head facts.proto ≡ true → fact ≡ asked config facts vmap.head
-      → IfSome result (λ place. (other : ℕ) → Leads fact other map ↔ (other ≡ place)) → IfNone result ((place : ℕ) → ¬ Leads fact place map) → IsKey vmap.pairs (mapped config facts vmap) result
+      → IfSome result (λ place. (other : ℕ) → MapsTo fact other map ↔ (other ≡ place)) → IfNone result ((place : ℕ) → ¬ MapsTo fact place map) → IsKey vmap.pairs (mapped config facts vmap) result
   unfolding mapped
   map_looked_up has here protocol is some none =
       let e : Some has.0 ≡ Some map = sym has.1 ∙ here in

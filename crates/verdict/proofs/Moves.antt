@@ -19,9 +19,9 @@ use Rattle.verdict.specs.declared.walk.Move.{Move}
 use Rattle.verdict.specs.declared.walk.Move.TheVariants.{Next, Gives, Jumps, Goes}
 use Rattle.verdict.specs.Matching.{holds}
 use Rattle.verdict.specs.Evaluation.{mapped, translation, unless_ended, ending, taken, after, rules_of, called}
-use Rattle.verdict.specs.Targets.{OfEach, TargetHas, TargetsHave, IsShort}
+use Rattle.verdict.specs.Targets.{OfEach, TargetHas, TargetsHave, EndsWithin}
 use Rattle.verdict.specs.Lines.{place_among}
-use Rattle.verdict.specs.Places.{move_led, move_at, move_of, ending_by, rules_at, comes, comes_at, AreKnown, CameTo, Calls, IsResolved}
+use Rattle.verdict.specs.Places.{move_led, move_at, move_of, ending_by, rules_at, comes, comes_at, AreKnown, CameTo, KeepsCall, IsResolved}
 use Rattle.verdict.proofs.Steady.{mapped_has, unfolds}
 
 -- the rules of a name are those at its place
@@ -43,10 +43,10 @@ module _ (config : Config) (facts : Facts) (table : Table) where
   abbrev at_place : ℕ → Outcome
   at_place = comes_at config facts table
 
-  pub called_place : (name : List ℕ) → IsShort table.chains 16 name → call name ≡ at_place (place_among table.chains name)
+  pub called_place : (name : List ℕ) → EndsWithin table.chains 16 name → call name ≡ at_place (place_among table.chains name)
   called_place name short = unfolds config facts table name short ∙ ap (comes config facts table) (rules_place table.chains name)
 
-  verdict_moves : (v : Verdict) → TargetHas (IsShort table.chains 16) v → ending call v ≡ ending_by at_place (move_led table.chains v)
+  verdict_moves : (v : Verdict) → TargetHas (EndsWithin table.chains 16) v → ending call v ≡ ending_by at_place (move_led table.chains v)
   verdict_moves Accept short = refl
   verdict_moves Drop short = refl
   verdict_moves Return short = refl
@@ -54,7 +54,7 @@ module _ (config : Config) (facts : Facts) (table : Table) where
   verdict_moves (Jump to) short = ap unless_ended (called_place to.chain (short to.chain refl))
   verdict_moves (Goto to) short = ap Some (called_place to.chain (short to.chain refl))
 
-  found_moves : (o : Option Verdict) → ((v : Verdict) → o ≡ Some v → TargetHas (IsShort table.chains 16) v) → option_and_then (ending call) o ≡ ending_by at_place (option_map_or (move_led table.chains) o Next)
+  found_moves : (o : Option Verdict) → ((v : Verdict) → o ≡ Some v → TargetHas (EndsWithin table.chains 16) v) → option_and_then (ending call) o ≡ ending_by at_place (option_map_or (move_led table.chains) o Next)
   found_moves None short = refl
   found_moves (Some v) short = verdict_moves v (short v refl)
 
@@ -62,18 +62,18 @@ module _ (config : Config) (facts : Facts) (table : Table) where
   given_moves None = refl
   given_moves (Some outcome) = refl
 
-  end_moves : (end : End) → OfEach (TargetHas (IsShort table.chains 16)) (verdicts_in end) → taken config facts call end ≡ ending_by at_place (move_at config facts table.chains end)
+  end_moves : (end : End) → OfEach (TargetHas (EndsWithin table.chains 16)) (verdicts_in end) → taken config facts call end ≡ ending_by at_place (move_at config facts table.chains end)
   end_moves (ends.Verdict v) short = verdict_moves v short.0
-  end_moves (ends.Vmap vmap) short = found_moves (mapped config facts vmap) (λ v is. mapped_has (TargetHas (IsShort table.chains 16)) config facts vmap v short is)
+  end_moves (ends.Vmap vmap) short = found_moves (mapped config facts vmap) (λ v is. mapped_has (TargetHas (EndsWithin table.chains 16)) config facts vmap v short is)
   end_moves (ends.Dnat dnat) short = given_moves (translation config facts (ends.Dnat dnat))
   end_moves (ends.Snat snat) short = given_moves (translation config facts (ends.Snat snat))
   end_moves (ends.Masquerade line) short = given_moves (translation config facts (ends.Masquerade line))
 
-  may_end_moves : (end : Option End) → OfEach (TargetHas (IsShort table.chains 16)) (verdicts_of end) → option_and_then (taken config facts call) end ≡ ending_by at_place (option_map_or (move_at config facts table.chains) end Next)
+  may_end_moves : (end : Option End) → OfEach (TargetHas (EndsWithin table.chains 16)) (verdicts_of end) → option_and_then (taken config facts call) end ≡ ending_by at_place (option_map_or (move_at config facts table.chains) end Next)
   may_end_moves None short = refl
   may_end_moves (Some end) short = end_moves end short
 
-  pub rule_moves : (rule : Rule) → TargetsHave (IsShort table.chains 16) rule → after config facts table call rule ≡ ending_by at_place (move_of config facts table rule)
+  pub rule_moves : (rule : Rule) → TargetsHave (EndsWithin table.chains 16) rule → after config facts table call rule ≡ ending_by at_place (move_of config facts table rule)
   unfolding after
   rule_moves rule short = elim (cases_Bool (list_all (holds config table.sets facts) rule.matches)) [
     | inl hold ↦ rw hold (may_end_moves rule.end short)
@@ -103,5 +103,5 @@ module _ (config : Config) (facts : Facts) (table : Table) where
       pub goto_given : IsResolved config facts table (Goes place) (Gives outcome)
       goto_given = record { same = sym (ap Some (came known place outcome are is)); calls = tt }
 
-  pub resolved_itself : (move : Move) → Calls (length table.chains) move move → IsResolved config facts table move move
+  pub resolved_itself : (move : Move) → KeepsCall (length table.chains) move move → IsResolved config facts table move move
   resolved_itself move calls = record { same = refl; calls = calls }

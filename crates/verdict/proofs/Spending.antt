@@ -13,9 +13,9 @@ use Rattle.rulesyntax.specs.declared.tree.Chain.{Chain}
 use Rattle.rulesyntax.specs.declared.tree.Table.{Table}
 use Rattle.ruletext.specs.Said.{verdicts_of, target_of, chain_names}
 use Rattle.ruletext.specs.Counts.{rules_of_table, elements_of_table, is_much}
-use Rattle.ruletext.specs.Paths.{Path}
-use Rattle.ruletext.specs.Calls.{OfSome, VerdictLeads, RuleLeads, Leads, IsLooped}
-use Rattle.ruletext.proofs.Walks.{path_on}
+use Rattle.digraph.specs.Paths.{Path}
+use Rattle.ruletext.specs.Calls.{OfSome, VerdictCalls, RuleCalls, Calls, IsLooped}
+use Rattle.digraph.proofs.Walks.{path_on}
 use Rattle.verdict.specs.declared.facts.Facts.{Facts}
 use Rattle.verdict.specs.declared.chain.Outcome.{Outcome}
 use Rattle.verdict.specs.declared.chain.Outcome.TheVariants.{Accepts, Drops, To, From, Ends}
@@ -48,12 +48,12 @@ unread_told (c ∷ cs) (Some k ∷ ks) (suc a) outcome is within new = unread_to
 
 module _ (chains : List Chain) where
   -- a path leads from each chain that is read to the one that is read now
-  paths_here : (a : ℕ) (places : List Place) → AreCalls chains a places → OfEach (λ p. (n : ℕ) × Path (Leads chains) (suc n) p.chain a) places
+  paths_here : (a : ℕ) (places : List Place) → AreCalls chains a places → OfEach (λ p. (n : ℕ) × Path (Calls chains) (suc n) p.chain a) places
   paths_here a [] calls = tt
   paths_here a (p ∷ ps) calls = (
     (0, (a, calls.0, refl)),
-    each_weaken (λ q. (n : ℕ) × Path (Leads chains) (suc n) q.chain p.chain) (λ q. (n : ℕ) × Path (Leads chains) (suc n) q.chain a)
-        (λ q path. (suc path.0, path_on (Leads chains) (suc path.0) q.chain p.chain a path.1 calls.0)) ps (paths_here p.chain ps calls.1),
+    each_weaken (λ q. (n : ℕ) × Path (Calls chains) (suc n) q.chain p.chain) (λ q. (n : ℕ) × Path (Calls chains) (suc n) q.chain a)
+        (λ q path. (suc path.0, path_on (Calls chains) (suc path.0) q.chain p.chain a path.1 calls.0)) ps (paths_here p.chain ps calls.1),
   )
 
   -- the rules of the chains at these places
@@ -84,8 +84,8 @@ module _ (chains : List Chain) where
   module _ (ends : ¬ IsLooped chains) where
     -- so it is none of them
     apart : (a : ℕ) (places : List Place) → AreCalls chains a places → OfEach (λ p. p.chain ≢ a) places
-    apart a places calls = each_weaken (λ p. (n : ℕ) × Path (Leads chains) (suc n) p.chain a) (λ p. p.chain ≢ a)
-        (λ p path same. ends (a, path.0, subst (λ x. Path (Leads chains) (suc path.0) x a) same path.1)) places (paths_here a places calls)
+    apart a places calls = each_weaken (λ p. (n : ℕ) × Path (Calls chains) (suc n) p.chain a) (λ p. p.chain ≢ a)
+        (λ p path same. ends (a, path.0, subst (λ x. Path (Calls chains) (suc path.0) x a) same path.1)) places (paths_here a places calls)
 
     all_told : (known : List (Option Outcome)) (outcome : Outcome) (here : Place) (places : List Place) → AreCalls chains here.chain places → OfEach (λ p. IsUnknown known p.chain) (here ∷ places) → OfEach (λ p. p.chain < length chains) (here ∷ places) → length chains ≤ length known
         → unread chains (told_of known (here ∷ places) outcome) + rules_read (here ∷ places) ≡ unread chains known
@@ -147,14 +147,14 @@ abbrev Says : Rule → List ℕ → Type 0
 Says rule name = OfSome (λ v. target_of v ≡ Some name) (verdicts_of rule.end)
 
 module _ (chains : List Chain) (a b at : ℕ) (rule : Rule) (within : a < length chains) (is_at : slice_get (rules_at chains a) at ≡ Some rule) where
-  rule_calls : (name : List ℕ) → b < length chains → Says rule name → b ≡ place_among chains name → Leads chains a b
+  rule_calls : (name : List ℕ) → b < length chains → Says rule name → b ≡ place_among chains name → Calls chains a b
   rule_calls name inside says is =
       let found = found_at chains a within in
       let own : rules_at chains a ≡ found.0.rules = ap (λ chain. option_map_or (λ chain. chain.rules) chain []) found.1 in
       let lt : place_among chains name < length chains = omega (arith, inside, is) in
       let at_b : slice_get (chain_names chains) b ≡ Some name = ap (slice_get (chain_names chains)) is ∙ place_name chains name lt in
-      let leads : RuleLeads (chain_names chains) b rule = some_weaken (λ v. target_of v ≡ Some name) (VerdictLeads (chain_names chains) b) (λ v target. (name, target, at_b)) (verdicts_of rule.end) says in
-      (found.0, found.1, some_at (RuleLeads (chain_names chains) b) found.0.rules at rule (subst (λ rules. slice_get rules at ≡ Some rule) own is_at) leads)
+      let leads : RuleCalls (chain_names chains) b rule = some_weaken (λ v. target_of v ≡ Some name) (VerdictCalls (chain_names chains) b) (λ v target. (name, target, at_b)) (verdicts_of rule.end) says in
+      (found.0, found.1, some_at (RuleCalls (chain_names chains) b) found.0.rules at rule (subst (λ rules. slice_get rules at ≡ Some rule) own is_at) leads)
 
 module _ (config : Config) (facts : Facts) (table : Table) (ends : ¬ IsLooped table.chains) (here : Place) (places : List Place) (fit : Fit table.chains (here ∷ places)) (known : List (Option Outcome)) (reading : Reading table.chains known here places)
     (steps steps2 at : ℕ) (rule : Rule) (is_at : slice_get (rules_at table.chains here.chain) at ≡ Some rule) (looked : steps2 + here.at ≤ steps + at + 1) (all : steps2 + here.at ≤ steps + length (rules_at table.chains here.chain)) where
@@ -177,7 +177,7 @@ module _ (config : Config) (facts : Facts) (table : Table) (ends : ¬ IsLooped t
     on to le = (record { calls = reading.calls; unknown = reading.unknown; roomy = reading.roomy }, omega (arith, le))
 
     -- a chain is called, and this one is read on from this rule afterwards
-    calls_on : (b to : ℕ) → IsUnknown known b → Leads table.chains here.chain b → steps2 + here.at ≤ steps + to
+    calls_on : (b to : ℕ) → IsUnknown known b → Calls table.chains here.chain b → steps2 + here.at ≤ steps + to
         → Spent table.chains here places known steps (record { chain = b; at = 0 }) (record { chain = here.chain; at = to } ∷ places) known steps2 None
     calls_on b to new leads le = (record { calls = (leads, reading.calls); unknown = (new, reading.unknown); roomy = reading.roomy }, omega (arith, le))
 

@@ -18,14 +18,14 @@ use Rattle.rulesyntax.specs.declared.tree.Table.{Table}
 use Rattle.ruletext.specs.declared.class.Class.{Class}
 use Rattle.ruletext.specs.Classes.{class_of}
 use Rattle.ruletext.specs.Said.{verdicts_of, verdicts_in, chain_names}
-use Rattle.ruletext.specs.Paths.{HasPath}
-use Rattle.ruletext.specs.Calls.{OfSome, VerdictLeads, RuleLeads, ChainLeads, Leads, IsDeep}
+use Rattle.digraph.specs.Paths.{HasPath}
+use Rattle.ruletext.specs.Calls.{OfSome, VerdictCalls, RuleCalls, ChainCalls, Calls, IsDeep}
 use Rattle.verdict.specs.declared.facts.Facts.{Facts}
 use Rattle.verdict.specs.declared.chain.Outcome.{Outcome}
 use Rattle.verdict.specs.Matching.{lies, asked, has_protocol, holds}
 use Rattle.verdict.specs.Evaluation.{looked_up, mapped, unless_ended, ending, taken, after, walk, rules_of, called}
-use Rattle.verdict.specs.Laws.{Calls}
-use Rattle.verdict.specs.Targets.{OfEach, TargetHas, TargetsHave, IsShort}
+use Rattle.verdict.specs.Laws.{CallsByName}
+use Rattle.verdict.specs.Targets.{OfEach, TargetHas, TargetsHave, EndsWithin}
 
 -- what all verdicts of a map have, its verdict for a packet has
 pub looked_up_has : (P : Verdict → Type 0) (class : Class) (pairs : List Pair) (fact : Fact) (v : Verdict) → OfEach P (map (λ pair. pair.verdict) pairs) → looked_up class pairs fact ≡ Some v → P v
@@ -106,22 +106,22 @@ name_at (c ∷ cs) zero chain at = let e : c ≡ chain = cc in ap (λ (d : Chain
 name_at (c ∷ cs) (suc a) chain at = name_at cs a chain at
 
 module _ (chains : List Chain) (n : ℕ) where
-  verdicts_short : (vs : List Verdict) → ((b : ℕ) → OfSome (VerdictLeads (chain_names chains) b) vs → ¬ HasPath (Leads chains) n b) → OfEach (TargetHas (IsShort chains n)) vs
+  verdicts_short : (vs : List Verdict) → ((b : ℕ) → OfSome (VerdictCalls (chain_names chains) b) vs → ¬ HasPath (Calls chains) n b) → OfEach (TargetHas (EndsWithin chains n)) vs
   verdicts_short [] short = tt
   verdicts_short (v ∷ vs) short = (λ name is b at. short b (inl (name, is, at)), verdicts_short vs (λ b leads. short b (inr leads)))
 
-  rules_short : (rules : List Rule) → ((b : ℕ) → OfSome (RuleLeads (chain_names chains) b) rules → ¬ HasPath (Leads chains) n b) → OfEach (TargetsHave (IsShort chains n)) rules
+  rules_short : (rules : List Rule) → ((b : ℕ) → OfSome (RuleCalls (chain_names chains) b) rules → ¬ HasPath (Calls chains) n b) → OfEach (TargetsHave (EndsWithin chains n)) rules
   rules_short [] short = tt
   rules_short (r ∷ rs) short = (verdicts_short (verdicts_of r.end) (λ b leads. short b (inl leads)), rules_short rs (λ b leads. short b (inr leads)))
 
   -- from a chain on which no path of n+1 begins, none of n begins behind a jump or goto
-  pub chain_short : (a : ℕ) (chain : Chain) → slice_get chains a ≡ Some chain → ¬ HasPath (Leads chains) (suc n) a → OfEach (TargetsHave (IsShort chains n)) chain.rules
+  pub chain_short : (a : ℕ) (chain : Chain) → slice_get chains a ≡ Some chain → ¬ HasPath (Calls chains) (suc n) a → OfEach (TargetsHave (EndsWithin chains n)) chain.rules
   chain_short a chain at short = rules_short chain.rules (λ b leads path. short (path.0, (b, (chain, at, leads), path.1)))
 
-  pub called_short : (name : List ℕ) → IsShort chains (suc n) name → OfEach (TargetsHave (IsShort chains n)) (rules_of chains name)
+  pub called_short : (name : List ℕ) → EndsWithin chains (suc n) name → OfEach (TargetsHave (EndsWithin chains n)) (rules_of chains name)
   called_short name short = elim (found chains name) [
-    | inl none ↦ subst (OfEach (TargetsHave (IsShort chains n))) (sym none) tt
-    | inr here ↦ subst (OfEach (TargetsHave (IsShort chains n))) (sym here.4)
+    | inl none ↦ subst (OfEach (TargetsHave (EndsWithin chains n))) (sym none) tt
+    | inr here ↦ subst (OfEach (TargetsHave (EndsWithin chains n))) (sym here.4)
         (chain_short here.0 here.1 here.2 (short here.0 (name_at chains here.0 here.1 here.2 ∙ ap Some here.3)))
   ]
 
@@ -132,7 +132,7 @@ path_cut E (suc n) a path = let rest = path_cut E n path.1.0 (path.0, path.1.2) 
 
 module _ (config : Config) (facts : Facts) (table : Table) where
   -- one more jump left changes nothing where no path of that length begins
-  pub steady : (n : ℕ) (name : List ℕ) → IsShort table.chains n name → called n config facts table name ≡ called (suc n) config facts table name
+  pub steady : (n : ℕ) (name : List ℕ) → EndsWithin table.chains n name → called n config facts table name ≡ called (suc n) config facts table name
   unfolding called
   steady zero name short = elim (found table.chains name) [
     | inl none ↦ rw none refl
@@ -140,10 +140,10 @@ module _ (config : Config) (facts : Facts) (table : Table) where
   ]
   steady (suc n) name short =
       walk_same config facts table (called n config facts table) (called (suc n) config facts table) (rules_of table.chains name)
-      (rules_weaken (IsShort table.chains n) (λ to. called n config facts table to ≡ called (suc n) config facts table to) (λ to. steady n to) (rules_of table.chains name) (called_short table.chains n name short))
+      (rules_weaken (EndsWithin table.chains n) (λ to. called n config facts table to ≡ called (suc n) config facts table to) (λ to. steady n to) (rules_of table.chains name) (called_short table.chains n name short))
 
   -- a chain from which no path of 16 begins comes to what its rules come to
-  pub unfolds : (name : List ℕ) → IsShort table.chains 16 name → called 16 config facts table name ≡ walk config facts table (called 16 config facts table) (rules_of table.chains name)
+  pub unfolds : (name : List ℕ) → EndsWithin table.chains 16 name → called 16 config facts table name ≡ walk config facts table (called 16 config facts table) (rules_of table.chains name)
   unfolding called
   unfolds name short = steady 16 name short
 
@@ -157,7 +157,7 @@ some_at P (y ∷ xs) zero x at holds = let e : y ≡ x = cc in inl (subst P (sym
 some_at P (y ∷ xs) (suc i) x at holds = inr (some_at P xs i x at holds)
 
 -- in a table without long paths no path of 16 begins behind a jump or goto
-pub call_short : (chains : List Chain) (chain : Chain) (name : List ℕ) (a : ℕ) → ¬ IsDeep chains → slice_get chains a ≡ Some chain → Calls chain name → IsShort chains 16 name
+pub call_short : (chains : List Chain) (chain : Chain) (name : List ℕ) (a : ℕ) → ¬ IsDeep chains → slice_get chains a ≡ Some chain → CallsByName chain name → EndsWithin chains 16 name
 call_short chains chain name a shallow at calls b at_b path =
-    let leads : ChainLeads (chain_names chains) b chain = some_weaken _ (RuleLeads (chain_names chains) b) (λ rule. some_weaken _ (VerdictLeads (chain_names chains) b) (λ v is. (name, is, at_b)) (verdicts_of rule.end)) chain.rules calls in
+    let leads : ChainCalls (chain_names chains) b chain = some_weaken _ (RuleCalls (chain_names chains) b) (λ rule. some_weaken _ (VerdictCalls (chain_names chains) b) (λ v is. (name, is, at_b)) (verdicts_of rule.end)) chain.rules calls in
     shallow (17, a, omega arith, (path.0, (b, (chain, at, leads), path.1)))

@@ -22,7 +22,7 @@ use Rattle.verdict.specs.declared.walk.Move.{Move}
 use Rattle.verdict.specs.declared.walk.Move.TheVariants.{Next, Gives, Jumps, Goes}
 use Rattle.verdict.specs.Matching.{holds}
 use Rattle.verdict.specs.Evaluation.{mapped, translation}
-use Rattle.verdict.specs.Targets.{OfEach, TargetHas, TargetsHave, IsShort}
+use Rattle.verdict.specs.Targets.{OfEach, TargetHas, TargetsHave, EndsWithin}
 use Rattle.verdict.specs.Lines.{place_among}
 use Rattle.verdict.specs.Places.{move_led, move_at, move_of, rules_at, rest_of, rules_in, weight}
 use Rattle.verdict.proofs.Steady.{mapped_has, called_short}
@@ -82,12 +82,12 @@ module _ (config : Config) (facts : Facts) (table : Table) (P : List ℕ → Typ
 
 -- a chain that is called has a path less before it
 module _ (chains : List Chain) (name : List ℕ) (lt : place_among chains name < length chains) where
-  pub some_left : (k : ℕ) → IsShort chains k name → 1 ≤ k
+  pub some_left : (k : ℕ) → EndsWithin chains k name → 1 ≤ k
   some_left zero short = absurd (short (place_among chains name) (place_name chains name lt) (place_among chains name, refl))
   some_left (suc k) short = omega arith
 
-  pub called_fits : (k : ℕ) → IsShort chains (suc k) name → OfEach (TargetsHave (IsShort chains k)) (rules_at chains (place_among chains name))
-  called_fits k short = subst (OfEach (TargetsHave (IsShort chains k))) (rules_place chains name) (called_short chains k name short)
+  pub called_fits : (k : ℕ) → EndsWithin chains (suc k) name → OfEach (TargetsHave (EndsWithin chains k)) (rules_at chains (place_among chains name))
+  called_fits k short = subst (OfEach (TargetsHave (EndsWithin chains k))) (rules_place chains name) (called_short chains k name short)
 
 -- weights
 less_same : (p m n w : ℕ) → 1 ≤ p → m < n → (m + 1) * p + w < (n + 1) * p + w

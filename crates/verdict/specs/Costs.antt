@@ -3,7 +3,7 @@ use Rattle.std.specs.Prelude.{◌≡◌, ℕ, ◌+◌, ◌≤◌, List, [], ◌�
 use Rattle.rulesyntax.specs.declared.tree.Chain.{Chain}
 use Rattle.rulesyntax.specs.declared.tree.Table.{Table}
 use Rattle.rulesyntax.specs.declared.tree.Spelled.{Spelled}
-use Rattle.ruletext.specs.Calls.{Leads}
+use Rattle.ruletext.specs.Calls.{Calls}
 use Rattle.ruletext.specs.Counts.{rules_of_table}
 use Rattle.verdict.specs.declared.chain.Outcome.{Outcome}
 use Rattle.verdict.specs.declared.stack.Place.{Place}
@@ -44,7 +44,7 @@ IsNew known _ = Unit {0}
 -- the chain is called at the first of the places, the chain there at the next, and so on
 abbrev pub AreCalls : List Chain → ℕ → List Place → Type 0
 AreCalls chains a [] = Unit {0}
-AreCalls chains a (place ∷ places) = Leads chains place.chain a × AreCalls chains place.chain places
+AreCalls chains a (place ∷ places) = Calls chains place.chain a × AreCalls chains place.chain places
 
 -- a chain is read and those that called it: of none it is known what it comes to
 pub record Reading (chains : List Chain) (known : List (Option Outcome)) (here : Place) (places : List Place) : Type 0 where

@@ -72,14 +72,14 @@ AcceptsWhereAllDo =
     → hook_outcome config facts hook text ≡ Accepts
 
 -- a rule of the chain may jump or go to this name
-abbrev pub Calls : Chain → List ℕ → Type 0
-Calls chain name = OfSome (λ rule. OfSome (λ verdict. target_of verdict ≡ Some name) (verdicts_of rule.end)) chain.rules
+abbrev pub CallsByName : Chain → List ℕ → Type 0
+CallsByName chain name = OfSome (λ rule. OfSome (λ verdict. target_of verdict ≡ Some name) (verdicts_of rule.end)) chain.rules
 
 -- in a text that has loaded a called chain comes to what its rules come to: the bound of 16 is never met
 abbrev pub CallsUnfold : Type 0
 CallsUnfold =
     (config : Config) (facts : Facts) (text : Spelled) (table : Table) (chain : Chain) (name : List ℕ) (i a : ℕ)
-    → IsRunnable text → slice_get text.tables i ≡ Some table → slice_get table.chains a ≡ Some chain → Calls chain name
+    → IsRunnable text → slice_get text.tables i ≡ Some table → slice_get table.chains a ≡ Some chain → CallsByName chain name
     → called 16 config facts table name ≡ walk config facts table (called 16 config facts table) (rules_of table.chains name)
 
 -- the test for a value's facts is exact

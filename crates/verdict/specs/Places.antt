@@ -19,7 +19,7 @@ use Rattle.verdict.specs.declared.walk.Move.{Move}
 use Rattle.verdict.specs.declared.walk.Move.TheVariants.{Next, Gives, Jumps, Goes}
 use Rattle.verdict.specs.Matching.{holds}
 use Rattle.verdict.specs.Evaluation.{mapped, translation, unless_ended, walk, called}
-use Rattle.verdict.specs.Targets.{OfEach, TargetsHave, IsShort}
+use Rattle.verdict.specs.Targets.{OfEach, TargetsHave, EndsWithin}
 use Rattle.verdict.specs.Lines.{place_led}
 
 -- so many places, the last first
@@ -89,14 +89,14 @@ CameTo known count place None = (place < count) × (slice_index_or known place N
 CameTo known count place (Some outcome) = (slice_index_or known place None ≡ Some outcome) ⊎ ((count ≤ place) × (outcome ≡ Ends))
 
 -- a move that comes to the same where what is known is, and calls no chain of which something is known
-abbrev pub Calls : ℕ → Move → Move → Type 0
-Calls count move (Jumps place) = (place < count) × (move ≡ Jumps place)
-Calls count move (Goes place) = (place < count) × (move ≡ Goes place)
-Calls count move _ = Unit {0}
+abbrev pub KeepsCall : ℕ → Move → Move → Type 0
+KeepsCall count move (Jumps place) = (place < count) × (move ≡ Jumps place)
+KeepsCall count move (Goes place) = (place < count) × (move ≡ Goes place)
+KeepsCall count move _ = Unit {0}
 
 pub record IsResolved (config : Config) (facts : Facts) (table : Table) (move resolved : Move) : Type 0 where
   pub same : ending_by (comes_at config facts table) resolved ≡ ending_by (comes_at config facts table) move
-  pub calls : Calls (length table.chains) move resolved
+  pub calls : KeepsCall (length table.chains) move resolved
 
 module _ (config : Config) (facts : Facts) (table : Table) where
   -- what the chain comes to whose rest is read at this place, where the chain called before it comes to this
@@ -118,7 +118,7 @@ abbrev pub Fit : List Chain → List Place → Type 0
 Fit chains [] = Unit {0}
 Fit chains (place ∷ places) =
     (place.chain < length chains) × (place.at ≤ length (rules_at chains place.chain))
-    × OfEach (TargetsHave (IsShort chains (16 - length places))) (rules_at chains place.chain) × Fit chains places
+    × OfEach (TargetsHave (EndsWithin chains (16 - length places))) (rules_at chains place.chain) × Fit chains places
 
 -- the rules of all chains
 abbrev pub rules_in : List Chain → ℕ

@@ -4,8 +4,8 @@ use Rattle.rulesyntax.specs.declared.tree.Verdict.{Verdict}
 use Rattle.rulesyntax.specs.declared.tree.Rule.{Rule}
 use Rattle.rulesyntax.specs.declared.tree.Chain.{Chain}
 use Rattle.ruletext.specs.Said.{verdicts_of, target_of, chain_names}
-use Rattle.ruletext.specs.Paths.{HasPath}
-use Rattle.ruletext.specs.Calls.{Leads}
+use Rattle.digraph.specs.Paths.{HasPath}
+use Rattle.ruletext.specs.Calls.{Calls}
 
 -- it holds of each element
 abbrev pub OfEach : {X : Type 0} → (X → Type 0) → List X → Type 0
@@ -21,5 +21,5 @@ abbrev pub TargetsHave : (List ℕ → Type 0) → Rule → Type 0
 TargetsHave P rule = OfEach (TargetHas P) (verdicts_of rule.end)
 
 -- no path of so many jumps and gotos begins at a chain of this name
-abbrev pub IsShort : List Chain → ℕ → List ℕ → Type 0
-IsShort chains n name = (a : ℕ) → slice_get (chain_names chains) a ≡ Some name → ¬ HasPath (Leads chains) n a
+abbrev pub EndsWithin : List Chain → ℕ → List ℕ → Type 0
+EndsWithin chains n name = (a : ℕ) → slice_get (chain_names chains) a ≡ Some name → ¬ HasPath (Calls chains) n a

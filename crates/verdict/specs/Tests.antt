@@ -3,7 +3,7 @@ use Rattle.std.specs.Prelude.{◌≡◌, ◌↔◌, ℕ, ◌+◌, ◌≤◌, Boo
 use Rattle.std.specs.Str.{bytes_eq}
 use Rattle.sets.specs.declared.element.Element.{Element as Part}
 use Rattle.sets.specs.declared.element.Pair.{Pair as Key}
-use Rattle.sets.specs.Members.{Fact, IsIn, IsMember, Leads}
+use Rattle.sets.specs.Members.{Fact, IsIn, IsMember, MapsTo}
 use Rattle.rulesyntax.specs.declared.tree.Set.{Set}
 use Rattle.rulesyntax.specs.declared.tree.Pair.{Pair}
 use Rattle.rulesyntax.specs.declared.tree.Side.{Side}
@@ -86,7 +86,7 @@ pub record ArePairs (class : Class) (pairs : List Pair) (keys : List (Key ℕ)) 
 -- the map leads a fact to the places of the pairs whose keys hold it
 abbrev pub IsMap : Class → List Pair → List (Key ℕ) → Type 0
 IsMap class pairs map =
-    (fact : Fact) (k : ℕ) → Leads fact k map ↔ ((pair : Pair) × (slice_get pairs k ≡ Some pair) × IsTrue (lies class pair.key.value fact))
+    (fact : Fact) (k : ℕ) → MapsTo fact k map ↔ ((pair : Pair) × (slice_get pairs k ≡ Some pair) × IsTrue (lies class pair.key.value fact))
 
 -- at this place is the verdict map that a rule ends in, if it does
 abbrev pub HasMap : List (List (Key ℕ)) → ℕ → Option End → Type 0

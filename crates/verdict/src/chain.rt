@@ -1,7 +1,7 @@
 //! What a chain of rules comes to.
 
 ghost use Rattle.std.specs.Prelude.{◌≡◌, ◌↔◌, ℕ, Some, None, IfSome, IfNone, slice_index_or, slice_set};
-ghost use Rattle.sets.specs.Members.{fact_of, Leads};
+ghost use Rattle.sets.specs.Members.{fact_of, MapsTo};
 ghost use Rattle.rulesyntax.specs.declared.tree.End.TheVariants as ends;
 ghost use Rattle.verdict.specs.Tests.{HasMap};
 ghost use Rattle.verdict.specs.Places.{IsKey};
@@ -31,8 +31,8 @@ pub enum Outcome {
 
 // The place to which the map leads the fact.
 fn place_led(map: &Map<usize>, fact: Fact<'_>) -> Option<usize>
-    ensures found { IfSome result (λ place. (other : ℕ) → Leads (fact_of fact.entry) other map.now ↔ (other ≡ place)) }
-    ensures absent { IfNone result ((place : ℕ) → ¬ Leads (fact_of fact.entry) place map.now) }
+    ensures found { IfSome result (λ place. (other : ℕ) → MapsTo (fact_of fact.entry) other map.now ↔ (other ≡ place)) }
+    ensures absent { IfNone result ((place : ℕ) → ¬ MapsTo (fact_of fact.entry) place map.now) }
 {
     match map.look_up(fact) {
         None => None,

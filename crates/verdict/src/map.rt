@@ -3,7 +3,7 @@
 ghost use Rattle.std.specs.Prelude.{◌≡◌, ◌↔◌, ◌≤◌, ℕ, List, Some, true, false, length, IfOk, OnOk, not};
 ghost use Rattle.std.specs.List.{list_any};
 ghost use Rattle.sets.specs.declared.element.Pair.{Pair as KeyOf};
-ghost use Rattle.sets.specs.Members.{Fact, Leads, Overlaps, limit};
+ghost use Rattle.sets.specs.Members.{Fact, MapsTo, Overlaps, limit};
 ghost use Rattle.ruletext.specs.Classes.{is_value};
 ghost use Rattle.ruletext.specs.Counts.{pairs_of};
 ghost use Rattle.ruletext.specs.Overlap.{KeysOverlap, EndOverlaps};
@@ -50,7 +50,7 @@ fn keys_of(alloc: Global, class: Class, pairs: &[Pair]) -> Result<Vec<Key<usize>
 fn map_by(keys: Vec<Key<usize>>) -> Map<usize>
     requires few { length keys.items ≤ limit }
     requires apart { ¬ Overlaps keys.items }
-    ensures { (fact : Fact) (place : ℕ) → Leads fact place result ↔ Leads fact place keys.items }
+    ensures { (fact : Fact) (place : ℕ) → MapsTo fact place result ↔ MapsTo fact place keys.items }
 {
     match Map::of(keys) {
         Ok(map) => map,

@@ -5,7 +5,7 @@ ghost use Rattle.ruletext.specs.Said.{verdicts_in};
 ghost use Rattle.ruletext.specs.Calls.{IsLooped};
 ghost use Rattle.verdict.specs.Tests.{HasMap};
 ghost use Rattle.verdict.specs.declared.row.Line.{Line as LineOf};
-ghost use Rattle.verdict.specs.Targets.{OfEach, TargetsHave, IsShort};
+ghost use Rattle.verdict.specs.Targets.{OfEach, TargetsHave, EndsWithin};
 ghost use Rattle.verdict.specs.Lines.{numbers_of as numbers_of_facts, may_hold as line_may_hold, IsLine, AreChainsLaid, IsLaid, LeadsFrom, place_led};
 ghost use Rattle.verdict.specs.Keyed.{AreKeys};
 ghost use Rattle.verdict.specs.Evaluation.{chain_outcome as outcome_of_chain};
@@ -396,7 +396,7 @@ pub(crate) fn chain_outcome(
 ) -> Outcome
     requires laid { IsLaid table.now laid.now }
     requires within { base < length table.now.chains }
-    requires short { OfEach (TargetsHave (IsShort table.now.chains 16)) (rules_at table.now.chains base) }
+    requires short { OfEach (TargetsHave (EndsWithin table.now.chains 16)) (rules_at table.now.chains base) }
     requires ends { ¬ IsLooped table.now.chains }
     requires roomy { length table.now.chains ≤ length known.old }
     requires room { steps.old + unread table.now.chains known.old < 2 ^ 32 }

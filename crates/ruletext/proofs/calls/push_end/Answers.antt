@@ -2,7 +2,7 @@ use Rattle.std.proofs.Common.{◌≡◌, ◌↔◌, ◌⊎◌, ℕ, List, OnOk, 
 use Rattle.rulesyntax.specs.declared.tree.End.TheVariants as ends
 use Rattle.std.specs.List.{Contains}
 use Rattle.rulesyntax.specs.declared.tree.Pair.{Pair}
-use Rattle.ruletext.specs.Calls.{OfSome, VerdictLeads}
+use Rattle.ruletext.specs.Calls.{OfSome, VerdictCalls}
 use Rattle.ruletext.proofs.Edges.{put_verdict, put_pairs}
 use Rattle.ruletext.proofs.calls.push_end.Goals as goal
 
@@ -14,5 +14,5 @@ returns-in-Verdict c =
 pub returns-in-Vmap : goal.returns-in-Vmap
 returns-in-Vmap c =
     let is : c.args.end.now ≡ ends.Vmap c.in-Vmap.vmap = c.in-Vmap.is in
-    let put = subst (λ (pairs : List Pair). OnOk c.push_pairs.result ((b : ℕ) → Contains c.push_pairs.new.row b ↔ (Contains c.args.row.now b ⊎ OfSome (λ pair. VerdictLeads c.args.names.now b pair.verdict) pairs))) c.as_slice.ensures c.push_pairs.ensures in
+    let put = subst (λ (pairs : List Pair). OnOk c.push_pairs.result ((b : ℕ) → Contains c.push_pairs.new.row b ↔ (Contains c.args.row.now b ⊎ OfSome (λ pair. VerdictCalls c.args.names.now b pair.verdict) pairs))) c.as_slice.ensures c.push_pairs.ensures in
     put_pairs c.args.names.now c.args.row.now c.push_pairs.new.row c.args.end.now c.push_pairs.result c.in-Vmap.vmap is put

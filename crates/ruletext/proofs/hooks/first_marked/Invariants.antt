@@ -1,5 +1,5 @@
 use Rattle.std.proofs.Common.{◌<◌, ℕ}
-use Rattle.ruletext.specs.Paths.{IsMarked}
+use Rattle.digraph.specs.Edges.{IsMarked}
 use Rattle.ruletext.specs.Hooks.{Translates}
 use Rattle.ruletext.proofs.hooks.first_marked.Given as goal
 

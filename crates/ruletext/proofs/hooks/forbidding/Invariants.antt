@@ -1,5 +1,5 @@
 use Rattle.std.proofs.Common.{◌≡◌, ◌↔◌, ◌<◌, ℕ, length}
-use Rattle.ruletext.specs.Paths.{IsMarked}
+use Rattle.digraph.specs.Edges.{IsMarked}
 use Rattle.ruletext.specs.Hooks.{Forbids}
 use Rattle.ruletext.proofs.hooks.forbidding.Given as goal
 
