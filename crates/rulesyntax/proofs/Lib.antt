@@ -12,3 +12,4 @@ pub mod Sets
 pub mod Tables
 pub mod Cut
 pub mod Pieces
+pub mod Refused
