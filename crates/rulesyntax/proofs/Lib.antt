@@ -12,4 +12,5 @@ pub mod Sets
 pub mod Tables
 pub mod Cut
 pub mod Pieces
+pub mod Lexed
 pub mod Refused
