@@ -1,11 +1,11 @@
 -- Which faults are true of a text.
-use Rattle.std.proofs.Common.{◌≡◌, ℕ, ◌≤◌, List, length, Result, Ok, Err}
+use Rattle.std.proofs.Common.{◌≡◌, ℕ, List, Result, Ok, Err}
 use Rattle.std.specs.Prelude.{IfErr}
 use Rattle.rulesyntax.specs.declared.tree.Spelled.{Spelled}
 use Rattle.rulesyntax.specs.declared.fault.Kind.{Kind}
 use Rattle.rulesyntax.specs.declared.fault.Kind.TheVariants.{TooLong, Syntax, Unsupported, Family, UnknownChain, UnknownSet, Duplicate, Loop, Depth, WrongHook, WrongType, NotExternal, NotInside, Limit, Overlap, NoMemory}
 use Rattle.rulesyntax.specs.declared.fault.LoadFault.{LoadFault}
-use Rattle.rulesyntax.specs.Text.{IsShort, IsSenseless, IsSpelledBy, IsOkOrNoMemory, IsUnread, IsRefused}
+use Rattle.rulesyntax.specs.Text.{IsShort, IsSpelledBy, IsOkOrNoMemory, IsUnread, IsRefused}
 
 module _ (text : List ℕ) (short : IsShort text) where
   of_kind : (kind : Kind) → IsUnread kind → ((rules : Spelled) → IsSpelledBy rules text → kind ≡ NoMemory) → IsRefused text kind

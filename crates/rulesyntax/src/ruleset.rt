@@ -4,19 +4,19 @@ ghost use Rattle.std.specs.Prelude.{◌≡◌, ◌↔◌, ◌<◌, ◌≤◌, �
 ghost use Rattle.rulesyntax.specs.Reading.{Answers};
 ghost use Rattle.rulesyntax.specs.Grammar.{Spells};
 ghost use Rattle.rulesyntax.specs.Text.{greatest_length, IsSpelledBy, IsOkOrNoMemory, IsRefused, IsUnspelled, IsUnread, IsOfSyntax, IsFault};
-ghost use Rattle.rulesyntax.specs.Tokens.{AreTokens};
-ghost use Rattle.rulesyntax.specs.declared.token.Token.{Token};
+ghost use Rattle.ruletokens.specs.Tokens.{AreTokens};
+ghost use Rattle.ruletokens.specs.declared.token.Token.{Token};
 ghost use Rattle.rulesyntax.specs.declared.tree.Spelled.{Spelled};
 ghost use Rattle.rulesyntax.specs.declared.fault.Kind.TheVariants.{TooLong};
 
 use crate::error::{ReadError, Spot};
 use crate::fault::{Kind, LoadFault};
-use crate::lex::tokens;
-use crate::line::Line;
-use crate::source::Source;
 use crate::table::text;
-use crate::token::Token;
 use crate::tree::Spelled;
+use ruletokens::line::Line;
+use ruletokens::source::Source;
+use ruletokens::token::Token;
+use ruletokens::{one_token_list, tokens};
 use std::alloc::Global;
 
 /// The most bytes of a text.
@@ -97,4 +97,6 @@ pub fn one_ruleset()
     // Each text has tokens, whatever its bytes, and no others.
     ensures has_tokens { (text : List ℕ) → (tokens : List Token) × AreTokens tokens text }
     ensures same_tokens { (text : List ℕ) (a b : List Token) → AreTokens a text → AreTokens b text → a ≡ b }
-{}
+{
+    one_token_list();
+}

@@ -1,6 +1,6 @@
 use Rattle.std.proofs.Common.{List, subst, sym, ◌∙◌, arith}
 use Rattle.rulesyntax.specs.Grammar.{Spells}
-use Rattle.rulesyntax.specs.declared.token.Token.{Token}
+use Rattle.ruletokens.specs.declared.token.Token.{Token}
 use Rattle.rulesyntax.proofs.Refused.{refused}
 use Rattle.rulesyntax.proofs.ruleset.parse.Goals as goal
 
