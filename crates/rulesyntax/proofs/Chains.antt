@@ -3,8 +3,8 @@ use Rattle.std.proofs.Common.{◌≡◌, ℕ, ◌<◌, Bool, true, false, List, 
 use Rattle.std.specs.Prelude.{codes, nat_le, ℤ, pos, neg_ℤ, ◌+ℤ◌, map}
 use Rattle.std.proofs.lemmas.Bool.{leb-true, le-leb}
 use Rattle.std.proofs.lemmas.List.{append-nil}
-use Rattle.rulesyntax.specs.declared.token.Token.TheVariants.{Name, Number, Symbol, NewLine}
-use Rattle.rulesyntax.specs.declared.token.Symbol.TheVariants.{Open, Close, Semicolon, Minus, Plus}
+use Rattle.ruletokens.specs.declared.token.Token.TheVariants.{Name, Number, Symbol, NewLine}
+use Rattle.ruletokens.specs.declared.token.Symbol.TheVariants.{Open, Close, Semicolon, Minus, Plus}
 use Rattle.rulesyntax.specs.declared.keyword.PriorityName.{PriorityName}
 use Rattle.rulesyntax.specs.declared.keyword.PriorityName.TheVariants as priority
 use Rattle.rulesyntax.specs.declared.keyword.MemberWord.{MemberWord}

@@ -2,10 +2,10 @@
 use Rattle.std.proofs.Common.{◌≡◌, ℕ, zero, suc, ◌≤◌, ◌<◌, Bool, true, false, cond, List, [], ◌∷◌, length, Option, Some, None, refl, ap, subst, ◌∙◌, arith, inl, inr, ◌⊎◌}
 use Rattle.std.specs.Prelude.{◌&&◌}
 use Rattle.std.proofs.lemmas.Bool.{leb-true, le-leb}
-use Rattle.rulesyntax.specs.declared.token.Token.{Token}
-use Rattle.rulesyntax.specs.declared.token.Token.TheVariants as token
-use Rattle.rulesyntax.specs.declared.token.Symbol as symbol
-use Rattle.rulesyntax.specs.declared.token.Symbol.TheVariants.{Close, Comma, Slash, Minus}
+use Rattle.ruletokens.specs.declared.token.Token.{Token}
+use Rattle.ruletokens.specs.declared.token.Token.TheVariants as token
+use Rattle.ruletokens.specs.declared.token.Symbol as symbol
+use Rattle.ruletokens.specs.declared.token.Symbol.TheVariants.{Close, Comma, Slash, Minus}
 use Rattle.rulesyntax.specs.declared.tree.Value.{Value}
 use Rattle.rulesyntax.specs.declared.tree.Value.TheVariants.{Address, Prefix, Addresses, Number, Numbers, Name, Quoted}
 use Rattle.rulesyntax.specs.declared.tree.Element.{Element}

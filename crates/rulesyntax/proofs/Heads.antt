@@ -1,7 +1,7 @@
 -- Heads: reading and spelling are one.
 use Rattle.std.proofs.Common.{◌≡◌, ◌<◌, Bool, true, false, ◌∷◌, length, Some, None, refl, sym, ap, subst, ◌∙◌, arith, inl, inr}
 use Rattle.std.specs.Prelude.{codes}
-use Rattle.rulesyntax.specs.declared.token.Token.TheVariants.{Name}
+use Rattle.ruletokens.specs.declared.token.Token.TheVariants.{Name}
 use Rattle.rulesyntax.specs.declared.keyword.HeadWord.{HeadWord}
 use Rattle.rulesyntax.specs.declared.keyword.HeadWord.TheVariants as w
 use Rattle.rulesyntax.specs.declared.keyword.MetaWord.{MetaWord}

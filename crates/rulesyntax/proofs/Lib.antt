@@ -10,5 +10,4 @@ pub mod Lists
 pub mod Chains
 pub mod Sets
 pub mod Tables
-pub mod Cut
-pub mod Pieces
+pub mod Refused

@@ -2,8 +2,8 @@
 use Rattle.std.proofs.Common.{◌≡◌, ℕ, zero, suc, ◌≤◌, ◌<◌, Bool, true, false, List, [], ◌∷◌, ◌++◌, length, Some, refl, sym, ap, subst, ◌∙◌, length-append, arith}
 use Rattle.std.specs.Prelude.{◌||◌}
 use Rattle.std.specs.List.{AllByRecursion}
-use Rattle.rulesyntax.specs.declared.token.Token.TheVariants.{Name, Symbol, NewLine}
-use Rattle.rulesyntax.specs.declared.token.Symbol.TheVariants.{Open, Close, Semicolon}
+use Rattle.ruletokens.specs.declared.token.Token.TheVariants.{Name, Symbol, NewLine}
+use Rattle.ruletokens.specs.declared.token.Symbol.TheVariants.{Open, Close, Semicolon}
 use Rattle.rulesyntax.specs.Grammar.{Tokens, Spelling, is_sep, begins_sep, Fill, Apart, Listed}
 use Rattle.rulesyntax.specs.Reading.{next_at, rank, symbol_of, symbol_at, close_at, ends, closes, fill_at, Step, list_from, block_at}
 use Rattle.rulesyntax.proofs.Sound.{Sound, just, nothing, weaker, then_sound, cond_sound, symbol_sound, close_sound}

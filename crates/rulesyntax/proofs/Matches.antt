@@ -3,8 +3,8 @@ use Rattle.std.proofs.Common.{◌≡◌, ℕ, ◌≤◌, suc, Bool, true, false,
 use Rattle.std.specs.Prelude.{codes}
 use Rattle.std.specs.Str.{bytes_eq}
 use Rattle.std.proofs.lemmas.Slice.Eq.{bytes_eq-Decides}
-use Rattle.rulesyntax.specs.declared.token.Token.TheVariants as token
-use Rattle.rulesyntax.specs.declared.token.Symbol.TheVariants.{Open, Close, Comma, Semicolon, Differs, Equals, At}
+use Rattle.ruletokens.specs.declared.token.Token.TheVariants as token
+use Rattle.ruletokens.specs.declared.token.Symbol.TheVariants.{Open, Close, Comma, Semicolon, Differs, Equals, At}
 use Rattle.rulesyntax.specs.declared.tree.Head.{Head}
 use Rattle.rulesyntax.specs.declared.tree.Head.TheVariants.{Iifname, Oifname, Saddr, Daddr, Protocol, Sport, Dport, State}
 use Rattle.rulesyntax.specs.declared.tree.Value.{Value}

@@ -3,8 +3,8 @@ use Rattle.std.proofs.Common.{◌≡◌, ℕ, zero, suc, ◌<◌, ◌≤◌, Boo
 use Rattle.std.specs.Prelude.{codes, nat_le, ◌&&◌}
 use Rattle.std.proofs.lemmas.Bool.{leb-true, le-leb}
 use Rattle.std.proofs.lemmas.List.{append-nil}
-use Rattle.rulesyntax.specs.declared.token.Token.TheVariants.{Name, Number, Address, Quoted, Symbol, NewLine}
-use Rattle.rulesyntax.specs.declared.token.Symbol.TheVariants.{Open, Close, Semicolon, Colon}
+use Rattle.ruletokens.specs.declared.token.Token.TheVariants.{Name, Number, Address, Quoted, Symbol, NewLine}
+use Rattle.ruletokens.specs.declared.token.Symbol.TheVariants.{Open, Close, Semicolon, Colon}
 use Rattle.rulesyntax.specs.declared.keyword.VerdictWord.{VerdictWord}
 use Rattle.rulesyntax.specs.declared.keyword.NatWord.{NatWord}
 use Rattle.rulesyntax.specs.declared.keyword.NatWord.TheVariants as w

@@ -1,9 +1,9 @@
 -- What is seen between braces.
 use Rattle.std.proofs.Common.{◌≡◌, true, false, [], ◌∷◌, Option, Some, None, refl, sym, ap, ◌∙◌}
 use Rattle.std.specs.Prelude.{Result}
-use Rattle.rulesyntax.specs.declared.token.Token.{Token}
-use Rattle.rulesyntax.specs.declared.token.Token.TheVariants.{Symbol, NewLine}
-use Rattle.rulesyntax.specs.declared.token.Symbol.TheVariants.{Close}
+use Rattle.ruletokens.specs.declared.token.Token.{Token}
+use Rattle.ruletokens.specs.declared.token.Token.TheVariants.{Symbol, NewLine}
+use Rattle.ruletokens.specs.declared.token.Symbol.TheVariants.{Close}
 use Rattle.rulesyntax.specs.declared.error.ReadError.{ReadError}
 use Rattle.rulesyntax.specs.Grammar.{Tokens, inside}
 use Rattle.rulesyntax.specs.Reading.{◌>>=◌, skip, next_at, close_at, is_close, Nexts, Goes}

@@ -2,8 +2,8 @@
 use Rattle.std.proofs.Common.{◌≡◌, ℕ, suc, ◌<◌, Bool, true, false, List, [], ◌∷◌, ◌++◌, length, Some, refl, ap, ◌∙◌, append_assoc, arith}
 use Rattle.std.specs.Prelude.{codes}
 use Rattle.std.proofs.lemmas.List.{append-nil}
-use Rattle.rulesyntax.specs.declared.token.Token.TheVariants.{Name, Symbol, NewLine}
-use Rattle.rulesyntax.specs.declared.token.Symbol.TheVariants.{Open, Close, Semicolon, Equal}
+use Rattle.ruletokens.specs.declared.token.Token.TheVariants.{Name, Symbol, NewLine}
+use Rattle.ruletokens.specs.declared.token.Symbol.TheVariants.{Open, Close, Semicolon, Equal}
 use Rattle.rulesyntax.specs.declared.keyword.Flag.{Flag}
 use Rattle.rulesyntax.specs.declared.keyword.LineWord.{LineWord}
 use Rattle.rulesyntax.specs.declared.keyword.LineWord.TheVariants as w

@@ -3,10 +3,10 @@ use Rattle.std.proofs.Common.{◌≡◌, ℕ, Bool, true, false, cond, List, [],
 use Rattle.std.specs.Prelude.{◌==◌, if◌then◌else◌}
 use Rattle.std.proofs.lemmas.Slice.Eq.{bytes_eq-Decides}
 use Rattle.std.proofs.lemmas.Bool.{eqb-true}
-use Rattle.rulesyntax.specs.declared.token.Token.{Token}
-use Rattle.rulesyntax.specs.declared.token.Token.TheVariants.{Name, Number, Address, Quoted, Symbol}
-use Rattle.rulesyntax.specs.declared.token.Symbol as symbol
-use Rattle.rulesyntax.specs.declared.token.Symbol.TheVariants.{Open, Close, Comma, Semicolon, Colon, Slash, Minus, Plus, Equal, Equals, Differs, At}
+use Rattle.ruletokens.specs.declared.token.Token.{Token}
+use Rattle.ruletokens.specs.declared.token.Token.TheVariants.{Name, Number, Address, Quoted, Symbol}
+use Rattle.ruletokens.specs.declared.token.Symbol as symbol
+use Rattle.ruletokens.specs.declared.token.Symbol.TheVariants.{Open, Close, Comma, Semicolon, Colon, Slash, Minus, Plus, Equal, Equals, Differs, At}
 use Rattle.rulesyntax.specs.Words.{lookup}
 use Rattle.rulesyntax.specs.Grammar.{Tokens}
 use Rattle.rulesyntax.specs.Reading.{◌>>=◌, if_some, next_at, number_of, number_at, address_of, address_at, name_of, name_at, quoted_of, quoted_at, word_of, word_at, rank, symbol_of, symbol_at, keyword_of, keyword_at, close_at}

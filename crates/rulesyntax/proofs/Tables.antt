@@ -5,8 +5,8 @@ use Rattle.std.specs.Str.{bytes_eq}
 use Rattle.std.proofs.lemmas.Bool.{eqb-true, or_parts}
 use Rattle.std.proofs.Math.Dec.{eqb-suc-zero}
 use Rattle.std.proofs.lemmas.List.{append-nil, nil_from_length}
-use Rattle.rulesyntax.specs.declared.token.Token.TheVariants.{Name, Symbol}
-use Rattle.rulesyntax.specs.declared.token.Symbol.TheVariants.{Open, Close}
+use Rattle.ruletokens.specs.declared.token.Token.TheVariants.{Name, Symbol}
+use Rattle.ruletokens.specs.declared.token.Symbol.TheVariants.{Open, Close}
 use Rattle.rulesyntax.specs.declared.error.ReadError.{ReadError}
 use Rattle.rulesyntax.specs.declared.keyword.ItemWord.{ItemWord}
 use Rattle.rulesyntax.specs.declared.keyword.ItemWord.TheVariants as w

@@ -1,8 +1,8 @@
 -- Verdicts, pairs and flags: reading and spelling are one.
 use Rattle.std.proofs.Common.{◌≡◌, ℕ, true, List, ◌∷◌, length, Option, Some, refl, ap, subst, ◌∙◌, arith}
 use Rattle.std.specs.Prelude.{codes}
-use Rattle.rulesyntax.specs.declared.token.Token.TheVariants.{Name, Symbol}
-use Rattle.rulesyntax.specs.declared.token.Symbol.TheVariants.{Colon}
+use Rattle.ruletokens.specs.declared.token.Token.TheVariants.{Name, Symbol}
+use Rattle.ruletokens.specs.declared.token.Symbol.TheVariants.{Colon}
 use Rattle.rulesyntax.specs.declared.keyword.VerdictWord.{VerdictWord}
 use Rattle.rulesyntax.specs.declared.keyword.VerdictWord.TheVariants as w
 use Rattle.rulesyntax.specs.declared.keyword.Flag.{Flag}

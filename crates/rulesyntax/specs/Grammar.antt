@@ -1,9 +1,9 @@
 -- Which tokens spell what. Nothing here looks ahead: where two forms begin alike, both stand.
 use Rattle.std.specs.Prelude.{◌≡◌, ◌≤◌, ◌⊎◌, codes, ℕ, ℤ, pos, neg_ℤ, ◌+ℤ◌, Option, Some, None, Bool, true, false, ◌||◌, List, [], ◌∷◌, ◌++◌, map}
 use Rattle.std.specs.List.{AllByRecursion}
-use Rattle.rulesyntax.specs.declared.token.Token.{Token}
-use Rattle.rulesyntax.specs.declared.token.Token.TheVariants.{Name, Number, Address, Quoted, Symbol, NewLine}
-use Rattle.rulesyntax.specs.declared.token.Symbol.TheVariants.{Open, Close, Comma, Semicolon, Colon, Slash, Minus, Plus, Equal, Equals, Differs, At}
+use Rattle.ruletokens.specs.declared.token.Token.{Token}
+use Rattle.ruletokens.specs.declared.token.Token.TheVariants.{Name, Number, Address, Quoted, Symbol, NewLine}
+use Rattle.ruletokens.specs.declared.token.Symbol.TheVariants.{Open, Close, Comma, Semicolon, Colon, Slash, Minus, Plus, Equal, Equals, Differs, At}
 use Rattle.rulesyntax.specs.declared.keyword.Flag.{Flag}
 use Rattle.rulesyntax.specs.declared.keyword.PriorityName.{PriorityName}
 use Rattle.rulesyntax.specs.Names.{flag_name, family_name, type_name, hook_name, policy_name, transport_name, priority_name, priority_value, is_reserved}

@@ -1,4 +1,3 @@
-pub mod Tokens
 pub mod Names
 pub mod Reasons
 pub mod Grammar

@@ -4,10 +4,10 @@ use Rattle.std.specs.Str.{bytes_eq}
 use Rattle.rulesyntax.specs.Names.{priority_value, is_reserved}
 use Rattle.rulesyntax.specs.Words.{lookup, flag_words, verdict_words, nat_words, head_words, meta_words, ip_words, port_words, family_words, type_words, hook_words, policy_words, priority_words, statement_words, item_words, line_words, member_words}
 use Rattle.rulesyntax.specs.Grammar.{Tokens, inside}
-use Rattle.rulesyntax.specs.declared.token.Token.{Token}
-use Rattle.rulesyntax.specs.declared.token.Token.TheVariants as token
-use Rattle.rulesyntax.specs.declared.token.Symbol as symbol
-use Rattle.rulesyntax.specs.declared.token.Symbol.TheVariants.{Open, Close, Comma, Semicolon, Colon, Slash, Minus, Plus, Equal, Equals, Differs, At}
+use Rattle.ruletokens.specs.declared.token.Token.{Token}
+use Rattle.ruletokens.specs.declared.token.Token.TheVariants as token
+use Rattle.ruletokens.specs.declared.token.Symbol as symbol
+use Rattle.ruletokens.specs.declared.token.Symbol.TheVariants.{Open, Close, Comma, Semicolon, Colon, Slash, Minus, Plus, Equal, Equals, Differs, At}
 use Rattle.rulesyntax.specs.declared.error.ReadError.{ReadError}
 use Rattle.rulesyntax.specs.declared.error.ReadError.TheVariants as errors
 use Rattle.rulesyntax.specs.declared.keyword.Flag.{Flag}

@@ -6,13 +6,13 @@ ghost use Rattle.rulesyntax.specs.Reading.{Gives, amount_at, less_behind, more_b
 
 use crate::error::ReadError;
 use crate::keyword::{MemberWord, PriorityName};
-use crate::line::Line;
 use crate::list::{Body, block};
 use crate::next::{choice, eat, eat_symbol, keyword, name, number, quoted, stop, word};
 use crate::rule::rule;
-use crate::source::Source;
-use crate::token::{Symbol, Token};
 use crate::tree::{Base, Chain, ChainType, Hook, Policy, Rule};
+use ruletokens::line::Line;
+use ruletokens::source::Source;
+use ruletokens::token::{Symbol, Token};
 use sqlite_items::Items;
 
 const GREATEST: u64 = 1_000_000_000;

@@ -6,9 +6,9 @@ ghost use Rattle.rulesyntax.specs.Reading.{Gives, Reader, seen, prefix_behind, a
 use crate::error::ReadError;
 use crate::keyword::Flag;
 use crate::next::{address, close, eat_symbol, is_close, keyword, line, next, number, stop};
-use crate::source::Source;
-use crate::token::{Symbol, Token};
 use crate::tree::{Element, Value};
+use ruletokens::source::Source;
+use ruletokens::token::{Symbol, Token};
 use sqlite_items::Items;
 
 #[tactic(auto, unfolding(crate::specs::Reading::prefix_behind))]

@@ -3,7 +3,7 @@ ghost use Rattle.std.specs.Prelude.{◌≡◌};
 ghost use Rattle.rulesyntax.specs.Reading.{IsSyntax};
 ghost use Rattle.rulesyntax.specs.declared.error.ReadError.TheVariants.{Memory};
 
-use crate::token::Token;
+use ruletokens::token::Token;
 use std::alloc::{AllocError, AllocFailed};
 
 /// The first token that can't stand where it does.

@@ -6,7 +6,7 @@ ghost use Rattle.std.specs.Prelude.{◌≡◌};
 ghost use Rattle.rulesyntax.specs.Reasons.{reason_name};
 ghost use Rattle.rulesyntax.specs.declared.fault.Kind.TheVariants.{NoMemory};
 
-use crate::line::Line;
+use ruletokens::line::Line;
 use std::alloc::{AllocError, AllocFailed};
 use std::fmt;
 

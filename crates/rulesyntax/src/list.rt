@@ -5,8 +5,8 @@ ghost use Rattle.rulesyntax.specs.Reading.{Gives, Step, ends, closes, fill_at, l
 
 use crate::error::ReadError;
 use crate::next::{close, stop, symbol};
-use crate::source::Source;
-use crate::token::{Symbol, Token};
+use ruletokens::source::Source;
+use ruletokens::token::{Symbol, Token};
 
 /// What a list's items are put into as they come.
 pub trait Body: Sized {

@@ -6,9 +6,9 @@ ghost use Rattle.rulesyntax.specs.Reading.{Gives, Goes, Finds, Eats, Nexts, IsSy
 
 use crate::error::ReadError;
 use crate::keyword::Keyword;
-use crate::line::Line;
-use crate::source::Source;
-use crate::token::{Symbol, Token};
+use ruletokens::line::Line;
+use ruletokens::source::Source;
+use ruletokens::token::{Symbol, Token};
 use sqlite_items::Items;
 
 #[tactic(auto, unfolding(crate::specs::Reading::skip))]

@@ -7,16 +7,16 @@ ghost use Rattle.rulesyntax.specs.Reading.{Gives, Goes, Eats, Finds, seen, verdi
 use crate::element::{Entry, braced, element, entries};
 use crate::error::ReadError;
 use crate::keyword::{HeadWord, IpWord, MetaWord, NatWord, PortWord, VerdictWord};
-use crate::line::Line;
 use crate::next::{
     address, choice, eat, eat_symbol, keyword, line, name, number, quoted, stop, symbol, word,
 };
-use crate::source::Source;
-use crate::token::{Symbol, Token};
 use crate::tree::{
     Dnat, Element, End, Head, Match, Pair, Rule, SetName, Side, Snat, Target, Transport, Verdict,
     Vmap,
 };
+use ruletokens::line::Line;
+use ruletokens::source::Source;
+use ruletokens::token::{Symbol, Token};
 use sqlite_items::Items;
 
 #[tactic(auto, unfolding(crate::specs::Reading::verdict_behind))]

@@ -3,19 +3,20 @@
 ghost use Rattle.std.specs.Prelude.{◌≡◌, ◌↔◌, ◌<◌, ◌≤◌, ℕ, List, length, Err, IfOk, IfErr};
 ghost use Rattle.rulesyntax.specs.Reading.{Answers};
 ghost use Rattle.rulesyntax.specs.Grammar.{Spells};
-ghost use Rattle.rulesyntax.specs.Text.{greatest_length, IsSpelledBy, IsOkOrNoMemory, IsUnspelled, IsUnread, IsOfSyntax, IsFault};
-ghost use Rattle.rulesyntax.specs.declared.token.Token.{Token};
+ghost use Rattle.rulesyntax.specs.Text.{greatest_length, IsSpelledBy, IsOkOrNoMemory, IsRefused, IsUnspelled, IsUnread, IsOfSyntax, IsFault};
+ghost use Rattle.ruletokens.specs.Tokens.{AreTokens};
+ghost use Rattle.ruletokens.specs.declared.token.Token.{Token};
 ghost use Rattle.rulesyntax.specs.declared.tree.Spelled.{Spelled};
 ghost use Rattle.rulesyntax.specs.declared.fault.Kind.TheVariants.{TooLong};
 
 use crate::error::{ReadError, Spot};
 use crate::fault::{Kind, LoadFault};
-use crate::lex::tokens;
-use crate::line::Line;
-use crate::source::Source;
 use crate::table::text;
-use crate::token::Token;
 use crate::tree::Spelled;
+use ruletokens::line::Line;
+use ruletokens::source::Source;
+use ruletokens::token::Token;
+use ruletokens::{one_token_list, tokens};
 use std::alloc::Global;
 
 /// The most bytes of a text.
@@ -72,6 +73,9 @@ pub fn parse(alloc: Global, text: &[u8]) -> Result<Spelled, LoadFault>
     ensures only { (rules : Spelled) → IsSpelledBy rules text.now → length text.now ≤ greatest_length → IsOkOrNoMemory rules result }
     ensures too_long { (result ≡ Err (record { kind = TooLong; line = tt })) ↔ greatest_length < length text.now }
     ensures kinds { IfErr result (λ fault. IsOfSyntax fault.kind) }
+
+    // A fault is true of the text: one of syntax comes only where nothing is spelled.
+    ensures refused { IfErr result (λ fault. IsRefused text.now fault.kind) }
 {
     if text.len() > GREATEST_LENGTH {
         return Err(LoadFault {
@@ -85,8 +89,14 @@ pub fn parse(alloc: Global, text: &[u8]) -> Result<Spelled, LoadFault>
     read(&source, tokens.as_slice())
 }
 
-/// A text spells one ruleset at most.
+/// A text has one list of tokens, and spells one ruleset at most.
 pub fn one_ruleset()
     ensures tokens { (tokens : List Token) (a b : Spelled) → Spells a tokens → Spells b tokens → a ≡ b }
     ensures text { (text : List ℕ) (a b : Spelled) → IsSpelledBy a text → IsSpelledBy b text → a ≡ b }
-{}
+
+    // Each text has tokens, whatever its bytes, and no others.
+    ensures has_tokens { (text : List ℕ) → (tokens : List Token) × AreTokens tokens text }
+    ensures same_tokens { (text : List ℕ) (a b : List Token) → AreTokens a text → AreTokens b text → a ≡ b }
+{
+    one_token_list();
+}

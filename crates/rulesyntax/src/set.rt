@@ -6,12 +6,12 @@ ghost use Rattle.rulesyntax.specs.Reading.{Gives, type_behind, elements_behind, 
 use crate::element::{braced, entries};
 use crate::error::ReadError;
 use crate::keyword::{Flag, LineWord};
-use crate::line::Line;
 use crate::list::{Body, block};
 use crate::next::{keyword, name, quoted, symbol};
-use crate::source::Source;
-use crate::token::{Symbol, Token};
 use crate::tree::{Element, Set, SetElements, SetType};
+use ruletokens::line::Line;
+use ruletokens::source::Source;
+use ruletokens::token::{Symbol, Token};
 use sqlite_items::Items;
 
 /// What stands in a set so far.

@@ -8,13 +8,13 @@ ghost use Rattle.rulesyntax.specs.Reading.{Gives, Answers, IsSyntax, item_behind
 use crate::chain::chain;
 use crate::error::{ReadError, Spot};
 use crate::keyword::{ItemWord, StatementWord, is};
-use crate::line::Line;
 use crate::list::{Body, block, list_of};
 use crate::next::{choice, keyword, name, quoted, stop, word};
 use crate::set::set;
-use crate::source::Source;
-use crate::token::Token;
 use crate::tree::{Chain, Family, Set, Spelled, Table};
+use ruletokens::line::Line;
+use ruletokens::source::Source;
+use ruletokens::token::Token;
 use sqlite_items::Items;
 
 /// What stands in a table so far.

@@ -6,9 +6,9 @@ use Rattle.rulesyntax.specs.declared.tree.Spelled.{Spelled}
 use Rattle.rulesyntax.specs.declared.fault.Kind.{Kind}
 use Rattle.rulesyntax.specs.declared.fault.Kind.TheVariants.{TooLong, Syntax, Unsupported, Family, UnknownChain, UnknownSet, Duplicate, Loop, Depth, WrongHook, WrongType, NotExternal, NotInside, Limit, Overlap, NoMemory}
 use Rattle.rulesyntax.specs.declared.fault.LoadFault.{LoadFault}
-use Rattle.rulesyntax.specs.Text.{IsSpelledBy, IsOkOrNoMemory, IsOfSyntax}
+use Rattle.rulesyntax.specs.Text.{IsShort, IsSpelledBy, IsSenseless, IsOkOrNoMemory, IsOfSyntax}
 use Rattle.ruletext.specs.Loads.{Holds, IsLeast}
-use Rattle.ruletext.specs.Texts.{IsShort, IsSenseless, Loads, IsRefused}
+use Rattle.ruletext.specs.Texts.{Loads, IsRefused}
 
 fault_is : (a b : LoadFault) (x : Result Spelled LoadFault) → x ≡ Err a → x ≡ Err b → a ≡ b
 fault_is a b x e f = cc

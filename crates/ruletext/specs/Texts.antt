@@ -1,23 +1,15 @@
 -- Which texts load, and why the others are refused.
-use Rattle.std.specs.Prelude.{◌≤◌, ◌<◌, ℕ, List, length, Some}
+use Rattle.std.specs.Prelude.{◌<◌, ℕ, List, length, Some}
 use Rattle.packet.specs.Config.{Config}
 use Rattle.rulesyntax.specs.declared.tree.Spelled.{Spelled}
 use Rattle.rulesyntax.specs.declared.fault.Kind.{Kind}
 use Rattle.rulesyntax.specs.declared.fault.Kind.TheVariants.{TooLong, Syntax, Unsupported, Family, NoMemory}
-use Rattle.rulesyntax.specs.Text.{IsSpelledBy, greatest_length}
+use Rattle.rulesyntax.specs.Text.{greatest_length, IsShort, IsSpelledBy, IsSenseless}
 use Rattle.ruletext.specs.Loads.{Holds, IsLeast, MayRun}
-
--- the text isn't too long
-abbrev pub IsShort : List ℕ → Type 0
-IsShort text = length text ≤ greatest_length
 
 -- a text that isn't too long, spells these rules, and has no kind of fault
 abbrev pub Loads : Config → List ℕ → Spelled → Type 0
 Loads config text rules = IsShort text × IsSpelledBy rules text × MayRun config rules
-
--- it spells no rules
-abbrev pub IsSenseless : List ℕ → Type 0
-IsSenseless text = (rules : Spelled) → ¬ IsSpelledBy rules text
 
 -- the kind is why the text doesn't load; memory may be lacking for any text that isn't too long
 abbrev pub IsRefused : Config → List ℕ → Kind → Type 0

@@ -2,7 +2,7 @@
 use Rattle.std.specs.Prelude.{ℕ, Bool, ◌+◌, ◌==◌, ◌||◌, nat_lt, [], ◌∷◌, ◌++◌, length, map, take, slice_index, codes, if◌then◌else◌}
 use Rattle.std.specs.List.{prefix_len}
 use Rattle.std.specs.Char.{is_ascii_digit}
-use Rattle.rulesyntax.specs.Tokens.{is_start, is_word, is_numeral, is_inner}
+use Rattle.ruletokens.specs.Tokens.{is_start, is_word, is_numeral, is_inner}
 use Rattle.text_marks.specs.Lines.{Text, visible, dots_if}
 use Rattle.text_marks.specs.declared.piece.Run.{Run}
 use Rattle.text_marks.specs.declared.piece.Run.TheVariants as run

@@ -1,6 +1,6 @@
 //! What stands at a place.
 ghost use Rattle.std.specs.Prelude.{◌≡◌, ◌≤◌, ◌<◌, ◌+◌, ◌++◌, OnOk, length};
-ghost use Rattle.rulesyntax.specs.Tokens.{is_start};
+ghost use Rattle.ruletokens.specs.Tokens.{is_start};
 ghost use Rattle.text_marks.specs.Pieces.{goes_on, length_from, named, quoted, run_length, shortened, token_length, with_one};
 
 use crate::mark::{put_dots, put_visible};

@@ -1,0 +1,3 @@
+pub mod Pieces
+pub mod Cut
+pub mod Lexed
