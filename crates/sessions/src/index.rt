@@ -172,14 +172,11 @@ pub fn find_inside(
     ensures found { IfSome result (IsAt sessions.now.slots (HasInside proto inside remote)) }
     ensures absent { IfNone result (IsNowhere sessions.now.slots (HasInside proto inside remote)) }
 {
-    if let Some(slot) = guess_inside(sessions, index, proto, inside, remote) {
-        return Some(slot);
-    }
     let first = index.translated.first_inside(proto, inside);
     seek_inside(sessions, index, first, proto, inside, remote)
 }
 
-// As `find_inside`, without a guess, where the first translated session of the inside endpoint is known.
+// As `find_inside`, where the first translated session of the inside endpoint is known.
 fn seek_inside(
     sessions: &Slab<Session>,
     index: &Index,
@@ -231,14 +228,11 @@ pub fn find_outside(
     ensures found { IfSome result (IsAt sessions.now.slots (HasOutside proto outside remote)) }
     ensures absent { IfNone result (IsNowhere sessions.now.slots (HasOutside proto outside remote)) }
 {
-    if let Some(slot) = guess_outside(sessions, index, proto, outside, remote) {
-        return Some(slot);
-    }
     let first = index.translated.first_outside(proto, outside);
     seek_outside(sessions, index, first, proto, outside, remote)
 }
 
-// As `find_outside`, without a guess, where the first translated session of the outside endpoint is known.
+// As `find_outside`, where the first translated session of the outside endpoint is known.
 fn seek_outside(
     sessions: &Slab<Session>,
     index: &Index,
@@ -262,8 +256,7 @@ fn seek_outside(
     index.flows.get(key(proto, outside, remote))
 }
 
-/// Whether some session clashes with this one. The first sessions of its endpoints serve all that is asked, and
-/// nothing is guessed, since a session that was guessed would be there.
+/// Whether some session clashes with this one. The first sessions of its endpoints serve all that is asked.
 pub fn clashes(sessions: &Slab<Session>, index: &Index, session: &Session) -> bool
     requires { IsIndexed sessions.now.slots index.now }
     ensures { IsTrue result ↔ AnyClash sessions.now.slots session.now }
