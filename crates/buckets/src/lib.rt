@@ -14,12 +14,13 @@ ghost use Rattle.std.specs.Prelude.{◌≡◌, ◌+◌, ◌<◌, ◌≤◌, ℕ,
 ghost use Rattle.rows.specs.Held.{at, Puts};
 ghost use Rattle.buckets.specs.Held.{KeepsAll};
 
+mod overflow;
 mod place;
 mod places;
 
+use crate::overflow::Overflow;
 use crate::place::Place;
 use crate::places::{add, find, grow, take_out};
-use rows::Rows;
 use std::alloc::{AllocError, Global};
 use std::marker::Model;
 
@@ -31,14 +32,17 @@ use std::marker::Model;
 pub struct Buckets {
     alloc: Global,
     places: Vec<Place>,
-    overflow: Rows,
+    overflow: Overflow,
+    // Whether each entry of the overflow surely has a full bucket: it is so unless a value came that is too great for
+    // a place.
+    are_packed: bool,
     // How many entries there are, by which it is told when places get few. Nothing rests on it but time.
     count: usize,
 }
 
 impl Model for Buckets {
     ghost use Rattle.rows.specs.Held.{Entries};
-    ghost use Rattle.buckets.specs.Places.{all_in, AreSound};
+    ghost use Rattle.buckets.specs.Places.{all_in, AreKept};
 
     ghost Value = { Entries };
 
@@ -47,7 +51,7 @@ impl Model for Buckets {
       room = b.overflow.room;
     } };
 
-    ghost invariant = { λ b. AreSound b.places.items b.overflow.held };
+    ghost invariant = { λ b. AreKept b.places.items b.overflow.held b.are_packed };
 }
 
 impl Buckets {
@@ -58,7 +62,8 @@ impl Buckets {
         Buckets {
             alloc,
             places: Vec::new(alloc),
-            overflow: Rows::new(alloc),
+            overflow: Overflow::new(alloc),
+            are_packed: true,
             count: 0,
         }
     }
@@ -68,7 +73,7 @@ impl Buckets {
     pub fn get(&self, key: u64) -> Option<usize>
         ensures { result ≡ at self.now key }
     {
-        find(&self.places, &self.overflow, key)
+        find(&self.places, &self.overflow, self.are_packed, key)
     }
 
     /// Puts an entry in, whose key no other has. It goes into a free place of its bucket, or into the overflow.
@@ -85,7 +90,13 @@ impl Buckets {
         ensures room_ok { OnOk result (self.old.room ≤ self.new.room + 1) }
         ensures room_err { OnErr result (self.old.room ≤ self.new.room) }
     {
-        add(&mut self.places, &mut self.overflow, key, value)?;
+        add(
+            &mut self.places,
+            &mut self.overflow,
+            &mut self.are_packed,
+            key,
+            value,
+        )?;
         self.count = self.count.saturating_add(1);
         Ok(())
     }
@@ -96,7 +107,12 @@ impl Buckets {
         ensures gone { Puts self.old.held self.new.held key None }
         ensures room { self.old.room ≤ self.new.room }
     {
-        let value = take_out(&mut self.places, &mut self.overflow, key)?;
+        let value = take_out(
+            &mut self.places,
+            &mut self.overflow,
+            &mut self.are_packed,
+            key,
+        )?;
         self.count = self.count.saturating_sub(1);
         Some(value)
     }
@@ -142,7 +158,12 @@ impl Buckets {
         ensures room { self.old.room ≤ self.new.room }
     {
         if self.count >= self.places.len() / 4 * 3 {
-            grow(self.alloc, &mut self.places, &mut self.overflow);
+            self.are_packed = grow(
+                self.alloc,
+                &mut self.places,
+                &mut self.overflow,
+                self.are_packed,
+            );
         }
     }
 }
