@@ -5,8 +5,15 @@
 //! in the overflow, whose rows are exact and ordered: so nothing rests on how keys spread but time, and of keys
 //! that all meet in one bucket each costs a search in rows.
 //!
+//! Each entry of the overflow has a full bucket, so a key that isn't in its bucket is nowhere if a place there is free,
+//! and the overflow is searched only behind a full bucket. That this stays so, an entry of the overflow comes into
+//! the place that a removal frees in a full bucket: the overflow is ordered by buckets, so that one is found by a
+//! search. Where a value came that is too great for a place this can't be told, and each key that isn't in its
+//! bucket is searched in the overflow, until there are more places.
+//!
 //! - `place`: a place, which is empty or has an entry
 //! - `places`: the places and the overflow, and what is done to them
+//! - `overflow`: the entries for which there was no place
 //! - `specs/Held`: the entries, as contracts see them; `Rows` of crate `rows` has the words for them
 #![tactic(auto)]
 
@@ -33,8 +40,8 @@ pub struct Buckets {
     alloc: Global,
     places: Vec<Place>,
     overflow: Overflow,
-    // Whether each entry of the overflow surely has a full bucket: it is so unless a value came that is too great for
-    // a place.
+    // Whether each entry of the overflow surely has a full bucket: it has, unless a value came that is too great for a
+    // place.
     are_packed: bool,
     // How many entries there are, by which it is told when places get few. Nothing rests on it but time.
     count: usize,
@@ -68,8 +75,8 @@ impl Buckets {
         }
     }
 
-    /// The value of the key, if an entry has it. It takes a look at the places of one bucket and, where none of
-    /// them has the key, a search in the overflow.
+    /// The value of the key, if an entry has it. It takes a look at the places of one bucket and, where all of them
+    /// have other keys, a search in the overflow.
     pub fn get(&self, key: u64) -> Option<usize>
         ensures { result ≡ at self.now key }
     {
@@ -101,7 +108,8 @@ impl Buckets {
         Ok(())
     }
 
-    /// Takes the entry of the key out, if there is one, and returns its value. This takes no memory.
+    /// Takes the entry of the key out, if there is one, and returns its value. This takes no memory. Where the bucket
+    /// was full, it takes a search in the overflow for an entry that comes into the place.
     pub fn remove(&mut self, key: u64) -> Option<usize>
         ensures value { result ≡ at self.old key }
         ensures gone { Puts self.old.held self.new.held key None }

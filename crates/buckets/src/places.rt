@@ -409,10 +409,10 @@ fn lift(places: &mut [Place], overflow: &mut Overflow, key: u64) -> bool
     ensures settled { OnTrue result ((place : ℕ) → IsFreeFor places.new key place → value_at overflow.new.held key ≡ None) }
     ensures room { overflow.old.room ≤ overflow.new.room }
 {
-    let Some(place) = vacant(places, key) else {
+    let Some(free) = vacant(places, key) else {
         return true;
     };
-    lift_to(places, overflow, place, key)
+    lift_to(places, overflow, free, key)
 }
 
 // Moves the entry of the key from the overflow into this place. Whether there was one, and its value small enough.
@@ -429,10 +429,10 @@ fn lift_to(places: &mut [Place], overflow: &mut Overflow, place: usize, key: u64
     let Some(value) = overflow.get(key) else {
         return false;
     };
-    let Some(filled) = Place::of(key, value) else {
+    let Some(lifted) = Place::of(key, value) else {
         return false;
     };
-    places[place] = filled;
+    places[place] = lifted;
     overflow.remove(key);
     true
 }

@@ -1,4 +1,4 @@
-use Rattle.std.proofs.Common.{Some, Result, Ok, Err, OnOk, OnErr, sym, ap, ◌∙◌, subst}
+use Rattle.std.proofs.Common.{Some, Result, Ok, Err, OnOk, OnErr, sym, ◌∙◌, subst}
 use Rattle.std.proofs.lemmas.Result.{on_ok_weaker}
 use Rattle.rows.specs.Held.{Puts}
 use Rattle.buckets.specs.Places.{HasNowhere, AreSound, all_in}

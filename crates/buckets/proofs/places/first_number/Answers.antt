@@ -1,4 +1,4 @@
-use Rattle.std.proofs.Common.{◌≡◌, ◌+◌, ◌*◌, ◌/◌, ◌%◌, ◌<◌, ◌≤◌, ℕ, min, sym, ap, ◌∙◌, subst, arith}
+use Rattle.std.proofs.Common.{◌≡◌, ◌*◌, ◌/◌, ◌%◌, ◌<◌, min, subst, arith}
 use Rattle.buckets.specs.Places.{number, spread, bucket_of}
 use Rattle.buckets.proofs.Numbers.{number-below}
 use Rattle.buckets.proofs.places.first_number.Goals as goal

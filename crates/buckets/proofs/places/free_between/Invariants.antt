@@ -1,4 +1,4 @@
-use Rattle.std.proofs.Common.{◌-◌, ◌≡◌, ◌≢◌, ◌<◌, ◌≤◌, ℕ, None, get_or}
+use Rattle.std.proofs.Common.{◌-◌, ◌≢◌, ◌<◌, ◌≤◌, ℕ, None, get_or}
 use Rattle.buckets.proofs.places.free_between.Given as goal
 
 -- none of the places so far is free

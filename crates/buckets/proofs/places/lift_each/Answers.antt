@@ -1,5 +1,4 @@
-use Rattle.std.proofs.Common.{◌≡◌, ◌+◌, ℕ, sym, ap, ◌∙◌, subst, arith}
-use Rattle.std.proofs.lemmas.Bool.{OnTrue_at, not-false}
+use Rattle.std.proofs.Common.{◌≡◌, ◌+◌, sym, ◌∙◌, subst, arith}
 use Rattle.buckets.specs.Places.{number, ArePackedBelow}
 use Rattle.buckets.proofs.Values.{next-packed}
 use Rattle.buckets.proofs.places.lift_each.Goals as goal

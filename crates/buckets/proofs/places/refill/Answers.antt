@@ -1,6 +1,5 @@
-use Rattle.std.proofs.Common.{◌≡◌, ◌≢◌, ◌<◌, ℕ, length, None, true, sym, ap, ◌∙◌, subst, arith}
+use Rattle.std.proofs.Common.{◌<◌, ℕ, length, subst}
 use Rattle.std.proofs.lemmas.Bool.{OnTrue_at, OnTrue_from, ltb-true}
-use Rattle.rows.specs.Held.{value_at}
 use Rattle.buckets.specs.Places.{bucket_of, number, ArePackedBut, ArePacked}
 use Rattle.buckets.proofs.Values.{unwanted-packed, refilled-packed, behind-unwanted, past-unwanted, on-true}
 use Rattle.buckets.proofs.places.refill.Goals as goal

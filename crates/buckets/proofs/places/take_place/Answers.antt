@@ -1,5 +1,5 @@
-use Rattle.std.proofs.Common.{None, sym, ap, ◌∙◌, subst}
-use Rattle.rows.specs.Held.{value_at, Puts}
+use Rattle.std.proofs.Common.{None, ◌∙◌, subst}
+use Rattle.rows.specs.Held.{Puts}
 use Rattle.buckets.specs.Places.{all_in}
 use Rattle.buckets.proofs.Values.{has-stands, found-all, less-puts, spare-packed, key-home, on-true}
 use Rattle.buckets.proofs.places.take_place.Goals as goal

@@ -1,4 +1,4 @@
-use Rattle.std.proofs.Common.{◌<◌, Some, Result, Ok, Err, OnOk, OnErr, sym, ap, ◌∙◌, subst, arith}
+use Rattle.std.proofs.Common.{Some, Result, Ok, Err, OnOk, OnErr, sym, ap, ◌∙◌, subst, arith}
 use Rattle.std.proofs.lemmas.Result.{on_ok_weaker}
 use Rattle.rows.specs.Held.{value_at, at, Entries, Puts}
 use Rattle.buckets.specs.Places.{AreNumbered, plain_in}
