@@ -1,12 +1,15 @@
 -- What a look-up by a key gives, and what a change of one place makes of it.
-use Rattle.std.proofs.Common.{◌≡◌, ◌≢◌, ℕ, zero, suc, ◌+◌, ◌<◌, ◌⊎◌, cond, List, [], ◌∷◌, ◌++◌, length, get_or, Option, Some, None, refl, sym, ap, ◌∙◌, subst, inl, inr, arith}
-use Rattle.std.proofs.lemmas.Bool.{cases_eq, eq-eqb, ne_eqb}
+use Rattle.std.proofs.Common.{Bool, true, false, min, ◌/◌, ◌≡◌, ◌≢◌, ℕ, zero, suc, ◌+◌, ◌<◌, ◌≤◌, ◌⊎◌, cond, List, [], ◌∷◌, ◌++◌, length, set, get_or, Option, Some, None, refl, sym, ap, ◌∙◌, subst, inl, inr, arith}
+use Rattle.std.proofs.lemmas.List.{length-set, get_or-set_same, get_or-set_other}
+use Rattle.std.proofs.lemmas.Bool.{cases_eq, cases_lt, eq-eqb, ne_eqb}
 use Rattle.std.proofs.lemmas.Option.{none-some, same_Some}
 use Rattle.std.specs.Prelude.{IsSomeAnd}
 use Rattle.std.specs.Option.{option_map}
+use Rattle.std.specs.Bool.{OnTrue}
+use Rattle.std.proofs.Math.Nat.{mul-le-mul_right}
 use Rattle.rows.specs.declared.Entry.{Entry}
 use Rattle.rows.specs.Held.{value_at, Puts}
-use Rattle.buckets.specs.Places.{entries_in, all_in, Stands, HasKey, HasNowhere, AreHome, AreApart, AreSound, IsHome, IsFreeFor, IsSetTo, IsCopied, IsMoved, HaveSame}
+use Rattle.buckets.specs.Places.{entries_in, all_in, Stands, HasKey, HasNowhere, AreHome, AreApart, AreSound, IsHome, IsFreeFor, IsFull, IsFilled, ArePacked, ArePackedBut, ArePackedBelow, IsNext, IsPast, bucket_of, spread, number, IsSetTo, IsCopied, IsMoved, HaveSame}
 
 -- ---- one list of entries behind another
 
@@ -297,3 +300,127 @@ module _ (old new : List (Option Entry)) (place key value : ℕ) (before after :
         | inl here ↦ now ∙ ap (λ b. cond b (Some value) (value_at (all_in old after) other)) (eq-eqb other key here) ∙ sym (ap (value_at (all_in old before)) here ∙ nowhere-all old before key lift-nowhere ∙ there)
         | inr away ↦ now ∙ ap (λ b. cond b (Some value) (value_at (all_in old after) other)) (ne_eqb other key away) ∙ without-puts other ∙ ap (λ b. cond b None (value_at (all_in old before) other)) (ne_eqb other key away)
       ]
+
+-- ---- what is packed
+
+-- of a value that may be there: there is none, or it is another than none
+pub none-or : (o : Option ℕ) → (o ≡ None) ⊎ (o ≢ None)
+none-or None = inl refl
+none-or (Some v) = inr (λ none. none-some v (sym none))
+
+-- the places that two keys may have are the same, where they have one in common
+pub same-bucket : (count a b place : ℕ) → IsHome count a place → IsHome count b place → bucket_of count a ≡ bucket_of count b
+unfolding bucket_of
+same-bucket count a b place one other =
+    let from_a = one.from in let to_a = one.to in let from_b = other.from in let to_b = other.to in omega (arith, from_a, to_a, from_b, to_b)
+
+pub home-as : (count a b place : ℕ) → bucket_of count a ≡ bucket_of count b → IsHome count a place → IsHome count b place
+home-as count a b place same home = record { from = subst (λ n. n ≤ place) same home.from; to = subst (λ n. place < n + 8) same home.to }
+
+-- an entry more leaves no other place free
+pub set-free : (old new : List (Option Entry)) (place : ℕ) (value : Option Entry) → IsSetTo old new place value → (key k : ℕ) → k ≢ place → IsFreeFor new key k → IsFreeFor old key k
+set-free old new place value to key k away free = record {
+  in_range = subst (λ n. k < n) to.same_length free.in_range;
+  free = sym (to.others k away) ∙ free.free;
+  home = subst (λ n. IsHome n key k) to.same_length free.home;
+}
+
+pub taken-away : (new : List (Option Entry)) (place key k : ℕ) → get_or new place None ≢ None → IsFreeFor new key k → k ≢ place
+taken-away new place key k taken free = λ same. taken (ap (λ i. get_or new i None) (sym same) ∙ free.free)
+
+pub full-free : (ps : List (Option Entry)) (key place : ℕ) {P : Type 0} → IsFull ps key → IsFreeFor ps key place → P
+full-free ps key place full free = absurd (full place free.in_range free.home free.free)
+
+pub add-packed : (old new : List (Option Entry)) (place : ℕ) (e : Entry) (over : List Entry) → IsSetTo old new place (Some e) → ArePacked old over → ArePacked new over
+add-packed old new place e over to packed key k free =
+    packed key k (set-free old new place (Some e) to key k (taken-away new place key k (λ none. none-some e (sym none ∙ to.there)) free) free)
+
+pub over-packed : (ps : List (Option Entry)) (old new : List Entry) (key : ℕ) (value : Option ℕ) → IsFull ps key → Puts old new key value → ArePacked ps old → ArePacked ps new
+over-packed ps old new key value full puts packed other k free = elim (cases_eq other key) [
+  | inl same ↦ full-free ps key k full (subst (λ n. IsFreeFor ps n k) same free)
+  | inr away ↦ puts other ∙ ap (λ b. cond b value (value_at old other)) (ne_eqb other key away) ∙ packed other k free
+]
+
+pub fewer-packed : (ps : List (Option Entry)) (old new : List Entry) (key : ℕ) → Puts old new key None → ArePacked ps old → ArePacked ps new
+fewer-packed ps old new key puts packed other k free = elim (cases_eq other key) [
+  | inl same ↦ puts other ∙ ap (λ b. cond b None (value_at old other)) (eq-eqb other key same)
+  | inr away ↦ puts other ∙ ap (λ b. cond b None (value_at old other)) (ne_eqb other key away) ∙ packed other k free
+]
+
+-- a place of a bucket that had another free one
+pub spare-packed : (old new : List (Option Entry)) (over : List Entry) (place key other : ℕ) → IsSetTo old new place None → IsHome (length old) key place → IsFreeFor old key other → ArePacked old over → ArePacked new over
+spare-packed old new over place key other to home spare packed k i free = elim (cases_eq i place) [
+  | inr away ↦ packed k i (set-free old new place None to k i away free)
+  | inl here ↦
+      let there : IsHome (length old) k place = subst (λ n. IsHome n k place) to.same_length (subst (λ j. IsHome (length new) k j) here free.home) in
+      packed k other (record { in_range = spare.in_range; free = spare.free; home = home-as (length old) key k other (same-bucket (length old) key k place home there) spare.home })
+]
+
+pub hole-packed : (old new : List (Option Entry)) (over : List Entry) (place : ℕ) → IsSetTo old new place None → ArePacked old over → ArePackedBut new over place
+hole-packed old new over place to packed k i away free = packed k i (set-free old new place None to k i away free)
+
+pub refilled-packed : (old new : List (Option Entry)) (before after : List Entry) (hole : ℕ) → IsFilled old new before after → get_or new hole None ≢ None → ArePackedBut old before hole → ArePacked new after
+refilled-packed old new before after hole filled taken packed k i free = filled.fewer k (packed k i (taken-away new hole k i taken free) (filled.free k i free))
+
+-- no entry of the overflow belongs to the bucket of the hole
+pub unwanted-packed : (ps : List (Option Entry)) (over : List Entry) (hole key : ℕ) → IsFreeFor ps key hole → ((other : ℕ) → value_at over other ≢ None → bucket_of (length ps) other ≢ bucket_of (length ps) key) → ArePackedBut ps over hole → ArePacked ps over
+unwanted-packed ps over hole key at others packed k i free = elim (cases_eq i hole) [
+  | inr away ↦ packed k i away free
+  | inl here ↦ elim (none-or (value_at over k)) [
+    | inl none ↦ none
+    | inr has ↦ absurd (others k has (same-bucket (length ps) k key hole (subst (λ j. IsHome (length ps) k j) here free.home) at.home))
+  ]
+]
+
+-- ---- an order of buckets
+
+pub bucket-order : (count a b : ℕ) → spread a ≤ spread b → bucket_of count a ≤ bucket_of count b
+unfolding bucket_of
+bucket-order count a b le =
+    let more = mul-le-mul_right (min (count / 8) 16777216) le in omega (arith, more)
+
+-- where the next entry has a bucket behind, none has this one
+pub behind-unwanted : (count bucket from key : ℕ) (over : List Entry) → ((k : ℕ) → number k < from → bucket_of count k < bucket) → IsNext over from key → bucket < bucket_of count key → (other : ℕ) → value_at over other ≢ None → bucket_of count other ≢ bucket
+behind-unwanted count bucket from key over before next lt other has same = elim (cases_lt (number other) from) [
+  | inl below ↦ let less = before other below in omega (arith, less, same)
+  | inr above ↦ let more = bucket-order count key other (next.side other has above) in omega (arith, more, lt, same)
+]
+
+pub past-unwanted : (count bucket from : ℕ) (over : List Entry) → ((k : ℕ) → number k < from → bucket_of count k < bucket) → IsPast over from → (other : ℕ) → value_at over other ≢ None → bucket_of count other ≢ bucket
+past-unwanted count bucket from over before past other has same = let less = before other (past other has) in omega (arith, less, same)
+
+-- ---- a walk through the overflow
+
+pub past-packed : (ps : List (Option Entry)) (over : List Entry) (from : ℕ) → ArePackedBelow ps over from → IsPast over from → ArePacked ps over
+past-packed ps over from below past key place free = elim (none-or (value_at over key)) [
+  | inl none ↦ none
+  | inr has ↦ below key place (past key has) free
+]
+
+pub next-packed : (old new : List (Option Entry)) (before after : List Entry) (from key : ℕ) → ArePackedBelow old before from → IsNext before from key → IsFilled old new before after → ((place : ℕ) → IsFreeFor new key place → value_at after key ≡ None) → ArePackedBelow new after (number key + 1)
+next-packed old new before after from key below next filled settled k place lt free = elim (cases_eq k key) [
+  | inl same ↦ ap (value_at after) same ∙ settled place (subst (λ n. IsFreeFor new n place) same free)
+  | inr differ ↦ filled.fewer k (elim (cases_lt (number k) from) [
+    | inl under ↦ below k place under (filled.free k place free)
+    | inr above ↦ elim (none-or (value_at before k)) [
+      | inl none ↦ none
+      | inr has ↦ let more = next.least k has above differ in absurd (omega (arith, more, lt))
+    ]
+  ])
+]
+
+pub on-true : {P Q : Type 0} (b : Bool) → (P → Q) → OnTrue b P → OnTrue b Q
+on-true true f p = f p
+on-true false f p = tt
+
+pub key-home : (ps : List (Option Entry)) (key place : ℕ) → AreHome ps → HasKey ps key place → IsHome (length ps) key place
+key-home ps key place homes has =
+    let there = has-stands ps key place has in
+    subst (λ k. IsHome (length ps) k place) there.2 (homes place there.0 there.1)
+
+pub set-to : (ps : List (Option Entry)) (place : ℕ) (value : Option Entry) (e : Entry) → place < length ps → value ≡ Some e → IsSetTo ps (set ps place value) place (Some e)
+set-to ps place value e inside is = record {
+  same_length = length-set ps place value;
+  there = get_or-set_same ps place value None inside ∙ is;
+  others = λ k away. get_or-set_other ps place k value None away;
+}

@@ -1,5 +1,6 @@
 -- How the entries lie in places. No public clause cites this module.
-use Rattle.std.specs.Prelude.{◌≡◌, ◌≢◌, ℕ, ◌+◌, ◌*◌, ◌/◌, ◌%◌, ◌<◌, ◌≤◌, min, List, [], ◌∷◌, ◌++◌, length, Option, Some, None, IsSomeAnd, slice_index_or}
+use Rattle.std.specs.Prelude.{◌≡◌, ◌≢◌, ℕ, ◌+◌, ◌*◌, ◌/◌, ◌%◌, ◌<◌, ◌≤◌, min, List, [], ◌∷◌, ◌++◌, Bool, length, Option, Some, None, IsSomeAnd, slice_index_or}
+use Rattle.std.specs.Bool.{OnTrue}
 use Rattle.rows.specs.declared.Entry.{Entry}
 use Rattle.rows.specs.Held.{value_at}
 
@@ -30,6 +31,19 @@ pub record IsHome (count key place : ℕ) : Type 0 where
 abbrev pub Stands : List (Option Entry) → ℕ → Entry → Type 0
 Stands places place entry = slice_index_or places place None ≡ Some entry
 
+-- by these numbers the overflow is in order: entries of one bucket lie side by side
+unfoldable pub number : ℕ → ℕ
+number key = spread key * 18446744073709551616 + key
+
+-- the entries of the overflow, which lie there by their numbers
+abbrev pub plain_in : List Entry → List Entry
+plain_in [] = []
+plain_in (entry ∷ entries) = record { key = entry.key % 18446744073709551616; value = entry.value } ∷ plain_in entries
+
+-- what lies there is the number of a key
+abbrev pub AreNumbered : List Entry → Type 0
+AreNumbered rows = (n : ℕ) → value_at rows n ≢ None → n ≡ number (n % 18446744073709551616)
+
 -- an entry with the key stands at this place
 abbrev pub HasKey : List (Option Entry) → ℕ → ℕ → Type 0
 HasKey places key place = IsSomeAnd (slice_index_or places place None) (λ entry. entry.key ≡ key)
@@ -57,6 +71,42 @@ pub record IsFreeFor (places : List (Option Entry)) (key place : ℕ) : Type 0 w
   pub in_range : place < length places
   pub free : slice_index_or places place None ≡ None
   pub home : IsHome (length places) key place
+
+-- no place is free for the key
+abbrev pub IsFull : List (Option Entry) → ℕ → Type 0
+IsFull places key = (place : ℕ) → place < length places → IsHome (length places) key place → slice_index_or places place None ≢ None
+
+-- each entry of the overflow has a full bucket
+abbrev pub ArePacked : List (Option Entry) → List Entry → Type 0
+ArePacked places overflow = (key place : ℕ) → IsFreeFor places key place → value_at overflow key ≡ None
+
+-- they would be so if this place had an entry
+abbrev pub ArePackedBut : List (Option Entry) → List Entry → ℕ → Type 0
+ArePackedBut places overflow hole = (key place : ℕ) → place ≢ hole → IsFreeFor places key place → value_at overflow key ≡ None
+
+-- each entry of the overflow whose number is below this one has a full bucket
+abbrev pub ArePackedBelow : List (Option Entry) → List Entry → ℕ → Type 0
+ArePackedBelow places overflow from = (key place : ℕ) → number key < from → IsFreeFor places key place → value_at overflow key ≡ None
+
+-- what a map of keys to slots keeps
+pub record AreKept (places : List (Option Entry)) (overflow : List Entry) (are_packed : Bool) : Type 0 where
+  pub sound : AreSound places overflow
+  pub packed : OnTrue are_packed (ArePacked places overflow)
+
+-- no place was freed, and no key came into the overflow
+pub record IsFilled (old new : List (Option Entry)) (before after : List Entry) : Type 0 where
+  pub free : (key place : ℕ) → IsFreeFor new key place → IsFreeFor old key place
+  pub fewer : (key : ℕ) → value_at before key ≡ None → value_at after key ≡ None
+
+-- the key is the first one of the overflow whose number isn't below this one
+pub record IsNext (overflow : List Entry) (from key : ℕ) : Type 0 where
+  pub there : value_at overflow key ≢ None
+  pub side : (other : ℕ) → value_at overflow other ≢ None → from ≤ number other → spread key ≤ spread other
+  pub least : (other : ℕ) → value_at overflow other ≢ None → from ≤ number other → other ≢ key → number key < number other
+
+-- the overflow has no number from this one on
+abbrev pub IsPast : List Entry → ℕ → Type 0
+IsPast overflow from = (key : ℕ) → value_at overflow key ≢ None → number key < from
 
 -- the place has this now, and each other what it had
 pub record IsSetTo (old new : List (Option Entry)) (place : ℕ) (value : Option Entry) : Type 0 where

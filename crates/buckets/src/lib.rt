@@ -5,8 +5,15 @@
 //! in the overflow, whose rows are exact and ordered: so nothing rests on how keys spread but time, and of keys
 //! that all meet in one bucket each costs a search in rows.
 //!
+//! Each entry of the overflow has a full bucket, so a key that isn't in its bucket is nowhere if a place there is free,
+//! and the overflow is searched only behind a full bucket. That this stays so, an entry of the overflow comes into
+//! the place that a removal frees in a full bucket: the overflow is ordered by buckets, so that one is found by a
+//! search. Where a value came that is too great for a place this can't be told, and each key that isn't in its
+//! bucket is searched in the overflow, until there are more places.
+//!
 //! - `place`: a place, which is empty or has an entry
 //! - `places`: the places and the overflow, and what is done to them
+//! - `overflow`: the entries for which there was no place
 //! - `specs/Held`: the entries, as contracts see them; `Rows` of crate `rows` has the words for them
 #![tactic(auto)]
 
@@ -14,12 +21,13 @@ ghost use Rattle.std.specs.Prelude.{◌≡◌, ◌+◌, ◌<◌, ◌≤◌, ℕ,
 ghost use Rattle.rows.specs.Held.{at, Puts};
 ghost use Rattle.buckets.specs.Held.{KeepsAll};
 
+mod overflow;
 mod place;
 mod places;
 
+use crate::overflow::Overflow;
 use crate::place::Place;
 use crate::places::{add, find, grow, take_out};
-use rows::Rows;
 use std::alloc::{AllocError, Global};
 use std::marker::Model;
 
@@ -31,14 +39,17 @@ use std::marker::Model;
 pub struct Buckets {
     alloc: Global,
     places: Vec<Place>,
-    overflow: Rows,
+    overflow: Overflow,
+    // Whether each entry of the overflow surely has a full bucket: it has, unless a value came that is too great for a
+    // place.
+    are_packed: bool,
     // How many entries there are, by which it is told when places get few. Nothing rests on it but time.
     count: usize,
 }
 
 impl Model for Buckets {
     ghost use Rattle.rows.specs.Held.{Entries};
-    ghost use Rattle.buckets.specs.Places.{all_in, AreSound};
+    ghost use Rattle.buckets.specs.Places.{all_in, AreKept};
 
     ghost Value = { Entries };
 
@@ -47,7 +58,7 @@ impl Model for Buckets {
       room = b.overflow.room;
     } };
 
-    ghost invariant = { λ b. AreSound b.places.items b.overflow.held };
+    ghost invariant = { λ b. AreKept b.places.items b.overflow.held b.are_packed };
 }
 
 impl Buckets {
@@ -58,17 +69,18 @@ impl Buckets {
         Buckets {
             alloc,
             places: Vec::new(alloc),
-            overflow: Rows::new(alloc),
+            overflow: Overflow::new(alloc),
+            are_packed: true,
             count: 0,
         }
     }
 
-    /// The value of the key, if an entry has it. It takes a look at the places of one bucket and, where none of
-    /// them has the key, a search in the overflow.
+    /// The value of the key, if an entry has it. It takes a look at the places of one bucket and, where all of them
+    /// have other keys, a search in the overflow.
     pub fn get(&self, key: u64) -> Option<usize>
         ensures { result ≡ at self.now key }
     {
-        find(&self.places, &self.overflow, key)
+        find(&self.places, &self.overflow, self.are_packed, key)
     }
 
     /// Puts an entry in, whose key no other has. It goes into a free place of its bucket, or into the overflow.
@@ -85,18 +97,30 @@ impl Buckets {
         ensures room_ok { OnOk result (self.old.room ≤ self.new.room + 1) }
         ensures room_err { OnErr result (self.old.room ≤ self.new.room) }
     {
-        add(&mut self.places, &mut self.overflow, key, value)?;
+        add(
+            &mut self.places,
+            &mut self.overflow,
+            &mut self.are_packed,
+            key,
+            value,
+        )?;
         self.count = self.count.saturating_add(1);
         Ok(())
     }
 
-    /// Takes the entry of the key out, if there is one, and returns its value. This takes no memory.
+    /// Takes the entry of the key out, if there is one, and returns its value. This takes no memory. Where the bucket
+    /// was full, it takes a search in the overflow for an entry that comes into the place.
     pub fn remove(&mut self, key: u64) -> Option<usize>
         ensures value { result ≡ at self.old key }
         ensures gone { Puts self.old.held self.new.held key None }
         ensures room { self.old.room ≤ self.new.room }
     {
-        let value = take_out(&mut self.places, &mut self.overflow, key)?;
+        let value = take_out(
+            &mut self.places,
+            &mut self.overflow,
+            &mut self.are_packed,
+            key,
+        )?;
         self.count = self.count.saturating_sub(1);
         Some(value)
     }
@@ -142,7 +166,12 @@ impl Buckets {
         ensures room { self.old.room ≤ self.new.room }
     {
         if self.count >= self.places.len() / 4 * 3 {
-            grow(self.alloc, &mut self.places, &mut self.overflow);
+            self.are_packed = grow(
+                self.alloc,
+                &mut self.places,
+                &mut self.overflow,
+                self.are_packed,
+            );
         }
     }
 }

@@ -1,5 +1,5 @@
 //! A place for an entry.
-ghost use Rattle.std.specs.Prelude.{◌≡◌, ◌↔◌, IsTrue, None, Some, IfSome, IsSomeAnd};
+ghost use Rattle.std.specs.Prelude.{◌≡◌, ◌≤◌, ◌↔◌, IsTrue, None, Some, IfSome, IfNone, IsSomeAnd};
 ghost use Rattle.std.specs.Option.{option_map};
 
 use std::marker::Model;
@@ -44,7 +44,8 @@ impl Place {
 
     /// A place with this entry, unless its value is too great for one.
     pub fn of(key: u64, value: usize) -> Option<Place>
-        ensures { IfSome result (λ place. place ≡ Some (record { key = key; value = value })) }
+        ensures filled { IfSome result (λ place. place ≡ Some (record { key = key; value = value })) }
+        ensures great { IfNone result (4294967295 ≤ value) }
     {
         if value >= NOTHING as usize {
             return None;

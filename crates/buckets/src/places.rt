@@ -1,14 +1,14 @@
 //! The places, in buckets, and the overflow.
-ghost use Rattle.std.specs.Prelude.{◌≡◌, ◌≢◌, ◌+◌, ◌*◌, ◌<◌, ◌≤◌, ◌↔◌, ℕ, IsTrue, None, Some, OnOk, OnErr, IsOk, IfSome, IfNone, length, slice_index_or};
+ghost use Rattle.std.specs.Prelude.{◌≡◌, ◌≢◌, ◌+◌, ◌*◌, ◌/◌, true, ◌<◌, ◌≤◌, ◌↔◌, ℕ, IsTrue, None, Some, OnOk, OnErr, IsOk, IfSome, IfNone, length, slice_index_or};
 ghost use Rattle.std.specs.Bool.{OnTrue, OnFalse};
 ghost use Rattle.std.specs.Option.{option_map};
 ghost use Rattle.rows.specs.Held.{at, value_at, Puts};
 ghost use Rattle.std.specs.Prelude.{IfOk};
 ghost use Rattle.rows.specs.declared.Entry.{Entry as KeyValue};
-ghost use Rattle.buckets.specs.Places.{all_in, bucket_of, Stands, HasKey, HasNowhere, AreHome, AreApart, AreSound, IsFreeFor, IsSetTo, IsCopied, IsMoved, HaveSame};
+ghost use Rattle.buckets.specs.Places.{all_in, bucket_of, number, Stands, HasKey, HasNowhere, AreHome, AreApart, AreSound, IsFreeFor, IsFull, IsFilled, ArePacked, ArePackedBut, IsSetTo, IsCopied, IsMoved, HaveSame};
 
+use crate::overflow::{Overflow, number, spread};
 use crate::place::Place;
-use rows::Rows;
 use std::alloc::{AllocError, Global};
 
 // The places of a bucket.
@@ -21,18 +21,40 @@ const MOST: usize = 1 << 24;
 // The places of a vector that is made first.
 const FEWEST: usize = 64;
 
-// An odd number near 2^64 over the golden ratio, which spreads numbers that rise.
-const SPREAD: u64 = 0x9e37_79b9_7f4a_7c15;
-
-// Where the bucket of the key begins. The bits that say it are those in which both a part of the key that
-// rises and its highest bits show.
-#[tactic(auto, unfolding(crate::specs::Places::bucket_of, crate::specs::Places::spread))]
+// Where the bucket of the key begins.
+#[tactic(auto, unfolding(crate::specs::Places::bucket_of))]
 fn bucket_of(count: usize, key: u64) -> usize
     ensures bucket { result ≡ bucket_of count key }
     ensures small { result < 134217728 }
 {
-    let spread = (key.wrapping_mul(SPREAD) >> 40) as usize;
+    let spread = spread(key) as usize;
     spread * (count / WIDTH).min(MOST) / MOST * WIDTH
+}
+
+// The least number of 24 bits that says this bucket of so many, or a less one: no less number says it.
+fn first_spread(count: usize, bucket: usize) -> u64
+    requires count { count ≤ 16777216 }
+    requires bucket { bucket < 16777216 }
+    ensures below { (spread : ℕ) → spread < result → spread * count / 16777216 < bucket }
+    ensures small { result < 562949953421312 }
+{
+    if count == 0 {
+        return 0;
+    }
+    let first = (bucket * MOST).div_ceil(count);
+    if first > 0 && (first - 1) * count / MOST >= bucket {
+        return 0;
+    }
+    first as u64
+}
+
+// No key whose number is below this one has its bucket here or behind.
+#[tactic(auto, unfolding(crate::specs::Places::bucket_of))]
+fn first_number(count: usize, bucket: usize) -> u128
+    requires { bucket < 134217728 }
+    ensures { (key : ℕ) → number key < result → bucket_of count key < bucket }
+{
+    u128::from(first_spread((count / WIDTH).min(MOST), bucket / WIDTH)) << 64
 }
 
 // Where the bucket of the key ends.
@@ -74,7 +96,8 @@ fn find_between(places: &[Place], start: usize, end: usize, key: u64) -> Option<
 
 // A free place in the bucket of the key.
 fn vacant(places: &[Place], key: u64) -> Option<usize>
-    ensures { IfSome result (IsFreeFor places.now key) }
+    ensures free { IfSome result (IsFreeFor places.now key) }
+    ensures full { IfNone result (IsFull places.now key) }
 {
     let start = bucket_of(places.len(), key);
     let end = bucket_end(places.len(), start);
@@ -88,6 +111,7 @@ fn free_between(places: &[Place], start: usize, end: usize) -> Option<usize>
     ensures free { IfSome result (λ place. slice_index_or places.now place None ≡ None) }
     ensures from { IfSome result (λ place. start ≤ place) }
     ensures to { IfSome result (λ place. place < end) }
+    ensures none { IfNone result ((place : ℕ) → start ≤ place → place < end → slice_index_or places.now place None ≢ None) }
 {
     let mut place = start;
     while place < end {
@@ -100,26 +124,43 @@ fn free_between(places: &[Place], start: usize, end: usize) -> Option<usize>
 }
 
 /// The value of the key, in a place or in the overflow.
-pub fn find(places: &[Place], overflow: &Rows, key: u64) -> Option<usize>
-    requires { AreSound places.now overflow.now.held }
+pub fn find(places: &[Place], overflow: &Overflow, are_packed: bool, key: u64) -> Option<usize>
+    requires sound { AreSound places.now overflow.now.held }
+    requires packed { OnTrue are_packed (ArePacked places.now overflow.now.held) }
     ensures { result ≡ value_at (all_in places.now overflow.now.held) key }
 {
     match locate(places, key) {
         Some(place) => places[place].value(),
-        None => overflow.get(u128::from(key)),
+        None => find_behind(places, overflow, are_packed, key),
     }
+}
+
+// The value of the key in the overflow. There is none where a place of its bucket is free.
+fn find_behind(places: &[Place], overflow: &Overflow, are_packed: bool, key: u64) -> Option<usize>
+    requires { OnTrue are_packed (ArePacked places.now overflow.now.held) }
+    ensures { result ≡ value_at overflow.now.held key }
+{
+    if are_packed {
+        if let Some(_place) = vacant(places, key) {
+            return None;
+        }
+    }
+    overflow.get(key)
 }
 
 /// Puts an entry in, whose key no other has.
 pub fn add(
     places: &mut [Place],
-    overflow: &mut Rows,
+    overflow: &mut Overflow,
+    are_packed: &mut bool,
     key: u64,
     value: usize,
 ) -> Result<(), AllocError>
     requires sound { AreSound places.old overflow.old.held }
+    requires packed { OnTrue are_packed.old (ArePacked places.old overflow.old.held) }
     requires absent { value_at (all_in places.old overflow.old.held) key ≡ None }
     ensures sound { AreSound places.new overflow.new.held }
+    ensures packed { OnTrue are_packed.new (ArePacked places.new overflow.new.held) }
     ensures ok { OnOk result (Puts (all_in places.old overflow.old.held) (all_in places.new overflow.new.held) key (Some value)) }
     ensures err { OnErr result (all_in places.new overflow.new.held ≡ all_in places.old overflow.old.held) }
     ensures succeeds { 0 < overflow.old.room → IsOk result }
@@ -129,13 +170,24 @@ pub fn add(
     if put_in_place(places, key, value) {
         return Ok(());
     }
-    overflow.insert(u128::from(key), value)
+    *are_packed = are_packed_with(*are_packed, value);
+    overflow.insert(key, value)
+}
+
+// Whether each entry of the overflow has a full bucket still, where this value goes there from a full one: one
+// that is too great for a place goes there from any.
+fn are_packed_with(are_packed: bool, value: usize) -> bool
+    ensures small { OnTrue result (value < 4294967295) }
+    ensures were { OnTrue result (are_packed ≡ true) }
+{
+    are_packed && value < u32::MAX as usize
 }
 
 // Puts an entry into a free place of its bucket. Whether there was one, and the value small enough for it.
 fn put_in_place(places: &mut [Place], key: u64, value: usize) -> bool
     ensures put { OnTrue result ((place : ℕ) × IsFreeFor places.old key place × IsSetTo places.old places.new place (Some (record { key = key; value = value }))) }
     ensures kept { OnFalse result (places.new ≡ places.old) }
+    ensures full { OnFalse result (value < 4294967295 → IsFull places.old key) }
 {
     let Some(place) = vacant(places, key) else {
         return false;
@@ -148,21 +200,56 @@ fn put_in_place(places: &mut [Place], key: u64, value: usize) -> bool
 }
 
 /// Takes the entry of the key out, if there is one, and returns its value.
-pub fn take_out(places: &mut [Place], overflow: &mut Rows, key: u64) -> Option<usize>
+pub fn take_out(
+    places: &mut [Place],
+    overflow: &mut Overflow,
+    are_packed: &mut bool,
+    key: u64,
+) -> Option<usize>
     requires sound { AreSound places.old overflow.old.held }
+    requires packed { OnTrue are_packed.old (ArePacked places.old overflow.old.held) }
     ensures sound { AreSound places.new overflow.new.held }
+    ensures packed { OnTrue are_packed.new (ArePacked places.new overflow.new.held) }
     ensures value { result ≡ value_at (all_in places.old overflow.old.held) key }
     ensures gone { Puts (all_in places.old overflow.old.held) (all_in places.new overflow.new.held) key None }
     ensures room { overflow.old.room ≤ overflow.new.room }
 {
     match locate(places, key) {
-        Some(place) => take_place(places, place),
-        None => overflow.remove(u128::from(key)),
+        Some(place) => take_place(places, overflow, are_packed, place, key),
+        None => overflow.remove(key),
+    }
+}
+
+// Takes the entry of the key out of its place. Where its bucket was full, an entry of the overflow that belongs
+// there comes into the place.
+fn take_place(
+    places: &mut [Place],
+    overflow: &mut Overflow,
+    are_packed: &mut bool,
+    place: usize,
+    key: u64,
+) -> Option<usize>
+    requires sound { AreSound places.old overflow.old.held }
+    requires packed { OnTrue are_packed.old (ArePacked places.old overflow.old.held) }
+    requires there { HasKey places.old key place }
+    ensures sound { AreSound places.new overflow.new.held }
+    ensures packed { OnTrue are_packed.new (ArePacked places.new overflow.new.held) }
+    ensures value { result ≡ value_at (all_in places.old overflow.old.held) key }
+    ensures gone { Puts (all_in places.old overflow.old.held) (all_in places.new overflow.new.held) key None }
+    ensures room { overflow.old.room ≤ overflow.new.room }
+{
+    match vacant(places, key) {
+        Some(_free) => clear(places, place),
+        None => {
+            let value = clear(places, place);
+            *are_packed = refill(places, overflow, *are_packed, place, key);
+            value
+        }
     }
 }
 
 // Empties a place, and returns the value of its entry.
-fn take_place(places: &mut [Place], place: usize) -> Option<usize>
+fn clear(places: &mut [Place], place: usize) -> Option<usize>
     requires { place < length places.old }
     ensures value { result ≡ option_map (λ entry. entry.value) (slice_index_or places.old place None) }
     ensures empty { IsSetTo places.old places.new place None }
@@ -172,19 +259,58 @@ fn take_place(places: &mut [Place], place: usize) -> Option<usize>
     value
 }
 
+// Moves an entry of the overflow into the only free place of its bucket, which is the bucket of this key, if there
+// is such an entry. Whether each entry of the overflow has a full bucket then.
+fn refill(
+    places: &mut [Place],
+    overflow: &mut Overflow,
+    are_packed: bool,
+    hole: usize,
+    key: u64,
+) -> bool
+    requires sound { AreSound places.old overflow.old.held }
+    requires packed { OnTrue are_packed (ArePackedBut places.old overflow.old.held hole) }
+    requires free { IsFreeFor places.old key hole }
+    ensures sound { AreSound places.new overflow.new.held }
+    ensures packed { OnTrue result (ArePacked places.new overflow.new.held) }
+    ensures same { (other : ℕ) → value_at (all_in places.new overflow.new.held) other ≡ value_at (all_in places.old overflow.old.held) other }
+    ensures room { overflow.old.room ≤ overflow.new.room }
+{
+    if !are_packed {
+        return false;
+    }
+    let bucket = bucket_of(places.len(), key);
+    let Some(next) = overflow.next_from(first_number(places.len(), bucket)) else {
+        return true;
+    };
+    let found = bucket_of(places.len(), next);
+    if found == bucket {
+        return lift_to(places, overflow, hole, next);
+    }
+    found > bucket
+}
+
 /// Makes twice as many places, where memory is granted, and puts the entries there, also those of the overflow
 /// for which there is a place now. Each key keeps its value in any case.
-pub fn grow(alloc: Global, places: &mut Vec<Place>, overflow: &mut Rows)
-    requires { AreSound places.old.items overflow.old.held }
+/// Whether each entry of the overflow has a full bucket then.
+pub fn grow(
+    alloc: Global,
+    places: &mut Vec<Place>,
+    overflow: &mut Overflow,
+    are_packed: bool,
+) -> bool
+    requires sound { AreSound places.old.items overflow.old.held }
+    requires packed { OnTrue are_packed (ArePacked places.old.items overflow.old.held) }
     ensures sound { AreSound places.new.items overflow.new.held }
+    ensures packed { OnTrue result (ArePacked places.new.items overflow.new.held) }
     ensures same { (key : ℕ) → value_at (all_in places.new.items overflow.new.held) key ≡ value_at (all_in places.old.items overflow.old.held) key }
     ensures room { overflow.old.room ≤ overflow.new.room }
 {
     let Some(fresh) = moved(alloc, places) else {
-        return;
+        return are_packed;
     };
     *places = fresh;
-    lift_all(places, overflow);
+    lift_all(places, overflow)
 }
 
 // The entries of these places in twice as many. Half of a bucket goes where it was and half of it elsewhere, so
@@ -240,50 +366,73 @@ fn copy(place: &Place, fresh: &mut [Place]) -> bool
     true
 }
 
-// Moves entries of the overflow into free places of their buckets.
-fn lift_all(places: &mut Vec<Place>, overflow: &mut Rows)
+// Moves entries of the overflow into free places of their buckets. Whether each that is left has a full one.
+fn lift_all(places: &mut Vec<Place>, overflow: &mut Overflow) -> bool
     requires { AreSound places.old.items overflow.old.held }
     ensures sound { AreSound places.new.items overflow.new.held }
+    ensures packed { OnTrue result (ArePacked places.new.items overflow.new.held) }
     ensures same { (key : ℕ) → value_at (all_in places.new.items overflow.new.held) key ≡ value_at (all_in places.old.items overflow.old.held) key }
     ensures room { overflow.old.room ≤ overflow.new.room }
 {
-    lift_each(places, overflow);
+    lift_each(places, overflow)
 }
 
-// Goes through the overflow by its keys.
-fn lift_each(places: &mut [Place], overflow: &mut Rows)
+// Goes through the overflow in its order. An overflow has fewer entries than there are places; where it had more,
+// or a value too great for a place, this ends before it is through.
+fn lift_each(places: &mut [Place], overflow: &mut Overflow) -> bool
     requires { AreSound places.old overflow.old.held }
     ensures sound { AreSound places.new overflow.new.held }
+    ensures packed { OnTrue result (ArePacked places.new overflow.new.held) }
     ensures same { (key : ℕ) → value_at (all_in places.new overflow.new.held) key ≡ value_at (all_in places.old overflow.old.held) key }
     ensures room { overflow.old.room ≤ overflow.new.room }
 {
     let mut from = 0;
     for _ in 0..places.len() {
-        let Some(key) = next_key(overflow, from) else {
-            return;
+        let Some(key) = overflow.next_from(from) else {
+            return true;
         };
-        lift(places, overflow, key);
-        from = key.saturating_add(1);
+        if !lift(places, overflow, key) {
+            return false;
+        }
+        from = number(key) + 1;
     }
+    false
 }
 
-// The next key of the overflow, if a place can have it. Whatever it is, nothing rests on it but time.
-fn next_key(overflow: &Rows, from: u64) -> Option<u64> {
-    let entry = overflow.iter_from(u128::from(from)).next()?;
-    u64::try_from(entry.key).ok()
-}
-
-// Moves the entry of the key from the overflow into a free place of its bucket, if there is one.
-fn lift(places: &mut [Place], overflow: &mut Rows, key: u64)
+// Moves the entry of the key from the overflow into a free place of its bucket, unless that is full. Whether the
+// key has a full bucket now, or is no more in the overflow.
+fn lift(places: &mut [Place], overflow: &mut Overflow, key: u64) -> bool
     requires { AreSound places.old overflow.old.held }
     ensures sound { AreSound places.new overflow.new.held }
     ensures same { (other : ℕ) → value_at (all_in places.new overflow.new.held) other ≡ value_at (all_in places.old overflow.old.held) other }
+    ensures filled { IsFilled places.old places.new overflow.old.held overflow.new.held }
+    ensures settled { OnTrue result ((place : ℕ) → IsFreeFor places.new key place → value_at overflow.new.held key ≡ None) }
     ensures room { overflow.old.room ≤ overflow.new.room }
 {
-    let Some(value) = overflow.get(u128::from(key)) else {
-        return;
+    let Some(free) = vacant(places, key) else {
+        return true;
     };
-    if put_in_place(places, key, value) {
-        overflow.remove(u128::from(key));
-    }
+    lift_to(places, overflow, free, key)
+}
+
+// Moves the entry of the key from the overflow into this place. Whether there was one, and its value small enough.
+fn lift_to(places: &mut [Place], overflow: &mut Overflow, place: usize, key: u64) -> bool
+    requires sound { AreSound places.old overflow.old.held }
+    requires free { IsFreeFor places.old key place }
+    ensures sound { AreSound places.new overflow.new.held }
+    ensures same { (other : ℕ) → value_at (all_in places.new overflow.new.held) other ≡ value_at (all_in places.old overflow.old.held) other }
+    ensures filled { IsFilled places.old places.new overflow.old.held overflow.new.held }
+    ensures taken { OnTrue result (slice_index_or places.new place None ≢ None) }
+    ensures gone { OnTrue result (value_at overflow.new.held key ≡ None) }
+    ensures room { overflow.old.room ≤ overflow.new.room }
+{
+    let Some(value) = overflow.get(key) else {
+        return false;
+    };
+    let Some(lifted) = Place::of(key, value) else {
+        return false;
+    };
+    places[place] = lifted;
+    overflow.remove(key);
+    true
 }

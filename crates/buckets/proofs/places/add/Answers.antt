@@ -1,6 +1,6 @@
-use Rattle.std.proofs.Common.{Some, Result, Ok, Err, OnOk, OnErr, sym, ap, ◌∙◌, subst}
+use Rattle.std.proofs.Common.{Some, Result, Ok, Err, OnOk, OnErr, sym, ◌∙◌, subst}
 use Rattle.std.proofs.lemmas.Result.{on_ok_weaker}
-use Rattle.rows.specs.Held.{value_at, Puts}
+use Rattle.rows.specs.Held.{Puts}
 use Rattle.buckets.specs.Places.{HasNowhere, AreSound, all_in}
 use Rattle.buckets.proofs.Values.{more-sound, more-puts, all-nowhere, all-none, none-nowhere, overflow-puts, overflow-sound}
 use Rattle.buckets.proofs.places.add.Goals as goal
@@ -19,15 +19,11 @@ pub insert-requires : goal.insert-requires
 insert-requires c =
     let places = c.args.places.now in
     let over = c.args.overflow.now.held in
-    ap (value_at over) c.from.ensures ∙ sym (all-none places over c.args.key (all-nowhere places over c.args.key c.requires.absent)) ∙ c.requires.absent
+    sym (all-none places over c.args.key (all-nowhere places over c.args.key c.requires.absent)) ∙ c.requires.absent
 
 -- no place has the key
 nowhere : (c : goal.After-insert) → HasNowhere c.args.places.now c.args.key
 nowhere c = none-nowhere c.args.places.now c.args.key (all-nowhere c.args.places.now c.args.overflow.now.held c.args.key c.requires.absent)
-
--- what an insertion into the overflow puts, under the key
-put : (c : goal.After-insert) → Puts c.args.overflow.now.held c.insert.new.self.held c.from.result (Some c.args.value) → Puts c.args.overflow.now.held c.insert.new.self.held c.args.key (Some c.args.value)
-put c puts = subst (λ k. Puts c.args.overflow.now.held c.insert.new.self.held k (Some c.args.value)) c.from.ensures puts
 
 either_way : {A E P Q R : Type 0} (r : Result A E) → OnOk r P → OnErr r Q → (P → R) → (Q → R) → R
 either_way (Ok x) p q f g = f p
@@ -37,11 +33,11 @@ pub returns-clause-sound : goal.returns-clause-sound
 returns-clause-sound c =
     let places = c.args.places.now in
     subst (λ ps. AreSound ps c.insert.new.self.held) (sym c.if-put_in_place.ensures.kept) (either_way c.insert.result c.insert.ensures.ok c.insert.ensures.err
-    (λ puts. overflow-sound places c.args.overflow.now.held c.insert.new.self.held c.args.key (Some c.args.value) (nowhere c) (put c puts) c.requires.sound)
+    (λ puts. overflow-sound places c.args.overflow.now.held c.insert.new.self.held c.args.key (Some c.args.value) (nowhere c) puts c.requires.sound)
     (λ same. subst (AreSound places) (sym same) c.requires.sound))
 
 pub returns-clause-ok : goal.returns-clause-ok
 returns-clause-ok c =
     let places = c.args.places.now in
     on_ok_weaker c.insert.result (λ puts. subst (λ ps. Puts (all_in places c.args.overflow.now.held) (all_in ps c.insert.new.self.held) c.args.key (Some c.args.value)) (sym c.if-put_in_place.ensures.kept)
-    (overflow-puts places c.args.overflow.now.held c.insert.new.self.held c.args.key (Some c.args.value) (nowhere c) (put c puts))) c.insert.ensures.ok
+    (overflow-puts places c.args.overflow.now.held c.insert.new.self.held c.args.key (Some c.args.value) (nowhere c) puts)) c.insert.ensures.ok
