@@ -54,9 +54,9 @@ pub enum AddFault {
     NoMemory,
 }
 
-/// How many slots more to make room for where so many are held: as many again, as long as a full table and the
-/// two sessions that are reserved then need them all.
-pub(crate) fn more_slots(count: usize) -> usize
+// How many slots more to make room for where so many sessions are held: as many again, as long as a full table
+// and the two sessions that are reserved then need them all.
+fn more_slots(count: usize) -> usize
     ensures two { 2 ≤ result }
     ensures few { 2 < result → (result ≤ count) × (count + result ≤ most_sessions + 2) }
 {

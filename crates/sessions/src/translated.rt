@@ -6,7 +6,6 @@
 //! map leads to the mapping, which says the slot of its first: so another one becomes the first where that ends,
 //! without a change of the maps, which might take memory.
 ghost use Rattle.std.specs.Prelude.{◌≡◌, ◌↔◌, ◌+◌, ◌<◌, ◌≤◌, ℕ, IsTrue, true, IsOk, IsSome, None, Some, IfSome, IfNone, OnOk, slice_index_or};
-ghost use Rattle.slab.specs.Slab.{HasRoomFor};
 ghost use Rattle.rows.specs.Held.{AreRising, at, entries_from, Puts};
 ghost use Rattle.buckets.specs.Held.{KeepsAll};
 ghost use Rattle.sessions.specs.Index.{IsAt, first_value, inside_number};
@@ -16,7 +15,6 @@ ghost use Rattle.sessions.specs.Translated.{Finishes, HasNoHeir, IsHeir, IsNowhe
 
 use crate::Session;
 use crate::keys::{has_endpoints, key, mapping_key};
-use crate::table::more_slots;
 use buckets::Buckets;
 use packet::endpoint::{Endpoint, Proto};
 use rows::Rows;
@@ -77,7 +75,7 @@ impl Translated {
         ensures others { self.new.others.held ≡ self.old.others.held }
         ensures room { room_in self.old ≤ room_in self.new }
     {
-        reserve_firsts(&mut self.firsts)?;
+        self.firsts.reserve(2)?;
         self.insides.reserve()?;
         self.outsides.reserve()?;
         self.others.reserve()
@@ -280,20 +278,6 @@ impl Translated {
         self.outsides
             .remove(mapping_key(session.proto, session.outside));
     }
-}
-
-// Makes room for two more mappings, of which there are no more than sessions.
-fn reserve_firsts(firsts: &mut Slab<usize>) -> Result<(), AllocError>
-    ensures ok { OnOk result (HasRoomFor firsts.new 2) }
-    ensures succeeds { HasRoomFor firsts.old 2 → IsOk result }
-    ensures same { firsts.new ≡ record firsts.old { capacity = firsts.new.capacity } }
-    ensures capacity { firsts.old.capacity ≤ firsts.new.capacity }
-{
-    let count = firsts.len();
-    if firsts.capacity() - count >= 2 {
-        return Ok(());
-    }
-    firsts.reserve_exact(more_slots(count))
 }
 
 // Lets a key lead to a mapping, which led nowhere.
