@@ -79,7 +79,8 @@ impl Place {
     pub fn has(&self, key: u64) -> bool
         ensures { IsTrue result ↔ IsSomeAnd self.now (λ entry. entry.key ≡ key) }
     {
-        self.value != NOTHING && self.high as u64 * HALF + self.low as u64 == key
+        let is_key = self.low == (key % HALF) as u32 && self.high == (key / HALF) as u32;
+        is_key && self.value != NOTHING
     }
 
     /// The key of its entry.
