@@ -1,5 +1,5 @@
 -- What a look-up by a key gives, and what a change of one place makes of it.
-use Rattle.std.proofs.Common.{Bool, true, false, min, ◌/◌, ◌≡◌, ◌≢◌, ℕ, zero, suc, ◌+◌, ◌<◌, ◌≤◌, ◌⊎◌, cond, List, [], ◌∷◌, ◌++◌, length, set, get_or, Option, Some, None, refl, sym, ap, ◌∙◌, subst, inl, inr, arith}
+use Rattle.std.proofs.Common.{Bool, true, false, min, ◌/◌, ◌-◌, ◌≡◌, ◌≢◌, ℕ, zero, suc, ◌+◌, ◌<◌, ◌≤◌, ◌⊎◌, cond, List, [], ◌∷◌, ◌++◌, length, set, get_or, Option, Some, None, refl, sym, ap, ◌∙◌, subst, inl, inr, arith}
 use Rattle.std.proofs.lemmas.List.{length-set, get_or-set_same, get_or-set_other}
 use Rattle.std.proofs.lemmas.Bool.{cases_eq, cases_lt, eq-eqb, ne_eqb}
 use Rattle.std.proofs.lemmas.Option.{none-some, same_Some}
@@ -9,7 +9,7 @@ use Rattle.std.specs.Bool.{OnTrue}
 use Rattle.std.proofs.Math.Nat.{mul-le-mul_right}
 use Rattle.rows.specs.declared.Entry.{Entry}
 use Rattle.rows.specs.Held.{value_at, Puts}
-use Rattle.buckets.specs.Places.{entries_in, all_in, Stands, HasKey, HasNowhere, AreHome, AreApart, AreSound, IsHome, IsFreeFor, IsFull, IsFilled, ArePacked, ArePackedBut, ArePackedBelow, IsNext, IsPast, bucket_of, spread, number, IsSetTo, IsCopied, IsMoved, HaveSame}
+use Rattle.buckets.specs.Places.{entries_in, all_in, Stands, HasKey, HasNowhere, AreHome, AreApart, AreSound, IsHome, AreInFront, IsFreeFor, IsNextFor, EndsSearch, IsLast, IsClosed, IsFull, IsFilled, ArePacked, ArePackedBut, ArePackedBelow, IsNext, IsPast, bucket_of, spread, number, IsSetTo, IsCopied, IsMoved, HaveSame}
 
 -- ---- one list of entries behind another
 
@@ -127,7 +127,7 @@ module _ (ps : List (Option Entry)) (over : List Entry) where
 
 -- ---- an entry more in a place
 
-module _ (old new : List (Option Entry)) (place : ℕ) (e : Entry) (over : List Entry) (to : IsSetTo old new place (Some e)) (sound : AreSound old over) (free : IsFreeFor old e.key place) (absent : value_at (all_in old over) e.key ≡ None) where
+module _ (old new : List (Option Entry)) (place : ℕ) (e : Entry) (over : List Entry) (to : IsSetTo old new place (Some e)) (sound : AreSound old over) (free : IsNextFor old e.key place) (absent : value_at (all_in old over) e.key ≡ None) where
   more-stands : (i : ℕ) (f : Entry) → Stands new i f → (Stands old i f) ⊎ ((i ≡ place) × (e ≡ f))
   more-stands i f is = elim (cases_eq i place) [
     | inl here ↦ inr (here, same_Some e f (sym to.there ∙ ap (λ k. get_or new k None) (sym here) ∙ is))
@@ -135,7 +135,7 @@ module _ (old new : List (Option Entry)) (place : ℕ) (e : Entry) (over : List 
   ]
 
   more-keeps : (i : ℕ) (f : Entry) → Stands old i f → Stands new i f
-  more-keeps i f is = to.others i (λ here. none-some f (sym free.free ∙ ap (λ k. get_or old k None) (sym here) ∙ is)) ∙ is
+  more-keeps i f is = to.others i (λ here. none-some f (sym free.vacant.free ∙ ap (λ k. get_or old k None) (sym here) ∙ is)) ∙ is
 
   nowhere : HasNowhere old e.key
   nowhere = none-nowhere old e.key (all-nowhere old over e.key absent)
@@ -143,8 +143,17 @@ module _ (old new : List (Option Entry)) (place : ℕ) (e : Entry) (over : List 
   more-home : AreHome new
   more-home i f is = subst (λ n. IsHome n f.key i) (sym to.same_length) (elim (more-stands i f is) [
     | inl was ↦ sound.home i f was
-    | inr here ↦ subst (λ k. IsHome (length old) f.key k) (sym here.0) (subst (λ (x : Entry). IsHome (length old) x.key place) here.1 free.home)
+    | inr here ↦ subst (λ k. IsHome (length old) f.key k) (sym here.0) (subst (λ (x : Entry). IsHome (length old) x.key place) here.1 free.vacant.home)
   ])
+
+  more-front : AreInFront new
+  more-front i j lt same none =
+      let away : i ≢ place = λ here. none-some e (sym none ∙ ap (λ k. get_or new k None) here ∙ to.there) in
+      let was : get_or old i None ≡ None = sym (to.others i away) ∙ none in
+      elim (cases_eq j place) [
+        | inl here ↦ absurd (free.taken i (omega (arith, lt, here)) (same ∙ ap (λ k. k / 8) here) was)
+        | inr other ↦ to.others j other ∙ sound.front i j lt same was
+      ]
 
   more-apart : AreApart new
   more-apart i j f g is_f is_g same = elim (more-stands i f is_f) [
@@ -165,7 +174,7 @@ module _ (old new : List (Option Entry)) (place : ℕ) (e : Entry) (over : List 
   ]
 
   pub more-sound : AreSound new over
-  more-sound = record { home = more-home; apart = more-apart; once = more-once }
+  more-sound = record { home = more-home; front = more-front; apart = more-apart; once = more-once }
 
   pub more-puts : Puts (all_in old over) (all_in new over) e.key (Some e.value)
   more-puts other = elim (cases_eq other e.key) [
@@ -176,35 +185,200 @@ module _ (old new : List (Option Entry)) (place : ℕ) (e : Entry) (over : List 
     ])) ∙ sym (all-both old over other))
   ]
 
--- ---- an entry less
+-- ---- an entry less, and the last one of its bucket in its place
 
-module _ (old new : List (Option Entry)) (place : ℕ) (e : Entry) (over : List Entry) (to : IsSetTo old new place None) (sound : AreSound old over) (there : Stands old place e) where
-  less-away : (i : ℕ) (f : Entry) → Stands new i f → i ≢ place
-  less-away i f is = λ here. none-some f (sym to.there ∙ ap (λ k. get_or new k None) (sym here) ∙ is)
+-- the places of a bucket
+pub home-beside : (count key a b : ℕ) → a / 8 ≡ b / 8 → IsHome count key a → IsHome count key b
+unfolding bucket_of
+home-beside count key a b same home = let from = home.from in let to = home.to in record { from = omega (arith, same, from, to); to = omega (arith, same, from, to) }
 
-  less-stands : (i : ℕ) (f : Entry) → Stands new i f → Stands old i f
-  less-stands i f is = sym (to.others i (less-away i f is)) ∙ is
+pub home-same : (count key a b : ℕ) → IsHome count key a → IsHome count key b → a / 8 ≡ b / 8
+unfolding bucket_of
+home-same count key a b one other = let from_a = one.from in let to_a = one.to in let from_b = other.from in let to_b = other.to in omega (arith, from_a, to_a, from_b, to_b)
 
-  less-apart : AreApart new
-  less-apart i j f g is_f is_g same = sound.apart i j f g (less-stands i f is_f) (less-stands j g is_g) same
+module _ (old new : List (Option Entry)) (place last : ℕ) (e : Entry) (over : List Entry) (to : IsClosed old new place last) (sound : AreSound old over) (there : Stands old place e) (end : IsLast old e.key last) where
+  beside : place / 8 ≡ last / 8
+  beside = home-same (length old) e.key place last (sound.home place e there) end.home
 
-  pub less-sound : AreSound new over
-  less-sound = record {
-    home = λ i f is. subst (λ n. IsHome n f.key i) (sym to.same_length) (sound.home i f (less-stands i f is));
-    apart = less-apart;
-    once = λ i f is. sound.once i f (less-stands i f is);
+  in-order : place ≤ last
+  in-order = elim (cases_lt last place) [
+    | inl lt ↦ absurd (none-some e (sym (end.behind place lt beside) ∙ there))
+    | inr le ↦ le
+  ]
+
+  -- where an entry stood
+  origin : (i : ℕ) (f : Entry) → Stands new i f → (i ≢ last) × (((i ≡ place) × Stands old last f) ⊎ ((i ≢ place) × Stands old i f))
+  origin i f is =
+      let differs : i ≢ last = λ here. none-some f (sym to.gone ∙ ap (λ k. get_or new k None) (sym here) ∙ is) in
+      elim (cases_eq i place) [
+        | inl here ↦ (differs, inl (here, sym (to.moved (λ same. differs (here ∙ same))) ∙ ap (λ k. get_or new k None) (sym here) ∙ is))
+        | inr away ↦ (differs, inr (away, sym (to.others i away differs) ∙ is))
+      ]
+
+  -- where it stands now
+  stays : (j : ℕ) (f : Entry) → Stands old j f → j ≢ place → (i : ℕ) × Stands new i f
+  stays j f is away = elim (cases_eq j last) [
+    | inl here ↦ (place, to.moved (λ same. away (here ∙ sym same)) ∙ ap (λ k. get_or old k None) (sym here) ∙ is)
+    | inr differs ↦ (j, to.others j away differs ∙ is)
+  ]
+
+  closed-home : AreHome new
+  closed-home i f is = subst (λ n. IsHome n f.key i) (sym to.same_length) (elim (origin i f is).1 [
+    | inl moved ↦ subst (IsHome (length old) f.key) (sym moved.0) (home-beside (length old) f.key last place (sym beside) (sound.home last f moved.1))
+    | inr kept ↦ sound.home i f kept.1
+  ])
+
+  closed-apart : AreApart new
+  closed-apart i j f g is_f is_g same =
+      let a = origin i f is_f in
+      let b = origin j g is_g in
+      elim a.1 [
+        | inl m ↦ elim b.1 [
+          | inl n ↦ m.0 ∙ sym n.0
+          | inr n ↦ absurd (b.0 (sym (sound.apart last j f g m.1 n.1 same)))
+        ]
+        | inr m ↦ elim b.1 [
+          | inl n ↦ absurd (a.0 (sound.apart i last f g m.1 n.1 same))
+          | inr n ↦ sound.apart i j f g m.1 n.1 same
+        ]
+      ]
+
+  -- a place that is free now was it, unless it is the last
+  was-free : (i : ℕ) → i ≢ last → get_or new i None ≡ None → (i ≢ place) × (get_or old i None ≡ None)
+  was-free i differs none = elim (cases_eq i place) [
+    | inl here ↦ absurd (end.filled (sym (to.moved (λ same. differs (here ∙ same))) ∙ ap (λ k. get_or new k None) (sym here) ∙ none))
+    | inr away ↦ (away, sym (to.others i away differs) ∙ none)
+  ]
+
+  closed-front : AreInFront new
+  closed-front i j lt same none = elim (cases_eq j last) [
+    | inl here ↦ ap (λ k. get_or new k None) here ∙ to.gone
+    | inr differs ↦ elim (cases_eq i last) [
+      | inl at ↦
+          let later : last < j = omega (arith, lt, at) in
+          let away : j ≢ place = λ here. omega (arith, later, here, in-order) in
+          to.others j away differs ∙ end.behind j later (sym same ∙ ap (λ k. k / 8) at)
+      | inr off ↦
+          let was = was-free i off none in
+          let next = sound.front i j lt same was.1 in
+          let away : j ≢ place = λ here. none-some e (sym next ∙ ap (λ k. get_or old k None) here ∙ there) in
+          to.others j away differs ∙ next
+    ]
+  ]
+
+  closed-once : (i : ℕ) (f : Entry) → Stands new i f → value_at over f.key ≡ None
+  closed-once i f is = elim (origin i f is).1 [
+    | inl moved ↦ sound.once last f moved.1
+    | inr kept ↦ sound.once i f kept.1
+  ]
+
+  pub closed-sound : AreSound new over
+  closed-sound = record { home = closed-home; front = closed-front; apart = closed-apart; once = closed-once }
+
+  closed-nowhere : HasNowhere new e.key
+  closed-nowhere i f is = λ same. let was = origin i f is in elim was.1 [
+    | inl moved ↦ was.0 (moved.0 ∙ sym (sound.apart last place f e moved.1 there same))
+    | inr kept ↦ kept.0 (sound.apart i place f e kept.1 there same)
+  ]
+
+  pub closed-puts : Puts (all_in old over) (all_in new over) e.key None
+  closed-puts other = elim (cases_eq other e.key) [
+    | inl same ↦ rw (eq-eqb other e.key same) (ap (value_at (all_in new over)) same ∙ nowhere-all new over e.key closed-nowhere ∙ sound.once place e there)
+    | inr away ↦ rw (ne_eqb other e.key away) (all-both new over other ∙ ap (λ o. either o (value_at over other)) (same-entries old new other closed-apart
+        (λ i f key is. stays i f is (λ here. away (sym key ∙ ap (λ (x : Entry). x.key) (same_Some f e (sym is ∙ ap (λ k. get_or old k None) here ∙ there)))))
+        (λ i f key is. elim (origin i f is).1 [
+          | inl moved ↦ (last, moved.1)
+          | inr kept ↦ (i, kept.1)
+        ])) ∙ sym (all-both old over other))
+  ]
+
+  -- the last place is the first free one now
+  pub closed-next : IsNextFor new e.key last
+  closed-next = record {
+    vacant = record {
+      in_range = subst (λ n. last < n) (sym to.same_length) end.in_range;
+      free = to.gone;
+      home = subst (λ n. IsHome n e.key last) (sym to.same_length) end.home;
+    };
+    taken = λ k lt same none. end.filled (sound.front k last lt same (was-free k (λ here. omega (arith, lt, here)) none).1);
   }
 
-  gone : HasNowhere new e.key
-  gone i f is = λ same. less-away i f is (sound.apart i place f e (less-stands i f is) there same)
+  closed-free : (key k : ℕ) → k ≢ last → IsFreeFor new key k → IsFreeFor old key k
+  closed-free key k away free = record {
+    in_range = subst (λ n. k < n) to.same_length free.in_range;
+    free = (was-free k away free.free).1;
+    home = subst (λ n. IsHome n key k) to.same_length free.home;
+  }
 
-  pub less-puts : Puts (all_in old over) (all_in new over) e.key None
-  less-puts other = elim (cases_eq other e.key) [
-    | inl same ↦ rw (eq-eqb other e.key same) (ap (value_at (all_in new over)) same ∙ nowhere-all new over e.key gone ∙ sound.once place e there)
-    | inr away ↦ rw (ne_eqb other e.key away) (all-both new over other ∙ ap (λ o. either o (value_at over other)) (same-vals old new other less-apart
-        (λ i f key is. to.others i (λ here. away (sym key ∙ ap (λ (x : Entry). x.key) (same_Some f e (sym is ∙ ap (λ k. get_or old k None) here ∙ there)))) ∙ is)
-        (λ i f key is. less-stands i f is)) ∙ sym (all-both old over other))
+  -- of a bucket that was full
+  pub closed-hole : ArePacked old over → ArePackedBut new over last
+  closed-hole packed key k away free = packed key k (closed-free key k away free)
+
+  -- of a bucket that had a free place
+  pub closed-packed : (spare : ℕ) → IsFreeFor old e.key spare → ArePacked old over → ArePacked new over
+  closed-packed spare vacant packed key k free = elim (cases_eq k last) [
+    | inr away ↦ packed key k (closed-free key k away free)
+    | inl here ↦
+        let home : IsHome (length old) key last = subst (λ n. IsHome n key last) to.same_length (subst (IsHome (length new) key) here free.home) in
+        packed key spare (record { in_range = vacant.in_range; free = vacant.free; home = home-beside (length old) key last spare (home-same (length old) e.key last spare end.home vacant.home) home })
   ]
+
+-- ---- the last entry of a bucket
+
+module _ (ps : List (Option Entry)) (over : List Entry) (key place : ℕ) (sound : AreSound ps over) (has : HasKey ps key place) where
+  key-home : IsHome (length ps) key place
+  key-home = let there = has-stands ps key place has in subst (λ k. IsHome (length ps) k place) there.2 (sound.home place there.0 there.1)
+
+  key-taken : get_or ps place None ≢ None
+  key-taken none = let there = has-stands ps key place has in none-some there.0 (sym none ∙ there.1)
+
+  module _ (free : ℕ) (next : IsNextFor ps key free) where
+    pub before-free : place < free
+    before-free = elim (cases_lt place free) [
+      | inl lt ↦ lt
+      | inr le ↦ elim (cases_eq free place) [
+        | inl same ↦ absurd (key-taken (ap (λ k. get_or ps k None) (sym same) ∙ next.vacant.free))
+        | inr differ ↦ absurd (key-taken (sound.front free place (omega (arith, le, differ)) (home-same (length ps) key free place next.vacant.home key-home) next.vacant.free))
+      ]
+    ]
+
+    pub last-before : IsLast ps key (free - 1)
+    last-before =
+        let lt = before-free in
+        let inside = next.vacant.in_range in
+        let from = key-home.from in
+        let to = next.vacant.home.to in
+        let home : IsHome (length ps) key (free - 1) = record { from = omega (arith, lt, from); to = omega (arith, to) } in
+        let beside = home-same (length ps) key (free - 1) free home next.vacant.home in
+        record {
+          in_range = omega (arith, inside);
+          home = home;
+          filled = next.taken (free - 1) (omega (arith, lt)) beside;
+          behind = λ k more same. elim (cases_eq k free) [
+            | inl here ↦ ap (λ i. get_or ps i None) here ∙ next.vacant.free
+            | inr differ ↦ sound.front free k (omega (arith, more, differ, lt)) (sym beside ∙ sym same) next.vacant.free
+          ];
+        }
+
+  module _ (full : IsFull ps key) (end : ℕ) (bound : end ≤ length ps) (short : end ≤ bucket_of (length ps) key + 8) (whole : (k : ℕ) → k < bucket_of (length ps) key + 8 → k < length ps → k < end) where
+    pub before-end : place < end
+    before-end = let there = has-stands ps key place has in whole place key-home.to (stands-inside ps place there.0 there.1)
+
+    pub last-full : IsLast ps key (end - 1)
+    last-full =
+        let lt = before-end in
+        let from = key-home.from in
+        let home : IsHome (length ps) key (end - 1) = record { from = omega (arith, lt, from); to = omega (arith, lt, short) } in
+        let inside : end - 1 < length ps = omega (arith, lt, bound) in
+        record {
+          in_range = inside;
+          home = home;
+          filled = full (end - 1) inside home;
+          behind = λ k more same. by-cases k more (home-beside (length ps) key (end - 1) k (sym same) home) (get_or ps k None) refl;
+        } where
+          by-cases : (k : ℕ) → end - 1 < k → IsHome (length ps) key k → (o : Option Entry) → get_or ps k None ≡ o → o ≡ None
+          by-cases k more home None is = refl
+          by-cases k more home (Some f) is = let under = whole k home.to (stands-inside ps k f is) in absurd (omega (arith, more, under))
 
 -- ---- a change of the overflow
 
@@ -218,6 +392,7 @@ module _ (ps : List (Option Entry)) (old new : List Entry) (key : ℕ) (value : 
   pub overflow-sound : AreSound ps old → AreSound ps new
   overflow-sound sound = record {
     home = sound.home;
+    front = sound.front;
     apart = sound.apart;
     once = λ i e is. puts e.key ∙ ap (λ b. cond b value (value_at old e.key)) (ne_eqb e.key key (nowhere i e is)) ∙ sound.once i e is;
   }
@@ -228,6 +403,7 @@ pub moved-none : (old new : List (Option Entry)) → ((k : ℕ) → get_or new k
 moved-none old new free = record {
   sound = record {
     home = λ i e is. absurd (none-some e (sym (free i) ∙ is));
+    front = λ i j lt same none. free j;
     apart = λ i j e f is_e is_f same. absurd (none-some e (sym (free i) ∙ is_e));
     once = λ i e is. refl;
   };
@@ -266,6 +442,7 @@ module _ (old new : List (Option Entry)) (over : List Entry) (same : HaveSame ol
   pub same-sound : AreSound new over
   same-sound = record {
     home = same.sound.home;
+    front = same.sound.front;
     apart = same.sound.apart;
     once = λ i e is. let was = same.from i e is in sound.once was.0 e was.2;
   }
@@ -277,7 +454,7 @@ module _ (old new : List (Option Entry)) (over : List Entry) (same : HaveSame ol
 
 -- ---- an entry of the overflow goes into a place
 
-module _ (old new : List (Option Entry)) (place key value : ℕ) (before after : List Entry) (free : IsFreeFor old key place) (to : IsSetTo old new place (Some (record { key = key; value = value }))) (there : value_at before key ≡ Some value) (puts : Puts before after key None) (sound : AreSound old before) where
+module _ (old new : List (Option Entry)) (place key value : ℕ) (before after : List Entry) (free : IsNextFor old key place) (to : IsSetTo old new place (Some (record { key = key; value = value }))) (there : value_at before key ≡ Some value) (puts : Puts before after key None) (sound : AreSound old before) where
   lift-nowhere : HasNowhere old key
   lift-nowhere i e is same = none-some value (sym (sound.once i e is) ∙ ap (value_at before) same ∙ there)
 
@@ -314,9 +491,6 @@ unfolding bucket_of
 same-bucket count a b place one other =
     let from_a = one.from in let to_a = one.to in let from_b = other.from in let to_b = other.to in omega (arith, from_a, to_a, from_b, to_b)
 
-pub home-as : (count a b place : ℕ) → bucket_of count a ≡ bucket_of count b → IsHome count a place → IsHome count b place
-home-as count a b place same home = record { from = subst (λ n. n ≤ place) same home.from; to = subst (λ n. place < n + 8) same home.to }
-
 -- an entry more leaves no other place free
 pub set-free : (old new : List (Option Entry)) (place : ℕ) (value : Option Entry) → IsSetTo old new place value → (key k : ℕ) → k ≢ place → IsFreeFor new key k → IsFreeFor old key k
 set-free old new place value to key k away free = record {
@@ -346,18 +520,6 @@ fewer-packed ps old new key puts packed other k free = elim (cases_eq other key)
   | inl same ↦ puts other ∙ ap (λ b. cond b None (value_at old other)) (eq-eqb other key same)
   | inr away ↦ puts other ∙ ap (λ b. cond b None (value_at old other)) (ne_eqb other key away) ∙ packed other k free
 ]
-
--- a place of a bucket that had another free one
-pub spare-packed : (old new : List (Option Entry)) (over : List Entry) (place key other : ℕ) → IsSetTo old new place None → IsHome (length old) key place → IsFreeFor old key other → ArePacked old over → ArePacked new over
-spare-packed old new over place key other to home spare packed k i free = elim (cases_eq i place) [
-  | inr away ↦ packed k i (set-free old new place None to k i away free)
-  | inl here ↦
-      let there : IsHome (length old) k place = subst (λ n. IsHome n k place) to.same_length (subst (λ j. IsHome (length new) k j) here free.home) in
-      packed k other (record { in_range = spare.in_range; free = spare.free; home = home-as (length old) key k other (same-bucket (length old) key k place home there) spare.home })
-]
-
-pub hole-packed : (old new : List (Option Entry)) (over : List Entry) (place : ℕ) → IsSetTo old new place None → ArePacked old over → ArePackedBut new over place
-hole-packed old new over place to packed k i away free = packed k i (set-free old new place None to k i away free)
 
 pub refilled-packed : (old new : List (Option Entry)) (before after : List Entry) (hole : ℕ) → IsFilled old new before after → get_or new hole None ≢ None → ArePackedBut old before hole → ArePacked new after
 refilled-packed old new before after hole filled taken packed k i free = filled.fewer k (packed k i (taken-away new hole k i taken free) (filled.free k i free))
@@ -413,14 +575,88 @@ pub on-true : {P Q : Type 0} (b : Bool) → (P → Q) → OnTrue b P → OnTrue 
 on-true true f p = f p
 on-true false f p = tt
 
-pub key-home : (ps : List (Option Entry)) (key place : ℕ) → AreHome ps → HasKey ps key place → IsHome (length ps) key place
-key-home ps key place homes has =
-    let there = has-stands ps key place has in
-    subst (λ k. IsHome (length ps) k place) there.2 (homes place there.0 there.1)
-
 pub set-to : (ps : List (Option Entry)) (place : ℕ) (value : Option Entry) (e : Entry) → place < length ps → value ≡ Some e → IsSetTo ps (set ps place value) place (Some e)
 set-to ps place value e inside is = record {
   same_length = length-set ps place value;
   there = get_or-set_same ps place value None inside ∙ is;
   others = λ k away. get_or-set_other ps place k value None away;
 }
+
+-- what a search among the places of a bucket says of all
+pub search-nowhere : (ps : List (Option Entry)) (key start stop end : ℕ) → AreHome ps → AreInFront ps → start ≡ bucket_of (length ps) key → start ≤ stop → stop < end → end ≤ start + 8 → end ≤ length ps → get_or ps stop None ≡ None
+    → ((k : ℕ) (e : Entry) → start ≤ k → k < stop → Stands ps k e → e.key ≢ key) → IsFreeFor ps key stop × HasNowhere ps key
+search-nowhere ps key start stop end homes front begin from to short bound free before =
+    let home : IsHome (length ps) key stop = record { from = omega (arith, begin, from); to = omega (arith, begin, to, short) } in (
+      record { in_range = omega (arith, to, bound); free = free; home = home },
+      λ k e is same.
+          let own : IsHome (length ps) key k = subst (λ n. IsHome (length ps) n k) same (homes k e is) in
+          let own_from = own.from in
+          elim (cases_lt k stop) [
+            | inl lt ↦ before k e (omega (arith, begin, own_from)) lt is same
+            | inr le ↦ elim (cases_eq stop k) [
+              | inl here ↦ none-some e (sym free ∙ ap (λ i. get_or ps i None) here ∙ is)
+              | inr differ ↦ none-some e (sym (front stop k (omega (arith, le, differ)) (home-same (length ps) key stop k home own) free) ∙ is)
+            ]
+          ],
+    )
+
+pub next-for : (ps : List (Option Entry)) (key start free end : ℕ) → start ≡ bucket_of (length ps) key → start ≤ free → free < end → end ≤ start + 8 → end ≤ length ps → get_or ps free None ≡ None
+    → ((k : ℕ) → start ≤ k → k < free → get_or ps k None ≢ None) → IsNextFor ps key free
+next-for ps key start free end begin from to short bound none before =
+    let home : IsHome (length ps) key free = record { from = omega (arith, begin, from); to = omega (arith, begin, to, short) } in
+    record {
+      vacant = record { in_range = omega (arith, to, bound); free = none; home = home };
+      taken = λ k lt same. let own = home-beside (length ps) key free k (sym same) home in let own_from = own.from in before k (omega (arith, begin, own_from)) lt;
+    }
+
+pub closed-is : (ps : List (Option Entry)) (place last : ℕ) (value : Option Entry) → place < length ps → last < length ps → value ≡ get_or ps last None → IsClosed ps (set (set ps place value) last None) place last
+closed-is ps place last value inside in_range is = record {
+  same_length = length-set (set ps place value) last None ∙ length-set ps place value;
+  gone = get_or-set_same (set ps place value) last None None (subst (λ n. last < n) (sym (length-set ps place value)) in_range);
+  moved = λ differ. get_or-set_other (set ps place value) last place None None differ ∙ get_or-set_same ps place value None inside ∙ is;
+  others = λ k away differs. get_or-set_other (set ps place value) last k None None differs ∙ get_or-set_other ps place k value None away;
+}
+
+pub ends-inside : (ps : List (Option Entry)) (key place : ℕ) → EndsSearch ps key place → place < length ps
+ends-inside ps key place ends = elim ends [
+  | inl has ↦ let there = has-stands ps key place has in stands-inside ps place there.0 there.1
+  | inr free ↦ free.0.in_range
+]
+
+pub found-value : (ps : List (Option Entry)) (over : List Entry) (key place : ℕ) → AreSound ps over → EndsSearch ps key place → (v : ℕ) → option_map (λ (e : Entry). e.value) (get_or ps place None) ≡ Some v → Some v ≡ value_at (all_in ps over) key
+found-value ps over key place sound ends v is = elim ends [
+  | inl has ↦ sym is ∙ found-all ps over sound key place has
+  | inr free ↦ absurd (none-some v (sym (ap (option_map (λ (e : Entry). e.value)) free.0.free) ∙ is))
+]
+
+pub missed : (ps : List (Option Entry)) (key place : ℕ) → EndsSearch ps key place → option_map (λ (e : Entry). e.value) (get_or ps place None) ≡ None → IsFreeFor ps key place × HasNowhere ps key
+missed ps key place ends is = elim ends [
+  | inl has ↦ let there = has-stands ps key place has in absurd (none-some there.0.value (sym is ∙ ap (option_map (λ (e : Entry). e.value)) there.1))
+  | inr free ↦ free
+]
+
+-- what is taken out by its key
+module _ (old new : List (Option Entry)) (over : List Entry) (key place last : ℕ) (to : IsClosed old new place last) (sound : AreSound old over) (has : HasKey old key place) (end : IsLast old key last) where
+  abbrev entry : Entry
+  entry = (has-stands old key place has).0
+
+  there : Stands old place entry
+  there = (has-stands old key place has).1
+
+  own : entry.key ≡ key
+  own = (has-stands old key place has).2
+
+  its-end : IsLast old entry.key last
+  its-end = subst (λ k. IsLast old k last) (sym own) end
+
+  pub taken-sound : AreSound new over
+  taken-sound = closed-sound old new place last entry over to sound there its-end
+
+  pub taken-puts : Puts (all_in old over) (all_in new over) key None
+  taken-puts = subst (λ k. Puts (all_in old over) (all_in new over) k None) own (closed-puts old new place last entry over to sound there its-end)
+
+  pub taken-next : IsNextFor new key last
+  taken-next = subst (λ k. IsNextFor new k last) own (closed-next old new place last entry over to sound there its-end)
+
+  pub taken-packed : (spare : ℕ) → IsFreeFor old key spare → ArePacked old over → ArePacked new over
+  taken-packed spare vacant packed = closed-packed old new place last entry over to sound there its-end spare (subst (λ k. IsFreeFor old k spare) (sym own) vacant) packed

@@ -1,5 +1,5 @@
 -- How the entries lie in places. No public clause cites this module.
-use Rattle.std.specs.Prelude.{◌≡◌, ◌≢◌, ℕ, ◌+◌, ◌*◌, ◌/◌, ◌%◌, ◌<◌, ◌≤◌, min, List, [], ◌∷◌, ◌++◌, Bool, length, Option, Some, None, IsSomeAnd, slice_index_or}
+use Rattle.std.specs.Prelude.{◌≡◌, ◌≢◌, ◌⊎◌, ℕ, ◌+◌, ◌*◌, ◌/◌, ◌%◌, ◌<◌, ◌≤◌, min, List, [], ◌∷◌, ◌++◌, Bool, length, Option, Some, None, IsSomeAnd, slice_index_or}
 use Rattle.std.specs.Bool.{OnTrue}
 use Rattle.rows.specs.declared.Entry.{Entry}
 use Rattle.rows.specs.Held.{value_at}
@@ -60,9 +60,15 @@ AreHome places = (place : ℕ) (entry : Entry) → Stands places place entry →
 abbrev pub AreApart : List (Option Entry) → Type 0
 AreApart places = (i j : ℕ) (e f : Entry) → Stands places i e → Stands places j f → e.key ≡ f.key → i ≡ j
 
--- each entry stands in the bucket of its key, and each key once, whether in a place or in the overflow
+-- in each bucket, no entry stands behind a free place
+abbrev pub AreInFront : List (Option Entry) → Type 0
+AreInFront places = (i j : ℕ) → i < j → i / 8 ≡ j / 8 → slice_index_or places i None ≡ None → slice_index_or places j None ≡ None
+
+-- each entry stands in the bucket of its key, in front of the free places there, and each key once, whether in a
+-- place or in the overflow
 pub record AreSound (places : List (Option Entry)) (overflow : List Entry) : Type 0 where
   pub home : AreHome places
+  pub front : AreInFront places
   pub apart : AreApart places
   pub once : (place : ℕ) (entry : Entry) → Stands places place entry → value_at overflow entry.key ≡ None
 
@@ -71,6 +77,22 @@ pub record IsFreeFor (places : List (Option Entry)) (key place : ℕ) : Type 0 w
   pub in_range : place < length places
   pub free : slice_index_or places place None ≡ None
   pub home : IsHome (length places) key place
+
+-- the place is free for the key, and each place before it in the bucket has an entry
+pub record IsNextFor (places : List (Option Entry)) (key place : ℕ) : Type 0 where
+  pub vacant : IsFreeFor places key place
+  pub taken : (k : ℕ) → k < place → k / 8 ≡ place / 8 → slice_index_or places k None ≢ None
+
+-- the place has the key, or is free where no place has it
+abbrev pub EndsSearch : List (Option Entry) → ℕ → ℕ → Type 0
+EndsSearch places key place = HasKey places key place ⊎ (IsFreeFor places key place × HasNowhere places key)
+
+-- the place has the last entry in the bucket of the key
+pub record IsLast (places : List (Option Entry)) (key place : ℕ) : Type 0 where
+  pub in_range : place < length places
+  pub home : IsHome (length places) key place
+  pub filled : slice_index_or places place None ≢ None
+  pub behind : (k : ℕ) → place < k → k / 8 ≡ place / 8 → slice_index_or places k None ≡ None
 
 -- no place is free for the key
 abbrev pub IsFull : List (Option Entry) → ℕ → Type 0
@@ -114,10 +136,17 @@ pub record IsSetTo (old new : List (Option Entry)) (place : ℕ) (value : Option
   pub there : slice_index_or new place None ≡ value
   pub others : (k : ℕ) → k ≢ place → slice_index_or new k None ≡ slice_index_or old k None
 
--- the entry of a place, if it has one, stands now in a free place of its bucket
+-- the entry of the place is gone, and that of the last place of its bucket stands there, unless it is the last itself
+pub record IsClosed (old new : List (Option Entry)) (place last : ℕ) : Type 0 where
+  pub same_length : length new ≡ length old
+  pub gone : slice_index_or new last None ≡ None
+  pub moved : place ≢ last → slice_index_or new place None ≡ slice_index_or old last None
+  pub others : (k : ℕ) → k ≢ place → k ≢ last → slice_index_or new k None ≡ slice_index_or old k None
+
+-- the entry of a place, if it has one, stands now in the first free place of its bucket
 abbrev pub IsCopied : Option Entry → List (Option Entry) → List (Option Entry) → Type 0
 IsCopied None old new = new ≡ old
-IsCopied (Some entry) old new = (place : ℕ) × IsFreeFor old entry.key place × IsSetTo old new place (Some entry)
+IsCopied (Some entry) old new = (place : ℕ) × IsNextFor old entry.key place × IsSetTo old new place (Some entry)
 
 -- the entries of so many of the old places stand in the new ones, each in its bucket, and no others
 pub record IsMoved (old : List (Option Entry)) (count : ℕ) (new : List (Option Entry)) : Type 0 where

@@ -5,10 +5,13 @@
 //! in the overflow, whose rows are exact and ordered: so nothing rests on how keys spread but time, and of keys
 //! that all meet in one bucket each costs a search in rows.
 //!
+//! In a bucket the entries stand in front of the free places: an entry goes into the first free one, and where one is
+//! removed the last of its bucket comes into its place. So a look-up ends at the first free place.
+//!
 //! Each entry of the overflow has a full bucket, so a key that isn't in its bucket is nowhere if a place there is free,
-//! and the overflow is searched only behind a full bucket. That this stays so, an entry of the overflow comes into
+//! and the overflow is searched only behind a full bucket. So that this stays so, an entry of the overflow comes into
 //! the place that a removal frees in a full bucket: the overflow is ordered by buckets, so that one is found by a
-//! search. Where a value came that is too great for a place this can't be told, and each key that isn't in its
+//! search. Once a value has come that is too great for a place, this can't be told, and each key that isn't in its
 //! bucket is searched in the overflow, until there are more places.
 //!
 //! - `place`: a place, which is empty or has an entry
@@ -140,7 +143,7 @@ impl Buckets {
         ensures room { self.old.room ≤ self.new.room }
     {
         self.overflow.reserve()?;
-        self.spread();
+        self.make_places();
         Ok(())
     }
 
@@ -156,12 +159,12 @@ impl Buckets {
         ensures room { self.old.room ≤ self.new.room }
     {
         self.overflow.reserve_one()?;
-        self.spread();
+        self.make_places();
         Ok(())
     }
 
     // Makes more places where few are free.
-    fn spread(&mut self)
+    fn make_places(&mut self)
         ensures same { KeepsAll self.old self.new }
         ensures room { self.old.room ≤ self.new.room }
     {

@@ -1,11 +1,11 @@
 //! The places, in buckets, and the overflow.
-ghost use Rattle.std.specs.Prelude.{◌≡◌, ◌≢◌, ◌+◌, ◌*◌, ◌/◌, true, ◌<◌, ◌≤◌, ◌↔◌, ℕ, IsTrue, None, Some, OnOk, OnErr, IsOk, IfSome, IfNone, length, slice_index_or};
+ghost use Rattle.std.specs.Prelude.{◌≡◌, ◌≢◌, ◌⊎◌, ◌+◌, ◌*◌, ◌/◌, true, ◌<◌, ◌≤◌, ◌↔◌, ℕ, IsTrue, None, Some, OnOk, OnErr, IsOk, IfSome, IfNone, length, slice_index_or};
 ghost use Rattle.std.specs.Bool.{OnTrue, OnFalse};
 ghost use Rattle.std.specs.Option.{option_map};
 ghost use Rattle.rows.specs.Held.{at, value_at, Puts};
 ghost use Rattle.std.specs.Prelude.{IfOk};
 ghost use Rattle.rows.specs.declared.Entry.{Entry as KeyValue};
-ghost use Rattle.buckets.specs.Places.{all_in, bucket_of, number, Stands, HasKey, HasNowhere, AreHome, AreApart, AreSound, IsFreeFor, IsFull, IsFilled, ArePacked, ArePackedBut, IsSetTo, IsCopied, IsMoved, HaveSame};
+ghost use Rattle.buckets.specs.Places.{all_in, bucket_of, number, Stands, HasKey, HasNowhere, AreHome, AreInFront, AreApart, AreSound, IsFreeFor, IsNextFor, EndsSearch, IsLast, IsFull, IsFilled, ArePacked, ArePackedBut, IsClosed, IsCopied, IsMoved, HaveSame, IsSetTo};
 
 use crate::overflow::{Overflow, number, spread};
 use crate::place::Place;
@@ -69,19 +69,38 @@ fn bucket_end(count: usize, start: usize) -> usize
 
 // The place of the entry that has the key.
 fn locate(places: &[Place], key: u64) -> Option<usize>
-    requires { AreHome places.now }
+    requires home { AreHome places.now }
+    requires front { AreInFront places.now }
     ensures found { IfSome result (HasKey places.now key) }
+    ensures absent { IfNone result (HasNowhere places.now key) }
+{
+    let place = search(places, key)?;
+    if places[place].is_empty() {
+        return None;
+    }
+    Some(place)
+}
+
+// The place that has the key, or where no place has it the first free one of its bucket, if one is free.
+fn search(places: &[Place], key: u64) -> Option<usize>
+    requires home { AreHome places.now }
+    requires front { AreInFront places.now }
+    ensures ends { IfSome result (EndsSearch places.now key) }
     ensures absent { IfNone result (HasNowhere places.now key) }
 {
     let start = bucket_of(places.len(), key);
     let end = bucket_end(places.len(), start);
-    find_between(places, start, end, key)
+    let place = search_between(places, start, end, key)?;
+    Some(place)
 }
 
-// The place of these that has the key.
-fn find_between(places: &[Place], start: usize, end: usize, key: u64) -> Option<usize>
+// The first place of these that has the key or is free.
+fn search_between(places: &[Place], start: usize, end: usize, key: u64) -> Option<usize>
     requires { end ≤ length places.now }
-    ensures found { IfSome result (HasKey places.now key) }
+    ensures ends { IfSome result (λ place. HasKey places.now key place ⊎ (slice_index_or places.now place None ≡ None)) }
+    ensures from { IfSome result (λ place. start ≤ place) }
+    ensures to { IfSome result (λ place. place < end) }
+    ensures before { IfSome result (λ stop. (place : ℕ) (entry : KeyValue) → start ≤ place → place < stop → Stands places.now place entry → entry.key ≢ key) }
     ensures absent { IfNone result ((place : ℕ) (entry : KeyValue) → start ≤ place → place < end → Stands places.now place entry → entry.key ≢ key) }
 {
     let mut place = start;
@@ -89,14 +108,17 @@ fn find_between(places: &[Place], start: usize, end: usize, key: u64) -> Option<
         if places[place].has(key) {
             return Some(place);
         }
+        if places[place].is_empty() {
+            return Some(place);
+        }
         place += 1;
     }
     None
 }
 
-// A free place in the bucket of the key.
+// The first free place in the bucket of the key.
 fn vacant(places: &[Place], key: u64) -> Option<usize>
-    ensures free { IfSome result (IsFreeFor places.now key) }
+    ensures free { IfSome result (IsNextFor places.now key) }
     ensures full { IfNone result (IsFull places.now key) }
 {
     let start = bucket_of(places.len(), key);
@@ -111,6 +133,7 @@ fn free_between(places: &[Place], start: usize, end: usize) -> Option<usize>
     ensures free { IfSome result (λ place. slice_index_or places.now place None ≡ None) }
     ensures from { IfSome result (λ place. start ≤ place) }
     ensures to { IfSome result (λ place. place < end) }
+    ensures first { IfSome result (λ free. (place : ℕ) → start ≤ place → place < free → slice_index_or places.now place None ≢ None) }
     ensures none { IfNone result ((place : ℕ) → start ≤ place → place < end → slice_index_or places.now place None ≢ None) }
 {
     let mut place = start;
@@ -129,21 +152,14 @@ pub fn find(places: &[Place], overflow: &Overflow, are_packed: bool, key: u64) -
     requires packed { OnTrue are_packed (ArePacked places.now overflow.now.held) }
     ensures { result ≡ value_at (all_in places.now overflow.now.held) key }
 {
-    match locate(places, key) {
-        Some(place) => places[place].value(),
-        None => find_behind(places, overflow, are_packed, key),
+    let Some(place) = search(places, key) else {
+        return overflow.get(key);
+    };
+    if let Some(value) = places[place].value() {
+        return Some(value);
     }
-}
-
-// The value of the key in the overflow. There is none where a place of its bucket is free.
-fn find_behind(places: &[Place], overflow: &Overflow, are_packed: bool, key: u64) -> Option<usize>
-    requires { OnTrue are_packed (ArePacked places.now overflow.now.held) }
-    ensures { result ≡ value_at overflow.now.held key }
-{
     if are_packed {
-        if let Some(_place) = vacant(places, key) {
-            return None;
-        }
+        return None;
     }
     overflow.get(key)
 }
@@ -183,9 +199,9 @@ fn are_packed_with(are_packed: bool, value: usize) -> bool
     are_packed && value < u32::MAX as usize
 }
 
-// Puts an entry into a free place of its bucket. Whether there was one, and the value small enough for it.
+// Puts an entry into the first free place of its bucket. Whether there was one, and the value small enough for it.
 fn put_in_place(places: &mut [Place], key: u64, value: usize) -> bool
-    ensures put { OnTrue result ((place : ℕ) × IsFreeFor places.old key place × IsSetTo places.old places.new place (Some (record { key = key; value = value }))) }
+    ensures put { OnTrue result ((place : ℕ) × IsNextFor places.old key place × IsSetTo places.old places.new place (Some (record { key = key; value = value }))) }
     ensures kept { OnFalse result (places.new ≡ places.old) }
     ensures full { OnFalse result (value < 4294967295 → IsFull places.old key) }
 {
@@ -220,8 +236,8 @@ pub fn take_out(
     }
 }
 
-// Takes the entry of the key out of its place. Where its bucket was full, an entry of the overflow that belongs
-// there comes into the place.
+// Takes the entry of the key out of its place, into which the last entry of the bucket comes. Where the bucket was
+// full, an entry of the overflow that belongs there comes into the last place.
 fn take_place(
     places: &mut [Place],
     overflow: &mut Overflow,
@@ -239,23 +255,27 @@ fn take_place(
     ensures room { overflow.old.room ≤ overflow.new.room }
 {
     match vacant(places, key) {
-        Some(_free) => clear(places, place),
+        Some(free) => close(places, place, free - 1),
         None => {
-            let value = clear(places, place);
-            *are_packed = refill(places, overflow, *are_packed, place, key);
+            let start = bucket_of(places.len(), key);
+            let last = bucket_end(places.len(), start) - 1;
+            let value = close(places, place, last);
+            *are_packed = refill(places, overflow, *are_packed, last, key);
             value
         }
     }
 }
 
-// Empties a place, and returns the value of its entry.
-fn clear(places: &mut [Place], place: usize) -> Option<usize>
-    requires { place < length places.old }
+// Moves the entry of the last place into this one, whose value it returns.
+fn close(places: &mut [Place], place: usize, last: usize) -> Option<usize>
+    requires place { place < length places.old }
+    requires last { last < length places.old }
     ensures value { result ≡ option_map (λ entry. entry.value) (slice_index_or places.old place None) }
-    ensures empty { IsSetTo places.old places.new place None }
+    ensures closed { IsClosed places.old places.new place last }
 {
     let value = places[place].value();
-    places[place] = Place::empty();
+    places[place] = places[last].again();
+    places[last] = Place::empty();
     value
 }
 
@@ -270,7 +290,7 @@ fn refill(
 ) -> bool
     requires sound { AreSound places.old overflow.old.held }
     requires packed { OnTrue are_packed (ArePackedBut places.old overflow.old.held hole) }
-    requires free { IsFreeFor places.old key hole }
+    requires free { IsNextFor places.old key hole }
     ensures sound { AreSound places.new overflow.new.held }
     ensures packed { OnTrue result (ArePacked places.new overflow.new.held) }
     ensures same { (other : ℕ) → value_at (all_in places.new overflow.new.held) other ≡ value_at (all_in places.old overflow.old.held) other }
@@ -338,7 +358,7 @@ fn free_places(alloc: Global, count: usize) -> Result<Vec<Place>, AllocError>
     Ok(places)
 }
 
-// Puts each entry of the old places into a free one of its bucket. Whether there was one for each.
+// Puts each entry of the old places into the first free one of its bucket. Whether there was one for each.
 fn copy_all(old: &[Place], fresh: &mut [Place]) -> bool
     requires apart { AreApart old.now }
     requires free { (k : ℕ) → slice_index_or fresh.old k None ≡ None }
@@ -352,7 +372,7 @@ fn copy_all(old: &[Place], fresh: &mut [Place]) -> bool
     true
 }
 
-// Puts the entry of a place, if it has one, into a free one of its bucket. Whether there was one.
+// Puts the entry of a place, if it has one, into the first free one of its bucket. Whether there was one.
 fn copy(place: &Place, fresh: &mut [Place]) -> bool
     ensures { OnTrue result (IsCopied place.now fresh.old fresh.new) }
 {
@@ -415,10 +435,10 @@ fn lift(places: &mut [Place], overflow: &mut Overflow, key: u64) -> bool
     lift_to(places, overflow, free, key)
 }
 
-// Moves the entry of the key from the overflow into this place. Whether there was one, and its value small enough.
+// Moves the entry of the key from the overflow into this place, the first free one of its bucket. Whether there was one, and its value small enough.
 fn lift_to(places: &mut [Place], overflow: &mut Overflow, place: usize, key: u64) -> bool
     requires sound { AreSound places.old overflow.old.held }
-    requires free { IsFreeFor places.old key place }
+    requires free { IsNextFor places.old key place }
     ensures sound { AreSound places.new overflow.new.held }
     ensures same { (other : ℕ) → value_at (all_in places.new overflow.new.held) other ≡ value_at (all_in places.old overflow.old.held) other }
     ensures filled { IsFilled places.old places.new overflow.old.held overflow.new.held }

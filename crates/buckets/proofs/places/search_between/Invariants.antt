@@ -1,11 +1,14 @@
 use Rattle.std.proofs.Common.{◌-◌, ◌≢◌, ◌<◌, ◌≤◌, ℕ}
 use Rattle.rows.specs.declared.Entry.{Entry}
 use Rattle.buckets.specs.Places.{Stands}
-use Rattle.buckets.proofs.places.find_between.Given as goal
+use Rattle.buckets.proofs.places.search_between.Given as goal
 
 -- none of the places so far has the key
 abbrev pub invariant-loop-place : goal.invariant-loop-place
-invariant-loop-place l = (k : ℕ) (e : Entry) → l.start ≤ k → k < l.place → Stands l.places k e → e.key ≢ l.key
+invariant-loop-place l = record {
+  from : l.start ≤ l.place;
+  none : (k : ℕ) (e : Entry) → l.start ≤ k → k < l.place → Stands l.places k e → e.key ≢ l.key;
+}
 
 abbrev pub decreases-loop-place : goal.decreases-loop-place
 decreases-loop-place l = l.end - l.place
