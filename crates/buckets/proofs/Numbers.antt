@@ -98,17 +98,17 @@ least e es rising n has = elim (cases_eq n e.key) [
 
 -- where entries are left from a number on, the first of them is one of all, and least
 pub from-some : (rows : List Entry) → AreRising rows → (from : ℕ) (first : Entry) (rest : List Entry) → entries_from from rows ≡ first ∷ rest
-    → (value_at rows first.key ≢ None) × ((n : ℕ) → value_at rows n ≢ None → from ≤ n → first.key ≤ n)
+    → (value_at rows first.key ≢ None) × (from ≤ first.key) × ((n : ℕ) → value_at rows n ≢ None → from ≤ n → first.key ≤ n)
 from-some [] rising from first rest is = absurd cc
 from-some (e ∷ es) rising from first rest is = elim (cases_lt e.key from) [
   | inl lt ↦
       let later = from-some es (rising-tail e es rising) from first rest (sym (ap (λ b. cond b (entries_from from es) (e ∷ es)) (lt-ltb e.key from lt)) ∙ is) in
-      (has-tail e es first.key later.0, λ n has le. later.1 n (λ none. has (value-behind e es n (λ same. omega (arith, same)) ∙ none)) le)
+      (has-tail e es first.key later.0, later.1, λ n has le. later.2 n (λ none. has (value-behind e es n (λ same. omega (arith, same)) ∙ none)) le)
   | inr le ↦
       let whole : e ∷ es ≡ first ∷ rest = sym (ap (λ b. cond b (entries_from from es) (e ∷ es)) (le-ltb e.key from le)) ∙ is in
       let one : e ≡ first = cc in
-      subst (λ (f : Entry). (value_at (e ∷ es) f.key ≢ None) × ((n : ℕ) → value_at (e ∷ es) n ≢ None → from ≤ n → f.key ≤ n)) one
-      (λ none. none-some e.value (sym none ∙ value-here e es e.key refl), λ n has from_le. least e es rising n has)
+      subst (λ (f : Entry). (value_at (e ∷ es) f.key ≢ None) × (from ≤ f.key) × ((n : ℕ) → value_at (e ∷ es) n ≢ None → from ≤ n → f.key ≤ n)) one
+      (λ none. none-some e.value (sym none ∙ value-here e es e.key refl), le, λ n has from_le. least e es rising n has)
 ]
 
 -- where none is left, all are below
@@ -131,13 +131,14 @@ module _ (rows : List Entry) (numbered : AreNumbered rows) (from : ℕ) where
       let own : first.key ≡ number key = numbered first.key parts.0 in
       record {
         there = λ none. parts.0 (ap (value_at rows) own ∙ sym (plain-value rows numbered key small) ∙ none);
+        in_order = subst (λ n. from ≤ n) own parts.1;
         side = λ other has le.
             let lies = plain-has rows numbered other has in
-            let least = parts.1 (number other) lies.1 le in
+            let least = parts.2 (number other) lies.1 le in
             number-side key other lies.0 (subst (λ n. n ≤ number other) own least);
         least = λ other has le differ.
             let lies = plain-has rows numbered other has in
-            let least = subst (λ n. n ≤ number other) own (parts.1 (number other) lies.1 le) in
+            let least = subst (λ n. n ≤ number other) own (parts.2 (number other) lies.1 le) in
             elim (cases_lt (number key) (number other)) [
               | inl lt ↦ lt
               | inr ge ↦ let same : number other ≡ number key = omega (arith, least, ge) in absurd (differ (sym (number-rest other lies.0) ∙ ap (λ n. n % 18446744073709551616) same ∙ number-rest key small))

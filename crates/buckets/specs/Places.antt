@@ -123,6 +123,7 @@ pub record IsFilled (old new : List (Option Entry)) (before after : List Entry) 
 -- the key is the first one of the overflow whose number isn't below this one
 pub record IsNext (overflow : List Entry) (from key : ℕ) : Type 0 where
   pub there : value_at overflow key ≢ None
+  pub in_order : from ≤ number key
   pub side : (other : ℕ) → value_at overflow other ≢ None → from ≤ number other → spread key ≤ spread other
   pub least : (other : ℕ) → value_at overflow other ≢ None → from ≤ number other → other ≢ key → number key < number other
 
