@@ -18,6 +18,7 @@ use Rattle.rulesyntax.specs.declared.tree.Table.{Table}
 use Rattle.rulesyntax.specs.declared.tree.Spelled.{Spelled}
 use Rattle.ruletext.specs.Runnable.{IsRunnable}
 use Rattle.ruletext.specs.Said.{verdicts_of, target_of}
+use Rattle.verdict.specs.declared.bases.Asking.{Asking}
 use Rattle.verdict.specs.declared.facts.Facts.{Facts}
 use Rattle.verdict.specs.declared.row.Probe.{Probe}
 use Rattle.verdict.specs.declared.row.Line.{Line}
@@ -30,6 +31,7 @@ use Rattle.sets.specs.declared.element.Pair.{Pair as Key}
 use Rattle.verdict.specs.Matching.{is_between, state_number, is_of, holds}
 use Rattle.verdict.specs.Tests.{Keeps, AreTests, HasMap}
 use Rattle.verdict.specs.Keyed.{AreKeys}
+use Rattle.verdict.specs.Noted.{AreNoted}
 
 -- a port of a packet of this protocol; a packet of another one has 2^32, which no value stands for
 abbrev pub port_of : Transport → Facts → ℕ → ℕ
@@ -142,7 +144,8 @@ abbrev pub AreLaid : List Table → List Laid → Type 0
 AreLaid tables rows =
     (t : ℕ) (table : Table) → slice_get tables t ≡ Some table → (laid : Laid) × (slice_get rows t ≡ Some laid) × IsLaid table laid
 
--- rules of a loaded text, each table of which lies in a row of its own
-pub record IsFlat (text : Spelled) (rows : List Laid) : Type 0 where
+-- rules of a loaded text, each table of which lies in a row of its own, with what is noted of the hooks
+pub record IsFlat (text : Spelled) (rows : List Laid) (asking : Asking) : Type 0 where
   pub runnable : IsRunnable text
   pub laid : AreLaid text.tables rows
+  pub noted : AreNoted text.tables asking

@@ -88,12 +88,13 @@ abbrev pub CameTo : List (Option Outcome) → ℕ → ℕ → Option Outcome →
 CameTo known count place None = (place < count) × (slice_index_or known place None ≡ None)
 CameTo known count place (Some outcome) = (slice_index_or known place None ≡ Some outcome) ⊎ ((count ≤ place) × (outcome ≡ Ends))
 
--- a move that comes to the same where what is known is, and calls no chain of which something is known
+-- the chain that a move calls, if it calls one, is one of so many, and another move calls it in the same way
 abbrev pub KeepsCall : ℕ → Move → Move → Type 0
 KeepsCall count move (Jumps place) = (place < count) × (move ≡ Jumps place)
 KeepsCall count move (Goes place) = (place < count) × (move ≡ Goes place)
 KeepsCall count move _ = Unit {0}
 
+-- a move that makes of its chain what another one does, and calls no chain but the one that this calls
 pub record IsResolved (config : Config) (facts : Facts) (table : Table) (move resolved : Move) : Type 0 where
   pub same : ending_by (comes_at config facts table) resolved ≡ ending_by (comes_at config facts table) move
   pub calls : KeepsCall (length table.chains) move resolved

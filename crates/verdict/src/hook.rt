@@ -4,13 +4,13 @@ ghost use Rattle.std.specs.Prelude.{◌≡◌, ◌+◌, ◌^◌, ◌<◌, ◌≤
 ghost use Rattle.std.specs.Option.{option_map_or};
 ghost use Rattle.ruletext.specs.Calls.{OfSome, IsLooped, IsDeep};
 ghost use Rattle.ruletext.specs.Counts.{rules_of_table, is_much};
-ghost use Rattle.rulesyntax.specs.declared.tree.Table.{Table as TableOf};
 ghost use Rattle.verdict.specs.Lines.{IsLaid, AreLaid};
 ghost use Rattle.verdict.specs.Places.{AreKnown};
 ghost use Rattle.verdict.specs.Costs.{unread, rules_of_tables, rules_in_force};
-ghost use Rattle.verdict.specs.Hooks.{same_hook as are_same_hooks, settled as settled_by, at_hook, bases_among, bases_of, hook_outcome as outcome_of_hook, forward_verdict, prerouting_verdict, postrouting_verdict};
+ghost use Rattle.verdict.specs.Hooks.{settled as settled_by, at_hook, bases_among, bases_of, hook_outcome as outcome_of_hook, forward_verdict, prerouting_verdict, postrouting_verdict};
 ghost use Rattle.verdict.specs.Ranking.{preferred as preferred_of, final_of as final_of_outcome, first_final, outcome_of as outcome_of_final};
 
+use crate::bases::{any_stands_at, is_same_hook};
 use crate::chain::Outcome;
 use crate::facts::Facts;
 use crate::row::Laid;
@@ -19,7 +19,7 @@ use crate::walk::chain_outcome;
 use packet::bounds::Bounds;
 use packet::endpoint::Endpoint;
 use packet::steps::Steps;
-use rulesyntax::tree::{Chain, Hook, Policy, Table};
+use rulesyntax::tree::{Hook, Policy, Table};
 
 /// What the forward chains decide about a packet.
 #[derive(Clone, Copy, Debug, PartialEq, Eq, Drop)]
@@ -65,19 +65,6 @@ const FEW_CHAINS: usize = 8;
 struct Final {
     priority: i64,
     outcome: Outcome,
-}
-
-fn is_same_hook(one: Hook, other: Hook) -> bool
-    ensures { result ≡ are_same_hooks one other }
-{
-    matches!(
-        (one, other),
-        (Hook::Prerouting, Hook::Prerouting)
-            | (Hook::Input, Hook::Input)
-            | (Hook::Forward, Hook::Forward)
-            | (Hook::Output, Hook::Output)
-            | (Hook::Postrouting, Hook::Postrouting)
-    )
 }
 
 fn settled(policy: Policy, outcome: Outcome) -> Outcome
@@ -173,30 +160,6 @@ fn final_over(
     first
 }
 
-// Whether the chain is a base chain of the hook.
-fn stands_at(chain: &Chain, hook: Hook) -> bool
-    ensures { result ≡ false → (table : TableOf) → option_map_or (at_hook hook table chain.now) chain.now.base [] ≡ [] }
-{
-    match &chain.base {
-        None => false,
-        Some(base) => is_same_hook(base.hook, hook),
-    }
-}
-
-// Whether one of the chains is a base chain of the hook.
-fn any_stands_at(chains: &[Chain], hook: Hook) -> bool
-    ensures { result ≡ false → (table : TableOf) → bases_among hook table chains.now ≡ [] }
-{
-    let mut rest = chains;
-    while let [chain, tail @ ..] = rest {
-        if stands_at(chain, hook) {
-            return true;
-        }
-        rest = tail;
-    }
-    false
-}
-
 // Most tables have few chains, and for them little memory is cleared; a table without base chains of the hook takes none.
 fn final_among(
     bounds: &Bounds,
@@ -257,8 +220,9 @@ fn outcome_of(first: Option<Final>) -> Outcome
     }
 }
 
+// What the base chains of a hook come to, asked table by table.
 #[tactic(auto, using(crate::proofs::Ranked::first_is_in_order), unfolding(crate::specs::Hooks::hook_outcome))]
-fn hook_outcome(rules: &Rules, bounds: &Bounds, facts: &Facts, hook: Hook) -> (Outcome, Steps)
+fn asked_outcome(rules: &Rules, bounds: &Bounds, facts: &Facts, hook: Hook) -> (Outcome, Steps)
     ensures outcome { result.0 ≡ outcome_of_hook bounds.now facts.now hook rules.now }
     ensures steps { result.1 ≤ rules_in_force rules.now }
 {
@@ -271,6 +235,17 @@ fn hook_outcome(rules: &Rules, bounds: &Bounds, facts: &Facts, hook: Hook) -> (O
         rules.rows(),
     );
     (outcome_of(first), steps)
+}
+
+#[tactic(auto, unfolding(crate::specs::Hooks::hook_outcome))]
+fn hook_outcome(rules: &Rules, bounds: &Bounds, facts: &Facts, hook: Hook) -> (Outcome, Steps)
+    ensures outcome { result.0 ≡ outcome_of_hook bounds.now facts.now hook rules.now }
+    ensures steps { result.1 ≤ rules_in_force rules.now }
+{
+    if !rules.asks_at(hook) {
+        return (Outcome::Accepts, Steps::none());
+    }
+    asked_outcome(rules, bounds, facts, hook)
 }
 
 /// Whether a packet passes: where every base chain at forward accepts, or there is none. Takes no memory.

@@ -11,6 +11,7 @@
 //! - `keys`: keys in order, by which the walk passes over rules that ask for other numbers than a packet has.
 //! - `chain`: what a chain of rules comes to, and the ends of rules.
 //! - `stack`, `walk`: the walk over a row, with at most 16 places to return to and without recursion.
+//! - `bases`: at which hooks base chains stand, so that elsewhere nothing is asked.
 //! - `hook`: `forward`, `prerouting` and `postrouting`, what the base chains of a hook decide, of which the
 //!   one of the least priority counts first; and the same with the steps counted.
 //! - `laws`: what follows from these definitions, in functions that do nothing.
@@ -22,6 +23,7 @@
 //! are (`Costs`), whatever jumps and base chains there are.
 #![tactic(auto)]
 
+mod bases;
 mod chain;
 pub mod facts;
 pub mod hook;

@@ -95,7 +95,7 @@ fn holds(bounds: &Bounds, facts: &Facts, pools: &[Pool], test: &Test) -> bool
     ensures { (sets : List SetOf) (own : MatchOf) → IsTest sets pools.now own test.now → result ≡ match_holds bounds.now sets facts.now own }
 {
     if !has_protocol(test.head, facts.proto) {
-        return false;
+        return false; // a negated test demands the protocol too
     }
     let Some(pool) = pools.get(test.pool) else {
         return false;

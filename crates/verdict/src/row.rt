@@ -141,12 +141,19 @@ fn place_of(head: Head) -> u8
     }
 }
 
+// Whether a packet's number lies within the ends of a test's pool where the test holds.
+fn is_bounded(test: &Test, asks: u8) -> bool
+    ensures { result ≡ true → test.now.negated ≡ false }
+{
+    !test.negated && asks != NO_NUMBER
+}
+
 // The bounds that a test sets whose pool has at most so many intervals: the ends of its pool.
 fn bounds_of(pools: &[Pool], test: &Test, most: usize) -> Option<Probe>
     ensures { IfSome result (λ probe. (sets : List SetOf) (own : MatchOf) → IsTest sets pools.now own test.now → TellsIn sets own probe) }
 {
     let asks = place_of(test.head);
-    if test.negated || asks == NO_NUMBER {
+    if !is_bounded(test, asks) {
         return None;
     }
     let Some(pool) = pools.get(test.pool) else {

@@ -1,11 +1,13 @@
 //! The rules of a loaded text, as packets meet them.
 
-ghost use Rattle.std.specs.Prelude.{◌≡◌, [], IfOk};
+ghost use Rattle.std.specs.Prelude.{◌≡◌, [], false, IfOk};
 ghost use Rattle.ruletext.specs.Runnable.{IsRunnable};
+ghost use Rattle.verdict.specs.Hooks.{bases_of};
 ghost use Rattle.verdict.specs.Lines.{AreLaid};
 
+use crate::bases::{Asking, asking_of, asks_at};
 use crate::row::{Laid, lay_all};
-use rulesyntax::tree::Spelled;
+use rulesyntax::tree::{Hook, Spelled};
 use ruletext::ruleset::Ruleset;
 use sqlite_items::Items;
 use std::alloc::{AllocError, Global};
@@ -16,6 +18,7 @@ use std::marker::Model;
 pub struct Rules {
     text: Spelled,
     rows: Items<Laid>,
+    asking: Asking,
 }
 
 impl Model for Rules {
@@ -26,7 +29,7 @@ impl Model for Rules {
 
     ghost view = { λ r. r.text };
 
-    ghost invariant = { λ r. IsFlat r.text r.rows };
+    ghost invariant = { λ r. IsFlat r.text r.rows r.asking };
 }
 
 impl Rules {
@@ -40,6 +43,7 @@ impl Rules {
                 tables: Items::new(alloc),
             },
             rows: Items::new(alloc),
+            asking: asking_of(&[]),
         }
     }
 
@@ -53,9 +57,11 @@ impl Rules {
     {
         loaded.is_runnable();
         let rows = lay_all(alloc, loaded.text().tables.as_slice())?;
+        let asking = asking_of(loaded.text().tables.as_slice());
         Ok(Rules {
             text: loaded.into_text(),
             rows,
+            asking,
         })
     }
 
@@ -79,5 +85,12 @@ impl Rules {
         ensures { AreLaid self.now.tables result.now }
     {
         self.rows.as_slice()
+    }
+
+    /// Whether base chains may stand at the hook.
+    pub(crate) fn asks_at(&self, hook: Hook) -> bool
+        ensures { result ≡ false → bases_of hook self.now.tables ≡ [] }
+    {
+        asks_at(self.asking, hook)
     }
 }

@@ -1,7 +1,7 @@
 use Rattle.std.proofs.Common.{length, ◌≡◌}
 use Rattle.rulesyntax.specs.declared.tree.Table.{Table}
 use Rattle.verdict.specs.Hooks.{bases_among}
-use Rattle.verdict.proofs.hook.any_stands_at.Given as goal
+use Rattle.verdict.proofs.bases.any_stands_at.Given as goal
 
 -- the base chains are among those that are left
 abbrev pub invariant-loop-rest : goal.invariant-loop-rest
