@@ -4,7 +4,6 @@ ghost use Rattle.std.specs.Prelude.{◌≡◌, ◌↔◌, ◌<◌, ◌≤◌, �
 ghost use Rattle.rulesyntax.specs.Reading.{Answers};
 ghost use Rattle.rulesyntax.specs.Grammar.{Spells};
 ghost use Rattle.rulesyntax.specs.Text.{greatest_length, IsSpelledBy, IsOkOrNoMemory, IsRefused, IsUnspelled, IsUnread, IsOfSyntax, IsFault};
-ghost use Rattle.ruletokens.specs.Tokens.{AreTokens};
 ghost use Rattle.ruletokens.specs.declared.token.Token.{Token};
 ghost use Rattle.rulesyntax.specs.declared.tree.Spelled.{Spelled};
 ghost use Rattle.rulesyntax.specs.declared.fault.Kind.TheVariants.{TooLong};
@@ -89,14 +88,10 @@ pub fn parse(alloc: Global, text: &[u8]) -> Result<Spelled, LoadFault>
     read(&source, tokens.as_slice())
 }
 
-/// A text has one list of tokens, and spells one ruleset at most.
+/// Tokens spell one ruleset at most, and so does a text.
 pub fn one_ruleset()
     ensures tokens { (tokens : List Token) (a b : Spelled) → Spells a tokens → Spells b tokens → a ≡ b }
     ensures text { (text : List ℕ) (a b : Spelled) → IsSpelledBy a text → IsSpelledBy b text → a ≡ b }
-
-    // Each text has tokens, whatever its bytes, and no others.
-    ensures has_tokens { (text : List ℕ) → (tokens : List Token) × AreTokens tokens text }
-    ensures same_tokens { (text : List ℕ) (a b : List Token) → AreTokens a text → AreTokens b text → a ≡ b }
 {
     one_token_list();
 }
