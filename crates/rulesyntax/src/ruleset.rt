@@ -3,7 +3,7 @@
 ghost use Rattle.std.specs.Prelude.{◌≡◌, ◌↔◌, ◌<◌, ◌≤◌, ℕ, List, length, Err, IfOk, IfErr};
 ghost use Rattle.rulesyntax.specs.Reading.{Answers};
 ghost use Rattle.rulesyntax.specs.Grammar.{Spells};
-ghost use Rattle.rulesyntax.specs.Text.{greatest_length, IsSpelledBy, IsOkOrNoMemory, IsRefused, IsUnspelled, IsUnread, IsOfSyntax, IsFault};
+ghost use Rattle.rulesyntax.specs.Text.{greatest_length, IsSpelledBy, IsOkOrNoMemory, IsUnreadFor, IsUnspelled, IsUnread, IsOfSyntax, IsFault};
 ghost use Rattle.ruletokens.specs.declared.token.Token.{Token};
 ghost use Rattle.rulesyntax.specs.declared.tree.Spelled.{Spelled};
 ghost use Rattle.rulesyntax.specs.declared.fault.Kind.TheVariants.{TooLong};
@@ -74,7 +74,7 @@ pub fn parse(alloc: Global, text: &[u8]) -> Result<Spelled, LoadFault>
     ensures kinds { IfErr result (λ fault. IsOfSyntax fault.kind) }
 
     // A fault is true of the text: one of syntax comes only where nothing is spelled.
-    ensures refused { IfErr result (λ fault. IsRefused text.now fault.kind) }
+    ensures refused { IfErr result (λ fault. IsUnreadFor text.now fault.kind) }
 {
     if text.len() > GREATEST_LENGTH {
         return Err(LoadFault {
