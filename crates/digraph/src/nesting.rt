@@ -11,7 +11,7 @@ use crate::witness::{level_step, returns};
 use sqlite_items::Items;
 use std::alloc::{AllocError, Global};
 
-// One more than the greatest of these chains' heights, or 0 where there are none.
+// One more than the greatest height of these places, or 0 where there are none.
 fn height_over(heights: &[usize], row: &[usize]) -> usize
     requires within { All (λ b. b < length heights.now) row.now }
     requires small { (b : ℕ) → slice_index heights.now b < usize.MAX }
