@@ -109,8 +109,8 @@ fn has_endless_path(alloc: Global, rows: &[Items<usize>]) -> Result<bool, AllocE
     has_path(alloc, rows, rows.len())
 }
 
-/// Whether some place reaches itself. The numbers of the components show it at once: where each step leads to a
-/// lower one there is no loop, and another step stands on one.
+/// Whether some place reaches itself. The numbers of the components show it at once: where each step leads to
+/// a lower one there is no loop, and another step stands on one.
 pub fn has_loop(alloc: Global, rows: &[Items<usize>]) -> Result<bool, AllocError>
     requires within { AreWithin rows.now }
     requires small { length rows.now < usize.MAX }
