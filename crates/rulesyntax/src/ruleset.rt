@@ -62,8 +62,9 @@ fn read(source: &Source, tokens: &[Token]) -> Result<Spelled, LoadFault>
 /// # Errors
 ///
 /// `TooLong` exactly for more than `GREATEST_LENGTH` bytes, with line 1. `Syntax`, `Unsupported` or `Family`
-/// where no ruleset is spelled, with the line of the first token that can't stand where it does; where the text
-/// ends too early, that is the number of its newlines plus one. `NoMemory` only where a growth was refused.
+/// where no ruleset is spelled, with the line of the first token that can't stand where it does; where the
+/// text ends too early, that is the number of its newlines plus one. `NoMemory` only where a growth was
+/// refused.
 pub fn parse(alloc: Global, text: &[u8]) -> Result<Spelled, LoadFault>
     // What is answered is spelled.
     ensures found { IfOk result (λ rules. IsSpelledBy rules text.now) }
