@@ -1,7 +1,7 @@
 //! Directed graphs: what paths there are, loops and what is reached.
 //!
-//! A graph is rows of places: the row at a place has the places that a step leads to from there. Where a function
-//! answers an `AllocError`, a growth was refused, and nothing else is wrong.
+//! A graph is rows of places: the row at a place has the places that a step leads to from there. Where a
+//! function answers an `AllocError`, a growth was refused, and nothing else is wrong.
 //!
 //! - `nesting`: whether there is a loop, and whether a path has more than so many steps.
 //! - `reach`: what places reach.

@@ -11,7 +11,7 @@ use crate::witness::{level_step, returns};
 use sqlite_items::Items;
 use std::alloc::{AllocError, Global};
 
-// One more than the greatest of these chains' heights, or 0 where there are none.
+// One more than the greatest height of these places, or 0 where there are none.
 fn height_over(heights: &[usize], row: &[usize]) -> usize
     requires within { All (λ b. b < length heights.now) row.now }
     requires small { (b : ℕ) → slice_index heights.now b < usize.MAX }
@@ -109,8 +109,8 @@ fn has_endless_path(alloc: Global, rows: &[Items<usize>]) -> Result<bool, AllocE
     has_path(alloc, rows, rows.len())
 }
 
-/// Whether some place reaches itself. The numbers of the components show it at once: where each step leads to a
-/// lower one there is no loop, and another step stands on one.
+/// Whether some place reaches itself. The numbers of the components show it at once: where each step leads to
+/// a lower one there is no loop, and another step stands on one.
 pub fn has_loop(alloc: Global, rows: &[Items<usize>]) -> Result<bool, AllocError>
     requires within { AreWithin rows.now }
     requires small { length rows.now < usize.MAX }

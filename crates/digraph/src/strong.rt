@@ -3,8 +3,8 @@
 use sqlite_items::Items;
 use std::alloc::{AllocError, Global};
 
-// Each place has the number of its turn (0 before it), the least turn that it reaches back to, and the number of
-// its component (0 before it is known).
+// Each place has the number of its turn (0 before it), the least turn that it reaches back to, and the number
+// of its component (0 before it is known).
 #[derive(Drop)]
 struct Walk {
     turns: Vec<usize>,
@@ -129,7 +129,7 @@ fn most_steps(rows: &[Items<usize>]) -> usize {
     steps
 }
 
-/// For each place a number, which two have in common exactly where each reaches the other, or where they are one.
+/// For each place a number, which two places have in common exactly where each reaches the other.
 pub fn components_of(alloc: Global, rows: &[Items<usize>]) -> Result<Vec<usize>, AllocError> {
     let mut walk = Walk {
         turns: vec![in alloc; 0; rows.len()]?,

@@ -70,7 +70,8 @@ fn one_mark(alloc: Global, count: usize, place: usize) -> Result<Vec<bool>, Allo
     Ok(marks)
 }
 
-/// Whether a path leads from the end of a step back to its start. It answers no too where it would take too many rounds.
+/// Whether a path leads from the end of a step back to its start. It answers no too where it would take too
+/// many rounds.
 pub fn returns(
     alloc: Global,
     rows: &[Items<usize>],

@@ -5,10 +5,10 @@ use Rattle.rulesyntax.specs.declared.tree.Spelled.{Spelled}
 use Rattle.rulesyntax.specs.declared.fault.Kind.{Kind}
 use Rattle.rulesyntax.specs.declared.fault.Kind.TheVariants.{TooLong, Syntax, Unsupported, Family, UnknownChain, UnknownSet, Duplicate, Loop, Depth, WrongHook, WrongType, NotExternal, NotInside, Limit, Overlap, NoMemory}
 use Rattle.rulesyntax.specs.declared.fault.LoadFault.{LoadFault}
-use Rattle.rulesyntax.specs.Text.{IsShort, IsSpelledBy, IsOkOrNoMemory, IsUnread, IsRefused}
+use Rattle.rulesyntax.specs.Text.{IsShort, IsSpelledBy, IsOkOrNoMemory, IsUnread, IsUnreadFor}
 
 module _ (text : List ℕ) (short : IsShort text) where
-  of_kind : (kind : Kind) → IsUnread kind → ((rules : Spelled) → IsSpelledBy rules text → kind ≡ NoMemory) → IsRefused text kind
+  of_kind : (kind : Kind) → IsUnread kind → ((rules : Spelled) → IsSpelledBy rules text → kind ≡ NoMemory) → IsUnreadFor text kind
   of_kind NoMemory unread only = short
   of_kind Syntax unread only = (tt, short, λ rules spelled. let e = only rules spelled in absurd cc)
   of_kind Unsupported unread only = (tt, short, λ rules spelled. let e = only rules spelled in absurd cc)
@@ -27,6 +27,6 @@ module _ (text : List ℕ) (short : IsShort text) where
   of_kind Overlap unread only = absurd unread
 
   -- what reading its tokens gives
-  pub refused : (read : Result Spelled LoadFault) → ((rules : Spelled) → IsSpelledBy rules text → IsOkOrNoMemory rules read) → IfErr read (λ fault. IsUnread fault.kind) → IfErr read (λ fault. IsRefused text fault.kind)
+  pub refused : (read : Result Spelled LoadFault) → ((rules : Spelled) → IsSpelledBy rules text → IsOkOrNoMemory rules read) → IfErr read (λ fault. IsUnread fault.kind) → IfErr read (λ fault. IsUnreadFor text fault.kind)
   refused (Ok rules) only kinds = tt
   refused (Err fault) only kinds = of_kind fault.kind kinds only

@@ -46,10 +46,10 @@ IsOfSyntax TooLong = Unit {0}
 IsOfSyntax kind = IsUnread kind
 
 -- the kind is why the text isn't read; memory may be lacking for any text that isn't too long
-abbrev pub IsRefused : List ℕ → Kind → Type 0
-IsRefused text TooLong = greatest_length < length text
-IsRefused text NoMemory = IsShort text
-IsRefused text kind = IsUnspelled kind × IsShort text × IsSenseless text
+abbrev pub IsUnreadFor : List ℕ → Kind → Type 0
+IsUnreadFor text TooLong = greatest_length < length text
+IsUnreadFor text NoMemory = IsShort text
+IsUnreadFor text kind = IsUnspelled kind × IsShort text × IsSenseless text
 
 -- the fault that tells of the error
 abbrev pub IsFault : LoadFault → ReadError → Type 0

@@ -1,11 +1,13 @@
 //! The syntax of rulesets: the text of a ruleset read as the tree that it spells.
 //!
-//! `parse` answers the tree exactly where the text spells one, and else what is wrong, and in which
-//! line. `tree` is what it answers, `fault` and `line` why it doesn't. Within, the crate `ruletokens` cuts a text
-//! into tokens; `next` and `keyword` read one token, `element` elements and lists with commas, `rule`,
-//! `chain`, `set` and `table` what their names say, and `list` what stands apart by semicolons and
-//! line ends. What tokens are is said by `ruletokens`, and what they spell in specs/Grammar; of these
-//! specs/Text makes what a text spells. specs/Reading and specs/Words only serve the proofs.
+//! `parse` answers the tree exactly where the text spells one, and else what is wrong, and in which line.
+//! `tree` is what it answers, `fault` and `line` why it doesn't.
+//!
+//! The crate `ruletokens` cuts a text into tokens, `next` and `keyword` read one token, `element` elements
+//! and lists with commas, `rule`, `chain`, `set` and `table` what their names say, and `list` what stands
+//! apart by semicolons and line ends. What tokens are is said by `ruletokens`, and what they spell in
+//! specs/Grammar; of these specs/Text makes what a text spells. specs/Reading and specs/Words only serve the
+//! proofs.
 #![tactic(auto)]
 
 mod chain;

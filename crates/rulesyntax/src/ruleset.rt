@@ -3,8 +3,7 @@
 ghost use Rattle.std.specs.Prelude.{◌≡◌, ◌↔◌, ◌<◌, ◌≤◌, ℕ, List, length, Err, IfOk, IfErr};
 ghost use Rattle.rulesyntax.specs.Reading.{Answers};
 ghost use Rattle.rulesyntax.specs.Grammar.{Spells};
-ghost use Rattle.rulesyntax.specs.Text.{greatest_length, IsSpelledBy, IsOkOrNoMemory, IsRefused, IsUnspelled, IsUnread, IsOfSyntax, IsFault};
-ghost use Rattle.ruletokens.specs.Tokens.{AreTokens};
+ghost use Rattle.rulesyntax.specs.Text.{greatest_length, IsSpelledBy, IsOkOrNoMemory, IsUnreadFor, IsUnspelled, IsUnread, IsOfSyntax, IsFault};
 ghost use Rattle.ruletokens.specs.declared.token.Token.{Token};
 ghost use Rattle.rulesyntax.specs.declared.tree.Spelled.{Spelled};
 ghost use Rattle.rulesyntax.specs.declared.fault.Kind.TheVariants.{TooLong};
@@ -63,8 +62,9 @@ fn read(source: &Source, tokens: &[Token]) -> Result<Spelled, LoadFault>
 /// # Errors
 ///
 /// `TooLong` exactly for more than `GREATEST_LENGTH` bytes, with line 1. `Syntax`, `Unsupported` or `Family`
-/// where no ruleset is spelled, with the line of the first token that can't stand where it does; where the text
-/// ends too early, that is the number of its newlines plus one. `NoMemory` only where a growth was refused.
+/// where no ruleset is spelled, with the line of the first token that can't stand where it does; where the
+/// text ends too early, that is the number of its newlines plus one. `NoMemory` only where a growth was
+/// refused.
 pub fn parse(alloc: Global, text: &[u8]) -> Result<Spelled, LoadFault>
     // What is answered is spelled.
     ensures found { IfOk result (λ rules. IsSpelledBy rules text.now) }
@@ -75,7 +75,7 @@ pub fn parse(alloc: Global, text: &[u8]) -> Result<Spelled, LoadFault>
     ensures kinds { IfErr result (λ fault. IsOfSyntax fault.kind) }
 
     // A fault is true of the text: one of syntax comes only where nothing is spelled.
-    ensures refused { IfErr result (λ fault. IsRefused text.now fault.kind) }
+    ensures refused { IfErr result (λ fault. IsUnreadFor text.now fault.kind) }
 {
     if text.len() > GREATEST_LENGTH {
         return Err(LoadFault {
@@ -89,14 +89,10 @@ pub fn parse(alloc: Global, text: &[u8]) -> Result<Spelled, LoadFault>
     read(&source, tokens.as_slice())
 }
 
-/// A text has one list of tokens, and spells one ruleset at most.
+/// Tokens spell one ruleset at most, and so does a text.
 pub fn one_ruleset()
     ensures tokens { (tokens : List Token) (a b : Spelled) → Spells a tokens → Spells b tokens → a ≡ b }
     ensures text { (text : List ℕ) (a b : Spelled) → IsSpelledBy a text → IsSpelledBy b text → a ≡ b }
-
-    // Each text has tokens, whatever its bytes, and no others.
-    ensures has_tokens { (text : List ℕ) → (tokens : List Token) × AreTokens tokens text }
-    ensures same_tokens { (text : List ℕ) (a b : List Token) → AreTokens a text → AreTokens b text → a ≡ b }
 {
     one_token_list();
 }

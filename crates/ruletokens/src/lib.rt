@@ -1,9 +1,9 @@
-//! The tokens of rulesets: the text of a ruleset cut into words, numbers, addresses and signs.
+//! The tokens of rulesets: a text cut into names, numbers, addresses, quoted strings and symbols.
 //!
 //! `tokens` cuts a text, whatever its bytes, and puts the line of each token beside it; it fails only where a
-//! growth was refused. `token` is what it answers, `line` the number of a line, which reports give, and `source`
-//! what readers of tokens are handed: where memory comes from, and the lines. Within, `lex` takes one piece after
-//! another off the front. Which bytes a token stands for is said in specs/Tokens, by longest match.
+//! growth was refused. `token` is what it answers, `line` the number of a line, which reports give, and
+//! `source` what readers of tokens are handed: where memory comes from, and the lines. `lex` takes one piece
+//! after another off the front. Which bytes a token stands for is said in specs/Tokens, by longest match.
 #![tactic(auto)]
 
 mod lex;

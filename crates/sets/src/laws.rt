@@ -21,7 +21,7 @@ pub fn ranges_share()
     ensures { RangesShare }
 {}
 
-/// Where no two keys share a value, a value leads to one verdict.
-pub fn leads_to_one<V>()
+/// Where no two keys share a value, a value maps to one verdict at most.
+pub fn maps_to_one<V>()
     ensures { MapsToOne V }
 {}

@@ -9,9 +9,3 @@ returns-clause-tokens c = one_ruleset
 
 pub returns-clause-text : goal.returns-clause-text
 returns-clause-text c = λ text a b g h. one_ruleset g.0 a b g.2 (subst (λ (ts : List Token). Spells b ts) (c.one_token_list.ensures.unique text h.0 g.0 h.1 g.1) h.2)
-
-pub returns-clause-has_tokens : goal.returns-clause-has_tokens
-returns-clause-has_tokens c = c.one_token_list.ensures.exists
-
-pub returns-clause-same_tokens : goal.returns-clause-same_tokens
-returns-clause-same_tokens c = c.one_token_list.ensures.unique

@@ -1,7 +1,7 @@
 use Rattle.std.proofs.Common.{◌∙◌, sym, ap}
 use Rattle.sets.specs.declared.element.Pair.{Pair}
 use Rattle.sets.proofs.Keys.{one_key}
-use Rattle.sets.proofs.laws.leads_to_one.Goals as goal
+use Rattle.sets.proofs.laws.maps_to_one.Goals as goal
 
 pub returns : goal.returns
 returns g c = λ pairs apart fact one other (i, p, li, pi, (hp, vp)) (j, q, lj, qj, (hq, vq)).
