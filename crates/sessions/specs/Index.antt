@@ -24,10 +24,6 @@ IsEndpoint e = (e.addr < 4294967296) × (e.port < 65536)
 abbrev pub AreEndpoints : Session → Type 0
 AreEndpoints s = IsEndpoint s.inside × IsEndpoint s.outside × IsEndpoint s.remote
 
--- the key by which a session that isn't translated is found from both sides
-abbrev pub flow_name : Session → Option ℕ
-flow_name s = cond (is_translated s) None (Some (key_number s.proto s.inside s.remote))
-
 -- protocol and an endpoint behind one another, a number of 56 bits
 abbrev pub mapping_number : Proto → Endpoint → ℕ
 mapping_number proto near = proto_number proto * 281474976710656 + endpoint_number near
@@ -41,6 +37,10 @@ outside_number s = mapping_number s.proto s.outside
 
 abbrev pub flow_number : Session → ℕ
 flow_number s = key_number s.proto s.inside s.remote
+
+-- the key by which a session that isn't translated is found from both sides
+abbrev pub flow_name : Session → Option ℕ
+flow_name s = cond (is_translated s) None (Some (flow_number s))
 
 -- the entries have the slot of each session that has a name, under that name, and nothing else
 pub record Finds (name : Session → Option ℕ) (held : List (Option Session)) (entries : List Entry) : Type 0 where

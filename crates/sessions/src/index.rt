@@ -97,26 +97,26 @@ impl Index {
 }
 
 // Puts a session in if it is translated.
-fn add_translated(row: &mut Translated, session: &Session, slot: usize)
-    requires lacks { translates session.now ≡ true → LacksMapping row.old session.now }
-    requires room { 0 < room_in row.old }
-    ensures taken { AddsTo row.old row.new session.now slot }
-    ensures room { room_in row.old ≤ room_in row.new + 1 }
+fn add_translated(translated: &mut Translated, session: &Session, slot: usize)
+    requires lacks { translates session.now ≡ true → LacksMapping translated.old session.now }
+    requires room { 0 < room_in translated.old }
+    ensures taken { AddsTo translated.old translated.new session.now slot }
+    ensures room { room_in translated.old ≤ room_in translated.new + 1 }
 {
     if is_translated(session) {
-        row.insert(session, slot);
+        translated.insert(session, slot);
     }
 }
 
 // Takes the session of a slot out if it is translated.
-fn end_translated(row: &mut Translated, sessions: &Slab<Session>, session: &Session, slot: usize)
-    requires told { IsTold sessions.now.slots row.old }
+fn end_translated(translated: &mut Translated, sessions: &Slab<Session>, session: &Session, slot: usize)
+    requires told { IsTold sessions.now.slots translated.old }
     requires held { slice_index_or sessions.now.slots slot None ≡ Some session.now }
-    ensures gone { EndsIn sessions.now.slots row.old row.new session.now slot }
-    ensures room { room_in row.old ≤ room_in row.new }
+    ensures gone { EndsIn sessions.now.slots translated.old translated.new session.now slot }
+    ensures room { room_in translated.old ≤ room_in translated.new }
 {
     if is_translated(session) {
-        row.remove(sessions, session, slot);
+        translated.remove(sessions, session, slot);
     }
 }
 
@@ -262,33 +262,33 @@ pub fn clashes(sessions: &Slab<Session>, index: &Index, session: &Session) -> bo
     ensures { IsTrue result ↔ AnyClash sessions.now.slots session.now }
 {
     let (proto, remote) = (session.proto, session.remote);
-    let near = index.translated.first_inside(proto, session.inside);
-    if seek_inside(sessions, index, near, proto, session.inside, remote).is_some() {
+    let by_inside = index.translated.first_inside(proto, session.inside);
+    if seek_inside(sessions, index, by_inside, proto, session.inside, remote).is_some() {
         return true;
     }
-    let far = index.translated.first_outside(proto, session.outside);
-    if seek_outside(sessions, index, far, proto, session.outside, remote).is_some() {
+    let by_outside = index.translated.first_outside(proto, session.outside);
+    if seek_outside(sessions, index, by_outside, proto, session.outside, remote).is_some() {
         return true;
     }
-    breaks_mapping(sessions, index, near, far, session)
+    breaks_mapping(sessions, index, by_inside, by_outside, session)
 }
 
 // Whether the session clashes with the first one of either of its endpoints, which tells the mapping of it.
 fn breaks_mapping(
     sessions: &Slab<Session>,
     index: &Index,
-    near: Option<usize>,
-    far: Option<usize>,
+    by_inside: Option<usize>,
+    by_outside: Option<usize>,
     session: &Session,
 ) -> bool
     requires indexed { IsIndexed sessions.now.slots index.now }
-    requires near { near ≡ first_by_inside index.now.translated session.now.proto session.now.inside }
-    requires far { far ≡ first_by_outside index.now.translated session.now.proto session.now.outside }
+    requires by_inside { by_inside ≡ first_by_inside index.now.translated session.now.proto session.now.inside }
+    requires by_outside { by_outside ≡ first_by_outside index.now.translated session.now.proto session.now.outside }
     ensures broken { IsTrue result → AnyClash sessions.now.slots session.now }
     ensures kept { ¬ IsTrue result → IsNowhere sessions.now.slots (BreakMapping session.now) }
 {
     has_endpoints(session);
-    clashes_at(sessions, near, session) || clashes_at(sessions, far, session)
+    clashes_at(sessions, by_inside, session) || clashes_at(sessions, by_outside, session)
 }
 
 fn clashes_at(sessions: &Slab<Session>, slot: Option<usize>, session: &Session) -> bool
