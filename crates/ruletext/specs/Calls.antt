@@ -1,6 +1,5 @@
 -- Which chains a chain jumps or goes to.
-use Rattle.std.specs.Prelude.{◌≡◌, ◌⊎◌, ℕ, false, List, [], ◌∷◌, Some, slice_get, length, All, ◌<◌}
-use Rattle.std.specs.List.{Contains}
+use Rattle.std.specs.Prelude.{◌≡◌, ◌⊎◌, ℕ, false, List, [], ◌∷◌, Some, slice_get, All}
 use Rattle.rulesyntax.specs.declared.tree.Verdict.{Verdict}
 use Rattle.rulesyntax.specs.declared.tree.Rule.{Rule}
 use Rattle.rulesyntax.specs.declared.tree.Chain.{Chain}
@@ -27,14 +26,6 @@ ChainCalls names b chain = OfSome (RuleCalls names b) chain.rules
 -- the chain at the one place jumps or goes to the chain at the other
 abbrev pub Calls : List Chain → ℕ → ℕ → Type 0
 Calls chains a b = (chain : Chain) × (slice_get chains a ≡ Some chain) × ChainCalls (chain_names chains) b chain
-
--- the one row has the place of the other
-abbrev pub HasEdge : List (List ℕ) → ℕ → ℕ → Type 0
-HasEdge rows a b = (row : List ℕ) × (slice_get rows a ≡ Some row) × Contains row b
-
--- each number of a row is a place of a row
-abbrev pub AreWithin : List (List ℕ) → Type 0
-AreWithin rows = All (λ row. All (λ b. b < length rows) row) rows
 
 -- chains of a table that reach themselves by jumps and gotos
 abbrev pub IsLooped : List Chain → Type 0
