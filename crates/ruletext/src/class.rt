@@ -127,7 +127,7 @@ pub fn protocol_named(name: &[u8]) -> Option<u32>
     None
 }
 
-/// The number, 0 to 4, that stands for a state of a connection: new, established, related, invalid or untracked.
+/// The number, 0 to 4, of a state of a connection: new, established, related, invalid or untracked.
 pub fn state_named(name: &[u8]) -> Option<u32>
     ensures { result ≡ state_of_name name.now }
 {

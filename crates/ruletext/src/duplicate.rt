@@ -129,8 +129,8 @@ fn twice_table(alloc: Global, family: Family, tables: &[Table]) -> Result<Option
     Ok(None)
 }
 
-/// The line of the first in the text that is one too many: a second table of one family and name, or in a table a
-/// second chain or set of one name, or a second line of one sort in a set.
+/// The line of the first in the text that is one too many: a second table of one family and name, or in a
+/// table a second chain or set of one name, or a second line of one sort in a set.
 pub fn duplicate(alloc: Global, tables: &[Table]) -> Result<Option<Line>, AllocError>
     ensures { IfOk result (λ line. is_some line ≡ has_duplicate_in tables.now) }
 {

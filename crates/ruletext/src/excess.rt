@@ -5,8 +5,8 @@ use rulesyntax::line::Line;
 use rulesyntax::tree::{Chain, Element, End, Match, Pair, Rule, Set, Side, Table};
 use std::alloc::{AllocError, Global};
 
-// The lines of what is counted; elements of sets and those of rules stand apart in a table, so that they aren't
-// in the order of the text.
+// The lines of what is counted; elements of sets and those of rules stand apart in a table, so that they
+// aren't in the order of the text.
 #[derive(Drop)]
 struct Counted {
     chains: Vec<usize>,

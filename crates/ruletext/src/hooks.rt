@@ -227,7 +227,8 @@ fn misplaced(chains: &[Chain]) -> Option<Line>
     None
 }
 
-// A chain of a table at a hook where its type can't be, or a translation that a nat chain comes to at the wrong hook.
+// A chain of a table at a hook where its type can't be, or a translation that a nat chain comes to at the
+// wrong hook.
 fn wrong_hook(alloc: Global, chains: &[Chain]) -> Result<Option<Line>, AllocError>
     requires distinct { has_twice (chain_names chains.now) ≡ false }
     requires flat { ¬ IsDeep chains.now }

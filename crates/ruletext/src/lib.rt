@@ -1,15 +1,15 @@
 //! Rulesets that may run: which texts load under a gateway's bounds, and why the others don't.
 //!
-//! `read` answers the rules of a text, or the least kind of fault that holds of it and the line. Where a function
-//! answers an `AllocError`, a growth was refused, and nothing else is wrong.
+//! `read` answers the rules of a text, or the least kind of fault that holds of it and the line. Where a
+//! function answers an `AllocError`, a growth was refused, and nothing else is wrong.
 //!
 //! - `reading`, `load`, `ruleset`: from a text, and from what it spells, to rules that may run.
-//! - `refusal`: the kinds in the order in which they count. One room a kind: `unknown`, `duplicate`, `loops`,
-//!   `hooks`, `types`, `places`, `counts`, `overlap`.
+//! - `refusal`: the kinds in the order in which they count. Which of them hold is told by `unknown`,
+//!   `duplicate`, `loops`, `hooks`, `types`, `places`, `counts` and `overlap`.
 //! - `class`, `parts`: the classes of values, and the parts of sets that values stand for.
 //! - `names`, `named`: names by their places, and those of chains and sets.
-//! - `calls`, `graph`: the jumps and gotos of a table as rows of places, a directed graph. The crate `digraph` tells
-//!   what paths it has.
+//! - `calls`, `graph`: the jumps and gotos of a table as rows of places, a directed graph. The crate
+//!   `digraph` tells what paths it has.
 //! - `lines`, `excess`, `earlier`: which line is named, of which no contract speaks.
 #![tactic(auto)]
 

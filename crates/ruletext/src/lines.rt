@@ -19,7 +19,7 @@ use std::alloc::{AllocError, Global};
 enum Wanted {
     // Those within one component, each chain with the number of its own.
     Looping(Vec<usize>),
-    // Those on a path of more than 16, each chain with the steps of the longest path to it and of the longest from it.
+    // Those on a path of more than 16, each chain with the lengths of the longest paths to it and from it.
     Long {
         before: Vec<usize>,
         behind: Vec<usize>,

@@ -15,8 +15,8 @@ use std::alloc::Global;
 ///
 /// # Errors
 ///
-/// The first kind of fault that it has, in the order of `Kind`, with the line at which that shows. `NoMemory` comes only
-/// where a growth was refused. What is spelled is dropped then.
+/// The first kind of fault that it has, in the order of `Kind`, with the line at which that shows. `NoMemory`
+/// comes only where a growth was refused. What is spelled is dropped then.
 pub fn load(alloc: Global, spelled: Spelled, bounds: &Bounds) -> Result<Ruleset, LoadFault>
     ensures same { IfOk result (λ rules. rules ≡ spelled) }
     ensures may_run { IfOk result (λ rules. MayRun bounds.now rules) }

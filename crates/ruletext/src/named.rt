@@ -10,7 +10,7 @@ use std::alloc::{AllocError, Global};
 
 /// What has a name.
 pub trait Named {
-    /// Its name.
+    /// Its name, as contracts see it.
     ghost name_of: { Self → List ℕ };
 
     /// Its name.

@@ -60,7 +60,7 @@ fn keys_overlap(alloc: Global, class: Class, pairs: &[Pair]) -> Result<bool, All
     share(keys)
 }
 
-// The line of the first key that shares a value with an earlier one: that of the shortest front in which two do.
+// The line of the first key that shares a value with an earlier one: that of the shortest front where two do.
 fn line_of_later(alloc: Global, class: Class, pairs: &[Pair]) -> Result<Line, AllocError>
     requires some { 0 < length pairs.now }
     requires few { length pairs.now ≤ limit }

@@ -70,8 +70,8 @@ fn misled_chains(bounds: &Bounds, what: Translation, chains: &[Chain]) -> Option
     None
 }
 
-/// The line of the first address of a translation of this sort where it can't lead, wherever it stands: a source
-/// that isn't the external address, or a destination that isn't inside.
+/// The line of the first address of a translation of this sort where it can't lead, wherever it stands: a
+/// source that isn't the external address, or a destination that isn't inside.
 pub fn misled(bounds: &Bounds, what: Translation, tables: &[Table]) -> Option<Line>
     ensures { is_some result ≡ some_end_in (is_misled bounds.now what) tables.now }
 {

@@ -16,9 +16,9 @@ use std::alloc::Global;
 ///
 /// # Errors
 ///
-/// Why it can't be taken, with the line at which that shows: `TooLong` above `GREATEST_LENGTH` of `rulesyntax`; what
-/// the parser says of a text that is no ruleset; of a ruleset, the first kind of fault that it has, as `Kind` orders
-/// them. `NoMemory` comes only where a growth was refused.
+/// Why it can't be taken, with the line at which that shows: `TooLong` above `GREATEST_LENGTH` of
+/// `rulesyntax`; what the parser says of a text that is no ruleset; of a ruleset, the first kind of fault
+/// that it has, as `Kind` orders them. `NoMemory` comes only where a growth was refused.
 pub fn read(alloc: Global, text: &[u8], bounds: &Bounds) -> Result<Ruleset, LoadFault>
     ensures loads { IfOk result (λ rules. Loads bounds.now text.now rules) }
     ensures only { (rules : Spelled) → Loads bounds.now text.now rules → IsOkOrNoMemory rules result }

@@ -100,8 +100,8 @@ fn names(alloc: Global, bounds: &Bounds, tables: &[Table]) -> Result<Option<Load
     paths(alloc, bounds, tables)
 }
 
-/// The least kind of fault that holds of rules, from `UnknownChain` to `Overlap`, and the line of the token or
-/// statement at fault; nothing where none holds.
+/// The least kind of fault that holds of rules, from `UnknownChain` to `Overlap`, and the line of the token
+/// or statement at fault; nothing where none holds.
 ///
 /// # Errors
 ///

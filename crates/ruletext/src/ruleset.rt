@@ -39,8 +39,8 @@ impl Ruleset {
         &self.text
     }
 
-    /// What every ruleset keeps: none of the faults that a text has under whatever bounds. It does nothing but
-    /// carry this.
+    /// What every ruleset keeps: none of the faults that a text has under whatever bounds. It does nothing
+    /// but carry this.
     pub fn is_runnable(&self)
         ensures { IsRunnable self.now }
     {

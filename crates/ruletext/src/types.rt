@@ -235,8 +235,8 @@ fn wrong_in_table(alloc: Global, table: &Table) -> Result<Option<Line>, AllocErr
     wrong_in(alloc, table.sets.as_slice(), table.chains.as_slice())
 }
 
-/// The line of the first value or set of a wrong type, or translation that a filter chain comes to, in the first
-/// table that has one.
+/// The line of the first value or set of a wrong type, or translation that a filter chain comes to, in the
+/// first table that has one.
 pub fn wrong_type(alloc: Global, tables: &[Table]) -> Result<Option<Line>, AllocError>
     requires sets { HaveDistinctSets tables.now }
     requires chains { AreDistinct tables.now }
