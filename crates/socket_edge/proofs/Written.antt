@@ -1,5 +1,5 @@
 -- A beginning of bytes, written.
-use Rattle.std.proofs.Common.{◌≡◌, ℕ, suc, ◌+◌, ◌-◌, ◌^◌, ◌<◌, min, get_or, arith, subst, length-append, List, [], ◌∷◌, ◌++◌, Option, Some, None, Result, IfErr, length, take, drop, sym, ap, ◌∙◌, append_assoc}
+use Rattle.std.proofs.Common.{◌≡◌, refl, ℕ, suc, ◌+◌, ◌<◌, get_or, arith, subst, List, [], ◌∷◌, ◌++◌, Option, Some, None, Result, IfErr, length, take, drop, sym, ap, ◌∙◌, append_assoc}
 use Rattle.std.proofs.lemmas.List.{take-append-drop, append-nil}
 use Rattle.std.proofs.lemmas.List.Concat.{flat_map-append}
 use Rattle.std.proofs.Math.Seq.{take-suc}
@@ -7,10 +7,12 @@ use Rattle.std.specs.List.{flat_map}
 use Rattle.std.proofs.lemmas.Result.{IfErr-weaker}
 use Rattle.std.specs.Io.KnownBytes.{Appends, Keeps}
 use Rattle.byteorder.specs.Endian.{big_bytes}
+use Rattle.packet.specs.declared.endpoint.Iface.{Iface}
 use Rattle.machine.specs.declared.event.Answer.{Answer}
+use Rattle.machine.specs.declared.event.Answer.TheVariants as answer
 use Rattle.socket_edge.specs.declared.fault.EdgeFault.{EdgeFault}
 use Rattle.socket_edge.specs.declared.fault.EdgeFault.TheVariants.{Output}
-use Rattle.socket_edge.specs.Answering.{kind_byte, answer_body, frame_head, frame, frames_len, AppendsFront}
+use Rattle.socket_edge.specs.Answering.{kind_byte, answer_body, frame_head, frame, AppendsFront}
 use Rattle.socket_edge.proofs.Streams.{Appends-then}
 
 -- the first n bytes, and then a write that appends nothing
@@ -63,13 +65,20 @@ Front-next a b c answers i p lt is q r =
     ap (λ (z : List ℕ). z ++ after) (sym (frames_step answers i p lt is)) ∙ sym (flat_map-append frame (take (i + 1) answers) (drop (i + 1) answers)) ∙ ap (flat_map frame) (take-append-drop (i + 1) answers) in
     subst (AppendsFront a c) whole (Front-of a c (flat_map frame (take i answers) ++ frame p) after (Front-behind a b c (flat_map frame (take i answers)) (frame p) q r))
 
-frame_len : (p : ℕ × Answer) → length (frame p) ≡ 13 + length (answer_body p.1)
-unfolding frame
-frame_len p = omega arith
+-- bytes put behind others, up to the first one of a body, and then the rest of it
+pub frame_behind : (before : List ℕ) (p : ℕ × Answer) (first : ℕ) (more : List ℕ) → answer_body p.1 ≡ first ∷ more → (before ++ (frame_head p ++ first ∷ [])) ++ more ≡ before ++ frame p
+frame_behind before p first more is =
+    append_assoc before (frame_head p ++ first ∷ []) more
+    ∙ ap (λ (z : List ℕ). before ++ z) (append_assoc (frame_head p) (first ∷ []) more ∙ ap (λ (z : List ℕ). frame_head p ++ z) (sym is) ∙ frame_parts p)
 
-pub frames_len-step : (answers : List (ℕ × Answer)) (i : ℕ) (p : ℕ × Answer) (len more : ℕ) → i < length answers → p ≡ get_or answers i p
-    → len ≡ frames_len (take i answers) → more ≡ length (answer_body p.1) → min (len + (13 + more)) (2 ^ 64 - 1) ≡ frames_len (take (i + 1) answers)
-frames_len-step answers i p len more lt is l m =
-    let next : length (flat_map frame (take (i + 1) answers)) ≡ length (flat_map frame (take i answers)) + (13 + more) =
-    ap length (frames_step answers i p lt is) ∙ length-append (flat_map frame (take i answers)) (frame p) ∙ ap (λ (n : ℕ). length (flat_map frame (take i answers)) + n) (frame_len p ∙ ap (λ (n : ℕ). 13 + n) (sym m)) in
-    rw (next, l) (omega arith)
+-- a body of one byte
+pub frame_whole : (before : List ℕ) (p : ℕ × Answer) (only : ℕ) → answer_body p.1 ≡ only ∷ [] → before ++ (frame_head p ++ only ∷ []) ≡ before ++ frame p
+frame_whole before p only is = ap (λ (z : List ℕ). before ++ z) (ap (λ (z : List ℕ). frame_head p ++ z) (sym is) ∙ frame_parts p)
+
+-- neither a packet nor a drop: no body
+pub frame_bare : (p : ℕ × Answer) → ((iface : Iface) (packet : List ℕ) → p.1 ≡ answer.Forward iface packet → ⊥) → ((cause : ℕ) → p.1 ≡ answer.Dropped cause → ⊥) → frame_head p ≡ frame p
+frame_bare (n, answer.Forward iface packet) f d = absurd (f iface packet refl)
+frame_bare (n, answer.Dropped cause) f d = absurd (d cause refl)
+frame_bare (n, answer.Loaded) f d = sym (append-nil (frame_head (n, answer.Loaded))) ∙ frame_parts (n, answer.Loaded)
+frame_bare (n, answer.Refused) f d = sym (append-nil (frame_head (n, answer.Refused))) ∙ frame_parts (n, answer.Refused)
+frame_bare (n, answer.Ticked) f d = sym (append-nil (frame_head (n, answer.Ticked))) ∙ frame_parts (n, answer.Ticked)

@@ -1,5 +1,5 @@
 -- Answer frames, and what has been answered.
-use Rattle.std.specs.Prelude.{◌≡◌, ℕ, ◌+◌, ◌-◌, ◌^◌, min, List, [], ◌∷◌, ◌++◌, length, Option}
+use Rattle.std.specs.Prelude.{◌≡◌, ℕ, ◌+◌, List, [], ◌∷◌, ◌++◌, length, Option}
 use Rattle.std.specs.Io.KnownBytes.{Appends}
 use Rattle.std.specs.List.{flat_map}
 use Rattle.byteorder.specs.Endian.{big_bytes}
@@ -37,10 +37,6 @@ frame p = kind_byte p.1 ∷ big_bytes 8 p.0 ++ big_bytes 4 (length (answer_body 
 
 abbrev pub frames : List (ℕ × Answer) → List ℕ
 frames answers = flat_map frame answers
-
--- the length in bytes of the frames, up to the greatest number of 64 bits
-abbrev pub frames_len : List (ℕ × Answer) → ℕ
-frames_len answers = min (length (frames answers)) (2 ^ 64 - 1)
 
 -- what stands in a frame before its body
 abbrev pub frame_head : ℕ × Answer → List ℕ

@@ -1,12 +1,12 @@
 //! The frames of answers.
-ghost use Rattle.std.specs.Prelude.{◌≡◌, ℕ, ◌++◌, OnOk, OnErr, length, take};
+ghost use Rattle.std.specs.Prelude.{◌≡◌, ℕ, [], ◌∷◌, ◌++◌, OnOk, OnErr, length, take};
 ghost use Rattle.socket_edge.specs.Answering.{iface_byte, kind_byte, answer_body, frame_head, frame, frames};
 
 use gateway::{Answer, Iface};
 use std::alloc::AllocError;
 
 /// The bytes of a frame before its body.
-pub const HEAD_LEN: usize = 13;
+const HEAD_LEN: usize = 13;
 
 fn kind_of(answer: &Answer) -> u8
     ensures { result ≡ kind_byte answer.now }
@@ -29,7 +29,7 @@ pub fn byte_of(iface: Iface) -> u8
     }
 }
 
-pub fn body_len(answer: &Answer) -> u32
+fn body_len(answer: &Answer) -> u32
     ensures { result ≡ length (answer_body answer.now) }
 {
     match answer {
@@ -50,32 +50,36 @@ pub fn head_bytes(number: u64, answer: &Answer) -> [u8; HEAD_LEN]
     bytes
 }
 
-/// Puts a body at the end. An `Err` may leave a part of it there.
-fn put_body(out: &mut Vec<u8>, answer: &Answer) -> Result<(), AllocError>
-    ensures ok { OnOk result (out.new.items ≡ out.old.items ++ answer_body answer.now) }
-    ensures front { take (length out.old.items) out.new.items ≡ out.old.items }
+/// The bytes of a frame up to the first one of its body.
+fn front_bytes(number: u64, answer: &Answer, first: u8) -> [u8; HEAD_LEN + 1]
+    ensures { result ≡ frame_head (number, answer.now) ++ first ∷ [] }
 {
-    match answer {
-        Answer::Forward(iface, packet) => {
-            out.push(byte_of(*iface))?;
-            out.extend_from_slice(packet.as_slice())?;
-            Ok(())
-        }
-        Answer::Dropped(number) => {
-            out.push(*number)?;
-            Ok(())
-        }
-        _ => Ok(()),
-    }
+    let mut bytes = [0; HEAD_LEN + 1];
+    bytes[..HEAD_LEN].copy_from_slice(&head_bytes(number, answer));
+    bytes[HEAD_LEN] = first;
+    bytes
 }
 
-/// Puts a frame at the end. An `Err` may leave a part of it there.
+/// Puts a frame at the end: all before a packet in one piece. An `Err` may leave a part of it there.
 fn put_parts(out: &mut Vec<u8>, number: u64, answer: &Answer) -> Result<(), AllocError>
     ensures ok { OnOk result (out.new.items ≡ out.old.items ++ frame (number, answer.now)) }
     ensures front { take (length out.old.items) out.new.items ≡ out.old.items }
 {
-    out.extend_from_slice(&head_bytes(number, answer))?;
-    put_body(out, answer)
+    match answer {
+        Answer::Forward(iface, packet) => {
+            out.extend_from_slice(&front_bytes(number, answer, byte_of(*iface)))?;
+            out.extend_from_slice(packet.as_slice())?;
+            Ok(())
+        }
+        Answer::Dropped(cause) => {
+            out.extend_from_slice(&front_bytes(number, answer, *cause))?;
+            Ok(())
+        }
+        _ => {
+            out.extend_from_slice(&head_bytes(number, answer))?;
+            Ok(())
+        }
+    }
 }
 
 /// Puts the frame of an answer with this number at the end.

@@ -1,9 +1,9 @@
 //! Writing the frames of answers: in one piece, or part by part where memory for that is refused.
 ghost use Rattle.std.specs.Prelude.{◌≡◌, ◌++◌, OnOk, IfErr};
 ghost use Rattle.std.specs.Io.KnownBytes.{Appends};
-ghost use Rattle.socket_edge.specs.Answering.{answer_body, frame_head, frame, frames, frames_len, AppendsFront};
+ghost use Rattle.socket_edge.specs.Answering.{answer_body, frame_head, frame, frames, AppendsFront};
 
-use crate::answer::{HEAD_LEN, body_len, byte_of, head_bytes, put_frames};
+use crate::answer::{byte_of, head_bytes, put_frames};
 use crate::fault::EdgeFault;
 use gateway::Answer;
 use std::alloc::{AllocError, Global};
@@ -80,23 +80,11 @@ pub fn send<W: Write>(writer: &mut W, answers: &[(u64, Answer)]) -> Result<(), E
     Ok(())
 }
 
-/// The length of the frames in bytes, or the greatest number if that is less.
-fn len_of(answers: &[(u64, Answer)]) -> usize
-    ensures { result ≡ frames_len answers.now }
-{
-    let mut len: usize = 0;
-    for pair in answers {
-        len = len.saturating_add(HEAD_LEN + body_len(&pair.1) as usize);
-    }
-    len
-}
-
 /// Puts the frames in one piece where the bytes were, whose memory is used again.
 fn gather(bytes: &mut Vec<u8>, answers: &[(u64, Answer)]) -> Result<(), AllocError>
     ensures { OnOk result (bytes.new.items ≡ frames answers.now) }
 {
     bytes.clear();
-    bytes.reserve(len_of(answers))?;
     put_frames(bytes, answers)
 }
 
