@@ -109,7 +109,12 @@ fn add_translated(translated: &mut Translated, session: &Session, slot: usize)
 }
 
 // Takes the session of a slot out if it is translated.
-fn end_translated(translated: &mut Translated, sessions: &Slab<Session>, session: &Session, slot: usize)
+fn end_translated(
+    translated: &mut Translated,
+    sessions: &Slab<Session>,
+    session: &Session,
+    slot: usize,
+)
     requires told { IsTold sessions.now.slots translated.old }
     requires held { slice_index_or sessions.now.slots slot None ≡ Some session.now }
     ensures gone { EndsIn sessions.now.slots translated.old translated.new session.now slot }
