@@ -8,7 +8,8 @@
 //! - `bounds`, `texts`: whether a stored configuration is one, and whether a stored text loads under it.
 //! - `entering`, `groups`: entries, and groups of them, that change the state which is read.
 //! - `fields`: numbers, texts and endpoints in bytes.
-//! - `laws`: what the definitions promise, as functions without a body.
+//! - `fault`: why bytes stand for nothing.
+//! - `laws`: what the definitions promise, as functions that do nothing.
 #![tactic(auto)]
 
 mod bounds;

@@ -188,10 +188,11 @@ fn choose<'a>(
 ///
 /// # Errors
 ///
-/// - `Damaged` exactly where the files stand for no state: an open file has no whole heading with a gate behind it, or
+/// - `Damaged` only where the files stand for no state: an open file has no whole heading with a gate behind it, or
 ///   a configuration that `Bounds::new` doesn't take; both are open with one generation; the snapshot of the active one
 ///   isn't sound, or its text doesn't load; or its leading open groups aren't whole, or an entry in them doesn't fit
-///   the state. All of it is judged by the configuration that is stored.
+///   the state. There it always comes, unless memory is refused. All of it is judged by the configuration that is
+///   stored.
 /// - `NoMemory` where memory is refused.
 pub fn recover<'a>(
     alloc: Global,

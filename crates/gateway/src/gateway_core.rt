@@ -71,9 +71,10 @@ impl<D: Disk + Drop> Gateway<D> {
     /// The disk comes back.
     ///
     /// - `Device` where a call of the disk has failed. The files stand for what they stood for.
-    /// - `Damaged` exactly where the files, as they read, stand for no state. They are not changed.
-    /// - `ConfigDiffers` exactly where they stand for one, and the active file has another configuration than these
-    ///   bounds. They are not changed.
+    /// - `Damaged` only where the files, as they read, stand for no state. They are not changed.
+    /// - `ConfigDiffers` only where they stand for one, and the active file has another configuration than these
+    ///   bounds. They are not changed. There the one or the other always comes, unless memory is refused or a call of
+    ///   the disk fails.
     /// - `NoMemory` where memory is refused. The files stand for what they stood for.
     pub fn open(
         alloc: Global,

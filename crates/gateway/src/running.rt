@@ -1,5 +1,10 @@
 //! A run of events over a gateway's own calls, for those who read the events as they come. What a call comes to is
 //! said of any run that stood before it: how far that run is, and what a crash may leave of it.
+//!
+//! - `begin`: a run of no event
+//! - `take`: one more event; `take_all`: several, and a flush behind them
+//! - `hand_out`: what is held is synced and handed out
+//! - `compact`: what is held is handed out, and the files are made short
 ghost use Rattle.std.specs.Prelude.{◌≡◌, ◌≢◌, ◌↔◌, ◌+◌, ◌<◌, ◌≤◌, ◌++◌, ◌∷◌, [], false, length};
 ghost use Rattle.std.specs.Prelude.{IfErr, IsTrue, OnErr, OnOk, vec_capacity, vec_len};
 ghost use Rattle.gateway.specs.Told.{handed};

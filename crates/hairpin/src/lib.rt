@@ -3,8 +3,8 @@
 //! A leg says by which sessions a packet passes and how it leaves (a `Plan`), or why it is dropped (a
 //! `Cause`). `specs/Legs` says what each comes to, over the sessions as a plain list, and `out_leg`, `in_leg`
 //! and `both` are proved to be it. So are `goes_out` and `comes_in`, the short way of a packet whose session
-//! goes on. These five change nothing and take no memory: the crate `gateway` does what a plan says. It
-//! changes `Translations` by that, of which `new` and `reserve` alone take memory.
+//! goes on. These five change nothing and take no memory: the crate `machine` does what a plan says
+//! (`Flows::carry_out`). It changes `Translations` by that, of which `new` and `reserve` alone take memory.
 //!
 //! An endpoint is an address with a port. An outside endpoint is what an inside one is called towards its
 //! remote one; where nothing is translated the two are the same.

@@ -9,7 +9,7 @@
 //! - `listing`: the sessions in order
 //! - `hints`: guesses of slots, which are looked at first
 //! - `keys`: the numbers that sessions and mappings are found by
-//! - `laws`: what the definitions promise, as functions without a body
+//! - `laws`: what the definitions promise, as functions that do nothing
 #![tactic(auto)]
 
 mod hints;

@@ -1,4 +1,5 @@
-//! The store.
+//! The store: two files, of which one is active. It is opened (`open`), commits groups (`commit`), and is compacted
+//! (`compact`); once a call of its disk has failed it can only give that back (`into_disk`).
 ghost use Rattle.std.specs.Prelude.{◌≡◌, ◌+◌, ◌-◌, ◌^◌, ◌<◌, ◌≤◌, ◌↔◌, List, ℕ, length, MatchResult, IfOk, IfErr, OnOk, IsErrOf, true, false};
 ghost use Rattle.disk_model.specs.Disk.{Files, Leaves, LeavesNow, LeavesOnly, Looks, Called, Grew};
 ghost use Rattle.durable.specs.Coding.{heading_bytes};
@@ -78,9 +79,10 @@ impl<D: Disk + Drop> Store<D> {
     /// The disk comes back.
     ///
     /// - `Device` where a call of the disk has failed. The files stand for what they stood for.
-    /// - `Damaged` exactly where the files, as they read, stand for no state. They are not changed.
-    /// - `ConfigDiffers` exactly where they stand for one, and the active file has another configuration than these
-    ///   bounds. They are not changed.
+    /// - `Damaged` only where the files, as they read, stand for no state. They are not changed.
+    /// - `ConfigDiffers` only where they stand for one, and the active file has another configuration than these
+    ///   bounds. They are not changed. There the one or the other always comes, unless memory is refused or a call of
+    ///   the disk fails.
     /// - `NoMemory` where memory is refused. They are not changed.
     pub fn open(alloc: Global, disk: D, bounds: &Bounds) -> Result<Opened<D>, (D, OpenFault)>
         ensures honest { MatchResult result (λ o. D.honest disk ↔ D.honest o.store.disk)

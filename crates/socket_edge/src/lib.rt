@@ -5,12 +5,12 @@
 //!
 //! `run` reads request frames, offers each whole one to the gateway, and writes the frames of the
 //! answers, in whatever pieces the bytes come and go. The rooms:
-//! - `waiting`: the bytes that were read and aren't answered yet;
-//! - `request`: what stands at the front of the bytes: a whole frame, a part of one, or a fault;
-//! - `answer`: the frames of answers;
-//! - `serving`: all whole frames at the front, offered in order;
-//! - `sending`: the frames of the answers, written with or without memory for them in one piece;
 //! - `edge`: the run, one read after the other;
+//! - `waiting`: the bytes that were read and aren't answered yet;
+//! - `serving`: all whole frames at the front, offered in order;
+//! - `request`: what stands at the front of the bytes: a whole frame, a part of one, or a fault;
+//! - `sending`: the frames of the answers, written with or without memory for them in one piece;
+//! - `answer`: the frames of answers;
 //! - `laws`: what holds of every stream of frames;
 //! - `fault`: why a run ends early.
 #![tactic(auto)]
