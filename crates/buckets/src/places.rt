@@ -127,7 +127,8 @@ fn vacant(places: &[Place], key: u64) -> Option<usize>
     Some(place)
 }
 
-// The first free place in the bucket of the key, which this place has: so none before it is free.
+// The first free place in the bucket of the key, which stands at this place. In front of an entry none is free, so the
+// search begins behind it.
 fn vacant_behind(places: &[Place], place: usize, key: u64) -> Option<usize>
     requires home { AreHome places.now }
     requires front { AreInFront places.now }
