@@ -609,6 +609,40 @@ next-for ps key start free end begin from to short bound none before =
       taken = λ k lt same. let own = home-beside (length ps) key free k (sym same) home in let own_from = own.from in before k (omega (arith, begin, own_from)) lt;
     }
 
+-- what a search behind a key says of the whole bucket
+module _ (ps : List (Option Entry)) (key place start end : ℕ) (homes : AreHome ps) (front : AreInFront ps) (has : HasKey ps key place) (begin : start ≡ bucket_of (length ps) key) where
+  here-home : IsHome (length ps) key place
+  here-home = let there = has-stands ps key place has in subst (λ k. IsHome (length ps) k place) there.2 (homes place there.0 there.1)
+
+  -- no place up to this one is free
+  taken-before : (k : ℕ) → k ≤ place → k / 8 ≡ place / 8 → get_or ps k None ≢ None
+  taken-before k le same none =
+      let there = has-stands ps key place has in
+      none-some there.0 (sym (elim (cases_eq k place) [
+        | inl here ↦ ap (λ i. get_or ps i None) (sym here) ∙ none
+        | inr away ↦ front k place (omega (arith, le, away)) same none
+      ]) ∙ there.1)
+
+  pub next-behind : (free : ℕ) → place + 1 ≤ free → free < end → end ≤ start + 8 → end ≤ length ps → get_or ps free None ≡ None
+      → ((k : ℕ) → place + 1 ≤ k → k < free → get_or ps k None ≢ None) → IsNextFor ps key free
+  next-behind free from to short bound none between =
+      let own_from = here-home.from in
+      let home : IsHome (length ps) key free = record { from = omega (arith, from, own_from); to = omega (arith, begin, to, short) } in
+      let beside = home-same (length ps) key free place home here-home in
+      record {
+        vacant = record { in_range = omega (arith, to, bound); free = none; home = home };
+        taken = λ k lt same. elim (cases_lt place k) [
+          | inl more ↦ between k (omega (arith, more)) lt
+          | inr le ↦ taken-before k le (same ∙ beside)
+        ];
+      }
+
+  pub full-behind : ((k : ℕ) → k < start + 8 → k < length ps → k < end) → ((k : ℕ) → place + 1 ≤ k → k < end → get_or ps k None ≢ None) → IsFull ps key
+  full-behind whole between k inside home = elim (cases_lt place k) [
+    | inl more ↦ let to = home.to in between k (omega (arith, more)) (whole k (omega (arith, begin, to)) inside)
+    | inr le ↦ taken-before k le (home-same (length ps) key k place home here-home)
+  ]
+
 pub closed-is : (ps : List (Option Entry)) (place last : ℕ) (value : Option Entry) → place < length ps → last < length ps → value ≡ get_or ps last None → IsClosed ps (set (set ps place value) last None) place last
 closed-is ps place last value inside in_range is = record {
   same_length = length-set (set ps place value) last None ∙ length-set ps place value;

@@ -127,6 +127,21 @@ fn vacant(places: &[Place], key: u64) -> Option<usize>
     Some(place)
 }
 
+// The first free place in the bucket of the key, which stands at this place. In front of an entry none is free, so the
+// search begins behind it.
+fn vacant_behind(places: &[Place], place: usize, key: u64) -> Option<usize>
+    requires home { AreHome places.now }
+    requires front { AreInFront places.now }
+    requires there { HasKey places.now key place }
+    ensures free { IfSome result (IsNextFor places.now key) }
+    ensures full { IfNone result (IsFull places.now key) }
+{
+    let start = bucket_of(places.len(), key);
+    let end = bucket_end(places.len(), start);
+    let free = free_between(places, place + 1, end)?;
+    Some(free)
+}
+
 // The first free place of these.
 fn free_between(places: &[Place], start: usize, end: usize) -> Option<usize>
     requires { end ≤ length places.now }
@@ -254,7 +269,7 @@ fn take_place(
     ensures gone { Puts (all_in places.old overflow.old.held) (all_in places.new overflow.new.held) key None }
     ensures room { overflow.old.room ≤ overflow.new.room }
 {
-    match vacant(places, key) {
+    match vacant_behind(places, place, key) {
         Some(free) => close(places, place, free - 1),
         None => {
             let start = bucket_of(places.len(), key);
@@ -330,7 +345,7 @@ pub fn grow(
         return are_packed;
     };
     *places = fresh;
-    lift_all(places, overflow)
+    lift_each(places, overflow)
 }
 
 // The entries of these places in twice as many. Half of a bucket goes where it was and half of it elsewhere, so
@@ -387,17 +402,7 @@ fn copy(place: &Place, fresh: &mut [Place]) -> bool
 }
 
 // Moves entries of the overflow into free places of their buckets. Whether each that is left has a full one.
-fn lift_all(places: &mut Vec<Place>, overflow: &mut Overflow) -> bool
-    requires { AreSound places.old.items overflow.old.held }
-    ensures sound { AreSound places.new.items overflow.new.held }
-    ensures packed { OnTrue result (ArePacked places.new.items overflow.new.held) }
-    ensures same { (key : ℕ) → value_at (all_in places.new.items overflow.new.held) key ≡ value_at (all_in places.old.items overflow.old.held) key }
-    ensures room { overflow.old.room ≤ overflow.new.room }
-{
-    lift_each(places, overflow)
-}
-
-// Goes through the overflow in its order. An overflow has fewer entries than there are places; where it had more,
+// This goes through the overflow in its order. An overflow has fewer entries than there are places; where it had more,
 // or a value too great for a place, this ends before it is through.
 fn lift_each(places: &mut [Place], overflow: &mut Overflow) -> bool
     requires { AreSound places.old overflow.old.held }
