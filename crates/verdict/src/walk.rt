@@ -67,6 +67,7 @@ fn move_led(table: &Table, targets: &[usize], at: usize, verdict: &Verdict) -> M
     }
 }
 
+#[inline(always)]
 fn move_at(bounds: &Bounds, facts: &Facts, table: &Table, end: &End, row: &Row, line: Line) -> Move
     requires leads { LeadsFrom table.now.chains row.now.targets line.first (verdicts_in end.now) }
     requires map { HasMap row.now.maps line.map (Some end.now) }
@@ -92,6 +93,7 @@ fn move_at(bounds: &Bounds, facts: &Facts, table: &Table, end: &End, row: &Row, 
     }
 }
 
+#[inline(always)]
 fn move_of(
     bounds: &Bounds,
     facts: &Facts,
@@ -256,7 +258,7 @@ fn next_rule(
     candidate(lines, laid.keys.as_slice(), numbers, from, span.end, steps) - span.start
 }
 
-// What the rule of that number makes of the walk.
+// What the rule of that number makes of the walk. It is compiled into both its callers, as what it calls.
 #[inline(always)]
 fn move_from(
     bounds: &Bounds,
