@@ -21,14 +21,7 @@ pub(crate) struct Asking {
 pub(crate) fn is_same_hook(one: Hook, other: Hook) -> bool
     ensures { result ≡ are_same_hooks one other }
 {
-    matches!(
-        (one, other),
-        (Hook::Prerouting, Hook::Prerouting)
-            | (Hook::Input, Hook::Input)
-            | (Hook::Forward, Hook::Forward)
-            | (Hook::Output, Hook::Output)
-            | (Hook::Postrouting, Hook::Postrouting)
-    )
+    one == other
 }
 
 // Whether the chain is a base chain of the hook.

@@ -220,7 +220,9 @@ fn outcome_of(first: Option<Final>) -> Outcome
     }
 }
 
-// What the base chains of a hook come to, asked table by table.
+// What the base chains of a hook come to, asked table by table. Not compiled into its caller, so that little is done
+// where no base chain stands.
+#[inline(never)]
 #[tactic(auto, using(crate::proofs::Ranked::first_is_in_order), unfolding(crate::specs::Hooks::hook_outcome))]
 fn asked_outcome(rules: &Rules, bounds: &Bounds, facts: &Facts, hook: Hook) -> (Outcome, Steps)
     ensures outcome { result.0 ≡ outcome_of_hook bounds.now facts.now hook rules.now }

@@ -116,6 +116,8 @@ fn next_among(keys: &[u64], numbers: &[u64], from: u64, to: u64) -> u64
 }
 
 /// From the one place up to the other, one before which no line has to be looked at, as far as keys tell.
+// Not compiled into its caller, where few rules are walked over and no key is asked for.
+#[inline(never)]
 pub(crate) fn next_met(keys: &[u64], numbers: &[u64], from: usize, to: usize) -> usize
     requires ordered { AreOrdered keys.now }
     requires rises { from ≤ to }

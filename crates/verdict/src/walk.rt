@@ -11,8 +11,8 @@ ghost use Rattle.verdict.specs.Keyed.{AreKeys};
 ghost use Rattle.verdict.specs.Evaluation.{chain_outcome as outcome_of_chain};
 ghost use Rattle.packet.specs.Config.{Config};
 ghost use Rattle.verdict.specs.declared.chain.Outcome.TheVariants as outcomes;
-ghost use Rattle.verdict.specs.Places.{move_by as move_by_verdict, move_led as move_led_by, move_at as move_at_end, move_of as move_of_rule, rules_at, AreKnown, CameTo, IsResolved, Standing, Stepped, AreSkipped, Calling, told_of, Acts};
-ghost use Rattle.verdict.specs.Costs.{unread, IsNew, Reading, Spent};
+ghost use Rattle.verdict.specs.Places.{move_by as move_by_verdict, move_led as move_led_by, move_at as move_at_end, move_of as move_of_rule, rules_at, whole, AreKnown, CameTo, IsResolved, Standing, Stepped, AreSkipped, Calling, told_of, Acts};
+ghost use Rattle.verdict.specs.Costs.{unread, read_at, IsNew, Reading, Spent};
 
 use crate::chain::{Outcome, key_for, known_at, remember, translation, unless_ended};
 use crate::facts::Facts;
@@ -67,6 +67,7 @@ fn move_led(table: &Table, targets: &[usize], at: usize, verdict: &Verdict) -> M
     }
 }
 
+#[inline(always)]
 fn move_at(bounds: &Bounds, facts: &Facts, table: &Table, end: &End, row: &Row, line: Line) -> Move
     requires leads { LeadsFrom table.now.chains row.now.targets line.first (verdicts_in end.now) }
     requires map { HasMap row.now.maps line.map (Some end.now) }
@@ -92,6 +93,7 @@ fn move_at(bounds: &Bounds, facts: &Facts, table: &Table, end: &End, row: &Row, 
     }
 }
 
+#[inline(always)]
 fn move_of(
     bounds: &Bounds,
     facts: &Facts,
@@ -256,7 +258,8 @@ fn next_rule(
     candidate(lines, laid.keys.as_slice(), numbers, from, span.end, steps) - span.start
 }
 
-// What the rule of that number makes of the walk.
+// What the rule of that number makes of the walk. It is compiled into both its callers, as what it calls.
+#[inline(always)]
 fn move_from(
     bounds: &Bounds,
     facts: &Facts,
@@ -375,6 +378,113 @@ fn step(
     act(told, at, rules.len(), walk, known)
 }
 
+// Reads on until the base chain ends. Few walks call a chain, so this is not compiled into its caller.
+#[inline(never)]
+fn walked(
+    bounds: &Bounds,
+    facts: &Facts,
+    table: &Table,
+    laid: &Laid,
+    numbers: &[u64],
+    walk: &mut Walk,
+    known: &mut [Option<Outcome>],
+    steps: &mut Steps,
+) -> Outcome
+    requires laid { IsLaid table.now laid.now }
+    requires numbers { numbers.now ≡ numbers_of_facts facts.now }
+    requires known { AreKnown bounds.now facts.now table.now known.old }
+    requires standing { Standing bounds.now facts.now table.now (walk.old.here ∷ walk.old.stack) }
+    requires ends { ¬ IsLooped table.now.chains }
+    requires reading { Reading table.now.chains known.old walk.old.here walk.old.stack }
+    requires room { steps.old + unread table.now.chains known.old < 2 ^ 32 + read_at (walk.old.here ∷ walk.old.stack) }
+    ensures outcome { result ≡ whole bounds.now facts.now table.now outcomes.Ends (walk.old.here ∷ walk.old.stack) }
+    ensures still_known { AreKnown bounds.now facts.now table.now known.new }
+    ensures still_roomy { length table.now.chains ≤ length known.new }
+    ensures spent { steps.new + unread table.now.chains known.new + read_at (walk.old.here ∷ walk.old.stack) ≤ steps.old + unread table.now.chains known.old }
+{
+    loop {
+        if let Some(outcome) = step(bounds, facts, table, laid, numbers, walk, known, steps) {
+            return outcome;
+        }
+    }
+}
+
+fn calls(step: Move) -> bool
+    ensures { result ≡ false → Calling step ⊥ }
+{
+    matches!(step, Move::Jumps(_) | Move::Goes(_))
+}
+
+// Reads on from the rule of that number in a base chain that calls none there.
+fn act_alone(
+    step: Move,
+    at: usize,
+    count: usize,
+    here: &mut Place,
+    known: &mut [Option<Outcome>],
+) -> Option<Outcome>
+    requires within { at < count }
+    requires alone { Calling step ⊥ }
+    ensures { Acts step at count here.old [] known.old here.new [] known.new result }
+{
+    match step {
+        Move::Next => here.at = at + 1,
+        Move::Gives(outcome) => {
+            if let Some(given) = unless_ended(outcome) {
+                remember(known, here.chain, given);
+                return Some(given);
+            }
+            here.at = count;
+        }
+        Move::Jumps(_) | Move::Goes(_) => unreachable!(),
+    }
+    None
+}
+
+// The same as `step` of a base chain that has called none yet, and all that is left where it calls one: only then are
+// there places to return to.
+fn step_alone(
+    bounds: &Bounds,
+    facts: &Facts,
+    table: &Table,
+    laid: &Laid,
+    numbers: &[u64],
+    here: &mut Place,
+    known: &mut [Option<Outcome>],
+    steps: &mut Steps,
+) -> Option<Outcome>
+    requires laid { IsLaid table.now laid.now }
+    requires numbers { numbers.now ≡ numbers_of_facts facts.now }
+    requires known { AreKnown bounds.now facts.now table.now known.old }
+    requires standing { Standing bounds.now facts.now table.now (here.old ∷ []) }
+    requires ends { ¬ IsLooped table.now.chains }
+    requires reading { Reading table.now.chains known.old here.old [] }
+    requires room { steps.old + unread table.now.chains known.old < 2 ^ 32 + here.old.at }
+    ensures stepped { AreKnown bounds.now facts.now table.now known.new × Stepped bounds.now facts.now table.now (here.old ∷ []) (here.new ∷ []) result }
+    ensures spent { Spent table.now.chains here.old [] known.old steps.old here.new [] known.new steps.new result }
+{
+    let chain = here.chain;
+    let at = next_rule(table, laid, facts, numbers, *here, steps);
+    let rules = rules_of(table, chain);
+    if at >= rules.len() {
+        remember(known, chain, Outcome::Ends);
+        return Some(Outcome::Ends);
+    }
+    let told = move_from(bounds, facts, table, laid, rules, Place { chain, at });
+    let told = resolved(bounds, facts, table, known, told);
+    if !calls(told) {
+        return act_alone(told, at, rules.len(), here, known);
+    }
+    let mut walk = Walk {
+        here: *here,
+        stack: Stack::empty(),
+    };
+    if let Some(outcome) = act(told, at, rules.len(), &mut walk, known) {
+        return Some(outcome);
+    }
+    Some(walked(bounds, facts, table, laid, numbers, &mut walk, known, steps))
+}
+
 fn rules_of(table: &Table, chain: usize) -> &[Rule]
     requires { chain < length table.now.chains }
     ensures { result.now ≡ rules_at table.now.chains chain }
@@ -410,13 +520,10 @@ pub(crate) fn chain_outcome(
         return outcome;
     }
     let numbers = numbers_of(facts);
-    let mut walk = Walk {
-        here: Place { chain: base, at: 0 },
-        stack: Stack::empty(),
-    };
+    let mut here = Place { chain: base, at: 0 };
     loop {
-        if let Some(outcome) = step(
-            bounds, facts, table, laid, &numbers, &mut walk, known, steps,
+        if let Some(outcome) = step_alone(
+            bounds, facts, table, laid, &numbers, &mut here, known, steps,
         ) {
             return outcome;
         }
