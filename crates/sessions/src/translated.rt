@@ -300,8 +300,8 @@ fn lead(map: &mut Buckets, key: u64, mapping: usize)
     }
 }
 
-// Whether there is no entry.
-fn is_empty(row: &Rows) -> bool
+/// Whether there is no entry.
+pub fn is_empty(row: &Rows) -> bool
     ensures { IsTrue result → row.now.held ≡ [] }
 {
     row.iter().next().is_none()
