@@ -5,7 +5,7 @@
 ghost use Rattle.std.specs.Prelude.{◌≡◌, ◌≢◌, ◌↔◌, ◌+◌, ◌<◌, ◌≤◌, ℕ, IsTrue, IsOk, true, None, Some, IfSome, IfNone, OnOk, slice_index_or};
 ghost use Rattle.rows.specs.Held.{at};
 ghost use Rattle.buckets.specs.Held.{KeepsAll};
-ghost use Rattle.sessions.specs.Index.{ClashesAt, IsAt, IsNowhere, LacksName, PutsName, flow_name};
+ghost use Rattle.sessions.specs.Index.{ClashesAt, IsAt, IsNowhere, LacksName, PutsName, flow_name, key_number};
 ghost use Rattle.sessions.specs.Indexed.{AddsTo, EndsIn, IsIndexed, KeepsIndex, room_of};
 ghost use Rattle.sessions.specs.Listing.{is_translated as translates};
 ghost use Rattle.sessions.specs.Table.{AnyClash, BreakMapping, HasInside, HasOutside};
@@ -15,7 +15,7 @@ use crate::Session;
 use crate::hints::Hints;
 use crate::keys::{flow_key, has_endpoints, is_translated, key};
 use crate::session::clash;
-use crate::translated::{Translated, is_inside, is_outside};
+use crate::translated::{Translated, is_empty, is_inside, is_outside};
 use packet::endpoint::{Endpoint, Proto};
 use rows::Rows;
 use slab::Slab;
@@ -201,7 +201,7 @@ fn seek_inside(
     {
         return Some(slot);
     }
-    index.flows.get(key(proto, inside, remote))
+    find_flow(&index.flows, proto, inside, remote)
 }
 
 /// The slot of the session of this protocol, outside and remote endpoint, if it is the one that is guessed.
@@ -258,7 +258,18 @@ fn seek_outside(
         return Some(slot);
     }
     // One that isn't translated is called the same on both sides.
-    index.flows.get(key(proto, outside, remote))
+    find_flow(&index.flows, proto, outside, remote)
+}
+
+// The slot of the session that isn't translated and has these endpoints. Where all are translated, as behind most
+// gateways, no key is made.
+fn find_flow(row: &Rows, proto: Proto, near: Endpoint, remote: Endpoint) -> Option<usize>
+    ensures { result ≡ at row.now (key_number proto near remote) }
+{
+    if is_empty(row) {
+        return None;
+    }
+    row.get(key(proto, near, remote))
 }
 
 /// Whether some session clashes with this one. The first sessions of its endpoints serve all that is asked.

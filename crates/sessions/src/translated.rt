@@ -5,7 +5,7 @@
 //! remote endpoints: so a flow that begins a mapping, as most do, costs no search in rows. From both endpoints a
 //! map leads to the mapping, which says the slot of its first: so another one becomes the first where that ends,
 //! without a change of the maps, which might take memory.
-ghost use Rattle.std.specs.Prelude.{◌≡◌, ◌↔◌, ◌+◌, ◌<◌, ◌≤◌, ℕ, IsTrue, true, IsOk, IsSome, None, Some, IfSome, IfNone, OnOk, slice_index_or};
+ghost use Rattle.std.specs.Prelude.{◌≡◌, [], ◌↔◌, ◌+◌, ◌<◌, ◌≤◌, ℕ, IsTrue, true, IsOk, IsSome, None, Some, IfSome, IfNone, OnOk, slice_index_or};
 ghost use Rattle.rows.specs.Held.{AreRising, at, entries_from, Puts};
 ghost use Rattle.buckets.specs.Held.{KeepsAll};
 ghost use Rattle.sessions.specs.Index.{IsAt, first_value, inside_number};
@@ -196,6 +196,11 @@ impl Translated {
         ensures gone { Once sessions.now.slots slot None self.new }
         ensures room { room_in self.old ≤ room_in self.new }
     {
+        // Most mappings have one session, and where all have no search for another is needed.
+        if is_empty(&self.others) {
+            self.end_mapping(session);
+            return;
+        }
         let inside = mapping_key(session.proto, session.inside);
         let Some(mapping) = self.insides.get(inside) else {
             return;
@@ -236,7 +241,7 @@ impl Translated {
     {
         match self.next(sessions, session) {
             Some(next) => self.pass(mapping, next, &sessions[next]),
-            None => self.finish(mapping, session),
+            None => self.end_mapping(session),
         }
     }
 
@@ -267,14 +272,16 @@ impl Translated {
     }
 
     // Takes the mapping of a session out, which has no other.
-    fn finish(&mut self, mapping: usize, session: &Session)
-        requires { IsSome (slice_index_or self.old.firsts.slots mapping None) }
-        ensures finishes { Finishes self.old self.new mapping session.now }
+    fn end_mapping(&mut self, session: &Session)
+        requires { (mapping : ℕ) → at self.old.insides (inside_number session.now) ≡ Some mapping → IsSome (slice_index_or self.old.firsts.slots mapping None) }
+        ensures finishes { (mapping : ℕ) → at self.old.insides (inside_number session.now) ≡ Some mapping → Finishes self.old self.new mapping session.now }
         ensures room { room_in self.old ≤ room_in self.new }
     {
+        let inside = mapping_key(session.proto, session.inside);
+        let Some(mapping) = self.insides.remove(inside) else {
+            return;
+        };
         self.firsts.remove(mapping);
-        self.insides
-            .remove(mapping_key(session.proto, session.inside));
         self.outsides
             .remove(mapping_key(session.proto, session.outside));
     }
@@ -291,6 +298,13 @@ fn lead(map: &mut Buckets, key: u64, mapping: usize)
         Ok(()) => {}
         Err(_) => unreachable!(),
     }
+}
+
+/// Whether there is no entry.
+pub fn is_empty(row: &Rows) -> bool
+    ensures { IsTrue result → row.now.held ≡ [] }
+{
+    row.iter().next().is_none()
 }
 
 // The slot of the first entry whose key isn't below this one.
