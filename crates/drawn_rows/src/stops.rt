@@ -1,7 +1,7 @@
 //! The gateway over a disk that is stopped, or fails, at each of its calls, and opened again.
 use crate::drawn::{EVENTS, Next, Number, behind, event, numbers};
 use crate::model::{Lasting, Model, bounds, is_same, run_of_machine};
-use gateway::{Answer, Event, Gateway, GatewayFault, Given, OpenFault};
+use gateway::{Answer, Bytes, Event, Gateway, GatewayFault, Given, OpenFault, What};
 use packet::bounds::Bounds;
 use std::alloc::Global;
 use std::test::*;
@@ -56,6 +56,22 @@ fn offer(gateway: &mut Trials, event: Event) -> Result<Given, GatewayFault> {
     gateway.offer(event).map_err(|(_, fault)| fault)
 }
 
+// A packet is handed in where it lies first. It leaves there, or comes back as an event that is to be offered.
+fn forward(gateway: &mut Trials, event: Event) -> Result<(u64, Answer), Event> {
+    let Event { moment, what } = event;
+    let What::Packet(iface, packet) = what else {
+        return Err(Event { moment, what });
+    };
+    let mut bytes = packet.into_vec();
+    match gateway.forward(moment, iface, &mut bytes) {
+        Some((number, out)) => Ok((number, Answer::Forward(out, Bytes::of(bytes)))),
+        None => Err(Event {
+            moment,
+            what: What::Packet(iface, Bytes::of(bytes)),
+        }),
+    }
+}
+
 // Nothing is held any more.
 fn compact(gateway: &mut Trials) -> Result<(), GatewayFault> {
     if gateway.held() != 0 {
@@ -96,9 +112,12 @@ fn do_offer(
     event: Event,
 ) -> Result<(), Fail> {
     told.offered = told.offered.saturating_add(1);
-    match offer(gateway, event)? {
-        Given::Now(number, answer) => hear(model, told, number, &answer),
-        Given::Held(_) => Ok(()),
+    match forward(gateway, event) {
+        Ok((number, answer)) => hear(model, told, number, &answer),
+        Err(event) => match offer(gateway, event)? {
+            Given::Now(number, answer) => hear(model, told, number, &answer),
+            Given::Held(_) => Ok(()),
+        },
     }
 }
 

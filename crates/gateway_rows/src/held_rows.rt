@@ -133,6 +133,48 @@ fn held_where_something_changes(rt: HostRuntime) -> Result<(), Fail> {
     play(alloc, &mut gateway, SOMETHING_CHANGES)
 }
 
+// The packets of a session that goes on leave where they lie, also where the clock rises, while nothing is held. Those
+// of no session, and what a session hasn't shown yet, are left as they are; and so is all where a session is over.
+const GOES_ON: &str = "\
+forward lan 1000 4500001c00010000 40118eeb c0a80102 c6336407 13880035 0008003c
+= 3 wan 4500001c00010000 3f111594 cb007101 c6336407 13880035 000885e4
+forward lan 900 4500001c00010000 40118eeb c0a80102 c6336407 13880035 0008003c
+= 4 wan 4500001c00010000 3f111594 cb007101 c6336407 13880035 000885e4
+forward lan 1001 4500001c00010000 40118eea c0a80103 c6336407 13880035 0008003b
+= none
+forward wan 1001 4500002800010000 40061491 c6336409 cb007101 1b580016 00000001 00000000 5002ffff 2e350000
+= none
+forward lan 1001 4500001c00010000 40118eec c0a80102 c6336407 13880035 0008003c
+= none
+forward wan 1001 4500001c00010000 40111494 c6336407 cb007101 00351388 000885e4
+= none
+wan 1001 4500001c00010000 40111494 c6336407 cb007101 00351388 000885e4
+= held 5
+forward lan 1001 4500001c00010000 40118eeb c0a80102 c6336407 13880035 0008003c
+= none
+flush
+= 5 lan 4500001c00010000 3f118feb c6336407 c0a80102 00351388 0008003c
+forward wan 1300 4500001c00010000 40111494 c6336407 cb007101 00351388 000885e4
+= 6 lan 4500001c00010000 3f118feb c6336407 c0a80102 00351388 0008003c
+sessions
+= udp 192.168.1.2:5000 203.0.113.1:5000 198.51.100.7:53 inside 1 at 1300
+forward lan 1600 4500001c00010000 40118eeb c0a80102 c6336407 13880035 0008003c
+= none
+sessions
+= udp 192.168.1.2:5000 203.0.113.1:5000 198.51.100.7:53 inside 1 at 1300
+at 1600
+= held 7
+flush
+= 7 ticked
+sessions";
+
+#[test]
+fn forwarded_where_it_lies(rt: HostRuntime) -> Result<(), Fail> {
+    let alloc = rt.alloc();
+    let mut gateway = two_flushed(alloc)?;
+    play(alloc, &mut gateway, GOES_ON)
+}
+
 const LOAD_AND_MOMENT: &str = "\
 load 1000 table ip t { }
 = held 1

@@ -3,9 +3,11 @@
 //! A line asks, and the lines with `=` behind it are all that is answered:
 //! - an event (module `words`) is offered: `now 3 ticked`, `held 1`, or the fault, as `held-full`; the event then came
 //!   back as it was;
+//! - `forward` and the event of a packet: the packet is handed in where it lies: `3 wan 4500..`, or `none`, and then it is
+//!   as it was;
 //! - `flush`: a line for each answer with its number, or the fault; `compact`: `done`, or the fault;
 //! - `held`, `grown`: the number; `rules`: the text; `sessions`: a line for each.
-use crate::shared::{Answer, Event, GatewayFault, Given, Trials};
+use crate::shared::{Answer, Bytes, Event, GatewayFault, Given, Iface, Trials, What};
 use crate::words::{event, event_line, given_line, handed_line, session_line, squeezed};
 use std::alloc::Global;
 use std::test::Fail;
@@ -96,6 +98,41 @@ fn ask_event(alloc: Global, gateway: &mut Trials, line: &str) -> Result<Vec<Stri
     }
 }
 
+/// Hands a packet in where it lies.
+fn forward(
+    gateway: &mut Trials,
+    moment: u64,
+    iface: Iface,
+    packet: &mut [u8],
+) -> Option<(u64, Iface)> {
+    gateway.forward(moment, iface, packet)
+}
+
+fn ask_forward(alloc: Global, gateway: &mut Trials, line: &str) -> Result<Vec<String>, Fail> {
+    let Event {
+        moment,
+        what: What::Packet(iface, packet),
+    } = event(alloc, line)?
+    else {
+        return Err(Fail::new("forward: no packet"));
+    };
+    let mut bytes = packet.into_vec();
+    match forward(gateway, moment, iface, &mut bytes) {
+        Some((number, out)) => {
+            let answer = Answer::Forward(out, Bytes::of(bytes));
+            one(alloc, handed_line(alloc, number, &answer)?)
+        }
+        None => {
+            let what = What::Packet(iface, Bytes::of(bytes));
+            let left = event_line(alloc, &Event { moment, what })?;
+            if !is_same(alloc, left.as_str(), line)? {
+                return Err(Fail::new("forward: another packet is left"));
+            }
+            word(alloc, "none")
+        }
+    }
+}
+
 fn ask_flush(alloc: Global, gateway: &mut Trials) -> Result<Vec<String>, Fail> {
     match flush(gateway) {
         Ok(answers) => handed(alloc, answers.as_slice()),
@@ -131,7 +168,10 @@ fn ask(alloc: Global, gateway: &mut Trials, line: &str) -> Result<Vec<String>, F
         "grown" => number(alloc, gateway.grown()),
         "rules" => ask_rules(alloc, gateway),
         "sessions" => ask_sessions(alloc, gateway),
-        _ => ask_event(alloc, gateway, line),
+        _ => match line.strip_prefix("forward ") {
+            Some(line) => ask_forward(alloc, gateway, line),
+            None => ask_event(alloc, gateway, line),
+        },
     }
 }
 
