@@ -1,6 +1,6 @@
 //! `Gateway`: a `Core`, which has all the state and does the steps (crate `machine`), a `Store`, which keeps in two
 //! files what must survive of it (crate `snapshot`), and the answers that are held between them.
-ghost use Rattle.std.specs.Prelude.{◌≡◌, ◌≢◌, ◌↔◌, ◌⊎◌, ◌+◌, ◌-◌, ◌^◌, ◌<◌, ◌≤◌, ◌++◌, ◌∷◌, [], ℕ, List, IfOk, IfErr, OnOk, OnErr, IsOk, IsErrOf, MatchResult, IsTrue, length, map, true, false};
+ghost use Rattle.std.specs.Prelude.{◌≡◌, ◌≢◌, ◌↔◌, ◌⊎◌, ◌+◌, ◌-◌, ◌^◌, ◌<◌, ◌≤◌, ◌++◌, ◌∷◌, [], ℕ, List, IfOk, IfErr, IfNone, IfSome, OnOk, OnErr, OnSome, IsOk, IsErrOf, MatchResult, IsTrue, length, map, true, false};
 ghost use Rattle.packet.specs.Config.{is_config};
 ghost use Rattle.disk_model.specs.Disk.{Leaves, LeavesNow, LeavesOnly, Looks, Called, Grew};
 ghost use Rattle.durable.specs.Coding.{Entry, body_bytes};
@@ -10,8 +10,11 @@ ghost use Rattle.snapshot.specs.Store.{RecoversEither};
 ghost use Rattle.machine.specs.Judged.{Judged, IsJudged, IsNoLoad};
 ghost use Rattle.machine.specs.Noted.{AreEntriesOf, HasEntry, IsRestarted, lasting};
 ghost use Rattle.machine.specs.Sound.{IsSound};
+ghost use Rattle.machine.specs.declared.event.Answer.TheVariants.{Forward};
+ghost use Rattle.machine.specs.declared.event.What.TheVariants.{Packet};
 ghost use Rattle.sessions.specs.Stilled.{stilled};
 ghost use Rattle.gateway.specs.Told.{Took, TookAll, TookFirst, handed, number_of};
+ghost use Rattle.gateway.specs.declared.given.Given.TheVariants.{Now};
 ghost use Rattle.gateway.specs.Kept.{HasPlaces, IsNow, IsReady, IsRoomy, IsSafe, IsTooMuch};
 ghost use Rattle.gateway.specs.Running.{StopsWithin};
 
@@ -20,7 +23,7 @@ use crate::running::take_all;
 use crate::{GatewayFault, Given, OpenFault};
 use disk_model::Disk;
 use machine::laws::events_are_judged_once;
-use machine::{Answer, Core, Event, NoMemory, StepFault};
+use machine::{Answer, Core, Event, Iface, NoMemory, StepFault};
 use packet::bounds::Bounds;
 use sessions::Session;
 use snapshot::{CommitFault, CompactFault, Opened, Store};
@@ -268,6 +271,52 @@ impl<D: Disk + Drop> Gateway<D> {
             Err((event, StepFault::Full)) => Err((event, GatewayFault::Full)),
             Err((event, StepFault::NoMemory)) => Err((event, GatewayFault::NoMemory)),
         }
+    }
+
+    /// Takes a packet whose session goes on, where nothing is held: an event that is answered at once, and whose packet
+    /// is translated where it lies. Says the number of the event, and the interface on which the packet leaves. Nothing
+    /// changes that must survive, no memory is taken, and no call of the disk is made. The moment is in seconds.
+    ///
+    /// `None` says nothing of the packet: it isn't taken, nothing has changed, and `offer` tells what becomes of it. It
+    /// comes wherever the moment is later than the clock, an answer is held, no number is left, or a call of the disk
+    /// has failed before.
+    pub fn forward(&mut self, moment: u64, iface: Iface, packet: &mut [u8]) -> Option<(u64, Iface)>
+        ensures disk { self.new.disk ≡ self.old.disk }
+        ensures fallen { self.new.fallen ≡ self.old.fallen }
+        ensures generation { self.new.generation ≡ self.old.generation }
+        ensures grown { self.new.grown ≡ self.old.grown }
+        ensures filled { self.new.filled ≡ self.old.filled }
+        ensures held { self.new.told.held ≡ self.old.told.held }
+        ensures took { IfSome result (λ given. Took self.old.told self.new.told
+            (record { moment = moment; what = Packet iface packet.old })
+            (Now given.0 (Forward given.1 packet.new))) }
+
+        // It is answered at once as where it is offered: nothing is held, and nothing changes that must survive.
+        ensures none_held { OnSome result (self.old.told.held ≡ []) }
+        ensures no_entry { OnSome result ((judged : Judged)
+            → IsJudged self.old.told.config (record { moment = moment; what = Packet iface packet.old }) judged
+            → ¬ HasEntry self.old.told.config self.old.told.state judged) }
+        ensures stood { OnSome result (self.old.fallen ≡ false) }
+        ensures numbers_left { OnSome result (self.old.told.last < 2 ^ 64 - 1) }
+        ensures none { IfNone result ((self.new ≡ self.old) × (packet.new ≡ packet.old)) }
+        ensures length { length packet.new ≡ length packet.old }
+    {
+        if self.store.has_fallen() {
+            return None;
+        }
+        if !self.pending.is_quiet() {
+            return None;
+        }
+        let Some(number) = self.last.checked_add(1) else {
+            return None;
+        };
+        self.core.facts();
+        events_are_judged_once();
+        let Some(out) = self.core.forward(moment, iface, packet) else {
+            return None;
+        };
+        self.last = number;
+        Some((number, out))
     }
 
     /// Writes the entries of all held events as one group, syncs it, and hands out the held answers, in order, each with

@@ -5,7 +5,8 @@
 //!
 //! - `given`, `fault`: what becomes of an event, and why it isn't taken.
 //! - `pending`: the answers that are held, and the entries of their events.
-//! - `gateway_core`: `Gateway`.
+//! - `gateway_core`: `Gateway`, to which events are offered. A packet whose session goes on leaves at once, translated
+//!   where it lies, if nothing is held (`forward`).
 //! - `running`: a run of events over the gateway's calls, event by event.
 //! - `laws`: what holds after any of its calls.
 #![tactic(auto)]

@@ -3,10 +3,14 @@
 //!
 //! - `begin`: a run of no event
 //! - `take`: one more event; `take_all`: several, and a flush behind them
+//! - `forward`: one more, if it is a packet whose session goes on, which is translated where it lies
 //! - `hand_out`: what is held is synced and handed out
 //! - `compact`: what is held is handed out, and the files are made short
-ghost use Rattle.std.specs.Prelude.{◌≡◌, ◌≢◌, ◌↔◌, ◌+◌, ◌<◌, ◌≤◌, ◌++◌, ◌∷◌, [], false, length};
-ghost use Rattle.std.specs.Prelude.{IfErr, IsTrue, OnErr, OnOk, vec_capacity, vec_len};
+ghost use Rattle.std.specs.Prelude.{◌≡◌, ◌≢◌, ◌↔◌, ◌+◌, ◌<◌, ◌≤◌, ◌++◌, ◌∷◌, [], ℕ, List, false, length};
+ghost use Rattle.std.specs.Prelude.{IfErr, IfNone, IfSome, IsTrue, OnErr, OnOk, vec_capacity, vec_len};
+ghost use Rattle.machine.specs.declared.event.Answer.{Answer as Answered};
+ghost use Rattle.machine.specs.declared.event.Answer.TheVariants.{Forward};
+ghost use Rattle.machine.specs.declared.event.What.TheVariants.{Packet};
 ghost use Rattle.gateway.specs.Told.{handed};
 ghost use Rattle.gateway.specs.Kept.{IsRoomy};
 ghost use Rattle.gateway.specs.Running.{BreaksOff, CarriesOn, Ends, Stands, StopsWithin};
@@ -15,7 +19,7 @@ use crate::gateway_core::Gateway;
 use crate::pending::MOST_HELD;
 use crate::{GatewayFault, Given};
 use disk_model::Disk;
-use machine::{Answer, Event};
+use machine::{Answer, Event, Iface};
 
 /// A run begins: no event is taken, and nothing is handed out. It does nothing but carry this fact.
 pub fn begin<D: Disk + Drop>(gateway: &Gateway<D>)
@@ -76,6 +80,31 @@ pub fn take<D: Disk + Drop>(
         return make_room(gateway, event, answers);
     }
     Err(fault)
+}
+
+/// Takes a packet whose session goes on, where nothing is held: one more event, whose packet is translated where it
+/// lies. Its answer isn't put behind the others, but said: its number, and the interface on which the packet leaves. The
+/// moment is in seconds. It takes no memory.
+///
+/// `None` says nothing of the packet: it isn't taken, nothing has changed, and `take` tells what becomes of it.
+pub fn forward<D: Disk + Drop>(
+    gateway: &mut Gateway<D>,
+    moment: u64,
+    iface: Iface,
+    packet: &mut [u8],
+) -> Option<(u64, Iface)>
+    requires stands { gateway.old.fallen ≡ false }
+    ensures some { IfSome result (λ given. (before : List (ℕ × Answered))
+        → CarriesOn D.honest D.moment D.left D.failed gateway.old gateway.new
+        (record { moment = moment; what = Packet iface packet.old } ∷ [])
+        before (before ++ (given.0, Forward given.1 packet.new) ∷ [])) }
+    ensures none { IfNone result ((gateway.new ≡ gateway.old) × (packet.new ≡ packet.old)) }
+    ensures held { gateway.new.told.held ≡ gateway.old.told.held }
+    ensures stands { gateway.new.fallen ≡ false }
+    ensures length { length packet.new ≡ length packet.old }
+{
+    gateway.facts();
+    gateway.forward(moment, iface, packet)
 }
 
 // Flushes and compacts; then there is room for the event, and it is taken.

@@ -1,6 +1,7 @@
 pub mod Changed
 pub mod Costs
 pub mod Expiry
+pub mod Forwarding
 pub mod Judging
 pub mod Lasting
 pub mod Later

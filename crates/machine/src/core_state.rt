@@ -1,13 +1,13 @@
 //! `Core`: all the state of a gateway (the text in force and its rules, the sessions, the clock), and the step
 //! that an event does to it. It gives no numbers and holds nothing: that is for the crates above.
-ghost use Rattle.std.specs.Prelude.{◌≡◌, ◌↔◌, ◌<◌, ◌≤◌, ◌+◌, ◌*◌, ◌++◌, ◌∷◌, [], ℕ, List, length, IsErrOf, OnOk, Ok, Err, Result as Outcome, IsTrue, IfOk, IfErr, IfSome, IsOk, IsOkAnd, OnErr};
+ghost use Rattle.std.specs.Prelude.{◌≡◌, ◌↔◌, ◌<◌, ◌≤◌, ◌+◌, ◌*◌, ◌++◌, ◌∷◌, [], ℕ, List, length, IsErrOf, OnOk, Ok, Err, Result as Outcome, IsTrue, IfOk, IfErr, IfNone, IfSome, IsOk, IsOkAnd, OnErr, OnSome};
 ghost use Rattle.packet.specs.Config.{is_config};
 ghost use Rattle.packet.specs.Fields.{fields};
 ghost use Rattle.packet.specs.Route.{route as route_for};
 ghost use Rattle.packet.specs.Translated.{translated};
 ghost use Rattle.sessions.specs.Listing.{listing};
 ghost use Rattle.hairpin.specs.Causes.{number};
-ghost use Rattle.hairpin.specs.Going.{IsQuiet, planned};
+ghost use Rattle.hairpin.specs.Going.{IsQuiet, plan_of, planned};
 ghost use Rattle.hairpin.specs.Legs.{Passage};
 ghost use Rattle.hairpin.specs.Plans.{Plans};
 ghost use Rattle.hairpin.specs.Sound.{KeepBounds};
@@ -23,7 +23,8 @@ ghost use Rattle.machine.specs.Notes.{most_bytes};
 ghost use Rattle.sessions.specs.declared.session.Session.{Session as Flow};
 ghost use Rattle.machine.specs.Sound.{IsInForce, IsSound};
 ghost use Rattle.machine.specs.Flows.{IsLatest, IsReady};
-ghost use Rattle.machine.specs.declared.event.Answer.TheVariants.{Dropped};
+ghost use Rattle.machine.specs.declared.event.Answer.TheVariants.{Dropped, Forward};
+ghost use Rattle.machine.specs.declared.event.What.TheVariants.{Packet};
 
 use crate::bytes::Bytes;
 use crate::deed::{Deed, judge, rules_of};
@@ -180,6 +181,23 @@ fn glance(
     }
 }
 
+// Sends a packet on, in place, by its session, which goes on.
+fn send_on(flows: &mut Flows, going: &Going, packet: &mut [u8], now: u64)
+    requires read { IsOkAnd (fields packet.old) (λ view. 2 ≤ view.ttl) }
+    requires latest { IsLatest flows.old.table.held now }
+    requires planned { (way : Outcome Passage Reason) × Plans flows.old.translations.external flows.old.table.held now (Ok (plan_of going.now)) way }
+    requires quiet { IsQuiet flows.old.table going.now }
+    ensures leads { (way : Outcome Passage Reason) → Plans flows.old.translations.external flows.old.table.held now (Ok (plan_of going.now)) way
+        → IsTransition (λ s. sent s packet.old way) flows.old.table.held flows.new.table.held now (Forward going.now.iface packet.new) }
+    ensures external { flows.new.translations.external ≡ flows.old.translations.external }
+    ensures none { (way : Outcome Passage Reason) → Plans flows.old.translations.external flows.old.table.held now (Ok (plan_of going.now)) way
+        → of_way (listing flows.old.table.held) way ≡ [] }
+{
+    flows.table().is_sound();
+    flows.go_on(going, now);
+    rewrite(packet, going.src, going.dst);
+}
+
 // What a packet comes to whose session goes on.
 fn go_through(flows: &mut Flows, going: &Result<Going, Cause>, bytes: Bytes, now: u64) -> Answer
     requires read { IsOkAnd (fields bytes) (λ view. 2 ≤ view.ttl) }
@@ -192,12 +210,12 @@ fn go_through(flows: &mut Flows, going: &Result<Going, Cause>, bytes: Bytes, now
     ensures none { (way : Outcome Passage Reason) → Plans flows.old.translations.external flows.old.table.held now (planned going.now) way
         → of_way (listing flows.old.table.held) way ≡ [] }
 {
-    flows.table().is_sound();
     match going {
         Err(cause) => drop_for(*cause),
         Ok(going) => {
-            flows.go_on(going, now);
-            Answer::Forward(going.iface, translate(bytes, going.src, going.dst))
+            let mut frame = bytes.into_vec();
+            send_on(flows, going, &mut frame, now);
+            Answer::Forward(going.iface, Bytes::of(frame))
         }
     }
 }
@@ -248,6 +266,35 @@ fn pass_on<N: Notes>(
             },
         },
     }
+}
+
+// By which interface a packet leaves, translated in place, whose session goes on, at sessions that are alive.
+fn pass_in_place(
+    flows: &mut Flows,
+    rules: &Rules,
+    bounds: &Bounds,
+    iface: Iface,
+    packet: &mut [u8],
+    now: u64,
+) -> Option<Iface>
+    requires latest { IsLatest flows.old.table.held now }
+    ensures some { (text : List ℕ) → IfSome result (λ out. pass bounds.now (state_of text rules.now flows.old.table.held now) iface packet.old
+        ≡ (state_of text rules.now flows.new.table.held now, Forward out packet.new)) }
+    ensures external { flows.new.translations.external ≡ flows.old.translations.external }
+    ensures quiet { (text : List ℕ) → OnSome result (of_fields bounds.now (state_of text rules.now flows.old.table.held now) iface (fields packet.old) ≡ []) }
+    ensures none { IfNone result ((flows.new ≡ flows.old) × (packet.new ≡ packet.old)) }
+{
+    let Ok(view) = View::read(packet) else {
+        return None;
+    };
+    let Ok(route) = bounds.route(iface, &view) else {
+        return None;
+    };
+    let Some(Ok(going)) = glance(flows, rules, bounds, route, &view) else {
+        return None;
+    };
+    send_on(flows, &going, packet, now);
+    Some(going.iface)
 }
 
 // Notes that a text is loaded; `ready` says that there is room already.
@@ -542,5 +589,35 @@ impl Core {
             }
             Err((what, fault)) => Err((Event { moment, what }, fault)),
         }
+    }
+
+    /// Translates in place a packet whose session goes on, as `step` does at this event, and says by which interface it
+    /// leaves. It takes no memory, and nothing changes that must survive.
+    ///
+    /// `None` says nothing of the packet: nothing has changed, and `step` tells what it comes to. It comes wherever the
+    /// moment, in seconds, is later than the clock, and where a look at the packet alone doesn't tell that its session
+    /// goes on.
+    pub fn forward(&mut self, moment: u64, iface: Iface, packet: &mut [u8]) -> Option<Iface>
+        ensures step { IfSome result (λ out. (judged : Judged)
+            × IsJudged self.old.config (record { moment = moment; what = Packet iface packet.old }) judged
+            × (step self.old.config self.old.state judged ≡ (self.new.state, Forward out packet.new))
+            × AreEntriesOf self.old.config self.old.state judged []) }
+        ensures none { IfNone result ((self.new ≡ self.old) × (packet.new ≡ packet.old)) }
+        ensures config { self.new.config ≡ self.old.config }
+        ensures length { length packet.new ≡ length packet.old }
+    {
+        if moment > self.clock {
+            return None;
+        }
+        self.bounds.facts();
+        let now = self.clock;
+        pass_in_place(
+            &mut self.flows,
+            &self.in_force.rules,
+            &self.bounds,
+            iface,
+            packet,
+            now,
+        )
     }
 }

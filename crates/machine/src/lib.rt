@@ -7,7 +7,8 @@
 //! - `flows`: the sessions with their timers and mappings, which change together. What a packet changes is
 //!   the plan of its leg (crate `hairpin`).
 //! - `deed`: what an event does, once its text is read.
-//! - `core_state`: `Core`, which has all the state and takes a step for each event.
+//! - `core_state`: `Core`, which has all the state and takes a step for each event (`step`). A packet whose session
+//!   goes on it also takes where the packet lies, without an event of its own (`forward`).
 //! - `notes`: where a step notes the entries by which it changes what must survive (crate `durable`).
 //! - `noting`: the entries of changes. `specs/Noted` says which an event has, `specs/Notes` how many bytes.
 //! - `laws`: what holds of every step, and of every state that is reached.

@@ -1,0 +1,12 @@
+use Rattle.machine.proofs.Quiet.{quiet-way, way-gives}
+use Rattle.hairpin.specs.Going.{plan_of}
+use Rattle.machine.proofs.core_state.send_on.Goals as goal
+
+pub go_on-requires-clause-give : goal.go_on-requires-clause-give
+go_on-requires-clause-give c =
+    way-gives c.args.flows.now.translations.external c.args.flows.now.table.held c.args.now (plan_of c.args.going.now) c.requires.planned.0 c.requires.planned.1
+
+pub returns-clause-none : goal.returns-clause-none
+returns-clause-none c = λ way plans.
+    let sound = rw c.table.ensures at c.is_sound.ensures in
+    quiet-way c.args.flows.now.translations.external c.args.flows.now.table.held c.args.now c.args.going.now sound c.requires.quiet way plans
