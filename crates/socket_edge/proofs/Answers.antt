@@ -34,7 +34,7 @@ answers_due-append old middle es fs handed c s l o =
     ∙ append_assoc old.held (replies old es) (replies middle fs)
     ∙ ap (λ (xs : List (ℕ × Answer)). old.held ++ xs) (sym (replies-append old middle es fs c s l))
 
-frames-append : (before : List ℕ) (xs ys : List (ℕ × Answer)) → (before ++ flat_map frame xs) ++ flat_map frame ys ≡ before ++ flat_map frame (xs ++ ys)
+pub frames-append : (before : List ℕ) (xs ys : List (ℕ × Answer)) → (before ++ flat_map frame xs) ++ flat_map frame ys ≡ before ++ flat_map frame (xs ++ ys)
 frames-append before xs ys = append_assoc before (flat_map frame xs) (flat_map frame ys) ∙ ap (λ (zs : List ℕ). before ++ zs) (sym (flat_map-append frame xs ys))
 
 -- none of the events, or all of them

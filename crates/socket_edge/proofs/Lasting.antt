@@ -51,7 +51,7 @@ not-longer : (xs ys : List (ℕ × Answer)) (n : ℕ) → n ≤ length (xs ++ ys
 not-longer xs ys n fits within = ⊎_elim (λ h. h) (λ more. absurd (omega (arith, longer xs ys n more fits, within))) (le-or-lt n (length xs))
 
 -- with fewer events answered
-safe-fewer : (config : Config) (s : State) (es : List Event) (n m : ℕ) (files : Files) → m ≤ n → IsSafe config s es n files → IsSafe config s es m files
+pub safe-fewer : (config : Config) (s : State) (es : List Event) (n m : ℕ) (files : Files) → m ≤ n → IsSafe config s es n files → IsSafe config s es m files
 safe-fewer config s es n m files le is =
     subst (λ (xs : List Event). IsSafe config s xs m files) (append-nil es) (safe-less config s es [] n m files le is)
 
@@ -74,7 +74,7 @@ length-numbered : (last : ℕ) (xs : List Answer) → length (numbered last xs) 
 length-numbered last [] = refl
 length-numbered last (x ∷ xs) = ap suc (length-numbered (last + 1) xs)
 
-replies-length : (old : Told) (judged : List Judged) → length (replies old judged) ≡ length judged
+pub replies-length : (old : Told) (judged : List Judged) → length (replies old judged) ≡ length judged
 unfolding replies
 replies-length old judged = length-numbered old.last (answers old.config old.state judged) ∙ length-answers old.config old.state judged
 

@@ -4,7 +4,9 @@ pub mod Frames
 pub mod Written
 pub mod Answers
 pub mod Lasting
+pub mod Memory
 pub mod Streams
+pub mod Behind
 pub mod Tending
 pub mod Loops
 pub mod Closing

@@ -49,7 +49,7 @@ unfolding frame
 frame_parts p = append_assoc (kind_byte p.1 ∷ big_bytes 8 p.0) (big_bytes 4 (length (answer_body p.1))) (answer_body p.1)
 
 -- one frame more
-frames_step : (answers : List (ℕ × Answer)) (i : ℕ) (p : ℕ × Answer) → i < length answers → p ≡ get_or answers i p
+pub frames_step : (answers : List (ℕ × Answer)) (i : ℕ) (p : ℕ × Answer) → i < length answers → p ≡ get_or answers i p
     → flat_map frame (take (i + 1) answers) ≡ flat_map frame (take i answers) ++ frame p
 frames_step answers i p lt is =
     let one : i + 1 ≡ suc i = omega arith in

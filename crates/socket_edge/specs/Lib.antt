@@ -1,5 +1,6 @@
 pub mod Requests
 pub mod Framing
 pub mod Answering
+pub mod Exchange
 pub mod Running
 pub mod Streams

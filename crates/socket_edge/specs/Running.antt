@@ -118,7 +118,7 @@ end_of (halt.Refused fault) = Err (Gateway fault)
 
 -- the gateway took no fault
 abbrev pub GoesOn : Step → Type 0
-GoesOn (step.Took n) = Unit {0}
+GoesOn step.Took = Unit {0}
 GoesOn (step.Ends halt.Cut) = Unit {0}
 GoesOn (step.Ends (halt.Bad fault)) = Unit {0}
 GoesOn (step.Ends (halt.Refused fault)) = ⊥
@@ -135,12 +135,11 @@ module _ {D : Type 0} (honest : D → Type 0) (moment : D → ℕ) (left : D →
   Explains (Gateway fault) old new = IsWhy honest moment left failed old new fault
 
   -- what one frame at the front came to
-  abbrev pub Stepped : Step → List ℕ → Kept D → Kept D → List (ℕ × Answer) → List (ℕ × Answer) → Type 0
-  Stepped (step.Took n) bytes old new before out =
-      (event : Event) × (next bytes ≡ Whole event (drop n bytes)) × (14 ≤ n) × (n ≤ length bytes) × CarriesOn honest moment left failed old new (event ∷ []) before out
-  Stepped (step.Ends halt.Cut) bytes old new before out = (next bytes ≡ Cut) × CarriesOn honest moment left failed old new [] before out
-  Stepped (step.Ends (halt.Bad fault)) bytes old new before out = (next bytes ≡ Bad fault) × CarriesOn honest moment left failed old new [] before out
-  Stepped (step.Ends (halt.Refused fault)) bytes old new before out =
+  abbrev pub Stepped : Step → List ℕ → List ℕ → Kept D → Kept D → List (ℕ × Answer) → List (ℕ × Answer) → Type 0
+  Stepped step.Took bytes rest old new before out = (event : Event) × (next bytes ≡ Whole event rest) × CarriesOn honest moment left failed old new (event ∷ []) before out
+  Stepped (step.Ends halt.Cut) bytes rest old new before out = (rest ≡ bytes) × (next bytes ≡ Cut) × CarriesOn honest moment left failed old new [] before out
+  Stepped (step.Ends (halt.Bad fault)) bytes rest old new before out = (rest ≡ bytes) × (next bytes ≡ Bad fault) × CarriesOn honest moment left failed old new [] before out
+  Stepped (step.Ends (halt.Refused fault)) bytes rest old new before out =
       (events : List Event) × (later : List ℕ) × Reads bytes events later × BreaksOff honest moment left failed old new events before out fault
 
   -- what all whole frames at the front came to

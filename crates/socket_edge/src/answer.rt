@@ -1,5 +1,5 @@
 //! The frames of answers.
-ghost use Rattle.std.specs.Prelude.{◌≡◌, ℕ, [], ◌∷◌, ◌++◌, OnOk, OnErr, length, take};
+ghost use Rattle.std.specs.Prelude.{◌≡◌, ◌+◌, ◌≤◌, ℕ, [], ◌∷◌, ◌++◌, IfSome, OnOk, OnErr, length, take};
 ghost use Rattle.socket_edge.specs.Answering.{iface_byte, kind_byte, answer_body, frame_head, frame, frames};
 
 use gateway::{Answer, Iface};
@@ -112,4 +112,64 @@ pub fn put_frames(out: &mut Vec<u8>, answers: &[(u64, Answer)]) -> Result<(), Al
         put_frame(out, pair.0, &pair.1)?;
     }
     Ok(())
+}
+
+/// Writes a body over these bytes, which are as many.
+fn write_body_over(bytes: &mut [u8], answer: &Answer)
+    requires { length bytes.old ≡ length (answer_body answer.now) }
+    ensures { bytes.new ≡ answer_body answer.now }
+{
+    match answer {
+        Answer::Forward(iface, packet) => {
+            bytes[0] = byte_of(*iface);
+            bytes[1..].copy_from_slice(packet.as_slice());
+        }
+        Answer::Dropped(cause) => bytes[0] = *cause,
+        _ => {}
+    }
+}
+
+/// Writes the frame of an answer over these bytes, which are as many.
+fn write_frame_over(bytes: &mut [u8], number: u64, answer: &Answer)
+    requires { length bytes.old ≡ 13 + length (answer_body answer.now) }
+    ensures { bytes.new ≡ frame (number, answer.now) }
+{
+    let (head, body) = bytes.split_at_mut(HEAD_LEN);
+    head.copy_from_slice(&head_bytes(number, answer));
+    write_body_over(body, answer);
+}
+
+/// How many bytes the frame of an answer has.
+fn frame_len(answer: &Answer) -> usize
+    ensures { result ≡ 13 + length (answer_body answer.now) }
+{
+    HEAD_LEN + body_len(answer) as usize
+}
+
+/// Writes the frame of an answer with this number over the first bytes, if it fits. Answers how many it has.
+fn fill_frame(bytes: &mut [u8], number: u64, answer: &Answer) -> Option<usize>
+    ensures some { IfSome result (λ n. (n ≤ length bytes.new) × (take n bytes.new ≡ frame (number, answer.now))) }
+    ensures len { length bytes.new ≡ length bytes.old }
+{
+    let len = frame_len(answer);
+    if bytes.len() < len {
+        return None;
+    }
+    write_frame_over(&mut bytes[..len], number, answer);
+    Some(len)
+}
+
+/// Writes the frames of answers, each with its number, over the first bytes, if all fit. Answers how many they have.
+pub fn fill_frames(bytes: &mut [u8], answers: &[(u64, Answer)]) -> Option<usize>
+    ensures some { IfSome result (λ n. (n ≤ length bytes.new) × (take n bytes.new ≡ frames answers.now)) }
+    ensures len { length bytes.new ≡ length bytes.old }
+{
+    let mut at = 0;
+    for pair in answers {
+        match fill_frame(&mut bytes[at..], pair.0, &pair.1) {
+            Some(size) => at += size,
+            None => return None,
+        }
+    }
+    Some(at)
 }

@@ -1,11 +1,12 @@
 //! A run: what is read is offered, and the answers are written.
 ghost use Rattle.std.specs.Prelude.{◌≡◌, ◌≢◌, ◌↔◌, ℕ, List, [], ◌++◌, ◌+◌, ◌<◌, ◌≤◌, ◌^◌, true, false, IfOk, IfErr, OnOk, length, drop, vec_len, vec_capacity};
 ghost use Rattle.std.specs.Io.KnownBytes.{Appends, Consumes, IsAtEnd};
+ghost use Rattle.machine.specs.declared.event.Answer.{Answer};
 ghost use Rattle.socket_edge.specs.Requests.{next, Cut};
 ghost use Rattle.socket_edge.specs.Running.{Came, Explains, Fares, Ran, SettledAndSent, Turned, events_in};
 
 use crate::fault::EdgeFault;
-use crate::sending::send_by;
+use crate::sending::send_behind;
 use crate::serving::{close, empty_for, offer_all, tidy};
 use crate::waiting::{Unread, Waiting};
 use disk_model::Disk;
@@ -27,76 +28,67 @@ pub enum Turn {
 #[derive(Drop)]
 struct Room {
     answers: Vec<(u64, Answer)>,
-    spare: Spare,
-}
-
-/// Memory for the frames of answers, and for bodies of requests.
-#[derive(Drop)]
-struct Spare {
-    frames: Vec<u8>,
     bodies: Vec<Vec<u8>>,
 }
 
-/// Offers the whole frames at the front of `pending`, and writes their answers. Answers how many there were.
+/// Offers the whole frames at the front of `waiting`, and writes their answers. Answers how many there were.
 fn answer_front<W: Write, D: Disk + Drop>(
     alloc: Global,
     writer: &mut W,
     gateway: &mut Gateway<D>,
-    pending: &mut Waiting,
+    waiting: &mut Waiting,
     answers: &mut Vec<(u64, Answer)>,
-    spare: &mut Spare,
+    bodies: &mut Vec<Vec<u8>>,
 ) -> Result<u64, EdgeFault>
     requires stands { gateway.old.fallen ≡ false }
+    requires sent { waiting.old.answered ≡ [] }
     requires none { answers.old.items ≡ [] }
     requires room { vec_len answers.old + length gateway.old.told.held ≤ vec_capacity answers.old }
-    ensures came { (sent : List ℕ) × Appends (W.contents writer.old) (W.contents writer.new) sent
+    ensures came { (handed : List (ℕ × Answer)) × (sent : List ℕ) × Appends (W.contents writer.old) (W.contents writer.new) sent
         × SettledAndSent D.honest D.moment D.left D.failed result gateway.old gateway.new
-        pending.old pending.new answers.new.items sent }
+        waiting.old.pending waiting.new.pending (handed ++ answers.new.items) sent }
+    ensures sent { OnOk result (waiting.new.answered ≡ []) }
     ensures room { vec_len answers.new + length gateway.new.told.held ≤ vec_capacity answers.new }
 {
     begin(gateway);
-    let (at, count, halt) = offer_all(
-        alloc,
-        &mut spare.bodies,
-        pending.as_slice(),
-        answers,
-        gateway,
-    );
-    let closed = close(halt, answers, gateway);
-    send_by(&mut spare.frames, writer, answers.as_slice())?;
+    let (count, halt) = offer_all(alloc, waiting, answers, bodies, gateway);
+    let closed = close(halt, waiting, answers, bodies, gateway);
+    send_behind(writer, waiting.answered(), answers.as_slice())?;
     closed?;
-    pending.remove_front(at);
+    waiting.forget_answered();
     Ok(count)
 }
 
-/// Offers the whole frames at the front of `pending`, writes their answers, and compacts where the file has grown.
+/// Offers the whole frames at the front of `waiting`, writes their answers, and compacts where the file has grown.
 fn serve<W: Write, D: Disk + Drop>(
     alloc: Global,
     writer: &mut W,
     gateway: &mut Gateway<D>,
-    pending: &mut Waiting,
+    waiting: &mut Waiting,
     room: &mut Room,
 ) -> Result<u64, EdgeFault>
     requires stands { gateway.old.fallen ≡ false }
+    requires sent { waiting.old.answered ≡ [] }
     ensures served { (sent : List ℕ) × Appends (W.contents writer.old) (W.contents writer.new) sent
-        × Came result gateway.old.told gateway.new.told pending.old pending.new sent
-        × Fares D.honest D.moment D.left gateway.old gateway.new (events_in pending.old) sent }
+        × Came result gateway.old.told gateway.new.told waiting.old.pending waiting.new.pending sent
+        × Fares D.honest D.moment D.left gateway.old gateway.new (events_in waiting.old.pending) sent }
     ensures why { IfErr result (λ e. Explains D.honest D.moment D.left D.failed e gateway.old gateway.new) }
     ensures stands { OnOk result (gateway.new.fallen ≡ false) }
+    ensures sent { OnOk result (waiting.new.answered ≡ []) }
     ensures passed { OnOk result (D.failed gateway.new.disk ≡ D.failed gateway.old.disk) }
     ensures grown { OnOk result (gateway.new.grown ≤ 1048576) }
 {
     begin(gateway);
-    if empty_for(&mut room.answers, &mut room.spare.bodies, gateway.held()).is_err() {
+    if empty_for(&mut room.answers, &mut room.bodies, gateway.held()).is_err() {
         return Err(EdgeFault::Gateway(GatewayFault::NoMemory));
     }
     let count = answer_front(
         alloc,
         writer,
         gateway,
-        pending,
+        waiting,
         &mut room.answers,
-        &mut room.spare,
+        &mut room.bodies,
     )?;
     match tidy(gateway, &mut room.answers) {
         Ok(()) => Ok(count),
@@ -110,35 +102,37 @@ fn read_once<R: Read, W: Write, D: Disk + Drop>(
     reader: &mut R,
     writer: &mut W,
     gateway: &mut Gateway<D>,
-    pending: &mut Waiting,
+    waiting: &mut Waiting,
     room: &mut Room,
 ) -> Result<Turn, EdgeFault>
     requires stands { gateway.old.fallen ≡ false }
-    requires cut { next pending.old ≡ Cut }
+    requires sent { waiting.old.answered ≡ [] }
+    requires cut { next waiting.old.pending ≡ Cut }
     ensures turned { (got sent : List ℕ) × Consumes (R.remaining reader.old) (R.remaining reader.new) got
         × Appends (W.contents writer.old) (W.contents writer.new) sent
-        × Turned result gateway.old.told gateway.new.told (pending.old ++ got) pending.new sent
+        × Turned result gateway.old.told gateway.new.told (waiting.old.pending ++ got) waiting.new.pending sent
         (IsAtEnd (R.remaining reader.new))
-        × Fares D.honest D.moment D.left gateway.old gateway.new (events_in (pending.old ++ got)) sent }
+        × Fares D.honest D.moment D.left gateway.old gateway.new (events_in (waiting.old.pending ++ got)) sent }
     ensures why { IfErr result (λ e. Explains D.honest D.moment D.left D.failed e gateway.old gateway.new) }
     ensures stands { OnOk result (gateway.new.fallen ≡ false) }
+    ensures sent { OnOk result (waiting.new.answered ≡ []) }
     ensures passed { OnOk result (D.failed gateway.new.disk ≡ D.failed gateway.old.disk) }
     ensures grown { IfOk result (λ turn. (turn ≢ Turn.End) → gateway.new.grown ≤ 1048576) }
     ensures stays { IfOk result (λ turn. turn ≡ Turn.End → gateway.new ≡ gateway.old) }
 {
     begin(gateway);
-    let n = match pending.read(reader) {
+    let n = match waiting.read(reader) {
         Ok(n) => n,
         Err(Unread::NoMemory) => return Err(EdgeFault::Gateway(GatewayFault::NoMemory)),
         Err(Unread::Failed) => return Err(EdgeFault::Input),
     };
     if n == 0 {
-        if pending.as_slice().is_empty() {
+        if waiting.pending().is_empty() {
             return Ok(Turn::End);
         }
         return Err(EdgeFault::Truncated);
     }
-    match serve(alloc, writer, gateway, pending, room) {
+    match serve(alloc, writer, gateway, waiting, room) {
         Ok(count) => Ok(Turn::More(count)),
         Err(fault) => Err(fault),
     }
@@ -199,17 +193,14 @@ pub fn run<R: Read, W: Write, D: Disk + Drop>(
         return Err(EdgeFault::Gateway(GatewayFault::Reopen));
     }
     begin(gateway);
-    let mut pending = Waiting::new(alloc);
+    let mut waiting = Waiting::new(alloc);
     let mut room = Room {
         answers: Vec::new(alloc),
-        spare: Spare {
-            frames: Vec::new(alloc),
-            bodies: Vec::new(alloc),
-        },
+        bodies: Vec::new(alloc),
     };
     let mut count: u64 = 0;
     for _ in 0..u64::MAX {
-        match read_once(alloc, reader, writer, gateway, &mut pending, &mut room) {
+        match read_once(alloc, reader, writer, gateway, &mut waiting, &mut room) {
             Ok(Turn::More(more)) => {
                 gateway.facts();
                 count = sum(count, more);

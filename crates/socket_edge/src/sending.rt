@@ -6,7 +6,7 @@ ghost use Rattle.socket_edge.specs.Answering.{answer_body, frame_head, frame, fr
 use crate::answer::{byte_of, head_bytes, put_frames};
 use crate::fault::EdgeFault;
 use gateway::Answer;
-use std::alloc::{AllocError, Global};
+use std::alloc::Global;
 use std::io::Write;
 
 /// Writes the bytes.
@@ -80,33 +80,22 @@ pub fn send<W: Write>(writer: &mut W, answers: &[(u64, Answer)]) -> Result<(), E
     Ok(())
 }
 
-/// Puts the frames in one piece where the bytes were, whose memory is used again.
-fn gather(bytes: &mut Vec<u8>, answers: &[(u64, Answer)]) -> Result<(), AllocError>
-    ensures { OnOk result (bytes.new.items ≡ frames answers.now) }
-{
-    bytes.clear();
-    put_frames(bytes, answers)
-}
-
-/// Writes the frames of the answers, in order: in one piece, or part by part where memory for that is refused. The
-/// piece is made where `bytes` were, so that calls that follow each other take their memory but once.
+/// Writes the bytes, and then the frames of the answers, in order.
 ///
 /// # Errors
 ///
-/// `Output` where a write fails or takes no byte. A beginning of the frames is written then, also a
-/// part of a frame.
-pub(crate) fn send_by<W: Write>(
-    bytes: &mut Vec<u8>,
+/// `Output` where a write fails or takes no byte. A beginning of them is written then, also a part of a frame.
+pub(crate) fn send_behind<W: Write>(
     writer: &mut W,
+    bytes: &[u8],
     answers: &[(u64, Answer)],
 ) -> Result<(), EdgeFault>
-    ensures ok { OnOk result (Appends (W.contents writer.old) (W.contents writer.new) (frames answers.now)) }
-    ensures err { IfErr result (λ e. (e ≡ EdgeFault.Output) × AppendsFront (W.contents writer.old) (W.contents writer.new) (frames answers.now)) }
+    ensures ok { OnOk result (Appends (W.contents writer.old) (W.contents writer.new) (bytes.now ++ frames answers.now)) }
+    ensures err { IfErr result (λ e. (e ≡ EdgeFault.Output)
+        × AppendsFront (W.contents writer.old) (W.contents writer.new) (bytes.now ++ frames answers.now)) }
 {
-    match gather(bytes, answers) {
-        Ok(()) => write_out(writer, bytes.as_slice()),
-        Err(_) => send(writer, answers),
-    }
+    write_out(writer, bytes)?;
+    send(writer, answers)
 }
 
 /// Writes the frames of the answers, in order: in one piece, or part by part where memory for that is refused.
@@ -124,5 +113,8 @@ pub fn send_all<W: Write>(
     ensures err { IfErr result (λ e. (e ≡ EdgeFault.Output) × AppendsFront (W.contents writer.old) (W.contents writer.new) (frames answers.now)) }
 {
     let mut bytes = Vec::new(alloc);
-    send_by(&mut bytes, writer, answers)
+    match put_frames(&mut bytes, answers) {
+        Ok(()) => write_out(writer, bytes.as_slice()),
+        Err(_) => send(writer, answers),
+    }
 }

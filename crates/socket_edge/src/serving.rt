@@ -1,14 +1,18 @@
 //! Offering the whole frames at the front of the bytes.
-ghost use Rattle.std.specs.Prelude.{◌≡◌, ◌≢◌, ◌+◌, ◌∷◌, [], ℕ, List, ◌<◌, ◌≤◌, false, length, drop, IfErr, OnOk, vec_len, vec_capacity};
+ghost use Rattle.std.specs.Prelude.{◌≡◌, ◌≢◌, ◌+◌, ◌∷◌, ◌++◌, [], ℕ, List, ◌<◌, ◌≤◌, false, length, IfErr, OnOk, vec_len, vec_capacity};
 ghost use Rattle.gateway.specs.Kept.{Kept};
 ghost use Rattle.gateway.specs.Running.{Stands, CarriesOn, BreaksOff};
+ghost use Rattle.machine.specs.declared.event.Answer.{Answer};
+ghost use Rattle.socket_edge.specs.Answering.{frames};
 ghost use Rattle.socket_edge.specs.Running.{Stepped, Offered, Closed, GoesOn, end_of};
 
 use crate::fault::{EdgeFault, HeaderFault};
 use crate::request::{Taken, take_frame};
+use crate::waiting::Waiting;
 use disk_model::Disk;
-use gateway::running::{compact, hand_out, take};
+use gateway::running::{begin, compact, hand_out, take};
 use gateway::{Answer, Event, Gateway, GatewayFault};
+use machine::laws::events_are_judged_once;
 use std::alloc::{AllocError, Global};
 
 /// The most bytes of groups that a file keeps when what was read is answered.
@@ -34,8 +38,8 @@ pub enum Halt {
 /// What the front of the bytes came to.
 #[derive(Clone, Copy, Drop)]
 pub enum Step {
-    /// A frame of so many bytes was taken.
-    Took(usize),
+    /// A frame was taken.
+    Took,
     /// No more frames are offered.
     Ends(Halt),
 }
@@ -67,7 +71,8 @@ fn make_slots(answers: &mut Vec<(u64, Answer)>, more: usize) -> Result<(), Alloc
 
 /// Lets the answers go, and keeps the memory of some of their packets for bodies of requests.
 fn keep_bodies(answers: &mut Vec<(u64, Answer)>, bodies: &mut Vec<Vec<u8>>)
-    ensures { answers.new.items ≡ [] }
+    ensures none { answers.new.items ≡ [] }
+    ensures capacity { vec_capacity answers.new ≡ vec_capacity answers.old }
 {
     while let Some((_, answer)) = answers.pop() {
         if let Answer::Forward(_, packet) = answer {
@@ -96,6 +101,18 @@ pub fn empty_for(
     make_slots(answers, count)
 }
 
+/// Puts the answers' frames where their requests stood, if all of them have room there. Otherwise they stay.
+fn put_back(waiting: &mut Waiting, answers: &mut Vec<(u64, Answer)>, bodies: &mut Vec<Vec<u8>>)
+    ensures put { (handed : List (ℕ × Answer)) × (answers.old.items ≡ handed ++ answers.new.items)
+        × (waiting.new ≡ record waiting.old { answered = waiting.old.answered ++ frames handed }) }
+    ensures fewer { vec_len answers.new ≤ vec_len answers.old }
+    ensures capacity { vec_capacity answers.new ≡ vec_capacity answers.old }
+{
+    if waiting.put(answers.as_slice()) {
+        keep_bodies(answers, bodies);
+    }
+}
+
 /// Offers an event.
 fn offer_event<D: Disk + Drop>(
     event: Event,
@@ -104,13 +121,15 @@ fn offer_event<D: Disk + Drop>(
 ) -> Result<(), GatewayFault>
     requires stands { gateway.old.fallen ≡ false }
     requires room { vec_len answers.old + length gateway.old.told.held ≤ vec_capacity answers.old }
-    ensures ok { OnOk result (CarriesOn D.honest D.moment D.left D.failed gateway.old gateway.new (event ∷ [])
-        answers.old.items answers.new.items) }
-    ensures err { IfErr result (BreaksOff D.honest D.moment D.left D.failed gateway.old gateway.new (event ∷ [])
-        answers.old.items answers.new.items) }
+    ensures ok { OnOk result ((handed : List (ℕ × Answer)) → CarriesOn D.honest D.moment D.left D.failed
+        gateway.old gateway.new (event ∷ []) (handed ++ answers.old.items) (handed ++ answers.new.items)) }
+    ensures err { IfErr result (λ e. (handed : List (ℕ × Answer)) → BreaksOff D.honest D.moment D.left D.failed
+        gateway.old gateway.new (event ∷ []) (handed ++ answers.old.items) (handed ++ answers.new.items) e) }
     ensures stands { OnOk result (gateway.new.fallen ≡ false) }
     ensures room { vec_len answers.new + length gateway.new.told.held ≤ vec_capacity answers.new }
 {
+    begin(gateway);
+    events_are_judged_once();
     let more = gateway.held() + 1;
     if make_slots(answers, more).is_err() {
         return Err(GatewayFault::NoMemory);
@@ -121,75 +140,114 @@ fn offer_event<D: Disk + Drop>(
 /// Offers the frame at the front.
 fn offer_next<D: Disk + Drop>(
     alloc: Global,
-    bodies: &mut Vec<Vec<u8>>,
-    bytes: &[u8],
+    waiting: &mut Waiting,
     answers: &mut Vec<(u64, Answer)>,
+    bodies: &mut Vec<Vec<u8>>,
     gateway: &mut Gateway<D>,
 ) -> Step
     requires stands { gateway.old.fallen ≡ false }
     requires room { vec_len answers.old + length gateway.old.told.held ≤ vec_capacity answers.old }
-    ensures step { Stepped D.honest D.moment D.left D.failed result bytes.now gateway.old gateway.new
-        answers.old.items answers.new.items }
+    ensures step { (handed : List (ℕ × Answer)) × (waiting.new.answered ≡ waiting.old.answered ++ frames handed)
+        × ((before : List (ℕ × Answer)) → Stepped D.honest D.moment D.left D.failed result
+        waiting.old.pending waiting.new.pending gateway.old gateway.new
+        (before ++ answers.old.items) (before ++ (handed ++ answers.new.items))) }
     ensures stands { GoesOn result → gateway.new.fallen ≡ false }
     ensures room { vec_len answers.new + length gateway.new.told.held ≤ vec_capacity answers.new }
 {
-    match take_frame(alloc, bodies, bytes) {
+    match take_frame(alloc, bodies, waiting.pending()) {
         Err(_) => Step::Ends(Halt::Refused(GatewayFault::NoMemory)),
         Ok(Taken::Cut) => Step::Ends(Halt::Cut),
         Ok(Taken::Bad(fault)) => Step::Ends(Halt::Bad(fault)),
-        Ok(Taken::Whole(event, n)) => match offer_event(event, answers, gateway) {
-            Ok(()) => Step::Took(n),
-            Err(fault) => Step::Ends(Halt::Refused(fault)),
-        },
+        Ok(Taken::Whole(event, len)) => {
+            waiting.skip(len);
+            match offer_event(event, answers, gateway) {
+                Ok(()) => {
+                    put_back(waiting, answers, bodies);
+                    Step::Took
+                }
+                Err(fault) => Step::Ends(Halt::Refused(fault)),
+            }
+        }
     }
 }
 
-/// Offers each whole frame at the front, and says how many bytes they are, how many frames, and why no more are offered.
+/// Offers each whole frame at the front, and says how many there are, and why no more are offered. Answers that are
+/// handed out are put where their requests stood, and behind them, where there is no room, into `answers`.
 pub fn offer_all<D: Disk + Drop>(
     alloc: Global,
-    bodies: &mut Vec<Vec<u8>>,
-    bytes: &[u8],
+    waiting: &mut Waiting,
     answers: &mut Vec<(u64, Answer)>,
+    bodies: &mut Vec<Vec<u8>>,
     gateway: &mut Gateway<D>,
-) -> (usize, u64, Halt)
+) -> (u64, Halt)
     requires stands { gateway.old.fallen ≡ false }
     requires room { vec_len answers.old + length gateway.old.told.held ≤ vec_capacity answers.old }
-    ensures within { result.0 ≤ length bytes.now }
-    ensures offered { Offered D.honest D.moment D.left D.failed result.2 bytes.now (drop result.0 bytes.now) result.1
-        gateway.old gateway.new answers.old.items answers.new.items }
+    ensures offered { (handed : List (ℕ × Answer)) × (waiting.new.answered ≡ waiting.old.answered ++ frames handed)
+        × Offered D.honest D.moment D.left D.failed result.1 waiting.old.pending waiting.new.pending result.0
+        gateway.old gateway.new answers.old.items (handed ++ answers.new.items) }
     ensures room { vec_len answers.new + length gateway.new.told.held ≤ vec_capacity answers.new }
 {
-    let mut at = 0;
+    let most = waiting.pending().len();
     let mut count: usize = 0;
     loop {
-        match offer_next(alloc, bodies, &bytes[at..], answers, gateway) {
-            Step::Took(n) => {
-                at += n;
+        match offer_next(alloc, waiting, answers, bodies, gateway) {
+            Step::Took => {
+                prove!(count < most);
                 count += 1;
             }
-            Step::Ends(halt) => return (at, count as u64, halt),
+            Step::Ends(halt) => return (count as u64, halt),
         }
     }
+}
+
+/// Hands out what is held.
+fn give_held<D: Disk + Drop>(
+    answers: &mut Vec<(u64, Answer)>,
+    gateway: &mut Gateway<D>,
+) -> Result<(), GatewayFault>
+    requires stands { gateway.old.fallen ≡ false }
+    requires room { vec_len answers.old + length gateway.old.told.held ≤ vec_capacity answers.old }
+    ensures ok { OnOk result ((handed : List (ℕ × Answer)) → CarriesOn D.honest D.moment D.left D.failed
+        gateway.old gateway.new [] (handed ++ answers.old.items) (handed ++ answers.new.items)) }
+    ensures err { IfErr result (λ e. (handed : List (ℕ × Answer)) → BreaksOff D.honest D.moment D.left D.failed
+        gateway.old gateway.new [] (handed ++ answers.old.items) (handed ++ answers.new.items) e) }
+    ensures stands { OnOk result (gateway.new.fallen ≡ false) }
+    ensures none { OnOk result (gateway.new.told.held ≡ []) }
+    ensures device { IfErr result (λ e. e ≡ GatewayFault.Device) }
+    ensures generation { gateway.new.generation ≡ gateway.old.generation }
+    ensures room { vec_len answers.new + length gateway.new.told.held ≤ vec_capacity answers.new }
+{
+    begin(gateway);
+    events_are_judged_once();
+    hand_out(gateway, answers)
 }
 
 /// Hands out what is held, where the gateway has not fallen, and says what the halt means.
 pub fn close<D: Disk + Drop>(
     halt: Halt,
+    waiting: &mut Waiting,
     answers: &mut Vec<(u64, Answer)>,
+    bodies: &mut Vec<Vec<u8>>,
     gateway: &mut Gateway<D>,
 ) -> Result<(), EdgeFault>
     requires room { vec_len answers.old + length gateway.old.told.held ≤ vec_capacity answers.old }
-    ensures closed { (start : Kept D) (bytes rest : List ℕ) (count : ℕ) → Stands D.honest D.moment D.left D.failed start start [] []
-        → Offered D.honest D.moment D.left D.failed halt bytes rest count start gateway.old [] answers.old.items
-        → Closed D.honest D.moment D.left D.failed result bytes rest count start gateway.new answers.new.items }
+    ensures closed { (handed : List (ℕ × Answer))
+        × (waiting.new ≡ record waiting.old { answered = waiting.old.answered ++ frames handed })
+        × ((start : Kept D) (bytes rest : List ℕ) (count : ℕ) (before : List (ℕ × Answer))
+        → Stands D.honest D.moment D.left D.failed start start [] []
+        → Offered D.honest D.moment D.left D.failed halt bytes rest count start gateway.old [] (before ++ answers.old.items)
+        → Closed D.honest D.moment D.left D.failed result bytes rest count start gateway.new (before ++ (handed ++ answers.new.items))) }
     ensures room { vec_len answers.new + length gateway.new.told.held ≤ vec_capacity answers.new }
 {
     if gateway.has_fallen() {
         return end_at(halt);
     }
-    match hand_out(gateway, answers) {
+    match give_held(answers, gateway) {
         Err(fault) => Err(EdgeFault::Gateway(fault)),
-        Ok(()) => end_at(halt),
+        Ok(()) => {
+            put_back(waiting, answers, bodies);
+            end_at(halt)
+        }
     }
 }
 
@@ -201,15 +259,17 @@ pub fn tidy<D: Disk + Drop>(
     requires stands { gateway.old.fallen ≡ false }
     requires none { gateway.old.told.held ≡ [] }
     requires room { vec_len answers.old + length gateway.old.told.held ≤ vec_capacity answers.old }
-    ensures ok { OnOk result (CarriesOn D.honest D.moment D.left D.failed gateway.old gateway.new []
-        answers.old.items answers.new.items) }
-    ensures err { IfErr result (BreaksOff D.honest D.moment D.left D.failed gateway.old gateway.new []
-        answers.old.items answers.new.items) }
+    ensures ok { OnOk result ((handed : List (ℕ × Answer)) → CarriesOn D.honest D.moment D.left D.failed
+        gateway.old gateway.new [] (handed ++ answers.old.items) (handed ++ answers.new.items)) }
+    ensures err { IfErr result (λ e. (handed : List (ℕ × Answer)) → BreaksOff D.honest D.moment D.left D.failed
+        gateway.old gateway.new [] (handed ++ answers.old.items) (handed ++ answers.new.items) e) }
     ensures stands { OnOk result (gateway.new.fallen ≡ false) }
     ensures none { gateway.new.told.held ≡ [] }
     ensures answers { answers.new.items ≡ answers.old.items }
     ensures grown { OnOk result (gateway.new.grown ≤ 1048576) }
 {
+    begin(gateway);
+    events_are_judged_once();
     if gateway.grown() <= MOST_GROWN {
         return Ok(());
     }

@@ -1,7 +1,11 @@
-//! The bytes that were read and aren't answered yet. The next read goes right behind them, into memory that is kept.
-ghost use Rattle.std.specs.Prelude.{◌≡◌, ◌+◌, ◌≤◌, ◌++◌, [], ℕ, List, IfOk, OnOk, OnErr, length, take, drop};
+//! The bytes that were read and aren't answered yet, and in front of them, in the same memory, the frames of answers to
+//! those that were. The next read goes right behind them, into memory that is kept.
+ghost use Rattle.std.specs.Prelude.{◌≡◌, ◌+◌, ◌≤◌, ◌++◌, [], ℕ, List, IfOk, OnOk, OnErr, IsTrue, length, take, drop, true, false};
 ghost use Rattle.std.specs.Io.KnownBytes.{Consumes, IsAtEnd};
+ghost use Rattle.socket_edge.specs.Answering.{frames};
 
+use crate::answer::fill_frames;
+use gateway::Answer;
 use std::alloc::{AllocError, Global};
 use std::io::Read;
 use std::marker::Model;
@@ -18,51 +22,87 @@ pub enum Unread {
     Failed,
 }
 
-/// The bytes that wait, seen as the list of them, with room behind them.
+/// The bytes that wait, seen as the list of them, and the bytes that answer what stood in front of them.
 #[derive(Drop)]
 pub struct Waiting {
     bytes: Vec<u8>,
-    len: usize,
+    /// How many bytes of answers stand at the front.
+    answered: usize,
+    /// Where the bytes that wait begin.
+    start: usize,
+    /// Where they end.
+    end: usize,
 }
 
 impl Model for Waiting {
-    ghost use Rattle.std.specs.Prelude.{List, ℕ, ◌≤◌, length, take};
+    ghost use Rattle.std.specs.Prelude.{◌≤◌, length, take, drop};
+    ghost use Rattle.socket_edge.specs.Exchange.{Exchange};
 
-    ghost Value = { List ℕ };
+    ghost Value = { Exchange };
 
-    ghost view = { λ w. take w.len w.bytes.items };
+    ghost view = { λ w. record { answered = take w.answered w.bytes.items; pending = drop w.start (take w.end w.bytes.items) } };
 
-    ghost invariant = { λ w. w.len ≤ length w.bytes.items };
+    ghost invariant = { λ w. (w.answered ≤ w.start) × (w.start ≤ w.end) × (w.end ≤ length w.bytes.items) };
 }
 
 impl Waiting {
     /// No bytes.
     pub fn new(alloc: Global) -> Waiting
-        ensures { result ≡ [] }
+        ensures { result ≡ record { answered = []; pending = [] } }
     {
         Waiting {
             bytes: Vec::new(alloc),
-            len: 0,
+            answered: 0,
+            start: 0,
+            end: 0,
         }
     }
 
-    /// The bytes.
-    pub fn as_slice(&self) -> &[u8]
-        ensures { result.now ≡ self.now }
+    /// The bytes that wait.
+    pub fn pending(&self) -> &[u8]
+        ensures { result.now ≡ self.now.pending }
     {
-        &self.bytes.as_slice()[..self.len]
+        &self.bytes.as_slice()[self.start..self.end]
     }
 
-    /// Takes the first `at` bytes away.
-    pub fn remove_front(&mut self, at: usize)
-        requires { at ≤ length self.old }
-        ensures { self.new ≡ drop at self.old }
+    /// The bytes of the answers.
+    pub fn answered(&self) -> &[u8]
+        ensures { result.now ≡ self.now.answered }
     {
-        let len = self.len;
-        if at > 0 {
-            self.bytes.as_mut_slice().copy_within(at..len, 0);
-            self.len = len - at;
+        &self.bytes.as_slice()[..self.answered]
+    }
+
+    /// Takes the first `count` bytes that wait away.
+    pub fn skip(&mut self, count: usize)
+        requires { count ≤ length self.old.pending }
+        ensures { self.new ≡ record self.old { pending = drop count self.old.pending } }
+    {
+        self.start += count;
+    }
+
+    /// Puts the frames of the answers behind the others, if there is room for all of them in front of the bytes that wait.
+    /// Answers whether there was.
+    pub fn put(&mut self, answers: &[(u64, Answer)]) -> bool
+        ensures put { result ≡ true → self.new ≡ record self.old { answered = self.old.answered ++ frames answers.now } }
+        ensures full { result ≡ false → self.new ≡ self.old }
+    {
+        match fill_frames(
+            &mut self.bytes.as_mut_slice()[self.answered..self.start],
+            answers,
+        ) {
+            Some(count) => {
+                self.answered += count;
+                true
+            }
+            None => false,
         }
+    }
+
+    /// Lets the bytes of the answers go.
+    pub fn forget_answered(&mut self)
+        ensures { self.new ≡ record self.old { answered = [] } }
+    {
+        self.answered = 0;
     }
 
     /// Reads once, at most 65,536 bytes, puts them behind the others, and says how many came; none where the input has
@@ -72,20 +112,36 @@ impl Waiting {
     ///
     /// `NoMemory` or `Failed`: nothing was read.
     pub fn read<R: Read>(&mut self, reader: &mut R) -> Result<usize, Unread>
+        requires { self.old.answered ≡ [] }
         ensures ok { IfOk result (λ n. (got : List ℕ) × Consumes (R.remaining reader.old) (R.remaining reader.new) got
-            × (self.new ≡ self.old ++ got) × (n ≡ length got) × (n ≤ 65536)) }
+            × (self.new ≡ record self.old { pending = self.old.pending ++ got }) × (n ≡ length got) × (n ≤ 65536)) }
         ensures end { IfOk result (λ n. n ≡ 0 → IsAtEnd (R.remaining reader.new)) }
         ensures err { OnErr result (Consumes (R.remaining reader.old) (R.remaining reader.new) [] × (self.new ≡ self.old)) }
     {
-        if make_room(&mut self.bytes, self.len).is_err() {
+        self.move_to_front();
+        if make_room(&mut self.bytes, self.end).is_err() {
             return Err(Unread::NoMemory);
         }
-        match read_behind(self.bytes.as_mut_slice(), self.len, reader) {
+        match read_behind(self.bytes.as_mut_slice(), self.end, reader) {
             Ok(n) => {
-                self.len += n;
+                self.end += n;
                 Ok(n)
             }
             Err(fault) => Err(fault),
+        }
+    }
+
+    /// Moves the bytes that wait to the front.
+    fn move_to_front(&mut self)
+        requires { self.old.answered ≡ [] }
+        ensures { self.new ≡ self.old }
+    {
+        if self.start > 0 {
+            self.bytes
+                .as_mut_slice()
+                .copy_within(self.start..self.end, 0);
+            self.end -= self.start;
+            self.start = 0;
         }
     }
 }

@@ -2,6 +2,7 @@ use Rattle.std.proofs.Common.{◌≡◌, ◌≢◌, List, [], ◌++◌, ℕ, len
 use Rattle.std.proofs.lemmas.Grind.{common_steps}
 use Rattle.std.proofs.lemmas.List.{append-nil, nil_from_length}
 use Rattle.std.specs.Io.KnownBytes.{Consumes}
+use Rattle.socket_edge.specs.Exchange.{Exchange}
 use Rattle.socket_edge.specs.Framing.{Rest}
 use Rattle.socket_edge.specs.Running.{events_in}
 use Rattle.socket_edge.proofs.Streams.{Appends-nil}
@@ -23,8 +24,8 @@ returns-in-Err-NoMemory-clause-turned g c = (
   [],
   c.in-Err-NoMemory.ensures.err.0,
   Appends-nil (g.W.Write.contents c.args.writer.now),
-  AnsweredFirst-nothing c.args.gateway.now.told (events_in (c.args.pending.now ++ [])),
-  idle-fares g.D.Disk.honest g.D.Disk.moment g.D.Disk.left g.D.Disk.seen g.D.Disk.failed g.met.D.Disk.reads g.met.D.Disk.earlier c.args.gateway.now c.begin.ensures (events_in (c.args.pending.now ++ [])),
+  AnsweredFirst-nothing c.args.gateway.now.told (events_in (c.args.waiting.now.pending ++ [])),
+  idle-fares g.D.Disk.honest g.D.Disk.moment g.D.Disk.left g.D.Disk.seen g.D.Disk.failed g.met.D.Disk.reads g.met.D.Disk.earlier c.args.gateway.now c.begin.ensures (events_in (c.args.waiting.now.pending ++ [])),
 )
 
 pub returns-in-Err-Failed-clause-turned : goal.returns-in-Err-Failed-clause-turned
@@ -33,43 +34,43 @@ returns-in-Err-Failed-clause-turned g c = (
   [],
   c.in-Err-Failed.ensures.err.0,
   Appends-nil (g.W.Write.contents c.args.writer.now),
-  nothing c.args.gateway.now.told c.args.pending.now c.requires.cut,
-  idle-fares g.D.Disk.honest g.D.Disk.moment g.D.Disk.left g.D.Disk.seen g.D.Disk.failed g.met.D.Disk.reads g.met.D.Disk.earlier c.args.gateway.now c.begin.ensures (events_in (c.args.pending.now ++ [])),
+  nothing c.args.gateway.now.told c.args.waiting.now.pending c.requires.cut,
+  idle-fares g.D.Disk.honest g.D.Disk.moment g.D.Disk.left g.D.Disk.seen g.D.Disk.failed g.met.D.Disk.reads g.met.D.Disk.earlier c.args.gateway.now c.begin.ensures (events_in (c.args.waiting.now.pending ++ [])),
 )
 
 pub returns-then-is_empty-clause-turned : goal.returns-then-is_empty-clause-turned
 returns-then-is_empty-clause-turned g c =
     let b = c.in-Ok.ensures.ok in
-    let same = none_added c.args.pending.now c.read.new.self b.0 c.in-Ok.n c.if-n-eq0.true b.3 b.2 in
+    let same = none_added c.args.waiting.now.pending c.read.new.self.pending b.0 c.in-Ok.n c.if-n-eq0.true b.3 (ap (λ (x : Exchange). x.pending) b.2) in
     let t = c.if-is_empty.true in
     let e = c.is_empty.ensures in
-    let l : length c.as_slice.result.now ≡ 0 = grind (arith, common_steps) in
-    let none : c.args.pending.now ≡ [] = sym same ∙ sym c.as_slice.ensures ∙ nil_from_length c.as_slice.result.now l in (
+    let l : length c.pending.result.now ≡ 0 = grind (arith, common_steps) in
+    let none : c.args.waiting.now.pending ≡ [] = sym same ∙ sym c.pending.ensures ∙ nil_from_length c.pending.result.now l in (
       [],
       [],
       none_read (g.R.Read.remaining c.args.reader.now) (g.R.Read.remaining c.read.new.reader) c.in-Ok.n b.0 c.if-n-eq0.true b.3 b.1,
       Appends-nil (g.W.Write.contents c.args.writer.now),
       record {
-        answered = nothing c.args.gateway.now.told c.args.pending.now c.requires.cut;
-        whole = nothing_stops c.args.pending.now c.requires.cut ∙ ap Rest none;
-        count_is = nothing_counts c.args.pending.now c.requires.cut;
+        answered = nothing c.args.gateway.now.told c.args.waiting.now.pending c.requires.cut;
+        whole = nothing_stops c.args.waiting.now.pending c.requires.cut ∙ ap Rest none;
+        count_is = nothing_counts c.args.waiting.now.pending c.requires.cut;
         ended = c.in-Ok.ensures.end c.if-n-eq0.true;
       },
-      idle-fares g.D.Disk.honest g.D.Disk.moment g.D.Disk.left g.D.Disk.seen g.D.Disk.failed g.met.D.Disk.reads g.met.D.Disk.earlier c.args.gateway.now c.begin.ensures (events_in (c.args.pending.now ++ [])),
+      idle-fares g.D.Disk.honest g.D.Disk.moment g.D.Disk.left g.D.Disk.seen g.D.Disk.failed g.met.D.Disk.reads g.met.D.Disk.earlier c.args.gateway.now c.begin.ensures (events_in (c.args.waiting.now.pending ++ [])),
     )
 
 pub returns-then-n-eq0-clause-turned : goal.returns-then-n-eq0-clause-turned
 returns-then-n-eq0-clause-turned g c =
     let b = c.in-Ok.ensures.ok in
-    let same = none_added c.args.pending.now c.read.new.self b.0 c.in-Ok.n c.if-n-eq0.true b.3 b.2 in
+    let same = none_added c.args.waiting.now.pending c.read.new.self.pending b.0 c.in-Ok.n c.if-n-eq0.true b.3 (ap (λ (x : Exchange). x.pending) b.2) in
     let t = c.if-is_empty.false in
     let e = c.is_empty.ensures in
-    let v = c.as_slice.ensures in
-    let some : c.args.pending.now ≢ [] = λ h. (let z : length c.as_slice.result.now ≡ 0 = ap length (v ∙ same ∙ h) in let f : ⊥ = grind (arith, common_steps) in f) in (
+    let v = c.pending.ensures in
+    let some : c.args.waiting.now.pending ≢ [] = λ h. (let z : length c.pending.result.now ≡ 0 = ap length (v ∙ same ∙ h) in let f : ⊥ = grind (arith, common_steps) in f) in (
       [],
       [],
       none_read (g.R.Read.remaining c.args.reader.now) (g.R.Read.remaining c.read.new.reader) c.in-Ok.n b.0 c.if-n-eq0.true b.3 b.1,
       Appends-nil (g.W.Write.contents c.args.writer.now),
-      (c.args.pending.now, nothing_stops c.args.pending.now c.requires.cut, some, nothing c.args.gateway.now.told c.args.pending.now c.requires.cut, c.in-Ok.ensures.end c.if-n-eq0.true),
-      idle-fares g.D.Disk.honest g.D.Disk.moment g.D.Disk.left g.D.Disk.seen g.D.Disk.failed g.met.D.Disk.reads g.met.D.Disk.earlier c.args.gateway.now c.begin.ensures (events_in (c.args.pending.now ++ [])),
+      (c.args.waiting.now.pending, nothing_stops c.args.waiting.now.pending c.requires.cut, some, nothing c.args.gateway.now.told c.args.waiting.now.pending c.requires.cut, c.in-Ok.ensures.end c.if-n-eq0.true),
+      idle-fares g.D.Disk.honest g.D.Disk.moment g.D.Disk.left g.D.Disk.seen g.D.Disk.failed g.met.D.Disk.reads g.met.D.Disk.earlier c.args.gateway.now c.begin.ensures (events_in (c.args.waiting.now.pending ++ [])),
     )

@@ -1,17 +1,66 @@
-use Rattle.socket_edge.proofs.Loops.{SoFar-first, SoFar-next, SoFar-ends}
+use Rattle.std.proofs.Common.{◌≡◌, ◌+◌, ◌<◌, ◌≤◌, [], ◌++◌, List, ℕ, length, ap, sym, subst, ◌∙◌, append_assoc, arith}
+use Rattle.std.proofs.lemmas.Grind.{common_steps}
+use Rattle.std.proofs.lemmas.List.{append-nil}
+use Rattle.machine.specs.declared.event.Answer.{Answer}
+use Rattle.socket_edge.specs.Answering.{frames}
+use Rattle.socket_edge.specs.Running.{Offered}
+use Rattle.socket_edge.proofs.Answers.{frames-append}
+use Rattle.socket_edge.proofs.Fronts.{next_shorter}
+use Rattle.socket_edge.proofs.Loops.{SoFar, SoFar-first, SoFar-next, SoFar-ends}
 use Rattle.socket_edge.proofs.serving.offer_all.Goals as goal
 
-pub loop-n-init : goal.loop-n-init
-loop-n-init g c = (SoFar-first g.D.Disk.honest g.D.Disk.moment g.D.Disk.left g.D.Disk.failed c.args.gateway.now c.args.bytes.now c.args.answers.now.items, c.requires.stands, c.requires.room)
-
-pub loop-n-preserved : goal.loop-n-preserved
-loop-n-preserved g c = (
-  SoFar-next g.D.Disk.honest g.D.Disk.moment g.D.Disk.left g.D.Disk.failed c.args.gateway.now c.loop-n.gateway c.offer_next.new.gateway c.args.bytes.now c.loop-n.at c.loop-n.count c.args.answers.now.items c.loop-n.answers.items
-      c.offer_next.new.answers.items c.in-Took.n c.loop-n.invariant.0 c.in-Took.ensures.step,
-  c.in-Took.ensures.stands tt,
-  c.in-Took.ensures.room,
+pub loop-count-init : goal.loop-count-init
+loop-count-init g c = (
+  [],
+  sym (append-nil c.args.waiting.now.answered),
+  SoFar-first g.D.Disk.honest g.D.Disk.moment g.D.Disk.left g.D.Disk.failed c.args.gateway.now c.args.waiting.now.pending c.args.answers.now.items,
+  c.requires.stands,
+  c.requires.room,
+  ap length c.pending-most.ensures,
 )
 
+pub loop-count-preserved : goal.loop-count-preserved
+loop-count-preserved g c =
+    let i = c.loop-count.invariant in
+    let t = c.in-Took.ensures.step in
+    let items = c.offer_next.new.answers.items in
+    let on = SoFar-next g.D.Disk.honest g.D.Disk.moment g.D.Disk.left g.D.Disk.failed c.args.gateway.now c.loop-count.gateway c.offer_next.new.gateway c.args.waiting.now.pending c.loop-count.waiting.pending c.offer_next.new.waiting.pending
+    c.loop-count.count c.args.answers.now.items (i.0 ++ c.loop-count.answers.items) (i.0 ++ (t.0 ++ items)) i.2 (t.2 i.0) in (
+      i.0 ++ t.0,
+      t.1 ∙ ap (λ (x : List ℕ). x ++ frames t.0) i.1 ∙ frames-append c.args.waiting.now.answered i.0 t.0,
+      subst (λ (out : List (ℕ × Answer)). SoFar g.D.Disk.honest g.D.Disk.moment g.D.Disk.left g.D.Disk.failed c.args.gateway.now c.offer_next.new.gateway c.args.waiting.now.pending c.offer_next.new.waiting.pending (c.loop-count.count + 1) c.args.answers.now.items out)
+          (sym (append_assoc i.0 t.0 items)) on,
+      c.in-Took.ensures.stands tt,
+      c.in-Took.ensures.room,
+      i.5,
+    )
+
+pub prove-unreachable-requires : goal.prove-unreachable-requires
+prove-unreachable-requires g c =
+    let i = c.loop-count.invariant in
+    let t = c.in-Took.ensures.step.2 i.0 in
+    let shorter = next_shorter c.loop-count.waiting.pending t.0 c.offer_next.new.waiting.pending t.1 in
+    let few = i.2.few in
+    let most = ap length c.pending-most.ensures in
+    let less : c.loop-count.count < length c.pending-most.result.now = omega (arith, shorter, few, most) in
+    let other = c.if-prove.true in
+    grind (arith, common_steps)
+
+pub loop-count-smaller : goal.loop-count-smaller
+loop-count-smaller g c =
+    let t = c.in-Took.ensures.step.2 c.loop-count.invariant.0 in
+    next_shorter c.loop-count.waiting.pending t.0 c.offer_next.new.waiting.pending t.1
+
 pub returns-in-Ends-clause-offered : goal.returns-in-Ends-clause-offered
-returns-in-Ends-clause-offered g c = SoFar-ends g.D.Disk.honest g.D.Disk.moment g.D.Disk.left g.D.Disk.failed c.args.gateway.now c.loop-n.gateway c.offer_next.new.gateway c.args.bytes.now c.loop-n.at c.loop-n.count c.args.answers.now.items
-    c.loop-n.answers.items c.offer_next.new.answers.items c.in-Ends.halt c.loop-n.invariant.0 c.in-Ends.ensures.step
+returns-in-Ends-clause-offered g c =
+    let i = c.loop-count.invariant in
+    let t = c.in-Ends.ensures.step in
+    let items = c.offer_next.new.answers.items in
+    let last = c.offer_next.new.waiting.pending in
+    let ends = SoFar-ends g.D.Disk.honest g.D.Disk.moment g.D.Disk.left g.D.Disk.failed c.args.gateway.now c.loop-count.gateway c.offer_next.new.gateway c.args.waiting.now.pending c.loop-count.waiting.pending last c.loop-count.count
+    c.args.answers.now.items (i.0 ++ c.loop-count.answers.items) (i.0 ++ (t.0 ++ items)) c.in-Ends.halt i.2 (t.2 i.0) in (
+      i.0 ++ t.0,
+      t.1 ∙ ap (λ (x : List ℕ). x ++ frames t.0) i.1 ∙ frames-append c.args.waiting.now.answered i.0 t.0,
+      subst (λ (out : List (ℕ × Answer)). Offered g.D.Disk.honest g.D.Disk.moment g.D.Disk.left g.D.Disk.failed c.in-Ends.halt c.args.waiting.now.pending last c.loop-count.count c.args.gateway.now c.offer_next.new.gateway
+          c.args.answers.now.items out) (sym (append_assoc i.0 t.0 items)) ends,
+    )

@@ -1,11 +1,15 @@
-use Rattle.std.proofs.Common.{◌≡◌, ◌+◌, ◌-◌, ◌≤◌, false, length, vec_len, vec_capacity}
+use Rattle.std.proofs.Common.{◌≡◌, ◌+◌, ◌≤◌, ◌++◌, ℕ, List, false, length, vec_len, vec_capacity}
+use Rattle.std.specs.List.{flat_map}
+use Rattle.machine.specs.declared.event.Answer.{Answer}
+use Rattle.socket_edge.specs.Answering.{frame}
 use Rattle.socket_edge.proofs.Loops.{SoFar}
 use Rattle.socket_edge.proofs.serving.offer_all.Given as goal
 
-abbrev pub invariant-loop-n : goal.invariant-loop-n
-invariant-loop-n g l =
-    SoFar g.D.Disk.honest g.D.Disk.moment g.D.Disk.left g.D.Disk.failed l.fn.gateway l.gateway l.bytes l.at l.count l.fn.answers.items l.answers.items
-    × (l.gateway.fallen ≡ false) × (vec_len l.answers + length l.gateway.told.held ≤ vec_capacity l.answers)
+abbrev pub invariant-loop-count : goal.invariant-loop-count
+invariant-loop-count g l =
+    (handed : List (ℕ × Answer)) × (l.waiting.answered ≡ l.fn.waiting.answered ++ flat_map frame handed)
+    × SoFar g.D.Disk.honest g.D.Disk.moment g.D.Disk.left g.D.Disk.failed l.fn.gateway l.gateway l.fn.waiting.pending l.waiting.pending l.count l.fn.answers.items (handed ++ l.answers.items)
+    × (l.gateway.fallen ≡ false) × (vec_len l.answers + length l.gateway.told.held ≤ vec_capacity l.answers) × (l.most ≡ length l.fn.waiting.pending)
 
-abbrev pub decreases-loop-n : goal.decreases-loop-n
-decreases-loop-n g l = length l.bytes - l.at
+abbrev pub decreases-loop-count : goal.decreases-loop-count
+decreases-loop-count g l = length l.waiting.pending

@@ -1,0 +1,119 @@
+-- Bytes that are written over others, and moved among them.
+use Rattle.std.proofs.Common.{◌≡◌, ℕ, ◌+◌, ◌-◌, ◌≤◌, List, [], ◌∷◌, ◌++◌, length, take, drop, refl, sym, ap, ◌∙◌, arith, length-append, length-drop, take-add}
+use Rattle.std.specs.Prelude.{slice_set}
+use Rattle.std.specs.List.{copy_within}
+use Rattle.std.proofs.lemmas.List.{append-nil, drop_all, length-take-le, nil_from_length, take-append-le, drop-append-le}
+use Rattle.std.proofs.Math.Seq.{take-append-add, take-length}
+use Rattle.std.specs.Prelude.{Result, Ok, Err, OnOk}
+use Rattle.std.specs.Result.{is_err}
+use Rattle.std.proofs.Common.{false}
+use Rattle.std.proofs.lemmas.Slice.{between_is, drop-put_mid, take-put_mid_below}
+use Rattle.socket_edge.specs.Exchange.{Exchange}
+use borrow.Rule.Slice.PartMut.{put_mid, same_len_mid}
+
+-- what the bytes are seen as: frames up to w, and from r to e those that wait
+abbrev pub view : ℕ → ℕ → ℕ → List ℕ → Exchange
+view w r e xs = record { answered = take w xs; pending = drop r (take e xs) }
+
+alike : (a b c d : List ℕ) → a ≡ c → b ≡ d → ◌≡◌ {A = Exchange} (record { answered = a; pending = b }) (record { answered = c; pending = d })
+alike a b c d first then = rw (first, then) refl
+
+pub ok_of : {T E P : Type 0} (r : Result T E) → is_err r ≡ false → OnOk r P → P
+ok_of (Ok v) e h = h
+ok_of (Err x) e h = absurd cc
+
+pub part_size : (w r : ℕ) (xs : List ℕ) → w ≤ r → r ≤ length xs → length (take (r - w) (drop w xs)) ≡ r - w
+part_size w r xs within fits = length-take-le (r - w) (drop w xs) (omega (arith, length-drop w xs, within, fits))
+
+-- up to the end
+pub over_end : (a : ℕ) (xs ys : List ℕ) → put_mid a (length xs - a) xs ys ≡ take a xs ++ ys
+over_end a xs ys =
+    let none : drop (length xs - a) (drop a xs) ≡ [] = drop_all (length xs - a) (drop a xs) (omega (arith, length-drop a xs)) in
+    ap (λ (zs : List ℕ). take a xs ++ (ys ++ zs)) none ∙ ap (λ (zs : List ℕ). take a xs ++ zs) (append-nil ys)
+
+-- and then a beginning of it is as it is wanted
+pub over_more : (a n : ℕ) (xs ys : List ℕ) → a ≤ length xs → length ys ≡ length xs - a → n ≤ length ys
+    → (a + n ≤ length (put_mid a (length xs - a) xs ys)) × (length (put_mid a (length xs - a) xs ys) ≡ length xs) × (take (a + n) (put_mid a (length xs - a) xs ys) ≡ take a xs ++ take n ys)
+over_more a n xs ys within as_many few =
+    let size : length (take a xs) ≡ a = length-take-le a xs within in
+    let is : put_mid a (length xs - a) xs ys ≡ take a xs ++ ys = over_end a xs ys in
+    let whole : length (put_mid a (length xs - a) xs ys) ≡ length xs = omega (arith, ap (λ (zs : List ℕ). length zs) is, length-append (take a xs) ys, size, as_many, within) in (
+      omega (arith, whole, within, as_many, few),
+      whole,
+      ap (take (a + n)) is ∙ ap (λ (k : ℕ). take (k + n) (take a xs ++ ys)) (sym size) ∙ take-append-add (take a xs) ys n,
+    )
+
+-- a body: its first byte, and the others
+pub body_over : (bytes more : List ℕ) (first : ℕ) → length bytes ≡ 1 + length more → put_mid 1 (length (slice_set bytes 0 first) - 1) (slice_set bytes 0 first) more ≡ first ∷ more
+body_over [] more first size = absurd (omega (arith, size))
+body_over (x ∷ xs) more first size = over_end 1 (first ∷ xs) more
+
+pub only_over : (bytes : List ℕ) (only : ℕ) → length bytes ≡ 1 → slice_set bytes 0 only ≡ only ∷ []
+only_over [] only size = absurd (omega (arith, size))
+only_over (x ∷ xs) only size = ap (λ (zs : List ℕ). only ∷ zs) (nil_from_length xs (omega (arith, size)))
+
+-- what stands in front of a front
+pub take_front : (n m : ℕ) (xs : List ℕ) → n ≤ m → m ≤ length xs → take n xs ≡ take n (take m xs)
+take_front n m xs within fits =
+    let more : m ≡ n + (m - n) = omega (arith, within) in
+    let size : length (take n xs) ≡ n = length-take-le n xs (omega (arith, within, fits)) in
+    sym (ap (λ (k : ℕ). take n (take k xs)) more ∙ ap (take n) (take-add n (m - n) xs) ∙ take-append-le n (take n xs) (take (m - n) (drop n xs)) (omega (arith, size)) ∙ take_whole n xs size)
+  where
+    take_whole : (n : ℕ) (xs : List ℕ) → length (take n xs) ≡ n → take n (take n xs) ≡ take n xs
+    take_whole n xs size = ap (λ (k : ℕ). take k (take n xs)) (sym size) ∙ take-length (take n xs)
+
+-- bytes came behind those that wait
+pub seen_behind : (w r e n : ℕ) (old mid new got : List ℕ) → w ≤ r → r ≤ e → e ≤ length old → e ≤ length mid → e + n ≤ length new
+    → take e mid ≡ take e old → take (e + n) new ≡ take e mid ++ got
+    → view w r (e + n) new ≡ record { answered = take w old; pending = drop r (take e old) ++ got }
+seen_behind w r e n old mid new got first then old_fits mid_fits new_fits same came =
+    let size : length (take e mid) ≡ e = length-take-le e mid mid_fits in
+    alike (take w new) (drop r (take (e + n) new)) (take w old) (drop r (take e old) ++ got)
+    (take_front w (e + n) new (omega (arith, first, then)) new_fits ∙ ap (take w) came ∙ take-append-le w (take e mid) got (omega (arith, size, first, then))
+    ∙ ap (take w) same ∙ sym (take_front w e old (omega (arith, first, then)) old_fits))
+    (ap (drop r) came ∙ drop-append-le r (take e mid) got (omega (arith, size, then)) ∙ ap (λ (zs : List ℕ). drop r zs ++ got) same)
+
+-- nothing came
+pub seen_still : (w r e : ℕ) (old new : List ℕ) → w ≤ r → r ≤ e → e ≤ length old → e ≤ length new → take e new ≡ take e old → view w r e new ≡ view w r e old
+seen_still w r e old new first then old_fits new_fits same =
+    alike (take w new) (drop r (take e new)) (take w old) (drop r (take e old))
+    (take_front w e new (omega (arith, first, then)) new_fits ∙ ap (take w) same ∙ sym (take_front w e old (omega (arith, first, then)) old_fits))
+    (ap (drop r) same)
+
+-- bytes were written between the two
+between_same : (w r e : ℕ) (xs ys : List ℕ) → w ≤ r → r ≤ e → e ≤ length xs → length ys ≡ r - w → drop r (take e (put_mid w (r - w) xs ys)) ≡ drop r (take e xs)
+between_same w r e xs ys first then fits as_many =
+    sym (between_is (put_mid w (r - w) xs ys) r e) ∙ ap (take (e - r)) (drop-put_mid w (r - w) xs ys r (omega (arith, first)) (omega (arith, first, then, fits)) as_many) ∙ between_is xs r e
+
+pub seen_between : (w r e : ℕ) (xs ys : List ℕ) → w ≤ r → r ≤ e → e ≤ length xs → length ys ≡ r - w → view w r e (put_mid w (r - w) xs ys) ≡ view w r e xs
+seen_between w r e xs ys first then fits as_many =
+    alike (take w (put_mid w (r - w) xs ys)) (drop r (take e (put_mid w (r - w) xs ys))) (take w xs) (drop r (take e xs))
+    (take-put_mid_below w (r - w) xs ys w (omega arith) (omega (arith, first, then, fits))) (between_same w r e xs ys first then fits as_many)
+
+-- and a beginning of them is as it is wanted
+pub seen_more : (w r e n : ℕ) (xs ys : List ℕ) → w ≤ r → r ≤ e → e ≤ length xs → length ys ≡ r - w → n ≤ length ys
+    → view (w + n) r e (put_mid w (r - w) xs ys) ≡ record { answered = take w xs ++ take n ys; pending = drop r (take e xs) }
+seen_more w r e n xs ys first then fits as_many few =
+    let behind : List ℕ = drop (r - w) (drop w xs) in
+    let size : length (take w xs) ≡ w = length-take-le w xs (omega (arith, first, then, fits)) in
+    alike (take (w + n) (put_mid w (r - w) xs ys)) (drop r (take e (put_mid w (r - w) xs ys))) (take w xs ++ take n ys) (drop r (take e xs))
+    (ap (λ (k : ℕ). take (k + n) (take w xs ++ (ys ++ behind))) (sym size) ∙ take-append-add (take w xs) (ys ++ behind) n ∙ ap (λ (zs : List ℕ). take w xs ++ zs) (take-append-le n ys behind few))
+    (between_same w r e xs ys first then fits as_many)
+
+pub between_size : (w r : ℕ) (xs ys : List ℕ) → w ≤ r → r ≤ length xs → length ys ≡ r - w → length (put_mid w (r - w) xs ys) ≡ length xs
+between_size w r xs ys first fits as_many = same_len_mid w (r - w) xs ys (as_many ∙ sym (part_size w r xs first fits))
+
+-- the bytes that wait are moved to the front, where no frames are
+moved : (r e : ℕ) (xs : List ℕ) → r ≤ e → e ≤ length xs → take (e - r) (copy_within xs r e 0) ≡ drop r (take e xs)
+moved r e xs within fits =
+    let n = e - r in
+    let end : e ≡ r + n = omega (arith, within) in
+    let size : length (take n (drop r xs)) ≡ n = part_size r e xs within fits in
+    take-append-le n (take n (drop r xs)) (drop (0 + n) xs) (omega (arith, size)) ∙ sym (take_front n n (drop r xs) (omega arith) (omega (arith, length-drop r xs, end, fits)))
+    ∙ between_is xs r e
+
+pub seen_moved : (w r e : ℕ) (xs : List ℕ) → w ≤ r → r ≤ e → e ≤ length xs → take w xs ≡ [] → view w 0 (e - r) (copy_within xs r e 0) ≡ view w r e xs
+seen_moved w r e xs first then fits none =
+    let zero : w ≡ 0 = omega (arith, length-take-le w xs (omega (arith, first, then, fits)), ap (λ (zs : List ℕ). length zs) none) in
+    let front : take w (copy_within xs r e 0) ≡ take w xs = rw zero refl in
+    alike (take w (copy_within xs r e 0)) (take (e - r) (copy_within xs r e 0)) (take w xs) (drop r (take e xs)) front (moved r e xs then fits)

@@ -1,0 +1,23 @@
+use Rattle.std.proofs.Common.{◌≡◌, ◌-◌, ◌++◌, List, ℕ, length, ap, sym, ◌∙◌, length-drop, take}
+use Rattle.std.specs.List.{flat_map}
+use Rattle.socket_edge.specs.Answering.{frame}
+use Rattle.socket_edge.proofs.Memory.{over_more}
+use Rattle.socket_edge.proofs.Streams.{rest_whole}
+use Rattle.socket_edge.proofs.Written.{frames_step}
+use Rattle.socket_edge.proofs.answer.fill_frames.Goals as goal
+
+pub loop-pair-preserved : goal.loop-pair-preserved
+loop-pair-preserved c =
+    let i = c.loop-pair.invariant in
+    let xs = c.loop-pair.bytes in
+    let at = c.loop-pair.at in
+    let ys = c.fill_frame.new.bytes in
+    let it = c.in-Some.ensures.some in
+    let before = flat_map frame (take c.loop-pair.pair-index c.args.answers.now) in
+    let as_many : length ys ≡ length xs - at = c.in-Some.ensures.len ∙ ap length (rest_whole at xs) ∙ length-drop at xs in
+    let on = over_more at c.in-Some.size xs ys i.0 as_many it.0 in (
+      on.0,
+      on.1 ∙ i.1,
+      on.2 ∙ ap (λ (zs : List ℕ). zs ++ take c.in-Some.size ys) i.2 ∙ ap (λ (zs : List ℕ). before ++ zs) it.1
+          ∙ sym (frames_step c.args.answers.now c.loop-pair.pair-index c.pair-item.result c.loop-pair-test.true c.pair-item.is),
+    )
