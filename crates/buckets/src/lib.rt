@@ -20,7 +20,7 @@
 //! - `specs/Held`: the entries, as contracts see them; `Rows` of crate `rows` has the words for them
 #![tactic(auto)]
 
-ghost use Rattle.std.specs.Prelude.{◌≡◌, ◌+◌, ◌<◌, ◌≤◌, ℕ, None, Some, IsOk, OnOk, OnErr};
+ghost use Rattle.std.specs.Prelude.{◌≡◌, ◌+◌, ◌<◌, ◌≤◌, ℕ, None, Some, IsOk, IsSome, IfOk, OnOk, OnErr};
 ghost use Rattle.rows.specs.Held.{at, Puts};
 ghost use Rattle.buckets.specs.Held.{KeepsAll};
 
@@ -30,7 +30,7 @@ mod places;
 
 use crate::overflow::Overflow;
 use crate::place::Place;
-use crate::places::{add, find, grow, take_out};
+use crate::places::{add, find, find_or_add, grow, take_out};
 use std::alloc::{AllocError, Global};
 use std::marker::Model;
 
@@ -111,6 +111,34 @@ impl Buckets {
         Ok(())
     }
 
+    /// The value of the key, if an entry has it. If none has, an entry with this value is put in, as by `insert`. It
+    /// takes one look at the places of the bucket where one of them is free.
+    ///
+    /// # Errors
+    ///
+    /// As of `insert`.
+    pub fn get_or_insert(&mut self, key: u64, value: usize) -> Result<Option<usize>, AllocError>
+        ensures found { IfOk result (λ found. found ≡ at self.old key) }
+        ensures kept { IfOk result (λ found. IsSome found → self.new ≡ self.old) }
+        ensures put { IfOk result (λ found. found ≡ None → Puts self.old.held self.new.held key (Some value)) }
+        ensures err { OnErr result (KeepsAll self.old self.new) }
+        ensures succeeds { 0 < self.old.room → IsOk result }
+        ensures room_ok { OnOk result (self.old.room ≤ self.new.room + 1) }
+        ensures room_err { OnErr result (self.old.room ≤ self.new.room) }
+    {
+        let found = find_or_add(
+            &mut self.places,
+            &mut self.overflow,
+            &mut self.are_packed,
+            key,
+            value,
+        )?;
+        if found.is_none() {
+            self.count = self.count.saturating_add(1);
+        }
+        Ok(found)
+    }
+
     /// Takes the entry of the key out, if there is one, and returns its value. This takes no memory. Where the bucket
     /// was full, it takes a search in the overflow for an entry that comes into the place.
     pub fn remove(&mut self, key: u64) -> Option<usize>
@@ -169,12 +197,21 @@ impl Buckets {
         ensures room { self.old.room ≤ self.new.room }
     {
         if self.count >= self.places.len() / 4 * 3 {
-            self.are_packed = grow(
-                self.alloc,
-                &mut self.places,
-                &mut self.overflow,
-                self.are_packed,
-            );
+            self.widen();
         }
+    }
+
+    // Makes twice as many places. This is seldom done, and not compiled into its caller.
+    #[inline(never)]
+    fn widen(&mut self)
+        ensures same { KeepsAll self.old self.new }
+        ensures room { self.old.room ≤ self.new.room }
+    {
+        self.are_packed = grow(
+            self.alloc,
+            &mut self.places,
+            &mut self.overflow,
+            self.are_packed,
+        );
     }
 }

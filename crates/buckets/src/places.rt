@@ -1,5 +1,5 @@
 //! The places, in buckets, and the overflow.
-ghost use Rattle.std.specs.Prelude.{◌≡◌, ◌≢◌, ◌⊎◌, ◌+◌, ◌*◌, ◌/◌, true, ◌<◌, ◌≤◌, ◌↔◌, ℕ, IsTrue, None, Some, OnOk, OnErr, IsOk, IfSome, IfNone, length, slice_index_or};
+ghost use Rattle.std.specs.Prelude.{◌≡◌, ◌≢◌, ◌⊎◌, ◌+◌, ◌*◌, ◌/◌, true, ◌<◌, ◌≤◌, ◌↔◌, ℕ, IsTrue, None, Some, OnOk, OnErr, IsOk, IsSome, IfSome, IfNone, length, slice_index_or};
 ghost use Rattle.std.specs.Bool.{OnTrue, OnFalse};
 ghost use Rattle.std.specs.Option.{option_map};
 ghost use Rattle.rows.specs.Held.{at, value_at, Puts};
@@ -86,6 +86,7 @@ fn search(places: &[Place], key: u64) -> Option<usize>
     requires home { AreHome places.now }
     requires front { AreInFront places.now }
     ensures ends { IfSome result (EndsSearch places.now key) }
+    ensures next { IfSome result (λ place. slice_index_or places.now place None ≡ None → IsNextFor places.now key place) }
     ensures absent { IfNone result (HasNowhere places.now key) }
 {
     let start = bucket_of(places.len(), key);
@@ -101,6 +102,7 @@ fn search_between(places: &[Place], start: usize, end: usize, key: u64) -> Optio
     ensures from { IfSome result (λ place. start ≤ place) }
     ensures to { IfSome result (λ place. place < end) }
     ensures before { IfSome result (λ stop. (place : ℕ) (entry : KeyValue) → start ≤ place → place < stop → Stands places.now place entry → entry.key ≢ key) }
+    ensures filled { IfSome result (λ stop. (place : ℕ) → start ≤ place → place < stop → slice_index_or places.now place None ≢ None) }
     ensures absent { IfNone result ((place : ℕ) (entry : KeyValue) → start ≤ place → place < end → Stands places.now place entry → entry.key ≢ key) }
 {
     let mut place = start;
@@ -203,6 +205,79 @@ pub fn add(
     }
     *are_packed = are_packed_with(*are_packed, value);
     overflow.insert(key, value)
+}
+
+/// The value of the key, in a place or in the overflow; where it is in neither, an entry is put in with this value.
+pub fn find_or_add(
+    places: &mut [Place],
+    overflow: &mut Overflow,
+    are_packed: &mut bool,
+    key: u64,
+    value: usize,
+) -> Result<Option<usize>, AllocError>
+    requires sound { AreSound places.old overflow.old.held }
+    requires packed { OnTrue are_packed.old (ArePacked places.old overflow.old.held) }
+    ensures sound { AreSound places.new overflow.new.held }
+    ensures packed { OnTrue are_packed.new (ArePacked places.new overflow.new.held) }
+    ensures found { IfOk result (λ found. found ≡ value_at (all_in places.old overflow.old.held) key) }
+    ensures kept { IfOk result (λ found. IsSome found → (places.new ≡ places.old) × (overflow.new ≡ overflow.old)) }
+    ensures put { IfOk result (λ found. found ≡ None → Puts (all_in places.old overflow.old.held) (all_in places.new overflow.new.held) key (Some value)) }
+    ensures err { OnErr result (all_in places.new overflow.new.held ≡ all_in places.old overflow.old.held) }
+    ensures succeeds { 0 < overflow.old.room → IsOk result }
+    ensures room_ok { OnOk result (overflow.old.room ≤ overflow.new.room + 1) }
+    ensures room_err { OnErr result (overflow.old.room ≤ overflow.new.room) }
+{
+    let Some(place) = search(places, key) else {
+        return find_then_add(places, overflow, are_packed, key, value);
+    };
+    if let Some(held) = places[place].value() {
+        return Ok(Some(held));
+    }
+    if are_packed_with(*are_packed, value) {
+        fill(places, place, key, value);
+        return Ok(None);
+    }
+    find_then_add(places, overflow, are_packed, key, value)
+}
+
+// The same by two searches, where the bucket is full, or doesn't tell that the overflow lacks the key.
+#[inline(never)]
+fn find_then_add(
+    places: &mut [Place],
+    overflow: &mut Overflow,
+    are_packed: &mut bool,
+    key: u64,
+    value: usize,
+) -> Result<Option<usize>, AllocError>
+    requires sound { AreSound places.old overflow.old.held }
+    requires packed { OnTrue are_packed.old (ArePacked places.old overflow.old.held) }
+    ensures sound { AreSound places.new overflow.new.held }
+    ensures packed { OnTrue are_packed.new (ArePacked places.new overflow.new.held) }
+    ensures found { IfOk result (λ found. found ≡ value_at (all_in places.old overflow.old.held) key) }
+    ensures kept { IfOk result (λ found. IsSome found → (places.new ≡ places.old) × (overflow.new ≡ overflow.old)) }
+    ensures put { IfOk result (λ found. found ≡ None → Puts (all_in places.old overflow.old.held) (all_in places.new overflow.new.held) key (Some value)) }
+    ensures err { OnErr result (all_in places.new overflow.new.held ≡ all_in places.old overflow.old.held) }
+    ensures succeeds { 0 < overflow.old.room → IsOk result }
+    ensures room_ok { OnOk result (overflow.old.room ≤ overflow.new.room + 1) }
+    ensures room_err { OnErr result (overflow.old.room ≤ overflow.new.room) }
+{
+    if let Some(held) = find(places, overflow, *are_packed, key) {
+        return Ok(Some(held));
+    }
+    add(places, overflow, are_packed, key, value)?;
+    Ok(None)
+}
+
+// Puts an entry into this place, the first free one of its bucket.
+fn fill(places: &mut [Place], place: usize, key: u64, value: usize)
+    requires next { IsNextFor places.old key place }
+    requires small { value < 4294967295 }
+    ensures { IsSetTo places.old places.new place (Some (record { key = key; value = value })) }
+{
+    match Place::of(key, value) {
+        Some(filled) => places[place] = filled,
+        None => unreachable!(),
+    }
 }
 
 // Whether each entry of the overflow has a full bucket still, where this value goes there from a full one: one

@@ -47,40 +47,30 @@ pub fn load_front(text: &[u8]) -> [u8; 5]
     [1, a, b, c, d]
 }
 
-/// The entry of a session that begins.
-pub fn begin_code(session: &Session) -> [u8; 22]
-    ensures code { result ≡ entry_bytes (Begin session.now) }
-    ensures fits { IsSeen session.now.proto session.now.seen → session.now.last ≡ 0 → IsEntry (Begin session.now) }
+fn session_code(session: &Session) -> [u8; 21]
+    ensures code { result ≡ session_bytes session.now }
+    ensures fits { IsSeen session.now.proto session.now.seen → session.now.last ≡ 0 → IsSession session.now }
 {
     let [a, b, c, d, e, f] = endpoint_code(session.inside);
     let [g, h, i, j, k, l] = endpoint_code(session.outside);
     let [m, n, o, p, q, r] = endpoint_code(session.remote);
     let proto = session.proto.number();
     let opener = session.opener.code();
+    let seen = session.seen;
     [
-        2,
-        proto,
-        a,
-        b,
-        c,
-        d,
-        e,
-        f,
-        g,
-        h,
-        i,
-        j,
-        k,
-        l,
-        m,
-        n,
-        o,
-        p,
-        q,
-        r,
-        opener,
-        session.seen,
+        proto, a, b, c, d, e, f, g, h, i, j, k, l, m, n, o, p, q, r, opener, seen,
     ]
+}
+
+/// The entry of a session that begins.
+#[tactic(auto, unfolding(crate::specs::Coding::entry_bytes))]
+pub fn begin_code(session: &Session) -> [u8; 22]
+    ensures code { result ≡ entry_bytes (Begin session.now) }
+    ensures fits { IsSeen session.now.proto session.now.seen → session.now.last ≡ 0 → IsEntry (Begin session.now) }
+{
+    let mut code = [2; 22];
+    code[1..].copy_from_slice(&session_code(session));
+    code
 }
 
 fn flow_code(flow: &Flow) -> [u8; 13]
@@ -126,26 +116,10 @@ fn put_byte(out: &mut Vec<u8>, byte: u8) -> Result<(), AllocError>
     out.extend_from_slice(&[byte])
 }
 
-#[tactic(auto, unfolding(crate::specs::Coding::endpoint_bytes))]
-fn put_endpoint(out: &mut Vec<u8>, endpoint: Endpoint) -> Result<(), AllocError>
-    ensures { OnOk result (out.new.items ≡ out.old.items ++ endpoint_bytes endpoint) }
-{
-    out.extend_from_slice(&endpoint.addr.to_be_bytes())?;
-    out.extend_from_slice(&endpoint.port.to_be_bytes())?;
-    Ok(())
-}
-
-#[tactic(auto, unfolding(crate::specs::Coding::session_bytes))]
 fn put_session(out: &mut Vec<u8>, session: &Session) -> Result<(), AllocError>
     ensures { OnOk result (out.new.items ≡ out.old.items ++ session_bytes session.now) }
 {
-    put_byte(out, session.proto.number())?;
-    put_endpoint(out, session.inside)?;
-    put_endpoint(out, session.outside)?;
-    put_endpoint(out, session.remote)?;
-    put_byte(out, session.opener.code())?;
-    put_byte(out, session.seen)?;
-    Ok(())
+    out.extend_from_slice(&session_code(session))
 }
 
 fn put_text(out: &mut Vec<u8>, text: &[u8]) -> Result<(), AllocError>

@@ -97,7 +97,7 @@ impl Translated {
         self.firsts.get(mapping).copied()
     }
 
-    /// Puts a translated session in, for which there is room.
+    /// Puts a translated session in, for which there is room: as the first of its mapping, where it has none yet.
     pub fn insert(&mut self, session: &Session, slot: usize)
         requires lacks { LacksMapping self.old session.now }
         requires room { 0 < room_in self.old }
@@ -105,41 +105,19 @@ impl Translated {
         ensures room { room_in self.old ≤ room_in self.new + 1 }
     {
         let inside = mapping_key(session.proto, session.inside);
-        if self.insides.get(inside).is_some() {
-            self.join(session, slot);
-        } else {
-            self.begin(session, slot);
-        }
-    }
-
-    // Puts a session in whose mapping has a first.
-    fn join(&mut self, session: &Session, slot: usize)
-        requires some { IsSome (at self.old.insides (inside_number session.now)) }
-        requires lacks { LacksMapping self.old session.now }
-        requires room { 0 < room_in self.old }
-        ensures taken { TakesIn self.old self.new session.now slot }
-        ensures room { room_in self.old ≤ room_in self.new + 1 }
-    {
-        let key = key(session.proto, session.inside, session.remote);
-        match self.others.insert(key, slot) {
-            Ok(()) => {}
+        let mapping = self.firsts.vacant_key();
+        match self.insides.get_or_insert(inside, mapping) {
+            Ok(None) => {
+                let outside = mapping_key(session.proto, session.outside);
+                lead(&mut self.outsides, outside, mapping);
+                self.firsts.insert_reserved(slot);
+            }
+            Ok(Some(_)) => {
+                let key = key(session.proto, session.inside, session.remote);
+                join(&mut self.others, key, slot);
+            }
             Err(_) => unreachable!(),
         }
-    }
-
-    // Puts a session in that is the first of its mapping.
-    fn begin(&mut self, session: &Session, slot: usize)
-        requires none { at self.old.insides (inside_number session.now) ≡ None }
-        requires lacks { LacksMapping self.old session.now }
-        requires room { 0 < room_in self.old }
-        ensures taken { TakesIn self.old self.new session.now slot }
-        ensures room { room_in self.old ≤ room_in self.new + 1 }
-    {
-        let mapping = self.firsts.insert_reserved(slot);
-        let inside = mapping_key(session.proto, session.inside);
-        lead(&mut self.insides, inside, mapping);
-        let outside = mapping_key(session.proto, session.outside);
-        lead(&mut self.outsides, outside, mapping);
     }
 
     /// The slot of the translated session of this protocol, inside and remote endpoint, where the first one of its
@@ -295,6 +273,19 @@ fn lead(map: &mut Buckets, key: u64, mapping: usize)
     ensures room { map.old.room ≤ map.new.room + 1 }
 {
     match map.insert(key, mapping) {
+        Ok(()) => {}
+        Err(_) => unreachable!(),
+    }
+}
+
+// Puts a session in that isn't the first of its mapping.
+fn join(others: &mut Rows, key: u128, slot: usize)
+    requires absent { at others.old key ≡ None }
+    requires room { 0 < others.old.room }
+    ensures puts { Puts others.old.held others.new.held key (Some slot) }
+    ensures room { others.old.room ≤ others.new.room + 1 }
+{
+    match others.insert(key, slot) {
         Ok(()) => {}
         Err(_) => unreachable!(),
     }

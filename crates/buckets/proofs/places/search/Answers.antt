@@ -1,6 +1,6 @@
 use Rattle.std.proofs.Common.{◌<◌, subst, Option, Some, None, IfNone, length, arith, inl, inr}
 use Rattle.buckets.specs.Places.{IsHome}
-use Rattle.buckets.proofs.Values.{stands-inside, search-nowhere}
+use Rattle.buckets.proofs.Values.{next-for, stands-inside, search-nowhere}
 use Rattle.buckets.proofs.places.search.Goals as goal
 
 if_none : {A P : Type 0} (o : Option A) → P → IfNone o P
@@ -26,3 +26,9 @@ returns-clause-ends c =
       | inl has ↦ inl has
       | inr free ↦ inr (search-nowhere c.args.places.now c.args.key c.bucket_of-start.result c.in_ok-place.place c.bucket_end-end.result c.requires.home c.requires.front c.bucket_of-start.ensures.bucket met.from met.to end.short end.bound free met.before)
     ]
+
+pub returns-clause-next : goal.returns-clause-next
+returns-clause-next c = λ free.
+    let met = c.in_ok-place.ensures in
+    let end = c.bucket_end-end.ensures in
+    next-for c.args.places.now c.args.key c.bucket_of-start.result c.in_ok-place.place c.bucket_end-end.result c.bucket_of-start.ensures.bucket met.from met.to end.short end.bound free met.filled

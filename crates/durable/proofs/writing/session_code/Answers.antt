@@ -1,9 +1,9 @@
 use Rattle.std.proofs.Common.{refl}
-use Rattle.durable.specs.Coding.{endpoint_bytes, session_bytes, entry_bytes}
-use Rattle.durable.proofs.writing.begin_code.Goals as goal
+use Rattle.durable.specs.Coding.{endpoint_bytes, session_bytes}
+use Rattle.durable.proofs.writing.session_code.Goals as goal
 
 pub returns-clause-code : goal.returns-clause-code
-unfolding entry_bytes session_bytes endpoint_bytes
+unfolding session_bytes endpoint_bytes
 returns-clause-code c = rw (c.endpoint_code.ensures.code, c.endpoint_code-2.ensures.code, c.endpoint_code-3.ensures.code, c.number-proto.ensures, c.code-opener.ensures) refl
 
 pub returns-clause-fits : goal.returns-clause-fits
