@@ -4,7 +4,7 @@ use Rattle.gateway.specs.Running.{CarriesOn}
 use Rattle.machine.specs.declared.event.Answer.{Answer}
 use Rattle.socket_edge.specs.Answering.{frames}
 use Rattle.socket_edge.specs.Exchange.{Exchange}
-use Rattle.socket_edge.specs.Requests.{Whole, next}
+use Rattle.socket_edge.specs.Requests.{Whole}
 use Rattle.socket_edge.proofs.Frames.{Reads-nil, Reads-whole}
 use Rattle.socket_edge.proofs.Tending.{no-memory}
 use Rattle.socket_edge.proofs.serving.offer_copy.Goals as goal

@@ -1,12 +1,11 @@
-use Rattle.std.proofs.Common.{◌≡◌, ◌≤◌, ◌+◌, ◌-◌, ◌++◌, ◌∷◌, [], List, ℕ, length, take, drop, ap, sym, subst, refl, ◌∙◌, arith}
+use Rattle.std.proofs.Common.{◌≡◌, ◌≤◌, ◌+◌, ◌++◌, ◌∷◌, [], List, ℕ, length, take, drop, ap, sym, subst, refl, ◌∙◌, arith}
 use Rattle.std.proofs.lemmas.List.{drop-drop, with_items_is}
 use Rattle.gateway.specs.Running.{CarriesOn}
 use Rattle.machine.specs.declared.event.What.TheVariants.{Packet}
 use Rattle.socket_edge.specs.declared.request.Head.TheVariants as head
 use Rattle.socket_edge.specs.declared.request.Kind.TheVariants as kind
-use Rattle.socket_edge.specs.Answering.{frame}
 use Rattle.socket_edge.specs.Exchange.{Exchange}
-use Rattle.socket_edge.specs.Requests.{Whole, head_of, next}
+use Rattle.socket_edge.specs.Requests.{Whole, head_of}
 use Rattle.socket_edge.proofs.Heads.{frame_is_short, packet_next}
 use Rattle.socket_edge.proofs.Memory.{between_size, ends_within, part_behind, part_size, seen_forward, view}
 use Rattle.socket_edge.proofs.waiting.Waiting.forward_next.Goals as goal
