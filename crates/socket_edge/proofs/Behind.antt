@@ -8,14 +8,14 @@ use Rattle.disk_model.proofs.Moments.{idle, only_now, only_then}
 use Rattle.durable.specs.Recovery.{IsConfigured}
 use Rattle.machine.specs.Judged.{Judged, AreJudged}
 use Rattle.machine.specs.Laws.{EventsAreJudgedOnce}
-use Rattle.machine.specs.Machine.{State, after}
+use Rattle.machine.specs.Machine.{after}
 use Rattle.machine.specs.Noted.{lasting}
 use Rattle.machine.specs.declared.event.Answer.{Answer}
 use Rattle.machine.specs.declared.event.Event.{Event}
 use Rattle.machine.proofs.Judging.{AreJudged-append, AreJudged-length}
 use Rattle.gateway.specs.declared.fault.GatewayFault.{GatewayFault}
 use Rattle.gateway.specs.Kept.{Kept, IsReady, IsSafe}
-use Rattle.gateway.specs.Running.{Ran, Stands, Ends, IsWhy, Rests, Stops, CarriesOn, BreaksOff, standing}
+use Rattle.gateway.specs.Running.{Ran, Stands, Rests, Stops, CarriesOn, BreaksOff, standing}
 use Rattle.gateway.specs.Standing.{Standing, StandsFor}
 use Rattle.gateway.specs.Told.{Told, TookAll}
 use Rattle.gateway.proofs.Runs.{counted, safe-either, safe-less}

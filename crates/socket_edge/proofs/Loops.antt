@@ -1,5 +1,5 @@
 -- What the loop over the frames keeps.
-use Rattle.std.proofs.Common.{◌≡◌, ℕ, ◌+◌, ◌≤◌, List, [], ◌∷◌, ◌++◌, length, refl, sym, ap, ◌∙◌, arith, length-append, subst}
+use Rattle.std.proofs.Common.{◌≡◌, Bool, ℕ, ◌+◌, ◌≤◌, List, [], ◌∷◌, ◌++◌, length, refl, sym, ap, ◌∙◌, arith, length-append, subst}
 use Rattle.std.proofs.lemmas.List.{append-nil}
 use Rattle.disk_model.specs.Disk.{Files}
 use Rattle.machine.specs.declared.event.Answer.{Answer}
@@ -34,9 +34,9 @@ module _ {D : Type 0} (honest : D → Type 0) (moment : D → ℕ) (left : D →
   }
 
   -- one frame more
-  pub SoFar-next : (old now new : Kept D) (bytes rest later : List ℕ) (count : ℕ) (a b c : List (ℕ × Answer)) → SoFar old now bytes rest count a b
-      → Stepped honest moment left failed step.Took rest later now new b c → SoFar old new bytes later (count + 1) a c
-  SoFar-next old now new bytes rest later count a b c s t = record {
+  pub SoFar-next : (old now new : Kept D) (bytes rest later : List ℕ) (count : ℕ) (a b c : List (ℕ × Answer)) (forwarded : Bool) → SoFar old now bytes rest count a b
+      → Stepped honest moment left failed (step.Took forwarded) rest later now new b c → SoFar old new bytes later (count + 1) a c
+  SoFar-next old now new bytes rest later count a b c forwarded s t = record {
     few = omega (arith, s.few, next_shorter rest t.0 later t.1);
     events = s.events ++ t.0 ∷ [];
     reads = Reads-whole bytes rest s.events t.0 later s.reads t.1;

@@ -2,12 +2,12 @@
 use Rattle.std.proofs.Common.{◌≡◌, ℕ, ◌+◌, ◌-◌, ◌≤◌, List, [], ◌∷◌, ◌++◌, length, take, drop, refl, sym, ap, ◌∙◌, arith, length-append, length-drop, take-add}
 use Rattle.std.specs.Prelude.{slice_set}
 use Rattle.std.specs.List.{copy_within}
-use Rattle.std.proofs.lemmas.List.{append-nil, drop_all, length-take-le, nil_from_length, take-append-le, drop-append-le}
+use Rattle.std.proofs.lemmas.List.{append-nil, drop_all, length-take-le, nil_from_length, take-append-le, drop-append-le, drop-take}
 use Rattle.std.proofs.Math.Seq.{take-append-add, take-length}
 use Rattle.std.specs.Prelude.{Result, Ok, Err, OnOk}
 use Rattle.std.specs.Result.{is_err}
 use Rattle.std.proofs.Common.{false}
-use Rattle.std.proofs.lemmas.Slice.{between_is, drop-put_mid, take-put_mid_below}
+use Rattle.std.proofs.lemmas.Slice.{between_is, between-put_mid, drop-put_mid, take-put_mid_below}
 use Rattle.socket_edge.specs.Exchange.{Exchange}
 use borrow.Rule.Slice.PartMut.{put_mid, same_len_mid}
 
@@ -117,3 +117,33 @@ seen_moved w r e xs first then fits none =
     let zero : w ≡ 0 = omega (arith, length-take-le w xs (omega (arith, first, then, fits)), ap (λ (zs : List ℕ). length zs) none) in
     let front : take w (copy_within xs r e 0) ≡ take w xs = rw zero refl in
     alike (take w (copy_within xs r e 0)) (take (e - r) (copy_within xs r e 0)) (take w xs) (drop r (take e xs)) front (moved r e xs then fits)
+
+-- a part was written over, and then moved behind the frames
+pub seen_forward : (w r n e : ℕ) (xs two ys : List ℕ) → w ≤ r → r + n ≤ e → e ≤ length xs → length ys ≡ n
+    → take (w + n) two ≡ take w (put_mid r (r + n - r) xs ys) ++ take n (drop r (put_mid r (r + n - r) xs ys))
+    → drop (r + n) two ≡ drop (r + n) (put_mid r (r + n - r) xs ys)
+    → (take (w + n) two ≡ take w xs ++ ys) × (drop (r + n) (take e two) ≡ drop (r + n) (take e xs))
+seen_forward w r n e xs two ys first then fits as_many there behind =
+    let k : r + n - r ≡ n = omega arith in
+    let one : List ℕ = put_mid r (r + n - r) xs ys in
+    let within : r ≤ length xs = omega (arith, then, fits) in (
+      there ∙ ap (λ (zs : List ℕ). zs ++ take n (drop r one)) (take-put_mid_below r (r + n - r) xs ys w first within)
+          ∙ ap (λ (zs : List ℕ). take w xs ++ zs) (ap (λ (m : ℕ). take m (drop r one)) (sym k) ∙ between-put_mid r (r + n - r) xs ys (r + n) within (as_many ∙ sym k)),
+      sym (between_is two (r + n) e) ∙ ap (take (e - (r + n))) (behind ∙ drop-put_mid r (r + n - r) xs ys (r + n) (omega arith) within (as_many ∙ sym k)) ∙ between_is xs (r + n) e,
+    )
+
+-- what stands in the part behind its first bytes
+pub part_behind : (r k len e : ℕ) (xs : List ℕ) → r + (k + len) ≤ e → e ≤ length xs → drop k (take (r + (k + len) - r) (drop r xs)) ≡ take len (drop k (drop r (take e xs)))
+part_behind r k len e xs within fits =
+    let ys : List ℕ = drop r xs in
+    let m = e - r - k in
+    let whole : r + (k + len) - r ≡ k + len = omega arith in
+    let more : k + m ≡ e - r = omega (arith, within) in
+    ap (λ (n : ℕ). drop k (take n ys)) whole ∙ drop-take k len ys
+    ∙ take_front len m (drop k ys) (omega (arith, within)) (omega (arith, within, fits, length-drop k ys, length-drop r xs))
+    ∙ ap (take len) (sym (drop-take k m ys) ∙ ap (λ (n : ℕ). drop k (take n ys)) more ∙ ap (drop k) (between_is xs r e))
+
+-- so many bytes wait
+pub ends_within : (r e n : ℕ) (xs bytes : List ℕ) → r ≤ e → e ≤ length xs → bytes ≡ drop r (take e xs) → n ≤ length bytes → r + n ≤ e
+ends_within r e n xs bytes within fits is many =
+    omega (arith, many, ap (λ (zs : List ℕ). length zs) is, length-drop r (take e xs), length-take-le e xs fits, within)

@@ -1,5 +1,5 @@
 -- What a run does, and what its parts do.
-use Rattle.std.specs.Prelude.{◌≡◌, ◌≢◌, ◌↔◌, ◌≤◌, ℕ, List, [], ◌∷◌, ◌++◌, length, take, drop, false, Result, Ok, Err}
+use Rattle.std.specs.Prelude.{◌≡◌, ◌≢◌, ◌↔◌, ◌≤◌, ℕ, List, [], ◌∷◌, ◌++◌, length, take, false, Result, Ok, Err}
 use Rattle.disk_model.specs.Disk.{Files, LeavesNow, LeavesOnly}
 use Rattle.durable.specs.Recovery.{IsConfigured}
 use Rattle.machine.specs.Judged.{Judged, AreJudged}
@@ -118,7 +118,7 @@ end_of (halt.Refused fault) = Err (Gateway fault)
 
 -- the gateway took no fault
 abbrev pub GoesOn : Step → Type 0
-GoesOn step.Took = Unit {0}
+GoesOn (step.Took forwarded) = Unit {0}
 GoesOn (step.Ends halt.Cut) = Unit {0}
 GoesOn (step.Ends (halt.Bad fault)) = Unit {0}
 GoesOn (step.Ends (halt.Refused fault)) = ⊥
@@ -136,7 +136,7 @@ module _ {D : Type 0} (honest : D → Type 0) (moment : D → ℕ) (left : D →
 
   -- what one frame at the front came to
   abbrev pub Stepped : Step → List ℕ → List ℕ → Kept D → Kept D → List (ℕ × Answer) → List (ℕ × Answer) → Type 0
-  Stepped step.Took bytes rest old new before out = (event : Event) × (next bytes ≡ Whole event rest) × CarriesOn honest moment left failed old new (event ∷ []) before out
+  Stepped (step.Took forwarded) bytes rest old new before out = (event : Event) × (next bytes ≡ Whole event rest) × CarriesOn honest moment left failed old new (event ∷ []) before out
   Stepped (step.Ends halt.Cut) bytes rest old new before out = (rest ≡ bytes) × (next bytes ≡ Cut) × CarriesOn honest moment left failed old new [] before out
   Stepped (step.Ends (halt.Bad fault)) bytes rest old new before out = (rest ≡ bytes) × (next bytes ≡ Bad fault) × CarriesOn honest moment left failed old new [] before out
   Stepped (step.Ends (halt.Refused fault)) bytes rest old new before out =

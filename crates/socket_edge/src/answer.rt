@@ -1,5 +1,7 @@
 //! The frames of answers.
-ghost use Rattle.std.specs.Prelude.{◌≡◌, ◌+◌, ◌≤◌, ℕ, [], ◌∷◌, ◌++◌, IfSome, OnOk, OnErr, length, take};
+ghost use Rattle.std.specs.Prelude.{◌≡◌, ◌+◌, ◌≤◌, ℕ, List, [], ◌∷◌, ◌++◌, IfSome, OnOk, OnErr, length, take};
+ghost use Rattle.byteorder.specs.Endian.{big_bytes};
+ghost use Rattle.machine.specs.declared.event.Answer.TheVariants.{Forward};
 ghost use Rattle.socket_edge.specs.Answering.{iface_byte, kind_byte, answer_body, frame_head, frame, frames};
 
 use gateway::{Answer, Iface};
@@ -40,24 +42,46 @@ fn body_len(answer: &Answer) -> u32
 }
 
 /// The bytes of a frame before its body.
-pub fn head_bytes(number: u64, answer: &Answer) -> [u8; HEAD_LEN]
-    ensures { result ≡ frame_head (number, answer.now) }
+fn head_with(kind: u8, number: u64, len: u32) -> [u8; HEAD_LEN]
+    ensures { result ≡ kind ∷ big_bytes 8 number ++ big_bytes 4 len }
 {
     let mut bytes = [0; HEAD_LEN];
-    bytes[0] = kind_of(answer);
+    bytes[0] = kind;
     bytes[1..9].copy_from_slice(&number.to_be_bytes());
-    bytes[9..13].copy_from_slice(&body_len(answer).to_be_bytes());
+    bytes[9..13].copy_from_slice(&len.to_be_bytes());
     bytes
 }
 
+/// The bytes of an answer's frame before its body.
+pub fn head_bytes(number: u64, answer: &Answer) -> [u8; HEAD_LEN]
+    ensures { result ≡ frame_head (number, answer.now) }
+{
+    head_with(kind_of(answer), number, body_len(answer))
+}
+
 /// The bytes of a frame up to the first one of its body.
+fn front_with(head: &[u8; HEAD_LEN], first: u8) -> [u8; HEAD_LEN + 1]
+    ensures { result ≡ head.now ++ first ∷ [] }
+{
+    let mut bytes = [0; HEAD_LEN + 1];
+    bytes[..HEAD_LEN].copy_from_slice(head);
+    bytes[HEAD_LEN] = first;
+    bytes
+}
+
+/// The bytes of an answer's frame up to the first one of its body.
 fn front_bytes(number: u64, answer: &Answer, first: u8) -> [u8; HEAD_LEN + 1]
     ensures { result ≡ frame_head (number, answer.now) ++ first ∷ [] }
 {
-    let mut bytes = [0; HEAD_LEN + 1];
-    bytes[..HEAD_LEN].copy_from_slice(&head_bytes(number, answer));
-    bytes[HEAD_LEN] = first;
-    bytes
+    front_with(&head_bytes(number, answer), first)
+}
+
+/// All bytes in front of the packet in the frame of a packet that leaves, whose length is in bytes.
+pub fn forward_front(number: u64, iface: Iface, len: usize) -> [u8; HEAD_LEN + 1]
+    requires { len ≤ 65535 }
+    ensures { (packet : List ℕ) → length packet ≡ len → result ++ packet ≡ frame (number, Forward iface packet) }
+{
+    front_with(&head_with(1, number, 1 + len as u32), byte_of(iface))
 }
 
 /// Puts a frame at the end: all before a packet in one piece. An `Err` may leave a part of it there.

@@ -6,7 +6,8 @@
 //! `run` reads request frames, offers each whole one to the gateway, and writes the frames of the
 //! answers, in whatever pieces the bytes come and go. The rooms:
 //! - `edge`: the run, one read after the other;
-//! - `waiting`: the bytes that were read and aren't answered yet;
+//! - `waiting`: the bytes that were read and aren't answered yet, and the answers in front of them;
+//! - `forwarding`: a packet that leaves in the bytes of its request;
 //! - `serving`: all whole frames at the front, offered in order;
 //! - `request`: what stands at the front of the bytes: a whole frame, a part of one, or a fault;
 //! - `sending`: the frames of the answers, written with or without memory for them in one piece;
@@ -18,6 +19,7 @@
 mod answer;
 mod edge;
 mod fault;
+mod forwarding;
 pub mod laws;
 mod request;
 pub mod sending;

@@ -89,7 +89,7 @@ fn longest_of(kind: Kind) -> u32
 
 /// The header at the front, tested once its 14 bytes are there.
 #[tactic(auto, unfolding(crate::specs::Requests::head_of))]
-fn read_head(bytes: &[u8]) -> Head
+pub fn read_head(bytes: &[u8]) -> Head
     ensures { result ≡ head_of bytes.now }
 {
     if bytes.len() < 14 {

@@ -1,5 +1,5 @@
 //! Offering the whole frames at the front of the bytes.
-ghost use Rattle.std.specs.Prelude.{◌≡◌, ◌≢◌, ◌+◌, ◌∷◌, ◌++◌, [], ℕ, List, ◌<◌, ◌≤◌, false, length, IfErr, OnOk, vec_len, vec_capacity};
+ghost use Rattle.std.specs.Prelude.{◌≡◌, ◌≢◌, ◌+◌, ◌∷◌, ◌++◌, [], ℕ, List, ◌<◌, ◌≤◌, false, length, true, IfErr, OnOk, vec_len, vec_capacity};
 ghost use Rattle.gateway.specs.Kept.{Kept};
 ghost use Rattle.gateway.specs.Running.{Stands, CarriesOn, BreaksOff};
 ghost use Rattle.machine.specs.declared.event.Answer.{Answer};
@@ -38,8 +38,8 @@ pub enum Halt {
 /// What the front of the bytes came to.
 #[derive(Clone, Copy, Drop)]
 pub enum Step {
-    /// A frame was taken.
-    Took,
+    /// A frame was taken, and whether its answer is a packet that left at once.
+    Took(bool),
     /// No more frames are offered.
     Ends(Halt),
 }
@@ -137,8 +137,13 @@ fn offer_event<D: Disk + Drop>(
     take(gateway, event, answers)
 }
 
-/// Offers the frame at the front.
-fn offer_next<D: Disk + Drop>(
+/// Whether the last answer is a packet that leaves.
+fn ends_in_forward(answers: &[(u64, Answer)]) -> bool {
+    matches!(answers.last(), Some((_, Answer::Forward(_, _))))
+}
+
+/// Offers a copy of the frame at the front.
+fn offer_copy<D: Disk + Drop>(
     alloc: Global,
     waiting: &mut Waiting,
     answers: &mut Vec<(u64, Answer)>,
@@ -162,13 +167,49 @@ fn offer_next<D: Disk + Drop>(
             waiting.skip(len);
             match offer_event(event, answers, gateway) {
                 Ok(()) => {
+                    let forwarded = ends_in_forward(answers.as_slice());
                     put_back(waiting, answers, bodies);
-                    Step::Took
+                    Step::Took(forwarded)
                 }
                 Err(fault) => Step::Ends(Halt::Refused(fault)),
             }
         }
     }
+}
+
+/// Whether no answer waits, and the gateway holds none.
+fn is_idle<D: Disk + Drop>(answers: &[(u64, Answer)], gateway: &Gateway<D>) -> bool
+    ensures { result ≡ true → answers.now ≡ [] }
+{
+    answers.is_empty() && gateway.held() == 0
+}
+
+/// Offers the frame at the front: where it lies, if there is hope that it is a packet that leaves at once, and otherwise a
+/// copy of it.
+fn offer_next<D: Disk + Drop>(
+    alloc: Global,
+    hopeful: bool,
+    waiting: &mut Waiting,
+    answers: &mut Vec<(u64, Answer)>,
+    bodies: &mut Vec<Vec<u8>>,
+    gateway: &mut Gateway<D>,
+) -> Step
+    requires stands { gateway.old.fallen ≡ false }
+    requires room { vec_len answers.old + length gateway.old.told.held ≤ vec_capacity answers.old }
+    ensures step { (handed : List (ℕ × Answer)) × (waiting.new.answered ≡ waiting.old.answered ++ frames handed)
+        × ((before : List (ℕ × Answer)) → Stepped D.honest D.moment D.left D.failed result
+        waiting.old.pending waiting.new.pending gateway.old gateway.new
+        (before ++ answers.old.items) (before ++ (handed ++ answers.new.items))) }
+    ensures stands { GoesOn result → gateway.new.fallen ≡ false }
+    ensures room { vec_len answers.new + length gateway.new.told.held ≤ vec_capacity answers.new }
+{
+    if !hopeful || !is_idle(answers.as_slice(), gateway) {
+        return offer_copy(alloc, waiting, answers, bodies, gateway);
+    }
+    if waiting.forward_next(gateway) {
+        return Step::Took(true);
+    }
+    offer_copy(alloc, waiting, answers, bodies, gateway)
 }
 
 /// Offers each whole frame at the front, and says how many there are, and why no more are offered. Answers that are
@@ -189,11 +230,14 @@ pub fn offer_all<D: Disk + Drop>(
 {
     let most = waiting.pending().len();
     let mut count: usize = 0;
+    // A packet that doesn't leave at once is read twice, so none is asked for behind one, until the next one leaves.
+    let mut hopeful = true;
     loop {
-        match offer_next(alloc, waiting, answers, bodies, gateway) {
-            Step::Took => {
+        match offer_next(alloc, hopeful, waiting, answers, bodies, gateway) {
+            Step::Took(forwarded) => {
                 prove!(count < most);
                 count += 1;
+                hopeful = forwarded;
             }
             Step::Ends(halt) => return (count as u64, halt),
         }

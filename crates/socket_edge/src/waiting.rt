@@ -1,11 +1,18 @@
 //! The bytes that were read and aren't answered yet, and in front of them, in the same memory, the frames of answers to
 //! those that were. The next read goes right behind them, into memory that is kept.
-ghost use Rattle.std.specs.Prelude.{◌≡◌, ◌+◌, ◌≤◌, ◌++◌, [], ℕ, List, IfOk, OnOk, OnErr, IsTrue, length, take, drop, true, false};
+ghost use Rattle.std.specs.Prelude.{◌≡◌, ◌+◌, ◌≤◌, ◌++◌, ◌∷◌, [], ℕ, List, IfOk, OnOk, OnErr, length, take, drop, true, false};
 ghost use Rattle.std.specs.Io.KnownBytes.{Consumes, IsAtEnd};
-ghost use Rattle.socket_edge.specs.Answering.{frames};
+ghost use Rattle.gateway.specs.Running.{CarriesOn};
+ghost use Rattle.machine.specs.declared.event.Answer.{Answer};
+ghost use Rattle.machine.specs.declared.event.Event.{Event};
+ghost use Rattle.socket_edge.specs.Answering.{frame, frames};
+ghost use Rattle.socket_edge.specs.Requests.{next, Whole};
 
 use crate::answer::fill_frames;
-use gateway::Answer;
+use crate::forwarding::{forward_frame, move_down};
+use crate::request::{Head, Kind, read_head};
+use disk_model::Disk;
+use gateway::{Answer, Gateway};
 use std::alloc::{AllocError, Global};
 use std::io::Read;
 use std::marker::Model;
@@ -96,6 +103,35 @@ impl Waiting {
             }
             None => false,
         }
+    }
+
+    /// Offers the packet at the front, where a whole frame of one stands there. If it leaves at once, its answer's frame
+    /// takes the place of its request's behind the other answers; otherwise nothing has changed. Answers whether it left.
+    pub fn forward_next<D: Disk + Drop>(&mut self, gateway: &mut Gateway<D>) -> bool
+        requires stands { gateway.old.fallen ≡ false }
+        ensures left { result ≡ true → (event : Event) × (answer : ℕ × Answer) × (next self.old.pending ≡ Whole event self.new.pending)
+            × (self.new.answered ≡ self.old.answered ++ frame answer)
+            × ((before : List (ℕ × Answer)) → CarriesOn D.honest D.moment D.left D.failed gateway.old gateway.new
+            (event ∷ []) before (before ++ answer ∷ [])) }
+        ensures stays { result ≡ false → (self.new ≡ self.old) × (gateway.new ≡ gateway.old) }
+        ensures held { gateway.new.told.held ≡ gateway.old.told.held }
+        ensures stands { gateway.new.fallen ≡ false }
+    {
+        let Head::Frame(Kind::Packet(iface), moment, len) = read_head(self.pending()) else {
+            return false;
+        };
+        let len = 14 + len as usize;
+        if self.pending().len() < len {
+            return false;
+        }
+        let (bytes, end) = (self.bytes.as_mut_slice(), self.start + len);
+        if !forward_frame(&mut bytes[self.start..end], moment, iface, gateway) {
+            return false;
+        }
+        move_down(bytes, self.start, len, self.answered);
+        self.answered += len;
+        self.start = end;
+        true
     }
 
     /// Lets the bytes of the answers go.

@@ -1,5 +1,5 @@
 use Rattle.std.proofs.Common.{◌++◌, ap, ◌∙◌, List, ℕ}
-use Rattle.socket_edge.specs.Answering.{answer_body, frame_head}
+use Rattle.socket_edge.specs.Answering.{frame_head}
 use Rattle.socket_edge.proofs.Written.{frame_parts}
 use Rattle.socket_edge.proofs.answer.write_frame_over.Goals as goal
 

@@ -1,5 +1,4 @@
-use Rattle.std.proofs.Common.{◌≡◌, ◌-◌, ◌≤◌, [], length, take, ap, sym, ◌∙◌, arith}
-use Rattle.std.specs.List.{copy_within}
+use Rattle.std.proofs.Common.{◌≡◌, ◌-◌, [], length, take, ap, ◌∙◌, arith}
 use Rattle.std.proofs.lemmas.List.{with_items_is}
 use Rattle.socket_edge.specs.Exchange.{Exchange}
 use Rattle.socket_edge.proofs.Memory.{seen_moved, view}

@@ -1,0 +1,51 @@
+//! A packet that leaves in the bytes of the request that brought it.
+ghost use Rattle.std.specs.Prelude.{◌≡◌, ◌+◌, ◌≤◌, ◌++◌, ◌∷◌, [], ℕ, List, length, take, drop, true, false};
+ghost use Rattle.gateway.specs.Running.{CarriesOn};
+ghost use Rattle.machine.specs.declared.event.Answer.{Answer};
+ghost use Rattle.machine.specs.declared.event.What.TheVariants.{Packet};
+ghost use Rattle.socket_edge.specs.Answering.{frame};
+
+use crate::answer::forward_front;
+use disk_model::Disk;
+use gateway::running::forward;
+use gateway::{Gateway, Iface};
+
+/// Offers the packet of a request's frame to the gateway. Where it leaves at once, the frame becomes that of its answer;
+/// otherwise nothing has changed. Answers whether it left. The moment is in seconds.
+pub fn forward_frame<D: Disk + Drop>(
+    bytes: &mut [u8],
+    moment: u64,
+    iface: Iface,
+    gateway: &mut Gateway<D>,
+) -> bool
+    requires stands { gateway.old.fallen ≡ false }
+    requires size { 14 ≤ length bytes.old }
+    requires short { length bytes.old ≤ 14 + 65535 }
+    ensures left { result ≡ true → (answer : ℕ × Answer) × (bytes.new ≡ frame answer)
+        × ((before : List (ℕ × Answer)) → CarriesOn D.honest D.moment D.left D.failed gateway.old gateway.new
+        (record { moment = moment; what = Packet iface (drop 14 bytes.old) } ∷ []) before (before ++ answer ∷ [])) }
+    ensures stays { result ≡ false → (bytes.new ≡ bytes.old) × (gateway.new ≡ gateway.old) }
+    ensures held { gateway.new.told.held ≡ gateway.old.told.held }
+    ensures stands { gateway.new.fallen ≡ false }
+    ensures size { length bytes.new ≡ length bytes.old }
+{
+    let (head, packet) = bytes.split_at_mut(14);
+    let Some((number, out)) = forward(gateway, moment, iface, packet) else {
+        return false;
+    };
+    head.copy_from_slice(&forward_front(number, out, packet.len()));
+    true
+}
+
+/// Moves bytes towards the front, to a place that is there already or before them.
+pub fn move_down(bytes: &mut [u8], from: usize, len: usize, to: usize)
+    requires within { from + len ≤ length bytes.old }
+    requires down { to ≤ from }
+    ensures there { take (to + len) bytes.new ≡ take to bytes.old ++ take len (drop from bytes.old) }
+    ensures behind { drop (from + len) bytes.new ≡ drop (from + len) bytes.old }
+    ensures size { length bytes.new ≡ length bytes.old }
+{
+    if to < from {
+        bytes.copy_within(from..from + len, to);
+    }
+}
