@@ -1,7 +1,8 @@
 //! Entries and headings as bytes. All numbers are big-endian.
-ghost use Rattle.std.specs.Prelude.{◌≡◌, ◌<◌, ◌^◌, ◌∷◌, ◌++◌, [], length, OnOk};
+ghost use Rattle.std.specs.Prelude.{◌≡◌, ◌+◌, ◌<◌, ◌≤◌, ◌^◌, ◌∷◌, ◌++◌, [], length, OnOk};
 ghost use Rattle.std.specs.List.{All, flat_map};
 ghost use Rattle.byteorder.specs.Endian.{big_bytes};
+ghost use Rattle.disk_model.specs.Disk.{put};
 ghost use Rattle.sessions.specs.Life.{IsSeen};
 ghost use Rattle.durable.specs.Coding.{Begin, End, Load, Restart, Seen, endpoint_bytes, session_bytes, flow_bytes, entry_bytes, text_bytes, prefix_bytes, config_bytes, snapshot_bytes, heading_bytes, mark, IsEndpoint, IsEntry, IsFlow, IsHeading, IsPrefix, IsSession};
 ghost use Rattle.durable.specs.Entering.{durable};
@@ -28,14 +29,15 @@ fn endpoint_fits(endpoint: Endpoint)
     port_fits(endpoint.port);
 }
 
-fn endpoint_code(endpoint: Endpoint) -> [u8; 6]
-    ensures code { result ≡ endpoint_bytes endpoint }
+// Writes the code of an endpoint at this place.
+fn set_endpoint(code: &mut [u8], at: usize, endpoint: Endpoint)
+    requires { at + 6 ≤ length code.old }
+    ensures set { code.new ≡ put (at + 4) (big_bytes 2 endpoint.port) (put at (big_bytes 4 endpoint.addr) code.old) }
     ensures fits { IsEndpoint endpoint }
 {
     endpoint_fits(endpoint);
-    let [a, b, c, d] = endpoint.addr.to_be_bytes();
-    let [e, f] = endpoint.port.to_be_bytes();
-    [a, b, c, d, e, f]
+    code[at..at + 4].copy_from_slice(&endpoint.addr.to_be_bytes());
+    code[at + 4..at + 6].copy_from_slice(&endpoint.port.to_be_bytes());
 }
 
 /// What stands before the text in the entry of a load. The text has fewer than 2^32 bytes.
@@ -51,15 +53,14 @@ fn session_code(session: &Session) -> [u8; 21]
     ensures code { result ≡ session_bytes session.now }
     ensures fits { IsSeen session.now.proto session.now.seen → session.now.last ≡ 0 → IsSession session.now }
 {
-    let [a, b, c, d, e, f] = endpoint_code(session.inside);
-    let [g, h, i, j, k, l] = endpoint_code(session.outside);
-    let [m, n, o, p, q, r] = endpoint_code(session.remote);
-    let proto = session.proto.number();
-    let opener = session.opener.code();
-    let seen = session.seen;
-    [
-        proto, a, b, c, d, e, f, g, h, i, j, k, l, m, n, o, p, q, r, opener, seen,
-    ]
+    let mut code = [0; 21];
+    code[0] = session.proto.number();
+    set_endpoint(&mut code, 1, session.inside);
+    set_endpoint(&mut code, 7, session.outside);
+    set_endpoint(&mut code, 13, session.remote);
+    code[19] = session.opener.code();
+    code[20] = session.seen;
+    code
 }
 
 /// The entry of a session that begins.
@@ -77,37 +78,47 @@ fn flow_code(flow: &Flow) -> [u8; 13]
     ensures code { result ≡ flow_bytes flow.now }
     ensures fits { IsFlow flow.now }
 {
-    let [a, b, c, d, e, f] = endpoint_code(flow.inside);
-    let [g, h, i, j, k, l] = endpoint_code(flow.remote);
-    [flow.proto.number(), a, b, c, d, e, f, g, h, i, j, k, l]
+    let mut code = [0; 13];
+    code[0] = flow.proto.number();
+    set_endpoint(&mut code, 1, flow.inside);
+    set_endpoint(&mut code, 7, flow.remote);
+    code
 }
 
 /// The entry of what a session's packets have shown, as a sum of bits that its protocol has.
+#[tactic(auto, unfolding(crate::specs::Coding::entry_bytes, crate::specs::Coding::flow_bytes, crate::specs::Coding::endpoint_bytes))]
 pub fn seen_code(flow: &Flow, seen: u8) -> [u8; 15]
     ensures code { result ≡ entry_bytes (Seen flow.now seen) }
     ensures fits { IsSeen flow.now.proto seen → IsEntry (Seen flow.now seen) }
 {
-    let [a, b, c, d, e, f, g, h, i, j, k, l, m] = flow_code(flow);
-    [3, a, b, c, d, e, f, g, h, i, j, k, l, m, seen]
+    let mut code = [3; 15];
+    code[1..14].copy_from_slice(&flow_code(flow));
+    code[14] = seen;
+    code
 }
 
 /// The entry of a session that is begun anew by this side.
+#[tactic(auto, unfolding(crate::specs::Coding::entry_bytes, crate::specs::Coding::flow_bytes, crate::specs::Coding::endpoint_bytes))]
 pub fn restart_code(flow: &Flow, opener: Opener, seen: u8) -> [u8; 16]
     ensures code { result ≡ entry_bytes (Restart flow.now opener seen) }
     ensures fits { IsSeen flow.now.proto seen → IsEntry (Restart flow.now opener seen) }
 {
-    let [a, b, c, d, e, f, g, h, i, j, k, l, m] = flow_code(flow);
-    let opener = opener.code();
-    [4, a, b, c, d, e, f, g, h, i, j, k, l, m, opener, seen]
+    let mut code = [4; 16];
+    code[1..14].copy_from_slice(&flow_code(flow));
+    code[14] = opener.code();
+    code[15] = seen;
+    code
 }
 
 /// The entry of a session that ends.
+#[tactic(auto, unfolding(crate::specs::Coding::entry_bytes))]
 pub fn end_code(flow: &Flow) -> [u8; 14]
     ensures code { result ≡ entry_bytes (End flow.now) }
     ensures fits { IsEntry (End flow.now) }
 {
-    let [a, b, c, d, e, f, g, h, i, j, k, l, m] = flow_code(flow);
-    [5, a, b, c, d, e, f, g, h, i, j, k, l, m]
+    let mut code = [5; 14];
+    code[1..].copy_from_slice(&flow_code(flow));
+    code
 }
 
 fn put_byte(out: &mut Vec<u8>, byte: u8) -> Result<(), AllocError>
