@@ -1,7 +1,7 @@
--- An event before whose moment the clock needn't rise.
-use Rattle.std.proofs.Common.{◌≡◌, ◌≤◌, ℕ, List, [], Option, Some, None, IfSome, IfNone, OnSome, IsTrue, nat_le, if◌then◌else◌, refl, sym, ap, ◌∙◌, subst, inl, inr, arith}
+-- A packet at whose moment no session ends.
+use Rattle.std.proofs.Common.{◌≡◌, ℕ, List, [], Option, IsTrue, refl, sym, ap, ◌∙◌, subst}
 use Rattle.std.specs.List.{filter}
-use Rattle.std.proofs.lemmas.Bool.{cases_Bool, leb-true, lt-ltb}
+use Rattle.std.proofs.lemmas.Bool.{lt-ltb}
 use Rattle.packet.specs.Config.{Config, is_config}
 use Rattle.packet.specs.Fields.{fields}
 use Rattle.packet.specs.declared.endpoint.Iface.{Iface}
@@ -25,54 +25,50 @@ use Rattle.machine.proofs.Soundness.{step-sound}
 use Rattle.machine.proofs.Stepping.{entries-of, none-ended}
 use Rattle.machine.proofs.Steps.{step-is}
 
-later-stays : (clock moment : ℕ) → moment ≤ clock → later clock moment ≡ clock
-later-stays clock moment le = elim (cases_Bool (nat_le clock moment)) [
-  | inl rises ↦ ap (λ b. if b then moment else clock) rises ∙ omega (arith, le, leb-true clock moment rises)
-  | inr stays ↦ ap (λ b. if b then moment else clock) stays
-]
-
-module _ (config : Config) (text : List ℕ) (rules : Spelled) (held : List (Option Session)) (clock moment : ℕ) (iface : Iface) (bytes : List ℕ)
-    (le : moment ≤ clock) (live : EndsNone clock (state_of text rules held clock)) where
+module _ (config : Config) (text : List ℕ) (rules : Spelled) (held : List (Option Session)) (clock moment now : ℕ) (iface : Iface) (bytes : List ℕ)
+    (is : now ≡ later clock moment) (live : EndsNone now (state_of text rules held clock)) where
   abbrev s : State
   s = state_of text rules held clock
+
+  -- the state whose clock has risen
+  abbrev then : State
+  then = state_of text rules held now
 
   abbrev judged : Judged
   judged = record { moment = moment; deed = deed.Packet iface bytes }
 
   -- none ends
-  all-stay : filter (alive clock) (listing held) ≡ listing held
-  all-stay = filter-all (alive clock) (listing held) live
+  all-stay : filter (alive now) (listing held) ≡ listing held
+  all-stay = filter-all (alive now) (listing held) live
 
-  stays : aged clock s ≡ s
-  stays = ap (λ (ss : List Session). record s { sessions = ss }) all-stay
+  stays : aged now s ≡ then
+  stays = ap (λ (ss : List Session). record then { sessions = ss }) all-stay
 
   -- what the packet comes to at once is the step
-  pub passes-at-once : (done : State × Answer) → pass config s iface bytes ≡ done → step config s judged ≡ done
-  passes-at-once done is = step-is config s judged clock done (sym (later-stays clock moment le)) (ap (λ (t : State). pass config t iface bytes) stays ∙ is)
+  pub passes-at-once : (done : State × Answer) → pass config then iface bytes ≡ done → step config s judged ≡ done
+  passes-at-once done comes = step-is config s judged now done is (ap (λ (t : State). pass config t iface bytes) stays ∙ comes)
 
-  pub quiet-at-once : of_fields config s iface (fields bytes) ≡ [] → AreEntriesOf config s judged []
+  pub quiet-at-once : of_fields config then iface (fields bytes) ≡ [] → AreEntriesOf config s judged []
   quiet-at-once none =
       subst (AreEntriesOf config s judged) (ap (λ (t : State). of_deed config t (deed.Packet iface bytes)) stays ∙ none)
-      (entries-of config s judged clock [] (sym (later-stays clock moment le)) (none-ended clock (listing held) (sym all-stay)))
+      (entries-of config s judged now [] is (none-ended now (listing held) (sym all-stay)))
 
   -- so a packet that passed in place was taken as an event, without an entry
-  pub taken-in-place : (new : State) (packet : List ℕ) (result : Option Iface) → IfSome result (λ out. pass config s iface bytes ≡ (new, Forward out packet))
-      → OnSome result (of_fields config s iface (fields bytes) ≡ [])
-      → IfSome result (λ out. (judged : Judged) × IsJudged config (record { moment = moment; what = Packet iface bytes }) judged
-      × (step config s judged ≡ (new, Forward out packet)) × AreEntriesOf config s judged [])
-  taken-in-place new packet None some quiet = tt
-  taken-in-place new packet (Some out) some quiet = (judged, record { at = refl; what = refl; right = tt }, passes-at-once (new, Forward out packet) some, quiet-at-once quiet)
+  pub taken-in-place : (new : State) (packet : List ℕ) (out : Iface) → pass config then iface bytes ≡ (new, Forward out packet) → of_fields config then iface (fields bytes) ≡ []
+      → (judged : Judged) × IsJudged config (record { moment = moment; what = Packet iface bytes }) judged
+      × (step config s judged ≡ (new, Forward out packet)) × AreEntriesOf config s judged []
+  taken-in-place new packet out passes quiet = (judged, record { at = refl; what = refl; right = tt }, passes-at-once (new, Forward out packet) passes, quiet-at-once quiet)
 
 -- what is kept when the packet has passed
-pub core-stays : (config : Config) (text : List ℕ) (rules : Spelled) (old new : Flows) (clock moment : ℕ) (iface : Iface) (bytes packet : List ℕ) (result : Option Iface)
-    → moment ≤ clock → IsTrue (is_config config) → IsCore config text rules old clock → new.translations.external ≡ old.translations.external
-    → IfSome result (λ out. pass config (state_of text rules old.table.held clock) iface bytes ≡ (state_of text rules new.table.held clock, Forward out packet))
-    → IfNone result ((new ≡ old) × (packet ≡ bytes)) → IsCore config text rules new clock
-core-stays config text rules old new clock moment iface bytes packet None le is_one core external some none = subst (λ (f : Flows). IsCore config text rules f clock) (sym none.0) core
-core-stays config text rules old new clock moment iface bytes packet (Some out) le is_one core external some none =
+pub core-stays : (config : Config) (text : List ℕ) (rules : Spelled) (old new : Flows) (clock moment now : ℕ) (iface out : Iface) (bytes packet : List ℕ)
+    → now ≡ later clock moment → EndsNone now (state_of text rules old.table.held clock) → IsTrue (is_config config) → IsCore config text rules old clock
+    → new.translations.external ≡ old.translations.external
+    → pass config (state_of text rules old.table.held now) iface bytes ≡ (state_of text rules new.table.held now, Forward out packet)
+    → IsCore config text rules new now
+core-stays config text rules old new clock moment now iface out bytes packet is live is_one core external passes =
     let s = state_of text rules old.table.held clock in
     let judged : Judged = record { moment = moment; deed = deed.Packet iface bytes } in
-    let e = passes-at-once config text rules old.table.held clock moment iface bytes le core.live _ some in
+    let e = passes-at-once config text rules old.table.held clock moment now iface bytes is live _ passes in
     record {
       external = external ∙ core.external;
       sound = subst (IsSound config) (ap (λ (p : State × Answer). p.0) e) (step-sound config is_one s judged tt core.sound);

@@ -592,11 +592,10 @@ impl Core {
     }
 
     /// Translates in place a packet whose session goes on, as `step` does at this event, and says by which interface it
-    /// leaves. It takes no memory, and nothing changes that must survive.
+    /// leaves. The clock rises to the moment, in seconds. That takes no memory, and nothing changes that must survive.
     ///
-    /// `None` says nothing of the packet: nothing has changed, and `step` tells what it comes to. It comes wherever the
-    /// moment, in seconds, is later than the clock, and where a look at the packet alone doesn't tell that its session
-    /// goes on.
+    /// `None` says nothing of the packet: nothing has changed, and `step` tells what it comes to. It comes where a
+    /// session would end at the moment, and where a look at the packet alone doesn't tell that its session goes on.
     pub fn forward(&mut self, moment: u64, iface: Iface, packet: &mut [u8]) -> Option<Iface>
         ensures step { IfSome result (λ out. (judged : Judged)
             × IsJudged self.old.config (record { moment = moment; what = Packet iface packet.old }) judged
@@ -606,18 +605,22 @@ impl Core {
         ensures config { self.new.config ≡ self.old.config }
         ensures length { length packet.new ≡ length packet.old }
     {
-        if moment > self.clock {
+        self.bounds.facts();
+        let clock = later_of(self.clock, moment);
+        if !self.flows.keeps_all_since(self.alloc, self.clock, clock) {
             return None;
         }
-        self.bounds.facts();
-        let now = self.clock;
-        pass_in_place(
+        let Some(out) = pass_in_place(
             &mut self.flows,
             &self.in_force.rules,
             &self.bounds,
             iface,
             packet,
-            now,
-        )
+            clock,
+        ) else {
+            return None;
+        };
+        self.clock = clock;
+        Some(out)
     }
 }

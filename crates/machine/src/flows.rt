@@ -151,6 +151,30 @@ impl Flows {
         self.due.due(alloc, now)
     }
 
+    /// Whether all sessions are alive at the second `now`. Where they are it takes no memory. Not compiled into its
+    /// caller, which seldom asks it.
+    #[inline(never)]
+    fn keeps_all(&self, alloc: Global, now: u64) -> bool
+        requires { IsLatest self.now.table.held now }
+        ensures { IsTrue result
+            ↔ ((s : Flow) → In s (listing self.now.table.held) → alive now s ≡ true) }
+    {
+        match self.due(alloc, now) {
+            Ok(slots) => slots.is_empty(),
+            Err(_) => false,
+        }
+    }
+
+    /// As `keeps_all`, where all were alive at the second `clock`: before the clock rises nothing is looked at.
+    pub fn keeps_all_since(&self, alloc: Global, clock: u64, now: u64) -> bool
+        requires latest { IsLatest self.now.table.held now }
+        requires live { (s : Flow) → In s (listing self.now.table.held) → alive clock s ≡ true }
+        ensures { IsTrue result
+            ↔ ((s : Flow) → In s (listing self.now.table.held) → alive now s ≡ true) }
+    {
+        now == clock || self.keeps_all(alloc, now)
+    }
+
     /// A packet of the session of the slot passed.
     fn see(&mut self, slot: Slot, bits: u8, last: u64)
         requires held { IsSome (at self.old.table slot) }

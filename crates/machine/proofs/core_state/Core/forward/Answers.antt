@@ -1,23 +1,28 @@
-use Rattle.std.proofs.Common.{arith}
 use Rattle.machine.specs.Core.{state_of}
 use Rattle.machine.proofs.Forwarding.{core-stays, taken-in-place}
-use Rattle.machine.proofs.Steps.{latest_held}
+use Rattle.machine.proofs.Steps.{latest_later}
 use Rattle.machine.proofs.core_state.Core.forward.Goals as goal
+
+pub keeps_all_since-requires-clause-latest : goal.keeps_all_since-requires-clause-latest
+keeps_all_since-requires-clause-latest c =
+    let own = c.self.inside in
+    latest_later own.bounds own.in_force.text own.in_force.rules own.clock c.args.moment c.later_of-clock.result own.flows.table.held c.self.invariant.sound c.later_of-clock.ensures
 
 pub pass_in_place-requires : goal.pass_in_place-requires
 pass_in_place-requires c = record {
-  latest = let own = c.self.inside in latest_held own.bounds own.in_force.text own.in_force.rules own.clock own.clock own.flows.table.held c.self.invariant.sound (omega arith);
+  latest = let own = c.self.inside in latest_later own.bounds own.in_force.text own.in_force.rules own.clock c.args.moment c.later_of-clock.result own.flows.table.held c.self.invariant.sound c.later_of-clock.ensures;
 }
 
-pub invariant_of-self : goal.invariant_of-self
-invariant_of-self c =
+pub invariant_of-self-2 : goal.invariant_of-self-2
+invariant_of-self-2 c =
     let own = c.self.inside in
-    core-stays own.bounds own.in_force.text own.in_force.rules own.flows c.pass_in_place.new.flows own.clock c.args.moment c.args.iface c.args.packet.now c.pass_in_place.new.packet
-    c.pass_in_place.result c.if-moment-self.false c.facts.ensures.valid c.self.invariant c.pass_in_place.ensures.external (c.pass_in_place.ensures.some own.in_force.text) c.pass_in_place.ensures.none
+    core-stays own.bounds own.in_force.text own.in_force.rules own.flows c.pass_in_place.new.flows own.clock c.args.moment c.later_of-clock.result c.args.iface c.in-Some.out
+    c.args.packet.now c.pass_in_place.new.packet c.later_of-clock.ensures (c.keeps_all_since.ensures.0 c.if-not-keeps_all_since.false) c.facts.ensures.valid c.self.invariant
+    c.pass_in_place.ensures.external (c.in-Some.ensures.some own.in_force.text)
 
 pub returns-clause-step : goal.returns-clause-step
 returns-clause-step c = rw (← c.self.view_is) (
     let own = c.self.inside in
-    taken-in-place own.bounds own.in_force.text own.in_force.rules own.flows.table.held own.clock c.args.moment c.args.iface c.args.packet.now c.if-moment-self.false c.self.invariant.live
-    (state_of own.in_force.text own.in_force.rules c.pass_in_place.new.flows.table.held own.clock) c.pass_in_place.new.packet c.pass_in_place.result
-    (c.pass_in_place.ensures.some own.in_force.text) (c.pass_in_place.ensures.quiet own.in_force.text))
+    taken-in-place own.bounds own.in_force.text own.in_force.rules own.flows.table.held own.clock c.args.moment c.later_of-clock.result c.args.iface c.args.packet.now
+    c.later_of-clock.ensures (c.keeps_all_since.ensures.0 c.if-not-keeps_all_since.false) (state_of own.in_force.text own.in_force.rules c.pass_in_place.new.flows.table.held c.later_of-clock.result)
+    c.pass_in_place.new.packet c.in-Some.out (c.in-Some.ensures.some own.in_force.text) (c.in-Some.ensures.quiet own.in_force.text))
