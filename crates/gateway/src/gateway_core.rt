@@ -278,8 +278,8 @@ impl<D: Disk + Drop> Gateway<D> {
     /// changes that must survive, no memory is taken, and no call of the disk is made. The moment is in seconds.
     ///
     /// `None` says nothing of the packet: it isn't taken, nothing has changed, and `offer` tells what becomes of it. It
-    /// comes wherever a session would end at the moment, an answer is held, no number is left, or a call of the disk has
-    /// failed before.
+    /// comes wherever a session would end at the moment, an answer is held, no number is left, or a call of the disk
+    /// has failed before.
     pub fn forward(&mut self, moment: u64, iface: Iface, packet: &mut [u8]) -> Option<(u64, Iface)>
         ensures disk { self.new.disk ≡ self.old.disk }
         ensures fallen { self.new.fallen ≡ self.old.fallen }

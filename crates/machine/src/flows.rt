@@ -165,7 +165,7 @@ impl Flows {
         }
     }
 
-    /// As `keeps_all`, where all sessions were alive at the second `clock`: before the clock rises nothing is looked at.
+    /// As `keeps_all`, where all were alive at the second `clock`: before the clock rises nothing is looked at.
     pub fn keeps_all_since(&self, alloc: Global, clock: u64, now: u64) -> bool
         requires latest { IsLatest self.now.table.held now }
         requires live { (s : Flow) → In s (listing self.now.table.held) → alive clock s ≡ true }
