@@ -1,5 +1,5 @@
 //! The frames of answers.
-ghost use Rattle.std.specs.Prelude.{◌≡◌, ◌+◌, ◌≤◌, ℕ, List, [], ◌∷◌, ◌++◌, IfSome, OnOk, OnErr, length, take};
+ghost use Rattle.std.specs.Prelude.{◌≡◌, ◌+◌, ◌<◌, ◌≤◌, ℕ, List, [], ◌∷◌, ◌++◌, IfSome, IfNone, OnOk, OnErr, length, take};
 ghost use Rattle.byteorder.specs.Endian.{big_bytes};
 ghost use Rattle.machine.specs.declared.event.Answer.TheVariants.{Forward};
 ghost use Rattle.socket_edge.specs.Answering.{iface_byte, kind_byte, answer_body, frame_head, frame, frames};
@@ -175,6 +175,7 @@ fn frame_len(answer: &Answer) -> usize
 fn fill_frame(bytes: &mut [u8], number: u64, answer: &Answer) -> Option<usize>
     ensures some { IfSome result (λ n. (n ≤ length bytes.new)
         × (take n bytes.new ≡ frame (number, answer.now))) }
+    ensures none { IfNone result (length bytes.old < length (frame (number, answer.now))) }
     ensures len { length bytes.new ≡ length bytes.old }
 {
     let len = frame_len(answer);
@@ -189,6 +190,7 @@ fn fill_frame(bytes: &mut [u8], number: u64, answer: &Answer) -> Option<usize>
 pub fn fill_frames(bytes: &mut [u8], answers: &[(u64, Answer)]) -> Option<usize>
     ensures some { IfSome result (λ n. (n ≤ length bytes.new)
         × (take n bytes.new ≡ frames answers.now)) }
+    ensures none { IfNone result (length bytes.old < length (frames answers.now)) }
     ensures len { length bytes.new ≡ length bytes.old }
 {
     let mut at = 0;
