@@ -1,5 +1,5 @@
 -- A beginning of bytes, written.
-use Rattle.std.proofs.Common.{◌≡◌, refl, ℕ, suc, ◌+◌, ◌<◌, get_or, arith, subst, List, [], ◌∷◌, ◌++◌, Option, Some, None, Result, IfErr, length, take, drop, sym, ap, ◌∙◌, append_assoc}
+use Rattle.std.proofs.Common.{◌≡◌, refl, ℕ, suc, ◌+◌, ◌<◌, get_or, arith, subst, List, [], ◌∷◌, ◌++◌, Option, Some, None, Result, IfErr, length, take, drop, sym, ap, ◌∙◌, append_assoc, length-append}
 use Rattle.std.proofs.lemmas.List.{take-append-drop, append-nil}
 use Rattle.std.proofs.lemmas.List.Concat.{flat_map-append}
 use Rattle.std.proofs.Math.Seq.{take-suc}
@@ -82,3 +82,25 @@ frame_bare (n, answer.Dropped cause) f d = absurd (d cause refl)
 frame_bare (n, answer.Loaded) f d = sym (append-nil (frame_head (n, answer.Loaded))) ∙ frame_parts (n, answer.Loaded)
 frame_bare (n, answer.Refused) f d = sym (append-nil (frame_head (n, answer.Refused))) ∙ frame_parts (n, answer.Refused)
 frame_bare (n, answer.Ticked) f d = sym (append-nil (frame_head (n, answer.Ticked))) ∙ frame_parts (n, answer.Ticked)
+
+pub frame_size : (p : ℕ × Answer) → length (frame p) ≡ 13 + length (answer_body p.1)
+frame_size p = omega (arith, ap (λ (x : List ℕ). length x) (frame_parts p), length-append (frame_head p) (answer_body p.1), head_size p)
+  where
+    head_size : (p : ℕ × Answer) → length (frame_head p) ≡ 13
+    head_size p = omega arith
+
+-- the first i frames have so many bytes, and behind them there is no room for the next one
+pub no_room : (answers : List (ℕ × Answer)) (i at : ℕ) (p : ℕ × Answer) (room : ℕ) → i < length answers → p ≡ get_or answers i p
+    → at ≡ length (flat_map frame (take i answers)) → room < at + length (frame p) → room < length (flat_map frame answers)
+no_room answers i at p room lt is size small =
+    let after : List ℕ = flat_map frame (drop (i + 1) answers) in
+    let whole : (flat_map frame (take i answers) ++ frame p) ++ after ≡ flat_map frame answers =
+    ap (λ (z : List ℕ). z ++ after) (sym (frames_step answers i p lt is)) ∙ sym (flat_map-append frame (take (i + 1) answers) (drop (i + 1) answers)) ∙ ap (flat_map frame) (take-append-drop (i + 1) answers) in
+    omega (
+      arith,
+      ap (λ (z : List ℕ). length z) whole,
+      length-append (flat_map frame (take i answers) ++ frame p) after,
+      length-append (flat_map frame (take i answers)) (frame p),
+      size,
+      small,
+    )

@@ -134,6 +134,15 @@ module _ {D : Type 0} (honest : D → Type 0) (moment : D → ℕ) (left : D →
   Explains Output old new = Unit {0}
   Explains (Gateway fault) old new = IsWhy honest moment left failed old new fault
 
+  -- one carries on, or breaks off, whatever other answers were handed out before
+  abbrev pub CarriesBehind : Kept D → Kept D → List Event → List (ℕ × Answer) → List (ℕ × Answer) → Type 0
+  CarriesBehind old new more before out =
+      (handed : List (ℕ × Answer)) → CarriesOn honest moment left failed old new more (handed ++ before) (handed ++ out)
+
+  abbrev pub BreaksBehind : Kept D → Kept D → List Event → List (ℕ × Answer) → List (ℕ × Answer) → GatewayFault → Type 0
+  BreaksBehind old new more before out why =
+      (handed : List (ℕ × Answer)) → BreaksOff honest moment left failed old new more (handed ++ before) (handed ++ out) why
+
   -- what one frame at the front came to
   abbrev pub Stepped : Step → List ℕ → List ℕ → Kept D → Kept D → List (ℕ × Answer) → List (ℕ × Answer) → Type 0
   Stepped (step.Took forwarded) bytes rest old new before out = (event : Event) × (next bytes ≡ Whole event rest) × CarriesOn honest moment left failed old new (event ∷ []) before out

@@ -1,5 +1,5 @@
 //! The frames of answers.
-ghost use Rattle.std.specs.Prelude.{◌≡◌, ◌+◌, ◌≤◌, ℕ, List, [], ◌∷◌, ◌++◌, IfSome, OnOk, OnErr, length, take};
+ghost use Rattle.std.specs.Prelude.{◌≡◌, ◌+◌, ◌<◌, ◌≤◌, ℕ, List, [], ◌∷◌, ◌++◌, IfSome, IfNone, OnOk, OnErr, length, take};
 ghost use Rattle.byteorder.specs.Endian.{big_bytes};
 ghost use Rattle.machine.specs.declared.event.Answer.TheVariants.{Forward};
 ghost use Rattle.socket_edge.specs.Answering.{iface_byte, kind_byte, answer_body, frame_head, frame, frames};
@@ -79,7 +79,8 @@ fn front_bytes(number: u64, answer: &Answer, first: u8) -> [u8; HEAD_LEN + 1]
 /// All bytes in front of the packet in the frame of a packet that leaves, whose length is in bytes.
 pub fn forward_front(number: u64, iface: Iface, len: usize) -> [u8; HEAD_LEN + 1]
     requires { len ≤ 65535 }
-    ensures { (packet : List ℕ) → length packet ≡ len → result ++ packet ≡ frame (number, Forward iface packet) }
+    ensures { (packet : List ℕ) → length packet ≡ len
+        → result ++ packet ≡ frame (number, Forward iface packet) }
 {
     front_with(&head_with(1, number, 1 + len as u32), byte_of(iface))
 }
@@ -172,7 +173,9 @@ fn frame_len(answer: &Answer) -> usize
 
 /// Writes the frame of an answer with this number over the first bytes, if it fits. Answers how many it has.
 fn fill_frame(bytes: &mut [u8], number: u64, answer: &Answer) -> Option<usize>
-    ensures some { IfSome result (λ n. (n ≤ length bytes.new) × (take n bytes.new ≡ frame (number, answer.now))) }
+    ensures some { IfSome result (λ n. (n ≤ length bytes.new)
+        × (take n bytes.new ≡ frame (number, answer.now))) }
+    ensures none { IfNone result (length bytes.old < length (frame (number, answer.now))) }
     ensures len { length bytes.new ≡ length bytes.old }
 {
     let len = frame_len(answer);
@@ -185,7 +188,9 @@ fn fill_frame(bytes: &mut [u8], number: u64, answer: &Answer) -> Option<usize>
 
 /// Writes the frames of answers, each with its number, over the first bytes, if all fit. Answers how many they have.
 pub fn fill_frames(bytes: &mut [u8], answers: &[(u64, Answer)]) -> Option<usize>
-    ensures some { IfSome result (λ n. (n ≤ length bytes.new) × (take n bytes.new ≡ frames answers.now)) }
+    ensures some { IfSome result (λ n. (n ≤ length bytes.new)
+        × (take n bytes.new ≡ frames answers.now)) }
+    ensures none { IfNone result (length bytes.old < length (frames answers.now)) }
     ensures len { length bytes.new ≡ length bytes.old }
 {
     let mut at = 0;

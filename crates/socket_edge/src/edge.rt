@@ -44,7 +44,8 @@ fn answer_front<W: Write, D: Disk + Drop>(
     requires sent { waiting.old.answered ≡ [] }
     requires none { answers.old.items ≡ [] }
     requires room { vec_len answers.old + length gateway.old.told.held ≤ vec_capacity answers.old }
-    ensures came { (handed : List (ℕ × Answer)) × (sent : List ℕ) × Appends (W.contents writer.old) (W.contents writer.new) sent
+    ensures came { (handed : List (ℕ × Answer)) × (sent : List ℕ)
+        × Appends (W.contents writer.old) (W.contents writer.new) sent
         × SettledAndSent D.honest D.moment D.left D.failed result gateway.old gateway.new
         waiting.old.pending waiting.new.pending (handed ++ answers.new.items) sent }
     ensures sent { OnOk result (waiting.new.answered ≡ []) }

@@ -10,8 +10,8 @@ use disk_model::Disk;
 use gateway::running::forward;
 use gateway::{Gateway, Iface};
 
-/// Offers the packet of a request's frame to the gateway. Where it leaves at once, the frame becomes that of its answer;
-/// otherwise nothing has changed. Answers whether it left. The moment is in seconds.
+/// Offers the packet of a request's frame to the gateway. Where it leaves at once, the frame becomes that of its
+/// answer; otherwise nothing has changed. Answers whether it left. The moment is in seconds.
 pub fn forward_frame<D: Disk + Drop>(
     bytes: &mut [u8],
     moment: u64,
@@ -22,8 +22,9 @@ pub fn forward_frame<D: Disk + Drop>(
     requires size { 14 ≤ length bytes.old }
     requires short { length bytes.old ≤ 14 + 65535 }
     ensures left { result ≡ true → (answer : ℕ × Answer) × (bytes.new ≡ frame answer)
-        × ((before : List (ℕ × Answer)) → CarriesOn D.honest D.moment D.left D.failed gateway.old gateway.new
-        (record { moment = moment; what = Packet iface (drop 14 bytes.old) } ∷ []) before (before ++ answer ∷ [])) }
+        × ((before : List (ℕ × Answer)) → CarriesOn D.honest D.moment D.left D.failed
+        gateway.old gateway.new (record { moment = moment; what = Packet iface (drop 14 bytes.old) } ∷ [])
+        before (before ++ answer ∷ [])) }
     ensures stays { result ≡ false → (bytes.new ≡ bytes.old) × (gateway.new ≡ gateway.old) }
     ensures held { gateway.new.told.held ≡ gateway.old.told.held }
     ensures stands { gateway.new.fallen ≡ false }

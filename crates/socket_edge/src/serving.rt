@@ -1,10 +1,11 @@
 //! Offering the whole frames at the front of the bytes.
 ghost use Rattle.std.specs.Prelude.{◌≡◌, ◌≢◌, ◌+◌, ◌∷◌, ◌++◌, [], ℕ, List, ◌<◌, ◌≤◌, false, length, true, IfErr, OnOk, vec_len, vec_capacity};
 ghost use Rattle.gateway.specs.Kept.{Kept};
-ghost use Rattle.gateway.specs.Running.{Stands, CarriesOn, BreaksOff};
+ghost use Rattle.gateway.specs.Running.{Stands};
 ghost use Rattle.machine.specs.declared.event.Answer.{Answer};
 ghost use Rattle.socket_edge.specs.Answering.{frames};
-ghost use Rattle.socket_edge.specs.Running.{Stepped, Offered, Closed, GoesOn, end_of};
+ghost use Rattle.socket_edge.specs.Running.{CarriesBehind, BreaksBehind, Stepped, Offered, Closed};
+ghost use Rattle.socket_edge.specs.Running.{GoesOn, end_of};
 
 use crate::fault::{EdgeFault, HeaderFault};
 use crate::request::{Taken, take_frame};
@@ -121,10 +122,10 @@ fn offer_event<D: Disk + Drop>(
 ) -> Result<(), GatewayFault>
     requires stands { gateway.old.fallen ≡ false }
     requires room { vec_len answers.old + length gateway.old.told.held ≤ vec_capacity answers.old }
-    ensures ok { OnOk result ((handed : List (ℕ × Answer)) → CarriesOn D.honest D.moment D.left D.failed
-        gateway.old gateway.new (event ∷ []) (handed ++ answers.old.items) (handed ++ answers.new.items)) }
-    ensures err { IfErr result (λ e. (handed : List (ℕ × Answer)) → BreaksOff D.honest D.moment D.left D.failed
-        gateway.old gateway.new (event ∷ []) (handed ++ answers.old.items) (handed ++ answers.new.items) e) }
+    ensures ok { OnOk result (CarriesBehind D.honest D.moment D.left D.failed
+        gateway.old gateway.new (event ∷ []) answers.old.items answers.new.items) }
+    ensures err { IfErr result (BreaksBehind D.honest D.moment D.left D.failed
+        gateway.old gateway.new (event ∷ []) answers.old.items answers.new.items) }
     ensures stands { OnOk result (gateway.new.fallen ≡ false) }
     ensures room { vec_len answers.new + length gateway.new.told.held ≤ vec_capacity answers.new }
 {
@@ -152,7 +153,8 @@ fn offer_copy<D: Disk + Drop>(
 ) -> Step
     requires stands { gateway.old.fallen ≡ false }
     requires room { vec_len answers.old + length gateway.old.told.held ≤ vec_capacity answers.old }
-    ensures step { (handed : List (ℕ × Answer)) × (waiting.new.answered ≡ waiting.old.answered ++ frames handed)
+    ensures step { (handed : List (ℕ × Answer))
+        × (waiting.new.answered ≡ waiting.old.answered ++ frames handed)
         × ((before : List (ℕ × Answer)) → Stepped D.honest D.moment D.left D.failed result
         waiting.old.pending waiting.new.pending gateway.old gateway.new
         (before ++ answers.old.items) (before ++ (handed ++ answers.new.items))) }
@@ -184,8 +186,8 @@ fn is_idle<D: Disk + Drop>(answers: &[(u64, Answer)], gateway: &Gateway<D>) -> b
     answers.is_empty() && gateway.held() == 0
 }
 
-/// Offers the frame at the front: where it lies, if there is hope that it is a packet that leaves at once, and otherwise a
-/// copy of it.
+/// Offers the frame at the front: where it lies, if there is hope that it is a packet that leaves at once, and otherwise
+/// a copy of it.
 fn offer_next<D: Disk + Drop>(
     alloc: Global,
     hopeful: bool,
@@ -196,7 +198,8 @@ fn offer_next<D: Disk + Drop>(
 ) -> Step
     requires stands { gateway.old.fallen ≡ false }
     requires room { vec_len answers.old + length gateway.old.told.held ≤ vec_capacity answers.old }
-    ensures step { (handed : List (ℕ × Answer)) × (waiting.new.answered ≡ waiting.old.answered ++ frames handed)
+    ensures step { (handed : List (ℕ × Answer))
+        × (waiting.new.answered ≡ waiting.old.answered ++ frames handed)
         × ((before : List (ℕ × Answer)) → Stepped D.honest D.moment D.left D.failed result
         waiting.old.pending waiting.new.pending gateway.old gateway.new
         (before ++ answers.old.items) (before ++ (handed ++ answers.new.items))) }
@@ -223,8 +226,10 @@ pub fn offer_all<D: Disk + Drop>(
 ) -> (u64, Halt)
     requires stands { gateway.old.fallen ≡ false }
     requires room { vec_len answers.old + length gateway.old.told.held ≤ vec_capacity answers.old }
-    ensures offered { (handed : List (ℕ × Answer)) × (waiting.new.answered ≡ waiting.old.answered ++ frames handed)
-        × Offered D.honest D.moment D.left D.failed result.1 waiting.old.pending waiting.new.pending result.0
+    ensures offered { (handed : List (ℕ × Answer))
+        × (waiting.new.answered ≡ waiting.old.answered ++ frames handed)
+        × Offered D.honest D.moment D.left D.failed result.1
+        waiting.old.pending waiting.new.pending result.0
         gateway.old gateway.new answers.old.items (handed ++ answers.new.items) }
     ensures room { vec_len answers.new + length gateway.new.told.held ≤ vec_capacity answers.new }
 {
@@ -251,10 +256,10 @@ fn give_held<D: Disk + Drop>(
 ) -> Result<(), GatewayFault>
     requires stands { gateway.old.fallen ≡ false }
     requires room { vec_len answers.old + length gateway.old.told.held ≤ vec_capacity answers.old }
-    ensures ok { OnOk result ((handed : List (ℕ × Answer)) → CarriesOn D.honest D.moment D.left D.failed
-        gateway.old gateway.new [] (handed ++ answers.old.items) (handed ++ answers.new.items)) }
-    ensures err { IfErr result (λ e. (handed : List (ℕ × Answer)) → BreaksOff D.honest D.moment D.left D.failed
-        gateway.old gateway.new [] (handed ++ answers.old.items) (handed ++ answers.new.items) e) }
+    ensures ok { OnOk result (CarriesBehind D.honest D.moment D.left D.failed
+        gateway.old gateway.new [] answers.old.items answers.new.items) }
+    ensures err { IfErr result (BreaksBehind D.honest D.moment D.left D.failed
+        gateway.old gateway.new [] answers.old.items answers.new.items) }
     ensures stands { OnOk result (gateway.new.fallen ≡ false) }
     ensures none { OnOk result (gateway.new.told.held ≡ []) }
     ensures device { IfErr result (λ e. e ≡ GatewayFault.Device) }
@@ -279,8 +284,10 @@ pub fn close<D: Disk + Drop>(
         × (waiting.new ≡ record waiting.old { answered = waiting.old.answered ++ frames handed })
         × ((start : Kept D) (bytes rest : List ℕ) (count : ℕ) (before : List (ℕ × Answer))
         → Stands D.honest D.moment D.left D.failed start start [] []
-        → Offered D.honest D.moment D.left D.failed halt bytes rest count start gateway.old [] (before ++ answers.old.items)
-        → Closed D.honest D.moment D.left D.failed result bytes rest count start gateway.new (before ++ (handed ++ answers.new.items))) }
+        → Offered D.honest D.moment D.left D.failed halt bytes rest count start gateway.old
+        [] (before ++ answers.old.items)
+        → Closed D.honest D.moment D.left D.failed result bytes rest count start gateway.new
+        (before ++ (handed ++ answers.new.items))) }
     ensures room { vec_len answers.new + length gateway.new.told.held ≤ vec_capacity answers.new }
 {
     if gateway.has_fallen() {
@@ -303,10 +310,10 @@ pub fn tidy<D: Disk + Drop>(
     requires stands { gateway.old.fallen ≡ false }
     requires none { gateway.old.told.held ≡ [] }
     requires room { vec_len answers.old + length gateway.old.told.held ≤ vec_capacity answers.old }
-    ensures ok { OnOk result ((handed : List (ℕ × Answer)) → CarriesOn D.honest D.moment D.left D.failed
-        gateway.old gateway.new [] (handed ++ answers.old.items) (handed ++ answers.new.items)) }
-    ensures err { IfErr result (λ e. (handed : List (ℕ × Answer)) → BreaksOff D.honest D.moment D.left D.failed
-        gateway.old gateway.new [] (handed ++ answers.old.items) (handed ++ answers.new.items) e) }
+    ensures ok { OnOk result (CarriesBehind D.honest D.moment D.left D.failed
+        gateway.old gateway.new [] answers.old.items answers.new.items) }
+    ensures err { IfErr result (BreaksBehind D.honest D.moment D.left D.failed
+        gateway.old gateway.new [] answers.old.items answers.new.items) }
     ensures stands { OnOk result (gateway.new.fallen ≡ false) }
     ensures none { gateway.new.told.held ≡ [] }
     ensures answers { answers.new.items ≡ answers.old.items }

@@ -47,7 +47,10 @@ impl Model for Waiting {
 
     ghost Value = { Exchange };
 
-    ghost view = { λ w. record { answered = take w.answered w.bytes.items; pending = drop w.start (take w.end w.bytes.items) } };
+    ghost view = { λ w. record {
+      answered = take w.answered w.bytes.items;
+      pending = drop w.start (take w.end w.bytes.items);
+    } };
 
     ghost invariant = { λ w. (w.answered ≤ w.start) × (w.start ≤ w.end) × (w.end ≤ length w.bytes.items) };
 }
@@ -87,10 +90,11 @@ impl Waiting {
         self.start += count;
     }
 
-    /// Puts the frames of the answers behind the others, if there is room for all of them in front of the bytes that wait.
-    /// Answers whether there was.
+    /// Puts the frames of the answers behind the others, if there is room for all of them in front of the bytes that
+    /// wait. Answers whether there was.
     pub fn put(&mut self, answers: &[(u64, Answer)]) -> bool
-        ensures put { result ≡ true → self.new ≡ record self.old { answered = self.old.answered ++ frames answers.now } }
+        ensures put { result ≡ true
+            → self.new ≡ record self.old { answered = self.old.answered ++ frames answers.now } }
         ensures full { result ≡ false → self.new ≡ self.old }
     {
         match fill_frames(
@@ -105,14 +109,15 @@ impl Waiting {
         }
     }
 
-    /// Offers the packet at the front, where a whole frame of one stands there. If it leaves at once, its answer's frame
-    /// takes the place of its request's behind the other answers; otherwise nothing has changed. Answers whether it left.
+    /// Offers the packet at the front, where a whole frame of one stands there. If it leaves at once, the frame becomes
+    /// that of its answer and stands behind the other answers; otherwise nothing has changed. Answers whether it left.
     pub fn forward_next<D: Disk + Drop>(&mut self, gateway: &mut Gateway<D>) -> bool
         requires stands { gateway.old.fallen ≡ false }
-        ensures left { result ≡ true → (event : Event) × (answer : ℕ × Answer) × (next self.old.pending ≡ Whole event self.new.pending)
+        ensures left { result ≡ true → (event : Event) × (answer : ℕ × Answer)
+            × (next self.old.pending ≡ Whole event self.new.pending)
             × (self.new.answered ≡ self.old.answered ++ frame answer)
-            × ((before : List (ℕ × Answer)) → CarriesOn D.honest D.moment D.left D.failed gateway.old gateway.new
-            (event ∷ []) before (before ++ answer ∷ [])) }
+            × ((before : List (ℕ × Answer)) → CarriesOn D.honest D.moment D.left D.failed
+            gateway.old gateway.new (event ∷ []) before (before ++ answer ∷ [])) }
         ensures stays { result ≡ false → (self.new ≡ self.old) × (gateway.new ≡ gateway.old) }
         ensures held { gateway.new.told.held ≡ gateway.old.told.held }
         ensures stands { gateway.new.fallen ≡ false }

@@ -1,9 +1,10 @@
-use Rattle.std.proofs.Common.{◌≡◌, ◌-◌, ◌++◌, List, ℕ, length, ap, sym, ◌∙◌, length-drop, take}
+use Rattle.std.proofs.Common.{◌≡◌, ◌-◌, ◌++◌, List, ℕ, length, ap, sym, ◌∙◌, arith, length-drop, take}
 use Rattle.std.specs.List.{flat_map}
+use Rattle.std.proofs.lemmas.List.{length-take-le}
 use Rattle.socket_edge.specs.Answering.{frame}
 use Rattle.socket_edge.proofs.Memory.{over_more}
 use Rattle.socket_edge.proofs.Streams.{rest_whole}
-use Rattle.socket_edge.proofs.Written.{frames_step}
+use Rattle.socket_edge.proofs.Written.{frames_step, no_room}
 use Rattle.socket_edge.proofs.answer.fill_frames.Goals as goal
 
 pub loop-pair-preserved : goal.loop-pair-preserved
@@ -21,3 +22,13 @@ loop-pair-preserved c =
       on.2 ∙ ap (λ (zs : List ℕ). zs ++ take c.in-Some.size ys) i.2 ∙ ap (λ (zs : List ℕ). before ++ zs) it.1
           ∙ sym (frames_step c.args.answers.now c.loop-pair.pair-index c.pair-item.result c.loop-pair-test.true c.pair-item.is),
     )
+
+pub returns-in-None-clause-none : goal.returns-in-None-clause-none
+returns-in-None-clause-none c =
+    let i = c.loop-pair.invariant in
+    let xs = c.loop-pair.bytes in
+    let at = c.loop-pair.at in
+    let small = c.in-None.ensures.none in
+    let size : at ≡ length (flat_map frame (take c.loop-pair.pair-index c.args.answers.now)) = sym (length-take-le at xs i.0) ∙ ap length i.2 in
+    no_room c.args.answers.now c.loop-pair.pair-index at c.pair-item.result (length c.args.bytes.now) c.loop-pair-test.true c.pair-item.is size
+    (omega (arith, small, ap length (rest_whole at xs), length-drop at xs, i.0, i.1))
