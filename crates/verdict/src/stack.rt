@@ -31,6 +31,8 @@ impl Model for Stack {
 }
 
 impl Stack {
+    // Not compiled into its caller, so that nothing is cleared where no chain is called.
+    #[inline(never)]
     pub(crate) fn empty() -> Stack
         ensures { result ≡ [] }
     {
