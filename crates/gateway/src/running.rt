@@ -84,7 +84,7 @@ pub fn take<D: Disk + Drop>(
 
 /// Takes a packet whose session goes on, where nothing is held: one more event, whose packet is translated where it
 /// lies. Its answer isn't put behind the others, but said: its number, and the interface on which the packet leaves. The
-/// moment is in seconds. It takes no memory.
+/// moment is in seconds. What it takes, it takes without memory.
 ///
 /// `None` says nothing of the packet: it isn't taken, nothing has changed, and `take` tells what becomes of it.
 pub fn forward<D: Disk + Drop>(
