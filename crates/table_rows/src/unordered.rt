@@ -47,6 +47,24 @@ fn entries_go_in_and_out(rt: HostRuntime) -> Result<(), AllocError> {
     Ok(())
 }
 
+// A key that is sought gets the value where no entry has it; an entry that there is stays.
+#[test]
+fn entries_go_in_where_they_are_sought(rt: HostRuntime) -> Result<(), AllocError> {
+    let mut map = Buckets::new(rt.alloc());
+    map.reserve()?;
+    for (key, value, found) in [
+        (7, 2, None),
+        (7, 3, Some(2)),
+        (0, usize::MAX, None),
+        (0, 4, Some(usize::MAX)),
+    ] {
+        assert_eq!(rt; map.get_or_insert(key, value)?, found);
+    }
+    assert_eq!(rt; map.get(7), Some(2));
+    assert_eq!(rt; map.remove(0), Some(usize::MAX));
+    Ok(())
+}
+
 // With no call of `reserve` there are no places, and each entry lies in the overflow.
 #[test]
 fn entries_are_found_without_places(rt: HostRuntime) -> Result<(), AllocError> {
