@@ -25,6 +25,9 @@ const MOST_KEPT: usize = 1_024;
 /// The most bytes of memory that a kept body has.
 const LONGEST_KEPT: usize = 2_048;
 
+/// Behind so many events in turn whose answer isn't a packet that left at once, none is hoped to be one.
+const MOST_MISSES: usize = 4;
+
 /// Why no more frames are offered.
 #[derive(Clone, Copy, Drop)]
 pub enum Halt {
@@ -215,6 +218,15 @@ fn offer_next<D: Disk + Drop>(
     offer_copy(alloc, waiting, answers, bodies, gateway)
 }
 
+/// How many events in turn have another answer than a packet that left at once, behind one event more.
+fn misses_behind(misses: usize, forwarded: bool) -> usize {
+    if forwarded {
+        0
+    } else {
+        misses.saturating_add(1)
+    }
+}
+
 /// Offers each whole frame at the front, and says how many there are, and why no more are offered. Answers that are
 /// handed out are put where their requests stood, and behind them, where there is no room, into `answers`.
 pub fn offer_all<D: Disk + Drop>(
@@ -235,14 +247,16 @@ pub fn offer_all<D: Disk + Drop>(
 {
     let most = waiting.pending().len();
     let mut count: usize = 0;
-    // A packet that doesn't leave at once is read twice, so none is asked for behind one, until the next one leaves.
-    let mut hopeful = true;
+    // A packet that is asked for where it lies, and doesn't leave, is read twice: so none is asked for behind several
+    // such, until the next one leaves.
+    let mut misses: usize = 0;
     loop {
+        let hopeful = misses < MOST_MISSES;
         match offer_next(alloc, hopeful, waiting, answers, bodies, gateway) {
             Step::Took(forwarded) => {
                 prove!(count < most);
                 count += 1;
-                hopeful = forwarded;
+                misses = misses_behind(misses, forwarded);
             }
             Step::Ends(halt) => return (count as u64, halt),
         }
