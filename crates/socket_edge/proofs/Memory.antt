@@ -13,10 +13,10 @@ use borrow.Rule.Slice.PartMut.{put_mid, same_len_mid}
 
 -- what the bytes are seen as: frames up to w, and from r to e those that wait
 abbrev pub view : ℕ → ℕ → ℕ → List ℕ → Exchange
-view w r e xs = record { answered = take w xs; pending = drop r (take e xs) }
+view w r e xs = record { answered = take w xs; pending = drop r (take e xs); reach = e }
 
-alike : (a b c d : List ℕ) → a ≡ c → b ≡ d → ◌≡◌ {A = Exchange} (record { answered = a; pending = b }) (record { answered = c; pending = d })
-alike a b c d first then = rw (first, then) refl
+alike : (a b c d : List ℕ) (m n : ℕ) → a ≡ c → b ≡ d → m ≡ n → ◌≡◌ {A = Exchange} (record { answered = a; pending = b; reach = m }) (record { answered = c; pending = d; reach = n })
+alike a b c d m n first then same = rw (first, then, same) refl
 
 pub ok_of : {T E P : Type 0} (r : Result T E) → is_err r ≡ false → OnOk r P → P
 ok_of (Ok v) e h = h
@@ -65,20 +65,22 @@ take_front n m xs within fits =
 -- bytes came behind those that wait
 pub seen_behind : (w r e n : ℕ) (old mid new got : List ℕ) → w ≤ r → r ≤ e → e ≤ length old → e ≤ length mid → e + n ≤ length new
     → take e mid ≡ take e old → take (e + n) new ≡ take e mid ++ got
-    → view w r (e + n) new ≡ record { answered = take w old; pending = drop r (take e old) ++ got }
+    → view w r (e + n) new ≡ record { answered = take w old; pending = drop r (take e old) ++ got; reach = e + n }
 seen_behind w r e n old mid new got first then old_fits mid_fits new_fits same came =
     let size : length (take e mid) ≡ e = length-take-le e mid mid_fits in
-    alike (take w new) (drop r (take (e + n) new)) (take w old) (drop r (take e old) ++ got)
+    alike (take w new) (drop r (take (e + n) new)) (take w old) (drop r (take e old) ++ got) (e + n) (e + n)
     (take_front w (e + n) new (omega (arith, first, then)) new_fits ∙ ap (take w) came ∙ take-append-le w (take e mid) got (omega (arith, size, first, then))
     ∙ ap (take w) same ∙ sym (take_front w e old (omega (arith, first, then)) old_fits))
     (ap (drop r) came ∙ drop-append-le r (take e mid) got (omega (arith, size, then)) ∙ ap (λ (zs : List ℕ). drop r zs ++ got) same)
+    refl
 
 -- nothing came
 pub seen_still : (w r e : ℕ) (old new : List ℕ) → w ≤ r → r ≤ e → e ≤ length old → e ≤ length new → take e new ≡ take e old → view w r e new ≡ view w r e old
 seen_still w r e old new first then old_fits new_fits same =
-    alike (take w new) (drop r (take e new)) (take w old) (drop r (take e old))
+    alike (take w new) (drop r (take e new)) (take w old) (drop r (take e old)) e e
     (take_front w e new (omega (arith, first, then)) new_fits ∙ ap (take w) same ∙ sym (take_front w e old (omega (arith, first, then)) old_fits))
     (ap (drop r) same)
+    refl
 
 -- bytes were written between the two
 between_same : (w r e : ℕ) (xs ys : List ℕ) → w ≤ r → r ≤ e → e ≤ length xs → length ys ≡ r - w → drop r (take e (put_mid w (r - w) xs ys)) ≡ drop r (take e xs)
@@ -87,18 +89,19 @@ between_same w r e xs ys first then fits as_many =
 
 pub seen_between : (w r e : ℕ) (xs ys : List ℕ) → w ≤ r → r ≤ e → e ≤ length xs → length ys ≡ r - w → view w r e (put_mid w (r - w) xs ys) ≡ view w r e xs
 seen_between w r e xs ys first then fits as_many =
-    alike (take w (put_mid w (r - w) xs ys)) (drop r (take e (put_mid w (r - w) xs ys))) (take w xs) (drop r (take e xs))
-    (take-put_mid_below w (r - w) xs ys w (omega arith) (omega (arith, first, then, fits))) (between_same w r e xs ys first then fits as_many)
+    alike (take w (put_mid w (r - w) xs ys)) (drop r (take e (put_mid w (r - w) xs ys))) (take w xs) (drop r (take e xs)) e e
+    (take-put_mid_below w (r - w) xs ys w (omega arith) (omega (arith, first, then, fits))) (between_same w r e xs ys first then fits as_many) refl
 
 -- and a beginning of them is as it is wanted
 pub seen_more : (w r e n : ℕ) (xs ys : List ℕ) → w ≤ r → r ≤ e → e ≤ length xs → length ys ≡ r - w → n ≤ length ys
-    → view (w + n) r e (put_mid w (r - w) xs ys) ≡ record { answered = take w xs ++ take n ys; pending = drop r (take e xs) }
+    → view (w + n) r e (put_mid w (r - w) xs ys) ≡ record { answered = take w xs ++ take n ys; pending = drop r (take e xs); reach = e }
 seen_more w r e n xs ys first then fits as_many few =
     let behind : List ℕ = drop (r - w) (drop w xs) in
     let size : length (take w xs) ≡ w = length-take-le w xs (omega (arith, first, then, fits)) in
-    alike (take (w + n) (put_mid w (r - w) xs ys)) (drop r (take e (put_mid w (r - w) xs ys))) (take w xs ++ take n ys) (drop r (take e xs))
+    alike (take (w + n) (put_mid w (r - w) xs ys)) (drop r (take e (put_mid w (r - w) xs ys))) (take w xs ++ take n ys) (drop r (take e xs)) e e
     (ap (λ (k : ℕ). take (k + n) (take w xs ++ (ys ++ behind))) (sym size) ∙ take-append-add (take w xs) (ys ++ behind) n ∙ ap (λ (zs : List ℕ). take w xs ++ zs) (take-append-le n ys behind few))
     (between_same w r e xs ys first then fits as_many)
+    refl
 
 pub between_size : (w r : ℕ) (xs ys : List ℕ) → w ≤ r → r ≤ length xs → length ys ≡ r - w → length (put_mid w (r - w) xs ys) ≡ length xs
 between_size w r xs ys first fits as_many = same_len_mid w (r - w) xs ys (as_many ∙ sym (part_size w r xs first fits))
@@ -112,11 +115,19 @@ moved r e xs within fits =
     take-append-le n (take n (drop r xs)) (drop (0 + n) xs) (omega (arith, size)) ∙ sym (take_front n n (drop r xs) (omega arith) (omega (arith, length-drop r xs, end, fits)))
     ∙ between_is xs r e
 
-pub seen_moved : (w r e : ℕ) (xs : List ℕ) → w ≤ r → r ≤ e → e ≤ length xs → take w xs ≡ [] → view w 0 (e - r) (copy_within xs r e 0) ≡ view w r e xs
+pub seen_moved : (w r e : ℕ) (xs : List ℕ) → w ≤ r → r ≤ e → e ≤ length xs → take w xs ≡ []
+    → view w 0 (e - r) (copy_within xs r e 0) ≡ record { answered = take w xs; pending = drop r (take e xs); reach = length (drop r (take e xs)) }
 seen_moved w r e xs first then fits none =
     let zero : w ≡ 0 = omega (arith, length-take-le w xs (omega (arith, first, then, fits)), ap (λ (zs : List ℕ). length zs) none) in
     let front : take w (copy_within xs r e 0) ≡ take w xs = rw zero refl in
-    alike (take w (copy_within xs r e 0)) (take (e - r) (copy_within xs r e 0)) (take w xs) (drop r (take e xs)) front (moved r e xs then fits)
+    alike (take w (copy_within xs r e 0)) (take (e - r) (copy_within xs r e 0)) (take w xs) (drop r (take e xs)) (e - r) (length (drop r (take e xs))) front (moved r e xs then fits)
+    (omega (arith, length-drop r (take e xs), length-take-le e xs fits))
+
+-- where they stand at the front already
+pub seen_there : (w r e : ℕ) (xs : List ℕ) → r ≡ 0 → e ≤ length xs
+    → view w r e xs ≡ record { answered = take w xs; pending = drop r (take e xs); reach = length (drop r (take e xs)) }
+seen_there w r e xs zero fits =
+    alike (take w xs) (drop r (take e xs)) (take w xs) (drop r (take e xs)) e (length (drop r (take e xs))) refl refl (omega (arith, zero, length-drop r (take e xs), length-take-le e xs fits))
 
 -- a part was written over, and then moved behind the frames
 pub seen_forward : (w r n e : ℕ) (xs two ys : List ℕ) → w ≤ r → r + n ≤ e → e ≤ length xs → length ys ≡ n

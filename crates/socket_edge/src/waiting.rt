@@ -1,6 +1,6 @@
 //! The bytes that were read and aren't answered yet, and in front of them, in the same memory, the frames of answers to
 //! those that were. The next read goes right behind them, into memory that is kept.
-ghost use Rattle.std.specs.Prelude.{◌≡◌, ◌+◌, ◌≤◌, ◌++◌, ◌∷◌, [], ℕ, List, IfOk, OnOk, OnErr, length, take, drop, true, false};
+ghost use Rattle.std.specs.Prelude.{◌≡◌, ◌≢◌, ◌+◌, ◌≤◌, ◌++◌, ◌∷◌, [], ℕ, List, IfOk, OnOk, OnErr, length, take, drop, true, false};
 ghost use Rattle.std.specs.Io.KnownBytes.{Consumes, IsAtEnd};
 ghost use Rattle.gateway.specs.Running.{CarriesOn};
 ghost use Rattle.machine.specs.declared.event.Answer.{Answer};
@@ -50,6 +50,7 @@ impl Model for Waiting {
     ghost view = { λ w. record {
       answered = take w.answered w.bytes.items;
       pending = drop w.start (take w.end w.bytes.items);
+      reach = w.end;
     } };
 
     ghost invariant = { λ w. (w.answered ≤ w.start) × (w.start ≤ w.end) × (w.end ≤ length w.bytes.items) };
@@ -58,7 +59,7 @@ impl Model for Waiting {
 impl Waiting {
     /// No bytes.
     pub fn new(alloc: Global) -> Waiting
-        ensures { result ≡ record { answered = []; pending = [] } }
+        ensures { result ≡ record { answered = []; pending = []; reach = 0 } }
     {
         Waiting {
             bytes: Vec::new(alloc),
@@ -96,6 +97,8 @@ impl Waiting {
         ensures put { result ≡ true
             → self.new ≡ record self.old { answered = self.old.answered ++ frames answers.now } }
         ensures full { result ≡ false → self.new ≡ self.old }
+        ensures fits { length self.old.answered + length (frames answers.now) + length self.old.pending
+            ≤ self.old.reach → result ≡ true }
     {
         match fill_frames(
             &mut self.bytes.as_mut_slice()[self.answered..self.start],
@@ -155,9 +158,11 @@ impl Waiting {
     pub fn read<R: Read>(&mut self, reader: &mut R) -> Result<usize, Unread>
         requires { self.old.answered ≡ [] }
         ensures ok { IfOk result (λ n. (got : List ℕ) × Consumes (R.remaining reader.old) (R.remaining reader.new) got
-            × (self.new ≡ record self.old { pending = self.old.pending ++ got }) × (n ≡ length got) × (n ≤ 65536)) }
+            × (self.new ≡ record self.old { pending = self.old.pending ++ got; reach = length self.old.pending + n })
+            × (n ≡ length got) × (n ≤ 65536)) }
         ensures end { IfOk result (λ n. n ≡ 0 → IsAtEnd (R.remaining reader.new)) }
-        ensures err { OnErr result (Consumes (R.remaining reader.old) (R.remaining reader.new) [] × (self.new ≡ self.old)) }
+        ensures err { OnErr result (Consumes (R.remaining reader.old) (R.remaining reader.new) []
+            × (self.new ≡ record self.old { reach = length self.old.pending })) }
     {
         self.move_to_front();
         if make_room(&mut self.bytes, self.end).is_err() {
@@ -175,7 +180,7 @@ impl Waiting {
     /// Moves the bytes that wait to the front.
     fn move_to_front(&mut self)
         requires { self.old.answered ≡ [] }
-        ensures { self.new ≡ self.old }
+        ensures { self.new ≡ record self.old { reach = length self.old.pending } }
     {
         if self.start > 0 {
             self.bytes
@@ -192,6 +197,7 @@ fn make_room(bytes: &mut Vec<u8>, len: usize) -> Result<(), AllocError>
     requires { len ≤ length bytes.old.items }
     ensures front { take len bytes.new.items ≡ take len bytes.old.items }
     ensures longer { length bytes.old.items ≤ length bytes.new.items }
+    ensures most { length bytes.new.items ≢ length bytes.old.items → length bytes.new.items ≡ len + 65536 }
     ensures ok { OnOk result (len + 65536 ≤ length bytes.new.items) }
 {
     let end = len + MOST_READ;

@@ -10,7 +10,7 @@ returns-then-forward_next-clause-step g c =
     let left = c.if-forward_next.ensures.left refl in
     let event = left.0 in
     let answer = left.1 in
-    let none : c.args.answers.now.items ≡ [] = sym c.as_slice.ensures.value ∙ c.if-not-is_idle.ensures refl in (
+    let none : c.args.answers.now.items ≡ [] = sym c.as_slice.ensures.value ∙ c.if-not-is_idle.ensures.none refl in (
       answer ∷ [],
       left.3 ∙ ap (λ (bytes : List ℕ). c.args.waiting.now.answered ++ bytes) (sym (append-nil (frame answer))),
       λ before. (
