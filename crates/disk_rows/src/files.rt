@@ -60,25 +60,36 @@ fn written(rt: &HostRuntime, directory: &str) -> Result<(), Fail> {
     Ok(())
 }
 
+// Eight bytes in the middle of the first file.
+fn middle(disk: &mut FileDisk) -> Result<[u8; 8], DiskFault> {
+    let mut bytes = [0; 8];
+    get(disk, FileId::A, 4, &mut bytes)?;
+    Ok(bytes)
+}
+
 #[test]
 fn written_bytes_come_back(rt: HostRuntime) -> Result<(), Fail> {
     written(&rt, "kept")?;
     let mut disk = disk_of(&rt, "kept/")?;
-    assert_eq!(rt; lengths(&mut disk)?, (18, 6));
-    let mut bytes = [0; 8];
-    get(&mut disk, FileId::A, 4, &mut bytes)?;
-    assert!(rt; bytes == *b"t FILE, ");
-    assert_eq!(rt; disk.failures(), 0);
+    assert!(rt; lengths(&mut disk)? == (18, 6));
+    assert!(rt; middle(&mut disk)? == *b"t FILE, ");
+    assert!(rt; disk.failures() == 0);
     Ok(())
 }
 
 #[test]
 fn written_bytes_stand_in_the_files(rt: HostRuntime) -> Result<(), Fail> {
     written(&rt, "files")?;
-    assert!(rt; is_file(&rt, "files/natgw.a", b"first FILE, longer")?);
-    assert!(rt; is_file(&rt, "files/natgw.b", b"second")?);
-    assert_eq!(rt; name_of(FileId::A), "natgw.a");
-    assert_eq!(rt; name_of(FileId::B), "natgw.b");
+    let rows: [(&str, &[u8]); 2] = [
+        ("files/natgw.a", b"first FILE, longer"),
+        ("files/natgw.b", b"second"),
+    ];
+    for (path, expected) in rows {
+        assert!(rt; is_file(&rt, path, expected)?, "{path}");
+    }
+    for (file, name) in [(FileId::A, "natgw.a"), (FileId::B, "natgw.b")] {
+        assert!(rt; name_of(file) == name, "{name}");
+    }
     Ok(())
 }
 
@@ -96,19 +107,24 @@ fn access_of_the_owner_alone(rt: HostRuntime) -> Result<(), Fail> {
     Ok(())
 }
 
+// Three bytes at this place of the second file, if it has so many, and how many calls have failed then.
+fn three(disk: &mut FileDisk, at: u64) -> (Option<[u8; 3]>, u64) {
+    let mut bytes = [7; 3];
+    let read = get(disk, FileId::B, at, &mut bytes);
+    (read.ok().map(|()| bytes), disk.failures())
+}
+
 // A read past the end fails, and counts; a write there leaves zeros between.
 #[test]
 fn past_the_end(rt: HostRuntime) -> Result<(), Fail> {
     fresh(&rt, "ends")?;
     let mut disk = disk_of(&rt, "ends")?;
     put(&mut disk, FileId::B, 2, b"xy")?;
-    let mut bytes = [7; 3];
-    assert_eq!(rt; get(&mut disk, FileId::B, 2, &mut bytes), Err(DiskFault));
-    assert_eq!(rt; disk.failures(), 1);
-    get(&mut disk, FileId::B, 1, &mut bytes)?;
-    assert!(rt; bytes == *b"\0xy");
+    for (at, expected) in [(2, None), (1, Some(*b"\0xy"))] {
+        assert!(rt; three(&mut disk, at) == (expected, 1), "{at}");
+    }
     get(&mut disk, FileId::B, 4, &mut [])?;
-    assert_eq!(rt; disk.failures(), 1);
+    assert!(rt; disk.failures() == 1);
     Ok(())
 }
 
@@ -121,10 +137,11 @@ fn past_all_places(rt: HostRuntime) -> Result<(), Fail> {
     fresh(&rt, "places")?;
     let mut disk = disk_of(&rt, "places")?;
     put(&mut disk, FileId::B, 2, b"xy")?;
-    assert_eq!(rt; put(&mut disk, FileId::B, u64::MAX, b"z"), Err(DiskFault));
-    assert_eq!(rt; disk.failures(), 1);
-    assert_eq!(rt; length_of(&rt, "places/natgw.b")?, 4);
-    assert_eq!(rt; length_of(&rt, "places/natgw.a")?, 0);
+    assert!(rt; put(&mut disk, FileId::B, u64::MAX, b"z").is_err());
+    assert!(rt; disk.failures() == 1);
+    for (path, expected) in [("places/natgw.b", 4), ("places/natgw.a", 0)] {
+        assert!(rt; length_of(&rt, path)? == expected, "{path}");
+    }
     Ok(())
 }
 

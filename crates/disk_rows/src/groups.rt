@@ -41,10 +41,10 @@ fn read_all<D: Disk>(alloc: Global, disk: &mut D) -> Result<Vec<Vec<u8>>, Journa
     Ok(bodies)
 }
 
-fn two_groups(alloc: Global) -> Result<(Group, Group), AllocError> {
+fn two_groups(alloc: Global) -> Result<Box<(Group, Group)>, AllocError> {
     let first = group_of(alloc, FIRST)?;
     let second = group_of(alloc, SECOND)?;
-    Ok((first, second))
+    Ok(Box::new(alloc, (first, second))?)
 }
 
 // Whether there are as many bodies as were acknowledged, or more, and each is a whole one.
@@ -60,12 +60,12 @@ fn are_whole(bodies: &[Vec<u8>], acknowledged: u64) -> bool {
 // Appends both groups to a disk that stops at this call, and says how many were acknowledged, and what there is after
 // a crash.
 fn stopped(alloc: Global, stop: u64, choice: u64) -> Result<(u64, Vec<Vec<u8>>), Fail> {
-    let (first, second) = two_groups(alloc)?;
-    let mut disk = SimDisk::of(alloc, &[0], b"")?;
+    let groups = two_groups(alloc)?;
+    let mut disk = Box::new(alloc, SimDisk::of(alloc, &[0], b"")?)?;
     disk.fuse_after(stop);
-    let acknowledged = append_two(&mut disk, &first, &second);
+    let acknowledged = append_two(&mut *disk, &groups.0, &groups.1);
     disk.crash(choice)?;
-    let bodies = read_all(alloc, &mut disk)?;
+    let bodies = read_all(alloc, &mut *disk)?;
     Ok((acknowledged, bodies))
 }
 
@@ -89,12 +89,12 @@ fn each_stop(rt: HostRuntime) -> Result<(), Fail> {
 // Appends both groups to a disk of which this call fails, and says how many were acknowledged, how many calls failed,
 // and what there is.
 fn failing(alloc: Global, call: u64) -> Result<(u64, u64, Vec<Vec<u8>>), Fail> {
-    let (first, second) = two_groups(alloc)?;
-    let mut disk = SimDisk::of(alloc, &[0], b"")?;
+    let groups = two_groups(alloc)?;
+    let mut disk = Box::new(alloc, SimDisk::of(alloc, &[0], b"")?)?;
     disk.fail_once(call);
-    let acknowledged = append_two(&mut disk, &first, &second);
+    let acknowledged = append_two(&mut *disk, &groups.0, &groups.1);
     let failures = disk.failures();
-    let bodies = read_all(alloc, &mut disk)?;
+    let bodies = read_all(alloc, &mut *disk)?;
     Ok((acknowledged, failures, bodies))
 }
 
@@ -111,8 +111,10 @@ fn each_fault(rt: HostRuntime) -> Result<(), Fail> {
 
 // The bytes of the first file after two groups, and how many calls they made.
 fn written(alloc: Global) -> Result<([u8; 14], u64), Fail> {
-    let mut disk = SimDisk::of(alloc, &[0], b"other")?;
-    append_two(&mut disk, &group_of(alloc, b"abc")?, &group_of(alloc, b"")?);
+    let first = Box::new(alloc, group_of(alloc, b"abc")?)?;
+    let second = Box::new(alloc, group_of(alloc, b"")?)?;
+    let mut disk = Box::new(alloc, SimDisk::of(alloc, &[0], b"other")?)?;
+    append_two(&mut *disk, &first, &second);
     let calls = disk.calls();
     let mut bytes = [0xee; 14];
     if disk.len(FileId::A)? >= 14 {

@@ -1,6 +1,9 @@
 //! What each choice of a crash leaves, and which calls fail.
+ghost use Rattle.std.specs.Prelude.{◌≤◌};
+
 use disk_model::{Disk, DiskFault, FileId, SimDisk};
 use std::alloc::Global;
+use std::process::Abort;
 use std::test::Fail;
 
 fn disk_of(alloc: Global, a: &[u8], b: &[u8]) -> Result<Box<SimDisk>, Fail> {
@@ -159,25 +162,40 @@ fn answer(disk: &mut SimDisk, call: Call<'_>) -> Result<Option<u64>, DiskFault> 
     }
 }
 
+// What calls are answered of which the first two pass.
+const CALLS: [(Call<'static>, Result<Option<u64>, DiskFault>); 5] = [
+    (Call::Len, Ok(Some(3))),
+    (Call::Write(b"X"), Ok(None)),
+    (Call::Write(b"YYYY"), Err(DiskFault)),
+    (Call::Sync, Err(DiskFault)),
+    (Call::Len, Err(DiskFault)),
+];
+
+fn is_answered(
+    rt: &impl Abort,
+    disk: &mut SimDisk,
+    call: Call<'_>,
+    expected: Result<Option<u64>, DiskFault>,
+) {
+    assert_eq!(rt; answer(disk, call), expected);
+}
+
+fn has_counts(rt: &impl Abort, disk: &SimDisk, calls: u64, failures: u64) {
+    assert_eq!(rt; counts(disk), (calls, failures));
+}
+
 #[test]
 fn fuse(rt: HostRuntime) -> Result<(), Fail> {
     let alloc = rt.alloc();
     let mut disk = disk_of(alloc, b"abc", b"")?;
     disk.fuse_after(2);
-    let rows = [
-        (Call::Len, Ok(Some(3))),
-        (Call::Write(b"X"), Ok(None)),
-        (Call::Write(b"YYYY"), Err(DiskFault)),
-        (Call::Sync, Err(DiskFault)),
-        (Call::Len, Err(DiskFault)),
-    ];
-    for (call, expected) in rows {
-        assert_eq!(rt; answer(&mut disk, call), expected);
+    for (call, expected) in CALLS {
+        is_answered(&rt, &mut disk, call, expected);
     }
-    assert_eq!(rt; counts(&disk), (5, 3));
+    has_counts(&rt, &disk, 5, 3);
     crash(&mut disk, 1)?;
     assert!(rt; holds(alloc, &mut disk, FileId::A, b"Xbc")?);
-    assert_eq!(rt; counts(&disk), (7, 3));
+    has_counts(&rt, &disk, 7, 3);
     Ok(())
 }
 
@@ -204,10 +222,20 @@ fn fails_once(rt: HostRuntime) -> Result<(), Fail> {
     ];
     for (bytes, expected) in rows {
         let mut disk = fails_at_the_write(alloc, bytes)?;
-        assert_eq!(rt; disk.failures(), 1);
+        assert!(rt; disk.failures() == 1);
         assert!(rt; holds(alloc, &mut disk, FileId::A, expected)?);
     }
     Ok(())
+}
+
+// Makes the first file longer. How many calls have failed then, and what it has to hold.
+fn grow(disk: &mut SimDisk) -> (u64, &'static [u8])
+    ensures { result.0 ≤ 1 }
+{
+    match write(disk, FileId::A, 1, b"WXYZ") {
+        Ok(()) => (0, b"aWXYZ"),
+        Err(_) => (1, b"abc"),
+    }
 }
 
 // Where its growth is refused (`rt try --test --fail-alloc N`), a call has failed and has touched nothing.
@@ -215,12 +243,10 @@ fn fails_once(rt: HostRuntime) -> Result<(), Fail> {
 fn refused_growth(rt: HostRuntime) -> Result<(), Fail> {
     let alloc = rt.alloc();
     let mut disk = disk_of(alloc, b"abc", b"")?;
-    let has_written = write(&mut disk, FileId::A, 1, b"WXYZ").is_ok();
-    let failures = u64::from(!has_written);
-    assert_eq!(rt; counts(&disk), (2, failures));
-    let expected: &[u8] = if has_written { b"aWXYZ" } else { b"abc" };
+    let (failures, expected) = grow(&mut disk);
+    has_counts(&rt, &disk, 2, failures);
     assert!(rt; holds(alloc, &mut disk, FileId::A, expected)?);
-    let has_synced = answer(&mut disk, Call::Sync).is_ok();
-    assert_eq!(rt; disk.failures(), failures + u64::from(!has_synced));
+    let failures = failures + u64::from(answer(&mut disk, Call::Sync).is_err());
+    assert!(rt; disk.failures() == failures);
     Ok(())
 }

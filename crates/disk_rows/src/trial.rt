@@ -1,6 +1,7 @@
 //! Which calls fail, and what they touch.
 use disk_model::{Disk, DiskFault, FileId};
 use std::alloc::Global;
+use std::process::Abort;
 use std::test::*;
 use trial_disk::Trial;
 
@@ -40,27 +41,42 @@ fn counts(disk: &Trial) -> (u64, u64) {
     (disk.calls(), disk.failures())
 }
 
+fn has_counts(rt: &impl Abort, disk: &Trial, calls: u64, failures: u64) {
+    assert_eq!(rt; counts(disk), (calls, failures));
+}
+
+fn is_answered(
+    rt: &impl Abort,
+    disk: &mut Trial,
+    call: Call<'_>,
+    expected: Result<Option<u64>, DiskFault>,
+) {
+    assert_eq!(rt; answer(disk, call), expected);
+}
+
+// What calls are answered of which the first two pass.
+const CALLS: [(Call<'static>, Result<Option<u64>, DiskFault>); 6] = [
+    (Call::Len, Ok(Some(3))),
+    (Call::Write(1, b"X"), Ok(None)),
+    (Call::Write(0, b"YYYY"), Err(DiskFault)),
+    (Call::Sync, Err(DiskFault)),
+    (Call::Len, Err(DiskFault)),
+    (Call::ReadOne(0), Err(DiskFault)),
+];
+
 #[test]
 fn fuse(rt: HostRuntime) -> Result<(), Fail> {
     let alloc = rt.alloc();
     let mut disk = abc(alloc)?;
     disk.fuse_after(2);
-    let rows = [
-        (Call::Len, Ok(Some(3))),
-        (Call::Write(1, b"X"), Ok(None)),
-        (Call::Write(0, b"YYYY"), Err(DiskFault)),
-        (Call::Sync, Err(DiskFault)),
-        (Call::Len, Err(DiskFault)),
-        (Call::ReadOne(0), Err(DiskFault)),
-    ];
-    for (call, expected) in rows {
-        assert_eq!(rt; answer(&mut disk, call), expected);
+    for (call, expected) in CALLS {
+        is_answered(&rt, &mut disk, call, expected);
     }
-    assert_eq!(rt; counts(&disk), (6, 4));
+    has_counts(&rt, &disk, 6, 4);
     assert!(rt; holds(alloc, &mut disk, b"aXc")?);
     disk.crash(0)?;
     assert!(rt; holds(alloc, &mut disk, b"abc")?);
-    assert_eq!(rt; answer(&mut disk, Call::Sync), Ok(None));
+    is_answered(&rt, &mut disk, Call::Sync, Ok(None));
     Ok(())
 }
 
@@ -70,15 +86,13 @@ fn fails_once(rt: HostRuntime) -> Result<(), Fail> {
     let alloc = rt.alloc();
     let mut disk = abc(alloc)?;
     disk.fail_once(1);
-    let has_synced = answer(&mut disk, Call::Sync).is_ok();
-    let has_written = answer(&mut disk, Call::Write(0, b"UVWXYZXYZ")).is_ok();
-    assert_eq!(rt; (has_synced, has_written), (true, false));
+    is_answered(&rt, &mut disk, Call::Sync, Ok(None));
+    is_answered(&rt, &mut disk, Call::Write(0, b"UVWXYZXYZ"), Err(DiskFault));
     assert!(rt; holds(alloc, &mut disk, b"UVWX")?);
     disk.fail_once(0);
-    let has_synced = answer(&mut disk, Call::Sync).is_ok();
-    let has_written = answer(&mut disk, Call::Write(4, b"12")).is_ok();
-    assert_eq!(rt; (has_synced, has_written), (false, true));
-    assert_eq!(rt; counts(&disk), (4, 2));
+    is_answered(&rt, &mut disk, Call::Sync, Err(DiskFault));
+    is_answered(&rt, &mut disk, Call::Write(4, b"12"), Ok(None));
+    has_counts(&rt, &disk, 4, 2);
     assert!(rt; holds(alloc, &mut disk, b"UVWX12")?);
     Ok(())
 }
@@ -94,8 +108,8 @@ fn strays(rt: HostRuntime) -> Result<(), Fail> {
         (Call::Write(5, b"e"), true),
     ];
     for (call, has_strayed) in rows {
-        assert_eq!(rt; answer(&mut disk, call), Ok(None));
-        assert_eq!(rt; disk.has_strayed(), has_strayed);
+        is_answered(&rt, &mut disk, call, Ok(None));
+        assert!(rt; disk.has_strayed() == has_strayed);
     }
     assert!(rt; holds(alloc, &mut disk, b"abcd")?);
     Ok(())

@@ -1,10 +1,12 @@
 //! Queues of one or two sessions, whose slots are taken once from a table: what a test does then needs no more of it.
 ghost use Rattle.std.specs.Prelude.{◌≢◌, IfOk};
 ghost use Rattle.sessions.specs.Life.{IsSeen};
+ghost use Rattle.timers.specs.Due.{IsLatest};
 
 use packet::endpoint::{Endpoint, Proto};
 use sessions::{Opener, Session, Slot, Table};
-use std::alloc::Global;
+use std::alloc::{AllocError, Global};
+use std::process::Abort;
 use std::test::*;
 use timers::Due;
 
@@ -30,24 +32,36 @@ fn session(port: u16) -> Session
 fn two_slots(alloc: Global) -> Result<(Slot, Slot), Fail>
     ensures { IfOk result (λ slots. slots.0 ≢ slots.1) }
 {
-    let mut table = Table::new(alloc);
+    let mut table = Box::new(alloc, Table::new(alloc))?;
     let first = table.add(session(1))?;
     let second = table.add(session(2))?;
     Ok((first, second))
+}
+
+// The slots of the sessions that are over in this second, which comes behind all that was seen of them.
+fn lists(
+    rt: &impl Abort,
+    alloc: Global,
+    due: &Due,
+    now: u64,
+    slots: &[Slot],
+) -> Result<(), AllocError>
+    requires { IsLatest due.now now }
+{
+    let found = due.due(alloc, now)?;
+    assert_eq!(rt; found.as_slice(), slots);
+    Ok(())
 }
 
 #[test]
 fn two_idle_sessions(rt: HostRuntime) -> Result<(), Fail> {
     let alloc = rt.alloc();
     let (first, second) = two_slots(alloc)?;
-    let mut due = Due::new(alloc);
+    let mut due = Box::new(alloc, Due::new(alloc))?;
     due.reserve(2)?;
     due.add(first, 1000, 300)?;
     due.add(second, 1001, 300)?;
-    assert_eq!(rt;
-        due.due(alloc, 1301)?.as_slice(),
-        [first, second].as_slice()
-    );
+    lists(&rt, alloc, &due, 1301, &[first, second])?;
     Ok(())
 }
 
@@ -55,10 +69,10 @@ fn two_idle_sessions(rt: HostRuntime) -> Result<(), Fail> {
 fn the_first_of_two(rt: HostRuntime) -> Result<(), Fail> {
     let alloc = rt.alloc();
     let (first, second) = two_slots(alloc)?;
-    let mut due = Due::new(alloc);
+    let mut due = Box::new(alloc, Due::new(alloc))?;
     due.add(first, 1000, 300)?;
     due.add(second, 1001, 300)?;
-    assert_eq!(rt; due.due(alloc, 1300)?.as_slice(), [first].as_slice());
+    lists(&rt, alloc, &due, 1300, &[first])?;
     Ok(())
 }
 
@@ -66,10 +80,10 @@ fn the_first_of_two(rt: HostRuntime) -> Result<(), Fail> {
 fn an_idle_session(rt: HostRuntime) -> Result<(), Fail> {
     let alloc = rt.alloc();
     let (slot, _) = two_slots(alloc)?;
-    let mut due = Due::new(alloc);
+    let mut due = Box::new(alloc, Due::new(alloc))?;
     due.add(slot, 1000, 300)?;
-    assert_eq!(rt; due.due(alloc, 1299)?.len(), 0);
-    assert_eq!(rt; due.due(alloc, 1300)?.as_slice(), [slot].as_slice());
+    lists(&rt, alloc, &due, 1299, &[])?;
+    lists(&rt, alloc, &due, 1300, &[slot])?;
     Ok(())
 }
 
@@ -77,13 +91,13 @@ fn an_idle_session(rt: HostRuntime) -> Result<(), Fail> {
 fn a_refreshed_session(rt: HostRuntime) -> Result<(), Fail> {
     let alloc = rt.alloc();
     let (slot, _) = two_slots(alloc)?;
-    let mut due = Due::new(alloc);
+    let mut due = Box::new(alloc, Due::new(alloc))?;
     due.add(slot, 1000, 240)?;
     due.touch(slot, 1003, 7440);
-    assert_eq!(rt; due.due(alloc, 8442)?.len(), 0);
-    assert_eq!(rt; due.due(alloc, u64::MAX)?.as_slice(), [slot].as_slice());
+    lists(&rt, alloc, &due, 8442, &[])?;
+    lists(&rt, alloc, &due, u64::MAX, &[slot])?;
     due.remove(slot);
-    assert_eq!(rt; due.due(alloc, u64::MAX)?.len(), 0);
+    lists(&rt, alloc, &due, u64::MAX, &[])?;
     Ok(())
 }
 
@@ -91,13 +105,10 @@ fn a_refreshed_session(rt: HostRuntime) -> Result<(), Fail> {
 fn a_session_moves_behind_another(rt: HostRuntime) -> Result<(), Fail> {
     let alloc = rt.alloc();
     let (first, second) = two_slots(alloc)?;
-    let mut due = Due::new(alloc);
+    let mut due = Box::new(alloc, Due::new(alloc))?;
     due.add(first, 1000, 300)?;
     due.add(second, 1001, 300)?;
     due.touch(first, 1002, 300);
-    assert_eq!(rt;
-        due.due(alloc, u64::MAX)?.as_slice(),
-        [second, first].as_slice()
-    );
+    lists(&rt, alloc, &due, u64::MAX, &[second, first])?;
     Ok(())
 }

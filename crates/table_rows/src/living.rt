@@ -179,42 +179,70 @@ fn sessions_are_found(rt: HostRuntime) -> Result<(), Fail> {
     Ok(())
 }
 
+// A table of a query alone, and its slot.
+fn one_query(alloc: Global) -> Result<(Box<Table>, Slot), Fail> {
+    let mut table = Box::new(alloc, Table::new(alloc))?;
+    let slot = table.add(begun(Proto::Udp, SERVER))?;
+    Ok((table, slot))
+}
+
+// Each of the next four makes one call for a slot that holds a session, and says what the slot holds behind it.
+fn see(table: &mut Table, slot: Slot, bits: u8, last: u64) -> Option<Session> {
+    if are_known_bits(table.get(slot)?.proto, bits) {
+        table.see(slot, bits, last);
+    }
+    table.get(slot)
+}
+
+fn restart(table: &mut Table, slot: Slot, opener: Opener, last: u64) -> Option<Session> {
+    table.get(slot)?;
+    table.restart(slot, opener, last);
+    table.get(slot)
+}
+
+fn amend(table: &mut Table, slot: Slot, opener: Opener, seen: u8) -> Option<Session> {
+    if are_known_bits(table.get(slot)?.proto, seen) {
+        table.amend(slot, opener, seen);
+    }
+    table.get(slot)
+}
+
+fn end(table: &mut Table, slot: Slot) -> Option<Session> {
+    if table.get(slot).is_some() {
+        table.end(slot);
+    }
+    table.get(slot)
+}
+
 #[test]
 fn seen_and_begun_anew(rt: HostRuntime) -> Result<(), Fail> {
-    let mut table = Table::new(rt.alloc());
+    let (mut table, slot) = one_query(rt.alloc())?;
     let query = begun(Proto::Udp, SERVER);
-    let slot = table.add(query)?;
-    table.see(slot, 1, 1001);
     let seen = Session {
         seen: 1,
         last: 1001,
         ..query
     };
-    assert_eq!(rt; table.get(slot), Some(seen));
-    table.restart(slot, Remote, 1002);
+    assert_eq!(rt; see(&mut table, slot, 1, 1001), Some(seen));
     let anew = Session {
         opener: Remote,
         last: 1002,
         ..query
     };
-    assert_eq!(rt; table.get(slot), Some(anew));
+    assert_eq!(rt; restart(&mut table, slot, Remote, 1002), Some(anew));
     Ok(())
 }
 
 #[test]
 fn amended_and_ended(rt: HostRuntime) -> Result<(), Fail> {
-    let mut table = Table::new(rt.alloc());
-    let query = begun(Proto::Udp, SERVER);
-    let slot = table.add(query)?;
-    table.amend(slot, Remote, 1);
+    let (mut table, slot) = one_query(rt.alloc())?;
     let amended = Session {
         opener: Remote,
         seen: 1,
-        ..query
+        ..begun(Proto::Udp, SERVER)
     };
-    assert_eq!(rt; table.get(slot), Some(amended));
-    table.end(slot);
-    assert_eq!(rt; table.get(slot), None);
+    assert_eq!(rt; amend(&mut table, slot, Remote, 1), Some(amended));
+    assert_eq!(rt; end(&mut table, slot), None);
     Ok(())
 }
 

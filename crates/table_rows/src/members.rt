@@ -37,24 +37,50 @@ fn name(alloc: Global, bytes: &[u8]) -> Result<Element, AllocError> {
     Ok(Element::Name(Vec::from_slice(alloc, bytes)?))
 }
 
+fn names(alloc: Global, names: &[&[u8]]) -> Result<Box<Set>, Fail> {
+    let mut elements = Vec::new(alloc);
+    for bytes in names {
+        elements.push(name(alloc, *bytes)?)?;
+    }
+    Ok(Box::new(alloc, Set::union_of(elements)?)?)
+}
+
 fn pair(key: Element, verdict: u8) -> Pair<u8> {
     Pair { key, verdict }
 }
 
-fn set_of(alloc: Global, ranges: &[(u32, u32)]) -> Result<Set, Fail> {
+fn set_of(alloc: Global, ranges: &[(u32, u32)]) -> Result<Box<Set>, Fail> {
     let mut elements = Vec::new(alloc);
     for (first, last) in ranges {
         elements.push(numbers(*first, *last))?;
     }
-    Ok(Set::union_of(elements)?)
+    Ok(Box::new(alloc, Set::union_of(elements)?)?)
 }
 
-fn vmap_of(alloc: Global, keys: &[(u32, u32, u8)]) -> Result<Vmap<u8>, Fail> {
+fn has_port(set: &Set, port: u32) -> bool {
+    set.contains(Value::Number(port))
+}
+
+fn has_name(set: &Set, name: &[u8]) -> bool {
+    set.contains(Value::Name(name))
+}
+
+// Whether the set has the port, and how many intervals are compared with for it.
+fn probed(set: &Set, port: u32) -> (bool, u32) {
+    let (found, steps) = set.contains_counted(Value::Number(port));
+    (found, steps.count())
+}
+
+fn vmap_of(alloc: Global, keys: &[(u32, u32, u8)]) -> Result<Box<Vmap<u8>>, Fail> {
     let mut pairs = Vec::new(alloc);
     for (first, last, verdict) in keys {
         pairs.push(pair(numbers(*first, *last), *verdict))?;
     }
-    Ok(Vmap::of(pairs)?)
+    Ok(Box::new(alloc, Vmap::of(pairs)?)?)
+}
+
+fn verdict(vmap: &Vmap<u8>, port: u32) -> Option<u8> {
+    vmap.look_up(Value::Number(port)).copied()
 }
 
 #[test]
@@ -70,9 +96,9 @@ fn ports_of_a_union(rt: HostRuntime) -> Result<(), Fail> {
         (31, false),
     ];
     for (port, wanted) in held {
-        assert_eq!(rt; set.contains(Value::Number(port)), wanted, "port {port}");
+        assert_eq!(rt; has_port(&set, port), wanted, "port {port}");
     }
-    assert!(rt; !set.contains(Value::Name(b"lan")));
+    assert!(rt; !has_name(&set, b"lan"));
     Ok(())
 }
 
@@ -89,20 +115,17 @@ fn intervals_of_a_union(rt: HostRuntime) -> Result<(), Fail> {
 fn probes_of_three(rt: HostRuntime) -> Result<(), Fail> {
     let set = set_of(rt.alloc(), &[(22, 30), (1, 10), (12, 20)])?;
     for (port, wanted, probes) in [(15, true, 1), (5, true, 2), (25, true, 2), (11, false, 2)] {
-        let (found, steps) = set.contains_counted(Value::Number(port));
-        assert_eq!(rt; (found, steps.count()), (wanted, probes), "port {port}");
+        assert_eq!(rt; probed(&set, port), (wanted, probes), "port {port}");
     }
     Ok(())
 }
 
 #[test]
 fn names_by_bytes(rt: HostRuntime) -> Result<(), Fail> {
-    let alloc = rt.alloc();
-    let elements = vec![in alloc; name(alloc, b"lan")?, name(alloc, b"wan0")?]?;
-    let set = Set::union_of(elements)?;
+    let set = names(rt.alloc(), &[b"lan", b"wan0"])?;
     let rows: [(&[u8], bool); 3] = [(b"wan0", true), (b"wan", false), (b"LAN", false)];
     for (name, wanted) in rows {
-        assert_eq!(rt; set.contains(Value::Name(name)), wanted);
+        assert_eq!(rt; has_name(&set, name), wanted);
     }
     Ok(())
 }
@@ -142,11 +165,7 @@ fn verdict_of_a_key(rt: HostRuntime) -> Result<(), Fail> {
         (23, None),
         (444, None),
     ] {
-        assert_eq!(rt;
-            vmap.look_up(Value::Number(port)).copied(),
-            wanted,
-            "port {port}"
-        );
+        assert_eq!(rt; verdict(&vmap, port), wanted, "port {port}");
     }
     Ok(())
 }
@@ -210,6 +229,11 @@ fn at_the_limit(rt: HostRuntime) -> Result<(), Fail> {
     Ok(())
 }
 
+fn is_told(alloc: Global, fault: SetFault, text: &str) -> Result<bool, AllocError> {
+    let found = format!(in alloc; "{fault}")?;
+    Ok(found.as_str() == text)
+}
+
 #[test]
 fn fault_texts(rt: HostRuntime) -> Result<(), Fail> {
     let rows = [
@@ -218,8 +242,7 @@ fn fault_texts(rt: HostRuntime) -> Result<(), Fail> {
         (SetFault::NoMemory, "out of memory"),
     ];
     for (fault, text) in rows {
-        let found = format!(in rt.alloc(); "{fault}")?;
-        assert!(rt; found.as_str() == text, "{text}");
+        assert!(rt; is_told(rt.alloc(), fault, text)?, "{text}");
     }
     Ok(())
 }

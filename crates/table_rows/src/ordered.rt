@@ -5,16 +5,27 @@ use std::test::*;
 
 const HIGH: u128 = 0xffff_ffff_ffff_ffff_ffff_ffff_ffff_ffff;
 
-// Puts an entry in. A refusal of memory must change nothing, and the entry go in at the second try.
-fn put(rt: &impl Abort, rows: &mut Rows, key: u128, value: usize) -> Result<(), AllocError> {
+// Puts an entry in, if none has its key.
+fn insert(rows: &mut Rows, key: u128, value: usize) -> Result<(), AllocError> {
     if rows.get(key).is_some() {
         return Ok(());
     }
-    if rows.insert(key, value).is_err() {
-        assert_eq!(rt; rows.get(key), None);
-        if rows.get(key).is_none() {
-            rows.insert(key, value)?;
-        }
+    rows.insert(key, value)
+}
+
+fn has(rt: &impl Abort, rows: &Rows, key: u128, expected: Option<usize>) {
+    assert_eq!(rt; rows.get(key), expected);
+}
+
+fn gives(rt: &impl Abort, rows: &mut Rows, key: u128, expected: Option<usize>) {
+    assert_eq!(rt; rows.remove(key), expected);
+}
+
+// Puts an entry in. A refusal of memory must change nothing, and the entry go in at the second try.
+fn put(rt: &impl Abort, rows: &mut Rows, key: u128, value: usize) -> Result<(), AllocError> {
+    if insert(rows, key, value).is_err() {
+        has(rt, rows, key, None);
+        insert(rows, key, value)?;
     }
     Ok(())
 }
@@ -58,10 +69,10 @@ fn entries_go_in_and_out(rt: HostRuntime) -> Result<(), AllocError> {
     assert_eq!(rt; Rows::new(rt.alloc()).get(7), None);
     let mut rows = three(&rt, rt.alloc())?;
     for value in [Some(2), None] {
-        assert_eq!(rt; rows.remove(7), value);
+        gives(&rt, &mut rows, 7, value);
     }
-    for (key, value) in [(0, Some(3)), (HIGH, Some(1))] {
-        assert_eq!(rt; rows.get(key), value);
+    for (key, value) in [(0, 3), (HIGH, 1)] {
+        has(&rt, &rows, key, Some(value));
     }
     Ok(())
 }
@@ -96,11 +107,13 @@ fn many_entries_are_found(rt: HostRuntime) -> Result<(), AllocError> {
     let mut rows = many(&rt, rt.alloc())?;
     assert_eq!(rt; count_rising(&rt, &rows), 2000);
     for number in 0..1990 {
-        assert_eq!(rt; rows.remove(key_of(number)), Some(number));
+        gives(&rt, &mut rows, key_of(number), Some(number));
     }
-    for number in 0..2000 {
-        let value = if number < 1990 { None } else { Some(number) };
-        assert_eq!(rt; rows.get(key_of(number)), value);
+    for number in 0..1990 {
+        has(&rt, &rows, key_of(number), None);
+    }
+    for number in 1990..2000 {
+        has(&rt, &rows, key_of(number), Some(number));
     }
     Ok(())
 }

@@ -12,11 +12,11 @@ const FIRST: u32 = 0xcb00_7101;
 
 const SECOND: u32 = 0xcb00_7102;
 
-fn two_addresses(alloc: Global) -> Result<Ports, AllocError>
-    ensures { IfOk result (λ ports. ports.external ≡ 3405803777 ∷ 3405803778 ∷ []) }
+fn two_addresses(alloc: Global) -> Result<Box<Ports>, AllocError>
+    ensures { IfOk result (λ ports. ports.value.external ≡ 3405803777 ∷ 3405803778 ∷ []) }
 {
     let external = vec![in alloc; FIRST, SECOND]?;
-    Ok(Ports::new(alloc, external))
+    Ok(Box::new(alloc, Ports::new(alloc, external))?)
 }
 
 // Picks a port for a host that asks for `port`, and takes it. A refusal of memory must change nothing,
@@ -42,24 +42,40 @@ fn assign(
     Ok(Some(chosen))
 }
 
+// What a host gets at this address, which must be one of the two.
+fn gets(
+    rt: &impl Abort,
+    ports: &mut Ports,
+    at: (Proto, u32),
+    port: u16,
+    expected: Option<u16>,
+) -> Result<(), AllocError>
+    requires external { Contains ports.old.external at.1 }
+    requires not_zero { 0 < port }
+    ensures addresses { ports.new.external ≡ ports.old.external }
+{
+    let chosen = assign(rt, ports, at.0, at.1, port)?;
+    assert_eq!(rt; chosen, expected, "{port}");
+    Ok(())
+}
+
 // What a host gets at the first address, or at the second one.
-fn ask(
+fn gets_at(
     rt: &impl Abort,
     ports: &mut Ports,
     proto: Proto,
     is_second: bool,
     port: u16,
-) -> Result<Option<u16>, AllocError>
+    expected: u16,
+) -> Result<(), AllocError>
     requires external { ports.old.external ≡ 3405803777 ∷ 3405803778 ∷ [] }
     ensures addresses { ports.new.external ≡ ports.old.external }
 {
-    if port == 0 {
-        return Ok(None);
-    }
+    let port = port.max(1);
     if is_second {
-        return assign(rt, ports, proto, SECOND, port);
+        return gets(rt, ports, (proto, SECOND), port, Some(expected));
     }
-    assign(rt, ports, proto, FIRST, port)
+    gets(rt, ports, (proto, FIRST), port, Some(expected))
 }
 
 // Frees the port, if it is taken.
@@ -88,8 +104,7 @@ fn second_host_gets_the_next_port(rt: HostRuntime) -> Result<(), AllocError> {
     ];
     for row in rows {
         let (proto, is_second, port, expected) = row;
-        let chosen = ask(&rt, &mut ports, proto, is_second, port)?;
-        assert_eq!(rt; chosen, Some(expected), "{port}");
+        gets_at(&rt, &mut ports, proto, is_second, port, expected)?;
     }
     Ok(())
 }
@@ -97,18 +112,15 @@ fn second_host_gets_the_next_port(rt: HostRuntime) -> Result<(), AllocError> {
 #[test]
 fn all_odd_low_ports_taken(rt: HostRuntime) -> Result<(), AllocError> {
     let mut ports = two_addresses(rt.alloc())?;
+    let at = (Proto::Udp, FIRST);
     for number in 0..512 {
-        let chosen = assign(&rt, &mut ports, Proto::Udp, FIRST, 2 * number + 1)?;
-        assert_eq!(rt; chosen, Some(2 * number + 1));
+        let odd = 2 * number + 1;
+        gets(&rt, &mut ports, at, odd, Some(odd))?;
     }
-    let none = assign(&rt, &mut ports, Proto::Udp, FIRST, 7)?;
-    let even = assign(&rt, &mut ports, Proto::Udp, FIRST, 8)?;
-    assert_eq!(rt; none, None);
-    assert_eq!(rt; even, Some(8));
+    gets(&rt, &mut ports, at, 7, None)?;
+    gets(&rt, &mut ports, at, 8, Some(8))?;
     give_back(&mut ports, 9);
-    let freed = assign(&rt, &mut ports, Proto::Udp, FIRST, 7)?;
-    assert_eq!(rt; freed, Some(9));
-    Ok(())
+    gets(&rt, &mut ports, at, 7, Some(9))
 }
 
 #[test]
@@ -117,11 +129,8 @@ fn reserved_ports_are_taken(rt: HostRuntime) -> Result<(), AllocError> {
     if ports.reserve().is_err() {
         ports.reserve()?;
     }
-    let first = assign(&rt, &mut ports, Proto::Tcp, FIRST, 80)?;
-    let second = assign(&rt, &mut ports, Proto::Tcp, SECOND, 65535)?;
-    assert_eq!(rt; first, Some(80));
-    assert_eq!(rt; second, Some(65535));
-    Ok(())
+    gets(&rt, &mut ports, (Proto::Tcp, FIRST), 80, Some(80))?;
+    gets(&rt, &mut ports, (Proto::Tcp, SECOND), 65535, Some(65535))
 }
 
 // Takes `count` ports, two apart, but for one of them.

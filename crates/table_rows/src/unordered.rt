@@ -3,30 +3,55 @@ use std::alloc::{AllocError, Global};
 use std::process::Abort;
 use std::test::*;
 
-// Puts an entry in. A refusal of memory must change nothing, and the entry go in at the second try.
-fn put(rt: &impl Abort, map: &mut Buckets, key: u64, value: usize) -> Result<(), AllocError> {
-    if map.reserve().is_err() {
-        map.reserve()?;
-    }
+fn empty(alloc: Global) -> Result<Box<Buckets>, AllocError> {
+    Ok(Box::new(alloc, Buckets::new(alloc))?)
+}
+
+fn has(rt: &impl Abort, map: &Buckets, key: u64, expected: Option<usize>) {
+    assert_eq!(rt; map.get(key), expected);
+}
+
+fn gives(rt: &impl Abort, map: &mut Buckets, key: u64, expected: Option<usize>) {
+    assert_eq!(rt; map.remove(key), expected);
+}
+
+// Puts an entry in, if none has its key.
+fn insert(map: &mut Buckets, key: u64, value: usize) -> Result<(), AllocError> {
     if map.get(key).is_some() {
         return Ok(());
     }
-    if map.insert(key, value).is_err() {
-        assert_eq!(rt; map.get(key), None);
-        if map.get(key).is_none() {
-            map.insert(key, value)?;
-        }
+    map.insert(key, value)
+}
+
+fn reserve(map: &mut Buckets) -> Result<(), AllocError> {
+    if map.reserve().is_err() {
+        map.reserve()?;
+    }
+    Ok(())
+}
+
+fn reserve_one(map: &mut Buckets) -> Result<(), AllocError> {
+    if map.reserve_one().is_err() {
+        map.reserve_one()?;
+    }
+    Ok(())
+}
+
+// Puts an entry in. A refusal of memory must change nothing, and the entry go in at the second try.
+fn put(rt: &impl Abort, map: &mut Buckets, key: u64, value: usize) -> Result<(), AllocError> {
+    reserve(map)?;
+    if insert(map, key, value).is_err() {
+        has(rt, map, key, None);
+        insert(map, key, value)?;
     }
     Ok(())
 }
 
 #[test]
 fn entries_go_in_and_out(rt: HostRuntime) -> Result<(), AllocError> {
-    let mut map = Buckets::new(rt.alloc());
-    assert_eq!(rt; map.get(7), None);
-    if map.reserve_one().is_err() {
-        map.reserve_one()?;
-    }
+    let mut map = empty(rt.alloc())?;
+    has(&rt, &map, 7, None);
+    reserve_one(&mut map)?;
     for (key, value) in [
         (u64::MAX, 1),
         (7, 2),
@@ -37,20 +62,20 @@ fn entries_go_in_and_out(rt: HostRuntime) -> Result<(), AllocError> {
         put(&rt, &mut map, key, value)?;
     }
     for value in [Some(2), None] {
-        assert_eq!(rt; map.remove(7), value);
+        gives(&rt, &mut map, 7, value);
     }
     for (key, value) in [(u64::MAX, 1), (0, 3), (1, usize::MAX), (2, 0xffff_ffff)] {
-        assert_eq!(rt; map.get(key), Some(value));
+        has(&rt, &map, key, Some(value));
     }
-    assert_eq!(rt; map.remove(1), Some(usize::MAX));
-    assert_eq!(rt; map.get(1), None);
+    gives(&rt, &mut map, 1, Some(usize::MAX));
+    has(&rt, &map, 1, None);
     Ok(())
 }
 
 // A key that is sought gets the value where no entry has it; an entry that there is stays.
 #[test]
 fn entries_go_in_where_they_are_sought(rt: HostRuntime) -> Result<(), AllocError> {
-    let mut map = Buckets::new(rt.alloc());
+    let mut map = empty(rt.alloc())?;
     map.reserve()?;
     for (key, value, found) in [
         (7, 2, None),
@@ -60,23 +85,23 @@ fn entries_go_in_where_they_are_sought(rt: HostRuntime) -> Result<(), AllocError
     ] {
         assert_eq!(rt; map.get_or_insert(key, value)?, found);
     }
-    assert_eq!(rt; map.get(7), Some(2));
-    assert_eq!(rt; map.remove(0), Some(usize::MAX));
+    has(&rt, &map, 7, Some(2));
+    gives(&rt, &mut map, 0, Some(usize::MAX));
     Ok(())
 }
 
 // With no call of `reserve` there are no places, and each entry lies in the overflow.
 #[test]
 fn entries_are_found_without_places(rt: HostRuntime) -> Result<(), AllocError> {
-    let mut map = Buckets::new(rt.alloc());
+    let mut map = empty(rt.alloc())?;
     for number in 0..200 {
-        if map.get(number).is_none() && map.insert(number, 5).is_err() {
+        if insert(&mut map, number, 5).is_err() {
             return Ok(());
         }
     }
     put(&rt, &mut map, 200, 5)?;
     for number in 0..201 {
-        assert_eq!(rt; map.get(number), Some(5));
+        has(&rt, &map, number, Some(5));
     }
     Ok(())
 }
@@ -90,7 +115,7 @@ fn key_of(number: usize) -> u64 {
 // As many entries as places are made for again and again, put in and taken out as numbers are drawn.
 #[test]
 fn drawn_calls_agree_with_a_plain_list(rt: HostRuntime) -> Result<(), AllocError> {
-    let mut map = Buckets::new(rt.alloc());
+    let mut map = empty(rt.alloc())?;
     let mut plain = [None; 499];
     let mut drawn: u64 = 1;
     for value in 0..6000 {
@@ -99,16 +124,16 @@ fn drawn_calls_agree_with_a_plain_list(rt: HostRuntime) -> Result<(), AllocError
             .wrapping_add(0x1405_7b7e_f767_814f);
         let number = (drawn >> 33) as usize % 499;
         if plain[number].is_some() {
-            assert_eq!(rt; map.remove(key_of(number)), plain[number]);
+            gives(&rt, &mut map, key_of(number), plain[number]);
             plain[number] = None;
         } else {
             put(&rt, &mut map, key_of(number), value)?;
             plain[number] = Some(value);
         }
-        assert_eq!(rt; map.get(key_of(number)), plain[number]);
+        has(&rt, &map, key_of(number), plain[number]);
     }
     for number in 0..499 {
-        assert_eq!(rt; map.get(key_of(number)), plain[number]);
+        has(&rt, &map, key_of(number), plain[number]);
     }
     Ok(())
 }
@@ -119,8 +144,8 @@ fn meeting(number: usize) -> u64 {
     (number as u64).wrapping_mul(0xf1de_83e1_9937_733d)
 }
 
-fn many_meeting(rt: &impl Abort, alloc: Global) -> Result<Buckets, AllocError> {
-    let mut map = Buckets::new(alloc);
+fn many_meeting(rt: &impl Abort, alloc: Global) -> Result<Box<Buckets>, AllocError> {
+    let mut map = empty(alloc)?;
     for number in 0..300 {
         put(rt, &mut map, meeting(number), number)?;
     }
@@ -131,15 +156,17 @@ fn many_meeting(rt: &impl Abort, alloc: Global) -> Result<Buckets, AllocError> {
 fn keys_that_meet_are_told_apart(rt: HostRuntime) -> Result<(), AllocError> {
     let mut map = many_meeting(&rt, rt.alloc())?;
     for number in 0..300 {
-        assert_eq!(rt; map.get(meeting(number)), Some(number));
+        has(&rt, &map, meeting(number), Some(number));
     }
     for number in 0..290 {
-        assert_eq!(rt; map.remove(meeting(299 - number)), Some(299 - number));
-        assert_eq!(rt; map.get(meeting(299 - number)), None);
+        gives(&rt, &mut map, meeting(299 - number), Some(299 - number));
+        has(&rt, &map, meeting(299 - number), None);
     }
-    for number in 0..300 {
-        let value = if number < 10 { Some(number) } else { None };
-        assert_eq!(rt; map.get(meeting(number)), value);
+    for number in 0..10 {
+        has(&rt, &map, meeting(number), Some(number));
+    }
+    for number in 10..300 {
+        has(&rt, &map, meeting(number), None);
     }
     Ok(())
 }
@@ -149,13 +176,13 @@ fn keys_that_meet_are_told_apart(rt: HostRuntime) -> Result<(), AllocError> {
 fn keys_that_met_are_found_again(rt: HostRuntime) -> Result<(), AllocError> {
     let mut map = many_meeting(&rt, rt.alloc())?;
     for number in 0..20 {
-        assert_eq!(rt; map.remove(meeting(number)), Some(number));
+        gives(&rt, &mut map, meeting(number), Some(number));
     }
     for number in 0..900 {
         put(&rt, &mut map, key_of(number), number)?;
     }
     for number in 20..300 {
-        assert_eq!(rt; map.get(meeting(number)), Some(number));
+        has(&rt, &map, meeting(number), Some(number));
     }
     Ok(())
 }

@@ -1,6 +1,6 @@
 //! Which of several faults is named, and what is answered where memory is refused.
 
-use crate::loading::{bounds, check, repeated, row_of_chains};
+use crate::loading::{Row, bounds, check, repeated, row_of_chains};
 use packet::bounds::Bounds;
 use rulesyntax::fault::Kind;
 use ruletext::reading::read;
@@ -8,90 +8,86 @@ use std::alloc::{AllocError, Global};
 use std::test::*;
 
 // Texts with several faults of one kind: the first in the text is named, wherever it stands in the tree.
+const SEVERAL: [Row; 20] = [
+    ("table a { }\ntable a { }\ntable a { }", "line 2: duplicate"),
+    (
+        "table a {\nchain c { }\nchain c { }\n}\ntable a { }",
+        "line 3: duplicate",
+    ),
+    (
+        "table a { }\ntable a {\nchain c { }\nchain c { }\n}",
+        "line 2: duplicate",
+    ),
+    (
+        "table inet a { }\ntable inet a { }\ntable b { }\ntable b { }",
+        "line 2: duplicate",
+    ),
+    (
+        "table b { }\ntable inet a { }\ntable b { }\ntable inet a { }",
+        "line 3: duplicate",
+    ),
+    (
+        "table inet a {\nset s { type ifname; }\nset s { type ifname; }\n}\ntable inet a { }",
+        "line 3: duplicate",
+    ),
+    (
+        "table a {\nchain c { }\nchain d { }\nchain d { }\nchain c { }\n}",
+        "line 4: duplicate",
+    ),
+    (
+        "table a {\nset s { type ifname; }\nset s { type ifname; }\nchain c { }\nchain c { }\n}",
+        "line 3: duplicate",
+    ),
+    (
+        "table a {\nchain c { }\nchain c { }\nset s { type ifname; }\nset s { type ifname; }\n}",
+        "line 3: duplicate",
+    ),
+    (
+        "table a {\nset s {\ntype ifname\ntype ifname\n}\nset s { type ifname; }\nchain c { }\nchain c { }\n}",
+        "line 4: duplicate",
+    ),
+    (
+        "table a {\nset s { type ifname; }\nset s {\ntype ifname\ntype ifname\n}\n}",
+        "line 3: duplicate",
+    ),
+    (
+        "table a {\nset s {\nelements = { lan }\nelements = { wan }\ntype ifname\ntype ifname\n}\n}",
+        "line 4: duplicate",
+    ),
+    (
+        "table a {\nset s {\ntype ifname\nelements = { lan }\ntype ifname\nelements = { wan }\n}\n}",
+        "line 5: duplicate",
+    ),
+    (
+        "table a {\nset s {\nelements = { lan }\ntype ifname\nelements = { wan }\ntype ifname\n}\n}",
+        "line 5: duplicate",
+    ),
+    (
+        "table a {\nchain c {\njump x\n}\n}\ntable b {\nchain c {\njump y\n}\n}",
+        "line 3: unknown-chain",
+    ),
+    (
+        "table t {\nchain a {\ndrop\n}\nchain b {\ntcp dport vmap { 1 : drop,\n2 : jump x,\n3 : goto y }\njump z\n}\n}",
+        "line 7: unknown-chain",
+    ),
+    (
+        "table t {\nchain a {\niif @s accept\n}\nchain b {\njump x\njump y\n}\n}",
+        "line 6: unknown-chain",
+    ),
+    (
+        "table t {\nchain a {\nip saddr @s \\\nip daddr @u accept\n}\n}",
+        "line 3: unknown-set",
+    ),
+    (
+        "table t {\nset s { type ipv4_addr; }\nchain a {\nip saddr @s accept\n}\nchain b {\nip saddr @u accept\nip saddr @v accept\n}\n}",
+        "line 7: unknown-set",
+    ),
+    ("table t {\nset \\\ns {\n}\n}", "line 3: wrong-type"),
+];
+
 #[test]
 fn first_of_several(rt: HostRuntime) -> Result<(), AllocError> {
-    check(
-        &rt,
-        rt.alloc(),
-        "",
-        "",
-        &[
-            ("table a { }\ntable a { }\ntable a { }", "line 2: duplicate"),
-            (
-                "table a {\nchain c { }\nchain c { }\n}\ntable a { }",
-                "line 3: duplicate",
-            ),
-            (
-                "table a { }\ntable a {\nchain c { }\nchain c { }\n}",
-                "line 2: duplicate",
-            ),
-            (
-                "table inet a { }\ntable inet a { }\ntable b { }\ntable b { }",
-                "line 2: duplicate",
-            ),
-            (
-                "table b { }\ntable inet a { }\ntable b { }\ntable inet a { }",
-                "line 3: duplicate",
-            ),
-            (
-                "table inet a {\nset s { type ifname; }\nset s { type ifname; }\n}\ntable inet a { }",
-                "line 3: duplicate",
-            ),
-            (
-                "table a {\nchain c { }\nchain d { }\nchain d { }\nchain c { }\n}",
-                "line 4: duplicate",
-            ),
-            (
-                "table a {\nset s { type ifname; }\nset s { type ifname; }\nchain c { }\nchain c { }\n}",
-                "line 3: duplicate",
-            ),
-            (
-                "table a {\nchain c { }\nchain c { }\nset s { type ifname; }\nset s { type ifname; }\n}",
-                "line 3: duplicate",
-            ),
-            (
-                "table a {\nset s {\ntype ifname\ntype ifname\n}\nset s { type ifname; }\nchain c { }\nchain c { }\n}",
-                "line 4: duplicate",
-            ),
-            (
-                "table a {\nset s { type ifname; }\nset s {\ntype ifname\ntype ifname\n}\n}",
-                "line 3: duplicate",
-            ),
-            (
-                "table a {\nset s {\nelements = { lan }\nelements = { wan }\ntype ifname\ntype ifname\n}\n}",
-                "line 4: duplicate",
-            ),
-            (
-                "table a {\nset s {\ntype ifname\nelements = { lan }\ntype ifname\nelements = { wan }\n}\n}",
-                "line 5: duplicate",
-            ),
-            (
-                "table a {\nset s {\nelements = { lan }\ntype ifname\nelements = { wan }\ntype ifname\n}\n}",
-                "line 5: duplicate",
-            ),
-            (
-                "table a {\nchain c {\njump x\n}\n}\ntable b {\nchain c {\njump y\n}\n}",
-                "line 3: unknown-chain",
-            ),
-            (
-                "table t {\nchain a {\ndrop\n}\nchain b {\ntcp dport vmap { 1 : drop,\n2 : jump x,\n3 : goto y }\njump z\n}\n}",
-                "line 7: unknown-chain",
-            ),
-            (
-                "table t {\nchain a {\niif @s accept\n}\nchain b {\njump x\njump y\n}\n}",
-                "line 6: unknown-chain",
-            ),
-            (
-                "table t {\nchain a {\nip saddr @s \\\nip daddr @u accept\n}\n}",
-                "line 3: unknown-set",
-            ),
-            (
-                "table t {\nset s { type ipv4_addr; }\nchain a {\nip saddr @s accept\n}\nchain b {\nip saddr @u accept\nip saddr @v accept\n}\n}",
-                "line 7: unknown-set",
-            ),
-            ("table t {\nset \\\ns {\n}\n}", "line 3: wrong-type"),
-        ],
-    )
+    check(&rt, rt.alloc(), "", "", &SEVERAL)
 }
 
 // Whether the kind and the line are the wanted ones, or memory was refused.
@@ -103,6 +99,33 @@ fn is_right(alloc: Global, bounds: &Bounds, text: &str, wanted: Option<(Kind, us
     answer == wanted || matches!(answer, Some((Kind::NoMemory, _)))
 }
 
+const GROWTHS: [(&str, Option<(Kind, usize)>); 6] = [
+    (
+        "table t { set s { type inet_service; elements = { 80, 90-99 }; }\nchain c { type nat hook prerouting priority 0; ip protocol tcp tcp dport vmap { 22 : accept, 23 : goto d }; }\nchain d { tcp dport @s dnat to 192.168.0.2; } }",
+        None,
+    ),
+    (
+        "table t { chain a { jump b; } }",
+        Some((Kind::UnknownChain, 1)),
+    ),
+    (
+        "table t { chain a { }\nchain a { } }",
+        Some((Kind::Duplicate, 2)),
+    ),
+    (
+        "table t { chain a { jump b; }\nchain b { goto a; } }",
+        Some((Kind::Loop, 1)),
+    ),
+    (
+        "table t { chain a { jump b; } chain b { jump c; } chain c { jump d; } chain d { jump e; } chain e { jump f; } chain f { jump g; } chain g { jump h; } chain h { jump i; } chain i { jump j; } chain j { jump k; } chain k { jump l; } chain l { jump m; } chain m { jump n; } chain n { jump o; } chain o { jump p; } chain p { jump q; } chain q { jump r; } chain r { } }",
+        Some((Kind::Depth, 1)),
+    ),
+    (
+        "table t { chain c { ct state vmap { new : drop,\nnew : drop }; } }",
+        Some((Kind::Overlap, 2)),
+    ),
+];
+
 // Each of these texts takes another way through the reader. Under `rt try --test --fail-alloc N` one growth is
 // refused: the answer is then `no-memory`, or that of the other runs.
 #[test]
@@ -111,33 +134,7 @@ fn each_growth(rt: HostRuntime) {
     let Ok(bounds) = bounds(alloc) else {
         return;
     };
-    let rows = [
-        (
-            "table t { set s { type inet_service; elements = { 80, 90-99 }; }\nchain c { type nat hook prerouting priority 0; ip protocol tcp tcp dport vmap { 22 : accept, 23 : goto d }; }\nchain d { tcp dport @s dnat to 192.168.0.2; } }",
-            None,
-        ),
-        (
-            "table t { chain a { jump b; } }",
-            Some((Kind::UnknownChain, 1)),
-        ),
-        (
-            "table t { chain a { }\nchain a { } }",
-            Some((Kind::Duplicate, 2)),
-        ),
-        (
-            "table t { chain a { jump b; }\nchain b { goto a; } }",
-            Some((Kind::Loop, 1)),
-        ),
-        (
-            "table t { chain a { jump b; } chain b { jump c; } chain c { jump d; } chain d { jump e; } chain e { jump f; } chain f { jump g; } chain g { jump h; } chain h { jump i; } chain i { jump j; } chain j { jump k; } chain k { jump l; } chain l { jump m; } chain m { jump n; } chain n { jump o; } chain o { jump p; } chain p { jump q; } chain q { jump r; } chain r { } }",
-            Some((Kind::Depth, 1)),
-        ),
-        (
-            "table t { chain c { ct state vmap { new : drop,\nnew : drop }; } }",
-            Some((Kind::Overlap, 2)),
-        ),
-    ];
-    for (text, wanted) in &rows {
+    for (text, wanted) in &GROWTHS {
         assert!(rt; is_right(alloc, &bounds, text, *wanted), "{text}");
     }
 }
