@@ -1,6 +1,7 @@
 //! What stands in the files, and the sessions that come back.
 use crate::shared::{ANSWERS, LINE, REQUESTS, SIDES, answered, fresh, opened};
-use commands::{Refusal, Sides, show};
+use commands::{Refusal, show};
+use options::Sides;
 use std::fs;
 use std::test::Fail;
 

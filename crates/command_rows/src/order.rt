@@ -1,7 +1,8 @@
 //! The order in which faults are found: the configuration, the file that a command names, the two files, the socket. And
 //! what is left where a command gives up.
 use crate::shared::{SIDES, fresh};
-use commands::{Opening, Options, Refusal, Sides, Stop, Task, Work, run};
+use commands::{Refusal, Stop, run};
+use options::{Opening, Options, Sides, Task, Work};
 use std::fs;
 use std::process::ExitCode;
 use std::test::Fail;

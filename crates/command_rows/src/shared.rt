@@ -1,7 +1,8 @@
 //! The requests of a first packet and their answers, and directories of a test.
-use commands::{Opening, Sides, Stop, bounds, open, replay};
+use commands::{Stop, bounds, open, replay};
 use file_disk::FileDisk;
 use gateway::Gateway;
+use options::{Opening, Sides};
 use std::fs;
 use std::test::Fail;
 

@@ -1,5 +1,6 @@
 //! Addresses, prefixes and configurations as they are spelled.
-use commands::{Refusal, Sides, address, bounds, number, prefix};
+use commands::{Refusal, address, bounds, number, prefix};
+use options::Sides;
 use packet::endpoint::Prefix;
 use std::alloc::Global;
 use std::test::*;

@@ -6,23 +6,11 @@ ghost use Rattle.commands.specs.Spelling.{IsNoConfig, SpellsAddress, SpellsNumbe
 
 use crate::{Refusal, Stop};
 use itoa::Buffer;
+use options::Sides;
 use packet::bounds::{Bounds, ConfigFault};
 use packet::endpoint::Prefix;
 use std::alloc::{AllocError, Global};
 use std::net::Ipv4Addr;
-
-/// What the gateway stands between, as it was written. Nothing of it is tested yet.
-#[derive(Clone, Copy, Debug, Drop)]
-pub struct Sides<'a> {
-    /// The name of the inside interface.
-    pub lan: &'a str,
-    /// The name of the outside interface.
-    pub wan: &'a str,
-    /// The inside prefixes, joined by commas.
-    pub inside: &'a str,
-    /// The external address.
-    pub external: &'a str,
-}
 
 /// A number of at most 255, without a sign or leading zeros.
 pub fn number(text: &str) -> Option<u8>

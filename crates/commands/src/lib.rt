@@ -1,4 +1,4 @@
-//! What the commands of `natgw` do: everything but the reading of the command line.
+//! What the commands of `natgw` do: everything but the reading of the command line, which is `command_line`'s.
 //!
 //! - `config`: addresses and prefixes as they are spelled, and the configuration made of them;
 //! - `refusal`: why a command gives up, in a word;
@@ -25,12 +25,12 @@ mod stop;
 
 pub use answering::{replay, settle};
 pub use checking::{Finding, check, report};
-pub use config::{Sides, address, bounds, number, prefix, prefixes};
+pub use config::{address, bounds, number, prefix, prefixes};
 pub(crate) use files::read_front;
-pub use opening::{Opening, open};
+pub use opening::open;
 pub use refusal::Refusal;
 pub(crate) use refusal::ends_program;
-pub use running::{Options, Task, Work, run};
+pub use running::run;
 pub use showing::show;
 pub use sockets::{bind, loop_back, serve_clients};
 pub use stop::{Stop, tell};

@@ -3,21 +3,13 @@ ghost use Rattle.std.specs.Prelude.{◌≡◌, IfErr};
 ghost use Rattle.commands.specs.Words.{IsOfFiles, IsOfPath};
 
 use crate::config::bounds;
-use crate::{Refusal, Sides, Stop};
+use crate::{Refusal, Stop};
 use diagnosis::diagnose;
 use file_disk::{FileDisk, OpenError};
 use gateway::{Gateway, OpenFault};
+use options::{Opening, Sides};
 use packet::bounds::Bounds;
 use std::alloc::Global;
-
-/// How a gateway opens.
-#[derive(Clone, Copy, Debug, Drop)]
-pub struct Opening<'a> {
-    /// The directory of its two files.
-    pub directory: &'a str,
-    /// The moment, in seconds.
-    pub moment: u64,
-}
 
 // Why the files of a directory can't be opened.
 fn unopened(alloc: Global, directory: &str, error: &OpenError) -> Stop

@@ -1,11 +1,12 @@
 //! The commands, put together.
-use crate::config::{Sides, bounds};
+use crate::config::bounds;
 use crate::files::read_file;
-use crate::opening::{Opening, open};
+use crate::opening::open;
 use crate::sockets::{bind, loop_back, serve_clients};
 use crate::{Refusal, Stop, check, replay, show};
 use disk_model::Disk;
 use gateway::Gateway;
+use options::{Opening, Options, Sides, Task, Work};
 use packet::bounds::Bounds;
 use rulesyntax::GREATEST_LENGTH;
 use std::alloc::Global;
@@ -19,55 +20,6 @@ const TEXT_LIMIT: u64 = GREATEST_LENGTH as u64;
 
 /// The most bytes of requests that `loop` sends.
 const LOOP_LIMIT: u64 = 2_048;
-
-/// A command with what it alone takes.
-#[derive(Clone, Copy, Debug, Drop)]
-pub enum Task<'a> {
-    /// Says whether the ruleset of this file would load.
-    Check {
-        /// The file.
-        path: &'a str,
-        /// Whether the place of a fault is shown.
-        explains: bool,
-    },
-    /// Has a gateway work.
-    Open {
-        /// How it opens.
-        opening: Opening<'a>,
-        /// What it does then.
-        work: Work<'a>,
-    },
-}
-
-/// What a gateway is opened for.
-#[derive(Clone, Copy, Debug, Drop)]
-pub enum Work<'a> {
-    /// It answers the requests of standard input.
-    Replay,
-    /// It serves the clients of a Unix socket, one after the other.
-    Serve {
-        /// The path of the socket.
-        socket: &'a str,
-        /// How many of them.
-        connections: u64,
-    },
-    /// It answers the requests of a file, through a Unix socket of its own.
-    Loop {
-        /// The file.
-        path: &'a str,
-    },
-    /// Its sessions are listed.
-    Show,
-}
-
-/// A command line that was read.
-#[derive(Clone, Copy, Debug, Drop)]
-pub struct Options<'a> {
-    /// The options that all commands have.
-    pub sides: Sides<'a>,
-    /// The command, and what it alone takes.
-    pub task: Task<'a>,
-}
 
 /// Runs a command, and gives the status of the program: 1 where `check` finds a fault in the text, otherwise 0.
 ///

@@ -1,4 +1,4 @@
-//! The program `natgw`: its command line. What the commands do stands in crate `commands`.
+//! The program `natgw`: the words of its command line go to crate `command_line`, and what they ask for to `commands`.
 //!
 //! - `natgw check FILE` says whether a ruleset would load;
 //! - `natgw replay` answers request frames on standard input by answer frames on standard output;
@@ -6,19 +6,11 @@
 //! - `natgw loop FILE` sends those of a file through a socket to itself;
 //! - `natgw show` lists the sessions that the files of a directory keep.
 //!
-//! The modules:
-//!
-//! - `options`: the command line;
-//! - `help`: what it says of itself.
-//!
 //! The status is 0; 1 where a command gives up, or `check` finds a fault; 2 where the command line can't be read.
 #![tactic(auto)]
 
-mod help;
-mod options;
-
+use command_line::{Parsed, parse};
 use commands::{Refusal, Stop, run, tell};
-use options::Parsed;
 use std::io::ErrorKind;
 use std::process::ExitCode;
 
@@ -48,7 +40,7 @@ fn start(rt: &HostRuntime) -> Result<ExitCode, Stop> {
         }
     };
     let words: Vec<String> = arguments.collect(alloc)?;
-    match options::parse(alloc, words.as_slice())? {
+    match parse(alloc, words.as_slice())? {
         Parsed::Run(options) => run(rt, &options),
         Parsed::Stopped(error) => match (error.print(rt), error.exit_code()) {
             (Err(_), 0) => Err(Stop::from(Refusal::Output)),

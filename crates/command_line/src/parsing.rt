@@ -1,8 +1,8 @@
-//! The command line: the words of the program become a command and its options, or clap's own answer.
+//! Which commands and options there are, and what the words of a command line come to.
 use crate::help;
 use clap::error::ErrorKind;
 use clap::{Arg, ArgAction, ArgMatches, Command, Error, value_parser};
-use commands::{Opening, Options, Sides, Task, Work};
+use options::{Opening, Options, Sides, Task, Work};
 use std::alloc::{AllocError, Global};
 
 /// What a command line comes to.

@@ -1,0 +1,74 @@
+//! What a command line asks for, as it was written: the options that all commands have, the command, and what it alone
+//! takes. Nothing of it is tested here. `command_line` makes it, and `commands` does what it says.
+#![tactic(auto)]
+
+/// A command line that was read.
+#[derive(Clone, Copy, Debug, Drop)]
+pub struct Options<'a> {
+    /// The options that all commands have.
+    pub sides: Sides<'a>,
+    /// The command, and what it alone takes.
+    pub task: Task<'a>,
+}
+
+/// What the gateway stands between, as it was written. Nothing of it is tested yet.
+#[derive(Clone, Copy, Debug, Drop)]
+pub struct Sides<'a> {
+    /// The name of the inside interface.
+    pub lan: &'a str,
+    /// The name of the outside interface.
+    pub wan: &'a str,
+    /// The inside prefixes, joined by commas.
+    pub inside: &'a str,
+    /// The external address.
+    pub external: &'a str,
+}
+
+/// A command with what it alone takes.
+#[derive(Clone, Copy, Debug, Drop)]
+pub enum Task<'a> {
+    /// Says whether the ruleset of this file would load.
+    Check {
+        /// The file.
+        path: &'a str,
+        /// Whether the place of a fault is shown.
+        explains: bool,
+    },
+    /// Has a gateway work.
+    Open {
+        /// How it opens.
+        opening: Opening<'a>,
+        /// What it does then.
+        work: Work<'a>,
+    },
+}
+
+/// How a gateway opens.
+#[derive(Clone, Copy, Debug, Drop)]
+pub struct Opening<'a> {
+    /// The directory of its two files.
+    pub directory: &'a str,
+    /// The moment, in seconds.
+    pub moment: u64,
+}
+
+/// What a gateway is opened for.
+#[derive(Clone, Copy, Debug, Drop)]
+pub enum Work<'a> {
+    /// It answers the requests of standard input.
+    Replay,
+    /// It serves the clients of a Unix socket, one after the other.
+    Serve {
+        /// The path of the socket.
+        socket: &'a str,
+        /// How many of them.
+        connections: u64,
+    },
+    /// It answers the requests of a file, through a Unix socket of its own.
+    Loop {
+        /// The file.
+        path: &'a str,
+    },
+    /// Its sessions are listed.
+    Show,
+}
