@@ -7,6 +7,7 @@
 //! - `streams`: streams of a few frames;
 //! - `each_call`: each read, write and call of the disk failing in turn;
 //! - `each_cut`: frames that are cut at each byte, and headers with one byte set to each value;
+//! - `many_flows`: so many flows that the edge looks ahead;
 //! - `turns`: what was asked is answered before more is read, and a file that has grown is made anew.
 #![tactic(auto)]
 
@@ -14,6 +15,8 @@
 mod each_call;
 #[cfg(test)]
 mod each_cut;
+#[cfg(test)]
+mod many_flows;
 #[cfg(test)]
 mod pieces;
 #[cfg(test)]

@@ -23,7 +23,7 @@ use crate::running::take_all;
 use crate::{GatewayFault, Given, OpenFault};
 use disk_model::Disk;
 use machine::laws::events_are_judged_once;
-use machine::{Answer, Core, Event, Iface, NoMemory, StepFault};
+use machine::{Answer, Coming, Core, Event, Iface, MOST_AHEAD, NoMemory, StepFault};
 use packet::bounds::Bounds;
 use sessions::Session;
 use snapshot::{CommitFault, CompactFault, Opened, Store};
@@ -317,6 +317,17 @@ impl<D: Disk + Drop> Gateway<D> {
         };
         self.last = number;
         Some((number, out))
+    }
+
+    /// Whether so many sessions have been held at once that it serves to look ahead.
+    pub fn is_wide(&self) -> bool {
+        self.core.is_wide()
+    }
+
+    /// How many of these packets seem to be of sessions that are held. It says nothing of what is: whoever asks before
+    /// the packets are offered waits once for the memory that they are going to need.
+    pub fn look_ahead(&self, coming: &[Coming; MOST_AHEAD]) -> usize {
+        self.core.look_ahead(coming)
     }
 
     /// Writes the entries of all held events as one group, syncs it, and hands out the held answers, in order, each with

@@ -21,5 +21,7 @@ pub mod running;
 pub use fault::GatewayFault;
 pub use gateway_core::Gateway;
 pub use given::Given;
-pub use machine::{Answer, Bytes, Cause, Event, Iface, NoMemory, Session, What};
+pub use machine::{
+    Answer, Bytes, Cause, Coming, Event, Iface, MOST_AHEAD, NoMemory, Session, What,
+};
 pub use snapshot::OpenFault;

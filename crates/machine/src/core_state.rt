@@ -38,10 +38,13 @@ use packet::endpoint::{Endpoint, Iface};
 use packet::rewriting::rewrite;
 use packet::route::Route;
 use packet::view::View;
-use sessions::Session;
+use sessions::{Coming, MOST_AHEAD, Session};
 use std::alloc::Global;
 use std::marker::Model;
 use verdict::Rules;
+
+// The slots whose sessions, with all that leads to them, are too many for near memory.
+const WIDE: usize = 4_096;
 
 /// The text that loaded last, and its rules.
 #[derive(Drop)]
@@ -162,7 +165,9 @@ fn plan_for(
     }
 }
 
-// How a packet with these fields leaves, where its session goes on and the first look tells it.
+// How a packet with these fields leaves, where its session goes on and the first look tells it. Compiled into its
+// callers, it needs no place for what it answers.
+#[inline(always)]
 fn glance(
     flows: &Flows,
     rules: &Rules,
@@ -182,6 +187,7 @@ fn glance(
 }
 
 // Sends a packet on, in place, by its session, which goes on.
+#[inline(always)]
 fn send_on(flows: &mut Flows, going: &Going, packet: &mut [u8], now: u64)
     requires read { IsOkAnd (fields packet.old) (λ view. 2 ≤ view.ttl) }
     requires latest { IsLatest flows.old.table.held now }
@@ -589,6 +595,17 @@ impl Core {
             }
             Err((what, fault)) => Err((Event { moment, what }, fault)),
         }
+    }
+
+    /// Whether so many sessions have been held at once that not all of them lie in near memory.
+    pub fn is_wide(&self) -> bool {
+        self.flows.table().slots() >= WIDE
+    }
+
+    /// How many of these packets seem to be of sessions that are held. It says nothing of what is: whoever asks before
+    /// the packets come waits once for the memory that their steps are going to read.
+    pub fn look_ahead(&self, coming: &[Coming; MOST_AHEAD]) -> usize {
+        self.flows.look_ahead(coming)
     }
 
     /// Translates in place a packet whose session goes on, as `step` does at this event, and says by which interface it

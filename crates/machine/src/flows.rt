@@ -25,7 +25,7 @@ use durable::Entry;
 use hairpin::translations::Translations;
 use hairpin::{Going, Plan};
 use packet::bounds::Bounds;
-use sessions::{Change, Opener, Session, Slot, Table};
+use sessions::{Change, Coming, MOST_AHEAD, Opener, Session, Slot, Table};
 use std::alloc::{AllocError, Global};
 use std::marker::Model;
 use timers::Due;
@@ -122,6 +122,11 @@ impl Flows {
         ensures { IfOk result (λ sessions. sessions.items ≡ listing self.now.table.held) }
     {
         self.table.list(alloc)
+    }
+
+    /// How many of these packets seem to be of sessions that are held. It says nothing of what is.
+    pub fn look_ahead(&self, coming: &[Coming; MOST_AHEAD]) -> usize {
+        self.due.look_ahead(&self.table.look_ahead(coming))
     }
 
     /// Makes room for two more sessions.

@@ -29,4 +29,4 @@ pub use event::{Answer, Event, NoMemory, What};
 pub use hairpin::Cause;
 pub use notes::{Notes, StepFault, Unkept};
 pub use packet::endpoint::Iface;
-pub use sessions::Session;
+pub use sessions::{Coming, MOST_AHEAD, Session};

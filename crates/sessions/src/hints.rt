@@ -1,9 +1,11 @@
 //! Guesses of where a session is held.
 use crate::Session;
+use crate::ahead::{Coming, MOST_AHEAD};
 use crate::table::MOST_SESSIONS;
 use packet::endpoint::{Endpoint, Proto};
 use slab::Slab;
 use std::alloc::Global;
+use std::simd::prelude::*;
 
 // A place holds a slot below this, which each slot of a table is, and in its higher bits some of those that
 // the endpoints say.
@@ -18,8 +20,8 @@ const WIDTH: usize = 8;
 // An odd number near 2^64 over the golden ratio, which spreads numbers that rise.
 const SPREAD: u64 = 0x9e37_79b9_7f4a_7c15;
 
-/// The slots that were put last, each in a bucket that some bits of its endpoints say, with some other bits of
-/// theirs.
+/// The slots that were put last, each in a bucket that some bits of its protocol, its port on either side and its remote
+/// endpoint say, with some other bits of theirs. Most mappings keep the port, so that one place serves both sides.
 ///
 /// The slot that was put into a bucket first loses its place to the next one, and one whose session has ended
 /// keeps its own, so that a slot from here may hold any session or none: whoever asks has to compare. Nothing
@@ -37,19 +39,21 @@ impl Hints {
         }
     }
 
-    /// A slot that may hold the session of this protocol, endpoint on either side and remote endpoint.
-    pub fn guess(&self, proto: Proto, near: Endpoint, remote: Endpoint) -> usize {
-        let mixed = mix(proto, near, remote);
-        let held = match self.buckets.get(self.bucket(mixed)) {
-            Some(bucket) => latest(bucket, tag(mixed)),
-            None => NOTHING,
-        };
-        (held % SLOTS) as usize
+    /// A slot that may hold the session of this protocol, port on either side and remote endpoint.
+    pub fn guess(&self, proto: Proto, port: u16, remote: Endpoint) -> usize {
+        self.guess_by(mix(proto, port, remote))
     }
 
-    /// Puts the slot of a session where it is looked for by this endpoint. This takes no memory.
-    pub fn put(&mut self, proto: Proto, near: Endpoint, remote: Endpoint, slot: usize) {
-        let mixed = mix(proto, near, remote);
+    /// As `guess`, of several packets. All that tells their buckets is known before the first one is read, so that they
+    /// are waited for together.
+    pub fn guess_all(&self, coming: &[Coming; MOST_AHEAD]) -> [usize; MOST_AHEAD] {
+        let mixed = coming.map(|it| mix(it.proto, it.port, it.remote));
+        mixed.map(|it| self.guess_by(it))
+    }
+
+    /// Puts the slot of a session where it is looked for by this port. This takes no memory.
+    pub fn put(&mut self, proto: Proto, port: u16, remote: Endpoint, slot: usize) {
+        let mixed = mix(proto, port, remote);
         let number = self.bucket(mixed);
         let Ok(slot) = u32::try_from(slot) else {
             return;
@@ -59,12 +63,12 @@ impl Hints {
         }
     }
 
-    /// Puts both guesses of a session, which are one where it isn't translated.
+    /// Puts both guesses of a session, which are one where its outside port is its inside one.
     pub fn put_both(&mut self, session: &Session, slot: usize) {
         let (proto, remote) = (session.proto, session.remote);
-        self.put(proto, session.inside, remote, slot);
-        if session.outside != session.inside {
-            self.put(proto, session.outside, remote, slot);
+        self.put(proto, session.inside.port, remote, slot);
+        if session.outside.port != session.inside.port {
+            self.put(proto, session.outside.port, remote, slot);
         }
     }
 
@@ -100,6 +104,14 @@ impl Hints {
         }
     }
 
+    fn guess_by(&self, mixed: u64) -> usize {
+        let held = match self.buckets.get(self.bucket(mixed)) {
+            Some(bucket) => latest(bucket, tag(mixed)),
+            None => NOTHING,
+        };
+        (held % SLOTS) as usize
+    }
+
     fn bucket(&self, mixed: u64) -> usize {
         (mixed >> 32) as usize & self.buckets.len().saturating_sub(1)
     }
@@ -107,24 +119,22 @@ impl Hints {
 
 // The place with this tag that was put last.
 fn latest(bucket: &[u32; 8], tag: u32) -> u32 {
-    let mut found = NOTHING;
-    for held in bucket {
-        if *held / SLOTS == tag / SLOTS {
-            found = *held;
-        }
+    let tags = u32x8::from_array(*bucket) & u32x8::splat(!(SLOTS - 1));
+    match tags.simd_eq(u32x8::splat(tag)).first_set() {
+        Some(at) if at < WIDTH => bucket[at],
+        _ => NOTHING,
     }
-    found
 }
 
-// Puts a place behind the others, of which the first is forgotten.
+// Puts a place before the others, of which the last is forgotten.
 fn push(bucket: &mut [u32; 8], place: u32) {
-    let [_, b, c, d, e, f, g, h] = *bucket;
-    *bucket = [b, c, d, e, f, g, h, place];
+    let [a, b, c, d, e, f, g, _] = *bucket;
+    *bucket = [place, a, b, c, d, e, f, g];
 }
 
-// A number that all bits of the endpoints have a part in, most of all in its high bits.
-fn mix(proto: Proto, near: Endpoint, remote: Endpoint) -> u64 {
-    let front = number_of(near).wrapping_add(proto.number() as u64);
+// A number that all bits of the protocol, the port and the endpoint have a part in, most of all in its high bits.
+fn mix(proto: Proto, port: u16, remote: Endpoint) -> u64 {
+    let front = port as u64 * 256 + proto.number() as u64;
     front
         .wrapping_mul(SPREAD)
         .wrapping_add(number_of(remote))

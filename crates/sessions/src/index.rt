@@ -158,7 +158,7 @@ pub fn guess_inside(
 ) -> Option<usize>
     ensures { IfSome result (IsAt sessions.now.slots (HasInside proto inside remote)) }
 {
-    let slot = index.hints.guess(proto, inside, remote);
+    let slot = index.hints.guess(proto, inside.port, remote);
     if is_inside(sessions, slot, proto, inside, remote) {
         return Some(slot);
     }
@@ -214,7 +214,7 @@ pub fn guess_outside(
 ) -> Option<usize>
     ensures { IfSome result (IsAt sessions.now.slots (HasOutside proto outside remote)) }
 {
-    let slot = index.hints.guess(proto, outside, remote);
+    let slot = index.hints.guess(proto, outside.port, remote);
     if is_outside(sessions, slot, proto, outside, remote) {
         return Some(slot);
     }

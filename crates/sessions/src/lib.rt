@@ -8,10 +8,12 @@
 //! - `translated`: how those of them that are translated are found, by their mappings
 //! - `listing`: the sessions in order
 //! - `hints`: guesses of slots, which are looked at first
+//! - `ahead`: the guesses for several packets that come next
 //! - `keys`: the numbers that sessions and mappings are found by
 //! - `laws`: what the definitions promise, as functions that do nothing
 #![tactic(auto)]
 
+mod ahead;
 mod hints;
 mod index;
 mod keys;
@@ -22,6 +24,7 @@ mod session;
 mod table;
 mod translated;
 
+pub use ahead::{Coming, MOST_AHEAD};
 pub use laws::{
     clashes_tells_clash, listing_is_the_set, mappings_are_one_to_one, moments_do_not_count,
     restarted_awaits_reply,

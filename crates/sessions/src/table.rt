@@ -6,6 +6,7 @@ ghost use Rattle.sessions.specs.Life.{IsSeen};
 ghost use Rattle.sessions.specs.Listing.{listing};
 ghost use Rattle.sessions.specs.Table.{at, count, most_sessions, Updates, HasInside, HasOutside, Clash, ClashesWith, AnyClash, IsSound, amended, seen as seen_with, restarted};
 
+use crate::ahead::{Coming, MOST_AHEAD, guess_all};
 use crate::hints::Hints;
 use crate::index::{Index, clashes, find_inside, find_outside, guess_inside, guess_outside};
 use crate::keys::has_endpoints;
@@ -177,6 +178,13 @@ impl Table {
     {
         let slot = guess_outside(&self.sessions, &self.index, proto, outside, remote)?;
         Some(Slot(slot))
+    }
+
+    /// The numbers of the slots that seem to hold the sessions of these packets, each where its packet stands, and
+    /// numbers that no slot has where a first look doesn't tell. They say nothing of what is held: whoever asks for
+    /// several packets at once waits once for the memory that their look-ups are going to read.
+    pub fn look_ahead(&self, coming: &[Coming; MOST_AHEAD]) -> [usize; MOST_AHEAD] {
+        guess_all(&self.sessions, &self.index.hints, coming)
     }
 
     /// Whether the session clashes with one that is held: it shares protocol, remote endpoint and one more

@@ -8,6 +8,7 @@
 //! - `edge`: the run, one read after the other;
 //! - `waiting`: the bytes that were read and aren't answered yet, and the answers in front of them;
 //! - `forwarding`: a packet that leaves in the bytes of its request;
+//! - `ahead`: among many sessions, a look at the next packets before they are taken;
 //! - `serving`: all whole frames at the front, offered in order;
 //! - `request`: what stands at the front of the bytes: a whole frame, a part of one, or a fault;
 //! - `sending`: the frames of the answers, written with or without memory for them in one piece;
@@ -16,6 +17,7 @@
 //! - `fault`: why a run ends early.
 #![tactic(auto)]
 
+mod ahead;
 mod answer;
 mod edge;
 mod fault;

@@ -7,6 +7,7 @@ ghost use Rattle.socket_edge.specs.Answering.{frames};
 ghost use Rattle.socket_edge.specs.Running.{CarriesBehind, BreaksBehind, Stepped, Offered, Closed};
 ghost use Rattle.socket_edge.specs.Running.{GoesOn, end_of};
 
+use crate::ahead::Ahead;
 use crate::fault::{EdgeFault, HeaderFault};
 use crate::request::{Taken, take_frame};
 use crate::waiting::Waiting;
@@ -253,8 +254,10 @@ pub fn offer_all<D: Disk + Drop>(
     // A packet that is asked for where it lies, and doesn't leave, is read twice: so none is asked for behind several
     // such, until the next one leaves.
     let mut misses: usize = 0;
+    let mut ahead = Ahead::none();
     loop {
-        let hopeful = misses < MOST_MISSES;
+        ahead = ahead.next(waiting.pending(), gateway);
+        let hopeful = ahead.is_known() && misses < MOST_MISSES;
         match offer_next(alloc, hopeful, waiting, answers, bodies, gateway) {
             Step::Took(forwarded) => {
                 prove!(count < most);

@@ -4,10 +4,11 @@ ghost use Rattle.sessions.specs.Life.{IsTimeout};
 ghost use Rattle.timers.specs.Due.{at, Updates, IsLatest, IsNoneOver, IsOver, AreDue};
 ghost use Rattle.timers.specs.Links.{IsRow};
 
+use crate::ahead::count_joined;
 use crate::cell::Cell;
 use crate::links::{append, cut, grow, grow_past, renew};
 use crate::walk::slots_over;
-use sessions::Slot;
+use sessions::{MOST_AHEAD, Slot};
 use std::alloc::{AllocError, Global};
 use std::marker::Model;
 
@@ -110,6 +111,12 @@ impl Due {
         ensures ready { self.new.ready ≡ self.old.ready }
     {
         cut(&mut self.links, slot);
+    }
+
+    /// How many of the slots of these numbers seem to be watched. It says nothing of what is: whoever asks for several
+    /// slots at once waits once for the memory that `touch` is going to read.
+    pub fn look_ahead(&self, slots: &[usize; MOST_AHEAD]) -> usize {
+        count_joined(&self.links, slots)
     }
 
     /// The slots of the sessions that are alive no longer at this second, each once, in any order. They

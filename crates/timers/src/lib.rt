@@ -11,12 +11,14 @@
 //! - `links`: the queues, in one row of links by slot numbers
 //! - `cell`: a link as the row keeps it
 //! - `walk`: the first ones of a queue, as far as they are over
+//! - `ahead`: what touches of several slots would read
 //! - `laws`: that a session is over exactly where it isn't alive
 //! - `specs/Due`: the idle times, as contracts see them
 //!
 //! The crate stores slots that a table of sessions gave, and makes none of its own.
 #![tactic(auto)]
 
+mod ahead;
 mod cell;
 mod due;
 mod laws;

@@ -9,8 +9,8 @@ use Rattle.socket_edge.proofs.Fronts.{next_shorter}
 use Rattle.socket_edge.proofs.Loops.{SoFar, SoFar-first, SoFar-next, SoFar-ends}
 use Rattle.socket_edge.proofs.serving.offer_all.Goals as goal
 
-pub loop-forwarded-init : goal.loop-forwarded-init
-loop-forwarded-init g c = (
+pub loop-hopeful-init : goal.loop-hopeful-init
+loop-hopeful-init g c = (
   [],
   sym (append-nil c.args.waiting.now.answered),
   SoFar-first g.D.Disk.honest g.D.Disk.moment g.D.Disk.left g.D.Disk.failed c.args.gateway.now c.args.waiting.now.pending c.args.answers.now.items,
@@ -19,16 +19,16 @@ loop-forwarded-init g c = (
   ap length c.pending-most.ensures,
 )
 
-pub loop-forwarded-preserved : goal.loop-forwarded-preserved
-loop-forwarded-preserved g c =
-    let i = c.loop-forwarded.invariant in
+pub loop-hopeful-preserved : goal.loop-hopeful-preserved
+loop-hopeful-preserved g c =
+    let i = c.loop-hopeful.invariant in
     let t = c.in-Took.ensures.step in
     let items = c.offer_next.new.answers.items in
-    let on = SoFar-next g.D.Disk.honest g.D.Disk.moment g.D.Disk.left g.D.Disk.failed c.args.gateway.now c.loop-forwarded.gateway c.offer_next.new.gateway c.args.waiting.now.pending c.loop-forwarded.waiting.pending c.offer_next.new.waiting.pending
-    c.loop-forwarded.count c.args.answers.now.items (i.0 ++ c.loop-forwarded.answers.items) (i.0 ++ (t.0 ++ items)) c.in-Took.forwarded i.2 (t.2 i.0) in (
+    let on = SoFar-next g.D.Disk.honest g.D.Disk.moment g.D.Disk.left g.D.Disk.failed c.args.gateway.now c.loop-hopeful.gateway c.offer_next.new.gateway c.args.waiting.now.pending c.loop-hopeful.waiting.pending c.offer_next.new.waiting.pending
+    c.loop-hopeful.count c.args.answers.now.items (i.0 ++ c.loop-hopeful.answers.items) (i.0 ++ (t.0 ++ items)) c.in-Took.forwarded i.2 (t.2 i.0) in (
       i.0 ++ t.0,
       t.1 ∙ ap (λ (x : List ℕ). x ++ frames t.0) i.1 ∙ frames-append c.args.waiting.now.answered i.0 t.0,
-      subst (λ (out : List (ℕ × Answer)). SoFar g.D.Disk.honest g.D.Disk.moment g.D.Disk.left g.D.Disk.failed c.args.gateway.now c.offer_next.new.gateway c.args.waiting.now.pending c.offer_next.new.waiting.pending (c.loop-forwarded.count + 1) c.args.answers.now.items out)
+      subst (λ (out : List (ℕ × Answer)). SoFar g.D.Disk.honest g.D.Disk.moment g.D.Disk.left g.D.Disk.failed c.args.gateway.now c.offer_next.new.gateway c.args.waiting.now.pending c.offer_next.new.waiting.pending (c.loop-hopeful.count + 1) c.args.answers.now.items out)
           (sym (append_assoc i.0 t.0 items)) on,
       c.in-Took.ensures.stands tt,
       c.in-Took.ensures.room,
@@ -37,30 +37,30 @@ loop-forwarded-preserved g c =
 
 pub prove-unreachable-requires : goal.prove-unreachable-requires
 prove-unreachable-requires g c =
-    let i = c.loop-forwarded.invariant in
+    let i = c.loop-hopeful.invariant in
     let t = c.in-Took.ensures.step.2 i.0 in
-    let shorter = next_shorter c.loop-forwarded.waiting.pending t.0 c.offer_next.new.waiting.pending t.1 in
+    let shorter = next_shorter c.loop-hopeful.waiting.pending t.0 c.offer_next.new.waiting.pending t.1 in
     let few = i.2.few in
     let most = ap length c.pending-most.ensures in
-    let less : c.loop-forwarded.count < length c.pending-most.result.now = omega (arith, shorter, few, most) in
+    let less : c.loop-hopeful.count < length c.pending-most.result.now = omega (arith, shorter, few, most) in
     let other = c.if-prove.true in
     grind (arith, common_steps)
 
-pub loop-forwarded-smaller : goal.loop-forwarded-smaller
-loop-forwarded-smaller g c =
-    let t = c.in-Took.ensures.step.2 c.loop-forwarded.invariant.0 in
-    next_shorter c.loop-forwarded.waiting.pending t.0 c.offer_next.new.waiting.pending t.1
+pub loop-hopeful-smaller : goal.loop-hopeful-smaller
+loop-hopeful-smaller g c =
+    let t = c.in-Took.ensures.step.2 c.loop-hopeful.invariant.0 in
+    next_shorter c.loop-hopeful.waiting.pending t.0 c.offer_next.new.waiting.pending t.1
 
 pub returns-in-Ends-clause-offered : goal.returns-in-Ends-clause-offered
 returns-in-Ends-clause-offered g c =
-    let i = c.loop-forwarded.invariant in
+    let i = c.loop-hopeful.invariant in
     let t = c.in-Ends.ensures.step in
     let items = c.offer_next.new.answers.items in
     let last = c.offer_next.new.waiting.pending in
-    let ends = SoFar-ends g.D.Disk.honest g.D.Disk.moment g.D.Disk.left g.D.Disk.failed c.args.gateway.now c.loop-forwarded.gateway c.offer_next.new.gateway c.args.waiting.now.pending c.loop-forwarded.waiting.pending last c.loop-forwarded.count
-    c.args.answers.now.items (i.0 ++ c.loop-forwarded.answers.items) (i.0 ++ (t.0 ++ items)) c.in-Ends.halt i.2 (t.2 i.0) in (
+    let ends = SoFar-ends g.D.Disk.honest g.D.Disk.moment g.D.Disk.left g.D.Disk.failed c.args.gateway.now c.loop-hopeful.gateway c.offer_next.new.gateway c.args.waiting.now.pending c.loop-hopeful.waiting.pending last c.loop-hopeful.count
+    c.args.answers.now.items (i.0 ++ c.loop-hopeful.answers.items) (i.0 ++ (t.0 ++ items)) c.in-Ends.halt i.2 (t.2 i.0) in (
       i.0 ++ t.0,
       t.1 ∙ ap (λ (x : List ℕ). x ++ frames t.0) i.1 ∙ frames-append c.args.waiting.now.answered i.0 t.0,
-      subst (λ (out : List (ℕ × Answer)). Offered g.D.Disk.honest g.D.Disk.moment g.D.Disk.left g.D.Disk.failed c.in-Ends.halt c.args.waiting.now.pending last c.loop-forwarded.count c.args.gateway.now c.offer_next.new.gateway
+      subst (λ (out : List (ℕ × Answer)). Offered g.D.Disk.honest g.D.Disk.moment g.D.Disk.left g.D.Disk.failed c.in-Ends.halt c.args.waiting.now.pending last c.loop-hopeful.count c.args.gateway.now c.offer_next.new.gateway
           c.args.answers.now.items out) (sym (append_assoc i.0 t.0 items)) ends,
     )

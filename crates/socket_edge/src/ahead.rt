@@ -1,0 +1,154 @@
+//! Looking ahead: among many sessions, the memory that the next packets' look-ups are going to read is asked for before
+//! they are taken, for several of them at once. Nothing rests on it but time.
+ghost use Rattle.std.specs.Prelude.{◌≡◌, length};
+
+use crate::request::{Head, Kind, read_head};
+use byteorder::{BigEndian, ByteOrder};
+use disk_model::Disk;
+use gateway::{Coming, Gateway, Iface, MOST_AHEAD};
+use packet::endpoint::{Endpoint, Proto};
+
+/// Where fewer of the packets at the front than this come from another flow than the one before, their sessions are near.
+const FEW_APART: usize = 8;
+
+/// For so many frames behind the next one it isn't looked ahead then.
+const NEAR_FRAMES: usize = 128;
+
+/// The bytes of a packet up to its ports and with them, where it has no options.
+const WITH_PORTS: usize = 24;
+
+/// By what the session of no packet is looked for.
+const NOTHING: Coming = Coming {
+    proto: Proto::Udp,
+    port: 0,
+    remote: Endpoint { addr: 0, port: 0 },
+};
+
+/// What a look ahead told.
+#[derive(Clone, Copy, Drop)]
+pub struct Ahead {
+    /// Behind the next frame, for so many more there is no look ahead.
+    frames: usize,
+    /// Whether a session of any of their packets seems to be held.
+    known: bool,
+}
+
+impl Ahead {
+    /// What is told where it wasn't looked ahead yet.
+    pub fn none() -> Ahead {
+        unasked(0)
+    }
+
+    /// What is told before the frame at the front is offered: as before, or looked for anew.
+    pub fn next<D: Disk + Drop>(self, bytes: &[u8], gateway: &Gateway<D>) -> Ahead {
+        match self.frames.checked_sub(1) {
+            Some(frames) => Ahead { frames, ..self },
+            None => look_ahead(bytes, gateway),
+        }
+    }
+
+    /// Whether a session of the next packets seems to be held.
+    pub fn is_known(self) -> bool {
+        self.known
+    }
+}
+
+// Looks ahead for the whole frames at the front, 16 at most.
+fn look_ahead<D: Disk + Drop>(bytes: &[u8], gateway: &Gateway<D>) -> Ahead {
+    if !gateway.is_wide() {
+        return unasked(NEAR_FRAMES);
+    }
+    let mut coming = [NOTHING; MOST_AHEAD];
+    let count = fill(&mut coming, bytes);
+    let frames = count.saturating_sub(1);
+    if count_apart(&coming) >= FEW_APART {
+        return Ahead {
+            frames,
+            known: gateway.look_ahead(&coming) > 0,
+        };
+    }
+    // Fewer packets than it looks ahead for tell nothing of those behind them.
+    unasked(if count < MOST_AHEAD {
+        frames
+    } else {
+        NEAR_FRAMES
+    })
+}
+
+// What is told where the gateway isn't asked.
+fn unasked(frames: usize) -> Ahead {
+    Ahead {
+        frames,
+        known: true,
+    }
+}
+
+// Puts down by what the packets at the front are looked for, as far as there are whole frames of packets. Answers how
+// many it put.
+fn fill(coming: &mut [Coming; MOST_AHEAD], bytes: &[u8]) -> usize {
+    let (mut rest, mut count) = (bytes, 0usize);
+    for place in coming.iter_mut() {
+        let Some((iface, packet, behind)) = next_packet(rest) else {
+            break;
+        };
+        *place = coming_by(iface, packet);
+        rest = behind;
+        count = count.saturating_add(1);
+    }
+    count
+}
+
+// The packet of the frame at the front, the interface that it comes from, and the bytes behind it.
+fn next_packet(bytes: &[u8]) -> Option<(Iface, &[u8], &[u8])> {
+    let Head::Frame(Kind::Packet(iface), _, len) = read_head(bytes) else {
+        return None;
+    };
+    let len = 14 + len as usize;
+    if bytes.len() < len {
+        return None;
+    }
+    let (frame, behind) = bytes.split_at(len);
+    Some((iface, &frame[14..], behind))
+}
+
+// By what the session of a packet is looked for, if it has no options (RFC 791, section 3.1).
+fn coming_by(iface: Iface, packet: &[u8]) -> Coming {
+    if packet.len() < WITH_PORTS {
+        return NOTHING;
+    }
+    let proto = if packet[9] == 6 {
+        Proto::Tcp
+    } else {
+        Proto::Udp
+    };
+    let (src, dst) = (&packet[12..16], &packet[16..20]);
+    let (src_port, dst_port) = (&packet[20..22], &packet[22..24]);
+    match iface {
+        Iface::Lan => of_bytes(proto, src_port, dst, dst_port),
+        Iface::Wan => of_bytes(proto, dst_port, src, src_port),
+    }
+}
+
+// The same, by the bytes of the port on the near side, and of the address and port on the other.
+fn of_bytes(proto: Proto, near_port: &[u8], addr: &[u8], port: &[u8]) -> Coming
+    requires near_port { length near_port.now ≡ 2 }
+    requires addr { length addr.now ≡ 4 }
+    requires port { length port.now ≡ 2 }
+{
+    Coming {
+        proto,
+        port: BigEndian::read_u16(near_port),
+        remote: Endpoint {
+            addr: BigEndian::read_u32(addr),
+            port: BigEndian::read_u16(port),
+        },
+    }
+}
+
+// How many of them are of another flow than the one before.
+fn count_apart(coming: &[Coming]) -> usize {
+    coming
+        .windows(2)
+        .filter(|pair| pair[0].port != pair[1].port || pair[0].remote != pair[1].remote)
+        .count()
+}
