@@ -5,7 +5,8 @@
 //! - `words`: events, answers and sessions as lines of text; `script`: lines that are played;
 //! - `held_rows`: answers that are held; `opening`: what an opening finds; `stop_rows`: losses of power in a flush;
 //!   `faults`: each refusal, and what stays; `growth`: compaction, and runs; `each_stop`: a long script, stopped or failing
-//!   at each call of the disk; `each_growth`: memory that is refused; `each_cut`: texts that are cut, and texts at a limit.
+//!   at each call of the disk; `each_growth`: memory that is refused; `each_cut`: texts that are cut, and texts at a limit;
+//!   `full_table`: a core with as many sessions as there can be, which takes some twenty seconds.
 #![tactic(auto)]
 
 #[cfg(test)]
@@ -16,6 +17,8 @@ mod each_growth;
 mod each_stop;
 #[cfg(test)]
 mod faults;
+#[cfg(test)]
+mod full_table;
 #[cfg(test)]
 mod growth;
 #[cfg(test)]

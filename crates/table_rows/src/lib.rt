@@ -6,6 +6,7 @@
 //! - `unordered`: entries in no order (`buckets`);
 //! - `members`: sets of values and maps to verdicts (`sets`);
 //! - `living`: the table of sessions (`sessions`);
+//! - `many`: as many sessions as a table holds, in turned orders;
 //! - `idle`: the sessions that are over (`timers`);
 //! - `ports`: the ports of an external address (`portpick`);
 //! - `lines`: sessions as lines of text (`session_lines`).
@@ -17,6 +18,8 @@ mod idle;
 mod lines;
 #[cfg(test)]
 mod living;
+#[cfg(test)]
+mod many;
 #[cfg(test)]
 mod members;
 #[cfg(test)]

@@ -1,5 +1,0 @@
-//! As many sessions as a table holds, in turned orders: no code but a test.
-#![tactic(auto)]
-
-#[cfg(test)]
-mod tests;
