@@ -2,11 +2,14 @@
 //!
 //! The rows stand above the crates that they try, so that each of these is proved once, without them.
 //!
+//! - `beside`: what drawn rulesets come to, beside an evaluation of their rules one by one (`verdict`);
 //! - `hooks`: the verdicts of the three hooks (`verdict`);
 //! - `legs`: plans and causes before any session has begun (`hairpin`);
 //! - `marks`: the place of a fault in a ruleset's text (`text_marks`).
 #![tactic(auto)]
 
+#[cfg(test)]
+mod beside;
 #[cfg(test)]
 mod hooks;
 #[cfg(test)]

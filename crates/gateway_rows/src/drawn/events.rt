@@ -1,5 +1,5 @@
 //! Numbers that are drawn from a seed, and what each of them stands for.
-use crate::packets::{Peer, tcp, udp};
+use crate::drawn::packets::{Peer, tcp, udp};
 use gateway::{Bytes, Event, Iface, What};
 use std::alloc::Global;
 use std::test::Fail;

@@ -1,6 +1,6 @@
 //! The gateway over a disk that is stopped, or fails, at each of its calls, and opened again.
-use crate::drawn::{EVENTS, Next, Number, behind, event, numbers};
-use crate::model::{Lasting, Model, bounds, is_same, run_of_machine};
+use crate::drawn::events::{EVENTS, Next, Number, behind, event, numbers};
+use crate::drawn::model::{Lasting, Model, bounds, is_same, run_of_machine};
 use gateway::{Answer, Bytes, Event, Gateway, GatewayFault, Given, OpenFault, What};
 use packet::bounds::Bounds;
 use std::alloc::Global;

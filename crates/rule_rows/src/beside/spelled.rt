@@ -1,5 +1,5 @@
 //! The text of a drawn ruleset.
-use crate::drawn::{Head, Rule, Ruleset, Side, Test, Verdict};
+use crate::beside::drawn::{Head, Rule, Ruleset, Side, Test, Verdict};
 use std::alloc::{AllocError, Global};
 
 fn is_address(head: Head) -> bool {

@@ -1,9 +1,9 @@
 //! Each cause of a drop, from each interface where it can come, and the earlier of two causes.
 //!
 //! Causes 14, which is never answered, and 20, which takes 65,536 sessions, are left out.
-use crate::first_frame::all_taken;
-use crate::script::play;
-use crate::shared::{FIRST, MASQUERADE};
+use crate::worked::first_frame::all_taken;
+use crate::worked::script::play;
+use crate::worked::shared::{FIRST, MASQUERADE};
 use std::alloc::Global;
 use std::test::Fail;
 

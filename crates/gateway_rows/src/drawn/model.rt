@@ -1,5 +1,5 @@
 //! What the machine in memory answers to drawn events, and what must survive behind each of them.
-use crate::drawn::{Number, event};
+use crate::drawn::events::{Number, event};
 use gateway::{Answer, Session};
 use machine::Core;
 use packet::bounds::Bounds;

@@ -1,6 +1,6 @@
 //! Rulesets that load and that are refused, and streams that end early.
-use crate::script::{expect_end, play};
-use crate::shared::{FIRST, MASQUERADE};
+use crate::worked::script::{expect_end, play};
+use crate::worked::shared::{FIRST, MASQUERADE};
 use socket_edge::EdgeFault;
 use std::alloc::Global;
 use std::test::Fail;

@@ -1,5 +1,5 @@
 //! The rules as they were drawn, one by one.
-use crate::drawn::{Head, Packet, Rule, Ruleset, Side, Test, Verdict};
+use crate::beside::drawn::{Head, Packet, Rule, Ruleset, Side, Test, Verdict};
 
 // The number that is asked for, where the packet is of the protocol that the head demands.
 fn asked(head: Head, packet: Packet) -> Option<u32> {

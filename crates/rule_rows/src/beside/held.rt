@@ -1,7 +1,7 @@
 //! Verdicts beside those of the plain rules.
-use crate::drawn::{Draw, Packet, Ruleset};
-use crate::plain::passes;
-use crate::spelled::text;
+use crate::beside::drawn::{Draw, Packet, Ruleset};
+use crate::beside::plain::passes;
+use crate::beside::spelled::text;
 use packet::bounds::{Bounds, ConfigFault};
 use packet::endpoint::{Endpoint, Iface, Prefix, Proto};
 use rulesyntax::fault::LoadFault;

@@ -1,6 +1,6 @@
 //! Packets that come in, and packets from inside to the external address.
-use crate::script::play;
-use crate::shared::{FIRST, MASQUERADE};
+use crate::worked::script::play;
+use crate::worked::shared::{FIRST, MASQUERADE};
 use std::test::Fail;
 
 const UNMAPPED: &str = "\

@@ -1,6 +1,6 @@
 //! How sessions open, close and end.
-use crate::script::play;
-use crate::shared::{FIRST, MASQUERADE};
+use crate::worked::script::play;
+use crate::worked::shared::{FIRST, MASQUERADE};
 use std::test::Fail;
 
 const RESET: &str = "\

@@ -1,6 +1,6 @@
 //! Packets that go out, and packets that are dropped.
-use crate::script::play;
-use crate::shared::{FIRST, MASQUERADE};
+use crate::worked::script::play;
+use crate::worked::shared::{FIRST, MASQUERADE};
 use std::alloc::Global;
 use std::test::Fail;
 
