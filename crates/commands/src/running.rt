@@ -81,7 +81,9 @@ fn run_opened(
     requests: &[u8],
 ) -> Result<(), Stop> {
     let mut gateway = open(rt, sides, bounds, opening)?;
-    work_on(rt, opening.directory, work, requests, &mut gateway)
+    let worked = work_on(rt, opening.directory, work, requests, &mut gateway);
+    drop(gateway);
+    worked
 }
 
 // Has a gateway work; for `loop` the requests are these.

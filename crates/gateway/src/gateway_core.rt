@@ -205,7 +205,8 @@ impl<D: Disk + Drop> Gateway<D> {
     pub fn into_disk(self) -> D
         ensures { result ≡ self.disk }
     {
-        let Gateway { store, .. } = self;
+        let Gateway { core, store, .. } = self;
+        drop(core);
         store.into_disk()
     }
 
@@ -501,10 +502,13 @@ fn begin(
     ensures state { IfOk result (λ r. IsRestarted bounds (durable text.items sessions.now) moment r.0.state) }
     ensures pending { IfOk result (λ r. r.1 ≡ record { held = []; entries = []; place = place; granted = 0 }) }
 {
-    let core = Core::resume(alloc, bounds, text, sessions, moment)?;
-    match Pending::new(alloc, place) {
-        Ok(pending) => Ok((core, pending)),
-        Err(_) => Err(NoMemory),
+    // The core comes last, so that no way out of here lets one go.
+    let Ok(pending) = Pending::new(alloc, place) else {
+        return Err(NoMemory);
+    };
+    match Core::resume(alloc, bounds, text, sessions, moment) {
+        Ok(core) => Ok((core, pending)),
+        Err(fault) => Err(fault),
     }
 }
 

@@ -83,10 +83,17 @@ impl Flows {
     {
         let mut flows = Flows::new(alloc, bounds.external())?;
         for session in sessions {
-            flows.place(Session {
+            let moved = Session {
                 last: moment,
                 ..*session
-            })?;
+            };
+            match flows.place(moved) {
+                Ok(()) => {}
+                Err(fault) => {
+                    drop(flows);
+                    return Err(fault);
+                }
+            }
         }
         Ok(flows)
     }

@@ -16,5 +16,3 @@
 
 mod index;
 pub mod map;
-#[cfg(test)]
-mod tests;

@@ -32,8 +32,8 @@ loop-session-preserved c =
     let before = c.loop-session.invariant in
     let are = subst (ArePlaced c.args.moment all held) (drop_more all i nobody c.loop-session-test.true) before.placed in
     record {
-      placed = placed-next c.args.bounds.now c.args.moment all c.requires held (get_or all i nobody) (drop (i + 1) all) are c.place.new.self.table.held c.in_ok-place.ensures.placed;
-      external = c.in_ok-place.ensures.external ∙ before.external;
+      placed = placed-next c.args.bounds.now c.args.moment all c.requires held (get_or all i nobody) (drop (i + 1) all) are c.place.new.self.table.held c.in-Ok.ensures.placed;
+      external = c.in-Ok.ensures.external ∙ before.external;
     }
 
 pub returns-clause-sessions : goal.returns-clause-sessions

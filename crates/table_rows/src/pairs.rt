@@ -1,8 +1,9 @@
+//! A mapping that is held twice, and is gone with its last hold.
 ghost use Rattle.std.specs.Prelude.{◌≡◌, ◌+◌, ◌<◌, IfOk};
 ghost use Rattle.mappings.specs.declared.map.Pair.{Pair as Mapping};
 ghost use Rattle.mappings.specs.Map.{times, one_at, KeepsOneToOne};
 
-use crate::map::{Map, Pair};
+use mappings::map::{Map, Pair};
 use packet::endpoint::{Endpoint, Proto};
 use std::alloc::AllocError;
 use std::process::Abort;

@@ -3,7 +3,7 @@ use Rattle.packet.specs.declared.endpoint.Proto.TheVariants.{Udp}
 use Rattle.mappings.specs.declared.map.Pair.{Pair}
 use Rattle.mappings.specs.Map.{times, pair, one_at}
 use Rattle.mappings.proofs.Times.{keeps-held, one_at-itself}
-use Rattle.mappings.proofs.tests.pair_goes_with_its_last_hold.Goals as goal
+use Rattle.table_rows.proofs.pairs.pair_goes_with_its_last_hold.Goals as goal
 
 pub hold-requires-2-clause-one_to_one : goal.hold-requires-2-clause-one_to_one
 hold-requires-2-clause-one_to_one g c =
