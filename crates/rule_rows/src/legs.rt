@@ -52,27 +52,62 @@ const SESSION: Session = Session {
     last: 0,
 };
 
-#[test]
-fn a_mapping_comes_and_goes(rt: HostRuntime) -> Result<(), AllocError> {
-    let mut translations = Translations::new(rt.alloc(), EXTERNAL)?;
+// The endpoint that is free for a host that asks for port 5000.
+fn chooses(rt: &impl Abort, translations: &Translations, proto: Proto, expected: Endpoint) {
+    assert_eq!(rt; translations.choose(proto, 5000), Some(expected));
+}
+
+// What stands for this inside endpoint by UDP.
+fn has_outside(
+    rt: &impl Abort,
+    translations: &Translations,
+    inside: Endpoint,
+    expected: Option<Endpoint>,
+) {
+    assert_eq!(rt; translations.outside_of(Proto::Udp, inside), expected);
+}
+
+// What the outside endpoint stands for.
+fn has_inside(
+    rt: &impl Abort,
+    translations: &Translations,
+    proto: Proto,
+    expected: Option<Endpoint>,
+) {
+    assert_eq!(rt; translations.inside_of(proto, OUTSIDE), expected);
+}
+
+// Where nothing is held yet.
+fn comes_and_goes(rt: &impl Abort, translations: &mut Translations) -> Result<(), AllocError>
+    requires none { (p : Mapping) → times translations.old.pairs p ≡ 0 }
+    requires external { translations.old.external ≡ 3405803777 }
+{
     translations.reserve()?;
-    assert_eq!(rt; translations.choose(Proto::Udp, 5000), Some(OUTSIDE));
+    chooses(rt, translations, Proto::Udp, OUTSIDE);
     translations.hold(&SESSION);
-    assert_eq!(rt; translations.outside_of(Proto::Udp, HOST), Some(OUTSIDE));
-    assert_eq!(rt; translations.inside_of(Proto::Udp, OUTSIDE), Some(HOST));
-    assert_eq!(rt; translations.outside_of(Proto::Udp, NEIGHBOUR), None);
-    assert_eq!(rt; translations.inside_of(Proto::Tcp, OUTSIDE), None);
+    has_outside(rt, translations, HOST, Some(OUTSIDE));
+    has_inside(rt, translations, Proto::Udp, Some(HOST));
+    has_outside(rt, translations, NEIGHBOUR, None);
+    has_inside(rt, translations, Proto::Tcp, None);
     let next = Endpoint {
         addr: EXTERNAL,
         port: 5002,
     };
-    assert_eq!(rt; translations.choose(Proto::Udp, 5000), Some(next));
-    assert_eq!(rt; translations.choose(Proto::Tcp, 5000), Some(OUTSIDE));
+    chooses(rt, translations, Proto::Udp, next);
+    chooses(rt, translations, Proto::Tcp, OUTSIDE);
     translations.release(&SESSION);
-    assert_eq!(rt; translations.outside_of(Proto::Udp, HOST), None);
-    assert_eq!(rt; translations.inside_of(Proto::Udp, OUTSIDE), None);
-    assert_eq!(rt; translations.choose(Proto::Udp, 5000), Some(OUTSIDE));
+    has_outside(rt, translations, HOST, None);
+    has_inside(rt, translations, Proto::Udp, None);
+    chooses(rt, translations, Proto::Udp, OUTSIDE);
     Ok(())
+}
+
+#[test]
+fn a_mapping_comes_and_goes(rt: HostRuntime) -> Result<(), AllocError> {
+    let mut translations = Translations::new(rt.alloc(), EXTERNAL)?;
+    let gone = comes_and_goes(&rt, &mut translations);
+    drop(translations);
+    gone
 }
 
 const CAUSES: [Cause; 20] = [
@@ -114,6 +149,32 @@ struct Empty {
     translations: Translations,
 }
 
+fn bounds(alloc: Global) -> Option<Bounds> {
+    let prefix = Prefix {
+        addr: 0xc0a8_0000,
+        len: 16,
+    };
+    let lan = String::from_str(alloc, "lan").ok()?;
+    let wan = String::from_str(alloc, "wan").ok()?;
+    let inside = Vec::from_slice(alloc, &[prefix]).ok()?;
+    Bounds::new(lan, wan, inside, EXTERNAL).ok()
+}
+
+// The two parts that agree on the external address.
+fn addressed(alloc: Global) -> Option<(Bounds, Translations)>
+    ensures external { IfSome result (λ p. p.1.external ≡ p.0.external) }
+    ensures none { IfSome result (λ p. (m : Mapping) → times p.1.pairs m ≡ 0) }
+{
+    let bounds = bounds(alloc)?;
+    match Translations::new(alloc, bounds.external()) {
+        Ok(translations) => Some((bounds, translations)),
+        Err(_) => {
+            drop(bounds);
+            None
+        }
+    }
+}
+
 #[tactic(auto, using(hairpin::proofs::Beginning::counts_none, hairpin::proofs::Beginning::bounds_none))]
 fn start(alloc: Global) -> Option<Empty>
     ensures external { IfSome result (λ s. s.translations.external ≡ s.bounds.external) }
@@ -121,15 +182,7 @@ fn start(alloc: Global) -> Option<Empty>
     ensures sound { IfSome result (λ s. AreSound s.bounds (listing s.table.held)) }
     ensures bounded { IfSome result (λ s. KeepBounds s.bounds s.rules) }
 {
-    let inside = Prefix {
-        addr: 0xc0a8_0000,
-        len: 16,
-    };
-    let inside = Vec::from_slice(alloc, &[inside]).ok()?;
-    let lan = String::from_str(alloc, "lan").ok()?;
-    let wan = String::from_str(alloc, "wan").ok()?;
-    let bounds = Bounds::new(lan, wan, inside, EXTERNAL).ok()?;
-    let translations = Translations::new(alloc, bounds.external()).ok()?;
+    let (bounds, translations) = addressed(alloc)?;
     Some(Empty {
         bounds,
         rules: Rules::none(alloc),
@@ -155,17 +208,20 @@ fn packet(src: Endpoint, dst: Endpoint) -> View
 // Where a packet of the host to the remote endpoint goes.
 fn way_out(alloc: Global) -> Option<Result<Plan, Cause>> {
     let empty = start(alloc)?;
-    if !empty.bounds.is_inside(HOST.addr) {
-        return None;
-    }
     let Empty {
         bounds,
         rules,
         table,
         translations,
     } = &empty;
-    let out = packet(HOST, REMOTE);
-    Some(out_leg(bounds, rules, table, translations, &out, 1000))
+    let plan = if bounds.is_inside(HOST.addr) {
+        let out = packet(HOST, REMOTE);
+        Some(out_leg(bounds, rules, table, translations, &out, 1000))
+    } else {
+        None
+    };
+    drop(empty);
+    plan
 }
 
 #[test]
@@ -199,15 +255,14 @@ fn way_in(alloc: Global) -> Option<Result<Plan, Cause>> {
         port: 6000,
     };
     let back = packet(REMOTE, outside);
-    Some(in_leg(bounds, rules, table, translations, &back, 1000))
+    let plan = in_leg(bounds, rules, table, translations, &back, 1000);
+    drop(empty);
+    Some(plan)
 }
 
 // Where a packet of the host to the external address goes.
 fn way_round(alloc: Global) -> Option<Result<Plan, Cause>> {
     let empty = start(alloc)?;
-    if !empty.bounds.is_inside(HOST.addr) {
-        return None;
-    }
     let Empty {
         bounds,
         rules,
@@ -219,7 +274,13 @@ fn way_round(alloc: Global) -> Option<Result<Plan, Cause>> {
         port: 6000,
     };
     let round = packet(HOST, outside);
-    Some(both(bounds, rules, table, translations, &round, 1000))
+    let plan = if bounds.is_inside(HOST.addr) {
+        Some(both(bounds, rules, table, translations, &round, 1000))
+    } else {
+        None
+    };
+    drop(empty);
+    plan
 }
 
 #[test]
