@@ -34,17 +34,18 @@ fn hold(rt: &impl Abort, map: &mut Map, pair: Pair) -> Result<(), AllocError>
     Ok(())
 }
 
-#[test]
-fn pair_goes_with_its_last_hold(rt: HostRuntime) -> Result<(), AllocError> {
-    let mut map = Map::new(rt.alloc());
+// On a map that holds nothing.
+fn goes_with_its_last_hold(rt: &impl Abort, map: &mut Map) -> Result<(), AllocError>
+    requires { (p : Mapping) → times map.old p ≡ 0 }
+{
     let udp = Pair {
         proto: Proto::Udp,
         inside: INSIDE,
         outside: OUTSIDE,
     };
-    hold(&rt, &mut map, udp)?;
+    hold(rt, map, udp)?;
     map.is_one_to_one();
-    hold(&rt, &mut map, udp)?;
+    hold(rt, map, udp)?;
     assert_eq!(rt; map.outside_of(Proto::Udp, INSIDE), Some(OUTSIDE));
     assert_eq!(rt; map.inside_of(Proto::Udp, OUTSIDE), Some(INSIDE));
     assert_eq!(rt; map.outside_of(Proto::Tcp, INSIDE), None);
@@ -59,8 +60,17 @@ fn pair_goes_with_its_last_hold(rt: HostRuntime) -> Result<(), AllocError> {
 }
 
 #[test]
-fn reserved_pair_is_held(rt: HostRuntime) -> Result<(), AllocError> {
+fn pair_goes_with_its_last_hold(rt: HostRuntime) -> Result<(), AllocError> {
     let mut map = Map::new(rt.alloc());
+    let gone = goes_with_its_last_hold(&rt, &mut map);
+    drop(map);
+    gone
+}
+
+// On a map that holds nothing.
+fn is_held_once_reserved(rt: &impl Abort, map: &mut Map) -> Result<(), AllocError>
+    requires { (p : Mapping) → times map.old p ≡ 0 }
+{
     if map.reserve().is_err() {
         map.reserve()?;
     }
@@ -69,7 +79,15 @@ fn reserved_pair_is_held(rt: HostRuntime) -> Result<(), AllocError> {
         inside: INSIDE,
         outside: OUTSIDE,
     };
-    hold(&rt, &mut map, tcp)?;
+    hold(rt, map, tcp)?;
     assert_eq!(rt; map.inside_of(Proto::Tcp, OUTSIDE), Some(INSIDE));
     Ok(())
+}
+
+#[test]
+fn reserved_pair_is_held(rt: HostRuntime) -> Result<(), AllocError> {
+    let mut map = Map::new(rt.alloc());
+    let held = is_held_once_reserved(&rt, &mut map);
+    drop(map);
+    held
 }
