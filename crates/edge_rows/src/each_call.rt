@@ -20,12 +20,14 @@ fn end_of(call: usize, calls: usize, fault: EdgeFault) -> Result<u64, EdgeFault>
 
 // The requests that came whole are answered.
 fn fail_read(alloc: Global, stream: &Stream, call: usize) -> Result<(), Fail> {
+    let mut gateway = opened(alloc)?;
     let mut reader = giving(stream.requests.as_slice(), PIECE, call);
     let mut written = Vec::new(alloc);
-    let ended = run(alloc, &mut reader, &mut written, &mut opened(alloc)?);
+    let ended = run(alloc, &mut reader, &mut written, &mut gateway);
+    drop(gateway);
     let frames = stream.answers.get(..answered(PIECE.saturating_mul(call)));
-    must(ended == end_of(call, 15, EdgeFault::Input), call)?;
-    must(frames == Some(written.as_slice()), call)
+    let is_end = ended == end_of(call, 15, EdgeFault::Input);
+    must(is_end && frames == Some(written.as_slice()), call)
 }
 
 // At least a byte of the answers is written at each call.
@@ -36,13 +38,22 @@ fn fail_write(
     call: usize,
     end: End,
 ) -> Result<(), Fail> {
+    let mut gateway = opened(alloc)?;
     let mut reader = giving(stream.requests.as_slice(), PIECE, usize::MAX);
     let mut writer = taking(alloc, most, call, end);
-    let ended = run(alloc, &mut reader, &mut writer, &mut opened(alloc)?);
-    let got = writer.got.as_slice();
-    must(ended == end_of(call, calls, EdgeFault::Output), call)?;
-    must(stream.answers.starts_with(got) && got.len() >= call, call)?;
-    must(call < calls || got.len() == stream.answers.len(), call)
+    let ended = run(alloc, &mut reader, &mut writer, &mut gateway);
+    drop(gateway);
+    let is_end = ended == end_of(call, calls, EdgeFault::Output);
+    let is_whole = call >= calls;
+    must(
+        is_end && is_got(stream, writer.got.as_slice(), call, is_whole),
+        call,
+    )
+}
+
+fn is_got(stream: &Stream, got: &[u8], least: usize, is_whole: bool) -> bool {
+    let is_front = stream.answers.starts_with(got) && got.len() >= least;
+    is_front && (!is_whole || got.len() == stream.answers.len())
 }
 
 // Three of the requests change what is kept, by four calls of the disk each. The third, a moment, is answered at once.
@@ -57,15 +68,20 @@ fn written_at(call: usize) -> usize {
 
 // Before that, what earlier reads brought is answered.
 fn fail_device(alloc: Global, stream: &Stream, call: usize) -> Result<(), Fail> {
+    let mut gateway = troubled(alloc, call as u64)?;
+    let is_cut = is_cut_off(alloc, stream, &mut gateway, call);
+    let is_done = is_cut && (call >= 12 || is_closed(alloc, stream, &mut gateway));
+    drop(gateway);
+    must(is_done, call)
+}
+
+fn is_cut_off(alloc: Global, stream: &Stream, gateway: &mut Trials, call: usize) -> bool {
     let mut reader = giving(stream.requests.as_slice(), PIECE, usize::MAX);
     let mut written = Vec::new(alloc);
-    let mut gateway = troubled(alloc, call as u64)?;
-    let ended = run(alloc, &mut reader, &mut written, &mut gateway);
+    let ended = run(alloc, &mut reader, &mut written, gateway);
     let fault = EdgeFault::Gateway(GatewayFault::Device);
     let frames = stream.answers.get(..written_at(call));
-    must(ended == end_of(call, 12, fault), call)?;
-    must(frames == Some(written.as_slice()), call)?;
-    must(call >= 12 || is_closed(alloc, stream, &mut gateway), call)
+    ended == end_of(call, 12, fault) && frames == Some(written.as_slice())
 }
 
 // Nothing is read any more.
@@ -86,18 +102,30 @@ fn each_write(alloc: Global, stream: &Stream, most: usize, calls: usize) -> Resu
     Ok(())
 }
 
-#[test]
-fn each_io(rt: HostRuntime) -> Result<(), Fail> {
-    let alloc = rt.alloc();
-    let stream = four_requests(alloc)?;
+fn each_read(alloc: Global, stream: &Stream) -> Result<(), Fail> {
     for call in 0..=15 {
-        fail_read(alloc, &stream, call)?;
-    }
-    for (most, calls) in [(1, 110), (5, 24), (usize::MAX, 4)] {
-        each_write(alloc, &stream, most, calls)?;
-    }
-    for call in 0..=12 {
-        fail_device(alloc, &stream, call)?;
+        fail_read(alloc, stream, call)?;
     }
     Ok(())
+}
+
+fn each_device(alloc: Global, stream: &Stream) -> Result<(), Fail> {
+    for call in 0..=12 {
+        fail_device(alloc, stream, call)?;
+    }
+    Ok(())
+}
+
+fn each_of(alloc: Global, stream: &Stream) -> Result<(), Fail> {
+    each_read(alloc, stream)?;
+    each_write(alloc, stream, 1, 110)?;
+    each_write(alloc, stream, 5, 24)?;
+    each_write(alloc, stream, usize::MAX, 4)?;
+    each_device(alloc, stream)
+}
+
+#[test]
+fn each_io(rt: HostRuntime) -> Result<(), Fail> {
+    let stream = four_requests(rt.alloc())?;
+    each_of(rt.alloc(), &stream)
 }

@@ -1,5 +1,5 @@
 //! Two frames that are cut at each byte, and headers with one byte set to each value.
-use crate::shared::{Stream, TICK, TICKED, answered, four_requests, opened, run};
+use crate::shared::{Stream, TICK, TICKED, answered, four_requests, run_over};
 use socket_edge::EdgeFault;
 use std::alloc::Global;
 use std::test::Fail;
@@ -19,9 +19,8 @@ fn end_of(cut: usize) -> Result<u64, EdgeFault> {
 
 // The frames that came whole are answered.
 fn cut_at(alloc: Global, stream: &Stream, cut: usize) -> Result<bool, Fail> {
-    let mut given = stream.requests.get(..cut).ok_or("a longer stream")?;
-    let mut written = Vec::new(alloc);
-    let ended = run(alloc, &mut given, &mut written, &mut opened(alloc)?);
+    let given = stream.requests.get(..cut).ok_or("a longer stream")?;
+    let (ended, written) = run_over(alloc, given)?;
     let frames = stream.answers.get(..answered(cut));
     Ok(ended == end_of(cut) && frames == Some(written.as_slice()))
 }
@@ -48,18 +47,21 @@ fn end_of_byte(at: usize, byte: u8) -> Result<&'static [u8], EdgeFault> {
     }
 }
 
+fn is_end_of_byte(at: usize, byte: u8, ended: Result<u64, EdgeFault>, written: &[u8]) -> bool {
+    match end_of_byte(at, byte) {
+        Ok(frames) => ended == Ok(1) && written == frames,
+        Err(fault) => ended == Err(fault) && written.is_empty(),
+    }
+}
+
 fn is_told(alloc: Global, at: usize, byte: u8) -> Result<bool, Fail> {
     let mut frame = TICK;
     if at >= frame.len() {
         return Ok(false);
     }
     frame[at] = byte;
-    let mut written = Vec::new(alloc);
-    let ended = run(alloc, &mut &frame[..], &mut written, &mut opened(alloc)?);
-    Ok(match end_of_byte(at, byte) {
-        Ok(frames) => ended == Ok(1) && written.as_slice() == frames,
-        Err(fault) => ended == Err(fault) && written.is_empty(),
-    })
+    let (ended, written) = run_over(alloc, &frame)?;
+    Ok(is_end_of_byte(at, byte, ended, written.as_slice()))
 }
 
 #[test]
@@ -78,8 +80,7 @@ fn end_of_length(alloc: Global, kind: u8, length: u32) -> Result<Result<u64, Edg
     let header = [
         kind, 0, first, second, third, fourth, 0, 0, 0, 0, 0, 0, 3, 0xe8,
     ];
-    let mut written = Vec::new(alloc);
-    Ok(run(alloc, &mut &header[..], &mut written, &mut opened(alloc)?))
+    Ok(run_over(alloc, &header)?.0)
 }
 
 // Up to its limit a body is waited for.

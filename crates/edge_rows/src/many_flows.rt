@@ -1,5 +1,5 @@
 //! So many flows that the edge looks ahead for the sessions of the packets that come next.
-use crate::shared::{FORWARDED, PACKET, TICK, TICKED, opened, run};
+use crate::shared::{FORWARDED, PACKET, TICK, TICKED, run_over};
 use std::alloc::{AllocError, Global};
 use std::test::Fail;
 
@@ -91,15 +91,8 @@ fn talk_of_all(alloc: Global) -> Result<Talk, AllocError> {
 
 #[test]
 fn many_flows(rt: HostRuntime) -> Result<(), Fail> {
-    let alloc = rt.alloc();
-    let talk = talk_of_all(alloc)?;
-    let mut written = Vec::new(alloc);
-    let ended = run(
-        alloc,
-        &mut talk.requests.as_slice(),
-        &mut written,
-        &mut opened(alloc)?,
-    );
+    let talk = talk_of_all(rt.alloc())?;
+    let (ended, written) = run_over(rt.alloc(), talk.requests.as_slice())?;
     assert!(rt; ended == Ok(talk.number));
     assert!(rt; written.as_slice() == talk.answers.as_slice());
     Ok(())

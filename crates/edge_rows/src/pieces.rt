@@ -33,7 +33,7 @@ pub fn giving(left: &[u8], most: usize, last: usize) -> Gives<'_> {
 }
 
 /// How a call of a writer ends that takes nothing.
-#[derive(Clone, Copy, Debug, Drop)]
+#[derive(Clone, Copy, Drop)]
 pub enum End {
     Fails,
     TakesNone,

@@ -1,4 +1,5 @@
 //! Writers that take little at a time, or fail: what they get, and how often they are called.
+use crate::pieces::End;
 use gateway::{Answer, Bytes, Iface};
 use socket_edge::EdgeFault;
 use socket_edge::sending::{send, send_all};
@@ -14,25 +15,37 @@ const FRAMES: [u8; 86] = [
     0xff, 0, 0, 0, 0,
 ];
 
-/// An answer of each kind, with packets of 3 bytes to wan and of 2 to lan.
-fn answers(alloc: Global) -> Result<Vec<(u64, Answer)>, AllocError> {
-    let to_wan = Bytes::of(Vec::from_slice(alloc, &[0x45, 0, 0x1c])?);
-    let to_lan = Bytes::of(Vec::from_slice(alloc, &[0x45, 0x10])?);
-    let mut answers = Vec::new(alloc);
-    answers.push((9, Answer::Forward(Iface::Wan, to_wan)))?;
-    answers.push((10, Answer::Dropped(20)))?;
-    answers.push((11, Answer::Loaded))?;
-    answers.push((12, Answer::Forward(Iface::Lan, to_lan)))?;
-    answers.push((0x0102_0304_0506_0708, Answer::Refused))?;
-    answers.push((u64::MAX, Answer::Ticked))?;
-    Ok(answers)
+type Answers = Vec<(u64, Answer)>;
+
+fn to_wan(alloc: Global) -> Result<Answer, AllocError> {
+    let packet = Vec::from_slice(alloc, &[0x45, 0, 0x1c])?;
+    Ok(Answer::Forward(Iface::Wan, Bytes::of(packet)))
 }
 
-/// How a call ends that is to take nothing.
-#[derive(Clone, Copy, Drop)]
-enum End {
-    Fails,
-    TakesNone,
+fn to_lan(alloc: Global) -> Result<Answer, AllocError> {
+    let packet = Vec::from_slice(alloc, &[0x45, 0x10])?;
+    Ok(Answer::Forward(Iface::Lan, Bytes::of(packet)))
+}
+
+fn put(answers: &mut Answers, number: u64, answer: Answer) -> Result<(), AllocError> {
+    answers.push((number, answer))?;
+    Ok(())
+}
+
+fn put_each_kind(alloc: Global, answers: &mut Answers) -> Result<(), AllocError> {
+    put(answers, 9, to_wan(alloc)?)?;
+    put(answers, 10, Answer::Dropped(20))?;
+    put(answers, 11, Answer::Loaded)?;
+    put(answers, 12, to_lan(alloc)?)?;
+    put(answers, 0x0102_0304_0506_0708, Answer::Refused)?;
+    put(answers, u64::MAX, Answer::Ticked)
+}
+
+/// An answer of each kind, with packets of 3 bytes to wan and of 2 to lan.
+fn answers(alloc: Global) -> Result<Answers, AllocError> {
+    let mut answers = Vec::new(alloc);
+    put_each_kind(alloc, &mut answers)?;
+    Ok(answers)
 }
 
 /// Takes up to `most` bytes a call, and none from the call `last` on.
@@ -75,10 +88,42 @@ fn taking(alloc: Global, most: usize, last: usize, end: End) -> Result<Taker, Al
     })
 }
 
+/// How sending in one piece ends, of which a test knows no clause.
+fn send_whole(
+    alloc: Global,
+    writer: &mut Taker,
+    answers: &[(u64, Answer)],
+) -> Result<(), EdgeFault> {
+    send_all(alloc, writer, answers)
+}
+
+/// The same in parts.
+fn send_parts(writer: &mut Taker, answers: &[(u64, Answer)]) -> Result<(), EdgeFault> {
+    send(writer, answers)
+}
+
+/// Whether sending ends so, in one piece and in parts, and both writers get this.
+fn is_sent(
+    alloc: Global,
+    answers: &[(u64, Answer)],
+    (most, last, end): (usize, usize, End),
+    ended: &Result<(), EdgeFault>,
+    got: &[u8],
+) -> Result<bool, AllocError> {
+    let mut whole = taking(alloc, most, last, end)?;
+    let mut parts = taking(alloc, most, last, end)?;
+    let is_whole = send_whole(alloc, &mut whole, answers) == *ended;
+    let is_in_parts = send_parts(&mut parts, answers) == *ended;
+    let is_got = whole.got.as_slice() == got && parts.got.as_slice() == got;
+    Ok(is_whole && is_in_parts && is_got)
+}
+
 #[test]
 fn one_call_is_enough(rt: HostRuntime) -> Result<(), Fail> {
+    let answers = answers(rt.alloc())?;
     let mut writer = taking(rt.alloc(), usize::MAX, usize::MAX, End::Fails)?;
-    let sent = send_all(rt.alloc(), &mut writer, answers(rt.alloc())?.as_slice());
+    let sent = send_whole(rt.alloc(), &mut writer, answers.as_slice());
+    drop(answers);
     assert!(rt; sent == Ok(()));
     assert!(rt; writer.got.as_slice() == &FRAMES[..]);
     assert_eq!(rt; writer.calls, 1);
@@ -88,7 +133,7 @@ fn one_call_is_enough(rt: HostRuntime) -> Result<(), Fail> {
 #[test]
 fn no_answer_is_no_call(rt: HostRuntime) -> Result<(), Fail> {
     let mut writer = taking(rt.alloc(), usize::MAX, 0, End::Fails)?;
-    assert!(rt; send_all(rt.alloc(), &mut writer, &[]) == Ok(()));
+    assert!(rt; send_whole(rt.alloc(), &mut writer, &[]) == Ok(()));
     assert_eq!(rt; writer.calls, 0);
     Ok(())
 }
@@ -97,12 +142,8 @@ fn no_answer_is_no_call(rt: HostRuntime) -> Result<(), Fail> {
 fn writes_in_any_pieces(rt: HostRuntime) -> Result<(), Fail> {
     let answers = answers(rt.alloc())?;
     for most in [1, 2, 13, 16, usize::MAX] {
-        let mut whole = taking(rt.alloc(), most, usize::MAX, End::Fails)?;
-        assert!(rt; send_all(rt.alloc(), &mut whole, answers.as_slice()) == Ok(()));
-        assert!(rt; whole.got.as_slice() == &FRAMES[..]);
-        let mut parts = taking(rt.alloc(), most, usize::MAX, End::Fails)?;
-        assert!(rt; send(&mut parts, answers.as_slice()) == Ok(()));
-        assert!(rt; parts.got.as_slice() == &FRAMES[..]);
+        let writer = (most, usize::MAX, End::Fails);
+        assert!(rt; is_sent(rt.alloc(), answers.as_slice(), writer, &Ok(()), &FRAMES)?);
     }
     Ok(())
 }
@@ -112,13 +153,10 @@ fn ends_at_the_first_call_that_fails(rt: HostRuntime) -> Result<(), Fail> {
     let answers = answers(rt.alloc())?;
     for end in [End::Fails, End::TakesNone] {
         for taken in 0..FRAMES.len() {
-            let mut whole = taking(rt.alloc(), 1, taken + 1, end)?;
-            let sent = send_all(rt.alloc(), &mut whole, answers.as_slice());
-            assert!(rt; sent == Err(EdgeFault::Output));
-            assert!(rt; whole.got.as_slice() == &FRAMES[..taken]);
-            let mut parts = taking(rt.alloc(), 1, taken + 1, end)?;
-            assert!(rt; send(&mut parts, answers.as_slice()) == Err(EdgeFault::Output));
-            assert!(rt; parts.got.as_slice() == &FRAMES[..taken]);
+            let writer = (1, taken + 1, end);
+            let ended = Err(EdgeFault::Output);
+            let got = &FRAMES[..taken];
+            assert!(rt; is_sent(rt.alloc(), answers.as_slice(), writer, &ended, got)?);
         }
     }
     Ok(())
@@ -134,7 +172,8 @@ fn refused_memory(rt: HostRuntime) -> Result<(), Fail> {
     let Ok(mut writer) = taking(rt.alloc(), usize::MAX, usize::MAX, End::Fails) else {
         return Ok(());
     };
-    let sent = send_all(rt.alloc(), &mut writer, answers.as_slice());
+    let sent = send_whole(rt.alloc(), &mut writer, answers.as_slice());
+    drop(answers);
     assert!(rt; sent == Ok(()));
     assert!(rt; writer.got.as_slice() == &FRAMES[..]);
     // A head for each of six answers, two parts of each of two bodies, and one of one.

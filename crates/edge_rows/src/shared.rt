@@ -63,10 +63,10 @@ pub struct Stream {
 ///
 /// A `Fail` where memory is refused.
 pub fn four_requests(alloc: Global) -> Result<Stream, Fail> {
+    let answers = hex(alloc, ANSWERS)?;
     let mut requests = hex(alloc, LOAD_HEAD)?;
     requests.extend_from_slice(MASQUERADE.as_bytes())?;
-    requests.extend_from_slice(hex(alloc, LATER)?.as_slice())?;
-    let answers = hex(alloc, ANSWERS)?;
+    put_hex(&mut requests, LATER)?;
     Ok(Stream { requests, answers })
 }
 
@@ -96,6 +96,20 @@ fn put_pair(out: &mut Vec<u8>, pair: &[u8]) -> Result<(), Fail> {
     }
 }
 
+/// Puts the bytes that a text has in hexadecimal, with spaces for the eye.
+///
+/// # Errors
+///
+/// A `Fail` where the text has something else, or memory is refused.
+pub fn put_hex(out: &mut Vec<u8>, text: &str) -> Result<(), Fail> {
+    for word in text.split_whitespace() {
+        for pair in word.as_bytes().chunks(2) {
+            put_pair(out, pair)?;
+        }
+    }
+    Ok(())
+}
+
 /// The bytes that a text has in hexadecimal, with spaces for the eye.
 ///
 /// # Errors
@@ -103,11 +117,7 @@ fn put_pair(out: &mut Vec<u8>, pair: &[u8]) -> Result<(), Fail> {
 /// A `Fail` where the text has something else, or memory is refused.
 pub fn hex(alloc: Global, text: &str) -> Result<Vec<u8>, Fail> {
     let mut out = Vec::new(alloc);
-    for word in text.split_whitespace() {
-        for pair in word.as_bytes().chunks(2) {
-            put_pair(&mut out, pair)?;
-        }
-    }
+    put_hex(&mut out, text)?;
     Ok(out)
 }
 
@@ -175,4 +185,18 @@ pub fn run<R: Read, W: Write>(
     gateway: &mut Trials,
 ) -> Result<u64, EdgeFault> {
     socket_edge::run(alloc, reader, writer, gateway)
+}
+
+/// How a run over a stream ends at a gateway over empty files, and what it writes.
+///
+/// # Errors
+///
+/// A `Fail` where memory is refused.
+pub fn run_over(alloc: Global, stream: &[u8]) -> Result<(Result<u64, EdgeFault>, Vec<u8>), Fail> {
+    let mut gateway = opened(alloc)?;
+    let mut reader = stream;
+    let mut written = Vec::new(alloc);
+    let ended = run(alloc, &mut reader, &mut written, &mut gateway);
+    drop(gateway);
+    Ok((ended, written))
 }

@@ -1,33 +1,27 @@
 //! Streams of a few frames: how they end, in what pieces they may come and go, and with each growth refused.
 use crate::pieces::{End, giving, taking};
-use crate::shared::{FORWARDED, PACKET, TICK, TICKED, TICKED_AGAIN, gateway, opened, run};
+use crate::shared::{
+    FORWARDED, PACKET, TICK, TICKED, TICKED_AGAIN, gateway, opened, run, run_over,
+};
 use gateway::GatewayFault;
 use socket_edge::EdgeFault;
 use std::alloc::Global;
 use std::test::Fail;
 
-/// How a run over these pieces ends, and what it writes.
-fn run_over(alloc: Global, pieces: &[&[u8]]) -> Result<(Result<u64, EdgeFault>, Vec<u8>), Fail> {
-    let mut bytes = Vec::new(alloc);
-    for piece in pieces {
-        bytes.extend_from_slice(piece)?;
-    }
-    let mut written = Vec::new(alloc);
-    let ended = run(
-        alloc,
-        &mut bytes.as_slice(),
-        &mut written,
-        &mut opened(alloc)?,
-    );
-    Ok((ended, written))
-}
-
 #[test]
 fn first_frame(rt: HostRuntime) -> Result<(), Fail> {
-    let (ended, written) = run_over(rt.alloc(), &[&PACKET])?;
+    let (ended, written) = run_over(rt.alloc(), &PACKET)?;
     assert!(rt; ended == Ok(1));
     assert!(rt; written.as_slice() == &FORWARDED[..]);
     Ok(())
+}
+
+// Whether a moment with these bytes behind it is answered, and the run ends so.
+fn is_ticked(alloc: Global, behind: &[u8], end: Result<u64, EdgeFault>) -> Result<bool, Fail> {
+    let mut bytes = Vec::from_slice(alloc, &TICK)?;
+    bytes.extend_from_slice(behind)?;
+    let (ended, written) = run_over(alloc, bytes.as_slice())?;
+    Ok(ended == end && written.as_slice() == &TICKED[..])
 }
 
 #[test]
@@ -47,11 +41,32 @@ fn answers_up_to_the_end_or_a_fault(rt: HostRuntime) -> Result<(), Fail> {
         (bad_interface, Err(EdgeFault::BadInterface)),
         (too_long, Err(EdgeFault::TooLong)),
     ] {
-        let (ended, written) = run_over(rt.alloc(), &[&TICK, behind])?;
-        assert!(rt; ended == end);
-        assert!(rt; written.as_slice() == &TICKED[..]);
+        assert!(rt; is_ticked(rt.alloc(), behind, end)?);
     }
     Ok(())
+}
+
+// Whether these are the answers to so many of two moments.
+fn are_answers(got: &[u8], frames: usize) -> bool {
+    let is_first = got.get(..13) == Some(&TICKED[..]);
+    let is_second = frames == 1 || got.get(13..) == Some(&TICKED_AGAIN[..]);
+    is_first && is_second && got.len() == frames.saturating_mul(13)
+}
+
+// Whether a run ends so, and answers so much, whose reader fails at the call `cut`.
+fn is_read(
+    alloc: Global,
+    bytes: &[u8],
+    cut: usize,
+    end: Result<u64, EdgeFault>,
+    frames: usize,
+) -> Result<bool, Fail> {
+    let mut gateway = opened(alloc)?;
+    let mut reader = giving(bytes, 1, cut);
+    let mut writer = taking(alloc, 1, 100, End::Fails);
+    let ended = run(alloc, &mut reader, &mut writer, &mut gateway);
+    drop(gateway);
+    Ok(ended == end && are_answers(writer.got.as_slice(), frames))
 }
 
 #[test]
@@ -60,25 +75,25 @@ fn reads_and_writes_one_byte_at_a_time(rt: HostRuntime) -> Result<(), Fail> {
     let mut bytes = Vec::from_slice(alloc, &TICK)?;
     bytes.extend_from_slice(&TICK)?;
     for (cut, end, frames) in [(usize::MAX, Ok(2), 2), (27, Err(EdgeFault::Input), 1)] {
-        let mut reader = giving(bytes.as_slice(), 1, cut);
-        let mut writer = taking(alloc, 1, 100, End::Fails);
-        let ended = run(alloc, &mut reader, &mut writer, &mut opened(alloc)?);
-        assert!(rt; ended == end);
-        assert!(rt; writer.got.get(..13) == Some(&TICKED[..]));
-        assert_eq!(rt; writer.got.len(), 13 * frames);
-        assert!(rt; frames == 1 || writer.got.get(13..) == Some(&TICKED_AGAIN[..]));
+        assert!(rt; is_read(alloc, bytes.as_slice(), cut, end, frames)?);
     }
     Ok(())
 }
 
+// Whether a run ends with a writer whose sixth call ends so.
+fn is_cut_short(alloc: Global, end: End) -> Result<bool, Fail> {
+    let mut gateway = opened(alloc)?;
+    let mut reader = &TICK[..];
+    let mut writer = taking(alloc, 1, 5, end);
+    let ended = run(alloc, &mut reader, &mut writer, &mut gateway);
+    drop(gateway);
+    Ok(ended == Err(EdgeFault::Output) && writer.got.as_slice() == &TICKED[..5])
+}
+
 #[test]
 fn ends_where_a_write_fails_or_takes_nothing(rt: HostRuntime) -> Result<(), Fail> {
-    let alloc = rt.alloc();
     for end in [End::Fails, End::TakesNone] {
-        let mut writer = taking(alloc, 1, 5, end);
-        let ended = run(alloc, &mut &TICK[..], &mut writer, &mut opened(alloc)?);
-        assert!(rt; ended == Err(EdgeFault::Output));
-        assert!(rt; writer.got.as_slice() == &TICKED[..5]);
+        assert!(rt; is_cut_short(rt.alloc(), end)?);
     }
     Ok(())
 }

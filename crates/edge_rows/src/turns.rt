@@ -1,5 +1,5 @@
 //! What was asked is answered before more is read, and a file that has grown is made anew.
-use crate::shared::{Stream, answered, four_requests, hex, opened, run};
+use crate::shared::{Stream, Trials, answered, four_requests, hex, opened, put_hex, run};
 use std::alloc::Global;
 use std::cell::Cell;
 use std::io::{self, Read, Write};
@@ -50,6 +50,7 @@ impl Write for Hears<'_> {
 
 // The peer asks in pieces of these sizes.
 fn ask(alloc: Global, stream: &Stream, sizes: &[usize]) -> Result<(), Fail> {
+    let mut gateway = opened(alloc)?;
     let got = Cell::new(0);
     let mut reader = Asks {
         left: stream.requests.as_slice(),
@@ -61,7 +62,8 @@ fn ask(alloc: Global, stream: &Stream, sizes: &[usize]) -> Result<(), Fail> {
         written: Vec::new(alloc),
         got: &got,
     };
-    let ended = run(alloc, &mut reader, &mut writer, &mut opened(alloc)?);
+    let ended = run(alloc, &mut reader, &mut writer, &mut gateway);
+    drop(gateway);
     if ended != Ok(4) || writer.written.as_slice() != stream.answers.as_slice() {
         return Err(Fail::new(format_args!("{ended:?}")));
     }
@@ -82,16 +84,24 @@ fn answers_before_it_reads_on(rt: HostRuntime) -> Result<(), Fail> {
 fn load(alloc: Global, spaces: u32) -> Result<Vec<u8>, Fail> {
     let mut frame = hex(alloc, "02 00")?;
     frame.extend_from_slice(&spaces.to_be_bytes())?;
-    frame.extend_from_slice(hex(alloc, "00000000000003e8")?.as_slice())?;
+    put_hex(&mut frame, "00000000000003e8")?;
     frame.extend_from_slice(vec![in alloc; b' '; spaces as usize]?.as_slice())?;
     Ok(frame)
+}
+
+// Whether such a load is answered, and leaves a file that has grown so far.
+fn is_grown(alloc: Global, gateway: &mut Trials, spaces: u32, grown: u64) -> Result<bool, Fail> {
+    let frame = load(alloc, spaces)?;
+    let mut reader = frame.as_slice();
+    let mut written = Vec::new(alloc);
+    let ended = run(alloc, &mut reader, &mut written, gateway);
+    Ok(ended == Ok(1) && gateway.grown() == grown)
 }
 
 // A group takes ten bytes more than its text. Four of these fill 1,048,576 bytes, and the next one is too many.
 #[test]
 fn compacts_above_a_mebibyte(rt: HostRuntime) -> Result<(), Fail> {
-    let alloc = rt.alloc();
-    let mut gateway = opened(alloc)?;
+    let mut gateway = opened(rt.alloc())?;
     for (spaces, grown) in [
         (262_134, 262_144),
         (262_134, 524_288),
@@ -100,11 +110,10 @@ fn compacts_above_a_mebibyte(rt: HostRuntime) -> Result<(), Fail> {
         (0, 0),
         (0, 10),
     ] {
-        let frame = load(alloc, spaces)?;
-        let mut written = Vec::new(alloc);
-        let ended = run(alloc, &mut frame.as_slice(), &mut written, &mut gateway);
-        assert!(rt; ended == Ok(1));
-        assert_eq!(rt; gateway.grown(), grown);
+        assert!(rt;
+            is_grown(rt.alloc(), &mut gateway, spaces, grown)?,
+            "{grown}"
+        );
     }
     Ok(())
 }

@@ -2,7 +2,7 @@
 //!
 //! Causes 14, which is never answered, and 20, which takes 65,536 sessions, are left out.
 use crate::worked::first_frame::all_taken;
-use crate::worked::script::play;
+use crate::worked::script::{play, play_each};
 use crate::worked::shared::{FIRST, MASQUERADE};
 use std::alloc::Global;
 use std::test::Fail;
@@ -445,76 +445,53 @@ lan 1000 4500001c00010000 40118eea c0a80103 c6336407 00070009 000813e8
 lan 1000 4500001c00010000 40117d23 c0a80103 cb007101 00070007 00080223
 = drop 19";
 
+// Faults of a packet, other causes, rules, and clashes of mappings.
+const DROPS: [&[&str]; 24] = [
+    &[MASQUERADE, SHORT, EMPTY],
+    &[MASQUERADE, VERSION, EMPTY],
+    &[MASQUERADE, HEADER_LENGTH, EMPTY],
+    &[MASQUERADE, LENGTH, EMPTY],
+    &[MASQUERADE, HEADER_SUM, EMPTY],
+    &[MASQUERADE, FRAGMENT, EMPTY],
+    &[MASQUERADE, PROTOCOL, EMPTY],
+    &[MASQUERADE, TRANSPORT, EMPTY],
+    &[MASQUERADE, PORT_ZERO, EMPTY],
+    &[MASQUERADE, TTL],
+    &[MASQUERADE, SPOOFED],
+    &[MASQUERADE, NO_ROUTE],
+    &[MASQUERADE, NO_MAPPING],
+    &[MASQUERADE, NO_SESSION],
+    &[MASQUERADE, SELF_FRESH],
+    &[MASQUERADE, SELF_MAPPED],
+    &[DROPPING, FIRST, RULE_OUT],
+    &[DROPPING, FIRST, RULE_IN],
+    &[DROPPING, FIRST, RULE_BOTH],
+    &[DROPPING, FIRST, MAPPED_PASSES],
+    &[SENDING, CLASH_INSIDE],
+    &[SENDING, CLASH_OUTSIDE],
+    &[SENDING, CLASH_PEER],
+    &[SENDING, CLASH_SENDER],
+];
+
 #[test]
 fn each_drop(rt: HostRuntime) -> Result<(), Fail> {
-    let alloc = rt.alloc();
-    faults(alloc)?;
-    causes(alloc)?;
-    rules(alloc)?;
-    clashes(alloc)
+    play_each(rt.alloc(), &DROPS)
 }
 
-fn faults(alloc: Global) -> Result<(), Fail> {
-    for script in [
-        SHORT,
-        VERSION,
-        HEADER_LENGTH,
-        LENGTH,
-        HEADER_SUM,
-        FRAGMENT,
-        PROTOCOL,
-        TRANSPORT,
-        PORT_ZERO,
-    ] {
-        play(alloc, &[MASQUERADE, script, EMPTY])?;
-    }
-    Ok(())
-}
-
-fn causes(alloc: Global) -> Result<(), Fail> {
-    for script in [
-        TTL,
-        SPOOFED,
-        NO_ROUTE,
-        NO_MAPPING,
-        NO_SESSION,
-        SELF_FRESH,
-        SELF_MAPPED,
-    ] {
-        play(alloc, &[MASQUERADE, script])?;
-    }
-    Ok(())
-}
-
-fn rules(alloc: Global) -> Result<(), Fail> {
-    for script in [RULE_OUT, RULE_IN, RULE_BOTH, MAPPED_PASSES] {
-        play(alloc, &[DROPPING, FIRST, script])?;
-    }
-    Ok(())
-}
-
-fn clashes(alloc: Global) -> Result<(), Fail> {
-    for script in [CLASH_INSIDE, CLASH_OUTSIDE, CLASH_PEER, CLASH_SENDER] {
-        play(alloc, &[SENDING, script])?;
-    }
-    Ok(())
-}
+const EARLIER: [&[&str]; 7] = [
+    &[DROPPING, FAULT_AND_NEXT, EMPTY],
+    &[DROPPING, NO_SESSION_FIRST, EMPTY],
+    &[DROPPING, SELF_BEFORE_RULE, EMPTY],
+    &[DROPPING, RULE_BEFORE_NO_MAPPING, EMPTY],
+    &[DROPPING, NO_MAPPING_BEFORE_RULE, EMPTY],
+    &[SENDING, SELF_BEFORE_CLASH],
+    &[SENDING_AND_DROPPING, CLASH_BEFORE_RULE],
+];
 
 #[test]
 fn the_earlier_cause(rt: HostRuntime) -> Result<(), Fail> {
-    let alloc = rt.alloc();
-    for script in [
-        FAULT_AND_NEXT,
-        NO_SESSION_FIRST,
-        SELF_BEFORE_RULE,
-        RULE_BEFORE_NO_MAPPING,
-        NO_MAPPING_BEFORE_RULE,
-    ] {
-        play(alloc, &[DROPPING, script, EMPTY])?;
-    }
-    play(alloc, &[SENDING, SELF_BEFORE_CLASH])?;
-    play(alloc, &[SENDING_AND_DROPPING, CLASH_BEFORE_RULE])?;
-    no_port_last(alloc)
+    play_each(rt.alloc(), &EARLIER)?;
+    no_port_last(rt.alloc())
 }
 
 fn no_port_last(alloc: Global) -> Result<(), Fail> {

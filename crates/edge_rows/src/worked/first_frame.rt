@@ -1,5 +1,5 @@
 //! Packets that go out, and packets that are dropped.
-use crate::worked::script::play;
+use crate::worked::script::{play, play_each};
 use crate::worked::shared::{FIRST, MASQUERADE};
 use std::alloc::Global;
 use std::test::Fail;
@@ -38,12 +38,15 @@ const ASKED: &str = "lan 1000 4500001c00010000 40118eeb c0a80102 c6336407 ";
 
 const SENT: &str = "= wan 4500001c00010000 3f111594 cb007101 c6336407 ";
 
+const SCRIPTS: [&[&str]; 3] = [
+    &[MASQUERADE, FIRST],
+    &[MASQUERADE, LAST_PORTS],
+    &[MASQUERADE, DROPS],
+];
+
 #[test]
 fn first_frame(rt: HostRuntime) -> Result<(), Fail> {
-    for script in [FIRST, LAST_PORTS, DROPS] {
-        play(rt.alloc(), &[MASQUERADE, script])?;
-    }
-    Ok(())
+    play_each(rt.alloc(), &SCRIPTS)
 }
 
 /// A script in which one host takes each odd port below 1024, so that none of them is left for another host.
@@ -54,14 +57,19 @@ fn first_frame(rt: HostRuntime) -> Result<(), Fail> {
 pub fn all_taken(alloc: Global) -> Result<String, Fail> {
     let mut script = String::new(alloc);
     for half in 0..512_u32 {
-        let port = 2 * half + 1;
-        let ports = format!(in alloc; "{port:04x}0035 00080000\n")?;
-        script.push_str(ASKED)?;
-        script.push_str(ports.as_str())?;
-        script.push_str(SENT)?;
-        script.push_str(ports.as_str())?;
+        put_taken(alloc, &mut script, 2 * half + 1)?;
     }
     Ok(script)
+}
+
+// A packet from this port, and what leaves.
+fn put_taken(alloc: Global, script: &mut String, port: u32) -> Result<(), Fail> {
+    let ports = format!(in alloc; "{port:04x}0035 00080000\n")?;
+    script.push_str(ASKED)?;
+    script.push_str(ports.as_str())?;
+    script.push_str(SENT)?;
+    script.push_str(ports.as_str())?;
+    Ok(())
 }
 
 #[test]

@@ -1,5 +1,5 @@
 //! Packets that come in, and packets from inside to the external address.
-use crate::worked::script::play;
+use crate::worked::script::play_each;
 use crate::worked::shared::{FIRST, MASQUERADE};
 use std::test::Fail;
 
@@ -233,45 +233,46 @@ wan 1243 4500002800010000 40067cc4 c0000209 cb007101 0fa09c42 00000001 00000000 
 = drop 13
 :";
 
+const LEGS: [&[&str]; 10] = [
+    &[MASQUERADE, FIRST, UNMAPPED],
+    &[MASQUERADE, FIRST, STRANGER_TO_INSIDE],
+    &[MASQUERADE, FIRST, PEER_TO_INSIDE],
+    &[MASQUERADE, FIRST, SPOOFED],
+    &[MASQUERADE, FIRST, STRANGER],
+    &[MASQUERADE, FIRST, HAIRPIN],
+    &[MASQUERADE, FIRST, SELF],
+    &[MASQUERADE_AND_FILTER, FIRST, STRANGER_FILTERED],
+    &[MASQUERADE_AND_DNAT, DNAT],
+    &[MASQUERADE_AND_DNAT, DNAT_TAKEN],
+];
+
 #[test]
 fn legs(rt: HostRuntime) -> Result<(), Fail> {
-    let alloc = rt.alloc();
-    for script in [
-        UNMAPPED,
-        STRANGER_TO_INSIDE,
-        PEER_TO_INSIDE,
-        SPOOFED,
-        STRANGER,
-        HAIRPIN,
-        SELF,
-    ] {
-        play(alloc, &[MASQUERADE, FIRST, script])?;
-    }
-    play(alloc, &[MASQUERADE_AND_FILTER, FIRST, STRANGER_FILTERED])?;
-    for script in [DNAT, DNAT_TAKEN] {
-        play(alloc, &[MASQUERADE_AND_DNAT, script])?;
-    }
-    Ok(())
+    play_each(rt.alloc(), &LEGS)
 }
+
+const OVER_TIME: [&[&str]; 7] = [
+    &[MASQUERADE, BOTH_WAYS, BOTH_END],
+    &[MASQUERADE, BOTH_WAYS, BOTH_REFRESHED],
+    &[MASQUERADE, BOTH_WAYS, BOTH_TOO_LATE],
+    &[MASQUERADE, UNANSWERED],
+    &[MASQUERADE, TCP_BOTH_WAYS, TCP_ENDS],
+    &[MASQUERADE, TCP_BOTH_WAYS, TCP_CLOSES],
+    &[MASQUERADE, TCP_BOTH_WAYS, TCP_RESET],
+];
 
 #[test]
 fn hairpins_over_time(rt: HostRuntime) -> Result<(), Fail> {
-    let alloc = rt.alloc();
-    for end in [BOTH_END, BOTH_REFRESHED, BOTH_TOO_LATE] {
-        play(alloc, &[MASQUERADE, BOTH_WAYS, end])?;
-    }
-    play(alloc, &[MASQUERADE, UNANSWERED])?;
-    for end in [TCP_ENDS, TCP_CLOSES, TCP_RESET] {
-        play(alloc, &[MASQUERADE, TCP_BOTH_WAYS, end])?;
-    }
-    Ok(())
+    play_each(rt.alloc(), &OVER_TIME)
 }
+
+const ALL_REMOTES: [&[&str]; 3] = [
+    &[MASQUERADE, ONE_PORT, ONE_PORT_STAYS],
+    &[MASQUERADE, ONE_PORT, ONE_PORT_ENDS],
+    &[MASQUERADE, ONE_PORT_TCP],
+];
 
 #[test]
 fn one_port_for_all_remotes(rt: HostRuntime) -> Result<(), Fail> {
-    let alloc = rt.alloc();
-    for end in [ONE_PORT_STAYS, ONE_PORT_ENDS] {
-        play(alloc, &[MASQUERADE, ONE_PORT, end])?;
-    }
-    play(alloc, &[MASQUERADE, ONE_PORT_TCP])
+    play_each(rt.alloc(), &ALL_REMOTES)
 }

@@ -1,5 +1,5 @@
 //! Rulesets that load and that are refused, and streams that end early.
-use crate::worked::script::{expect_end, play};
+use crate::worked::script::{expect_end, play, play_each};
 use crate::worked::shared::{FIRST, MASQUERADE};
 use socket_edge::EdgeFault;
 use std::alloc::Global;
@@ -49,16 +49,19 @@ const BAD_INTERFACE: &str = "\
 const TOO_LONG: &str = "\
 03 00 00000001 00000000000003e8";
 
+// Behind `LOOP` the old rules stay.
+const LOADS: [&[&str]; 5] = [
+    &[MASQUERADE, FIRST, SECOND_HOST],
+    &[MASQUERADE, NO_CHECKSUM],
+    &[MASQUERADE, WRONG_CHECKSUM],
+    &[MASQUERADE, ZERO_CHECKSUM],
+    &[MASQUERADE, LOOP, FIRST],
+];
+
 #[test]
 fn loads(rt: HostRuntime) -> Result<(), Fail> {
-    let alloc = rt.alloc();
-    play(alloc, &[MASQUERADE, FIRST, SECOND_HOST])?;
-    for script in [NO_CHECKSUM, WRONG_CHECKSUM, ZERO_CHECKSUM] {
-        play(alloc, &[MASQUERADE, script])?;
-    }
-    // the old rules stay
-    play(alloc, &[MASQUERADE, LOOP, FIRST])?;
-    end_early(alloc)
+    play_each(rt.alloc(), &LOADS)?;
+    end_early(rt.alloc())
 }
 
 fn end_early(alloc: Global) -> Result<(), Fail> {

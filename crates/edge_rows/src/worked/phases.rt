@@ -1,5 +1,5 @@
 //! How sessions open, close and end.
-use crate::worked::script::play;
+use crate::worked::script::play_each;
 use crate::worked::shared::{FIRST, MASQUERADE};
 use std::test::Fail;
 
@@ -129,21 +129,23 @@ lan 5 4500001c00010000 40118eeb c0a80102 c6336407 13880035 0008003c
 = wan 4500001c00010000 3f111594 cb007101 c6336407 13880035 000885e4
 : udp 192.168.1.2:5000 203.0.113.1:5000 198.51.100.7:53 - inside 0 at 18446744073709551615";
 
+const PHASES: [&[&str]; 13] = [
+    &[MASQUERADE, RESET],
+    &[MASQUERADE, BOTH_OPEN],
+    &[MASQUERADE, ACK_ALONE],
+    &[MASQUERADE, FIRST, REPLY_IN_TIME],
+    &[MASQUERADE, FIRST, REPLY_TOO_LATE],
+    &[MASQUERADE, FIRST, PROTOCOLS_APART],
+    &[MASQUERADE, FIRST, MOMENTS],
+    &[MASQUERADE, SYN, SYN_AGAIN],
+    &[MASQUERADE, SYN, SYN_ALONE_ENDS],
+    &[MASQUERADE, HANDSHAKE, ESTABLISHED_ENDS],
+    &[MASQUERADE, HANDSHAKE, BOTH_FIN, CLOSING_ENDS],
+    &[MASQUERADE, HANDSHAKE, BOTH_FIN, ANEW],
+    &[MASQUERADE, HANDSHAKE, BOTH_FIN, ANEW_FROM_REMOTE],
+];
+
 #[test]
 fn phases(rt: HostRuntime) -> Result<(), Fail> {
-    let alloc = rt.alloc();
-    for script in [RESET, BOTH_OPEN, ACK_ALONE] {
-        play(alloc, &[MASQUERADE, script])?;
-    }
-    for end in [REPLY_IN_TIME, REPLY_TOO_LATE, PROTOCOLS_APART, MOMENTS] {
-        play(alloc, &[MASQUERADE, FIRST, end])?;
-    }
-    for end in [SYN_AGAIN, SYN_ALONE_ENDS] {
-        play(alloc, &[MASQUERADE, SYN, end])?;
-    }
-    play(alloc, &[MASQUERADE, HANDSHAKE, ESTABLISHED_ENDS])?;
-    for end in [CLOSING_ENDS, ANEW, ANEW_FROM_REMOTE] {
-        play(alloc, &[MASQUERADE, HANDSHAKE, BOTH_FIN, end])?;
-    }
-    Ok(())
+    play_each(rt.alloc(), &PHASES)
 }

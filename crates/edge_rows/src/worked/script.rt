@@ -8,113 +8,60 @@
 //!   `= refused`; `= ticked`;
 //! - `: udp 192.168.1.2:5000 203.0.113.1:5000 198.51.100.7:53 - inside 0 at 1000`: the sessions, joined
 //!   by commas: inside, outside, remote, phase, opener, the bits seen, the moment of the last packet.
-use gateway::{Gateway, Session};
-use packet::bounds::Bounds;
-use packet::endpoint::{Endpoint, Prefix, Proto};
+use crate::shared::{Trials, hex, opened, put_hex, run, run_over};
+use gateway::Session;
+use packet::endpoint::{Endpoint, Proto};
 use sessions::{Opener, Phase};
 use socket_edge::EdgeFault;
 use std::alloc::Global;
-use std::io::{Read, Write};
 use std::net::Ipv4Addr;
 use std::test::Fail;
-use trial_disk::Trial;
-
-fn bounds(
-    alloc: Global,
-    lan: &str,
-    wan: &str,
-    inside: Prefix,
-    external: u32,
-) -> Result<Bounds, Fail> {
-    let lan = String::from_str(alloc, lan)?;
-    let wan = String::from_str(alloc, wan)?;
-    let inside = vec![in alloc; inside]?;
-    Ok(Bounds::new(lan, wan, inside, external)?)
-}
-
-fn prefix(addr: u32, len: u8) -> Prefix {
-    Prefix { addr, len }
-}
-
-/// A gateway over a disk for trials. It lies behind a box, so that a function which lets it go does so by one call.
-type Trials = Box<Gateway<Trial>>;
-
-/// Inside 192.168.0.0/16, outside 203.0.113.1, opened at 0 over empty files.
-fn opened(alloc: Global) -> Result<Trials, Fail> {
-    let inside = prefix(0xc0a8_0000, 16);
-    let bounds = bounds(alloc, "lan", "wan", inside, 0xcb00_7101)?;
-    match Gateway::open(alloc, Trial::of(alloc, b"", b"")?, bounds, 0) {
-        Ok(gateway) => Ok(Box::new(alloc, gateway)?),
-        Err(_) => Err(Fail::new("the gateway did not open")),
-    }
-}
-
-/// The run of the edge, of which a test knows no clause.
-fn run<R: Read, W: Write>(
-    alloc: Global,
-    reader: &mut R,
-    writer: &mut W,
-    gateway: &mut Trials,
-) -> Result<u64, EdgeFault> {
-    socket_edge::run(alloc, reader, writer, gateway)
-}
-
-fn digit(byte: u8) -> Result<u8, Fail> {
-    match byte {
-        b'0'..=b'9' => Ok(byte - b'0'),
-        b'a'..=b'f' => Ok(byte - b'a' + 10),
-        _ => Err(Fail::new("not a hexadecimal digit")),
-    }
-}
-
-fn put_pair(out: &mut Vec<u8>, pair: &[u8]) -> Result<(), Fail> {
-    match pair {
-        [high, low] => Ok(out.push(digit(*high)? << 4 | digit(*low)?)?),
-        _ => Err(Fail::new("an odd digit")),
-    }
-}
-
-/// The bytes that a text has in hexadecimal.
-fn hex(alloc: Global, text: &str) -> Result<Vec<u8>, Fail> {
-    let mut out = Vec::new(alloc);
-    for word in text.split_whitespace() {
-        for pair in word.as_bytes().chunks(2) {
-            put_pair(&mut out, pair)?;
-        }
-    }
-    Ok(out)
-}
 
 /// Bytes in hexadecimal.
 fn shown(alloc: Global, bytes: &[u8]) -> Result<String, Fail> {
     let mut text = String::new(alloc);
     for byte in bytes {
-        text.push_str(format!(in alloc; "{byte:02x}")?.as_str())?;
+        put_byte(alloc, &mut text, *byte)?;
     }
     Ok(text)
 }
 
+fn put_byte(alloc: Global, text: &mut String, byte: u8) -> Result<(), Fail> {
+    let digits = format!(in alloc; "{byte:02x}")?;
+    text.push_str(digits.as_str())?;
+    Ok(())
+}
+
+fn joined(alloc: Global, parts: &[&[u8]]) -> Result<Vec<u8>, Fail> {
+    let mut frame = Vec::new(alloc);
+    for part in parts {
+        frame.extend_from_slice(part)?;
+    }
+    Ok(frame)
+}
+
 /// A request's frame.
 fn request(alloc: Global, kind: u8, iface: u8, moment: u64, body: &[u8]) -> Result<Vec<u8>, Fail> {
-    let mut frame = vec![in alloc; kind, iface]?;
-    frame.extend_from_slice(&u32::try_from(body.len())?.to_be_bytes())?;
-    frame.extend_from_slice(&moment.to_be_bytes())?;
-    frame.extend_from_slice(body)?;
-    Ok(frame)
+    let length = u32::try_from(body.len())?.to_be_bytes();
+    let moment = moment.to_be_bytes();
+    joined(alloc, &[&[kind, iface], &length, &moment, body])
+}
+
+fn packet(alloc: Global, iface: u8, moment: u64, text: &str) -> Result<Vec<u8>, Fail> {
+    let body = hex(alloc, text)?;
+    request(alloc, 1, iface, moment, body.as_slice())
 }
 
 /// An answer's frame.
 fn answer(alloc: Global, kind: u8, number: u64, body: &[u8]) -> Result<Vec<u8>, Fail> {
-    let mut frame = vec![in alloc; kind]?;
-    frame.extend_from_slice(&number.to_be_bytes())?;
-    frame.extend_from_slice(&u32::try_from(body.len())?.to_be_bytes())?;
-    frame.extend_from_slice(body)?;
-    Ok(frame)
+    let length = u32::try_from(body.len())?.to_be_bytes();
+    let number = number.to_be_bytes();
+    joined(alloc, &[&[kind], &number, &length, body])
 }
 
 fn forward(alloc: Global, number: u64, iface: u8, packet: &str) -> Result<Vec<u8>, Fail> {
     let mut body = vec![in alloc; iface]?;
-    body.extend_from_slice(hex(alloc, packet)?.as_slice())?;
+    put_hex(&mut body, packet)?;
     answer(alloc, 1, number, body.as_slice())
 }
 
@@ -137,8 +84,8 @@ fn asked(alloc: Global, word: &str, rest: &str) -> Result<Vec<u8>, Fail> {
     let (moment, body) = rest.split_once(' ').unwrap_or((rest, ""));
     let moment = moment.parse::<u64>()?;
     match word {
-        "lan" => request(alloc, 1, 0, moment, hex(alloc, body)?.as_slice()),
-        "wan" => request(alloc, 1, 1, moment, hex(alloc, body)?.as_slice()),
+        "lan" => packet(alloc, 0, moment, body),
+        "wan" => packet(alloc, 1, moment, body),
         "load" => request(alloc, 2, 0, moment, body.as_bytes()),
         "at" => request(alloc, 3, 0, moment, &[]),
         _ => Err(Fail::new(format_args!("no event: {word} {rest}"))),
@@ -173,26 +120,43 @@ fn endpoint(alloc: Global, endpoint: Endpoint) -> Result<String, Fail> {
     Ok(format!(in alloc; "{addr}:{}", endpoint.port)?)
 }
 
-fn spelled(alloc: Global, session: &Session) -> Result<String, Fail> {
-    let proto = proto(session);
+fn endpoints(alloc: Global, session: &Session) -> Result<String, Fail> {
     let inside = endpoint(alloc, session.inside)?;
     let outside = endpoint(alloc, session.outside)?;
     let remote = endpoint(alloc, session.remote)?;
+    Ok(format!(in alloc; "{inside} {outside} {remote}")?)
+}
+
+fn spelled(alloc: Global, session: &Session) -> Result<String, Fail> {
+    let endpoints = endpoints(alloc, session)?;
+    let proto = proto(session);
     let phase = phase(session);
     let opener = opener(session);
     let (seen, last) = (session.seen, session.last);
-    Ok(format!(in alloc; "{proto} {inside} {outside} {remote} {phase} {opener} {seen} at {last}")?)
+    Ok(format!(in alloc; "{proto} {endpoints} {phase} {opener} {seen} at {last}")?)
+}
+
+fn put_session(alloc: Global, all: &mut String, session: &Session) -> Result<(), Fail> {
+    if !all.is_empty() {
+        all.push_str(", ")?;
+    }
+    let session = spelled(alloc, session)?;
+    all.push_str(session.as_str())?;
+    Ok(())
+}
+
+fn put_sessions(alloc: Global, all: &mut String, sessions: &[Session]) -> Result<(), Fail> {
+    for session in sessions {
+        put_session(alloc, all, session)?;
+    }
+    Ok(())
 }
 
 /// The sessions of a gateway, as a line behind `:` has them.
 fn listed(alloc: Global, gateway: &Trials) -> Result<String, Fail> {
+    let sessions = gateway.sessions()?;
     let mut all = String::new(alloc);
-    for session in gateway.sessions()?.as_slice() {
-        if !all.is_empty() {
-            all.push_str(", ")?;
-        }
-        all.push_str(spelled(alloc, session)?.as_str())?;
-    }
+    put_sessions(alloc, &mut all, sessions.as_slice())?;
     Ok(all)
 }
 
@@ -223,6 +187,7 @@ impl Stage {
         let frame = asked(self.alloc, word, rest)?;
         self.number = self.number.saturating_add(1);
         self.written.clear();
+        self.all_asked.extend_from_slice(frame.as_slice())?;
         let mut reader = frame.as_slice();
         run(
             self.alloc,
@@ -230,19 +195,23 @@ impl Stage {
             &mut self.written,
             &mut self.gateway,
         )?;
-        self.all_asked.extend_from_slice(frame.as_slice())?;
         Ok(())
     }
 
     fn expect_answer(&mut self, line: &str) -> Result<(), Fail> {
         let frame = expected(self.alloc, self.number, line)?;
         if self.written.as_slice() != frame.as_slice() {
-            let number = self.number;
-            let written = shown(self.alloc, self.written.as_slice())?;
-            return Err(Fail::new(format_args!("{number}: {line}: {written}")));
+            return self.tell_answer(line);
         }
         self.all_answers.extend_from_slice(frame.as_slice())?;
         Ok(())
+    }
+
+    // The last answer is not the one of this line.
+    fn tell_answer(&self, line: &str) -> Result<(), Fail> {
+        let number = self.number;
+        let written = shown(self.alloc, self.written.as_slice())?;
+        Err(Fail::new(format_args!("{number}: {line}: {written}")))
     }
 
     fn expect_sessions(&self, line: &str) -> Result<(), Fail> {
@@ -262,14 +231,25 @@ impl Stage {
             _ => self.ask(word, rest),
         }
     }
+
+    fn lines(&mut self, part: &str) -> Result<(), Fail> {
+        for line in part.lines() {
+            self.line(line)?;
+        }
+        Ok(())
+    }
 }
 
-/// How a run over the bytes of one stream ends, and what it writes.
-fn run_over(alloc: Global, stream: &[u8]) -> Result<(Result<u64, EdgeFault>, Vec<u8>), Fail> {
-    let mut written = Vec::new(alloc);
-    let mut reader = stream;
-    let ended = run(alloc, &mut reader, &mut written, &mut opened(alloc)?);
-    Ok((ended, written))
+// Each event alone, and then all of them in one stream.
+fn play_on(stage: &mut Stage, parts: &[&str]) -> Result<(), Fail> {
+    for part in parts {
+        stage.lines(part)?;
+    }
+    let (ended, written) = run_over(stage.alloc, stage.all_asked.as_slice())?;
+    if ended != Ok(stage.number) || written.as_slice() != stage.all_answers.as_slice() {
+        return Err(Fail::new(format_args!("in one stream: {ended:?}")));
+    }
+    Ok(())
 }
 
 /// Plays the parts one behind the other: each event alone, and then all of them in one stream.
@@ -279,14 +259,25 @@ fn run_over(alloc: Global, stream: &[u8]) -> Result<(Result<u64, EdgeFault>, Vec
 /// A `Fail` with the number of the event, the line and what came instead; or where a line can't be read.
 pub fn play(alloc: Global, parts: &[&str]) -> Result<(), Fail> {
     let mut stage = Stage::new(alloc)?;
-    for part in parts {
-        for line in part.lines() {
-            stage.line(line)?;
-        }
-    }
-    let (ended, written) = run_over(alloc, stage.all_asked.as_slice())?;
-    if ended != Ok(stage.number) || written.as_slice() != stage.all_answers.as_slice() {
-        return Err(Fail::new(format_args!("in one stream: {ended:?}")));
+    let played = play_on(&mut stage, parts);
+    drop(stage);
+    played
+}
+
+fn put_expected(alloc: Global, out: &mut Vec<u8>, number: u64, line: &str) -> Result<(), Fail> {
+    let frame = expected(alloc, number, line)?;
+    out.extend_from_slice(frame.as_slice())?;
+    Ok(())
+}
+
+/// Plays each of these scripts, the parts of one behind the other.
+///
+/// # Errors
+///
+/// Those of the first one that fails.
+pub fn play_each(alloc: Global, scripts: &[&[&str]]) -> Result<(), Fail> {
+    for parts in scripts {
+        play(alloc, parts)?;
     }
     Ok(())
 }
@@ -297,7 +288,7 @@ fn frames(alloc: Global, lines: &str) -> Result<Vec<u8>, Fail> {
     let mut number = 0_u64;
     for line in lines.lines() {
         number = number.saturating_add(1);
-        out.extend_from_slice(expected(alloc, number, line)?.as_slice())?;
+        put_expected(alloc, &mut out, number, line)?;
     }
     Ok(out)
 }
@@ -313,10 +304,17 @@ pub fn expect_end(
     end: Result<u64, EdgeFault>,
     answers: &str,
 ) -> Result<(), Fail> {
-    let (ended, written) = run_over(alloc, hex(alloc, stream)?.as_slice())?;
-    if ended != end || written.as_slice() != frames(alloc, answers)?.as_slice() {
-        let written = shown(alloc, written.as_slice())?;
-        return Err(Fail::new(format_args!("{ended:?}: {written}")));
+    let answers = frames(alloc, answers)?;
+    let stream = hex(alloc, stream)?;
+    let (ended, written) = run_over(alloc, stream.as_slice())?;
+    if ended != end || written.as_slice() != answers.as_slice() {
+        return tell_end(alloc, ended, written.as_slice());
     }
     Ok(())
+}
+
+// A stream ended otherwise, or was answered otherwise.
+fn tell_end(alloc: Global, ended: Result<u64, EdgeFault>, written: &[u8]) -> Result<(), Fail> {
+    let written = shown(alloc, written)?;
+    Err(Fail::new(format_args!("{ended:?}: {written}")))
 }
