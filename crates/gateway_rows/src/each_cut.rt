@@ -4,6 +4,7 @@ use crate::script::{flush, offer, play};
 use crate::shared::{Answer, Event, Given, MASQUERADE, Trials, What, fresh};
 use crate::words::body;
 use std::alloc::Global;
+use std::process::Abort;
 use std::test::*;
 
 const WHOLE: &str = "\
@@ -118,51 +119,6 @@ fn path(alloc: Global, words: &str, count: u32, behind: &str) -> Result<String, 
     Ok(text)
 }
 
-// A text at a limit, and one that has one thing more.
-#[derive(Drop)]
-struct Limit {
-    at: String,
-    past: String,
-}
-
-fn limits_of_counts(alloc: Global) -> Result<[Limit; 4], Fail> {
-    let rules = "table t { chain c {\n";
-    let elements = "table t { set s { type inet_service; elements = {\n";
-    Ok([
-        Limit {
-            at: repeated(alloc, rules, "drop\n", 4096, "} }")?,
-            past: repeated(alloc, rules, "drop\n", 4097, "} }")?,
-        },
-        Limit {
-            at: repeated(alloc, elements, "1,\n", 16384, "} } }")?,
-            past: repeated(alloc, elements, "1,\n", 16385, "} } }")?,
-        },
-        Limit {
-            at: repeated(alloc, "", "\n", 262_144, "")?,
-            past: repeated(alloc, "", "\n", 262_145, "")?,
-        },
-        Limit {
-            at: chains(alloc, 256)?,
-            past: chains(alloc, 257)?,
-        },
-    ])
-}
-
-fn limit_of_path(alloc: Global, words: &str, behind: &str) -> Result<Limit, Fail> {
-    Ok(Limit {
-        at: path(alloc, words, 16, behind)?,
-        past: path(alloc, words, 17, behind)?,
-    })
-}
-
-fn limits_of_paths(alloc: Global) -> Result<[Limit; 3], Fail> {
-    Ok([
-        limit_of_path(alloc, "jump", "")?,
-        limit_of_path(alloc, "goto", "")?,
-        limit_of_path(alloc, "tcp dport vmap { 1 : jump", " }")?,
-    ])
-}
-
 fn is_loaded(gateway: &mut Trials, text: Vec<u8>) -> Result<bool, Fail> {
     let moment = 1000;
     let what = What::Load(body(text)?);
@@ -173,23 +129,56 @@ fn is_loaded(gateway: &mut Trials, text: Vec<u8>) -> Result<bool, Fail> {
     }
 }
 
-// The text at the limit is loaded, the other one is refused, and the first stays.
-fn keeps_to(alloc: Global, limit: &Limit) -> Result<bool, Fail> {
+// The text at the limit is loaded, the other one, which has one thing more, is refused, and the first stays.
+fn keeps_to(alloc: Global, at: &[u8], past: &[u8]) -> Result<bool, Fail> {
     let mut gateway = fresh(alloc)?;
-    let at = Vec::from_slice(alloc, limit.at.as_bytes())?;
-    let past = Vec::from_slice(alloc, limit.past.as_bytes())?;
-    let is_kept = is_loaded(&mut gateway, at)? && !is_loaded(&mut gateway, past)?;
-    Ok(is_kept && gateway.rules() == limit.at.as_bytes())
+    let first = Vec::from_slice(alloc, at)?;
+    let second = Vec::from_slice(alloc, past)?;
+    let is_kept = is_loaded(&mut gateway, first)? && !is_loaded(&mut gateway, second)?;
+    Ok(is_kept && gateway.rules() == at)
+}
+
+fn look(rt: &impl Abort, alloc: Global, at: &str, past: &str) -> Result<(), Fail> {
+    let is_kept = keeps_to(alloc, at.as_bytes(), past.as_bytes())?;
+    assert!(rt; is_kept, "{} bytes", at.len());
+    Ok(())
+}
+
+fn limit_of_lines(
+    rt: &impl Abort,
+    alloc: Global,
+    before: &str,
+    line: &str,
+    count: u32,
+    behind: &str,
+) -> Result<(), Fail> {
+    let at = repeated(alloc, before, line, count, behind)?;
+    let past = repeated(alloc, before, line, count.saturating_add(1), behind)?;
+    look(rt, alloc, at.as_str(), past.as_str())
+}
+
+fn limit_of_chains(rt: &impl Abort, alloc: Global) -> Result<(), Fail> {
+    let at = chains(alloc, 256)?;
+    let past = chains(alloc, 257)?;
+    look(rt, alloc, at.as_str(), past.as_str())
+}
+
+fn limit_of_path(rt: &impl Abort, alloc: Global, words: &str, behind: &str) -> Result<(), Fail> {
+    let at = path(alloc, words, 16, behind)?;
+    let past = path(alloc, words, 17, behind)?;
+    look(rt, alloc, at.as_str(), past.as_str())
 }
 
 #[test]
 fn at_the_limits(rt: HostRuntime) -> Result<(), Fail> {
     let alloc = rt.alloc();
-    for limit in &limits_of_counts(alloc)? {
-        assert!(rt; keeps_to(alloc, limit)?, "{} bytes", limit.at.len());
-    }
-    for limit in &limits_of_paths(alloc)? {
-        assert!(rt; keeps_to(alloc, limit)?, "{} bytes", limit.at.len());
-    }
-    Ok(())
+    let rules = "table t { chain c {\n";
+    let elements = "table t { set s { type inet_service; elements = {\n";
+    limit_of_lines(&rt, alloc, rules, "drop\n", 4096, "} }")?;
+    limit_of_lines(&rt, alloc, elements, "1,\n", 16384, "} } }")?;
+    limit_of_lines(&rt, alloc, "", "\n", 262_144, "")?;
+    limit_of_chains(&rt, alloc)?;
+    limit_of_path(&rt, alloc, "jump", "")?;
+    limit_of_path(&rt, alloc, "goto", "")?;
+    limit_of_path(&rt, alloc, "tcp dport vmap { 1 : jump", " }")
 }

@@ -39,23 +39,13 @@ const HAIRPIN: [u8; 28] = [
     0xcb, 0x00, 0x71, 0x01, 0x17, 0x70, 0x13, 0x88, 0x00, 0x08, 0xd7, 0x38,
 ];
 
-/// What the calls are given.
+/// What the calls are given. The events that are offered one by one stand here from the last to the first.
 #[derive(Drop)]
 struct Begun {
     disk: Trial,
     bounds: Vec<Bounds>,
-    offered: Offered,
+    offered: Vec<Event>,
     run: Vec<Event>,
-}
-
-/// What is offered, event by event.
-#[derive(Drop)]
-struct Offered {
-    rules: Event,
-    first: Event,
-    again: Event,
-    hairpin: Event,
-    neighbour: Event,
 }
 
 fn one_bounds(alloc: Global) -> Option<Bounds> {
@@ -95,14 +85,13 @@ fn tick(moment: u64) -> Event {
 }
 
 // At 1300 all sessions end that began at 1000.
-fn some_events(alloc: Global) -> Option<Offered> {
-    Some(Offered {
-        rules: load(alloc, 1000, RULES)?,
-        first: from_lan(alloc, 1000, &FIRST)?,
-        again: from_lan(alloc, 1000, &FIRST)?,
-        hairpin: from_lan(alloc, 1000, &HAIRPIN)?,
-        neighbour: from_lan(alloc, 1300, &NEIGHBOUR)?,
-    })
+fn some_events(alloc: Global) -> Option<Vec<Event>> {
+    let rules = load(alloc, 1000, RULES)?;
+    let first = from_lan(alloc, 1000, &FIRST)?;
+    let again = from_lan(alloc, 1000, &FIRST)?;
+    let hairpin = from_lan(alloc, 1000, &HAIRPIN)?;
+    let neighbour = from_lan(alloc, 1300, &NEIGHBOUR)?;
+    vec![in alloc; neighbour, hairpin, again, first, rules].ok()
 }
 
 // The second text and the packet change something.
@@ -136,14 +125,37 @@ fn must(is_right: bool) -> Result<(), Stop> {
     if is_right { Ok(()) } else { Err(Stop::Wrong) }
 }
 
+// Opens it within the last of the bounds. There are enough of them, which all are as those of the files.
+fn open_once(
+    alloc: Global,
+    disk: Trial,
+    all: &mut Vec<Bounds>,
+) -> Result<Trials, (Trial, OpenFault)> {
+    match all.pop() {
+        Some(bounds) => open(alloc, disk, bounds, 1000),
+        None => Err((disk, OpenFault::ConfigDiffers)),
+    }
+}
+
+fn open_again(alloc: Global, disk: Trial, all: &mut Vec<Bounds>) -> Result<Trials, Stop> {
+    match open_once(alloc, disk, all) {
+        Ok(gateway) => Ok(gateway),
+        Err(refused) => {
+            drop(refused);
+            Err(Stop::Wrong)
+        }
+    }
+}
+
 // Opens it, a second time where memory was refused.
 fn open_twice(alloc: Global, disk: Trial, all: &mut Vec<Bounds>) -> Result<Trials, Stop> {
-    match open(alloc, disk, all.pop().ok_or(Stop::Wrong)?, 1000) {
+    match open_once(alloc, disk, all) {
         Ok(gateway) => Ok(gateway),
-        Err((disk, OpenFault::NoMemory | OpenFault::Device)) => {
-            open(alloc, disk, all.pop().ok_or(Stop::Wrong)?, 1000).map_err(|_| Stop::Wrong)
+        Err((disk, OpenFault::NoMemory | OpenFault::Device)) => open_again(alloc, disk, all),
+        Err(refused) => {
+            drop(refused);
+            Err(Stop::Wrong)
         }
-        Err(_) => Err(Stop::Wrong),
     }
 }
 
@@ -157,15 +169,21 @@ fn has_sessions(gateway: &Trials, count: usize) -> Result<(), Stop> {
     must(counted == Some(count))
 }
 
+// Offers it again, where as much has to be held as before.
+fn offer_again(gateway: &mut Trials, event: Event, held: usize) -> Result<Given, Stop> {
+    let is_held = gateway.held() == held;
+    match offer(gateway, event) {
+        Ok(given) if is_held => Ok(given),
+        _ => Err(Stop::Wrong),
+    }
+}
+
 // Offers it, a second time where memory was refused.
 fn offer_twice(gateway: &mut Trials, event: Event) -> Result<Given, Stop> {
     let held = gateway.held();
     match offer(gateway, event) {
         Ok(given) => Ok(given),
-        Err((event, GatewayFault::NoMemory)) => {
-            must(gateway.held() == held)?;
-            offer(gateway, event).map_err(|_| Stop::Wrong)
-        }
+        Err((event, GatewayFault::NoMemory)) => offer_again(gateway, event, held),
         Err(_) => Err(Stop::Wrong),
     }
 }
@@ -224,22 +242,26 @@ fn run_once(gateway: &mut Trials, events: Vec<Event>) -> Result<(), Stop> {
     }
 }
 
-fn offer_all(gateway: &mut Trials, offered: Offered) -> Result<(), Stop> {
-    hold(gateway, offered.rules, 1)?;
-    hold(gateway, offered.first, 2)?;
+fn next(offered: &mut Vec<Event>) -> Result<Event, Stop> {
+    offered.pop().ok_or(Stop::Wrong)
+}
+
+fn offer_all(gateway: &mut Trials, offered: &mut Vec<Event>) -> Result<(), Stop> {
+    hold(gateway, next(offered)?, 1)?;
+    hold(gateway, next(offered)?, 2)?;
     hand_out(gateway, 2)?;
-    answer_at_once(gateway, offered.again, 3)?;
-    hold(gateway, offered.hairpin, 4)?;
+    answer_at_once(gateway, next(offered)?, 3)?;
+    hold(gateway, next(offered)?, 4)?;
     has_sessions(gateway, 3)?;
     hand_out(gateway, 1)?;
     compact_twice(gateway)?;
-    hold(gateway, offered.neighbour, 5)?;
+    hold(gateway, next(offered)?, 5)?;
     has_sessions(gateway, 1)?;
     hand_out(gateway, 1)
 }
 
 // Each call in turn, up to a fault of the disk.
-fn calls(gateway: &mut Trials, offered: Offered, events: Vec<Event>) -> Result<(), Stop> {
+fn calls(gateway: &mut Trials, offered: &mut Vec<Event>, events: Vec<Event>) -> Result<(), Stop> {
     offer_all(gateway, offered)?;
     run_once(gateway, events)
 }
@@ -252,10 +274,15 @@ fn is_left(alloc: Global, disk: Trial, all: &mut Vec<Bounds>) -> Result<(), Stop
 }
 
 fn scenario(alloc: Global, begun: Begun) -> Result<(), Stop> {
-    let mut all = begun.bounds;
-    let mut gateway = open_twice(alloc, begun.disk, &mut all)?;
-    match calls(&mut gateway, begun.offered, begun.run) {
-        Ok(()) | Err(Stop::Fallen) => is_left(alloc, disk_of(gateway), &mut all),
+    let Begun {
+        disk,
+        mut bounds,
+        mut offered,
+        run,
+    } = begun;
+    let mut gateway = open_twice(alloc, disk, &mut bounds)?;
+    match calls(&mut gateway, &mut offered, run) {
+        Ok(()) | Err(Stop::Fallen) => is_left(alloc, disk_of(gateway), &mut bounds),
         Err(Stop::Wrong) => Err(Stop::Wrong),
     }
 }

@@ -3,13 +3,14 @@
 //! answered from there on.
 use crate::script::{compact, flush, offer, play, run};
 use crate::shared::{
-    Answer, Event, GatewayFault, Given, OpenFault, Session, Trials, Trouble, bounds, disk_of,
-    expect_trouble, open, opened,
+    Answer, Event, GatewayFault, Given, OpenFault, Session, Trials, Trouble, bounds, crashed,
+    disk_of, expect_trouble, machine, open, opened,
 };
 use crate::words::{answer_line, event, lasting_line, moved};
 use machine::Core;
 use std::alloc::Global;
-use std::test::Fail;
+use std::process::Abort;
+use std::test::*;
 use trial_disk::Trial;
 
 // UDP and TCP from two hosts, replies, a stranger, packets between the hosts, and texts that load or don't.
@@ -108,12 +109,6 @@ fn go_through(alloc: Global, core: &mut Core, model: &mut Model) -> Result<(), F
     Ok(())
 }
 
-// A machine without a disk, behind a box, so that a function which lets it go does so by one call.
-fn machine(alloc: Global, moment: u64) -> Result<Box<Core>, Fail> {
-    let core = Core::start(alloc, bounds(alloc, "wan")?, moment)?;
-    Ok(Box::new(alloc, core)?)
-}
-
 fn run_of_machine(alloc: Global) -> Result<Model, Fail> {
     let mut core = machine(alloc, 1000)?;
     let mut model = Model {
@@ -124,15 +119,33 @@ fn run_of_machine(alloc: Global) -> Result<Model, Fail> {
     Ok(model)
 }
 
-// All events of the script, and those behind it.
-fn all_events(alloc: Global) -> Result<Vec<Event>, Fail> {
-    let mut events = Vec::new(alloc);
+// The lines of all events of the script, and of those behind it.
+fn all_lines(alloc: Global) -> Result<Vec<&'static str>, Fail> {
+    let mut lines = Vec::new(alloc);
     for line in SCRIPT.iter().chain(LATER.iter()) {
         if is_event(line) {
-            events.push(event(alloc, line)?)?;
+            lines.push(*line)?;
         }
     }
-    Ok(events)
+    Ok(lines)
+}
+
+// Takes all events, so many of them at 2000, and hears what is answered behind those.
+fn hear_behind(
+    alloc: Global,
+    core: &mut Core,
+    taken: usize,
+    answers: &mut Vec<String>,
+) -> Result<(), Fail> {
+    for (number, line) in all_lines(alloc)?.iter().enumerate() {
+        let event = event(alloc, line)?;
+        if number < taken {
+            let _ = step(alloc, core, moved(event, 2000))?;
+        } else {
+            answers.push(step(alloc, core, event)?)?;
+        }
+    }
+    Ok(())
 }
 
 // What the machine answers behind so many events, if it was stopped there and begun again at 2000. None of them ends a
@@ -140,21 +153,15 @@ fn all_events(alloc: Global) -> Result<Vec<Event>, Fail> {
 fn answers_behind(alloc: Global, taken: usize) -> Result<Vec<String>, Fail> {
     let mut core = machine(alloc, 2000)?;
     let mut answers = Vec::new(alloc);
-    for (number, event) in all_events(alloc)?.into_iter().enumerate() {
-        if number < taken {
-            let _ = step(alloc, &mut core, moved(event, 2000))?;
-        } else {
-            answers.push(step(alloc, &mut core, event)?)?;
-        }
-    }
+    hear_behind(alloc, &mut core, taken, &mut answers)?;
     Ok(answers)
 }
 
 fn events_behind(alloc: Global, taken: usize) -> Result<Vec<Event>, Fail> {
     let mut events = Vec::new(alloc);
-    for (number, event) in all_events(alloc)?.into_iter().enumerate() {
+    for (number, line) in all_lines(alloc)?.iter().enumerate() {
         if number >= taken {
-            events.push(event)?;
+            events.push(event(alloc, line)?)?;
         }
     }
     Ok(events)
@@ -276,27 +283,30 @@ fn drive(alloc: Global, gateway: &mut Trials, model: &Model) -> Result<Told, Fai
     Ok(told)
 }
 
-fn not_opened(fault: OpenFault) -> Result<Told, Fail> {
+fn not_opened(disk: Trial, fault: OpenFault) -> Result<(Trial, Told), Fail> {
     if fault != OpenFault::Device {
+        drop(disk);
         return Err(fault.into());
     }
-    Ok(Told {
+    let told = Told {
         offered: 0,
         answered: 0,
         has_fallen: true,
-    })
+    };
+    Ok((disk, told))
 }
 
 // Opens a gateway over empty files with trouble at a call of the disk, and plays the script.
 fn driven(alloc: Global, model: &Model, at: Trouble) -> Result<(Trial, Told), Fail> {
+    let bounds = bounds(alloc, "wan")?;
     let mut disk = Trial::of(alloc, b"", b"")?;
     expect_trouble(&mut disk, at, 0);
-    match open(alloc, disk, bounds(alloc, "wan")?, 1000) {
+    match open(alloc, disk, bounds, 1000) {
         Ok(mut gateway) => {
             let told = drive(alloc, &mut gateway, model)?;
             Ok((disk_of(gateway), told))
         }
-        Err((disk, fault)) => Ok((disk, not_opened(fault)?)),
+        Err((disk, fault)) => not_opened(disk, fault),
     }
 }
 
@@ -321,10 +331,12 @@ fn taken(model: &Model, told: Told, state: &str) -> Result<usize, Fail> {
     Err(Fail::new(format_args!("another state: {state}")))
 }
 
-fn goes_on(alloc: Global, mut gateway: Trials, taken: usize) -> Result<(), Fail> {
-    let events = events_behind(alloc, taken)?;
-    let wanted = answers_behind(alloc, taken)?;
-    let answers = run(&mut gateway, events).map_err(|(_, fault)| fault)?;
+fn are_same(
+    alloc: Global,
+    taken: usize,
+    answers: &[(u64, Answer)],
+    wanted: &[String],
+) -> Result<(), Fail> {
     if answers.len() != wanted.len() {
         return Err(Fail::new("another number of answers"));
     }
@@ -337,15 +349,36 @@ fn goes_on(alloc: Global, mut gateway: Trials, taken: usize) -> Result<(), Fail>
     Ok(())
 }
 
-fn check(alloc: Global, model: &Model, disk: Trial, told: Told) -> Result<(), Fail> {
-    if disk.has_strayed() {
-        return Err(Fail::new("it strayed"));
+fn goes_on(alloc: Global, gateway: &mut Trials, taken: usize) -> Result<(), Fail> {
+    let wanted = answers_behind(alloc, taken)?;
+    match run(gateway, events_behind(alloc, taken)?) {
+        Ok(answers) => are_same(alloc, taken, answers.as_slice(), wanted.as_slice()),
+        Err((_, fault)) => Err(fault.into()),
     }
-    let gateway = opened(alloc, disk, 2000)?;
+}
+
+// The state of a gateway that was just opened.
+fn left(alloc: Global, gateway: &Trials) -> Result<String, Fail> {
     let sessions = gateway.sessions()?;
     began_anew(sessions.as_slice())?;
-    let state = lasting(alloc, gateway.rules(), sessions.as_slice())?;
-    goes_on(alloc, gateway, taken(model, told, state.as_str())?)
+    lasting(alloc, gateway.rules(), sessions.as_slice())
+}
+
+fn check(alloc: Global, model: &Model, disk: Trial, told: Told) -> Result<(), Fail> {
+    if disk.has_strayed() {
+        drop(disk);
+        return Err(Fail::new("it strayed"));
+    }
+    let mut gateway = opened(alloc, disk, 2000)?;
+    let state = left(alloc, &gateway)?;
+    let taken = taken(model, told, state.as_str())?;
+    goes_on(alloc, &mut gateway, taken)
+}
+
+fn stop(rt: &impl Abort, alloc: Global, model: &Model, call: u64, choice: u64) -> Result<(), Fail> {
+    let (disk, told) = driven(alloc, model, Trouble::Stop(call))?;
+    assert!(rt; told.has_fallen, "call {call}");
+    check(alloc, model, crashed(disk, choice)?, told)
 }
 
 #[test]
@@ -354,13 +387,16 @@ fn each_stop(rt: HostRuntime) -> Result<(), Fail> {
     let model = run_of_machine(alloc)?;
     for call in 0..CALLS {
         for choice in [0, 1, 2, 3, 5, 10] {
-            let (mut disk, told) = driven(alloc, &model, Trouble::Stop(call))?;
-            assert!(rt; told.has_fallen, "call {call}");
-            disk.crash(choice)?;
-            check(alloc, &model, disk, told)?;
+            stop(&rt, alloc, &model, call, choice)?;
         }
     }
     Ok(())
+}
+
+fn fault(rt: &impl Abort, alloc: Global, model: &Model, call: u64) -> Result<(), Fail> {
+    let (disk, told) = driven(alloc, model, Trouble::Fault(call))?;
+    assert!(rt; told.has_fallen, "call {call}");
+    check(alloc, model, disk, told)
 }
 
 #[test]
@@ -368,11 +404,17 @@ fn each_fault(rt: HostRuntime) -> Result<(), Fail> {
     let alloc = rt.alloc();
     let model = run_of_machine(alloc)?;
     for call in 0..CALLS {
-        let (disk, told) = driven(alloc, &model, Trouble::Fault(call))?;
-        assert!(rt; told.has_fallen, "call {call}");
-        check(alloc, &model, disk, told)?;
+        fault(&rt, alloc, &model, call)?;
     }
     Ok(())
+}
+
+// Power is lost when all is done.
+fn end(rt: &impl Abort, alloc: Global, model: &Model, choice: u64) -> Result<(), Fail> {
+    let (disk, told) = driven(alloc, model, Trouble::Stop(CALLS))?;
+    assert!(rt; !told.has_fallen);
+    assert_eq!(rt; (told.offered, told.answered), (19, 19));
+    check(alloc, model, crashed(disk, choice)?, told)
 }
 
 #[test]
@@ -380,11 +422,7 @@ fn no_stop(rt: HostRuntime) -> Result<(), Fail> {
     let alloc = rt.alloc();
     let model = run_of_machine(alloc)?;
     for choice in [0, 1, 2, 3, 5, 10] {
-        let (mut disk, told) = driven(alloc, &model, Trouble::Stop(CALLS))?;
-        assert!(rt; !told.has_fallen);
-        assert_eq!(rt; (told.offered, told.answered), (19, 19));
-        disk.crash(choice)?;
-        check(alloc, &model, disk, told)?;
+        end(&rt, alloc, &model, choice)?;
     }
     Ok(())
 }

@@ -1,10 +1,11 @@
 //! What is refused where a file is full or has the greatest generation, and what stays. (That no number is left can't be
 //! shown: 2^64 - 1 events would have to come first.)
-use crate::script::{expect, handed, play, run};
+use crate::script::{play, run_through};
 use crate::shared::{FRESH_FRONT, Trials, disk_of, opened, reopened};
-use crate::words::{events, hex};
+use crate::words::{events, hex, put_hex};
 use disk_model::FileId;
 use std::alloc::{AllocError, Global};
+use std::process::Abort;
 use std::test::*;
 use trial_disk::Trial;
 
@@ -40,14 +41,28 @@ sessions
 grown
 = 48";
 
+// The disk, whose second file is empty.
+fn left(rt: &impl Abort, alloc: Global, gateway: Trials) -> Result<Trial, Fail> {
+    let mut disk = disk_of(gateway);
+    match disk.bytes(alloc, FileId::B) {
+        Ok(second) => {
+            assert!(rt; second.is_empty());
+            Ok(disk)
+        }
+        Err(fault) => {
+            drop(disk);
+            Err(fault.into())
+        }
+    }
+}
+
 #[test]
 fn generations(rt: HostRuntime) -> Result<(), Fail> {
     let alloc = rt.alloc();
     let file = hex(alloc, LAST_GENERATION)?;
     let mut gateway = opened(alloc, Trial::of(alloc, file.as_slice(), b"")?, 1000)?;
     play(alloc, &mut gateway, NO_GENERATION)?;
-    let mut disk = disk_of(gateway);
-    assert!(rt; disk.bytes(alloc, FileId::B)?.is_empty());
+    let disk = left(&rt, alloc, gateway)?;
     let mut gateway = opened(alloc, disk, 2000)?;
     play(alloc, &mut gateway, STAYS)
 }
@@ -67,21 +82,22 @@ fn put_load(file: &mut Vec<u8>, load: &[u8], comment: &[u8]) -> Result<(), Alloc
     file.extend_from_slice(comment)
 }
 
-fn put_loads(file: &mut Vec<u8>, longest: &[u8], shorter: &[u8]) -> Result<(), AllocError> {
+fn put_loads(alloc: Global, file: &mut Vec<u8>) -> Result<(), AllocError> {
+    let longest = vec![in alloc; b'#'; 262_144]?;
     for _ in 0..255 {
-        put_load(file, &LONGEST, longest)?;
+        put_load(file, &LONGEST, longest.as_slice())?;
     }
-    put_load(file, &SHORTER, shorter)
+    let shorter = vec![in alloc; b'#'; 260_740]?;
+    put_load(file, &SHORTER, shorter.as_slice())
 }
 
 // A file whose next group would stand at 67,108,806, and so may have 52 bytes of entries.
 fn nearly_full(alloc: Global) -> Result<Vec<u8>, Fail> {
-    let mut file = hex(alloc, FRESH_FRONT)?;
-    file.extend_from_slice(hex(alloc, GROUP)?.as_slice())?;
-    file.extend_from_slice(hex(alloc, BEGIN)?.as_slice())?;
-    let longest = vec![in alloc; b'#'; 262_144]?;
-    let shorter = vec![in alloc; b'#'; 260_740]?;
-    put_loads(&mut file, longest.as_slice(), shorter.as_slice())?;
+    let mut file = Vec::new(alloc);
+    for text in [FRESH_FRONT, GROUP, BEGIN] {
+        put_hex(&mut file, text)?;
+    }
+    put_loads(alloc, &mut file)?;
     file.extend_from_slice(&[0])?;
     Ok(file)
 }
@@ -168,12 +184,8 @@ const BOTH_ANSWERS: &str = "\
 fn run_makes_room(rt: HostRuntime) -> Result<(), Fail> {
     let alloc = rt.alloc();
     let mut gateway = open_nearly_full(alloc)?;
-    let answers = run(&mut gateway, events(alloc, BOTH)?).map_err(|(_, fault)| fault)?;
-    expect(
-        alloc,
-        handed(alloc, answers.as_slice())?.as_slice(),
-        BOTH_ANSWERS,
-    )?;
+    let both = events(alloc, BOTH)?;
+    run_through(alloc, &mut gateway, both, BOTH_ANSWERS)?;
     play(alloc, &mut gateway, "held\n= 0\ngrown\n= 27")?;
     let mut gateway = reopened(alloc, gateway, 2000)?;
     play(alloc, &mut gateway, ALL_THREE)

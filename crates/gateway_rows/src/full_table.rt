@@ -1,7 +1,6 @@
 //! As many sessions as a core holds, what it drops then, and what it takes when they have ended.
+use crate::shared::machine;
 use machine::{Answer, Bytes, Core, Event, Iface, What};
-use packet::bounds::Bounds;
-use packet::endpoint::Prefix;
 use std::alloc::Global;
 use std::process::Abort;
 use std::test::*;
@@ -29,20 +28,6 @@ const FROM_OUTSIDE: [u8; 28] = [
     0x45, 0x00, 0x00, 0x1c, 0x00, 0x01, 0x00, 0x00, 0x40, 0x11, 0x8e, 0xea, 0xc6, 0x33, 0x64, 0x07,
     0xc0, 0xa8, 0x01, 0x03, 0x00, 0x35, 0x13, 0x88, 0x00, 0x08, 0x00, 0x00,
 ];
-
-/// lan and wan, inside 192.168.0.0/16, external 203.0.113.1, without rules.
-fn opened(alloc: Global) -> Result<Core, Fail> {
-    let inside = vec![in alloc;
-        Prefix {
-            addr: 0xc0a8_0000,
-            len: 16
-        },
-    ]?;
-    let lan = String::from_str(alloc, "lan")?;
-    let wan = String::from_str(alloc, "wan")?;
-    let bounds = Bounds::new(lan, wan, inside, 0xcb00_7101)?;
-    Ok(Core::start(alloc, bounds, 1000)?)
-}
 
 /// Offers the packet, with this source port where there is one.
 fn answer(
@@ -106,7 +91,7 @@ fn begins_anew(rt: &impl Abort, alloc: Global, core: &mut Core) -> Result<(), Fa
 #[test]
 fn full(rt: HostRuntime) -> Result<(), Fail> {
     let alloc = rt.alloc();
-    let mut core = Box::new(alloc, opened(alloc)?)?;
+    let mut core = machine(alloc, 1000)?;
     fill(&rt, alloc, &mut core)?;
     refuses_more(&rt, alloc, &mut core)?;
     begins_anew(&rt, alloc, &mut core)

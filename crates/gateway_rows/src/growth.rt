@@ -1,10 +1,10 @@
 //! Groups that grow, compaction, and runs of many events.
-use crate::script::{expect, handed, name, play, run};
+use crate::script::{expect, handed, name, play, run, run_through};
 use crate::shared::{
-    Event, FRESH_FRONT, MASQUERADE, TWO_FLUSHED, TWO_HELD, Trials, Trouble, disk_of, fresh,
-    lost_power, opened, reopened, troubled,
+    Answer, Event, FRESH_FRONT, MASQUERADE, TWO_FLUSHED, TWO_HELD, Trials, Trouble, calls_of,
+    disk_of, fresh, lost_power, opened, reopened, troubled,
 };
-use crate::words::{event, events, hex};
+use crate::words::{event, events, hex, put_hex};
 use disk_model::FileId;
 use std::alloc::Global;
 use std::process::Abort;
@@ -13,16 +13,14 @@ use trial_disk::Trial;
 
 // A file of 162 bytes with the text and the session as its snapshot, from its generation on.
 fn snapshot(alloc: Global, generation: &str) -> Result<Vec<u8>, Fail> {
-    let mut file = hex(alloc, "01 4e475731")?;
-    file.extend_from_slice(hex(alloc, generation)?.as_slice())?;
-    let configuration = hex(alloc, "036c616e 0377616e 01 c0a8000010 cb007101 00000065")?;
-    file.extend_from_slice(configuration.as_slice())?;
+    let configuration = "036c616e 0377616e 01 c0a8000010 cb007101 00000065";
+    let session = "00000001 11 c0a801021388 cb0071011388 c63364070035 00 00 00";
+    let mut file = Vec::new(alloc);
+    for text in ["01 4e475731", generation, configuration] {
+        put_hex(&mut file, text)?;
+    }
     file.extend_from_slice(MASQUERADE.as_bytes())?;
-    let session = hex(
-        alloc,
-        "00000001 11 c0a801021388 cb0071011388 c63364070035 00 00 00",
-    )?;
-    file.extend_from_slice(session.as_slice())?;
+    put_hex(&mut file, session)?;
     Ok(file)
 }
 
@@ -64,34 +62,37 @@ fn answered(alloc: Global) -> Result<Trials, Fail> {
 #[test]
 fn compacted(rt: HostRuntime) -> Result<(), Fail> {
     let alloc = rt.alloc();
+    let second = snapshot(alloc, "0000000000000002")?;
+    assert_eq!(rt; second.len(), 162);
     let mut gateway = answered(alloc)?;
     play(alloc, &mut gateway, COMPACTED)?;
     let mut disk = disk_of(gateway);
-    let second = snapshot(alloc, "0000000000000002")?;
-    assert_eq!(rt; second.len(), 162);
-    assert_eq!(rt; disk.bytes(alloc, FileId::B)?.as_slice(), second.as_slice());
-    let older = disk.bytes(alloc, FileId::A)?;
-    assert!(rt;
-        older
-            .as_slice()
-            .starts_with(hex(alloc, FRESH_FRONT)?.as_slice())
-    );
-    assert_eq!(rt; older.len(), 173);
+    look(&rt, alloc, &mut disk, second.as_slice())?;
     found_again(&rt, alloc, disk, second.as_slice())
+}
+
+// The second file is the snapshot, and the first is as it was.
+fn look(rt: &impl Abort, alloc: Global, disk: &mut Trial, second: &[u8]) -> Result<(), Fail> {
+    let front = hex(alloc, FRESH_FRONT)?;
+    let older = disk.bytes(alloc, FileId::A)?;
+    assert_eq!(rt; disk.bytes(alloc, FileId::B)?.as_slice(), second);
+    assert!(rt; older.as_slice().starts_with(front.as_slice()));
+    assert_eq!(rt; older.len(), 173);
+    Ok(())
 }
 
 // It is there when the files are opened, and compacted again it goes to the other file, behind which bytes mean nothing.
 fn found_again(rt: &impl Abort, alloc: Global, disk: Trial, second: &[u8]) -> Result<(), Fail> {
     let mut gateway = opened(alloc, disk, 1400)?;
     play(alloc, &mut gateway, FOUND_AGAIN)?;
-    let mut disk = disk_of(gateway);
+    look_again(rt, alloc, &mut disk_of(gateway), second)
+}
+
+fn look_again(rt: &impl Abort, alloc: Global, disk: &mut Trial, second: &[u8]) -> Result<(), Fail> {
     let third = snapshot(alloc, "0000000000000003")?;
+    let newer = disk.bytes(alloc, FileId::A)?;
     assert_eq!(rt; disk.bytes(alloc, FileId::B)?.as_slice(), second);
-    assert!(rt;
-        disk.bytes(alloc, FileId::A)?
-            .as_slice()
-            .starts_with(third.as_slice())
-    );
+    assert!(rt; newer.as_slice().starts_with(third.as_slice()));
     assert!(rt; !disk.has_strayed());
     Ok(())
 }
@@ -170,13 +171,14 @@ fn run_loads(
         Ok(answers) => (answers, "done"),
         Err((answers, fault)) => (answers, name(fault)),
     };
-    let said = handed(alloc, answers.as_slice())?;
-    expect(
-        alloc,
-        said.as_slice(),
-        all_loaded(alloc, answered)?.as_str(),
-    )?;
+    are_loaded(alloc, answers.as_slice(), answered)?;
     Ok(end)
+}
+
+fn are_loaded(alloc: Global, answers: &[(u64, Answer)], count: u64) -> Result<(), Fail> {
+    let lines = all_loaded(alloc, count)?;
+    let said = handed(alloc, answers)?;
+    expect(alloc, said.as_slice(), lines.as_str())
 }
 
 // Groups of 64 and of 1: 5 bytes, and 16 for each load.
@@ -191,11 +193,11 @@ at 1001
 #[test]
 fn run_flushes_at_64(rt: HostRuntime) -> Result<(), Fail> {
     let alloc = rt.alloc();
-    let calls = disk_of(fresh(alloc)?).calls();
+    let calls = calls_of(fresh(alloc)?);
     let mut gateway = fresh(alloc)?;
     assert_eq!(rt; run_loads(alloc, &mut gateway, 65, 65)?, "done");
     play(alloc, &mut gateway, RAN)?;
-    assert_eq!(rt; disk_of(gateway).calls(), calls.saturating_add(8));
+    assert_eq!(rt; calls_of(gateway), calls.saturating_add(8));
     Ok(())
 }
 
@@ -206,15 +208,20 @@ held
 at 1001
 = reopen";
 
+fn run_stops(rt: &impl Abort, alloc: Global, gateway: &mut Trials) -> Result<(), Fail> {
+    assert_eq!(rt; run_loads(alloc, gateway, 100, 64)?, "device");
+    play(alloc, gateway, RAN_INTO_FAULT)?;
+    assert_eq!(rt; run_loads(alloc, gateway, 1, 0)?, "reopen");
+    Ok(())
+}
+
 // The second flush fails: 64 answers are handed out.
 #[test]
 fn run_meets_a_fault(rt: HostRuntime) -> Result<(), Fail> {
     let alloc = rt.alloc();
     for call in 4..8 {
         let mut gateway = troubled(alloc, fresh(alloc)?, Trouble::Stop(call))?;
-        assert_eq!(rt; run_loads(alloc, &mut gateway, 100, 64)?, "device");
-        play(alloc, &mut gateway, RAN_INTO_FAULT)?;
-        assert_eq!(rt; run_loads(alloc, &mut gateway, 1, 0)?, "reopen");
+        run_stops(&rt, alloc, &mut gateway)?;
         let mut gateway = lost_power(alloc, gateway, 0, 2000)?;
         play(alloc, &mut gateway, "rules\n= table t { }")?;
     }
@@ -242,16 +249,11 @@ const MIXED_ANSWERS: &str = "\
 fn run_in_order(rt: HostRuntime) -> Result<(), Fail> {
     let alloc = rt.alloc();
     let mut gateway = fresh(alloc)?;
-    let answers = run(&mut gateway, events(alloc, MIXED)?).map_err(|(_, fault)| fault)?;
-    expect(
-        alloc,
-        handed(alloc, answers.as_slice())?.as_slice(),
-        MIXED_ANSWERS,
-    )?;
+    let mixed = events(alloc, MIXED)?;
+    run_through(alloc, &mut gateway, mixed, MIXED_ANSWERS)?;
     play(alloc, &mut gateway, "load 1001 table t { }\n= held 7")?;
     let ticks = events(alloc, "at 1002\nat 1003")?;
-    let answers = run(&mut gateway, ticks).map_err(|(_, fault)| fault)?;
-    let said = handed(alloc, answers.as_slice())?;
-    expect(alloc, said.as_slice(), "7 loaded\n8 ticked\n9 ticked")?;
+    let answers = "7 loaded\n8 ticked\n9 ticked";
+    run_through(alloc, &mut gateway, ticks, answers)?;
     play(alloc, &mut gateway, "held\n= 0\ngrown\n= 154")
 }

@@ -4,28 +4,30 @@ use crate::shared::{
     FRESH_FRONT, MASQUERADE, THIRD_HELD, THREE_FLUSHED, TWO_FLUSHED, TWO_HELD, Trials, disk_of,
     fresh,
 };
-use crate::words::hex;
+use crate::words::put_hex;
 use disk_model::FileId;
 use std::alloc::Global;
 use std::process::Abort;
 use std::test::*;
+use trial_disk::Trial;
 
 // Behind the front of a fresh file: an open group of 128 bytes, a load of 101, the begin of a session, and a closed gate.
 fn one_group(alloc: Global) -> Result<Vec<u8>, Fail> {
-    let mut file = hex(alloc, FRESH_FRONT)?;
-    file.extend_from_slice(hex(alloc, "01 00000080 01 00000065")?.as_slice())?;
+    let begin = "02 11 c0a801021388 cb0071011388 c63364070035 00 00 00";
+    let mut file = Vec::new(alloc);
+    put_hex(&mut file, FRESH_FRONT)?;
+    put_hex(&mut file, "01 00000080 01 00000065")?;
     file.extend_from_slice(MASQUERADE.as_bytes())?;
-    let begin = hex(
-        alloc,
-        "02 11 c0a801021388 cb0071011388 c63364070035 00 00 00",
-    )?;
-    file.extend_from_slice(begin.as_slice())?;
+    put_hex(&mut file, begin)?;
     Ok(file)
 }
 
 // How many calls of the disk there were, and what is in the files.
 fn look(rt: &impl Abort, alloc: Global, gateway: Trials, a: &[u8]) -> Result<u64, Fail> {
-    let mut disk = disk_of(gateway);
+    look_at(rt, alloc, &mut disk_of(gateway), a)
+}
+
+fn look_at(rt: &impl Abort, alloc: Global, disk: &mut Trial, a: &[u8]) -> Result<u64, Fail> {
     assert_eq!(rt; disk.bytes(alloc, FileId::A)?.as_slice(), a);
     assert!(rt; disk.bytes(alloc, FileId::B)?.is_empty());
     assert!(rt; !disk.has_strayed());

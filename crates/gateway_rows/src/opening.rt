@@ -1,7 +1,7 @@
 //! What an opening finds, makes and refuses.
 use crate::script::play;
 use crate::shared::{
-    FRESH, NOTHING, OpenFault, TWO_FLUSHED, TWO_HELD, Trials, Trouble, bounds, disk_of,
+    FRESH, NOTHING, OpenFault, TWO_FLUSHED, TWO_HELD, Trials, Trouble, bounds, crashed, disk_of,
     expect_trouble, fresh, open, opened,
 };
 use crate::words::hex;
@@ -31,11 +31,19 @@ at 1001
 = now 1 ticked";
 
 // Opens it over these files: there is no state, and file A is made.
-fn begins(rt: &impl Abort, alloc: Global, a: &[u8], b: &[u8]) -> Result<(), Fail> {
-    let mut gateway = opened(alloc, Trial::of(alloc, a, b)?, 1000)?;
+fn begins(rt: &impl Abort, alloc: Global, a: &str, b: &str) -> Result<(), Fail> {
+    let (a, b) = (hex(alloc, a)?, hex(alloc, b)?);
+    let disk = Trial::of(alloc, a.as_slice(), b.as_slice())?;
+    let mut gateway = opened(alloc, disk, 1000)?;
     play(alloc, &mut gateway, NOTHING_YET)?;
     let made = hex(alloc, FRESH)?;
-    look(rt, alloc, &mut disk_of(gateway), made.as_slice(), b)
+    look(
+        rt,
+        alloc,
+        &mut disk_of(gateway),
+        made.as_slice(),
+        b.as_slice(),
+    )
 }
 
 // A gate that is neither 00 nor 01 is closed too.
@@ -53,8 +61,7 @@ fn no_open_file(rt: HostRuntime) -> Result<(), Fail> {
         ("ff", "ff"),
     ];
     for (a, b) in rows {
-        let (a, b) = (hex(alloc, a)?, hex(alloc, b)?);
-        begins(&rt, alloc, a.as_slice(), b.as_slice())?;
+        begins(&rt, alloc, a, b)?;
     }
     Ok(())
 }
@@ -64,7 +71,10 @@ fn grown_file(alloc: Global) -> Result<Vec<u8>, Fail> {
     let mut gateway = fresh(alloc)?;
     play(alloc, &mut gateway, TWO_HELD)?;
     play(alloc, &mut gateway, TWO_FLUSHED)?;
-    Ok(disk_of(gateway).bytes(alloc, FileId::A)?)
+    let mut disk = disk_of(gateway);
+    let file = disk.bytes(alloc, FileId::A);
+    drop(disk);
+    Ok(file?)
 }
 
 const ANSWERED: &str = "\
@@ -119,10 +129,13 @@ fn refuses(
     a: &[u8],
     b: &[u8],
 ) -> Result<OpenFault, Fail> {
-    match open(alloc, Trial::of(alloc, a, b)?, bounds(alloc, wan)?, 1000) {
+    let bounds = bounds(alloc, wan)?;
+    match open(alloc, Trial::of(alloc, a, b)?, bounds, 1000) {
         Ok(_) => Err(Fail::new("it was opened")),
         Err((mut disk, fault)) => {
-            look(rt, alloc, &mut disk, a, b)?;
+            let looked = look(rt, alloc, &mut disk, a, b);
+            drop(disk);
+            looked?;
             Ok(fault)
         }
     }
@@ -153,21 +166,34 @@ const DAMAGED: [&str; 8] = [
     "01 4e475731 0000000000000001 036c616e 0377616e 01 c0a8000010 cb007101 00000000 00000000 01 00000001 09 00",
 ];
 
+// It is judged by its own configuration alone.
+fn is_damaged(rt: &impl Abort, alloc: Global, row: usize, file: &[u8]) -> Result<(), Fail> {
+    for wan in ["wan", "wan1"] {
+        let fault = refuses(rt, alloc, wan, file, b"")?;
+        assert_eq!(rt; fault, OpenFault::Damaged, "row {row}");
+    }
+    Ok(())
+}
+
 #[test]
 fn damaged(rt: HostRuntime) -> Result<(), Fail> {
     let alloc = rt.alloc();
     for (row, file) in DAMAGED.iter().enumerate() {
         let file = hex(alloc, file)?;
-        let fault = refuses(&rt, alloc, "wan", file.as_slice(), b"")?;
-        assert_eq!(rt; fault, OpenFault::Damaged, "row {row}");
-        // judged by its own configuration alone
-        let fault = refuses(&rt, alloc, "wan1", file.as_slice(), b"")?;
-        assert_eq!(rt; fault, OpenFault::Damaged, "row {row}");
+        is_damaged(&rt, alloc, row, file.as_slice())?;
     }
     let twice = hex(alloc, FRESH)?;
     let fault = refuses(&rt, alloc, "wan", twice.as_slice(), twice.as_slice())?;
     assert_eq!(rt; fault, OpenFault::Damaged);
     Ok(())
+}
+
+// The words for a trouble, with its call.
+fn told(at: Trouble) -> (&'static str, u64) {
+    match at {
+        Trouble::Stop(call) => ("stop", call),
+        Trouble::Fault(call) => ("fault", call),
+    }
 }
 
 // Opens it with trouble at a call: whether it is refused, and the disk.
@@ -177,27 +203,44 @@ fn with_trouble(
     file: &[u8],
     at: Trouble,
 ) -> Result<(bool, Trial), Fail> {
+    let bounds = bounds(alloc, "wan")?;
     let mut disk = Trial::of(alloc, file, b"")?;
     expect_trouble(&mut disk, at, 0);
-    match open(alloc, disk, bounds(alloc, "wan")?, 1000) {
+    match open(alloc, disk, bounds, 1000) {
         Ok(gateway) => Ok((false, disk_of(gateway))),
         Err((disk, fault)) => {
-            assert_eq!(rt; fault, OpenFault::Device, "{at:?}");
-            assert!(rt; disk.failures() > 0, "{at:?}");
+            let (word, call) = told(at);
+            assert_eq!(rt; fault, OpenFault::Device, "{word} {call}");
+            assert!(rt; disk.failures() > 0, "{word} {call}");
             Ok((true, disk))
         }
     }
 }
 
-// Fails each call of an opening once, and then opens it; and how many calls there are.
+// Fails a call of an opening once, and then opens it; None where there is no such call.
+fn fault(
+    rt: &impl Abort,
+    alloc: Global,
+    file: &[u8],
+    state: &str,
+    call: u64,
+) -> Result<Option<()>, Fail> {
+    let (is_refused, disk) = with_trouble(rt, alloc, file, Trouble::Fault(call))?;
+    if !is_refused {
+        drop(disk);
+        return Ok(None);
+    }
+    let mut gateway = opened(alloc, disk, 1250)?;
+    play(alloc, &mut gateway, state)?;
+    Ok(Some(()))
+}
+
+// Fails each call of an opening once, and how many calls there are.
 fn each_fault(rt: &impl Abort, alloc: Global, file: &[u8], state: &str) -> Result<u64, Fail> {
     for call in 0..100 {
-        let (is_refused, disk) = with_trouble(rt, alloc, file, Trouble::Fault(call))?;
-        if !is_refused {
+        if fault(rt, alloc, file, state, call)?.is_none() {
             return Ok(call);
         }
-        let mut gateway = opened(alloc, disk, 1250)?;
-        play(alloc, &mut gateway, state)?;
     }
     Err(Fail::new("it never passes"))
 }
@@ -221,9 +264,8 @@ fn stop(
     calls: u64,
     choice: u64,
 ) -> Result<(), Fail> {
-    let (_, mut disk) = with_trouble(rt, alloc, file, Trouble::Stop(calls))?;
-    disk.crash(choice)?;
-    let mut gateway = opened(alloc, disk, 1250)?;
+    let (_, disk) = with_trouble(rt, alloc, file, Trouble::Stop(calls))?;
+    let mut gateway = opened(alloc, crashed(disk, choice)?, 1250)?;
     play(alloc, &mut gateway, state)
 }
 

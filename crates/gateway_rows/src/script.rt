@@ -65,6 +65,19 @@ fn number(alloc: Global, number: u64) -> Result<Vec<String>, Fail> {
     one(alloc, format!(in alloc; "{number}")?)
 }
 
+/// Takes the events in turn, which are all answered, and expects these lines of their answers.
+pub fn run_through(
+    alloc: Global,
+    gateway: &mut Trials,
+    events: Vec<Event>,
+    lines: &str,
+) -> Result<(), Fail> {
+    match run(gateway, events) {
+        Ok(answers) => expect(alloc, handed(alloc, answers.as_slice())?.as_slice(), lines),
+        Err((_, fault)) => Err(fault.into()),
+    }
+}
+
 /// The lines of answers with their numbers.
 pub fn handed(alloc: Global, answers: &[(u64, Answer)]) -> Result<Vec<String>, Fail> {
     let mut said = Vec::new(alloc);
@@ -108,12 +121,16 @@ fn forward(
     gateway.forward(moment, iface, packet)
 }
 
+fn stays(alloc: Global, event: &Event, line: &str) -> Result<Vec<String>, Fail> {
+    if !is_same(alloc, event_line(alloc, event)?.as_str(), line)? {
+        return Err(Fail::new("forward: another packet is left"));
+    }
+    word(alloc, "none")
+}
+
 fn ask_forward(alloc: Global, gateway: &mut Trials, line: &str) -> Result<Vec<String>, Fail> {
-    let Event {
-        moment,
-        what: What::Packet(iface, packet),
-    } = event(alloc, line)?
-    else {
+    let Event { moment, what } = event(alloc, line)?;
+    let What::Packet(iface, packet) = what else {
         return Err(Fail::new("forward: no packet"));
     };
     let mut bytes = packet.into_vec();
@@ -124,11 +141,7 @@ fn ask_forward(alloc: Global, gateway: &mut Trials, line: &str) -> Result<Vec<St
         }
         None => {
             let what = What::Packet(iface, Bytes::of(bytes));
-            let left = event_line(alloc, &Event { moment, what })?;
-            if !is_same(alloc, left.as_str(), line)? {
-                return Err(Fail::new("forward: another packet is left"));
-            }
-            word(alloc, "none")
+            stays(alloc, &Event { moment, what }, line)
         }
     }
 }
@@ -183,7 +196,15 @@ struct Said<'a> {
     expected: usize,
 }
 
-impl Said<'_> {
+impl<'a> Said<'a> {
+    fn ask(&mut self, alloc: Global, gateway: &mut Trials, line: &'a str) -> Result<(), Fail> {
+        self.end()?;
+        self.lines = ask(alloc, gateway, line)?;
+        self.asked = line;
+        self.expected = 0;
+        Ok(())
+    }
+
     fn expect(&mut self, alloc: Global, line: &str) -> Result<(), Fail> {
         let asked = self.asked;
         let Some(said) = self.lines.as_slice().get(self.expected) else {
@@ -224,12 +245,7 @@ pub fn play(alloc: Global, gateway: &mut Trials, lines: &str) -> Result<(), Fail
         if let Some(expected) = line.strip_prefix('=') {
             said.expect(alloc, expected)?;
         } else {
-            said.end()?;
-            said = Said {
-                asked: line,
-                lines: ask(alloc, gateway, line)?,
-                expected: 0,
-            };
+            said.ask(alloc, gateway, line)?;
         }
     }
     said.end()

@@ -2,6 +2,7 @@
 pub use gateway::{
     Answer, Bytes, Event, Gateway, GatewayFault, Given, Iface, OpenFault, Session, What,
 };
+use machine::Core;
 use packet::bounds::Bounds;
 use packet::endpoint::Prefix;
 use std::alloc::Global;
@@ -66,6 +67,12 @@ pub fn bounds(alloc: Global, wan: &str) -> Result<Bounds, Fail> {
     Ok(Bounds::new(lan, wan, inside, 0xcb00_7101)?)
 }
 
+/// A machine without a disk. It lies behind a box as a gateway does.
+pub fn machine(alloc: Global, moment: u64) -> Result<Box<Core>, Fail> {
+    let core = Core::start(alloc, bounds(alloc, "wan")?, moment)?;
+    Ok(Box::new(alloc, core)?)
+}
+
 /// Opens a gateway over the disk, which may be refused.
 pub fn open(
     alloc: Global,
@@ -85,11 +92,24 @@ pub fn disk_of(gateway: Trials) -> Trial {
     Box::into_inner(gateway).into_disk()
 }
 
+fn opened_within(alloc: Global, disk: Trial, bounds: Bounds, moment: u64) -> Result<Trials, Fail> {
+    match open(alloc, disk, bounds, moment) {
+        Ok(gateway) => Ok(gateway),
+        Err((disk, fault)) => {
+            drop(disk);
+            Err(fault.into())
+        }
+    }
+}
+
 /// Opens a gateway over the disk, where nothing is to fail.
 pub fn opened(alloc: Global, disk: Trial, moment: u64) -> Result<Trials, Fail> {
-    match open(alloc, disk, bounds(alloc, "wan")?, moment) {
-        Ok(gateway) => Ok(gateway),
-        Err((_, fault)) => Err(fault.into()),
+    match bounds(alloc, "wan") {
+        Ok(bounds) => opened_within(alloc, disk, bounds, moment),
+        Err(fail) => {
+            drop(disk);
+            Err(fail)
+        }
     }
 }
 
@@ -104,7 +124,7 @@ pub fn reopened(alloc: Global, gateway: Trials, moment: u64) -> Result<Trials, F
 }
 
 /// A call of the disk, counted from 0, at which something happens.
-#[derive(Clone, Copy, Debug)]
+#[derive(Clone, Copy)]
 pub enum Trouble {
     /// This call fails, and all later ones do.
     Stop(u64),
@@ -120,6 +140,14 @@ pub fn expect_trouble(disk: &mut Trial, at: Trouble, later: u64) {
     }
 }
 
+/// How many calls of the disk there were in all.
+pub fn calls_of(gateway: Trials) -> u64 {
+    let disk = disk_of(gateway);
+    let calls = disk.calls();
+    drop(disk);
+    calls
+}
+
 /// Opens it again, with trouble at a call of the disk once it is open.
 pub fn troubled(alloc: Global, gateway: Trials, at: Trouble) -> Result<Trials, Fail> {
     let disk = disk_of(gateway);
@@ -130,6 +158,17 @@ pub fn troubled(alloc: Global, gateway: Trials, at: Trouble) -> Result<Trials, F
     opened(alloc, disk, 1000)
 }
 
+/// The disk when power was lost, of which this choice is left.
+pub fn crashed(mut disk: Trial, choice: u64) -> Result<Trial, Fail> {
+    match disk.crash(choice) {
+        Ok(()) => Ok(disk),
+        Err(refused) => {
+            drop(disk);
+            Err(refused.into())
+        }
+    }
+}
+
 /// Loses power, of which this choice is left, and opens the gateway again.
 pub fn lost_power(
     alloc: Global,
@@ -137,7 +176,5 @@ pub fn lost_power(
     choice: u64,
     moment: u64,
 ) -> Result<Trials, Fail> {
-    let mut disk = disk_of(gateway);
-    disk.crash(choice)?;
-    opened(alloc, disk, moment)
+    opened(alloc, crashed(disk_of(gateway), choice)?, moment)
 }

@@ -4,7 +4,7 @@ use crate::shared::{
     NOTHING, THIRD_HELD, THREE_FLUSHED, TWO_FLUSHED, TWO_HELD, Trials, Trouble, fresh, lost_power,
     reopened, troubled,
 };
-use crate::words::event;
+use crate::words::events;
 use std::alloc::Global;
 use std::test::Fail;
 
@@ -96,8 +96,7 @@ at 2001
 = now 1 ticked";
 
 fn run_is_refused(alloc: Global, gateway: &mut Trials) -> Result<(), Fail> {
-    let events = vec![in alloc; event(alloc, "at 1001")?]?;
-    match run(gateway, events) {
+    match run(gateway, events(alloc, "at 1001")?) {
         Ok(_) => Err(Fail::new("it ran")),
         Err((answers, fault)) => {
             expect(alloc, handed(alloc, answers.as_slice())?.as_slice(), "")?;

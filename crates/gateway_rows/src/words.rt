@@ -27,14 +27,20 @@ fn put_pair(out: &mut Vec<u8>, pair: &[u8]) -> Result<(), Fail> {
     }
 }
 
+/// Puts the bytes that a text has in hexadecimal behind those that are there.
+pub fn put_hex(out: &mut Vec<u8>, text: &str) -> Result<(), Fail> {
+    for word in text.split_whitespace() {
+        for pair in word.as_bytes().chunks(2) {
+            put_pair(out, pair)?;
+        }
+    }
+    Ok(())
+}
+
 /// The bytes that a text has in hexadecimal.
 pub fn hex(alloc: Global, text: &str) -> Result<Vec<u8>, Fail> {
     let mut out = Vec::new(alloc);
-    for word in text.split_whitespace() {
-        for pair in word.as_bytes().chunks(2) {
-            put_pair(&mut out, pair)?;
-        }
-    }
+    put_hex(&mut out, text)?;
     Ok(out)
 }
 

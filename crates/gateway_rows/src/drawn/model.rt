@@ -1,9 +1,7 @@
 //! What the machine in memory answers to drawn events, and what must survive behind each of them.
 use crate::drawn::events::{Number, event};
-use gateway::{Answer, Session};
+use crate::shared::{Answer, Session, machine};
 use machine::Core;
-use packet::bounds::Bounds;
-use packet::endpoint::Prefix;
 use std::alloc::Global;
 use std::test::Fail;
 
@@ -43,18 +41,6 @@ impl Lasting {
     }
 }
 
-/// Inside 192.168.0.0/16, outside 203.0.113.1.
-pub fn bounds(alloc: Global) -> Result<Bounds, Fail> {
-    let lan = String::from_str(alloc, "lan")?;
-    let wan = String::from_str(alloc, "wan")?;
-    let prefix = Prefix {
-        addr: 0xc0a8_0000,
-        len: 16,
-    };
-    let inside = vec![in alloc; prefix]?;
-    Ok(Bounds::new(lan, wan, inside, 0xcb00_7101)?)
-}
-
 /// Whether two answers are the same.
 pub fn is_same(answer: &Answer, wanted: &Answer) -> bool {
     match (answer, wanted) {
@@ -67,12 +53,6 @@ pub fn is_same(answer: &Answer, wanted: &Answer) -> bool {
         }
         _ => false,
     }
-}
-
-// It lies behind a box, so that a function which lets it go does so by one call.
-fn machine(alloc: Global) -> Result<Box<Core>, Fail> {
-    let core = Core::start(alloc, bounds(alloc)?, 1000)?;
-    Ok(Box::new(alloc, core)?)
 }
 
 fn state_of(alloc: Global, core: &Core) -> Result<Lasting, Fail> {
@@ -102,7 +82,7 @@ fn go_through(
 
 /// What the events of these numbers come to.
 pub fn run_of_machine(alloc: Global, numbers: &[Number]) -> Result<Model, Fail> {
-    let mut core = machine(alloc)?;
+    let mut core = machine(alloc, 1000)?;
     let mut model = Model {
         answers: Vec::new(alloc),
         states: Vec::new(alloc),

@@ -1,14 +1,14 @@
 //! The gateway over a disk that is stopped, or fails, at each of its calls, and opened again.
 use crate::drawn::events::{EVENTS, Next, Number, behind, event, numbers};
-use crate::drawn::model::{Lasting, Model, bounds, is_same, run_of_machine};
-use gateway::{Answer, Bytes, Event, Gateway, GatewayFault, Given, OpenFault, What};
-use packet::bounds::Bounds;
+use crate::drawn::model::{Lasting, Model, is_same, run_of_machine};
+use crate::script::{compact, flush};
+use crate::shared::{
+    Answer, Bytes, Event, GatewayFault, Given, OpenFault, Trials, Trouble, What, bounds, crashed,
+    disk_of, expect_trouble, open, opened,
+};
 use std::alloc::Global;
 use std::test::*;
 use trial_disk::Trial;
-
-// A gateway behind a box, so that a function which lets it go does so by one call.
-type Trials = Box<Gateway<Trial>>;
 
 /// The numbers of a seed, and what the machine makes of them.
 #[derive(Drop)]
@@ -31,27 +31,6 @@ fn script_of(alloc: Global, seed: u64) -> Result<Script, Fail> {
     Ok(Script { numbers, model })
 }
 
-fn open(
-    alloc: Global,
-    disk: Trial,
-    bounds: Bounds,
-    moment: u64,
-) -> Result<Trials, (Trial, OpenFault)> {
-    let gateway = Gateway::open(alloc, disk, bounds, moment)?;
-    match Box::new(alloc, gateway) {
-        Ok(gateway) => Ok(gateway),
-        Err(refused) => Err((refused.value.into_disk(), OpenFault::NoMemory)),
-    }
-}
-
-fn disk_of(gateway: Trials) -> Trial {
-    Box::into_inner(gateway).into_disk()
-}
-
-fn flush(gateway: &mut Trials) -> Result<Vec<(u64, Answer)>, GatewayFault> {
-    gateway.flush()
-}
-
 fn offer(gateway: &mut Trials, event: Event) -> Result<Given, GatewayFault> {
     gateway.offer(event).map_err(|(_, fault)| fault)
 }
@@ -70,14 +49,6 @@ fn forward(gateway: &mut Trials, event: Event) -> Result<(u64, Answer), Event> {
             what: What::Packet(iface, Bytes::of(bytes)),
         }),
     }
-}
-
-// Nothing is held any more.
-fn compact(gateway: &mut Trials) -> Result<(), GatewayFault> {
-    if gateway.held() != 0 {
-        return Err(GatewayFault::HeldFull);
-    }
-    gateway.compact()
 }
 
 // The answers come in order, and are the machine's.
@@ -133,8 +104,9 @@ fn do_compact(gateway: &mut Trials, told: &mut Told) -> Result<(), Fail> {
         return Ok(());
     }
     match compact(gateway) {
-        Ok(()) => Ok(()),
-        Err(fault) => fall(told, fault),
+        Some(Ok(())) => Ok(()),
+        Some(Err(fault)) => fall(told, fault),
+        None => Err(Fail::new("answers are held")),
     }
 }
 
@@ -177,43 +149,32 @@ fn not_begun(has_fallen: bool) -> Told {
     }
 }
 
-/// A call of the disk, counted from 0, at which something happens.
-#[derive(Clone, Copy)]
-enum Trouble {
-    /// This call fails, and all later ones do.
-    Stop(u64),
-    /// This call alone fails.
-    Fault(u64),
-}
-
-fn troubled(alloc: Global, trouble: Trouble) -> Result<Trial, Fail> {
-    let mut disk = Trial::of(alloc, b"", b"")?;
-    match trouble {
-        Trouble::Stop(call) => disk.fuse_after(call),
-        Trouble::Fault(call) => disk.fail_once(call),
+fn not_opened(disk: Trial, fault: OpenFault) -> Result<(Trial, Told), Fail> {
+    if fault != OpenFault::Device {
+        drop(disk);
+        return Err(fault.into());
     }
-    Ok(disk)
+    Ok((disk, not_begun(true)))
 }
 
 // Over files that were empty.
 fn driven(alloc: Global, script: &Script, trouble: Trouble) -> Result<(Trial, Told), Fail> {
-    let disk = troubled(alloc, trouble)?;
-    match open(alloc, disk, bounds(alloc)?, 1000) {
+    let bounds = bounds(alloc, "wan")?;
+    let mut disk = Trial::of(alloc, b"", b"")?;
+    expect_trouble(&mut disk, trouble, 0);
+    match open(alloc, disk, bounds, 1000) {
         Ok(mut gateway) => {
             let told = drive(alloc, &mut gateway, script)?;
             Ok((disk_of(gateway), told))
         }
-        Err((disk, OpenFault::Device)) => Ok((disk, not_begun(true))),
-        Err((_, fault)) => Err(fault.into()),
+        Err((disk, fault)) => not_opened(disk, fault),
     }
 }
 
 // What the files stand for, opened when all events are past.
 fn left(alloc: Global, disk: Trial) -> Result<Lasting, Fail> {
-    match open(alloc, disk, bounds(alloc)?, 10_000) {
-        Ok(gateway) => Lasting::of(alloc, gateway.rules(), gateway.sessions()?),
-        Err((_, fault)) => Err(fault.into()),
-    }
+    let gateway = opened(alloc, disk, 10_000)?;
+    Lasting::of(alloc, gateway.rules(), gateway.sessions()?)
 }
 
 // How many events that weren't answered are in the state, if it is the machine's behind some of those that were offered.
@@ -254,6 +215,7 @@ fn check(
     seen: &mut Seen,
 ) -> Result<bool, Fail> {
     if disk.has_strayed() || !told.has_fallen && told.answered != EVENTS {
+        drop(disk);
         return Err(Fail::new("it strayed, or ended early"));
     }
     let left = left(alloc, disk)?;
@@ -269,14 +231,14 @@ fn stop(
     choice: u64,
     seen: &mut Seen,
 ) -> Result<bool, Fail> {
-    let (mut disk, told) = driven(alloc, script, Trouble::Stop(call))?;
-    disk.crash(choice)?;
-    check(alloc, &script.model, disk, told, seen)
+    let (disk, told) = driven(alloc, script, Trouble::Stop(call))?;
+    check(alloc, &script.model, crashed(disk, choice)?, told, seen)
 }
 
 fn fault(alloc: Global, script: &Script, call: u64, seen: &mut Seen) -> Result<bool, Fail> {
     let (disk, told) = driven(alloc, script, Trouble::Fault(call))?;
     if !told.has_fallen {
+        drop(disk);
         return Ok(false);
     }
     check(alloc, &script.model, disk, told, seen)
