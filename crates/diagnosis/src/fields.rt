@@ -6,7 +6,7 @@ use packet::bounds::Bounds;
 use packet::endpoint::Prefix;
 
 /// A part of a configuration.
-#[derive(Clone, Copy, Debug, PartialEq, Eq, Drop)]
+#[derive(Clone, Copy, PartialEq, Eq, Drop)]
 pub enum Field {
     /// The name of the interface to the inside hosts.
     Lan,

@@ -13,7 +13,7 @@ use std::alloc::{AllocError, Global};
 
 /// Two files that stand for no state: what each of them is by itself. One of them has a fault, or both are whole and
 /// have one generation.
-#[derive(Clone, Copy, Debug, PartialEq, Eq, Drop)]
+#[derive(Clone, Copy, PartialEq, Eq, Drop)]
 pub struct Damage {
     pub a: Reading,
     pub b: Reading,

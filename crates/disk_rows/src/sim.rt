@@ -171,7 +171,7 @@ const CALLS: [(Call<'static>, Result<Option<u64>, DiskFault>); 5] = [
     (Call::Len, Err(DiskFault)),
 ];
 
-fn is_answered(
+fn assert_answered(
     rt: &impl Abort,
     disk: &mut SimDisk,
     call: Call<'_>,
@@ -180,7 +180,7 @@ fn is_answered(
     assert_eq!(rt; answer(disk, call), expected);
 }
 
-fn has_counts(rt: &impl Abort, disk: &SimDisk, calls: u64, failures: u64) {
+fn assert_counts(rt: &impl Abort, disk: &SimDisk, calls: u64, failures: u64) {
     assert_eq!(rt; counts(disk), (calls, failures));
 }
 
@@ -190,12 +190,12 @@ fn fuse(rt: HostRuntime) -> Result<(), Fail> {
     let mut disk = disk_of(alloc, b"abc", b"")?;
     disk.fuse_after(2);
     for (call, expected) in CALLS {
-        is_answered(&rt, &mut disk, call, expected);
+        assert_answered(&rt, &mut disk, call, expected);
     }
-    has_counts(&rt, &disk, 5, 3);
+    assert_counts(&rt, &disk, 5, 3);
     crash(&mut disk, 1)?;
     assert!(rt; holds(alloc, &mut disk, FileId::A, b"Xbc")?);
-    has_counts(&rt, &disk, 7, 3);
+    assert_counts(&rt, &disk, 7, 3);
     Ok(())
 }
 
@@ -244,7 +244,7 @@ fn refused_growth(rt: HostRuntime) -> Result<(), Fail> {
     let alloc = rt.alloc();
     let mut disk = disk_of(alloc, b"abc", b"")?;
     let (failures, expected) = grow(&mut disk);
-    has_counts(&rt, &disk, 2, failures);
+    assert_counts(&rt, &disk, 2, failures);
     assert!(rt; holds(alloc, &mut disk, FileId::A, expected)?);
     let failures = failures + u64::from(answer(&mut disk, Call::Sync).is_err());
     assert!(rt; disk.failures() == failures);

@@ -41,11 +41,11 @@ fn counts(disk: &Trial) -> (u64, u64) {
     (disk.calls(), disk.failures())
 }
 
-fn has_counts(rt: &impl Abort, disk: &Trial, calls: u64, failures: u64) {
+fn assert_counts(rt: &impl Abort, disk: &Trial, calls: u64, failures: u64) {
     assert_eq!(rt; counts(disk), (calls, failures));
 }
 
-fn is_answered(
+fn assert_answered(
     rt: &impl Abort,
     disk: &mut Trial,
     call: Call<'_>,
@@ -70,13 +70,13 @@ fn fuse(rt: HostRuntime) -> Result<(), Fail> {
     let mut disk = abc(alloc)?;
     disk.fuse_after(2);
     for (call, expected) in CALLS {
-        is_answered(&rt, &mut disk, call, expected);
+        assert_answered(&rt, &mut disk, call, expected);
     }
-    has_counts(&rt, &disk, 6, 4);
+    assert_counts(&rt, &disk, 6, 4);
     assert!(rt; holds(alloc, &mut disk, b"aXc")?);
     disk.crash(0)?;
     assert!(rt; holds(alloc, &mut disk, b"abc")?);
-    is_answered(&rt, &mut disk, Call::Sync, Ok(None));
+    assert_answered(&rt, &mut disk, Call::Sync, Ok(None));
     Ok(())
 }
 
@@ -86,13 +86,13 @@ fn fails_once(rt: HostRuntime) -> Result<(), Fail> {
     let alloc = rt.alloc();
     let mut disk = abc(alloc)?;
     disk.fail_once(1);
-    is_answered(&rt, &mut disk, Call::Sync, Ok(None));
-    is_answered(&rt, &mut disk, Call::Write(0, b"UVWXYZXYZ"), Err(DiskFault));
+    assert_answered(&rt, &mut disk, Call::Sync, Ok(None));
+    assert_answered(&rt, &mut disk, Call::Write(0, b"UVWXYZXYZ"), Err(DiskFault));
     assert!(rt; holds(alloc, &mut disk, b"UVWX")?);
     disk.fail_once(0);
-    is_answered(&rt, &mut disk, Call::Sync, Err(DiskFault));
-    is_answered(&rt, &mut disk, Call::Write(4, b"12"), Ok(None));
-    has_counts(&rt, &disk, 4, 2);
+    assert_answered(&rt, &mut disk, Call::Sync, Err(DiskFault));
+    assert_answered(&rt, &mut disk, Call::Write(4, b"12"), Ok(None));
+    assert_counts(&rt, &disk, 4, 2);
     assert!(rt; holds(alloc, &mut disk, b"UVWX12")?);
     Ok(())
 }
@@ -108,7 +108,7 @@ fn strays(rt: HostRuntime) -> Result<(), Fail> {
         (Call::Write(5, b"e"), true),
     ];
     for (call, has_strayed) in rows {
-        is_answered(&rt, &mut disk, call, Ok(None));
+        assert_answered(&rt, &mut disk, call, Ok(None));
         assert!(rt; disk.has_strayed() == has_strayed);
     }
     assert!(rt; holds(alloc, &mut disk, b"abcd")?);

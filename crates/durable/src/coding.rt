@@ -9,7 +9,7 @@ use packet::endpoint::{Endpoint, Proto};
 use sessions::{Opener, Session, are_known_bits};
 
 /// What names a session.
-#[derive(Clone, Copy, Debug, PartialEq, Eq, Drop)]
+#[derive(Clone, Copy, PartialEq, Eq, Drop)]
 pub struct Flow {
     /// TCP and UDP have flows of their own.
     pub proto: Proto,
@@ -20,7 +20,7 @@ pub struct Flow {
 }
 
 /// What changes the durable state. The bits of `seen` are those of `Session`.
-#[derive(Clone, Copy, Debug, PartialEq, Eq, Drop)]
+#[derive(Clone, Copy, PartialEq, Eq, Drop)]
 pub enum Entry<'a> {
     /// A ruleset's text is loaded.
     Load(&'a [u8]),

@@ -164,7 +164,7 @@ fn count_sessions(gateway: &Trials) -> Option<usize> {
     Some(gateway.sessions().ok()?.len())
 }
 
-fn has_sessions(gateway: &Trials, count: usize) -> Result<(), Stop> {
+fn expect_sessions(gateway: &Trials, count: usize) -> Result<(), Stop> {
     let counted = count_sessions(gateway).or_else(|| count_sessions(gateway));
     must(counted == Some(count))
 }
@@ -252,11 +252,11 @@ fn offer_all(gateway: &mut Trials, offered: &mut Vec<Event>) -> Result<(), Stop>
     hand_out(gateway, 2)?;
     answer_at_once(gateway, next(offered)?, 3)?;
     hold(gateway, next(offered)?, 4)?;
-    has_sessions(gateway, 3)?;
+    expect_sessions(gateway, 3)?;
     hand_out(gateway, 1)?;
     compact_twice(gateway)?;
     hold(gateway, next(offered)?, 5)?;
-    has_sessions(gateway, 1)?;
+    expect_sessions(gateway, 1)?;
     hand_out(gateway, 1)
 }
 
@@ -267,7 +267,7 @@ fn calls(gateway: &mut Trials, offered: &mut Vec<Event>, events: Vec<Event>) -> 
 }
 
 // The files open again, and hold no more than was taken.
-fn is_left(alloc: Global, disk: Trial, all: &mut Vec<Bounds>) -> Result<(), Stop> {
+fn expect_left(alloc: Global, disk: Trial, all: &mut Vec<Bounds>) -> Result<(), Stop> {
     let gateway = open_twice(alloc, disk, all)?;
     let counted = count_sessions(&gateway).or_else(|| count_sessions(&gateway));
     must(counted.is_some_and(|count| count <= 3) && gateway.held() == 0)
@@ -282,7 +282,7 @@ fn scenario(alloc: Global, begun: Begun) -> Result<(), Stop> {
     } = begun;
     let mut gateway = open_twice(alloc, disk, &mut bounds)?;
     match calls(&mut gateway, &mut offered, run) {
-        Ok(()) | Err(Stop::Fallen) => is_left(alloc, disk_of(gateway), &mut bounds),
+        Ok(()) | Err(Stop::Fallen) => expect_left(alloc, disk_of(gateway), &mut bounds),
         Err(Stop::Wrong) => Err(Stop::Wrong),
     }
 }

@@ -171,11 +171,11 @@ fn run_loads(
         Ok(answers) => (answers, "done"),
         Err((answers, fault)) => (answers, name(fault)),
     };
-    are_loaded(alloc, answers.as_slice(), answered)?;
+    expect_loaded(alloc, answers.as_slice(), answered)?;
     Ok(end)
 }
 
-fn are_loaded(alloc: Global, answers: &[(u64, Answer)], count: u64) -> Result<(), Fail> {
+fn expect_loaded(alloc: Global, answers: &[(u64, Answer)], count: u64) -> Result<(), Fail> {
     let lines = all_loaded(alloc, count)?;
     let said = handed(alloc, answers)?;
     expect(alloc, said.as_slice(), lines.as_str())

@@ -167,7 +167,7 @@ const DAMAGED: [&str; 8] = [
 ];
 
 // It is judged by its own configuration alone.
-fn is_damaged(rt: &impl Abort, alloc: Global, row: usize, file: &[u8]) -> Result<(), Fail> {
+fn assert_damaged(rt: &impl Abort, alloc: Global, row: usize, file: &[u8]) -> Result<(), Fail> {
     for wan in ["wan", "wan1"] {
         let fault = refuses(rt, alloc, wan, file, b"")?;
         assert_eq!(rt; fault, OpenFault::Damaged, "row {row}");
@@ -180,7 +180,7 @@ fn damaged(rt: HostRuntime) -> Result<(), Fail> {
     let alloc = rt.alloc();
     for (row, file) in DAMAGED.iter().enumerate() {
         let file = hex(alloc, file)?;
-        is_damaged(&rt, alloc, row, file.as_slice())?;
+        assert_damaged(&rt, alloc, row, file.as_slice())?;
     }
     let twice = hex(alloc, FRESH)?;
     let fault = refuses(&rt, alloc, "wan", twice.as_slice(), twice.as_slice())?;

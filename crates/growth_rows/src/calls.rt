@@ -223,7 +223,7 @@ fn call_each(
 }
 
 // The files open again, with what they stood for, or with what there was at the end.
-fn is_left(alloc: Global, gateway: Trials, kept: Kept) -> Result<(), Stop> {
+fn expect_left(alloc: Global, gateway: Trials, kept: Kept) -> Result<(), Stop> {
     let present = see(&gateway)?.lasting();
     let gateway = open(alloc, disk_of(gateway))?;
     let found = see(&gateway)?.lasting();
@@ -236,7 +236,7 @@ fn play_once(alloc: Global) -> Result<Answers, Stop> {
     let mut kept = (0, 0);
     let mut gateway = open(alloc, empty_disk(alloc)?)?;
     let end = call_each(alloc, &mut gateway, begun, &mut kept);
-    is_left(alloc, gateway, kept)?;
+    expect_left(alloc, gateway, kept)?;
     end
 }
 

@@ -107,7 +107,7 @@ fn run(alloc: Global, written: &mut Vec<u8>, gateway: &mut Trials) -> Result<(),
 }
 
 // The files open again, with no more than there was at the end.
-fn is_left(alloc: Global, gateway: Trials) -> Result<(), Stop> {
+fn expect_left(alloc: Global, gateway: Trials) -> Result<(), Stop> {
     let (rules, sessions) = see(&gateway)?.lasting();
     let gateway = open(alloc, disk_of(gateway))?;
     let found = see(&gateway)?.lasting();
@@ -118,7 +118,7 @@ fn answer_once(alloc: Global) -> Result<Vec<u8>, Stop> {
     let mut written = room(alloc)?;
     let mut gateway = open(alloc, empty_disk(alloc)?)?;
     let end = run(alloc, &mut written, &mut gateway);
-    is_left(alloc, gateway)?;
+    expect_left(alloc, gateway)?;
     end.map(|()| written)
 }
 

@@ -7,7 +7,7 @@ use packet::route::RouteFault;
 
 /// Why a packet is dropped. The variants stand in the order of their numbers; in which order a leg finds
 /// them is said at `out_leg`, `in_leg` and `both`.
-#[derive(Clone, Copy, Debug, PartialEq, Eq, Drop)]
+#[derive(Clone, Copy, PartialEq, Eq, Drop)]
 pub enum Cause {
     /// The bytes aren't a packet that the gateway takes. Numbers 1 to 9.
     Packet(Fault),

@@ -16,7 +16,7 @@ use sessions::{Opener, Session, Slot, Table};
 use verdict::{Forwarding, Rules, forward};
 
 /// How a packet leaves whose session goes on.
-#[derive(Clone, Copy, Debug, PartialEq, Eq, Drop)]
+#[derive(Clone, Copy, PartialEq, Eq, Drop)]
 pub struct Going {
     /// The slot of its session.
     pub slot: Slot,

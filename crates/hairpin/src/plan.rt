@@ -4,7 +4,7 @@ use packet::endpoint::{Endpoint, Iface};
 use sessions::Change;
 
 /// What a packet that passes changes, in turn, and how it leaves. Nothing has changed yet.
-#[derive(Clone, Copy, Debug, PartialEq, Eq, Drop)]
+#[derive(Clone, Copy, PartialEq, Eq, Drop)]
 pub struct Plan {
     /// What becomes of its session; of a hairpin, which has two, of the one that it goes out by.
     pub first: Change,

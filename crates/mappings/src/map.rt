@@ -12,7 +12,7 @@ use std::alloc::{AllocError, Global};
 use std::marker::Model;
 
 /// An inside endpoint and the outside endpoint that stands for it.
-#[derive(Clone, Copy, Debug, PartialEq, Eq)]
+#[derive(Clone, Copy, PartialEq, Eq)]
 pub struct Pair {
     /// Each protocol has mappings of its own.
     pub proto: Proto,
@@ -23,7 +23,7 @@ pub struct Pair {
 }
 
 /// A pair, and how often it is held.
-#[derive(Clone, Copy, Debug, PartialEq, Eq)]
+#[derive(Clone, Copy, PartialEq, Eq)]
 pub struct Counted {
     pub pair: Pair,
     /// From 1 on: a pair that nothing holds isn't kept.

@@ -3,7 +3,7 @@
 #![tactic(auto)]
 
 /// A command line that was read.
-#[derive(Clone, Copy, Debug, Drop)]
+#[derive(Clone, Copy, Drop)]
 pub struct Options<'a> {
     /// The options that all commands have.
     pub sides: Sides<'a>,
@@ -12,7 +12,7 @@ pub struct Options<'a> {
 }
 
 /// What the gateway stands between, as it was written. Nothing of it is tested yet.
-#[derive(Clone, Copy, Debug, Drop)]
+#[derive(Clone, Copy, Drop)]
 pub struct Sides<'a> {
     /// The name of the inside interface.
     pub lan: &'a str,
@@ -25,7 +25,7 @@ pub struct Sides<'a> {
 }
 
 /// A command with what it alone takes.
-#[derive(Clone, Copy, Debug, Drop)]
+#[derive(Clone, Copy, Drop)]
 pub enum Task<'a> {
     /// Says whether the ruleset of this file would load.
     Check {
@@ -44,7 +44,7 @@ pub enum Task<'a> {
 }
 
 /// How a gateway opens.
-#[derive(Clone, Copy, Debug, Drop)]
+#[derive(Clone, Copy, Drop)]
 pub struct Opening<'a> {
     /// The directory of its two files.
     pub directory: &'a str,
@@ -53,7 +53,7 @@ pub struct Opening<'a> {
 }
 
 /// What a gateway is opened for.
-#[derive(Clone, Copy, Debug, Drop)]
+#[derive(Clone, Copy, Drop)]
 pub enum Work<'a> {
     /// It answers the requests of standard input.
     Replay,

@@ -7,7 +7,7 @@ use crate::words::{clear_bit, first_clear, first_clear_from, is_set, set_bit};
 use packet::steps::Steps;
 
 /// The words of the ports of a class and parity, among the 1,024 of an address and protocol.
-#[derive(Clone, Copy, Debug, PartialEq, Eq)]
+#[derive(Clone, Copy, PartialEq, Eq)]
 pub(crate) struct Lane {
     // Its first word, and how many it has.
     first: usize,

@@ -58,7 +58,7 @@ fn chooses(rt: &impl Abort, translations: &Translations, proto: Proto, expected:
 }
 
 // What stands for this inside endpoint by UDP.
-fn has_outside(
+fn assert_outside(
     rt: &impl Abort,
     translations: &Translations,
     inside: Endpoint,
@@ -68,7 +68,7 @@ fn has_outside(
 }
 
 // What the outside endpoint stands for.
-fn has_inside(
+fn assert_inside(
     rt: &impl Abort,
     translations: &Translations,
     proto: Proto,
@@ -85,10 +85,10 @@ fn comes_and_goes(rt: &impl Abort, translations: &mut Translations) -> Result<()
     translations.reserve()?;
     chooses(rt, translations, Proto::Udp, OUTSIDE);
     translations.hold(&SESSION);
-    has_outside(rt, translations, HOST, Some(OUTSIDE));
-    has_inside(rt, translations, Proto::Udp, Some(HOST));
-    has_outside(rt, translations, NEIGHBOUR, None);
-    has_inside(rt, translations, Proto::Tcp, None);
+    assert_outside(rt, translations, HOST, Some(OUTSIDE));
+    assert_inside(rt, translations, Proto::Udp, Some(HOST));
+    assert_outside(rt, translations, NEIGHBOUR, None);
+    assert_inside(rt, translations, Proto::Tcp, None);
     let next = Endpoint {
         addr: EXTERNAL,
         port: 5002,
@@ -96,8 +96,8 @@ fn comes_and_goes(rt: &impl Abort, translations: &mut Translations) -> Result<()
     chooses(rt, translations, Proto::Udp, next);
     chooses(rt, translations, Proto::Tcp, OUTSIDE);
     translations.release(&SESSION);
-    has_outside(rt, translations, HOST, None);
-    has_inside(rt, translations, Proto::Udp, None);
+    assert_outside(rt, translations, HOST, None);
+    assert_inside(rt, translations, Proto::Udp, None);
     chooses(rt, translations, Proto::Udp, OUTSIDE);
     Ok(())
 }

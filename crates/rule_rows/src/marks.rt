@@ -37,7 +37,7 @@ struct Row {
     expected: &'static str,
 }
 
-fn is_shown(
+fn assert_shown(
     rt: &impl Abort,
     alloc: Global,
     text: &str,
@@ -50,9 +50,9 @@ fn is_shown(
     Ok(())
 }
 
-fn are_shown(rt: &impl Abort, alloc: Global, rows: &[Row]) -> Result<(), AllocError> {
+fn assert_all_shown(rt: &impl Abort, alloc: Global, rows: &[Row]) -> Result<(), AllocError> {
     for row in rows {
-        is_shown(
+        assert_shown(
             rt,
             alloc,
             row.text,
@@ -137,7 +137,7 @@ const SYNTAX: [Row; 8] = [
 
 #[test]
 fn syntax(rt: HostRuntime) -> Result<(), AllocError> {
-    are_shown(&rt, rt.alloc(), &SYNTAX)
+    assert_all_shown(&rt, rt.alloc(), &SYNTAX)
 }
 
 const NAMES: [Row; 4] = [
@@ -173,7 +173,7 @@ const NAMES: [Row; 4] = [
 
 #[test]
 fn names(rt: HostRuntime) -> Result<(), AllocError> {
-    are_shown(&rt, rt.alloc(), &NAMES)
+    assert_all_shown(&rt, rt.alloc(), &NAMES)
 }
 
 const RULES: [Row; 5] = [
@@ -216,7 +216,7 @@ const RULES: [Row; 5] = [
 
 #[test]
 fn rules(rt: HostRuntime) -> Result<(), AllocError> {
-    are_shown(&rt, rt.alloc(), &RULES)
+    assert_all_shown(&rt, rt.alloc(), &RULES)
 }
 
 // A table with these chains, each in a line of its own and with a jump to the next.
@@ -240,7 +240,7 @@ fn back_by_jumps(rt: HostRuntime) -> Result<(), AllocError> {
         "`jump`, which comes back to its chain by jumps and gotos",
         "chains of which none leads back to itself",
     ];
-    is_shown(&rt, rt.alloc(), text.as_str(), lines)
+    assert_shown(&rt, rt.alloc(), text.as_str(), lines)
 }
 
 #[test]
@@ -253,7 +253,7 @@ fn seventeen_jumps(rt: HostRuntime) -> Result<(), AllocError> {
         "`jump`, which is on a path of more than 16 jumps and gotos",
         "at most 16 jumps and gotos on every path",
     ];
-    is_shown(&rt, rt.alloc(), text.as_str(), lines)
+    assert_shown(&rt, rt.alloc(), text.as_str(), lines)
 }
 
 #[test]
@@ -271,7 +271,7 @@ fn one_chain_too_many(rt: HostRuntime) -> Result<(), AllocError> {
         "`chain`, which is one more than there may be",
         "at most 256 chains, 4096 rules, and 16384 elements and pairs in all",
     ];
-    is_shown(&rt, alloc, text.as_str(), lines)
+    assert_shown(&rt, alloc, text.as_str(), lines)
 }
 
 // A character so many times.
@@ -296,7 +296,7 @@ fn one_byte_too_many(rt: HostRuntime) -> Result<(), AllocError> {
         "` `, the first byte that is too many",
         "a text of at most 262144 bytes",
     ];
-    is_shown(&rt, alloc, text.as_str(), lines)
+    assert_shown(&rt, alloc, text.as_str(), lines)
 }
 
 const AT_THE_START: &str = "`flush`, `table`, `;`, the end of the line, the end of the text";
@@ -310,7 +310,7 @@ fn long_line(rt: HostRuntime) -> Result<(), AllocError> {
     let line = format!(in alloc; "line 1: ...{blank:;<60}x{blank:;<59}...")?;
     let mark = format!(in alloc; "{blank:71}^")?;
     let found = "`x`, which is no word that is known here";
-    is_shown(
+    assert_shown(
         &rt,
         alloc,
         text.as_str(),
@@ -326,5 +326,5 @@ fn long_name(rt: HostRuntime) -> Result<(), AllocError> {
     let blank = "";
     let found = format!(in alloc; "`{blank:z<40}...`, which is no word that is known here")?;
     let lines = [line.as_str(), "        ^", found.as_str(), AT_THE_START];
-    is_shown(&rt, alloc, name.as_str(), lines)
+    assert_shown(&rt, alloc, name.as_str(), lines)
 }

@@ -8,14 +8,14 @@ use ruletokens::line::Line;
 use sqlite_items::Items;
 
 /// The tables of a text, in its order.
-#[derive(Debug, Drop)]
+#[derive(Drop)]
 pub struct Spelled {
     /// There may be none.
     pub tables: Items<Table>,
 }
 
 /// The protocols that a table's rules are asked for. A table without a family is of `Ip`.
-#[derive(Clone, Copy, Debug, PartialEq, Eq, Drop)]
+#[derive(Clone, Copy, PartialEq, Eq, Drop)]
 pub enum Family {
     /// IPv4.
     Ip,
@@ -24,7 +24,7 @@ pub enum Family {
 }
 
 /// A table: its sets and its chains, each in the order of the text.
-#[derive(Debug, Drop)]
+#[derive(Drop)]
 pub struct Table {
     /// Of the word `table`.
     pub line: Line,
@@ -39,7 +39,7 @@ pub struct Table {
 }
 
 /// A named set. One `type` line and at most one `elements` line are legal, but more can be spelled.
-#[derive(Debug, Drop)]
+#[derive(Drop)]
 pub struct Set {
     /// Of the word `set`.
     pub line: Line,
@@ -54,7 +54,7 @@ pub struct Set {
 }
 
 /// A line `type NAME` of a set.
-#[derive(Debug, Drop)]
+#[derive(Drop)]
 pub struct SetType {
     /// Of the word `type`.
     pub line: Line,
@@ -65,7 +65,7 @@ pub struct SetType {
 }
 
 /// A line `elements = { .. }` of a set.
-#[derive(Debug, Drop)]
+#[derive(Drop)]
 pub struct SetElements {
     /// Of the word `elements`.
     pub line: Line,
@@ -74,7 +74,7 @@ pub struct SetElements {
 }
 
 /// A chain: a base chain where it has a base, else one that rules jump or go to.
-#[derive(Debug, Drop)]
+#[derive(Drop)]
 pub struct Chain {
     /// Of the word `chain`.
     pub line: Line,
@@ -87,7 +87,7 @@ pub struct Chain {
 }
 
 /// Where a base chain is asked, and what its end answers.
-#[derive(Debug, Drop)]
+#[derive(Drop)]
 pub struct Base {
     /// Of the word `type`.
     pub line: Line,
@@ -102,14 +102,14 @@ pub struct Base {
 }
 
 /// What a base chain is for: to filter every packet, or to translate those that have no session yet.
-#[derive(Clone, Copy, Debug, PartialEq, Eq, Drop)]
+#[derive(Clone, Copy, PartialEq, Eq, Drop)]
 pub enum ChainType {
     Filter,
     Nat,
 }
 
 /// The place on a packet's way at which a base chain is asked.
-#[derive(Clone, Copy, Debug, PartialEq, Eq, Drop)]
+#[derive(Clone, Copy, PartialEq, Eq, Drop)]
 pub enum Hook {
     /// As it comes in, where destinations are translated.
     Prerouting,
@@ -124,14 +124,14 @@ pub enum Hook {
 }
 
 /// What the end of a base chain answers.
-#[derive(Clone, Copy, Debug, PartialEq, Eq, Drop)]
+#[derive(Clone, Copy, PartialEq, Eq, Drop)]
 pub enum Policy {
     Accept,
     Drop,
 }
 
 /// A rule: where all its matches hold, its end is taken.
-#[derive(Debug, Drop)]
+#[derive(Drop)]
 pub struct Rule {
     /// Of its first token.
     pub line: Line,
@@ -142,7 +142,7 @@ pub struct Rule {
 }
 
 /// A test of one fact of a packet.
-#[derive(Debug, Drop)]
+#[derive(Drop)]
 pub struct Match {
     /// Of its first token.
     pub line: Line,
@@ -155,14 +155,14 @@ pub struct Match {
 }
 
 /// The protocol that a head of ports demands.
-#[derive(Clone, Copy, Debug, PartialEq, Eq, Drop)]
+#[derive(Clone, Copy, PartialEq, Eq, Drop)]
 pub enum Transport {
     Tcp,
     Udp,
 }
 
 /// The fact that a match or a verdict map asks for.
-#[derive(Clone, Copy, Debug, PartialEq, Eq, Drop)]
+#[derive(Clone, Copy, PartialEq, Eq, Drop)]
 pub enum Head {
     /// `iifname`, `iif`: the name of the interface that a packet came in by.
     Iifname,
@@ -183,7 +183,7 @@ pub enum Head {
 }
 
 /// The values that a match asks about.
-#[derive(Debug, Drop)]
+#[derive(Drop)]
 pub enum Side {
     /// A single one, without braces.
     One(Element),
@@ -194,7 +194,7 @@ pub enum Side {
 }
 
 /// The name of a set, behind `@`.
-#[derive(Debug, Drop)]
+#[derive(Drop)]
 pub struct SetName {
     /// Of the symbol `@`.
     pub line: Line,
@@ -203,7 +203,7 @@ pub struct SetName {
 }
 
 /// A part of a side, of a set or of a verdict map's keys.
-#[derive(Debug, Drop)]
+#[derive(Drop)]
 pub struct Element {
     /// Of its first token.
     pub line: Line,
@@ -212,7 +212,7 @@ pub struct Element {
 }
 
 /// What an element stands for.
-#[derive(Debug, Drop)]
+#[derive(Drop)]
 pub enum Value {
     Address(u32),
     /// The address as it is written, with any host bits, and a length in bits, at most 32.
@@ -228,7 +228,7 @@ pub enum Value {
 }
 
 /// What a rule does where its matches hold.
-#[derive(Debug, Drop)]
+#[derive(Drop)]
 pub enum End {
     Verdict(Verdict),
     Vmap(Vmap),
@@ -239,7 +239,7 @@ pub enum End {
 }
 
 /// Where a packet goes on.
-#[derive(Debug, Drop)]
+#[derive(Drop)]
 pub enum Verdict {
     /// At the next base chain of the hook.
     Accept,
@@ -256,7 +256,7 @@ pub enum Verdict {
 }
 
 /// The chain that a jump or goto names.
-#[derive(Debug, Drop)]
+#[derive(Drop)]
 pub struct Target {
     /// Of the word `jump` or `goto`.
     pub line: Line,
@@ -265,7 +265,7 @@ pub struct Target {
 }
 
 /// A verdict map: the verdict of the key that holds the fact.
-#[derive(Debug, Drop)]
+#[derive(Drop)]
 pub struct Vmap {
     /// Of its first token.
     pub line: Line,
@@ -276,7 +276,7 @@ pub struct Vmap {
 }
 
 /// A key of a verdict map, and its verdict.
-#[derive(Debug, Drop)]
+#[derive(Drop)]
 pub struct Pair {
     /// The values that lead there.
     pub key: Element,
@@ -285,7 +285,7 @@ pub struct Pair {
 }
 
 /// A translation of the destination.
-#[derive(Debug, Drop)]
+#[derive(Drop)]
 pub struct Dnat {
     /// Of the word `dnat`.
     pub line: Line,
@@ -298,7 +298,7 @@ pub struct Dnat {
 }
 
 /// A translation of the source.
-#[derive(Debug, Drop)]
+#[derive(Drop)]
 pub struct Snat {
     /// Of the word `snat`.
     pub line: Line,

@@ -10,7 +10,7 @@ ghost use Rattle.rulesyntax.specs.declared.tree.Value.TheVariants as values;
 use rulesyntax::tree::{Head, SetType, Value};
 
 /// What sort of values a match, a verdict map or a set speaks of.
-#[derive(Clone, Copy, Debug, PartialEq, Eq)]
+#[derive(Clone, Copy, PartialEq, Eq)]
 pub enum Class {
     /// IPv4 addresses, prefixes and ranges: `ipv4_addr`.
     Addresses,

@@ -2,7 +2,7 @@
 use sqlite_items::Items;
 
 /// A token of a text. Spaces and comments are none.
-#[derive(Debug, Drop)]
+#[derive(Drop)]
 pub enum Token {
     /// The bytes of a word, which may be one with a meaning.
     Name(Items<u8>),
@@ -21,7 +21,7 @@ pub enum Token {
 }
 
 /// A sign of a ruleset: one byte, or the two of `==` and `!=`.
-#[derive(Clone, Copy, Debug, PartialEq, Eq, Drop)]
+#[derive(Clone, Copy, PartialEq, Eq, Drop)]
 pub enum Symbol {
     /// `{`
     Open,

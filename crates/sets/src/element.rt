@@ -7,7 +7,7 @@ use packet::endpoint::Prefix;
 use std::cmp::Ordering;
 
 /// What a packet has where a match looks.
-#[derive(Clone, Copy, Debug, PartialEq, Eq, Drop)]
+#[derive(Clone, Copy, PartialEq, Eq, Drop)]
 pub enum Value<'a> {
     /// A number in host byte order: the most significant byte of an address is its first octet.
     Number(u32),
@@ -26,7 +26,7 @@ pub struct Range {
 }
 
 /// A part of a set: a range of numbers, or one interface name.
-#[derive(Debug, PartialEq, Eq, Drop)]
+#[derive(PartialEq, Eq, Drop)]
 pub enum Element {
     /// Each number of the range.
     Numbers(Range),
@@ -35,7 +35,7 @@ pub enum Element {
 }
 
 /// A key of a verdict map, and where it leads.
-#[derive(Debug, PartialEq, Eq, Drop)]
+#[derive(PartialEq, Eq, Drop)]
 pub struct Pair<V> {
     /// The values that lead there.
     pub key: Element,

@@ -2,7 +2,7 @@
 use gateway::GatewayFault;
 
 /// What is wrong in a request's header, in the order in which it is tested.
-#[derive(Clone, Copy, Debug, PartialEq, Eq, Drop)]
+#[derive(Clone, Copy, PartialEq, Eq, Drop)]
 pub enum HeaderFault {
     /// The kind is none of 1, 2, 3.
     BadKind,

@@ -39,7 +39,7 @@ fn two_slots(alloc: Global) -> Result<(Slot, Slot), Fail>
 }
 
 // The slots of the sessions that are over in this second, which comes behind all that was seen of them.
-fn lists(
+fn assert_listed(
     rt: &impl Abort,
     alloc: Global,
     due: &Due,
@@ -61,7 +61,7 @@ fn two_idle_sessions(rt: HostRuntime) -> Result<(), Fail> {
     due.reserve(2)?;
     due.add(first, 1000, 300)?;
     due.add(second, 1001, 300)?;
-    lists(&rt, alloc, &due, 1301, &[first, second])?;
+    assert_listed(&rt, alloc, &due, 1301, &[first, second])?;
     Ok(())
 }
 
@@ -72,7 +72,7 @@ fn the_first_of_two(rt: HostRuntime) -> Result<(), Fail> {
     let mut due = Box::new(alloc, Due::new(alloc))?;
     due.add(first, 1000, 300)?;
     due.add(second, 1001, 300)?;
-    lists(&rt, alloc, &due, 1300, &[first])?;
+    assert_listed(&rt, alloc, &due, 1300, &[first])?;
     Ok(())
 }
 
@@ -82,8 +82,8 @@ fn an_idle_session(rt: HostRuntime) -> Result<(), Fail> {
     let (slot, _) = two_slots(alloc)?;
     let mut due = Box::new(alloc, Due::new(alloc))?;
     due.add(slot, 1000, 300)?;
-    lists(&rt, alloc, &due, 1299, &[])?;
-    lists(&rt, alloc, &due, 1300, &[slot])?;
+    assert_listed(&rt, alloc, &due, 1299, &[])?;
+    assert_listed(&rt, alloc, &due, 1300, &[slot])?;
     Ok(())
 }
 
@@ -94,10 +94,10 @@ fn a_refreshed_session(rt: HostRuntime) -> Result<(), Fail> {
     let mut due = Box::new(alloc, Due::new(alloc))?;
     due.add(slot, 1000, 240)?;
     due.touch(slot, 1003, 7440);
-    lists(&rt, alloc, &due, 8442, &[])?;
-    lists(&rt, alloc, &due, u64::MAX, &[slot])?;
+    assert_listed(&rt, alloc, &due, 8442, &[])?;
+    assert_listed(&rt, alloc, &due, u64::MAX, &[slot])?;
     due.remove(slot);
-    lists(&rt, alloc, &due, u64::MAX, &[])?;
+    assert_listed(&rt, alloc, &due, u64::MAX, &[])?;
     Ok(())
 }
 
@@ -109,6 +109,6 @@ fn a_session_moves_behind_another(rt: HostRuntime) -> Result<(), Fail> {
     due.add(first, 1000, 300)?;
     due.add(second, 1001, 300)?;
     due.touch(first, 1002, 300);
-    lists(&rt, alloc, &due, u64::MAX, &[second, first])?;
+    assert_listed(&rt, alloc, &due, u64::MAX, &[second, first])?;
     Ok(())
 }

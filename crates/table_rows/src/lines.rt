@@ -34,7 +34,7 @@ const QUERY: Session = Session {
 const QUERY_LINE: &str =
     "udp 192.168.1.2:5000      203.0.113.1:5000      198.51.100.7:53       -\n";
 
-fn is_shown(
+fn assert_shown(
     rt: &impl Abort,
     alloc: Global,
     session: &Session,
@@ -48,18 +48,18 @@ fn is_shown(
 
 #[test]
 fn one_session(rt: HostRuntime) -> Result<(), AllocError> {
-    is_shown(&rt, rt.alloc(), &QUERY, QUERY_LINE)?;
+    assert_shown(&rt, rt.alloc(), &QUERY, QUERY_LINE)?;
     let answered = Session {
         opener: Opener::Remote,
         seen: 1,
         last: 0,
         ..QUERY
     };
-    is_shown(&rt, rt.alloc(), &answered, QUERY_LINE)
+    assert_shown(&rt, rt.alloc(), &answered, QUERY_LINE)
 }
 
 // A TCP session that has seen these bits ends its line with this word.
-fn is_shown_as(rt: &impl Abort, alloc: Global, seen: u8, word: &str) -> Result<(), AllocError> {
+fn assert_shown_as(rt: &impl Abort, alloc: Global, seen: u8, word: &str) -> Result<(), AllocError> {
     let mut wanted = String::from_str(
         alloc,
         "tcp 192.168.1.2:5000      203.0.113.1:5000      198.51.100.7:53       ",
@@ -70,7 +70,7 @@ fn is_shown_as(rt: &impl Abort, alloc: Global, seen: u8, word: &str) -> Result<(
         seen,
         ..QUERY
     };
-    is_shown(rt, alloc, &session, wanted.as_str())
+    assert_shown(rt, alloc, &session, wanted.as_str())
 }
 
 #[test]
@@ -86,7 +86,7 @@ fn phases(rt: HostRuntime) -> Result<(), AllocError> {
         (32, "closing\n"),
     ];
     for (seen, word) in rows {
-        is_shown_as(&rt, rt.alloc(), seen, word)?;
+        assert_shown_as(&rt, rt.alloc(), seen, word)?;
     }
     Ok(())
 }
@@ -105,7 +105,7 @@ fn widest_and_narrowest(rt: HostRuntime) -> Result<(), AllocError> {
         ..QUERY
     };
     let wanted = "udp 255.255.255.255:65535 0.0.0.0:1             255.255.255.255:65535 -\n";
-    is_shown(&rt, rt.alloc(), &session, wanted)
+    assert_shown(&rt, rt.alloc(), &session, wanted)
 }
 
 // The line of a session so many times, below a first line.

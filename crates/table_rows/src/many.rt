@@ -117,7 +117,7 @@ fn look_up_all(rt: &impl Abort, table: &Table, are_ended: bool) {
 }
 
 // The list rises strictly, and has so many sessions.
-fn is_listed(rt: &impl Abort, alloc: Global, table: &Table, count: usize) -> Result<(), Fail> {
+fn assert_listed(rt: &impl Abort, alloc: Global, table: &Table, count: usize) -> Result<(), Fail> {
     let sessions = table.list(alloc)?;
     assert_eq!(rt; sessions.len(), count);
     let mut before: Option<Session> = None;
@@ -136,11 +136,11 @@ fn turned_orders(rt: HostRuntime) -> Result<(), Fail> {
     let mut table = Table::new(alloc);
     add_all(&mut table)?;
     look_up_all(&rt, &table, false);
-    is_listed(&rt, alloc, &table, 65_536)?;
+    assert_listed(&rt, alloc, &table, 65_536)?;
     end_some(&mut table)?;
     look_up_all(&rt, &table, true);
-    is_listed(&rt, alloc, &table, 28_086)?;
+    assert_listed(&rt, alloc, &table, 28_086)?;
     add_again(&mut table)?;
     look_up_all(&rt, &table, false);
-    is_listed(&rt, alloc, &table, 65_536)
+    assert_listed(&rt, alloc, &table, 65_536)
 }

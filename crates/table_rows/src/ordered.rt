@@ -17,7 +17,7 @@ fn has(rt: &impl Abort, rows: &Rows, key: u128, expected: Option<usize>) {
     assert_eq!(rt; rows.get(key), expected);
 }
 
-fn gives(rt: &impl Abort, rows: &mut Rows, key: u128, expected: Option<usize>) {
+fn assert_gives(rt: &impl Abort, rows: &mut Rows, key: u128, expected: Option<usize>) {
     assert_eq!(rt; rows.remove(key), expected);
 }
 
@@ -69,7 +69,7 @@ fn entries_go_in_and_out(rt: HostRuntime) -> Result<(), AllocError> {
     assert_eq!(rt; Rows::new(rt.alloc()).get(7), None);
     let mut rows = three(&rt, rt.alloc())?;
     for value in [Some(2), None] {
-        gives(&rt, &mut rows, 7, value);
+        assert_gives(&rt, &mut rows, 7, value);
     }
     for (key, value) in [(0, 3), (HIGH, 1)] {
         has(&rt, &rows, key, Some(value));
@@ -107,7 +107,7 @@ fn many_entries_are_found(rt: HostRuntime) -> Result<(), AllocError> {
     let mut rows = many(&rt, rt.alloc())?;
     assert_eq!(rt; count_rising(&rt, &rows), 2000);
     for number in 0..1990 {
-        gives(&rt, &mut rows, key_of(number), Some(number));
+        assert_gives(&rt, &mut rows, key_of(number), Some(number));
     }
     for number in 0..1990 {
         has(&rt, &rows, key_of(number), None);

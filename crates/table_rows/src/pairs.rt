@@ -68,7 +68,7 @@ fn pair_goes_with_its_last_hold(rt: HostRuntime) -> Result<(), AllocError> {
 }
 
 // On a map that holds nothing.
-fn is_held_once_reserved(rt: &impl Abort, map: &mut Map) -> Result<(), AllocError>
+fn assert_held_once_reserved(rt: &impl Abort, map: &mut Map) -> Result<(), AllocError>
     requires { (p : Mapping) → times map.old p ≡ 0 }
 {
     if map.reserve().is_err() {
@@ -87,7 +87,7 @@ fn is_held_once_reserved(rt: &impl Abort, map: &mut Map) -> Result<(), AllocErro
 #[test]
 fn reserved_pair_is_held(rt: HostRuntime) -> Result<(), AllocError> {
     let mut map = Map::new(rt.alloc());
-    let held = is_held_once_reserved(&rt, &mut map);
+    let held = assert_held_once_reserved(&rt, &mut map);
     drop(map);
     held
 }

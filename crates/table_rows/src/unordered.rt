@@ -11,7 +11,7 @@ fn has(rt: &impl Abort, map: &Buckets, key: u64, expected: Option<usize>) {
     assert_eq!(rt; map.get(key), expected);
 }
 
-fn gives(rt: &impl Abort, map: &mut Buckets, key: u64, expected: Option<usize>) {
+fn assert_gives(rt: &impl Abort, map: &mut Buckets, key: u64, expected: Option<usize>) {
     assert_eq!(rt; map.remove(key), expected);
 }
 
@@ -62,12 +62,12 @@ fn entries_go_in_and_out(rt: HostRuntime) -> Result<(), AllocError> {
         put(&rt, &mut map, key, value)?;
     }
     for value in [Some(2), None] {
-        gives(&rt, &mut map, 7, value);
+        assert_gives(&rt, &mut map, 7, value);
     }
     for (key, value) in [(u64::MAX, 1), (0, 3), (1, usize::MAX), (2, 0xffff_ffff)] {
         has(&rt, &map, key, Some(value));
     }
-    gives(&rt, &mut map, 1, Some(usize::MAX));
+    assert_gives(&rt, &mut map, 1, Some(usize::MAX));
     has(&rt, &map, 1, None);
     Ok(())
 }
@@ -86,7 +86,7 @@ fn entries_go_in_where_they_are_sought(rt: HostRuntime) -> Result<(), AllocError
         assert_eq!(rt; map.get_or_insert(key, value)?, found);
     }
     has(&rt, &map, 7, Some(2));
-    gives(&rt, &mut map, 0, Some(usize::MAX));
+    assert_gives(&rt, &mut map, 0, Some(usize::MAX));
     Ok(())
 }
 
@@ -124,7 +124,7 @@ fn drawn_calls_agree_with_a_plain_list(rt: HostRuntime) -> Result<(), AllocError
             .wrapping_add(0x1405_7b7e_f767_814f);
         let number = (drawn >> 33) as usize % 499;
         if plain[number].is_some() {
-            gives(&rt, &mut map, key_of(number), plain[number]);
+            assert_gives(&rt, &mut map, key_of(number), plain[number]);
             plain[number] = None;
         } else {
             put(&rt, &mut map, key_of(number), value)?;
@@ -159,7 +159,7 @@ fn keys_that_meet_are_told_apart(rt: HostRuntime) -> Result<(), AllocError> {
         has(&rt, &map, meeting(number), Some(number));
     }
     for number in 0..290 {
-        gives(&rt, &mut map, meeting(299 - number), Some(299 - number));
+        assert_gives(&rt, &mut map, meeting(299 - number), Some(299 - number));
         has(&rt, &map, meeting(299 - number), None);
     }
     for number in 0..10 {
@@ -176,7 +176,7 @@ fn keys_that_meet_are_told_apart(rt: HostRuntime) -> Result<(), AllocError> {
 fn keys_that_met_are_found_again(rt: HostRuntime) -> Result<(), AllocError> {
     let mut map = many_meeting(&rt, rt.alloc())?;
     for number in 0..20 {
-        gives(&rt, &mut map, meeting(number), Some(number));
+        assert_gives(&rt, &mut map, meeting(number), Some(number));
     }
     for number in 0..900 {
         put(&rt, &mut map, key_of(number), number)?;

@@ -4,7 +4,7 @@ ghost use Rattle.std.specs.List.{after_last, before_first};
 ghost use Rattle.text_marks.specs.Lines.{is_newline, line_front, line_number, line_rest};
 
 /// A place of a text, and the line that holds it.
-#[derive(Clone, Copy, Debug, Drop)]
+#[derive(Clone, Copy, Drop)]
 pub(crate) struct Spot<'a> {
     /// The number of the line, from 1.
     pub line: usize,

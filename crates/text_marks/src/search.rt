@@ -13,7 +13,7 @@ use ruletext::read;
 use std::alloc::{AllocError, Global};
 
 /// A token of a text.
-#[derive(Clone, Copy, Debug, Drop)]
+#[derive(Clone, Copy, Drop)]
 pub(crate) struct Found {
     /// Where it begins, from 0; the text's length where the text ends there.
     pub at: usize,
