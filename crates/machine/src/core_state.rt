@@ -357,10 +357,10 @@ fn act_on<N: Notes>(
     match deed {
         Deed::Take(text, rules) => {
             if let Err(fault) = note_load(ready, &text, notes) {
+                drop(rules);
                 return Err((What::Load(text), fault));
             }
-            in_force.text = text;
-            in_force.rules = rules;
+            drop(std::mem::replace(in_force, InForce { text, rules }));
             Ok(Answer::Loaded)
         }
         Deed::Refuse(_) => Ok(Answer::Refused),
