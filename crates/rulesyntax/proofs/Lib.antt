@@ -1,3 +1,4 @@
+pub mod Bind
 pub mod Seen
 pub mod Loop
 pub mod Sound

@@ -1,8 +1,9 @@
 //! Reads chains: comments, a base with its policy, and then rules.
 
-ghost use Rattle.std.specs.Prelude.{◌≡◌, ◌+ℤ◌, ◌≤◌, ◌≤ℤ◌, ℤ, pos, neg_ℤ, false, IfOk, IfErr, codes};
+ghost use Rattle.std.specs.Prelude.{◌≡◌, ◌+ℤ◌, ◌≤◌, ◌≤ℤ◌, ℤ, pos, neg_ℤ, Some, false, IfOk, IfErr, codes};
 ghost use Rattle.rulesyntax.specs.Names.{priority_value};
-ghost use Rattle.rulesyntax.specs.Reading.{Gives, amount_at, less_behind, more_behind, named_priority, priority_at, base_behind, with_policy, rule_step, policy_behind, member_behind, chain_step, no_members, chain_behind};
+ghost use Rattle.rulesyntax.specs.Words.{hook_words};
+ghost use Rattle.rulesyntax.specs.Reading.{Gives, Fails, ◌>>=◌ as and_then, word_at, keyword_at, amount_at, less_behind, more_behind, named_priority, priority_at, base_behind, with_policy, rule_step, policy_behind, member_behind, chain_step, no_members, chain_behind};
 
 use crate::error::ReadError;
 use crate::keyword::{MemberWord, PriorityName};
@@ -93,16 +94,30 @@ fn priority(tokens: &[Token]) -> Result<(i64, &[Token]), ReadError>
     more(0, tokens)
 }
 
+/// The hook behind its word.
+fn hook(tokens: &[Token]) -> Result<(Hook, &[Token]), ReadError>
+    ensures { Gives false result (and_then (word_at (codes "hook") tokens.now) (keyword_at hook_words)) }
+{
+    let rest = word(tokens, b"hook")?;
+    keyword::<Hook>(false, rest)
+}
+
+/// The priority behind its word.
+fn base_priority(tokens: &[Token]) -> Result<(i64, &[Token]), ReadError>
+    ensures { Gives false result (and_then (word_at (codes "priority") tokens.now) priority_at) }
+{
+    let rest = word(tokens, b"priority")?;
+    priority(rest)
+}
+
 /// What stands behind `type`, without the policy.
-#[tactic(auto, unfolding(crate::specs::Reading::base_behind))]
+#[tactic(auto, using(crate::proofs::Bind::in_turn), unfolding(crate::specs::Reading::base_behind))]
 fn base(line: Line, tokens: &[Token]) -> Result<(Base, &[Token]), ReadError>
     ensures { Gives false result (base_behind tokens.now) }
 {
     let (kind, rest) = keyword::<ChainType>(false, tokens)?;
-    let rest = word(rest, b"hook")?;
-    let (hook, rest) = keyword::<Hook>(false, rest)?;
-    let rest = word(rest, b"priority")?;
-    let (priority, rest) = priority(rest)?;
+    let (hook, rest) = hook(rest)?;
+    let (priority, rest) = base_priority(rest)?;
     let policy = Policy::Accept;
     Ok((
         Base {
@@ -116,12 +131,11 @@ fn base(line: Line, tokens: &[Token]) -> Result<(Base, &[Token]), ReadError>
     ))
 }
 
-fn with_policy(base: Option<Base>, policy: Policy) -> Option<Base>
-    ensures { result ≡ with_policy base policy }
+fn set_policy(base: &mut Option<Base>, policy: Policy)
+    ensures { base.new ≡ with_policy base.old policy }
 {
-    match base {
-        Some(base) => Some(Base { policy, ..base }),
-        None => None,
+    if let Some(base) = base {
+        base.policy = policy;
     }
 }
 
@@ -146,68 +160,65 @@ pub struct ChainBody {
 
 #[tactic(auto, unfolding(crate::specs::Reading::rule_step))]
 fn rule_step<'a>(
-    body: ChainBody,
+    body: &mut ChainBody,
     source: &Source,
     tokens: &'a [Token],
-) -> Result<((ChainBody, bool), &'a [Token]), ReadError>
-    ensures { Gives false result (rule_step body tokens.now) }
+) -> Result<(bool, &'a [Token]), ReadError>
+    ensures ok { IfOk result (λ x. rule_step body.old tokens.now ≡ Some ((body.new, x.0), x.1.now)) }
+    ensures err { IfErr result (λ e. Fails e (rule_step body.old tokens.now)) }
 {
     let (rule, rest) = rule(source, tokens)?;
-    let ChainBody {
-        base,
-        mut rules,
-        ..
-    } = body;
-    rules.push(rule)?;
-    let stage = Stage::Rules;
-    Ok(((ChainBody { stage, base, rules }, false), rest))
+    body.rules.push(rule)?;
+    body.stage = Stage::Rules;
+    Ok((false, rest))
 }
 
 #[tactic(auto, unfolding(crate::specs::Reading::policy_behind))]
-fn policy_step(
-    body: ChainBody,
-    tokens: &[Token],
-) -> Result<((ChainBody, bool), &[Token]), ReadError>
-    ensures { Gives false result (policy_behind body tokens.now) }
+fn policy_step<'a>(
+    body: &mut ChainBody,
+    tokens: &'a [Token],
+) -> Result<(bool, &'a [Token]), ReadError>
+    ensures ok { IfOk result (λ x. policy_behind body.old tokens.now ≡ Some ((body.new, x.0), x.1.now)) }
+    ensures err { IfErr result (λ e. Fails e (policy_behind body.old tokens.now)) }
 {
     let (policy, rest) = keyword::<Policy>(false, tokens)?;
-    let ChainBody { base, rules, .. } = body;
-    let base = with_policy(base, policy);
-    let stage = Stage::Rules;
-    Ok(((ChainBody { stage, base, rules }, false), rest))
+    set_policy(&mut body.base, policy);
+    body.stage = Stage::Rules;
+    Ok((false, rest))
 }
 
 #[tactic(auto, unfolding(crate::specs::Reading::member_behind))]
-fn member(
-    body: ChainBody,
+fn member<'a>(
+    body: &mut ChainBody,
     word: MemberWord,
     line: Line,
-    tokens: &[Token],
-) -> Result<((ChainBody, bool), &[Token]), ReadError>
-    ensures { Gives false result (member_behind body word tokens.now) }
+    tokens: &'a [Token],
+) -> Result<(bool, &'a [Token]), ReadError>
+    ensures ok { IfOk result (λ x. member_behind body.old word tokens.now ≡ Some ((body.new, x.0), x.1.now)) }
+    ensures err { IfErr result (λ e. Fails e (member_behind body.old word tokens.now)) }
 {
     match word {
         MemberWord::Comment => {
             let rest = quoted(tokens)?;
-            Ok(((body, false), rest))
+            Ok((false, rest))
         }
         MemberWord::Type => {
             let (base, rest) = base(line, tokens)?;
-            let ChainBody { rules, .. } = body;
-            let stage = Stage::Policy;
-            let base = Some(base);
-            Ok(((ChainBody { stage, base, rules }, false), rest))
+            body.base = Some(base);
+            body.stage = Stage::Policy;
+            Ok((false, rest))
         }
     }
 }
 
 #[tactic(auto, unfolding(crate::specs::Reading::chain_step))]
 fn step<'a>(
-    body: ChainBody,
+    body: &mut ChainBody,
     source: &Source,
     tokens: &'a [Token],
-) -> Result<((ChainBody, bool), &'a [Token]), ReadError>
-    ensures { Gives false result (chain_step body tokens.now) }
+) -> Result<(bool, &'a [Token]), ReadError>
+    ensures ok { IfOk result (λ x. chain_step body.old tokens.now ≡ Some ((body.new, x.0), x.1.now)) }
+    ensures err { IfErr result (λ e. Fails e (chain_step body.old tokens.now)) }
 {
     match body.stage {
         Stage::Start => match choice::<MemberWord>(false, tokens) {
@@ -226,10 +237,10 @@ impl Body for ChainBody {
     ghost steps = { chain_step };
 
     fn step<'a>(
-        self,
+        &mut self,
         source: &Source,
         tokens: &'a [Token],
-    ) -> Result<((ChainBody, bool), &'a [Token]), ReadError> {
+    ) -> Result<(bool, &'a [Token]), ReadError> {
         step(self, source, tokens)
     }
 }

@@ -1,11 +1,14 @@
 //! Elements, and lists with commas between.
 
 ghost use Rattle.std.specs.Prelude.{◌≡◌, ◌&&◌, false, true, length, suc};
-ghost use Rattle.rulesyntax.specs.Reading.{Gives, Reader, seen, prefix_behind, addresses_behind, address_behind, numbers_behind, number_behind, value_at, element_at, behind_comma, comma_at, entries_from, braced_at, flag_at, is_close};
+ghost use Rattle.ruletokens.specs.declared.token.Symbol.TheVariants.{Open};
+ghost use Rattle.rulesyntax.specs.Reading.{Gives, Reader, ◌>>=◌ as and_then, seen, symbol_at, prefix_behind, addresses_behind, address_behind, numbers_behind, number_behind, value_at, element_at, behind_comma, comma_at, entries_from, braced_at, flag_at, is_close};
 
 use crate::error::ReadError;
 use crate::keyword::Flag;
-use crate::next::{address, close, eat_symbol, is_close, keyword, line, next, number, stop};
+use crate::next::{
+    address, closed, eat_symbol, is_close, keyword, line, next, number, stop, symbol,
+};
 use crate::tree::{Element, Value};
 use ruletokens::source::Source;
 use ruletokens::token::{Symbol, Token};
@@ -206,6 +209,16 @@ pub fn braced<'a, E: Entry + Drop>(
     ensures { Gives false result (braced_at E.reads tokens.now) }
 {
     let (entries, rest) = entries::<E>(source, true, tokens)?;
-    let rest = close(true, rest)?;
-    Ok((entries, rest))
+    closed(entries, true, rest)
+}
+
+/// The entries between braces, and what stands behind them.
+pub fn opened<'a, E: Entry + Drop>(
+    source: &Source,
+    tokens: &'a [Token],
+) -> Result<(Items<E>, &'a [Token]), ReadError>
+    ensures { Gives false result (and_then (symbol_at Open tokens.now) (braced_at E.reads)) }
+{
+    let rest = symbol(false, tokens, Symbol::Open)?;
+    braced::<E>(source, rest)
 }

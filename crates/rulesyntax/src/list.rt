@@ -1,10 +1,10 @@
 //! Lists whose items stand apart by NEWLINEs and semicolons.
 
-ghost use Rattle.std.specs.Prelude.{◌≡◌, ◌||◌, false, length, suc};
-ghost use Rattle.rulesyntax.specs.Reading.{Gives, Step, ends, closes, fill_at, list_from, block_at};
+ghost use Rattle.std.specs.Prelude.{◌≡◌, ◌||◌, Some, false, length, suc, IfOk, IfErr};
+ghost use Rattle.rulesyntax.specs.Reading.{Gives, Fails, Step, ends, closes, fill_at, list_from, block_at};
 
 use crate::error::ReadError;
-use crate::next::{close, stop, symbol};
+use crate::next::{closed, stop, symbol};
 use ruletokens::source::Source;
 use ruletokens::token::{Symbol, Token};
 
@@ -12,14 +12,15 @@ use ruletokens::token::{Symbol, Token};
 pub trait Body: Sized {
     ghost steps: { Step Self };
 
-    /// With one item more, and whether that ended with a brace, so that nothing needs to stand
-    /// behind it.
+    /// Puts one item more into it. The answer is whether that ended with a brace, so that nothing
+    /// needs to stand behind it.
     fn step<'a>(
-        self,
+        &mut self,
         source: &Source,
         tokens: &'a [Token],
-    ) -> Result<((Self, bool), &'a [Token]), ReadError>
-        ensures { Gives false result (steps self tokens.now) };
+    ) -> Result<(bool, &'a [Token]), ReadError>
+        ensures ok { IfOk result (λ x. steps self.old tokens.now ≡ Some ((self.new, x.0), x.1.now)) }
+        ensures err { IfErr result (λ e. Fails e (steps self.old tokens.now)) };
 }
 
 #[tactic(auto, unfolding(crate::specs::Reading::fill_at))]
@@ -76,11 +77,10 @@ pub fn list_of<'a, B: Body + Drop>(
         if ends(item) {
             return Ok((body, item));
         }
-        let ((next, braced), after) = body.step(source, item)?;
+        let (braced, after) = body.step(source, item)?;
         if !stands_apart(braced, after) {
             return Err(stop(false, after));
         }
-        body = next;
         rest = after;
     }
     Err(stop(false, rest))
@@ -97,6 +97,5 @@ pub fn block<'a, B: Body + Drop>(
 {
     let rest = symbol(false, tokens, Symbol::Open)?;
     let (body, rest) = list_of(source, start, rest)?;
-    let rest = close(false, rest)?;
-    Ok((body, rest))
+    closed(body, false, rest)
 }

@@ -1,8 +1,8 @@
 //! Single tokens. Where `braces` is set they stand between the braces of elements, and NEWLINEs are skipped.
 //! Where something must come next and doesn't, the error says where that is.
 
-ghost use Rattle.std.specs.Prelude.{◌≡◌, ◌==◌, false};
-ghost use Rattle.rulesyntax.specs.Reading.{Gives, Goes, Finds, Eats, Nexts, IsSyntax, seen, skip, next_at, number_at, address_at, name_at, quoted_at, word_at, symbol_at, keyword_at, close_at, is_close, rank};
+ghost use Rattle.std.specs.Prelude.{◌≡◌, ◌==◌, false, Some};
+ghost use Rattle.rulesyntax.specs.Reading.{Gives, ◌>>=◌ as and_then, Goes, Finds, Eats, Nexts, IsSyntax, seen, skip, next_at, number_at, address_at, name_at, quoted_at, word_at, symbol_at, keyword_at, close_at, is_close, rank};
 
 use crate::error::ReadError;
 use crate::keyword::Keyword;
@@ -204,7 +204,7 @@ fn close_here(tokens: &[Token]) -> Result<&[Token], ReadError>
 }
 
 /// What stands behind the closing brace that must come next.
-pub fn close(braces: bool, tokens: &[Token]) -> Result<&[Token], ReadError>
+fn close(braces: bool, tokens: &[Token]) -> Result<&[Token], ReadError>
     ensures { Goes false result (close_at (seen braces tokens.now)) }
 {
     if braces {
@@ -212,6 +212,14 @@ pub fn close(braces: bool, tokens: &[Token]) -> Result<&[Token], ReadError>
     } else {
         close_here(tokens)
     }
+}
+
+/// What is read, and what stands behind the closing brace that must come next.
+pub fn closed<T: Drop>(read: T, braces: bool, tokens: &[Token]) -> Result<(T, &[Token]), ReadError>
+    ensures { Gives false result (and_then (close_at (seen braces tokens.now)) (λ rest. Some (read, rest))) }
+{
+    let rest = close(braces, tokens)?;
+    Ok((read, rest))
 }
 
 #[tactic(auto, unfolding(crate::specs::Reading::is_close))]

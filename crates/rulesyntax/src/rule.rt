@@ -1,10 +1,11 @@
 //! Reads rules: matches and counters, an end, a comment.
 
-ghost use Rattle.std.specs.Prelude.{◌≡◌, ◌&&◌, not, false, true, length, suc, nat_le, IfOk, IfErr};
+ghost use Rattle.std.specs.Prelude.{◌≡◌, ◌&&◌, not, false, true, length, suc, nat_le, Some, None, if◌then◌else◌, IfOk, IfErr};
+ghost use Rattle.ruletokens.specs.declared.token.Symbol.TheVariants.{Colon};
 ghost use Rattle.rulesyntax.specs.declared.keyword.HeadWord.TheVariants as head_word;
-ghost use Rattle.rulesyntax.specs.Reading.{Gives, Goes, Eats, Finds, seen, verdict_behind, verdict_at, pair_at, meta_head, ip_head, port_head, head_behind, head_at, is_state, operator_at, states_side, states_at, one_at, named_behind, several_behind, plain_at, side_at, match_at, amounts_behind, counter_behind, begins_head, begins_vmap, begins_word, begins_part, transport_word, IsSyntax, part_at, with_part, parts_from, no_parts, vmap_at, to_at, port_behind, port_at, dnat_behind, snat_behind, nat_behind, wrapped, verdict_end, vmap_end, end_at, comment_at, is_said, rule_at};
+ghost use Rattle.rulesyntax.specs.Reading.{Gives, Goes, Eats, Finds, seen, verdict_behind, verdict_at, pair_at, meta_head, ip_head, port_head, head_behind, head_at, symbol_at, ◌>>=◌ as and_then, is_state, operator_at, states_side, states_at, one_at, named_behind, several_behind, plain_at, side_at, match_at, amounts_behind, counter_behind, begins_head, begins_vmap, begins_word, begins_part, transport_word, IsSyntax, part_at, with_part, parts_from, no_parts, vmap_at, to_at, port_behind, port_at, dnat_behind, snat_behind, nat_behind, wrapped, verdict_end, vmap_end, end_at, comment_at, is_said, rule_at};
 
-use crate::element::{Entry, braced, element, entries};
+use crate::element::{Entry, braced, element, entries, opened};
 use crate::error::ReadError;
 use crate::keyword::{HeadWord, IpWord, MetaWord, NatWord, PortWord, VerdictWord};
 use crate::next::{
@@ -58,7 +59,19 @@ fn verdict<'a>(
     verdict_of(source, braces, word, line, rest)
 }
 
-#[tactic(auto, unfolding(crate::specs::Reading::pair_at))]
+/// The verdict behind a colon.
+fn colon_verdict<'a>(
+    source: &Source,
+    braces: bool,
+    tokens: &'a [Token],
+) -> Result<(Verdict, &'a [Token]), ReadError>
+    ensures { Gives braces result (and_then (symbol_at Colon (seen braces tokens.now)) verdict_at) }
+{
+    let rest = symbol(braces, tokens, Symbol::Colon)?;
+    verdict(source, braces, rest)
+}
+
+#[tactic(auto, using(crate::proofs::Bind::in_turn), unfolding(crate::specs::Reading::pair_at))]
 fn pair<'a>(
     source: &Source,
     braces: bool,
@@ -67,8 +80,7 @@ fn pair<'a>(
     ensures { Gives braces result (pair_at (seen braces tokens.now)) }
 {
     let (key, rest) = element(source, braces, tokens)?;
-    let rest = symbol(braces, rest, Symbol::Colon)?;
-    let (verdict, rest) = verdict(source, braces, rest)?;
+    let (verdict, rest) = colon_verdict(source, braces, rest)?;
     Ok((Pair { key, verdict }, rest))
 }
 
@@ -450,15 +462,14 @@ fn read_parts<'a>(source: &Source, tokens: &'a [Token]) -> Result<(Parts, &'a [T
     Err(stop(false, rest))
 }
 
-#[tactic(auto, unfolding(crate::specs::Reading::vmap_at))]
+#[tactic(auto, using(crate::proofs::Bind::in_turn), unfolding(crate::specs::Reading::vmap_at))]
 fn vmap<'a>(source: &Source, tokens: &'a [Token]) -> Result<(Vmap, &'a [Token]), ReadError>
     ensures { Gives false result (vmap_at tokens.now) }
 {
     let line = line(source, false, tokens);
     let (head, rest) = head(tokens)?;
     let rest = word(rest, b"vmap")?;
-    let rest = symbol(false, rest, Symbol::Open)?;
-    let (pairs, rest) = braced::<Pair>(source, rest)?;
+    let (pairs, rest) = opened::<Pair>(source, rest)?;
     Ok((Vmap { line, head, pairs }, rest))
 }
 
@@ -560,43 +571,55 @@ fn nat<'a>(
     }
 }
 
-#[tactic(auto, unfolding(crate::specs::Reading::verdict_end))]
+#[tactic(auto, unfolding(crate::specs::Reading::verdict_end, crate::specs::Reading::wrapped))]
 fn verdict_end<'a>(
     source: &Source,
     word: VerdictWord,
     line: Line,
     tokens: &'a [Token],
-) -> Result<(End, &'a [Token]), ReadError>
-    ensures { Gives false result (verdict_end word tokens.now) }
+) -> Result<(Option<End>, &'a [Token]), ReadError>
+    ensures { Gives false result (wrapped (verdict_end word tokens.now)) }
 {
     let (verdict, rest) = verdict_of(source, false, word, line, tokens)?;
-    Ok((End::Verdict(verdict), rest))
+    Ok((Some(End::Verdict(verdict)), rest))
 }
 
-#[tactic(auto, unfolding(crate::specs::Reading::vmap_end))]
-fn vmap_end<'a>(source: &Source, tokens: &'a [Token]) -> Result<(End, &'a [Token]), ReadError>
-    ensures { Gives false result (vmap_end tokens.now) }
+#[tactic(auto, unfolding(crate::specs::Reading::wrapped))]
+fn nat_end<'a>(
+    source: &Source,
+    word: NatWord,
+    line: Line,
+    tokens: &'a [Token],
+) -> Result<(Option<End>, &'a [Token]), ReadError>
+    ensures { Gives false result (wrapped (nat_behind word tokens.now)) }
+{
+    let (end, rest) = nat(source, word, line, tokens)?;
+    Ok((Some(end), rest))
+}
+
+#[tactic(auto, unfolding(crate::specs::Reading::vmap_end, crate::specs::Reading::wrapped))]
+fn vmap_end<'a>(
+    source: &Source,
+    tokens: &'a [Token],
+) -> Result<(Option<End>, &'a [Token]), ReadError>
+    ensures { Gives false result (wrapped (vmap_end tokens.now)) }
 {
     let (vmap, rest) = vmap(source, tokens)?;
-    Ok((End::Vmap(vmap), rest))
+    Ok((Some(End::Vmap(vmap)), rest))
 }
 
-#[tactic(auto, unfolding(crate::specs::Reading::end_at, crate::specs::Reading::wrapped))]
+#[tactic(auto, unfolding(crate::specs::Reading::end_at))]
 fn end<'a>(source: &Source, tokens: &'a [Token]) -> Result<(Option<End>, &'a [Token]), ReadError>
     ensures { Gives false result (end_at tokens.now) }
 {
-    let line = source.line(tokens);
     if let Some((word, rest)) = choice::<VerdictWord>(false, tokens) {
-        let (end, rest) = verdict_end(source, word, line, rest)?;
-        return Ok((Some(end), rest));
+        return verdict_end(source, word, source.line(tokens), rest);
     }
     if let Some((word, rest)) = choice::<NatWord>(false, tokens) {
-        let (end, rest) = nat(source, word, line, rest)?;
-        return Ok((Some(end), rest));
+        return nat_end(source, word, source.line(tokens), rest);
     }
     if begins_head(tokens) {
-        let (end, rest) = vmap_end(source, tokens)?;
-        return Ok((Some(end), rest));
+        return vmap_end(source, tokens);
     }
     Ok((None, tokens))
 }
@@ -620,6 +643,17 @@ fn is_said(parts: &Parts, end: &Option<End>) -> bool
     }
 }
 
+/// What is read, if it says anything, and what stands behind its comment.
+fn commented<T: Drop>(read: T, is_said: bool, tokens: &[Token]) -> Result<(T, &[Token]), ReadError>
+    ensures { Gives false result (if is_said then and_then (comment_at tokens.now) (λ rest. Some (read, rest)) else None) }
+{
+    if !is_said {
+        return Err(stop(false, tokens));
+    }
+    let rest = comment(tokens)?;
+    Ok((read, rest))
+}
+
 /// The rule that must come next, with a match, a counter or an end at least.
 #[tactic(auto, unfolding(crate::specs::Reading::rule_at))]
 pub fn rule<'a>(source: &Source, tokens: &'a [Token]) -> Result<(Rule, &'a [Token]), ReadError>
@@ -628,10 +662,7 @@ pub fn rule<'a>(source: &Source, tokens: &'a [Token]) -> Result<(Rule, &'a [Toke
     let line = source.line(tokens);
     let (parts, rest) = read_parts(source, tokens)?;
     let (end, rest) = end(source, rest)?;
-    if !is_said(&parts, &end) {
-        return Err(stop(false, rest));
-    }
-    let rest = comment(rest)?;
+    let is_said = is_said(&parts, &end);
     let Parts { matches, .. } = parts;
-    Ok((Rule { line, matches, end }, rest))
+    commented(Rule { line, matches, end }, is_said, rest)
 }

@@ -1,9 +1,9 @@
 //! Reads sets: lists of lines between braces.
 
-ghost use Rattle.std.specs.Prelude.{◌≡◌, false, codes};
-ghost use Rattle.rulesyntax.specs.Reading.{Gives, type_behind, elements_behind, line_behind, set_step, no_lines, set_behind};
+ghost use Rattle.std.specs.Prelude.{◌≡◌, Some, false, codes, IfOk, IfErr};
+ghost use Rattle.rulesyntax.specs.Reading.{Gives, Fails, type_behind, elements_behind, line_behind, set_step, no_lines, set_behind};
 
-use crate::element::{braced, entries};
+use crate::element::{entries, opened};
 use crate::error::ReadError;
 use crate::keyword::{Flag, LineWord};
 use crate::list::{Body, block};
@@ -23,71 +23,62 @@ pub struct SetBody {
 
 #[tactic(auto, unfolding(crate::specs::Reading::type_behind))]
 fn set_type<'a>(
-    body: SetBody,
+    body: &mut SetBody,
     source: &Source,
     line: Line,
     tokens: &'a [Token],
-) -> Result<((SetBody, bool), &'a [Token]), ReadError>
-    ensures { Gives false result (type_behind body tokens.now) }
+) -> Result<(bool, &'a [Token]), ReadError>
+    ensures ok { IfOk result (λ x. type_behind body.old tokens.now ≡ Some ((body.new, x.0), x.1.now)) }
+    ensures err { IfErr result (λ e. Fails e (type_behind body.old tokens.now)) }
 {
     let name_line = source.line(tokens);
     let (name, rest) = name(source, false, tokens)?;
-    let SetBody {
-        mut types,
-        elements,
-    } = body;
-    types.push(SetType {
+    body.types.push(SetType {
         line,
         name_line,
         name,
     })?;
-    Ok(((SetBody { types, elements }, false), rest))
+    Ok((false, rest))
 }
 
-#[tactic(auto, unfolding(crate::specs::Reading::elements_behind))]
+#[tactic(auto, using(crate::proofs::Bind::in_turn), unfolding(crate::specs::Reading::elements_behind))]
 fn set_elements<'a>(
-    body: SetBody,
+    body: &mut SetBody,
     source: &Source,
     line: Line,
     tokens: &'a [Token],
-) -> Result<((SetBody, bool), &'a [Token]), ReadError>
-    ensures { Gives false result (elements_behind body tokens.now) }
+) -> Result<(bool, &'a [Token]), ReadError>
+    ensures ok { IfOk result (λ x. elements_behind body.old tokens.now ≡ Some ((body.new, x.0), x.1.now)) }
+    ensures err { IfErr result (λ e. Fails e (elements_behind body.old tokens.now)) }
 {
     let rest = symbol(false, tokens, Symbol::Equal)?;
-    let rest = symbol(false, rest, Symbol::Open)?;
-    let (listed, rest) = braced::<Element>(source, rest)?;
-    let SetBody {
-        types,
-        mut elements,
-    } = body;
-    elements.push(SetElements {
-        line,
-        elements: listed,
-    })?;
-    Ok(((SetBody { types, elements }, false), rest))
+    let (elements, rest) = opened::<Element>(source, rest)?;
+    body.elements.push(SetElements { line, elements })?;
+    Ok((false, rest))
 }
 
 #[tactic(auto, unfolding(crate::specs::Reading::line_behind))]
 fn set_line<'a>(
-    body: SetBody,
+    body: &mut SetBody,
     source: &Source,
     word: LineWord,
     line: Line,
     tokens: &'a [Token],
-) -> Result<((SetBody, bool), &'a [Token]), ReadError>
-    ensures { Gives false result (line_behind body word tokens.now) }
+) -> Result<(bool, &'a [Token]), ReadError>
+    ensures ok { IfOk result (λ x. line_behind body.old word tokens.now ≡ Some ((body.new, x.0), x.1.now)) }
+    ensures err { IfErr result (λ e. Fails e (line_behind body.old word tokens.now)) }
 {
     match word {
         LineWord::Type => set_type(body, source, line, tokens),
         LineWord::Flags => {
             let (_, rest) = entries::<Flag>(source, false, tokens)?;
-            Ok(((body, false), rest))
+            Ok((false, rest))
         }
-        LineWord::AutoMerge => Ok(((body, false), tokens)),
+        LineWord::AutoMerge => Ok((false, tokens)),
         LineWord::Elements => set_elements(body, source, line, tokens),
         LineWord::Comment => {
             let rest = quoted(tokens)?;
-            Ok(((body, false), rest))
+            Ok((false, rest))
         }
     }
 }
@@ -97,10 +88,10 @@ impl Body for SetBody {
 
     #[tactic(auto, unfolding(crate::specs::Reading::set_step))]
     fn step<'a>(
-        self,
+        &mut self,
         source: &Source,
         tokens: &'a [Token],
-    ) -> Result<((SetBody, bool), &'a [Token]), ReadError> {
+    ) -> Result<(bool, &'a [Token]), ReadError> {
         let line = source.line(tokens);
         let (word, rest) = keyword::<LineWord>(false, tokens)?;
         set_line(self, source, word, line, rest)

@@ -1,9 +1,10 @@
 //! Reads tables, and texts, which are lists of them.
 
-ghost use Rattle.std.specs.Prelude.{◌≡◌, false, codes};
+ghost use Rattle.std.specs.Prelude.{◌≡◌, Some, false, codes, IfOk, IfErr};
+ghost use Rattle.rulesyntax.specs.declared.keyword.ItemWord.TheVariants as item_word;
 ghost use Rattle.rulesyntax.specs.declared.keyword.StatementWord.TheVariants as statement_word;
 ghost use Rattle.rulesyntax.specs.Names.{is_reserved};
-ghost use Rattle.rulesyntax.specs.Reading.{Gives, Answers, IsSyntax, item_behind, table_step, no_items, family_at, free_name_at, table_behind, flush_behind, statement_behind, text_step, text_at};
+ghost use Rattle.rulesyntax.specs.Reading.{Gives, Fails, Answers, IsSyntax, item_behind, table_step, no_items, family_at, free_name_at, table_behind, flush_behind, statement_behind, text_step, text_at};
 
 use crate::chain::chain;
 use crate::error::{ReadError, Spot};
@@ -25,34 +26,53 @@ pub struct TableBody {
 }
 
 #[tactic(auto, unfolding(crate::specs::Reading::item_behind))]
+fn add_set<'a>(
+    body: &mut TableBody,
+    source: &Source,
+    line: Line,
+    tokens: &'a [Token],
+) -> Result<(bool, &'a [Token]), ReadError>
+    ensures ok { IfOk result (λ x. item_behind body.old item_word.Set tokens.now ≡ Some ((body.new, x.0), x.1.now)) }
+    ensures err { IfErr result (λ e. Fails e (item_behind body.old item_word.Set tokens.now)) }
+{
+    let (set, rest) = set(source, line, tokens)?;
+    body.sets.push(set)?;
+    Ok((true, rest))
+}
+
+#[tactic(auto, unfolding(crate::specs::Reading::item_behind))]
+fn add_chain<'a>(
+    body: &mut TableBody,
+    source: &Source,
+    line: Line,
+    tokens: &'a [Token],
+) -> Result<(bool, &'a [Token]), ReadError>
+    ensures ok { IfOk result (λ x. item_behind body.old item_word.Chain tokens.now ≡ Some ((body.new, x.0), x.1.now)) }
+    ensures err { IfErr result (λ e. Fails e (item_behind body.old item_word.Chain tokens.now)) }
+{
+    let (chain, rest) = chain(source, line, tokens)?;
+    body.chains.push(chain)?;
+    Ok((true, rest))
+}
+
+#[tactic(auto, unfolding(crate::specs::Reading::item_behind))]
 fn item<'a>(
-    body: TableBody,
+    body: &mut TableBody,
     source: &Source,
     word: ItemWord,
     line: Line,
     tokens: &'a [Token],
-) -> Result<((TableBody, bool), &'a [Token]), ReadError>
-    ensures { Gives false result (item_behind body word tokens.now) }
+) -> Result<(bool, &'a [Token]), ReadError>
+    ensures ok { IfOk result (λ x. item_behind body.old word tokens.now ≡ Some ((body.new, x.0), x.1.now)) }
+    ensures err { IfErr result (λ e. Fails e (item_behind body.old word tokens.now)) }
 {
-    let TableBody {
-        mut sets,
-        mut chains,
-    } = body;
     match word {
         ItemWord::Comment => {
             let rest = quoted(tokens)?;
-            Ok(((TableBody { sets, chains }, false), rest))
+            Ok((false, rest))
         }
-        ItemWord::Set => {
-            let (set, rest) = set(source, line, tokens)?;
-            sets.push(set)?;
-            Ok(((TableBody { sets, chains }, true), rest))
-        }
-        ItemWord::Chain => {
-            let (chain, rest) = chain(source, line, tokens)?;
-            chains.push(chain)?;
-            Ok(((TableBody { sets, chains }, true), rest))
-        }
+        ItemWord::Set => add_set(body, source, line, tokens),
+        ItemWord::Chain => add_chain(body, source, line, tokens),
     }
 }
 
@@ -61,10 +81,10 @@ impl Body for TableBody {
 
     #[tactic(auto, unfolding(crate::specs::Reading::table_step))]
     fn step<'a>(
-        self,
+        &mut self,
         source: &Source,
         tokens: &'a [Token],
-    ) -> Result<((TableBody, bool), &'a [Token]), ReadError> {
+    ) -> Result<(bool, &'a [Token]), ReadError> {
         let line = source.line(tokens);
         let (word, rest) = keyword::<ItemWord>(false, tokens)?;
         item(self, source, word, line, rest)
@@ -150,15 +170,16 @@ fn table<'a>(
 /// `flush ruleset`, before every table.
 #[tactic(auto, unfolding(crate::specs::Reading::flush_behind))]
 fn flush<'a>(
-    body: Spelled,
+    body: &mut Spelled,
     here: &'a [Token],
     tokens: &'a [Token],
-) -> Result<((Spelled, bool), &'a [Token]), ReadError>
-    ensures { Gives false result (flush_behind body tokens.now) }
+) -> Result<(bool, &'a [Token]), ReadError>
+    ensures ok { IfOk result (λ x. flush_behind body.old tokens.now ≡ Some ((body.new, x.0), x.1.now)) }
+    ensures err { IfErr result (λ e. Fails e (flush_behind body.old tokens.now)) }
 {
     if body.tables.len() == 0 {
         let rest = word(tokens, b"ruleset")?;
-        Ok(((body, false), rest))
+        Ok((false, rest))
     } else {
         Err(stop(false, here))
     }
@@ -166,28 +187,29 @@ fn flush<'a>(
 
 #[tactic(auto, unfolding(crate::specs::Reading::statement_behind))]
 fn add_table<'a>(
-    body: Spelled,
+    body: &mut Spelled,
     source: &Source,
     line: Line,
     tokens: &'a [Token],
-) -> Result<((Spelled, bool), &'a [Token]), ReadError>
-    ensures { Gives false result (statement_behind body statement_word.Table tokens.now) }
+) -> Result<(bool, &'a [Token]), ReadError>
+    ensures ok { IfOk result (λ x. statement_behind body.old statement_word.Table tokens.now ≡ Some ((body.new, x.0), x.1.now)) }
+    ensures err { IfErr result (λ e. Fails e (statement_behind body.old statement_word.Table tokens.now)) }
 {
     let (table, rest) = table(source, line, tokens)?;
-    let Spelled { mut tables } = body;
-    tables.push(table)?;
-    Ok(((Spelled { tables }, true), rest))
+    body.tables.push(table)?;
+    Ok((true, rest))
 }
 
 #[tactic(auto, unfolding(crate::specs::Reading::statement_behind))]
 fn statement<'a>(
-    body: Spelled,
+    body: &mut Spelled,
     source: &Source,
     word: StatementWord,
     here: &'a [Token],
     tokens: &'a [Token],
-) -> Result<((Spelled, bool), &'a [Token]), ReadError>
-    ensures { Gives false result (statement_behind body word tokens.now) }
+) -> Result<(bool, &'a [Token]), ReadError>
+    ensures ok { IfOk result (λ x. statement_behind body.old word tokens.now ≡ Some ((body.new, x.0), x.1.now)) }
+    ensures err { IfErr result (λ e. Fails e (statement_behind body.old word tokens.now)) }
 {
     match word {
         StatementWord::Flush => flush(body, here, tokens),
@@ -200,10 +222,10 @@ impl Body for Spelled {
 
     #[tactic(auto, unfolding(crate::specs::Reading::text_step))]
     fn step<'a>(
-        self,
+        &mut self,
         source: &Source,
         tokens: &'a [Token],
-    ) -> Result<((Spelled, bool), &'a [Token]), ReadError> {
+    ) -> Result<(bool, &'a [Token]), ReadError> {
         let (word, rest) = keyword::<StatementWord>(false, tokens)?;
         statement(self, source, word, tokens, rest)
     }
