@@ -1,40 +1,55 @@
 //! What a text gives twice.
 
-ghost use Rattle.std.specs.Prelude.{◌≡◌, ◌||◌, ◌&&◌, ◌∷◌, [], ℕ, List, is_some, nat_lt, length, IfOk, OnOk};
+ghost use Rattle.std.specs.Prelude.{◌≡◌, ◌||◌, ◌&&◌, ◌∷◌, [], ℕ, List, is_some, nat_lt, length, map, IfOk, OnOk};
 ghost use Rattle.std.specs.List.{list_any};
 ghost use Rattle.ruletext.specs.Said.{chain_names, set_names, is_among};
 ghost use Rattle.ruletext.specs.Duplicate.{has_twice, is_of, names_in, has_line_twice, has_twice_within, has_duplicate_in};
 
 use crate::earlier::earlier;
+use crate::named::Named;
 use crate::names::Names;
 use rulesyntax::line::Line;
 use rulesyntax::tree::{Chain, Family, Set, SetElements, SetType, Table};
 use std::alloc::{AllocError, Global};
 
+// The first thing whose name stands before. The names are those of the things so far.
+fn second_in<'a, T: Named>(names: &mut Names, things: &'a [T]) -> Result<Option<&'a T>, AllocError>
+    requires { names.now ≡ [] }
+    ensures { IfOk result (λ found. is_some found ≡ has_twice (map T.name_of things.now)) }
+{
+    for thing in things {
+        if !names.insert(thing.name())? {
+            return Ok(Some(thing));
+        }
+    }
+    Ok(None)
+}
+
+fn second<'a, T: Named>(alloc: Global, things: &'a [T]) -> Result<Option<&'a T>, AllocError>
+    ensures { IfOk result (λ found. is_some found ≡ has_twice (map T.name_of things.now)) }
+{
+    let mut names = Names::new(alloc);
+    second_in(&mut names, things)
+}
+
 // The second chain of a name.
 fn twice_chain(alloc: Global, chains: &[Chain]) -> Result<Option<Line>, AllocError>
     ensures { IfOk result (λ line. is_some line ≡ has_twice (chain_names chains.now)) }
 {
-    let mut names = Names::new(alloc);
-    for chain in chains {
-        if !names.insert(chain.name.as_slice())? {
-            return Ok(Some(chain.line.copied()));
-        }
+    match second(alloc, chains)? {
+        Some(chain) => Ok(Some(chain.line.copied())),
+        None => Ok(None),
     }
-    Ok(None)
 }
 
 // The second set of a name.
 fn twice_set(alloc: Global, sets: &[Set]) -> Result<Option<Line>, AllocError>
     ensures { IfOk result (λ line. is_some line ≡ has_twice (set_names sets.now)) }
 {
-    let mut names = Names::new(alloc);
-    for set in sets {
-        if !names.insert(set.name.as_slice())? {
-            return Ok(Some(set.line.copied()));
-        }
+    match second(alloc, sets)? {
+        Some(set) => Ok(Some(set.line.copied())),
+        None => Ok(None),
     }
-    Ok(None)
 }
 
 fn second_type(types: &[SetType]) -> Option<Line>
@@ -116,17 +131,28 @@ fn stands_twice(names: &mut Names, family: Family, table: &Table) -> Result<bool
     Ok(!names.insert(table.name.as_slice())?)
 }
 
+fn twice_table_in(
+    names: &mut Names,
+    family: Family,
+    tables: &[Table],
+) -> Result<Option<Line>, AllocError>
+    requires { names.now ≡ [] }
+    ensures { IfOk result (λ line. is_some line ≡ has_twice (names_in family tables.now)) }
+{
+    for table in tables {
+        if stands_twice(names, family, table)? {
+            return Ok(Some(table.line.copied()));
+        }
+    }
+    Ok(None)
+}
+
 // The second table of a name in the family.
 fn twice_table(alloc: Global, family: Family, tables: &[Table]) -> Result<Option<Line>, AllocError>
     ensures { IfOk result (λ line. is_some line ≡ has_twice (names_in family tables.now)) }
 {
     let mut names = Names::new(alloc);
-    for table in tables {
-        if stands_twice(&mut names, family, table)? {
-            return Ok(Some(table.line.copied()));
-        }
-    }
-    Ok(None)
+    twice_table_in(&mut names, family, tables)
 }
 
 /// The line of the first in the text that is one too many: a second table of one family and name, or in a

@@ -90,14 +90,25 @@ fn first_in(names: &Names, wanted: &Wanted, chains: &[Chain]) -> Line {
     Line::new(1)
 }
 
+fn first_of(alloc: Global, wanted: &Wanted, chains: &[Chain]) -> Result<Line, AllocError> {
+    let names = names_of(alloc, chains)?;
+    Ok(first_in(&names, wanted, chains))
+}
+
+fn looping(alloc: Global, chains: &[Chain]) -> Result<Wanted, AllocError>
+    requires { has_twice (chain_names chains.now) ≡ false }
+{
+    let rows = graph_of(alloc, chains)?;
+    let components = components_of(alloc, rows.as_slice())?;
+    Ok(Wanted::Looping(components))
+}
+
 /// The line of the first jump or goto that stands on a loop; 1 where there is none.
 pub fn line_of_loop(alloc: Global, chains: &[Chain]) -> Result<Line, AllocError>
     requires { has_twice (chain_names chains.now) ≡ false }
 {
-    let names = names_of(alloc, chains)?;
-    let rows = graph_of(alloc, chains)?;
-    let wanted = Wanted::Looping(components_of(alloc, rows.as_slice())?);
-    Ok(first_in(&names, &wanted, chains))
+    let wanted = looping(alloc, chains)?;
+    first_of(alloc, &wanted, chains)
 }
 
 // Raises what a chain's steps lead to above the chain itself, up to 17.
@@ -143,14 +154,23 @@ fn steps_behind(alloc: Global, rows: &[Items<usize>]) -> Result<Vec<usize>, Allo
     Ok(numbers)
 }
 
+fn lengths(alloc: Global, rows: &[Items<usize>]) -> Result<Wanted, AllocError> {
+    let before = steps_before(alloc, rows)?;
+    let behind = steps_behind(alloc, rows)?;
+    Ok(Wanted::Long { before, behind })
+}
+
+fn long(alloc: Global, chains: &[Chain]) -> Result<Wanted, AllocError>
+    requires { has_twice (chain_names chains.now) ≡ false }
+{
+    let rows = graph_of(alloc, chains)?;
+    lengths(alloc, rows.as_slice())
+}
+
 /// The line of the first jump or goto on a path of more than 16; 1 where there is none.
 pub fn line_of_depth(alloc: Global, chains: &[Chain]) -> Result<Line, AllocError>
     requires { has_twice (chain_names chains.now) ≡ false }
 {
-    let names = names_of(alloc, chains)?;
-    let rows = graph_of(alloc, chains)?;
-    let before = steps_before(alloc, rows.as_slice())?;
-    let behind = steps_behind(alloc, rows.as_slice())?;
-    let wanted = Wanted::Long { before, behind };
-    Ok(first_in(&names, &wanted, chains))
+    let wanted = long(alloc, chains)?;
+    first_of(alloc, &wanted, chains)
 }

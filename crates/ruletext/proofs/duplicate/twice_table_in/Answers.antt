@@ -2,10 +2,10 @@ use Rattle.std.proofs.Common.{◌≡◌, ◌∙◌, ℕ, List, ap, arith, refl, 
 use Rattle.std.proofs.lemmas.Option.{slice_get_read}
 use Rattle.ruletext.specs.Duplicate.{has_twice, names_in}
 use Rattle.ruletext.proofs.Twice.{clashes, none_clash, table_on}
-use Rattle.ruletext.proofs.duplicate.twice_table.Goals as goal
+use Rattle.ruletext.proofs.duplicate.twice_table_in.Goals as goal
 
 pub loop-table-init : goal.loop-table-init
-loop-table-init c = ap (λ (old : List (List ℕ)). clashes old (names_in c.args.family c.args.tables.now)) c.new-names.ensures ∙ none_clash (names_in c.args.family c.args.tables.now)
+loop-table-init c = ap (λ (old : List (List ℕ)). clashes old (names_in c.args.family c.args.tables.now)) c.requires ∙ none_clash (names_in c.args.family c.args.tables.now)
 
 pub loop-table-preserved : goal.loop-table-preserved
 loop-table-preserved c =
