@@ -1,6 +1,6 @@
 //! The rules of a table in one row.
 
-ghost use Rattle.std.specs.Prelude.{◌≡◌, ◌+◌, ◌++◌, ◌≤◌, ℕ, List, Some, true, false, length, map, sum_by, IfOk, IfSome, OnOk, slice_get};
+ghost use Rattle.std.specs.Prelude.{◌≡◌, ◌+◌, ◌++◌, ◌≤◌, ℕ, List, [], Some, true, false, length, map, sum_by, IfOk, IfSome, OnOk, slice_get};
 ghost use Rattle.std.specs.List.{list_any};
 ghost use Rattle.ruletext.specs.Calls.{OfSome};
 ghost use Rattle.ruletext.specs.Counts.{elements_of_side, elements_of_table, is_much};
@@ -319,6 +319,58 @@ fn lay_chain(
     Ok(())
 }
 
+// Lays the chains of a table in a row where none lies, and tells the keys of its lines.
+fn lay_chains(
+    alloc: Global,
+    row: &mut Row,
+    spans: &mut Items<Span>,
+    table: &Table,
+    sets: &Named<'_>,
+) -> Result<Items<u64>, AllocError>
+    requires named { sets.now ≡ table.now.sets }
+    requires sets { ArePools table.now.sets row.old.pools }
+    requires none { spans.old ≡ [] }
+    requires typed { ¬ HasWrongType table.now.sets table.now.chains }
+    requires few { elements_of_table table.now ≤ 16384 }
+    requires apart { ¬ TableOverlaps table.now }
+    ensures { IfOk result (λ keys. IsLaid table.now (record { spans = spans.new; keys = keys; row = row.new })) }
+{
+    for chain in table.chains.as_slice() {
+        let start = row.lines.len();
+        lay_chain(alloc, row, table, sets, chain.rules.as_slice())?;
+        let end = row.lines.len();
+        spans.push(Span { start, end })?;
+    }
+    let keys = keys_of(alloc, row.lines.as_slice())?;
+    Ok(keys)
+}
+
+// The same in a row of its own.
+fn lay_by(alloc: Global, table: &Table, sets: &Named<'_>) -> Result<Laid, AllocError>
+    requires named { sets.now ≡ table.now.sets }
+    requires typed { ¬ HasWrongType table.now.sets table.now.chains }
+    requires few { elements_of_table table.now ≤ 16384 }
+    requires apart { ¬ TableOverlaps table.now }
+    ensures { IfOk result (IsLaid table.now) }
+{
+    let pools = pools_of(alloc, table.sets.as_slice())?;
+    let mut row = Row {
+        lines: Items::new(alloc),
+        targets: Items::new(alloc),
+        tests: Items::new(alloc),
+        pools,
+        maps: Items::new(alloc),
+    };
+    let mut spans = Items::new(alloc);
+    match lay_chains(alloc, &mut row, &mut spans, table, sets) {
+        Ok(keys) => Ok(Laid { spans, keys, row }),
+        Err(error) => {
+            drop(row);
+            Err(error)
+        }
+    }
+}
+
 /// The chains of a table in a row, with its sets, maps and targets.
 ///
 /// # Errors
@@ -334,22 +386,9 @@ pub(crate) fn lay(alloc: Global, table: &Table) -> Result<Laid, AllocError>
         Ok(sets) => sets,
         Err(error) => return Err(error),
     };
-    let mut row = Row {
-        lines: Items::new(alloc),
-        targets: Items::new(alloc),
-        tests: Items::new(alloc),
-        pools: pools_of(alloc, table.sets.as_slice())?,
-        maps: Items::new(alloc),
-    };
-    let mut spans = Items::new(alloc);
-    for chain in table.chains.as_slice() {
-        let start = row.lines.len();
-        lay_chain(alloc, &mut row, table, &sets, chain.rules.as_slice())?;
-        let end = row.lines.len();
-        spans.push(Span { start, end })?;
-    }
-    let keys = keys_of(alloc, row.lines.as_slice())?;
-    Ok(Laid { spans, keys, row })
+    let laid = lay_by(alloc, table, &sets);
+    drop(sets);
+    laid
 }
 
 /// Each table in a row of its own.

@@ -1,20 +1,18 @@
-use Rattle.std.proofs.Common.{◌≡◌, ◌∙◌, ◌<◌, false, List, Some, slice_get, length, get_or, refl, sym, ap, subst, arith, take}
-use Rattle.std.specs.List.{list_any}
+use Rattle.std.proofs.Common.{◌≡◌, ◌∙◌, ◌<◌, List, Some, slice_get, length, get_or, refl, sym, ap, subst, arith, take}
 use Rattle.std.proofs.lemmas.Option.{slice_get_read}
 use Rattle.rulesyntax.specs.declared.tree.Rule.{Rule}
-use Rattle.ruletext.specs.Types.{is_wrong_set}
 use Rattle.verdict.specs.declared.row.Span.{Span}
 use Rattle.verdict.specs.Lines.{IsChainLaid}
 use Rattle.verdict.proofs.Laying.{front_more, SpansSoFar, spans_more}
-use Rattle.verdict.proofs.Pooled.{sets_typed, ready_at}
-use Rattle.verdict.proofs.row.lay.Goals as goal
+use Rattle.verdict.proofs.Pooled.{ready_at}
+use Rattle.verdict.proofs.row.lay_chains.Goals as goal
 
 pub loop-chain-preserved : goal.loop-chain-preserved
 loop-chain-preserved c =
     let lt : c.loop-chain.chain-index < length c.args.table.now.chains = omega (arith, ap length c.as_slice-chain-items.ensures) in
     let item = c.chain-item.is ∙ ap (λ chains. get_or chains c.loop-chain.chain-index c.chain-item.result) c.as_slice-chain-items.ensures in
     let front = front_more c.args.table.now.chains c.loop-chain.chain-index c.chain-item.result lt item in
-    let laid = subst (λ rules. IsChainLaid c.args.table.now rules c.loop-chain.row c.lay_chain.new.row) c.as_slice-in-loop-chain.ensures c.in_ok-lay_chain.ensures in
+    let laid = subst (λ rules. IsChainLaid c.args.table.now rules c.loop-chain.row c.lay_chain.new.row) c.as_slice.ensures c.in_ok-lay_chain.ensures in
     let span : Span = record { start = c.len-start.result; end = c.len-end.result } in
     let more = spans_more c.args.table.now (take c.loop-chain.chain-index c.args.table.now.chains) c.chain-item.result c.loop-chain.row c.lay_chain.new.row c.loop-chain.spans span c.len-start.ensures c.len-end.ensures c.loop-chain.invariant laid in
     let pushed = subst (SpansSoFar c.args.table.now _ c.lay_chain.new.row) (sym c.in_ok-push.ensures.ok) more in
@@ -26,7 +24,4 @@ lay_chain-requires-clause-ready c i rule at =
     let lt : c.loop-chain.chain-index < length chains = omega (arith, ap length c.as_slice-chain-items.ensures) in
     let item = c.chain-item.is ∙ ap (λ chains. get_or chains c.loop-chain.chain-index c.chain-item.result) c.as_slice-chain-items.ensures in
     let here = slice_get_read chains _ c.loop-chain.chain-index c.chain-item.result refl lt item in
-    ready_at c.args.table.now c.loop-chain.chain-index i c.chain-item.result rule c.requires.typed c.requires.few c.requires.apart here (subst (λ (rules : List Rule). slice_get rules i ≡ Some rule) c.as_slice-in-loop-chain.ensures at)
-
-pub pools_of-requires-clause-typed : goal.pools_of-requires-clause-typed
-pools_of-requires-clause-typed c = subst (λ sets. list_any is_wrong_set sets ≡ false) (sym c.as_slice-2.ensures) (sets_typed c.args.table.now.sets c.args.table.now.chains c.requires.typed)
+    ready_at c.args.table.now c.loop-chain.chain-index i c.chain-item.result rule c.requires.typed c.requires.few c.requires.apart here (subst (λ (rules : List Rule). slice_get rules i ≡ Some rule) c.as_slice.ensures at)
