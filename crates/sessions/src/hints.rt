@@ -8,7 +8,7 @@ use std::alloc::Global;
 use std::simd::prelude::*;
 
 // A place holds a slot below this, which each slot of a table is, and in its higher bits some of those that
-// the endpoints say.
+// protocol, port and remote endpoint say.
 const SLOTS: u32 = 1 << 17;
 
 // A place that nothing was put into: it stands for a slot that no table has.

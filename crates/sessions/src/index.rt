@@ -28,7 +28,7 @@ pub struct Index {
     pub flows: Rows,
     /// The translated ones.
     pub translated: Translated,
-    /// Guesses of slots, by either side.
+    /// Guesses of slots, by protocol, port on either side and remote endpoint.
     pub hints: Hints,
 }
 
