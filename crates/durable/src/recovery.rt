@@ -5,10 +5,10 @@ ghost use Rattle.sessions.specs.Life.{IsSeen};
 ghost use Rattle.sessions.specs.Listing.{listing};
 ghost use Rattle.sessions.specs.Sound.{AreSound};
 ghost use Rattle.durable.specs.Coding.{Heading, IsHeading};
-ghost use Rattle.durable.specs.Entering.{Durable, durable};
+ghost use Rattle.durable.specs.Entering.{Durable, IsRuleset, durable};
 ghost use Rattle.durable.specs.Found.{HeldBy, IsReadOpen, found_view};
 ghost use Rattle.durable.specs.Leading.{StateLeads};
-ghost use Rattle.durable.specs.Recovery.{Active, Finds, Holds, IsHeaded, IsOpen, arranged, behind, pair};
+ghost use Rattle.durable.specs.Recovery.{Active, Finds, Holds, IsHeaded, IsOpen, arranged, arranged_on, behind, pair};
 ghost use Rattle.durable.specs.Viewing.{headed_view};
 
 use crate::DurableFault;
@@ -88,7 +88,22 @@ fn read_open<'a>(
     Ok(Some((headed, after)))
 }
 
-// A table of these sessions, which may stand in any order.
+// Puts these sessions, which may stand in any order, into a table.
+fn fill(bounds: &Bounds, table: &mut Table, sessions: &[Session]) -> Result<(), DurableFault>
+    requires bits { All (λ s. IsSeen s.proto s.seen) sessions.now }
+    requires sound { AreSound bounds.now (listing table.old.held) }
+    ensures ok { OnOk result ((listing table.new.held ≡ arranged_on (listing table.old.held) sessions.now)
+        × AreSound bounds.now (listing table.new.held)) }
+    ensures damaged { IsErrOf result DurableFault.Damaged
+        → ¬ AreSound bounds.now (arranged_on (listing table.old.held) sessions.now) }
+{
+    for session in sessions {
+        begin(bounds, table, *session)?;
+    }
+    Ok(())
+}
+
+// A table of these sessions.
 fn table_of(alloc: Global, bounds: &Bounds, sessions: &[Session]) -> Result<Table, DurableFault>
     requires bits { All (λ s. IsSeen s.proto s.seen) sessions.now }
     ensures ok { IfOk result (λ table. (listing table.held ≡ arranged sessions.now)
@@ -96,10 +111,33 @@ fn table_of(alloc: Global, bounds: &Bounds, sessions: &[Session]) -> Result<Tabl
     ensures damaged { IsErrOf result DurableFault.Damaged → ¬ AreSound bounds.now (arranged sessions.now) }
 {
     let mut table = Table::new(alloc);
-    for session in sessions {
-        begin(bounds, &mut table, *session)?;
+    match fill(bounds, &mut table, sessions) {
+        Ok(()) => Ok(table),
+        Err(fault) => {
+            drop(table);
+            Err(fault)
+        }
     }
-    Ok(table)
+}
+
+// The text and the sessions of a file's state, and what stands from the closed gate on, where a table holds the
+// sessions of its heading.
+fn lead<'a>(
+    alloc: Global,
+    headed: &Headed<'a>,
+    table: &mut Table,
+    rest: &'a [u8],
+) -> Result<(&'a [u8], Vec<Session>, &'a [u8]), DurableFault>
+    requires text { IsRuleset headed.now.bounds headed.now.text.now }
+    requires placed { listing table.old.held ≡ arranged headed.now.sessions.items }
+    requires sound { AreSound headed.now.bounds (arranged headed.now.sessions.items) }
+    ensures ok { IfOk result (λ x. StateLeads (headed_view headed.now) rest.now (durable x.0.now x.1.items) x.2.now) }
+    ensures damaged { IsErrOf result DurableFault.Damaged → (d : Durable) (tail : List ℕ)
+        → ¬ StateLeads (headed_view headed.now) rest.now d tail }
+{
+    let (text, tail) = enter_groups(alloc, &headed.bounds, headed.text, table, rest)?;
+    let sessions = table.list(alloc)?;
+    Ok((text, sessions, tail))
 }
 
 // The text and the sessions of a file's state, and what stands from the closed gate on.
@@ -115,9 +153,9 @@ fn settle<'a>(
 {
     check_text(alloc, &headed.bounds, headed.text)?;
     let mut table = table_of(alloc, &headed.bounds, &headed.sessions)?;
-    let (text, tail) = enter_groups(alloc, &headed.bounds, headed.text, &mut table, rest)?;
-    let sessions = table.list(alloc)?;
-    Ok((text, sessions, tail))
+    let settled = lead(alloc, headed, &mut table, rest);
+    drop(table);
+    settled
 }
 
 // The state that a file holds.
@@ -170,11 +208,15 @@ fn choose<'a>(
             None => active(alloc, FileId::A, a, headed, rest),
             Some((other, behind)) => {
                 if other.generation < headed.generation {
+                    drop(other);
                     return active(alloc, FileId::A, a, headed, rest);
                 }
                 if headed.generation < other.generation {
+                    drop(headed);
                     return active(alloc, FileId::B, b, other, behind);
                 }
+                drop(headed);
+                drop(other);
                 Err(DurableFault::Damaged)
             }
         },

@@ -5,8 +5,8 @@ use Rattle.durable.specs.Viewing.{headed_view}
 use Rattle.durable.proofs.Headed.{equal_refused, refused}
 use Rattle.durable.proofs.recovery.choose.Goals as goal
 
-pub returns-in-None-clause-damaged : goal.returns-in-None-clause-damaged
-returns-in-None-clause-damaged c = λ damaged found finds.
+pub returns-in-Some-second-clause-damaged : goal.returns-in-Some-second-clause-damaged
+returns-in-Some-second-clause-damaged c = λ damaged found finds.
     let closed : ¬ IsOpen c.args.a.now = search rules in
     let h = headed_view c.in-Some-second.headed in
     let on : IsHeaded c.args.b.now h = search rules in
@@ -35,8 +35,8 @@ returns-then-headed-other-clause-damaged c = λ damaged found finds.
     let also : IsHeaded c.args.b.now k = search rules in
     refused (pair c.args.a.now c.args.b.now) B k also (c.active-then-headed-other.ensures.damaged damaged) (λ open_so. (h, on, c.if-headed-other.true)) found finds
 
-pub returns-clause-damaged : goal.returns-clause-damaged
-returns-clause-damaged c = λ damaged found finds.
+pub returns-else-headed-other-clause-damaged : goal.returns-else-headed-other-clause-damaged
+returns-else-headed-other-clause-damaged c = λ damaged found finds.
     let h = headed_view c.in-Some.headed in
     let k = headed_view c.in-Some-second-2.other in
     let on : IsHeaded c.args.a.now h = search rules in
