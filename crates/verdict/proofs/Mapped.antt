@@ -1,8 +1,8 @@
 -- Verdict maps that are made once: a key leads to its pair's place, and the place that a fact leads to has the verdict of the first
 -- key that holds it.
-use Rattle.std.proofs.Common.{◌≡◌, ◌↔◌, ◌<◌, ℕ, zero, suc, Bool, true, false, not, List, [], ◌∷◌, ◌++◌, Option, Some, None, IfSome, IfNone, length, slice_get, IsTrue, refl, sym, ap, ◌∙◌, subst, inl, inr, arith, length-append}
+use Rattle.std.proofs.Common.{◌≡◌, ◌↔◌, ◌<◌, ℕ, zero, suc, true, false, not, List, [], ◌∷◌, ◌++◌, Option, Some, None, IfSome, IfNone, length, slice_get, IsTrue, refl, sym, ap, ◌∙◌, subst, inl, inr, arith, length-append}
 use Rattle.std.specs.List.{list_any}
-use Rattle.std.proofs.lemmas.Bool.{false≢true, false_from_ne_true}
+use Rattle.std.proofs.lemmas.Bool.{false_from_ne_true}
 use Rattle.std.proofs.lemmas.Option.{slice_get_read, slice_get_within, get_or_from_slice_get}
 use Rattle.sets.specs.declared.element.Element.{Element as Part}
 use Rattle.sets.specs.declared.element.Pair.{Pair as Key}
@@ -23,7 +23,7 @@ use Rattle.verdict.specs.Places.{IsKey}
 use Rattle.verdict.specs.Tests.{AddsPair, ArePairs, IsMap, HasMap}
 use Rattle.verdict.proofs.Exact.{exact}
 use Rattle.verdict.proofs.Laying.{either, stays, last_at}
-use Rattle.verdict.proofs.Pooled.{none_found}
+use Rattle.verdict.proofs.Pooled.{none_found, not_not}
 use Rattle.verdict.proofs.Steady.{some_at}
 
 pub pair_added : (class : Class) (pair : Pair) (part : Part) (place : ℕ) (old new : List (Key ℕ)) → place ≡ length old → new ≡ old ++ record { key = part; verdict = place } ∷ [] → IsPart class pair.key.value (Some part) → AddsPair class pair old new
@@ -134,10 +134,6 @@ module _ (class : Class) (pairs : List Pair) (map : List (Key ℕ)) (is : IsMap 
   pub place_is : (result : Option ℕ) → IfSome result (λ place. (other : ℕ) → MapsTo fact other map ↔ (other ≡ place)) → IfNone result ((place : ℕ) → ¬ MapsTo fact place map) → IsKey pairs (looked_up class pairs fact) result
   place_is None some none = place_absent none
   place_is (Some place) some none = place_found place some
-
-not_not : (b : Bool) → not b ≡ false → b ≡ true
-not_not true is = refl
-not_not false is = absurd (false≢true (sym is))
 
 -- each pair of a map in which none is of a wrong type has a value of the class
 pub typed_pair : (class : Class) (pairs : List Pair) → list_any (λ (pair : Pair). not (is_value class pair.key.value)) pairs ≡ false → (k : ℕ) (pair : Pair) → slice_get pairs k ≡ Some pair → is_value class pair.key.value ≡ true

@@ -11,6 +11,7 @@ use Rattle.std.proofs.lemmas.Option.{get_or_from_slice_get, slice_get_within}
 use Rattle.sets.specs.declared.element.Element.{Element as Part}
 use Rattle.sets.specs.Members.{Fact, IsIn, IsMember}
 use Rattle.sets.proofs.Unions.{either_of, whole_of_first}
+use Rattle.rulesyntax.specs.declared.tree.Element.{Element}
 use Rattle.rulesyntax.specs.declared.tree.Value.{Value}
 use Rattle.rulesyntax.specs.declared.tree.Set.{Set}
 use Rattle.rulesyntax.specs.declared.tree.Side.{Side}
@@ -21,12 +22,12 @@ use Rattle.rulesyntax.specs.declared.tree.Chain.{Chain}
 use Rattle.rulesyntax.specs.declared.tree.Table.{Table}
 use Rattle.ruletext.specs.declared.class.Class.{Class}
 use Rattle.ruletext.specs.declared.class.Class.TheVariants.{Addresses, Services, Protocols, Interfaces, States}
-use Rattle.ruletext.specs.Classes.{class_of}
+use Rattle.ruletext.specs.Classes.{class_of, is_value}
 use Rattle.ruletext.specs.Calls.{OfSome}
 use Rattle.ruletext.specs.Overlap.{EndOverlaps, TableOverlaps}
 use Rattle.ruletext.specs.Counts.{elements_of_rule, elements_of_table, rules_of_table, is_much}
 use Rattle.ruletext.specs.Parts.{IsPart}
-use Rattle.ruletext.specs.Types.{same_class, class_in, has_other_class, is_wrong_set, is_wrong_side, is_wrong_match, is_wrong_rule, is_wrong_chain, HasWrongType}
+use Rattle.ruletext.specs.Types.{same_class, class_in, has_other_class, has_stranger, is_wrong_set, is_wrong_side, is_wrong_match, is_wrong_rule, is_wrong_chain, HasWrongType}
 use Rattle.verdict.specs.Matching.{lies, is_in_set, is_in_named, is_on_side}
 use Rattle.verdict.specs.Pools.{Adds, IsPool, ArePools}
 use Rattle.verdict.proofs.Exact.{exact}
@@ -174,7 +175,7 @@ standing sets class (One element) fact none = refl
 standing sets class (Several elements) fact none = refl
 standing sets class (Named name) fact none = ap (λ f. option_map_or (is_in_set class fact) f false) none
 
-not_not : (b : Bool) → not b ≡ false → b ≡ true
+pub not_not : (b : Bool) → not b ≡ false → b ≡ true
 not_not true is = refl
 not_not false is = absurd (false≢true (sym is))
 
@@ -203,6 +204,10 @@ pub none_found : {X : Type 0} (p : X → Bool) (xs : List X) (i : ℕ) (x : X) �
 none_found p [] i x at fails = cc
 none_found p (y ∷ ys) zero x at fails = let same : y ≡ x = cc in ap p (sym same) ∙ (or_parts (p y) (list_any p ys) fails).0
 none_found p (y ∷ ys) (suc i) x at fails = none_found p ys i x at (or_parts (p y) (list_any p ys) fails).1
+
+-- each element is of the class where no stranger is among them
+pub typed_element : (class : Class) (elements : List Element) → has_stranger class elements ≡ false → (i : ℕ) (element : Element) → slice_get elements i ≡ Some element → is_value class element.value ≡ true
+typed_element class elements typed i element at = not_not _ (none_found (λ (element : Element). not (is_value class element.value)) elements i element at typed)
 
 -- what counts in one of a list is no more than what counts in all
 pub some_of_sum : {X : Type 0} (f : X → ℕ) (xs : List X) (i : ℕ) (x : X) → slice_get xs i ≡ Some x → f x ≤ sum_by f xs

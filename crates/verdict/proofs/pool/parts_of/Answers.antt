@@ -1,12 +1,14 @@
-use Rattle.std.proofs.Common.{◌≡◌, ◌||◌, ◌+◌, ◌∙◌, [], sym, ap, subst, arith, length, sum_by, take, take_all}
+use Rattle.std.proofs.Common.{◌≡◌, ◌||◌, ◌+◌, ◌∙◌, [], false, refl, sym, ap, subst, arith, length, sum_by, take, take_all}
 use Rattle.std.specs.List.{list_any}
 use Rattle.std.proofs.lemmas.List.Folds.{list_any_more}
 use Rattle.std.proofs.lemmas.List.Sums.{sum_by_more}
+use Rattle.std.proofs.lemmas.Option.{slice_get_read}
+use Rattle.ruletext.specs.Types.{has_stranger}
 use Rattle.rulesyntax.specs.declared.tree.SetElements.{SetElements}
 use Rattle.sets.specs.Members.{Fact}
 use Rattle.verdict.specs.Matching.{is_member}
 use Rattle.verdict.specs.Pools.{Adds}
-use Rattle.verdict.proofs.Pooled.{adds_more}
+use Rattle.verdict.proofs.Pooled.{adds_more, none_found}
 use Rattle.verdict.proofs.pool.parts_of.Goals as goal
 
 pub loop-line-preserved : goal.loop-line-preserved
@@ -31,3 +33,10 @@ returns c =
     let all : take c.loop-line.line-index lines ≡ lines = take_all c.loop-line.line-index lines (omega arith) in
     subst (λ ls. Adds [] c.loop-line.parts.items (λ (fact : Fact). list_any (λ (line : SetElements). is_member c.args.class line.elements fact) ls) (sum_by (λ (line : SetElements). length line.elements) ls)) all
     c.loop-line.invariant
+
+pub push_parts-requires : goal.push_parts-requires
+push_parts-requires c =
+    let class = c.args.class in
+    let at = slice_get_read c.args.lines.now _ c.loop-line.line-index c.line-item.result refl (omega arith) c.line-item.is in
+    let typed = none_found (λ (line : SetElements). has_stranger class line.elements) c.args.lines.now c.loop-line.line-index c.line-item.result at c.requires in
+    subst (λ elements. has_stranger class elements ≡ false) (sym c.as_slice.ensures) typed
