@@ -1,12 +1,26 @@
-use Rattle.std.proofs.Common.{◌∙◌, refl, ap, arith}
+use Rattle.std.proofs.Common.{◌∙◌, refl, sym, ap, subst, arith}
 use Rattle.verdict.specs.Hooks.{bases_of, bases_among}
+use Rattle.verdict.specs.Lines.{IsLaid}
 use Rattle.verdict.specs.Ranking.{preferred}
-use Rattle.std.proofs.lemmas.Option.{slice_get_read}
+use Rattle.std.proofs.lemmas.Option.{slice_get_read, slice_get_within, get_or_from_slice_get}
 use Rattle.ruletext.specs.Calls.{IsDeep, IsLooped}
 use Rattle.verdict.proofs.Steady.{some_at}
 use Rattle.verdict.proofs.Ranked.{part_asked}
 use Rattle.verdict.proofs.Spending.{few_of, chains_few, rules_split}
 use Rattle.verdict.proofs.hook.final_of_all.Goals as goal
+
+pub bounds-rows-number : goal.bounds-rows-number
+bounds-rows-number c =
+    let at = slice_get_read c.args.tables.now _ c.loop-number.number c.index-tables-number.result refl (omega arith) c.index-tables-number.is in
+    let laid = c.requires.laid c.loop-number.number c.index-tables-number.result at in
+    slice_get_within c.args.rows.now c.loop-number.number laid.0 laid.1
+
+pub final_among-other-requires-clause-laid : goal.final_among-other-requires-clause-laid
+final_among-other-requires-clause-laid c =
+    let at = slice_get_read c.args.tables.now _ c.loop-number.number c.index-tables-number.result refl (omega arith) c.index-tables-number.is in
+    let laid = c.requires.laid c.loop-number.number c.index-tables-number.result at in
+    let here = get_or_from_slice_get c.args.rows.now c.loop-number.number laid.0 c.index-rows-number.result laid.1 in
+    subst (IsLaid c.index-tables-number.result) (sym (c.index-rows-number.is ∙ here)) laid.2
 
 pub final_among-other-requires-clause-shallow : goal.final_among-other-requires-clause-shallow
 final_among-other-requires-clause-shallow c deep =
