@@ -31,8 +31,8 @@ const LOOP_LIMIT: u64 = 2_048;
 /// - `File` where the command's file can't be read, or is too long for `loop`.
 /// - Of all but `check` what `open` says of the two files.
 /// - Of `serve` and `loop` `File` where the socket can't be bound.
-/// - What the run meets: the fault of a stream (of `serve` and `loop` that of the gateway alone), `Output`. What was
-///   answered before is written.
+/// - What the run meets: the fault of a stream (of `serve` and `loop` that of the gateway alone), `Output`, and of
+///   `serve` and `loop` `File` where the socket fails or can't be removed. What was answered before is written.
 ///
 /// `NoMemory` may come at any place.
 pub fn run(rt: &HostRuntime, options: &Options<'_>) -> Result<ExitCode, Stop> {
