@@ -331,7 +331,7 @@ fn taken(model: &Model, told: Told, state: &str) -> Result<usize, Fail> {
     Err(Fail::new(format_args!("another state: {state}")))
 }
 
-fn are_same(
+fn expect_same(
     alloc: Global,
     taken: usize,
     answers: &[(u64, Answer)],
@@ -352,7 +352,7 @@ fn are_same(
 fn goes_on(alloc: Global, gateway: &mut Trials, taken: usize) -> Result<(), Fail> {
     let wanted = answers_behind(alloc, taken)?;
     match run(gateway, events_behind(alloc, taken)?) {
-        Ok(answers) => are_same(alloc, taken, answers.as_slice(), wanted.as_slice()),
+        Ok(answers) => expect_same(alloc, taken, answers.as_slice(), wanted.as_slice()),
         Err((_, fault)) => Err(fault.into()),
     }
 }

@@ -53,7 +53,7 @@ const SESSION: Session = Session {
 };
 
 // The endpoint that is free for a host that asks for port 5000.
-fn chooses(rt: &impl Abort, translations: &Translations, proto: Proto, expected: Endpoint) {
+fn assert_chooses(rt: &impl Abort, translations: &Translations, proto: Proto, expected: Endpoint) {
     assert_eq!(rt; translations.choose(proto, 5000), Some(expected));
 }
 
@@ -83,7 +83,7 @@ fn comes_and_goes(rt: &impl Abort, translations: &mut Translations) -> Result<()
     requires external { translations.old.external ≡ 3405803777 }
 {
     translations.reserve()?;
-    chooses(rt, translations, Proto::Udp, OUTSIDE);
+    assert_chooses(rt, translations, Proto::Udp, OUTSIDE);
     translations.hold(&SESSION);
     assert_outside(rt, translations, HOST, Some(OUTSIDE));
     assert_inside(rt, translations, Proto::Udp, Some(HOST));
@@ -93,12 +93,12 @@ fn comes_and_goes(rt: &impl Abort, translations: &mut Translations) -> Result<()
         addr: EXTERNAL,
         port: 5002,
     };
-    chooses(rt, translations, Proto::Udp, next);
-    chooses(rt, translations, Proto::Tcp, OUTSIDE);
+    assert_chooses(rt, translations, Proto::Udp, next);
+    assert_chooses(rt, translations, Proto::Tcp, OUTSIDE);
     translations.release(&SESSION);
     assert_outside(rt, translations, HOST, None);
     assert_inside(rt, translations, Proto::Udp, None);
-    chooses(rt, translations, Proto::Udp, OUTSIDE);
+    assert_chooses(rt, translations, Proto::Udp, OUTSIDE);
     Ok(())
 }
 

@@ -13,7 +13,7 @@ fn insert(rows: &mut Rows, key: u128, value: usize) -> Result<(), AllocError> {
     rows.insert(key, value)
 }
 
-fn has(rt: &impl Abort, rows: &Rows, key: u128, expected: Option<usize>) {
+fn assert_has(rt: &impl Abort, rows: &Rows, key: u128, expected: Option<usize>) {
     assert_eq!(rt; rows.get(key), expected);
 }
 
@@ -24,7 +24,7 @@ fn assert_gives(rt: &impl Abort, rows: &mut Rows, key: u128, expected: Option<us
 // Puts an entry in. A refusal of memory must change nothing, and the entry go in at the second try.
 fn put(rt: &impl Abort, rows: &mut Rows, key: u128, value: usize) -> Result<(), AllocError> {
     if insert(rows, key, value).is_err() {
-        has(rt, rows, key, None);
+        assert_has(rt, rows, key, None);
         insert(rows, key, value)?;
     }
     Ok(())
@@ -72,7 +72,7 @@ fn entries_go_in_and_out(rt: HostRuntime) -> Result<(), AllocError> {
         assert_gives(&rt, &mut rows, 7, value);
     }
     for (key, value) in [(0, 3), (HIGH, 1)] {
-        has(&rt, &rows, key, Some(value));
+        assert_has(&rt, &rows, key, Some(value));
     }
     Ok(())
 }
@@ -110,10 +110,10 @@ fn many_entries_are_found(rt: HostRuntime) -> Result<(), AllocError> {
         assert_gives(&rt, &mut rows, key_of(number), Some(number));
     }
     for number in 0..1990 {
-        has(&rt, &rows, key_of(number), None);
+        assert_has(&rt, &rows, key_of(number), None);
     }
     for number in 1990..2000 {
-        has(&rt, &rows, key_of(number), Some(number));
+        assert_has(&rt, &rows, key_of(number), Some(number));
     }
     Ok(())
 }

@@ -43,7 +43,7 @@ fn assign(
 }
 
 // What a host gets at this address, which must be one of the two.
-fn gets(
+fn assert_gets(
     rt: &impl Abort,
     ports: &mut Ports,
     at: (Proto, u32),
@@ -60,7 +60,7 @@ fn gets(
 }
 
 // What a host gets at the first address, or at the second one.
-fn gets_at(
+fn assert_gets_at(
     rt: &impl Abort,
     ports: &mut Ports,
     proto: Proto,
@@ -73,9 +73,9 @@ fn gets_at(
 {
     let port = port.max(1);
     if is_second {
-        return gets(rt, ports, (proto, SECOND), port, Some(expected));
+        return assert_gets(rt, ports, (proto, SECOND), port, Some(expected));
     }
-    gets(rt, ports, (proto, FIRST), port, Some(expected))
+    assert_gets(rt, ports, (proto, FIRST), port, Some(expected))
 }
 
 // Frees the port, if it is taken.
@@ -104,7 +104,7 @@ fn second_host_gets_the_next_port(rt: HostRuntime) -> Result<(), AllocError> {
     ];
     for row in rows {
         let (proto, is_second, port, expected) = row;
-        gets_at(&rt, &mut ports, proto, is_second, port, expected)?;
+        assert_gets_at(&rt, &mut ports, proto, is_second, port, expected)?;
     }
     Ok(())
 }
@@ -115,12 +115,12 @@ fn all_odd_low_ports_taken(rt: HostRuntime) -> Result<(), AllocError> {
     let at = (Proto::Udp, FIRST);
     for number in 0..512 {
         let odd = 2 * number + 1;
-        gets(&rt, &mut ports, at, odd, Some(odd))?;
+        assert_gets(&rt, &mut ports, at, odd, Some(odd))?;
     }
-    gets(&rt, &mut ports, at, 7, None)?;
-    gets(&rt, &mut ports, at, 8, Some(8))?;
+    assert_gets(&rt, &mut ports, at, 7, None)?;
+    assert_gets(&rt, &mut ports, at, 8, Some(8))?;
     give_back(&mut ports, 9);
-    gets(&rt, &mut ports, at, 7, Some(9))
+    assert_gets(&rt, &mut ports, at, 7, Some(9))
 }
 
 #[test]
@@ -129,8 +129,8 @@ fn reserved_ports_are_taken(rt: HostRuntime) -> Result<(), AllocError> {
     if ports.reserve().is_err() {
         ports.reserve()?;
     }
-    gets(&rt, &mut ports, (Proto::Tcp, FIRST), 80, Some(80))?;
-    gets(&rt, &mut ports, (Proto::Tcp, SECOND), 65535, Some(65535))
+    assert_gets(&rt, &mut ports, (Proto::Tcp, FIRST), 80, Some(80))?;
+    assert_gets(&rt, &mut ports, (Proto::Tcp, SECOND), 65535, Some(65535))
 }
 
 // Takes `count` ports, two apart, but for one of them.
@@ -168,7 +168,7 @@ fn pick_the_last(
 }
 
 // Each row: the port that is left of its kind, the one that is asked for, and the words that are looked at.
-fn are_picked(
+fn assert_picked(
     rt: &impl Abort,
     alloc: Global,
     least: u16,
@@ -189,15 +189,15 @@ fn are_picked(
 #[test]
 fn one_low_port_is_left(rt: HostRuntime) -> Result<(), AllocError> {
     let odd = [(1023, 1, 8), (1, 3, 9), (513, 515, 9)];
-    are_picked(&rt, rt.alloc(), 1, 512, &odd)?;
+    assert_picked(&rt, rt.alloc(), 1, 512, &odd)?;
     let even = [(1022, 2, 8), (2, 4, 9), (514, 516, 9)];
-    are_picked(&rt, rt.alloc(), 2, 511, &even)
+    assert_picked(&rt, rt.alloc(), 2, 511, &even)
 }
 
 #[test]
 fn one_high_port_is_left(rt: HostRuntime) -> Result<(), AllocError> {
     let odd = [(65535, 1025, 504), (1025, 1027, 505), (33281, 33283, 505)];
-    are_picked(&rt, rt.alloc(), 1025, 32256, &odd)?;
+    assert_picked(&rt, rt.alloc(), 1025, 32256, &odd)?;
     let even = [(65534, 1024, 504), (1024, 1026, 505), (33280, 33282, 505)];
-    are_picked(&rt, rt.alloc(), 1024, 32256, &even)
+    assert_picked(&rt, rt.alloc(), 1024, 32256, &even)
 }

@@ -7,7 +7,7 @@ fn empty(alloc: Global) -> Result<Box<Buckets>, AllocError> {
     Ok(Box::new(alloc, Buckets::new(alloc))?)
 }
 
-fn has(rt: &impl Abort, map: &Buckets, key: u64, expected: Option<usize>) {
+fn assert_has(rt: &impl Abort, map: &Buckets, key: u64, expected: Option<usize>) {
     assert_eq!(rt; map.get(key), expected);
 }
 
@@ -41,7 +41,7 @@ fn reserve_one(map: &mut Buckets) -> Result<(), AllocError> {
 fn put(rt: &impl Abort, map: &mut Buckets, key: u64, value: usize) -> Result<(), AllocError> {
     reserve(map)?;
     if insert(map, key, value).is_err() {
-        has(rt, map, key, None);
+        assert_has(rt, map, key, None);
         insert(map, key, value)?;
     }
     Ok(())
@@ -50,7 +50,7 @@ fn put(rt: &impl Abort, map: &mut Buckets, key: u64, value: usize) -> Result<(),
 #[test]
 fn entries_go_in_and_out(rt: HostRuntime) -> Result<(), AllocError> {
     let mut map = empty(rt.alloc())?;
-    has(&rt, &map, 7, None);
+    assert_has(&rt, &map, 7, None);
     reserve_one(&mut map)?;
     for (key, value) in [
         (u64::MAX, 1),
@@ -65,10 +65,10 @@ fn entries_go_in_and_out(rt: HostRuntime) -> Result<(), AllocError> {
         assert_gives(&rt, &mut map, 7, value);
     }
     for (key, value) in [(u64::MAX, 1), (0, 3), (1, usize::MAX), (2, 0xffff_ffff)] {
-        has(&rt, &map, key, Some(value));
+        assert_has(&rt, &map, key, Some(value));
     }
     assert_gives(&rt, &mut map, 1, Some(usize::MAX));
-    has(&rt, &map, 1, None);
+    assert_has(&rt, &map, 1, None);
     Ok(())
 }
 
@@ -85,7 +85,7 @@ fn entries_go_in_where_they_are_sought(rt: HostRuntime) -> Result<(), AllocError
     ] {
         assert_eq!(rt; map.get_or_insert(key, value)?, found);
     }
-    has(&rt, &map, 7, Some(2));
+    assert_has(&rt, &map, 7, Some(2));
     assert_gives(&rt, &mut map, 0, Some(usize::MAX));
     Ok(())
 }
@@ -101,7 +101,7 @@ fn entries_are_found_without_places(rt: HostRuntime) -> Result<(), AllocError> {
     }
     put(&rt, &mut map, 200, 5)?;
     for number in 0..201 {
-        has(&rt, &map, number, Some(5));
+        assert_has(&rt, &map, number, Some(5));
     }
     Ok(())
 }
@@ -130,10 +130,10 @@ fn drawn_calls_agree_with_a_plain_list(rt: HostRuntime) -> Result<(), AllocError
             put(&rt, &mut map, key_of(number), value)?;
             plain[number] = Some(value);
         }
-        has(&rt, &map, key_of(number), plain[number]);
+        assert_has(&rt, &map, key_of(number), plain[number]);
     }
     for number in 0..499 {
-        has(&rt, &map, key_of(number), plain[number]);
+        assert_has(&rt, &map, key_of(number), plain[number]);
     }
     Ok(())
 }
@@ -156,17 +156,17 @@ fn many_meeting(rt: &impl Abort, alloc: Global) -> Result<Box<Buckets>, AllocErr
 fn keys_that_meet_are_told_apart(rt: HostRuntime) -> Result<(), AllocError> {
     let mut map = many_meeting(&rt, rt.alloc())?;
     for number in 0..300 {
-        has(&rt, &map, meeting(number), Some(number));
+        assert_has(&rt, &map, meeting(number), Some(number));
     }
     for number in 0..290 {
         assert_gives(&rt, &mut map, meeting(299 - number), Some(299 - number));
-        has(&rt, &map, meeting(299 - number), None);
+        assert_has(&rt, &map, meeting(299 - number), None);
     }
     for number in 0..10 {
-        has(&rt, &map, meeting(number), Some(number));
+        assert_has(&rt, &map, meeting(number), Some(number));
     }
     for number in 10..300 {
-        has(&rt, &map, meeting(number), None);
+        assert_has(&rt, &map, meeting(number), None);
     }
     Ok(())
 }
@@ -182,7 +182,7 @@ fn keys_that_met_are_found_again(rt: HostRuntime) -> Result<(), AllocError> {
         put(&rt, &mut map, key_of(number), number)?;
     }
     for number in 20..300 {
-        has(&rt, &map, meeting(number), Some(number));
+        assert_has(&rt, &map, meeting(number), Some(number));
     }
     Ok(())
 }
