@@ -28,8 +28,7 @@ const SPREAD: u64 = 0x9e37_79b9_7f4a_7c15;
 /// rests on what the places hold but time.
 #[derive(Drop)]
 pub struct Hints {
-    /// As vectors of the processor, none of which lies across two lines of a cache.
-    buckets: Vec<u32x8>,
+    buckets: Vec<[u32; 8]>,
 }
 
 impl Hints {
@@ -59,8 +58,8 @@ impl Hints {
         let Ok(slot) = u32::try_from(slot) else {
             return;
         };
-        if number < self.buckets.len() {
-            push(&mut self.buckets[number], tag(mixed) | slot % SLOTS);
+        if let Some(bucket) = self.buckets.get_mut(number) {
+            push(bucket, tag(mixed) | slot % SLOTS);
         }
     }
 
@@ -90,7 +89,7 @@ impl Hints {
         }
         self.buckets.clear();
         for _ in 0..wanted {
-            if self.buckets.push(u32x8::splat(NOTHING)).is_err() {
+            if self.buckets.push([NOTHING; 8]).is_err() {
                 return false;
             }
         }
@@ -119,8 +118,8 @@ impl Hints {
 }
 
 // The place with this tag that was put last.
-fn latest(bucket: &u32x8, tag: u32) -> u32 {
-    let tags = *bucket & u32x8::splat(!(SLOTS - 1));
+fn latest(bucket: &[u32; 8], tag: u32) -> u32 {
+    let tags = u32x8::from_array(*bucket) & u32x8::splat(!(SLOTS - 1));
     match tags.simd_eq(u32x8::splat(tag)).first_set() {
         Some(at) if at < WIDTH => bucket[at],
         _ => NOTHING,
@@ -128,9 +127,9 @@ fn latest(bucket: &u32x8, tag: u32) -> u32 {
 }
 
 // Puts a place before the others, of which the last is forgotten.
-fn push(bucket: &mut u32x8, place: u32) {
-    let [a, b, c, d, e, f, g, _] = bucket.to_array();
-    *bucket = u32x8::from_array([place, a, b, c, d, e, f, g]);
+fn push(bucket: &mut [u32; 8], place: u32) {
+    let [a, b, c, d, e, f, g, _] = *bucket;
+    *bucket = [place, a, b, c, d, e, f, g];
 }
 
 // A number that all bits of the protocol, the port and the endpoint have a part in, most of all in its high bits.
