@@ -30,7 +30,7 @@ mod places;
 
 use crate::overflow::Overflow;
 use crate::place::Place;
-use crate::places::{add, find, find_or_add, grow, take_out};
+use crate::places::{add, find, find_or_add, grow, seems_held, take_out};
 use std::alloc::{AllocError, Global};
 use std::marker::Model;
 
@@ -84,6 +84,12 @@ impl Buckets {
         ensures { result ≡ at self.now key }
     {
         find(&self.places, &self.overflow, self.are_packed, key)
+    }
+
+    /// Whether a look at the places of its bucket alone tells that an entry has the key. It says nothing of what is held:
+    /// whoever asks of several keys in turn waits once for the memory that their look-ups are going to read.
+    pub fn seems_held(&self, key: u64) -> bool {
+        seems_held(&self.places, key)
     }
 
     /// Puts an entry in, whose key no other has. It goes into a free place of its bucket, or into the overflow.

@@ -163,6 +163,18 @@ fn free_between(places: &[Place], start: usize, end: usize) -> Option<usize>
     None
 }
 
+/// Whether one place of its bucket seems to have the key. All of them are read, whatever they have, so that nothing is
+/// awaited before the places of another key can be asked for.
+pub fn seems_held(places: &[Place], key: u64) -> bool {
+    let start = bucket_of(places.len(), key);
+    let end = bucket_end(places.len(), start);
+    let mut any = false;
+    for place in start..end {
+        any |= places[place].has(key);
+    }
+    any
+}
+
 /// The value of the key, in a place or in the overflow.
 pub fn find(places: &[Place], overflow: &Overflow, are_packed: bool, key: u64) -> Option<usize>
     requires sound { AreSound places.now overflow.now.held }

@@ -89,6 +89,24 @@ impl Translations {
         self.map.inside_of(proto, outside)
     }
 
+    /// The outside endpoint that a new mapping of this inside endpoint most often has: its port at the external address.
+    pub fn likely_outside(&self, inside: Endpoint) -> Endpoint {
+        Endpoint {
+            addr: self.external,
+            port: inside.port,
+        }
+    }
+
+    /// Whether a first look tells that mappings of both endpoints are held. It says nothing of what is: whoever asks of
+    /// several in turn waits once for the memory that it takes to hold and to release them.
+    pub fn seems_mapped(&self, proto: Proto, inside: Endpoint, outside: Endpoint) -> bool {
+        self.map.seems_held(Pair {
+            proto,
+            inside,
+            outside,
+        })
+    }
+
     /// The first free endpoint of the external address for a port of 1 to 65,535, counted from the port on
     /// in its class and parity (RFC 4787, REQ-3a and REQ-4); none where all of these are taken. Any test
     /// that tells which ports are taken leads to the same.

@@ -26,6 +26,7 @@ ghost use Rattle.machine.specs.Flows.{IsLatest, IsReady};
 ghost use Rattle.machine.specs.declared.event.Answer.TheVariants.{Dropped, Forward};
 ghost use Rattle.machine.specs.declared.event.What.TheVariants.{Packet};
 
+use crate::ahead::is_wide;
 use crate::bytes::Bytes;
 use crate::deed::{Deed, judge, rules_of};
 use crate::event::{Answer, Event, NoMemory, What};
@@ -42,9 +43,6 @@ use sessions::{Coming, MOST_AHEAD, Session};
 use std::alloc::Global;
 use std::marker::Model;
 use verdict::Rules;
-
-// The slots whose sessions, with all that leads to them, are too many for near memory.
-const WIDE: usize = 4_096;
 
 /// The text that loaded last, and its rules.
 #[derive(Drop)]
@@ -599,11 +597,11 @@ impl Core {
 
     /// Whether so many sessions have been held at once that not all of them lie in near memory.
     pub fn is_wide(&self) -> bool {
-        self.flows.table().slots() >= WIDE
+        is_wide(self.flows.table())
     }
 
-    /// How many of these packets seem to be of sessions that are held. It says nothing of what is: whoever asks before
-    /// the packets come waits once for the memory that their steps are going to read.
+    /// How many of these packets seem to be of sessions that are held, or of mappings. It says nothing of what is: whoever
+    /// asks before the packets come waits once for the memory that their steps are going to read.
     pub fn look_ahead(&self, coming: &[Coming; MOST_AHEAD]) -> usize {
         self.flows.look_ahead(coming)
     }

@@ -19,6 +19,7 @@ ghost use Rattle.machine.specs.Noted.{AreOver, ends, noted, noted_all, sessions_
 ghost use Rattle.machine.specs.Notes.{bytes_of};
 ghost use Rattle.machine.specs.Flows.{IsDue, IsLatest, IsReady, MayJoin, adds as adds_by, adds_second};
 
+use crate::ahead::{count_ending, count_mapped};
 use crate::notes::{Notes, StepFault};
 use crate::noting::{entry_of, flow_of, makes_entry, note};
 use durable::Entry;
@@ -36,6 +37,9 @@ pub struct Flows {
     table: Table,
     due: Due,
     translations: Translations,
+    /// What the last look at sessions that were to end told. Nothing reads it: it is kept so that a compiler can't leave
+    /// the look out.
+    looked: usize,
 }
 
 impl Model for Flows {
@@ -63,6 +67,7 @@ impl Flows {
             table: Table::new(alloc),
             due: Due::new(alloc),
             translations,
+            looked: 0,
         })
     }
 
@@ -131,9 +136,18 @@ impl Flows {
         self.table.list(alloc)
     }
 
-    /// How many of these packets seem to be of sessions that are held. It says nothing of what is.
+    /// How many of these packets seem to be of sessions that are held, or of mappings. It says nothing of what is.
     pub fn look_ahead(&self, coming: &[Coming; MOST_AHEAD]) -> usize {
-        self.due.look_ahead(&self.table.look_ahead(coming))
+        let slots = self.table.look_ahead(coming);
+        let mapped = count_mapped(&self.table, &self.translations, coming, &slots);
+        self.due.look_ahead(&slots).saturating_add(mapped)
+    }
+
+    /// Looks at what the ends of the sessions of these slots are going to read.
+    fn look_over(&mut self, slots: &[Slot])
+        ensures { self.new ≡ self.old }
+    {
+        self.looked = count_ending(&self.table, &self.translations, slots);
     }
 
     /// Makes room for two more sessions.
@@ -509,6 +523,7 @@ impl Flows {
             return Err(StepFault::NoMemory);
         }
         notes.reserve(slots.len(), others)?;
+        self.look_over(&slots);
         self.end_all(&slots, notes);
         Ok(true)
     }

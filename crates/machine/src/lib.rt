@@ -6,6 +6,7 @@
 //! - `event`, `bytes`: what comes in, and what it is answered.
 //! - `flows`: the sessions with their timers and mappings, which change together. What a packet changes is
 //!   the plan of its leg (crate `hairpin`).
+//! - `ahead`: among many sessions, a look at what packets and ends of sessions are going to read.
 //! - `deed`: what an event does, once its text is read.
 //! - `core_state`: `Core`, which has all the state and takes a step for each event (`step`). A packet whose session
 //!   goes on it also takes where the packet lies, without an event of its own (`forward`).
@@ -14,6 +15,7 @@
 //! - `laws`: what holds of every step, and of every state that is reached.
 #![tactic(auto)]
 
+mod ahead;
 mod bytes;
 mod core_state;
 mod deed;

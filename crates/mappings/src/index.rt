@@ -30,6 +30,12 @@ fn key(proto: Proto, endpoint: Endpoint) -> u64
     u64::from(proto.number()) * 0x1_0000_0000_0000 + addr + u64::from(endpoint.port)
 }
 
+/// Whether a first look into each map tells that it leads from the pair's endpoint. Both are asked in any case.
+pub fn seems_held(index: &Index, pair: Pair) -> bool {
+    index.inside.seems_held(key(pair.proto, pair.inside))
+        & index.outside.seems_held(key(pair.proto, pair.outside))
+}
+
 /// The outside endpoint of the pair with this inside endpoint.
 pub fn find_outside(index: &Index, proto: Proto, inside: Endpoint) -> Option<Endpoint>
     requires { IsIndexed index.now }

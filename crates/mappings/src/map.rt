@@ -4,7 +4,7 @@ ghost use Rattle.packet.specs.declared.endpoint.Endpoint.{Endpoint as Place};
 ghost use Rattle.mappings.specs.declared.map.Pair.{Pair as Mapping};
 ghost use Rattle.mappings.specs.Map.{times, pair, KeepsOneToOne, IsOneToOne, Gains, SameTimes};
 
-use crate::index::{Index, add, find_inside, find_outside, reserve, take_one};
+use crate::index::{Index, add, find_inside, find_outside, reserve, seems_held, take_one};
 use buckets::Buckets;
 use packet::endpoint::{Endpoint, Proto};
 use slab::Slab;
@@ -89,6 +89,12 @@ impl Map {
         ensures absent { IfNone result ((inside : Place) → times self.now (pair proto inside outside) ≡ 0) }
     {
         find_inside(&self.index, proto, outside)
+    }
+
+    /// Whether a first look tells that pairs of both endpoints are held. It says nothing of what is: whoever asks of
+    /// several pairs in turn waits once for the memory that it takes to hold and to release them.
+    pub fn seems_held(&self, pair: Pair) -> bool {
+        seems_held(&self.index, pair)
     }
 
     /// Holds the pair once more, but no more often than a table holds sessions. It may share neither

@@ -19,9 +19,8 @@ const NO_SLOT: usize = usize::MAX;
 pub struct Coming {
     /// Its protocol.
     pub proto: Proto,
-    /// Its port on the side of the inside host: of a packet from lan that of its source, of another that of its
-    /// destination.
-    pub port: u16,
+    /// Its endpoint on the side of the inside host: of a packet from lan its source, of another its destination.
+    pub near: Endpoint,
     /// Its endpoint on the other side.
     pub remote: Endpoint,
 }

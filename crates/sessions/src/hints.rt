@@ -47,7 +47,7 @@ impl Hints {
     /// As `guess`, of several packets. All that tells their buckets is known before the first one is read, so that they
     /// are waited for together.
     pub fn guess_all(&self, coming: &[Coming; MOST_AHEAD]) -> [usize; MOST_AHEAD] {
-        let mixed = coming.map(|it| mix(it.proto, it.port, it.remote));
+        let mixed = coming.map(|it| mix(it.proto, it.near.port, it.remote));
         mixed.map(|it| self.guess_by(it))
     }
 

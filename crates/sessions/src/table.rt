@@ -187,6 +187,12 @@ impl Table {
         guess_all(&self.sessions, &self.index.hints, coming)
     }
 
+    /// Whether a first look tells that translated sessions of both endpoints are held. It says nothing of what is: whoever
+    /// asks of several in turn waits once for the memory that it takes to add and to end their sessions.
+    pub fn seems_mapped(&self, proto: Proto, inside: Endpoint, outside: Endpoint) -> bool {
+        self.index.translated.seems_mapped(proto, inside, outside)
+    }
+
     /// Whether the session clashes with one that is held: it shares protocol, remote endpoint and one more
     /// endpoint with it, or their translations aren't one to one. Takes no memory.
     pub fn clashes_with(&self, session: &Session) -> bool

@@ -97,6 +97,12 @@ impl Translated {
         self.firsts.get(mapping).copied()
     }
 
+    /// Whether a first look into each map tells that it leads from the endpoint on its side. Both are asked in any case.
+    pub fn seems_mapped(&self, proto: Proto, inside: Endpoint, outside: Endpoint) -> bool {
+        self.insides.seems_held(mapping_key(proto, inside))
+            & self.outsides.seems_held(mapping_key(proto, outside))
+    }
+
     /// Puts a translated session in, for which there is room: as the first of its mapping, where it has none yet.
     pub fn insert(&mut self, session: &Session, slot: usize)
         requires lacks { LacksMapping self.old session.now }

@@ -20,7 +20,7 @@ const WITH_PORTS: usize = 24;
 /// By what the session of no packet is looked for.
 const NOTHING: Coming = Coming {
     proto: Proto::Udp,
-    port: 0,
+    near: Endpoint { addr: 0, port: 0 },
     remote: Endpoint { addr: 0, port: 0 },
 };
 
@@ -29,7 +29,7 @@ const NOTHING: Coming = Coming {
 pub struct Ahead {
     /// Behind the next frame, for so many more there is no look ahead.
     frames: usize,
-    /// Whether a session of any of their packets seems to be held.
+    /// Whether a session of any of their packets seems to be held, or its mapping.
     known: bool,
 }
 
@@ -47,7 +47,7 @@ impl Ahead {
         }
     }
 
-    /// Whether a session of the next packets seems to be held.
+    /// Whether a session of the next packets seems to be held, or its mapping.
     pub fn is_known(self) -> bool {
         self.known
     }
@@ -123,25 +123,25 @@ fn coming_by(iface: Iface, packet: &[u8]) -> Coming {
     };
     let (src, dst) = (&packet[12..16], &packet[16..20]);
     let (src_port, dst_port) = (&packet[20..22], &packet[22..24]);
-    match iface {
-        Iface::Lan => of_bytes(proto, src_port, dst, dst_port),
-        Iface::Wan => of_bytes(proto, dst_port, src, src_port),
+    let (src, dst) = (endpoint_of(src, src_port), endpoint_of(dst, dst_port));
+    let (near, remote) = match iface {
+        Iface::Lan => (src, dst),
+        Iface::Wan => (dst, src),
+    };
+    Coming {
+        proto,
+        near,
+        remote,
     }
 }
 
-// The same, by the bytes of the port on the near side, and of the address and port on the other.
-fn of_bytes(proto: Proto, near_port: &[u8], addr: &[u8], port: &[u8]) -> Coming
-    requires near_port { length near_port.now ≡ 2 }
+fn endpoint_of(addr: &[u8], port: &[u8]) -> Endpoint
     requires addr { length addr.now ≡ 4 }
     requires port { length port.now ≡ 2 }
 {
-    Coming {
-        proto,
-        port: BigEndian::read_u16(near_port),
-        remote: Endpoint {
-            addr: BigEndian::read_u32(addr),
-            port: BigEndian::read_u16(port),
-        },
+    Endpoint {
+        addr: BigEndian::read_u32(addr),
+        port: BigEndian::read_u16(port),
     }
 }
 
@@ -149,6 +149,6 @@ fn of_bytes(proto: Proto, near_port: &[u8], addr: &[u8], port: &[u8]) -> Coming
 fn count_apart(coming: &[Coming]) -> usize {
     coming
         .windows(2)
-        .filter(|pair| pair[0].port != pair[1].port || pair[0].remote != pair[1].remote)
+        .filter(|pair| pair[0].near != pair[1].near || pair[0].remote != pair[1].remote)
         .count()
 }

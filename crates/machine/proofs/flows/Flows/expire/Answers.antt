@@ -2,6 +2,7 @@ use Rattle.std.proofs.Common.{◌≡◌, ◌<◌, ◌+◌, ◌*◌, ◌++◌, []
 use Rattle.std.proofs.lemmas.Grind.{common_steps}
 use Rattle.std.proofs.lemmas.Result.{err_from_is_err_and}
 use Rattle.durable.proofs.Errors.{same_error}
+use Rattle.machine.specs.Flows.{Flows}
 use Rattle.machine.specs.Noted.{ends, sessions_at}
 use Rattle.machine.proofs.Expiry.{expired, first_of}
 use Rattle.machine.proofs.Slots.{length-at, none-over, slots-over, some-at}
@@ -59,18 +60,18 @@ returns-in_err-reserve-clause-succeeds g c = λ none.
 pub returns-clause-ok : goal.returns-clause-ok
 returns-clause-ok g c =
     let held = c.args.self.now.table.held in
-    let same : c.reserve.new.self.table.held ≡ held = c.reserve.ensures.held in
+    let same : c.look_over.new.self.table.held ≡ held = ap (λ (flows : Flows). flows.table.held) c.look_over.ensures ∙ c.reserve.ensures.held in
     let items = c.in-Ok.slots.items in
-    let ended = rw c.deref.ensures.value at c.end_all.ensures.ended in
-    let others = rw (c.deref.ensures.value, same) at c.end_all.ensures.others in
+    let ended = rw c.deref-2.ensures.value at c.end_all.ensures.ended in
+    let others = rw (c.deref-2.ensures.value, same) at c.end_all.ensures.others in
     expired held c.end_all.new.self.table.held items c.args.now c.due.ensures.sound c.end_all.ensures.sound c.in-Ok.ensures.exactly ended others
 
 pub returns-clause-noted : goal.returns-clause-noted
 returns-clause-noted g c = λ keeps.
     let held = c.args.self.now.table.held in
-    let same : c.reserve.new.self.table.held ≡ held = c.reserve.ensures.held in
+    let same : c.look_over.new.self.table.held ≡ held = ap (λ (flows : Flows). flows.table.held) c.look_over.ensures ∙ c.reserve.ensures.held in
     let items = c.in-Ok.slots.items in
-    let noted = rw (c.deref.ensures.value, same) at c.end_all.ensures.noted in (
+    let noted = rw (c.deref-2.ensures.value, same) at c.end_all.ensures.noted in (
       sessions_at held items,
       slots-over held c.due.ensures.sound c.args.now items c.in-Ok.ensures.exactly c.in-Ok.ensures.once,
       noted (c.reserve-2.ensures.keeps.0 keeps) ∙ ap (λ es. es ++ ends (sessions_at held items)) c.reserve-2.ensures.noted,

@@ -1,0 +1,79 @@
+//! Looking ahead: the memory that packets and ends of sessions are going to read is asked for before, for several of them
+//! at once. Nothing rests on what is told here but time.
+use hairpin::translations::Translations;
+use packet::endpoint::{Endpoint, Proto};
+use sessions::{Coming, MOST_AHEAD, Session, Slot, Table};
+
+/// The slots whose sessions, with all that leads to them, are too many for near memory.
+pub const WIDE: usize = 4_096;
+
+/// For how many sessions that end it is looked ahead.
+const MOST_ENDING: usize = 128;
+
+/// Whether so many sessions have been held at once that not all of them lie in near memory.
+pub fn is_wide(table: &Table) -> bool {
+    table.slots() >= WIDE
+}
+
+/// How many of these packets seem to be of a mapping that is held, of those whose session's slot isn't told: such a
+/// packet may begin a session.
+pub fn count_mapped(
+    table: &Table,
+    translations: &Translations,
+    coming: &[Coming; MOST_AHEAD],
+    slots: &[usize; MOST_AHEAD],
+) -> usize {
+    let mut count: usize = 0;
+    for (it, slot) in coming.iter().zip(slots.iter()) {
+        if *slot >= table.slots() {
+            let outside = translations.likely_outside(it.near);
+            let is_mapped = are_mapped(table, translations, it.proto, it.near, outside);
+            count = count.saturating_add(usize::from(is_mapped));
+        }
+    }
+    count
+}
+
+/// How many of the sessions of these slots, which are going to end, seem to have their mappings still. All sessions are
+/// read before any of their mappings.
+pub fn count_ending(table: &Table, translations: &Translations, slots: &[Slot]) -> usize {
+    let slots = &slots[..slots.len().min(MOST_ENDING)];
+    if !is_wide(table) || count_held(table, slots) == 0 {
+        return 0;
+    }
+    let mut count: usize = 0;
+    for slot in slots {
+        if let Some(session) = table.get(*slot) {
+            count = count.saturating_add(usize::from(has_mapping(table, translations, &session)));
+        }
+    }
+    count
+}
+
+fn count_held(table: &Table, slots: &[Slot]) -> usize {
+    slots
+        .iter()
+        .filter(|slot| table.get(**slot).is_some())
+        .count()
+}
+
+fn has_mapping(table: &Table, translations: &Translations, session: &Session) -> bool {
+    are_mapped(
+        table,
+        translations,
+        session.proto,
+        session.inside,
+        session.outside,
+    )
+}
+
+// Whether sessions and mappings of both endpoints seem to be held. All maps are asked in any case.
+fn are_mapped(
+    table: &Table,
+    translations: &Translations,
+    proto: Proto,
+    inside: Endpoint,
+    outside: Endpoint,
+) -> bool {
+    table.seems_mapped(proto, inside, outside) & translations.seems_mapped(proto, inside, outside)
+}
