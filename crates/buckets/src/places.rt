@@ -14,6 +14,9 @@ use std::alloc::{AllocError, Global};
 // The places of a bucket.
 const WIDTH: usize = 8;
 
+// So many places behind the first one of a bucket another line of a cache begins, or has begun: a line has 64 bytes.
+const NEXT_LINE: usize = 5;
+
 // No vector has more buckets that are told apart: each is said by its part of a number of 24 bits, so that
 // none is said by a division by how many there are, which takes long.
 const MOST: usize = 1 << 24;
@@ -163,16 +166,18 @@ fn free_between(places: &[Place], start: usize, end: usize) -> Option<usize>
     None
 }
 
-/// Whether one place of its bucket seems to have the key. All of them are read, whatever they have, so that nothing is
-/// awaited before the places of another key can be asked for.
+/// Whether one of two places of its bucket has the key: the first one, and one behind it that lies in the next line of a
+/// cache. Both are read in any case, so that nothing is awaited before the places of another key are asked for.
 pub fn seems_held(places: &[Place], key: u64) -> bool {
     let start = bucket_of(places.len(), key);
-    let end = bucket_end(places.len(), start);
-    let mut any = false;
-    for place in start..end {
-        any |= places[place].has(key);
+    has_at(places, start, key) | has_at(places, start + NEXT_LINE, key)
+}
+
+fn has_at(places: &[Place], place: usize, key: u64) -> bool {
+    match places.get(place) {
+        Some(place) => place.has(key),
+        None => false,
     }
-    any
 }
 
 /// The value of the key, in a place or in the overflow.
