@@ -90,7 +90,9 @@ impl Translations {
     }
 
     /// The outside endpoint that a new mapping of this inside endpoint most often has: its port at the external address.
-    pub fn likely_outside(&self, inside: Endpoint) -> Endpoint {
+    pub fn likely_outside(&self, inside: Endpoint) -> Endpoint
+        ensures { result ≡ endpoint self.now.external inside.port }
+    {
         Endpoint {
             addr: self.external,
             port: inside.port,
