@@ -145,10 +145,14 @@ fn endpoint_of(addr: &[u8], port: &[u8]) -> Endpoint
     }
 }
 
-// How many of them are of another flow than the one before.
+// How many of them are of another flow than the one before. A flow whose mapping keeps the port has it on both sides.
 fn count_apart(coming: &[Coming]) -> usize {
     coming
         .windows(2)
-        .filter(|pair| pair[0].near != pair[1].near || pair[0].remote != pair[1].remote)
+        .filter(|pair| are_apart(pair[0], pair[1]))
         .count()
+}
+
+fn are_apart(one: Coming, other: Coming) -> bool {
+    one.near.port != other.near.port || one.remote != other.remote
 }
