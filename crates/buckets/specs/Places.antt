@@ -38,7 +38,8 @@ number key = spread key * 18446744073709551616 + key
 -- the entries of the overflow, which lie there by their numbers
 abbrev pub plain_in : List Entry → List Entry
 plain_in [] = []
-plain_in (entry ∷ entries) = record { key = entry.key % 18446744073709551616; value = entry.value } ∷ plain_in entries
+plain_in (entry ∷ entries) =
+    record { key = entry.key % 18446744073709551616; value = entry.value } ∷ plain_in entries
 
 -- what lies there is the number of a key
 abbrev pub AreNumbered : List Entry → Type 0
@@ -54,15 +55,18 @@ HasNowhere places key = (place : ℕ) (entry : Entry) → Stands places place en
 
 -- each entry stands in the bucket of its key
 abbrev pub AreHome : List (Option Entry) → Type 0
-AreHome places = (place : ℕ) (entry : Entry) → Stands places place entry → IsHome (length places) entry.key place
+AreHome places = (place : ℕ) (entry : Entry) → Stands places place entry
+    → IsHome (length places) entry.key place
 
 -- each key stands once
 abbrev pub AreApart : List (Option Entry) → Type 0
-AreApart places = (i j : ℕ) (e f : Entry) → Stands places i e → Stands places j f → e.key ≡ f.key → i ≡ j
+AreApart places = (i j : ℕ) (e f : Entry) → Stands places i e → Stands places j f
+    → e.key ≡ f.key → i ≡ j
 
 -- in each bucket, no entry stands behind a free place
 abbrev pub AreInFront : List (Option Entry) → Type 0
-AreInFront places = (i j : ℕ) → i < j → i / 8 ≡ j / 8 → slice_index_or places i None ≡ None → slice_index_or places j None ≡ None
+AreInFront places = (i j : ℕ) → i < j → i / 8 ≡ j / 8 → slice_index_or places i None ≡ None
+    → slice_index_or places j None ≡ None
 
 -- each entry stands in the bucket of its key, in front of the free places there, and each key once, whether in a
 -- place or in the overflow
@@ -70,7 +74,8 @@ pub record AreSound (places : List (Option Entry)) (overflow : List Entry) : Typ
   pub home : AreHome places
   pub front : AreInFront places
   pub apart : AreApart places
-  pub once : (place : ℕ) (entry : Entry) → Stands places place entry → value_at overflow entry.key ≡ None
+  pub once : (place : ℕ) (entry : Entry) → Stands places place entry
+      → value_at overflow entry.key ≡ None
 
 -- the place is free, and belongs to the bucket of the key
 pub record IsFreeFor (places : List (Option Entry)) (key place : ℕ) : Type 0 where
@@ -85,7 +90,8 @@ pub record IsNextFor (places : List (Option Entry)) (key place : ℕ) : Type 0 w
 
 -- the place has the key, or is free where no place has it
 abbrev pub EndsSearch : List (Option Entry) → ℕ → ℕ → Type 0
-EndsSearch places key place = HasKey places key place ⊎ (IsFreeFor places key place × HasNowhere places key)
+EndsSearch places key place = HasKey places key place
+    ⊎ (IsFreeFor places key place × HasNowhere places key)
 
 -- the place has the last entry in the bucket of the key
 pub record IsLast (places : List (Option Entry)) (key place : ℕ) : Type 0 where
@@ -96,22 +102,27 @@ pub record IsLast (places : List (Option Entry)) (key place : ℕ) : Type 0 wher
 
 -- no place is free for the key
 abbrev pub IsFull : List (Option Entry) → ℕ → Type 0
-IsFull places key = (place : ℕ) → place < length places → IsHome (length places) key place → slice_index_or places place None ≢ None
+IsFull places key = (place : ℕ) → place < length places → IsHome (length places) key place
+    → slice_index_or places place None ≢ None
 
 -- each entry of the overflow has a full bucket
 abbrev pub ArePacked : List (Option Entry) → List Entry → Type 0
-ArePacked places overflow = (key place : ℕ) → IsFreeFor places key place → value_at overflow key ≡ None
+ArePacked places overflow = (key place : ℕ) → IsFreeFor places key place
+    → value_at overflow key ≡ None
 
 -- they would be so if this place had an entry
 abbrev pub ArePackedBut : List (Option Entry) → List Entry → ℕ → Type 0
-ArePackedBut places overflow hole = (key place : ℕ) → place ≢ hole → IsFreeFor places key place → value_at overflow key ≡ None
+ArePackedBut places overflow hole = (key place : ℕ) → place ≢ hole → IsFreeFor places key place
+    → value_at overflow key ≡ None
 
 -- each entry of the overflow whose number is below this one has a full bucket
 abbrev pub ArePackedBelow : List (Option Entry) → List Entry → ℕ → Type 0
-ArePackedBelow places overflow from = (key place : ℕ) → number key < from → IsFreeFor places key place → value_at overflow key ≡ None
+ArePackedBelow places overflow from = (key place : ℕ) → number key < from
+    → IsFreeFor places key place → value_at overflow key ≡ None
 
 -- what a map of keys to slots keeps
-pub record AreKept (places : List (Option Entry)) (overflow : List Entry) (are_packed : Bool) : Type 0 where
+pub record AreKept (places : List (Option Entry)) (overflow : List Entry)
+    (are_packed : Bool) : Type 0 where
   pub sound : AreSound places overflow
   pub packed : OnTrue are_packed (ArePacked places overflow)
 
@@ -124,8 +135,10 @@ pub record IsFilled (old new : List (Option Entry)) (before after : List Entry) 
 pub record IsNext (overflow : List Entry) (from key : ℕ) : Type 0 where
   pub there : value_at overflow key ≢ None
   pub in_order : from ≤ number key
-  pub side : (other : ℕ) → value_at overflow other ≢ None → from ≤ number other → spread key ≤ spread other
-  pub least : (other : ℕ) → value_at overflow other ≢ None → from ≤ number other → other ≢ key → number key < number other
+  pub side : (other : ℕ) → value_at overflow other ≢ None → from ≤ number other
+      → spread key ≤ spread other
+  pub least : (other : ℕ) → value_at overflow other ≢ None → from ≤ number other → other ≢ key
+      → number key < number other
 
 -- the overflow has no number from this one on
 abbrev pub IsPast : List Entry → ℕ → Type 0
@@ -142,18 +155,23 @@ pub record IsClosed (old new : List (Option Entry)) (place last : ℕ) : Type 0 
   pub same_length : length new ≡ length old
   pub gone : slice_index_or new last None ≡ None
   pub moved : place ≢ last → slice_index_or new place None ≡ slice_index_or old last None
-  pub others : (k : ℕ) → k ≢ place → k ≢ last → slice_index_or new k None ≡ slice_index_or old k None
+  pub others : (k : ℕ) → k ≢ place → k ≢ last
+      → slice_index_or new k None ≡ slice_index_or old k None
 
 -- the entry of a place, if it has one, stands now in the first free place of its bucket
 abbrev pub IsCopied : Option Entry → List (Option Entry) → List (Option Entry) → Type 0
 IsCopied None old new = new ≡ old
-IsCopied (Some entry) old new = (place : ℕ) × IsNextFor old entry.key place × IsSetTo old new place (Some entry)
+IsCopied (Some entry) old new = (place : ℕ) × IsNextFor old entry.key place
+    × IsSetTo old new place (Some entry)
 
 -- the entries of so many of the old places stand in the new ones, each in its bucket, and no others
-pub record IsMoved (old : List (Option Entry)) (count : ℕ) (new : List (Option Entry)) : Type 0 where
+pub record IsMoved (old : List (Option Entry)) (count : ℕ)
+    (new : List (Option Entry)) : Type 0 where
   pub sound : AreSound new []
-  pub to : (place : ℕ) (entry : Entry) → place < count → Stands old place entry → (k : ℕ) × Stands new k entry
-  pub from : (place : ℕ) (entry : Entry) → Stands new place entry → (k : ℕ) × (k < count) × Stands old k entry
+  pub to : (place : ℕ) (entry : Entry) → place < count → Stands old place entry
+      → (k : ℕ) × Stands new k entry
+  pub from : (place : ℕ) (entry : Entry) → Stands new place entry
+      → (k : ℕ) × (k < count) × Stands old k entry
 
 -- the same entries stand in the new places, each in its bucket
 abbrev pub HaveSame : List (Option Entry) → List (Option Entry) → Type 0

@@ -126,7 +126,8 @@ impl Buckets {
     pub fn get_or_insert(&mut self, key: u64, value: usize) -> Result<Option<usize>, AllocError>
         ensures found { IfOk result (λ found. found ≡ at self.old key) }
         ensures kept { IfOk result (λ found. IsSome found → self.new ≡ self.old) }
-        ensures put { IfOk result (λ found. found ≡ None → Puts self.old.held self.new.held key (Some value)) }
+        ensures put { IfOk result (λ found. found ≡ None
+            → Puts self.old.held self.new.held key (Some value)) }
         ensures err { OnErr result (KeepsAll self.old self.new) }
         ensures succeeds { 0 < self.old.room → IsOk result }
         ensures room_ok { OnOk result (self.old.room ≤ self.new.room + 1) }

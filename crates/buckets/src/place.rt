@@ -27,7 +27,10 @@ impl Model for Place {
 
     ghost Value = { Option KeyValue };
 
-    ghost view = { λ p. cond (eqb p.value 4294967295) None (Some (record { key = p.high * 4294967296 + p.low; value = p.value })) };
+    ghost view = { λ p. cond (eqb p.value 4294967295) None (Some (record {
+      key = p.high * 4294967296 + p.low;
+      value = p.value;
+    })) };
 }
 
 impl Place {
@@ -44,7 +47,10 @@ impl Place {
 
     /// A place with this entry, unless its value is too great for one.
     pub fn of(key: u64, value: usize) -> Option<Place>
-        ensures filled { IfSome result (λ place. place ≡ Some (record { key = key; value = value })) }
+        ensures filled { IfSome result (λ place. place ≡ Some (record {
+          key = key;
+          value = value;
+        })) }
         ensures great { IfNone result (4294967295 ≤ value) }
     {
         if value >= NOTHING as usize {

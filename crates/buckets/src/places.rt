@@ -89,7 +89,8 @@ fn search(places: &[Place], key: u64) -> Option<usize>
     requires home { AreHome places.now }
     requires front { AreInFront places.now }
     ensures ends { IfSome result (EndsSearch places.now key) }
-    ensures next { IfSome result (λ place. slice_index_or places.now place None ≡ None → IsNextFor places.now key place) }
+    ensures next { IfSome result (λ place. slice_index_or places.now place None ≡ None
+        → IsNextFor places.now key place) }
     ensures absent { IfNone result (HasNowhere places.now key) }
 {
     let start = bucket_of(places.len(), key);
@@ -101,12 +102,16 @@ fn search(places: &[Place], key: u64) -> Option<usize>
 // The first place of these that has the key or is free.
 fn search_between(places: &[Place], start: usize, end: usize, key: u64) -> Option<usize>
     requires { end ≤ length places.now }
-    ensures ends { IfSome result (λ place. HasKey places.now key place ⊎ (slice_index_or places.now place None ≡ None)) }
+    ensures ends { IfSome result (λ place. HasKey places.now key place
+        ⊎ (slice_index_or places.now place None ≡ None)) }
     ensures from { IfSome result (λ place. start ≤ place) }
     ensures to { IfSome result (λ place. place < end) }
-    ensures before { IfSome result (λ stop. (place : ℕ) (entry : KeyValue) → start ≤ place → place < stop → Stands places.now place entry → entry.key ≢ key) }
-    ensures filled { IfSome result (λ stop. (place : ℕ) → start ≤ place → place < stop → slice_index_or places.now place None ≢ None) }
-    ensures absent { IfNone result ((place : ℕ) (entry : KeyValue) → start ≤ place → place < end → Stands places.now place entry → entry.key ≢ key) }
+    ensures before { IfSome result (λ stop. (place : ℕ) (entry : KeyValue) → start ≤ place
+        → place < stop → Stands places.now place entry → entry.key ≢ key) }
+    ensures filled { IfSome result (λ stop. (place : ℕ) → start ≤ place → place < stop
+        → slice_index_or places.now place None ≢ None) }
+    ensures absent { IfNone result ((place : ℕ) (entry : KeyValue) → start ≤ place → place < end
+        → Stands places.now place entry → entry.key ≢ key) }
 {
     let mut place = start;
     while place < end {
@@ -153,8 +158,10 @@ fn free_between(places: &[Place], start: usize, end: usize) -> Option<usize>
     ensures free { IfSome result (λ place. slice_index_or places.now place None ≡ None) }
     ensures from { IfSome result (λ place. start ≤ place) }
     ensures to { IfSome result (λ place. place < end) }
-    ensures first { IfSome result (λ free. (place : ℕ) → start ≤ place → place < free → slice_index_or places.now place None ≢ None) }
-    ensures none { IfNone result ((place : ℕ) → start ≤ place → place < end → slice_index_or places.now place None ≢ None) }
+    ensures first { IfSome result (λ free. (place : ℕ) → start ≤ place → place < free
+        → slice_index_or places.now place None ≢ None) }
+    ensures none { IfNone result ((place : ℕ) → start ≤ place → place < end
+        → slice_index_or places.now place None ≢ None) }
 {
     let mut place = start;
     while place < end {
@@ -211,8 +218,10 @@ pub fn add(
     requires absent { value_at (all_in places.old overflow.old.held) key ≡ None }
     ensures sound { AreSound places.new overflow.new.held }
     ensures packed { OnTrue are_packed.new (ArePacked places.new overflow.new.held) }
-    ensures ok { OnOk result (Puts (all_in places.old overflow.old.held) (all_in places.new overflow.new.held) key (Some value)) }
-    ensures err { OnErr result (all_in places.new overflow.new.held ≡ all_in places.old overflow.old.held) }
+    ensures ok { OnOk result (Puts (all_in places.old overflow.old.held)
+        (all_in places.new overflow.new.held) key (Some value)) }
+    ensures err { OnErr result (all_in places.new overflow.new.held
+        ≡ all_in places.old overflow.old.held) }
     ensures succeeds { 0 < overflow.old.room → IsOk result }
     ensures room_ok { OnOk result (overflow.old.room ≤ overflow.new.room + 1) }
     ensures room_err { OnErr result (overflow.old.room ≤ overflow.new.room) }
@@ -236,10 +245,15 @@ pub fn find_or_add(
     requires packed { OnTrue are_packed.old (ArePacked places.old overflow.old.held) }
     ensures sound { AreSound places.new overflow.new.held }
     ensures packed { OnTrue are_packed.new (ArePacked places.new overflow.new.held) }
-    ensures found { IfOk result (λ found. found ≡ value_at (all_in places.old overflow.old.held) key) }
-    ensures kept { IfOk result (λ found. IsSome found → (places.new ≡ places.old) × (overflow.new ≡ overflow.old)) }
-    ensures put { IfOk result (λ found. found ≡ None → Puts (all_in places.old overflow.old.held) (all_in places.new overflow.new.held) key (Some value)) }
-    ensures err { OnErr result (all_in places.new overflow.new.held ≡ all_in places.old overflow.old.held) }
+    ensures found { IfOk result (λ found. found
+        ≡ value_at (all_in places.old overflow.old.held) key) }
+    ensures kept { IfOk result (λ found. IsSome found → (places.new ≡ places.old)
+        × (overflow.new ≡ overflow.old)) }
+    ensures put { IfOk result (λ found. found ≡ None
+        → Puts (all_in places.old overflow.old.held) (all_in places.new overflow.new.held) key
+        (Some value)) }
+    ensures err { OnErr result (all_in places.new overflow.new.held
+        ≡ all_in places.old overflow.old.held) }
     ensures succeeds { 0 < overflow.old.room → IsOk result }
     ensures room_ok { OnOk result (overflow.old.room ≤ overflow.new.room + 1) }
     ensures room_err { OnErr result (overflow.old.room ≤ overflow.new.room) }
@@ -270,10 +284,15 @@ fn find_then_add(
     requires packed { OnTrue are_packed.old (ArePacked places.old overflow.old.held) }
     ensures sound { AreSound places.new overflow.new.held }
     ensures packed { OnTrue are_packed.new (ArePacked places.new overflow.new.held) }
-    ensures found { IfOk result (λ found. found ≡ value_at (all_in places.old overflow.old.held) key) }
-    ensures kept { IfOk result (λ found. IsSome found → (places.new ≡ places.old) × (overflow.new ≡ overflow.old)) }
-    ensures put { IfOk result (λ found. found ≡ None → Puts (all_in places.old overflow.old.held) (all_in places.new overflow.new.held) key (Some value)) }
-    ensures err { OnErr result (all_in places.new overflow.new.held ≡ all_in places.old overflow.old.held) }
+    ensures found { IfOk result (λ found. found
+        ≡ value_at (all_in places.old overflow.old.held) key) }
+    ensures kept { IfOk result (λ found. IsSome found → (places.new ≡ places.old)
+        × (overflow.new ≡ overflow.old)) }
+    ensures put { IfOk result (λ found. found ≡ None
+        → Puts (all_in places.old overflow.old.held) (all_in places.new overflow.new.held) key
+        (Some value)) }
+    ensures err { OnErr result (all_in places.new overflow.new.held
+        ≡ all_in places.old overflow.old.held) }
     ensures succeeds { 0 < overflow.old.room → IsOk result }
     ensures room_ok { OnOk result (overflow.old.room ≤ overflow.new.room + 1) }
     ensures room_err { OnErr result (overflow.old.room ≤ overflow.new.room) }
@@ -308,7 +327,8 @@ fn are_packed_with(are_packed: bool, value: usize) -> bool
 
 // Puts an entry into the first free place of its bucket. Whether there was one, and the value small enough for it.
 fn put_in_place(places: &mut [Place], key: u64, value: usize) -> bool
-    ensures put { OnTrue result ((place : ℕ) × IsNextFor places.old key place × IsSetTo places.old places.new place (Some (record { key = key; value = value }))) }
+    ensures put { OnTrue result ((place : ℕ) × IsNextFor places.old key place
+        × IsSetTo places.old places.new place (Some (record { key = key; value = value }))) }
     ensures kept { OnFalse result (places.new ≡ places.old) }
     ensures full { OnFalse result (value < 4294967295 → IsFull places.old key) }
 {
@@ -334,7 +354,8 @@ pub fn take_out(
     ensures sound { AreSound places.new overflow.new.held }
     ensures packed { OnTrue are_packed.new (ArePacked places.new overflow.new.held) }
     ensures value { result ≡ value_at (all_in places.old overflow.old.held) key }
-    ensures gone { Puts (all_in places.old overflow.old.held) (all_in places.new overflow.new.held) key None }
+    ensures gone { Puts (all_in places.old overflow.old.held)
+        (all_in places.new overflow.new.held) key None }
     ensures room { overflow.old.room ≤ overflow.new.room }
 {
     match locate(places, key) {
@@ -358,7 +379,8 @@ fn take_place(
     ensures sound { AreSound places.new overflow.new.held }
     ensures packed { OnTrue are_packed.new (ArePacked places.new overflow.new.held) }
     ensures value { result ≡ value_at (all_in places.old overflow.old.held) key }
-    ensures gone { Puts (all_in places.old overflow.old.held) (all_in places.new overflow.new.held) key None }
+    ensures gone { Puts (all_in places.old overflow.old.held)
+        (all_in places.new overflow.new.held) key None }
     ensures room { overflow.old.room ≤ overflow.new.room }
 {
     match vacant_behind(places, place, key) {
@@ -377,7 +399,8 @@ fn take_place(
 fn close(places: &mut [Place], place: usize, last: usize) -> Option<usize>
     requires place { place < length places.old }
     requires last { last < length places.old }
-    ensures value { result ≡ option_map (λ entry. entry.value) (slice_index_or places.old place None) }
+    ensures value { result ≡ option_map (λ entry. entry.value)
+        (slice_index_or places.old place None) }
     ensures closed { IsClosed places.old places.new place last }
 {
     let value = places[place].value();
@@ -400,7 +423,8 @@ fn refill(
     requires free { IsNextFor places.old key hole }
     ensures sound { AreSound places.new overflow.new.held }
     ensures packed { OnTrue result (ArePacked places.new overflow.new.held) }
-    ensures same { (other : ℕ) → value_at (all_in places.new overflow.new.held) other ≡ value_at (all_in places.old overflow.old.held) other }
+    ensures same { (other : ℕ) → value_at (all_in places.new overflow.new.held) other
+        ≡ value_at (all_in places.old overflow.old.held) other }
     ensures room { overflow.old.room ≤ overflow.new.room }
 {
     if !are_packed {
@@ -430,7 +454,8 @@ pub fn grow(
     requires packed { OnTrue are_packed (ArePacked places.old.items overflow.old.held) }
     ensures sound { AreSound places.new.items overflow.new.held }
     ensures packed { OnTrue result (ArePacked places.new.items overflow.new.held) }
-    ensures same { (key : ℕ) → value_at (all_in places.new.items overflow.new.held) key ≡ value_at (all_in places.old.items overflow.old.held) key }
+    ensures same { (key : ℕ) → value_at (all_in places.new.items overflow.new.held) key
+        ≡ value_at (all_in places.old.items overflow.old.held) key }
     ensures room { overflow.old.room ≤ overflow.new.room }
 {
     let Some(fresh) = moved(alloc, places) else {
@@ -500,7 +525,8 @@ fn lift_each(places: &mut [Place], overflow: &mut Overflow) -> bool
     requires { AreSound places.old overflow.old.held }
     ensures sound { AreSound places.new overflow.new.held }
     ensures packed { OnTrue result (ArePacked places.new overflow.new.held) }
-    ensures same { (key : ℕ) → value_at (all_in places.new overflow.new.held) key ≡ value_at (all_in places.old overflow.old.held) key }
+    ensures same { (key : ℕ) → value_at (all_in places.new overflow.new.held) key
+        ≡ value_at (all_in places.old overflow.old.held) key }
     ensures room { overflow.old.room ≤ overflow.new.room }
 {
     let mut from = 0;
@@ -521,9 +547,11 @@ fn lift_each(places: &mut [Place], overflow: &mut Overflow) -> bool
 fn lift(places: &mut [Place], overflow: &mut Overflow, key: u64) -> bool
     requires { AreSound places.old overflow.old.held }
     ensures sound { AreSound places.new overflow.new.held }
-    ensures same { (other : ℕ) → value_at (all_in places.new overflow.new.held) other ≡ value_at (all_in places.old overflow.old.held) other }
+    ensures same { (other : ℕ) → value_at (all_in places.new overflow.new.held) other
+        ≡ value_at (all_in places.old overflow.old.held) other }
     ensures filled { IsFilled places.old places.new overflow.old.held overflow.new.held }
-    ensures settled { OnTrue result ((place : ℕ) → IsFreeFor places.new key place → value_at overflow.new.held key ≡ None) }
+    ensures settled { OnTrue result ((place : ℕ) → IsFreeFor places.new key place
+        → value_at overflow.new.held key ≡ None) }
     ensures room { overflow.old.room ≤ overflow.new.room }
 {
     let Some(free) = vacant(places, key) else {
@@ -537,7 +565,8 @@ fn lift_to(places: &mut [Place], overflow: &mut Overflow, place: usize, key: u64
     requires sound { AreSound places.old overflow.old.held }
     requires free { IsNextFor places.old key place }
     ensures sound { AreSound places.new overflow.new.held }
-    ensures same { (other : ℕ) → value_at (all_in places.new overflow.new.held) other ≡ value_at (all_in places.old overflow.old.held) other }
+    ensures same { (other : ℕ) → value_at (all_in places.new overflow.new.held) other
+        ≡ value_at (all_in places.old overflow.old.held) other }
     ensures filled { IsFilled places.old places.new overflow.old.held overflow.new.held }
     ensures taken { OnTrue result (slice_index_or places.new place None ≢ None) }
     ensures gone { OnTrue result (value_at overflow.new.held key ≡ None) }

@@ -33,5 +33,6 @@ abbrev pub IsNoConfig : List ℕ → List ℕ → List ℕ → List ℕ → Type
 IsNoConfig lan wan inside external =
     ((prefixes : List Prefix) → ¬ SpellsPrefixes inside prefixes)
     ⊎ ((addr : ℕ) → ¬ SpellsAddress external addr)
-    ⊎ ((prefixes : List Prefix) × (addr : ℕ) × SpellsPrefixes inside prefixes × SpellsAddress external addr
+    ⊎ ((prefixes : List Prefix) × (addr : ℕ) × SpellsPrefixes inside prefixes
+    × SpellsAddress external addr
     × IsFalse (is_config (config_of lan wan prefixes addr)))

@@ -135,4 +135,5 @@ IsOfStream r = (fault : EdgeFault) × (r ≡ edge_refusal fault)
 
 -- what may end the serving of clients: the socket, the gateway, or that a client's word can't be told
 abbrev pub IsOfServing : Refusal → Type 0
-IsOfServing r = IsOfPath r ⊎ (r ≡ refusal.Output) ⊎ ((fault : GatewayFault) × (r ≡ gateway_refusal fault))
+IsOfServing r = IsOfPath r ⊎ (r ≡ refusal.Output)
+    ⊎ ((fault : GatewayFault) × (r ≡ gateway_refusal fault))

@@ -21,9 +21,11 @@ pub(crate) fn answer_all<R: Read, W: Write, D: Disk + Drop>(
     writer: &mut W,
     gateway: &mut Gateway<D>,
 ) -> Result<u64, EdgeFault>
-    ensures ran { (given written : List ℕ) × Consumes (R.remaining reader.old) (R.remaining reader.new) given
+    ensures ran { (given written : List ℕ)
+        × Consumes (R.remaining reader.old) (R.remaining reader.new) given
         × Appends (W.contents writer.old) (W.contents writer.new) written
-        × Ran result gateway.old.told gateway.new.told given written (IsAtEnd (R.remaining reader.new)) }
+        × Ran result gateway.old.told gateway.new.told given written
+        (IsAtEnd (R.remaining reader.new)) }
 {
     socket_edge::run(alloc, reader, writer, gateway)
 }
@@ -43,7 +45,8 @@ pub fn replay<R: Read, W: Write, D: Disk + Drop>(
     ensures ran { (ended : Result ℕ Fault) × IsToldAs ended result × (given written : List ℕ)
         × Consumes (R.remaining reader.old) (R.remaining reader.new) given
         × Appends (W.contents writer.old) (W.contents writer.new) written
-        × Ran ended gateway.old.told gateway.new.told given written (IsAtEnd (R.remaining reader.new)) }
+        × Ran ended gateway.old.told gateway.new.told given written
+        (IsAtEnd (R.remaining reader.new)) }
     ensures causes { IfErr result IsOfStream }
 {
     match answer_all(alloc, reader, writer, gateway) {
@@ -60,10 +63,13 @@ pub fn replay<R: Read, W: Write, D: Disk + Drop>(
 /// The refusal for a fault of the gateway; `Output` where the word can't be told.
 pub fn settle<W: Write>(ended: Result<u64, EdgeFault>, errors: &mut W) -> Result<(), Refusal>
     ensures well { IsOk ended → IsOk result × (errors.new ≡ errors.old) }
-    ensures ends { IfErr ended (λ fault. IsOfGateway fault → (result ≡ Err (edge_refusal fault)) × (errors.new ≡ errors.old)) }
+    ensures ends { IfErr ended (λ fault. IsOfGateway fault
+        → (result ≡ Err (edge_refusal fault)) × (errors.new ≡ errors.old)) }
     ensures goes_on { IfErr ended (λ fault. ¬ IsOfGateway fault
-        → OnOk result (Appends (W.contents errors.old) (W.contents errors.new) (first_line (edge_refusal fault)))) }
-    ensures only_output { IfErr ended (λ fault. ¬ IsOfGateway fault → IfErr result (λ refusal. refusal ≡ Output)) }
+        → OnOk result (Appends (W.contents errors.old) (W.contents errors.new)
+        (first_line (edge_refusal fault)))) }
+    ensures only_output { IfErr ended (λ fault. ¬ IsOfGateway fault
+        → IfErr result (λ refusal. refusal ≡ Output)) }
 {
     let fault = match ended {
         Ok(_) => return Ok(()),

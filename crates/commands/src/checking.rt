@@ -51,7 +51,8 @@ pub fn report(
 ) -> Result<Finding, Refusal>
     ensures ok { IfOk result (λ found. IsVerdict bounds.now text.now found.loads found.line.items) }
     ensures marks { IfOk result (λ found. explains ≡ false → found.marks.items ≡ []) }
-    ensures shown { IfOk result (λ found. explains ≡ true → IsShown text.now found.loads found.marks.items) }
+    ensures shown { IfOk result (λ found. explains ≡ true
+        → IsShown text.now found.loads found.marks.items) }
     ensures causes { IfErr result (λ refusal. refusal ≡ NoMemory) }
 {
     let fault = match read(alloc, text, bounds) {
@@ -96,10 +97,12 @@ pub fn check<W: Write, E: Write>(
     ensures ok { IfOk result (λ loads. (line : List ℕ) × IsVerdict bounds.now text.now loads line
         × Appends (W.contents output.old) (W.contents output.new) line) }
     ensures quiet { explains ≡ false → errors.new ≡ errors.old }
-    ensures shown { IfOk result (λ loads. explains ≡ true → (marks : List ℕ) × IsShown text.now loads marks
+    ensures shown { IfOk result (λ loads. explains ≡ true
+        → (marks : List ℕ) × IsShown text.now loads marks
         × Appends (E.contents errors.old) (E.contents errors.new) marks) }
     ensures causes { IfErr result IsOfPrinting }
-    ensures memory { IfErr result (λ refusal. refusal ≡ NoMemory → (output.new ≡ output.old) × (errors.new ≡ errors.old)) }
+    ensures memory { IfErr result (λ refusal. refusal ≡ NoMemory
+        → (output.new ≡ output.old) × (errors.new ≡ errors.old)) }
 {
     let finding = report(alloc, text, bounds, explains)?;
     if output.write_all(finding.line.as_slice()).is_err() {

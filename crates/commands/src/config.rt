@@ -74,7 +74,8 @@ fn prefix_of(alloc: Global, text: &str) -> Result<Prefix, Stop>
 /// `Config` where one of them is no prefix; `NoMemory` where memory is refused.
 pub fn prefixes(alloc: Global, list: &str) -> Result<Vec<Prefix>, Stop>
     ensures ok { IfOk result (λ found. SpellsPrefixes list.now found.items) }
-    ensures none { IfErr result (λ stop. stop.refusal ≡ Config → (prefixes : List Prefix) → ¬ SpellsPrefixes list.now prefixes) }
+    ensures none { IfErr result (λ stop. stop.refusal ≡ Config → (prefixes : List Prefix)
+        → ¬ SpellsPrefixes list.now prefixes) }
     ensures causes { IfErr result (λ stop. (stop.refusal ≡ Config) ⊎ (stop.refusal ≡ NoMemory)) }
 {
     let mut found = Vec::new(alloc);
@@ -119,11 +120,14 @@ fn options_of(fault: ConfigFault) -> &'static str {
 /// where memory is refused.
 #[tactic(auto, unfolding(packet::specs::Config::config_of))]
 pub fn bounds(alloc: Global, sides: &Sides<'_>) -> Result<Bounds, Stop>
-    ensures names { IfOk result (λ bounds. (bounds.lan ≡ sides.now.lan.now) × (bounds.wan ≡ sides.now.wan.now)) }
+    ensures names { IfOk result (λ bounds. (bounds.lan ≡ sides.now.lan.now)
+        × (bounds.wan ≡ sides.now.wan.now)) }
     ensures inside { IfOk result (λ bounds. SpellsPrefixes sides.now.inside.now bounds.inside) }
-    ensures external { IfOk result (λ bounds. SpellsAddress sides.now.external.now bounds.external) }
+    ensures external { IfOk result (λ bounds. SpellsAddress sides.now.external.now
+        bounds.external) }
     ensures config { IfErr result (λ stop. stop.refusal ≡ Config
-        → IsNoConfig sides.now.lan.now sides.now.wan.now sides.now.inside.now sides.now.external.now) }
+        → IsNoConfig sides.now.lan.now sides.now.wan.now sides.now.inside.now
+        sides.now.external.now) }
     ensures causes { IfErr result (λ stop. (stop.refusal ≡ Config) ⊎ (stop.refusal ≡ NoMemory)) }
 {
     let inside = prefixes(alloc, sides.inside)?;

@@ -104,7 +104,8 @@ pub fn serve_clients<W: Write, D: Disk + Drop>(
     errors: &mut W,
     gateway: &mut Gateway<D>,
 ) -> Result<(), Stop>
-    ensures none { connections ≡ 0 → IsOk result × (gateway.new ≡ gateway.old) × (errors.new ≡ errors.old) }
+    ensures none { connections ≡ 0 → IsOk result × (gateway.new ≡ gateway.old)
+        × (errors.new ≡ errors.old) }
     ensures stands { OnOk result (gateway.old.fallen ≡ false → gateway.new.fallen ≡ false) }
     ensures causes { IfErr result (λ stop. IsOfServing stop.refusal) }
 {

@@ -163,7 +163,8 @@ fn general(refusal: Refusal) -> &'static str
 ///
 /// That of the writer. A part may have been written then.
 pub(crate) fn tell_word<W: Write>(writer: &mut W, refusal: Refusal) -> io::Result<()>
-    ensures { OnOk result (Appends (W.contents writer.old) (W.contents writer.new) (first_line refusal)) }
+    ensures { OnOk result (Appends (W.contents writer.old) (W.contents writer.new)
+        (first_line refusal)) }
 {
     writer.write_all(b"natgw: ")?;
     writer.write_all(refusal.word().as_bytes())?;
@@ -188,7 +189,8 @@ fn tell_lines<W: Write>(writer: &mut W, refusal: Refusal, advice: &str) -> io::R
 pub fn tell<W: Write>(writer: &mut W, stop: &Stop) -> io::Result<()>
     ensures says { OnOk result (Appends (W.contents writer.old) (W.contents writer.new)
         (first_line stop.now.refusal ++ second_line stop.now ++ codes "\n")) }
-    ensures two { OnOk result ((advice : List ℕ) × IsTrue (is_one_line advice) × Appends (W.contents writer.old) (W.contents writer.new)
+    ensures two { OnOk result ((advice : List ℕ) × IsTrue (is_one_line advice)
+        × Appends (W.contents writer.old) (W.contents writer.new)
         (first_line stop.now.refusal ++ advice ++ codes "\n")) }
 {
     tell_lines(writer, stop.refusal, stop.second_line())

@@ -21,7 +21,8 @@ HasFault reading = (fault : Fault) × (reading ≡ Faulty fault)
 
 -- both files are whole, and have one generation
 abbrev pub AreTwins : Reading → Reading → Type 0
-AreTwins a b = (held : Held) × (other : Held) × (a ≡ Whole held) × (b ≡ Whole other) × (held.generation ≡ other.generation)
+AreTwins a b = (held : Held) × (other : Held) × (a ≡ Whole held) × (b ≡ Whole other)
+    × (held.generation ≡ other.generation)
 
 -- The files stand for no state; each is as it is told; and that one of them has a fault, or that both have one
 -- generation, is why.

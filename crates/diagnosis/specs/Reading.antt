@@ -25,17 +25,21 @@ Begins h = IsDurable h.config (begun h.kept)
 -- Why a file holds no state.
 abbrev pub IsFaulty : List ℕ → Fault → Type 0
 IsFaulty file Foreign = IsOpen file × ¬ IsMarked file
-IsFaulty file Front = IsOpen file × IsMarked file × ((h : Heading) → IsHeaded file h → h.generation ≡ greatest)
+IsFaulty file Front = IsOpen file × IsMarked file
+    × ((h : Heading) → IsHeaded file h → h.generation ≡ greatest)
 IsFaulty file Snapshot = (h : Heading) × IsHeaded file h × ¬ Begins h
-IsFaulty file Changes = (h : Heading) × IsHeaded file h × Begins h × ((d : Durable) (end : ℕ) → ¬ Holds file h d end)
+IsFaulty file Changes = (h : Heading) × IsHeaded file h × Begins h
+    × ((d : Durable) (end : ℕ) → ¬ Holds file h d end)
 
 -- what is said of a state that a file holds, to one with this configuration
 abbrev pub IsHeld : Config → List ℕ → Held → Type 0
 IsHeld config file held = (h : Heading) × (d : Durable) × (end : ℕ) × Holds file h d end
-    × (held.generation ≡ h.generation) × (held.sessions ≡ length d.sessions) × (IsTrue held.is_configured ↔ (h.config ≡ config))
+    × (held.generation ≡ h.generation) × (held.sessions ≡ length d.sessions)
+    × (IsTrue held.is_configured ↔ (h.config ≡ config))
 
 abbrev pub IsRead : Config → List ℕ → Reading → Type 0
 IsRead config file Empty = file ≡ []
 IsRead config file Closed = (file ≢ []) × ¬ IsOpen file
-IsRead config file (Faulty fault) = IsFaulty file fault × ((h : Heading) (d : Durable) (end : ℕ) → ¬ Holds file h d end)
+IsRead config file (Faulty fault) = IsFaulty file fault
+    × ((h : Heading) (d : Durable) (end : ℕ) → ¬ Holds file h d end)
 IsRead config file (Whole held) = IsHeld config file held

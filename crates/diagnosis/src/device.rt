@@ -53,7 +53,8 @@ fn contents<D: Disk>(alloc: Global, disk: &mut D, file: FileId) -> Result<Vec<u8
     ensures looks { D.honest disk.old → Looks D.moment D.left D.seen disk.old disk.new }
     ensures failures { D.failed disk.old ≤ D.failed disk.new }
     ensures no_failure { OnOk result (D.failed disk.new ≡ D.failed disk.old) }
-    ensures device { IsErrOf result DeviceFault.Device → Grew (D.failed disk.old) (D.failed disk.new) }
+    ensures device { IsErrOf result DeviceFault.Device
+        → Grew (D.failed disk.old) (D.failed disk.new) }
 {
     let len = disk.len(file)?;
     let mut bytes = vec![in alloc; 0; len as usize]?;
@@ -73,11 +74,13 @@ pub fn diagnose<'a, D: Disk>(
     bounds: &'a Bounds,
 ) -> Result<Finding<'a>, DeviceFault>
     ensures honest { D.honest disk.old ↔ D.honest disk.new }
-    ensures ok { D.honest disk.old → IfOk result (IsFinding bounds.now (pair (D.seen disk.old A) (D.seen disk.old B))) }
+    ensures ok { D.honest disk.old
+        → IfOk result (IsFinding bounds.now (pair (D.seen disk.old A) (D.seen disk.old B))) }
     ensures looks { D.honest disk.old → Looks D.moment D.left D.seen disk.old disk.new }
     ensures failures { D.failed disk.old ≤ D.failed disk.new }
     ensures no_failure { OnOk result (D.failed disk.new ≡ D.failed disk.old) }
-    ensures device { IsErrOf result DeviceFault.Device → Grew (D.failed disk.old) (D.failed disk.new) }
+    ensures device { IsErrOf result DeviceFault.Device
+        → Grew (D.failed disk.old) (D.failed disk.new) }
 {
     let a = contents(alloc, disk, FileId::A)?;
     let b = contents(alloc, disk, FileId::B)?;

@@ -16,7 +16,8 @@ fn height_over(heights: &[usize], row: &[usize]) -> usize
     requires within { All (λ b. b < length heights.now) row.now }
     requires small { (b : ℕ) → slice_index heights.now b < usize.MAX }
     ensures upper { (b : ℕ) → Contains row.now b → slice_index heights.now b < result }
-    ensures reached { 0 < result → (b : ℕ) × Contains row.now b × (result ≡ slice_index heights.now b + 1) }
+    ensures reached { 0 < result → (b : ℕ) × Contains row.now b
+        × (result ≡ slice_index heights.now b + 1) }
 {
     let mut height = 0;
     for b in row {
@@ -33,7 +34,8 @@ fn raised(alloc: Global, rows: &[Items<usize>], heights: &[usize]) -> Result<Vec
     requires within { AreWithin rows.now }
     requires small { (b : ℕ) → slice_index heights.now b < usize.MAX }
     ensures same { IfOk result (λ new. length new.items ≡ length rows.now) }
-    ensures raised { IfOk result (λ new. IsRaised (HasEdge rows.now) (slice_index heights.now) (slice_index new.items)) }
+    ensures raised { IfOk result (λ new. IsRaised (HasEdge rows.now) (slice_index heights.now)
+        (slice_index new.items)) }
 {
     let mut new = Vec::new(alloc);
     for row in rows {
@@ -50,7 +52,8 @@ fn heights_after(
 ) -> Result<Vec<usize>, AllocError>
     requires within { AreWithin rows.now }
     requires small { rounds < usize.MAX }
-    ensures { IfOk result (λ heights. AreHeights (HasEdge rows.now) rounds (slice_index heights.items)) }
+    ensures { IfOk result (λ heights. AreHeights (HasEdge rows.now) rounds
+        (slice_index heights.items)) }
 {
     let mut heights = zeros(alloc, rows.len())?;
     for _ in 0..rounds {

@@ -20,7 +20,8 @@ fn mark_row(row: &[usize], marks: &mut [bool])
 // Marks them only where it is wanted.
 fn mark_row_if(row: &[usize], marks: &mut [bool], wanted: bool)
     requires { All (λ b. b < length marks.old) row.now }
-    ensures { (b : ℕ) → IsMarked marks.new b ↔ (IsMarked marks.old b ⊎ (IsTrue wanted × Contains row.now b)) }
+    ensures { (b : ℕ) → IsMarked marks.new b
+        ↔ (IsMarked marks.old b ⊎ (IsTrue wanted × Contains row.now b)) }
 {
     if wanted {
         mark_row(row, marks);
@@ -32,8 +33,10 @@ pub(crate) fn spread(rows: &[Items<usize>], marks: &mut [bool])
     requires within { AreWithin rows.now }
     requires same { length marks.old ≡ length rows.now }
     ensures kept { (b : ℕ) → IsMarked marks.old b → IsMarked marks.new b }
-    ensures sound { (b : ℕ) → IsMarked marks.new b → IsReachedFrom (HasEdge rows.now) (IsMarked marks.old) b }
-    ensures stepped { (a b : ℕ) → IsMarked marks.old a → HasEdge rows.now a b → IsMarked marks.new b }
+    ensures sound { (b : ℕ) → IsMarked marks.new b
+        → IsReachedFrom (HasEdge rows.now) (IsMarked marks.old) b }
+    ensures stepped { (a b : ℕ) → IsMarked marks.old a → HasEdge rows.now a b
+        → IsMarked marks.new b }
 {
     for (place, row) in rows.iter().enumerate() {
         let wanted = marks[place];
@@ -46,7 +49,8 @@ pub fn mark_reached(rows: &[Items<usize>], marks: &mut [bool], most: usize)
     requires within { AreWithin rows.now }
     requires same { length marks.old ≡ length rows.now }
     requires flat { ¬ IsDeeper (HasEdge rows.now) most }
-    ensures { (b : ℕ) → IsMarked marks.new b ↔ IsReachedFrom (HasEdge rows.now) (IsMarked marks.old) b }
+    ensures { (b : ℕ) → IsMarked marks.new b
+        ↔ IsReachedFrom (HasEdge rows.now) (IsMarked marks.old) b }
 {
     for round in 0..most {
         spread(rows, marks);

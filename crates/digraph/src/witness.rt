@@ -34,7 +34,8 @@ fn level_place(ranks: &[usize], rank: usize, row: &[usize]) -> Option<usize>
 /// A step that doesn't lead to a lower rank: the place that it starts from, and the place that it leads to.
 pub fn level_step(rows: &[Items<usize>], ranks: &[usize]) -> Option<(usize, usize)>
     ensures some { IfSome result (λ step. HasEdge rows.now step.0 step.1) }
-    ensures none { IfNone result ((a b : ℕ) → HasEdge rows.now a b → slice_index ranks.now b < slice_index ranks.now a) }
+    ensures none { IfNone result ((a b : ℕ) → HasEdge rows.now a b
+        → slice_index ranks.now b < slice_index ranks.now a) }
 {
     for (place, row) in rows.iter().enumerate() {
         if let Some(to) = level_place(ranks, rank_of(ranks, place), row.as_slice()) {

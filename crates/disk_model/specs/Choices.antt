@@ -35,11 +35,14 @@ laid at (Some bytes) before = placed at bytes before
 -- what a crash leaves of a file under a choice
 abbrev pub chosen : ℕ → List Patch → List ℕ → List ℕ
 chosen choice [] base = base
-chosen choice (w ∷ earlier) base = laid w.at (comes choice (length earlier) w (chosen choice earlier base)) (chosen choice earlier base)
+chosen choice (w ∷ earlier) base =
+    laid w.at (comes choice (length earlier) w (chosen choice earlier base))
+    (chosen choice earlier base)
 
 abbrev pub crashed : ℕ → History → Files
 crashed choice h file = chosen choice (since h h.done file).writes (since h h.done file).base
 
 -- two files that a crash left, and nothing done since
 abbrev pub restarted : ℕ → History → History
-restarted choice h = record { first_a = crashed choice h A; first_b = crashed choice h B; done = [] }
+restarted choice h =
+    record { first_a = crashed choice h A; first_b = crashed choice h B; done = [] }

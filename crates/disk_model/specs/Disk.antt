@@ -26,7 +26,8 @@ pub record Put (file : FileId) (at : ℕ) (bytes : List ℕ) (old new : Files) :
 -- A write that a crash cuts short: any bytes in its range and past the end, the others stay, and no file gets shorter.
 pub record Torn (at : ℕ) (bytes old new : List ℕ) : Type 0 where
   pub no_shorter : length old ≤ length new
-  pub outside : (k : ℕ) → k < length old → (k < at) ⊎ (at + length bytes ≤ k) → get_or new k 0 ≡ get_or old k 0
+  pub outside : (k : ℕ) → k < length old → (k < at) ⊎ (at + length bytes ≤ k)
+      → get_or new k 0 ≡ get_or old k 0
   -- the closing byte: a write of the one byte 0 makes no 1
   pub closing : bytes ≡ 0 ∷ [] → get_or new at 0 ≡ 1 → get_or old at 0 ≡ 1
 
@@ -63,7 +64,8 @@ module _ {D : Type 0} (moment : D → ℕ) (left : D → ℕ → Files → Type 
   pub record Goes (old new : D) (Step : Files → Files → Type 0) : Type 0 where
     pub later : moment old ≤ moment new
     pub now : (files : Files) → LeftNow new files → FromEntry old Step files
-    pub nothing_else : (t : ℕ) (files : Files) → t ≤ moment old → left new t files → left old t files ⊎ LeftNow new files
+    pub nothing_else : (t : ℕ) (files : Files) → t ≤ moment old → left new t files
+        → left old t files ⊎ LeftNow new files
     pub keeps : (t : ℕ) (files : Files) → t ≤ moment old → left old t files → left new t files
 
   -- A run of calls: what a crash at any moment since the entry leaves comes by this step from what could be left at it.
@@ -71,7 +73,8 @@ module _ {D : Type 0} (moment : D → ℕ) (left : D → ℕ → Files → Type 
     pub later : moment old ≤ moment new
     pub each : (files : Files) → left new (moment old) files → FromEntry old Step files
     -- for a run that began earlier
-    pub before : (t : ℕ) (files : Files) → t ≤ moment old → left new t files → left old t files ⊎ FromEntry old Step files
+    pub before : (t : ℕ) (files : Files) → t ≤ moment old → left new t files
+        → left old t files ⊎ FromEntry old Step files
 
   -- a crash at any moment since the entry leaves only such files
   abbrev pub LeavesOnly : D → D → (Files → Type 0) → Type 0

@@ -7,7 +7,8 @@ use Rattle.std.proofs.lemmas.Bool.{cases_lt}
 use Rattle.disk_model.specs.Disk.{Files, Torn, put}
 use Rattle.disk_model.specs.Recorded.{Patch, Done, History, MayLeave, LeftAfter, LeftSince, since, reads, read_after}
 
-pub put_outside : (at : ℕ) (bytes old : List ℕ) (k : ℕ) → k < length old → (k < at) ⊎ (at + length bytes ≤ k) → get_or (put at bytes old) k 0 ≡ get_or old k 0
+pub put_outside : (at : ℕ) (bytes old : List ℕ) (k : ℕ) → k < length old
+    → (k < at) ⊎ (at + length bytes ≤ k) → get_or (put at bytes old) k 0 ≡ get_or old k 0
 put_outside at bytes old k lt where_is =
     let front = take at old in
     let rest = drop (at + length bytes) old in
@@ -23,11 +24,13 @@ put_longer at bytes old =
     let front = take at old in
     omega (arith, length-append (front ++ bytes) (drop (at + length bytes) old), length-append front bytes, length-take at old, length-drop (at + length bytes) old)
 
-pub put_first : (at : ℕ) (byte : ℕ) (old : List ℕ) → at ≤ length old → get_or (put at (byte ∷ []) old) at 0 ≡ byte
+pub put_first : (at : ℕ) (byte : ℕ) (old : List ℕ) → at ≤ length old
+    → get_or (put at (byte ∷ []) old) at 0 ≡ byte
 put_first at byte old within =
     ap (λ l. get_or l at 0) (append_assoc (take at old) (byte ∷ []) (drop (at + 1) old)) ∙ get_or_at (take at old) byte (drop (at + 1) old) 0 at (length-take-le at old within)
 
-put_past_end : (at : ℕ) (byte : ℕ) (old : List ℕ) → length old < at → get_or (put at (byte ∷ []) old) at 0 ≡ 0
+put_past_end : (at : ℕ) (byte : ℕ) (old : List ℕ) → length old < at
+    → get_or (put at (byte ∷ []) old) at 0 ≡ 0
 put_past_end at byte old past = get_or_past (put at (byte ∷ []) old) at 0 (omega (arith, past, length-append (take at old ++ byte ∷ []) (drop (at + 1) old), length-append (take at old) (byte ∷ []), length-take at old, length-drop (at + 1) old))
 
 -- what a write makes is one of its outcomes
@@ -48,13 +51,17 @@ torn_put at bytes old = record {
 
 pub may_read : (writes : List Patch) (base : List ℕ) → MayLeave writes base (read_after writes base)
 may_read [] base = refl
-may_read (w ∷ earlier) base = (read_after earlier base, may_read earlier base, torn_put w.at w.bytes (read_after earlier base))
+may_read (w ∷ earlier) base =
+    (read_after earlier base, may_read earlier base, torn_put w.at w.bytes (read_after earlier base))
 
-pub now_is : (h : History) (files : Files) → LeftAfter h h.done files → LeftSince h (length h.done) files
+pub now_is : (h : History) (files : Files) → LeftAfter h h.done files
+    → LeftSince h (length h.done) files
 now_is h files left = (length h.done, omega arith, omega arith, subst (λ (l : List Done). LeftAfter h l files) (sym (take_all (length h.done) h.done (omega arith))) left)
 
 pub reads_left : (h : History) → LeftSince h (length h.done) (reads h)
-reads_left h = now_is h (reads h) (λ file. may_read (since h h.done file).writes (since h h.done file).base)
+reads_left h =
+    now_is h (reads h) (λ file. may_read (since h h.done file).writes (since h h.done file).base)
 
-pub left_earlier : (h : History) (s t : ℕ) (files : Files) → s ≤ t → LeftSince h t files → LeftSince h s files
+pub left_earlier : (h : History) (s t : ℕ) (files : Files) → s ≤ t → LeftSince h t files
+    → LeftSince h s files
 left_earlier h s t files le left = (left.0, omega (arith, le, left.1), left.2, left.3)

@@ -6,12 +6,16 @@ use Rattle.disk_model.specs.Disk.{Files, Same, Written, Elsewhere, Goes, Leaves,
 module _ {D : Type 0} (honest : D → Type 0) (moment : D → ℕ) (left : D → ℕ → Files → Type 0) where
   -- one call: it looks or syncs, or it writes
   abbrev pub IsCall : D → D → Type 0
-  IsCall old new = Goes moment left old new Same ⊎ ((file : FileId) × (at : ℕ) × (bytes : List ℕ) × Goes moment left old new (Written file at bytes))
+  IsCall old new = Goes moment left old new Same
+      ⊎ ((file : FileId) × (at : ℕ) × (bytes : List ℕ)
+      × Goes moment left old new (Written file at bytes))
 
   -- A call keeps what might have been left since a moment, and of two moments the earlier has all that the later has.
   pub record OnlyWidens : Type 0 where
-    pub with_calls : (old new : D) (t : ℕ) (files : Files) → IsCall old new → t ≤ moment old → left old t files → left new t files
-    pub with_moments : (disk : D) (s t : ℕ) (files : Files) → honest disk → s ≤ t → left disk t files → left disk s files
+    pub with_calls : (old new : D) (t : ℕ) (files : Files) → IsCall old new → t ≤ moment old
+        → left old t files → left new t files
+    pub with_moments : (disk : D) (s t : ℕ) (files : Files) → honest disk → s ≤ t
+        → left disk t files → left disk s files
 
   module _ (seen : D → Files) where
     -- after calls that only look

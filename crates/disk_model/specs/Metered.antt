@@ -36,7 +36,12 @@ turn_of m = turn_by m.fuse m.once
 
 -- a call is counted
 abbrev pub ticked : Metered → Metered
-ticked m = record { calls = one_more m.calls; failures = m.failures; fuse = burnt m.fuse; once = spent m.once }
+ticked m = record {
+  calls = one_more m.calls;
+  failures = m.failures;
+  fuse = burnt m.fuse;
+  once = spent m.once;
+}
 
 -- a failure is counted
 abbrev pub failed : Metered → Metered
@@ -45,15 +50,18 @@ failed m = record { calls = m.calls; failures = one_more m.failures; fuse = m.fu
 -- After so many calls, each of which has failed or hasn't.
 abbrev pub AfterCalls : ℕ → Metered → Metered → Type 0
 AfterCalls zero old new = new ≡ old
-AfterCalls (suc calls) old new = (mid : Metered) × AfterCalls calls old mid × ((new ≡ ticked mid) ⊎ (new ≡ failed (ticked mid)))
+AfterCalls (suc calls) old new = (mid : Metered) × AfterCalls calls old mid
+    × ((new ≡ ticked mid) ⊎ (new ≡ failed (ticked mid)))
 
 -- With a fuse and nothing else set, the call behind the first n is refused where the fuse's calls are over, and passes
 -- before.
 abbrev pub FuseBlows : Type 0
-FuseBlows = (calls n : ℕ) (set now : Metered) → set.fuse ≡ Some calls → set.once ≡ None → AfterCalls n set now
+FuseBlows = (calls n : ℕ) (set now : Metered) → set.fuse ≡ Some calls → set.once ≡ None
+    → AfterCalls n set now
     → (n < calls → turn_of now ≡ Passes) × (calls ≤ n → turn_of now ≡ Refused)
 
 -- With one call and nothing else set to fail, that one fails and each other passes.
 abbrev pub FailsOnce : Type 0
-FailsOnce = (calls n : ℕ) (set now : Metered) → set.fuse ≡ None → set.once ≡ Some calls → AfterCalls n set now
+FailsOnce = (calls n : ℕ) (set now : Metered) → set.fuse ≡ None → set.once ≡ Some calls
+    → AfterCalls n set now
     → (n ≡ calls → turn_of now ≡ Cut) × (n ≢ calls → turn_of now ≡ Passes)

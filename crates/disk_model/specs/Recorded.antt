@@ -33,7 +33,8 @@ read_after (w ∷ earlier) base = put w.at w.bytes (read_after earlier base)
 -- what a crash may leave after these writes: each may be torn
 abbrev pub MayLeave : List Patch → List ℕ → List ℕ → Type 0
 MayLeave [] base left = left ≡ base
-MayLeave (w ∷ earlier) base left = (before : List ℕ) × MayLeave earlier base before × Torn w.at w.bytes before left
+MayLeave (w ∷ earlier) base left = (before : List ℕ) × MayLeave earlier base before
+    × Torn w.at w.bytes before left
 
 -- one call more
 abbrev pub heard : FileId → Done → Since → Since
@@ -71,7 +72,8 @@ Kept h a b = (a ≡ reads h A) × (b ≡ reads h B)
 
 -- what a crash may leave after these calls; the files are independent
 abbrev pub LeftAfter : History → List Done → Files → Type 0
-LeftAfter h done files = (file : FileId) → MayLeave (since h done file).writes (since h done file).base (files file)
+LeftAfter h done files = (file : FileId)
+    → MayLeave (since h done file).writes (since h done file).base (files file)
 
 -- What a crash might have left since this moment. A moment is a number of calls that were done.
 abbrev pub LeftSince : History → ℕ → Files → Type 0

@@ -42,4 +42,5 @@ half bytes = take (length bytes / 2) bytes
 abbrev pub FailsToWrite : FileId → ℕ → List ℕ → Simulated → Simulated → Type 0
 FailsToWrite file at bytes old new =
     (new ≡ failing old.history old)
-    ⊎ ((turn_of old.meter ≡ Cut) × (1 < length bytes) × (new ≡ failing (did (Wrote file at (half bytes)) old.history) old))
+    ⊎ ((turn_of old.meter ≡ Cut) × (1 < length bytes)
+    × (new ≡ failing (did (Wrote file at (half bytes)) old.history) old))

@@ -65,7 +65,8 @@ pub trait Disk {
     fn read_at(&mut self, file: FileId, at: u64, bytes: &mut [u8]) -> Result<(), DiskFault>
         requires { honest self.old → at + length bytes.old ≤ length (seen self.old file) }
         ensures honest { honest self.old ↔ honest self.new }
-        ensures read { honest self.old → OnOk result (bytes.new ≡ take (length bytes.old) (drop at (seen self.old file))) }
+        ensures read { honest self.old → OnOk result (bytes.new
+            ≡ take (length bytes.old) (drop at (seen self.old file))) }
         ensures seen { honest self.old → Same (seen self.old) (seen self.new) }
         ensures crash { honest self.old → Goes moment left self.old self.new Same }
         ensures called { honest self.old → Called 1 (called self.old) (called self.new) }
@@ -81,9 +82,12 @@ pub trait Disk {
     fn write_at(&mut self, file: FileId, at: u64, bytes: &[u8]) -> Result<(), DiskFault>
         requires { honest self.old → at ≤ length (seen self.old file) }
         ensures honest { honest self.old ↔ honest self.new }
-        ensures written { honest self.old → OnOk result (Put file at bytes.now (seen self.old) (seen self.new)) }
-        ensures range { honest self.old → Written file at bytes.now (seen self.old) (seen self.new) }
-        ensures crash { honest self.old → Goes moment left self.old self.new (Written file at bytes.now) }
+        ensures written { honest self.old
+            → OnOk result (Put file at bytes.now (seen self.old) (seen self.new)) }
+        ensures range { honest self.old
+            → Written file at bytes.now (seen self.old) (seen self.new) }
+        ensures crash { honest self.old
+            → Goes moment left self.old self.new (Written file at bytes.now) }
         ensures called { honest self.old → Called 1 (called self.old) (called self.new) }
         ensures cause { HasCause (failed self.old) (failed self.new) result };
 
@@ -106,5 +110,6 @@ pub trait Disk {
     ghost reads: { (disk : Self) → honest disk → left disk (moment disk) (seen disk) };
 
     /// What a crash since a moment might have left, one since an earlier moment might have left too.
-    ghost earlier: { (disk : Self) (s t : ℕ) (c : Files) → honest disk → s ≤ t → left disk t c → left disk s c };
+    ghost earlier: { (disk : Self) (s t : ℕ) (c : Files) → honest disk → s ≤ t → left disk t c
+        → left disk s c };
 }

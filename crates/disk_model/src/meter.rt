@@ -31,7 +31,12 @@ impl Model for Meter {
 
     ghost Value = { Metered };
 
-    ghost view = { λ m. record { calls = m.calls; failures = m.failures; fuse = m.fuse; once = m.once } };
+    ghost view = { λ m. record {
+      calls = m.calls;
+      failures = m.failures;
+      fuse = m.fuse;
+      once = m.once;
+    } };
 }
 
 impl Meter {

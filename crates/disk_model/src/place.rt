@@ -25,7 +25,8 @@ pub(crate) fn place(file: &mut Vec<u8>, at: usize, bytes: &[u8]) -> Result<(), A
 
 // Fills a file with zeros up to a place.
 fn stretch(file: &mut Vec<u8>, at: usize) -> Result<(), AllocError>
-    ensures ok { OnOk result (file.new.items ≡ file.old.items ++ replicate (at - length file.old.items) 0) }
+    ensures ok { OnOk result (file.new.items ≡ file.old.items
+        ++ replicate (at - length file.old.items) 0) }
     ensures reached { OnOk result (at ≤ length file.new.items) }
     ensures err { OnErr result (file.new.items ≡ file.old.items) }
     ensures within { at ≤ length file.old.items → file.new.items ≡ file.old.items }

@@ -31,9 +31,18 @@ impl Model for Record {
 
     ghost use Rattle.disk_model.specs.Calls.{done_of};
 
-    ghost view = { λ r. record { first_a = r.first_a.items; first_b = r.first_b.items; done = map done_of r.calls.items } };
+    ghost view = { λ r. record {
+      first_a = r.first_a.items;
+      first_b = r.first_b.items;
+      done = map done_of r.calls.items;
+    } };
 
-    ghost invariant = { λ r. Kept (record { first_a = r.first_a.items; first_b = r.first_b.items; done = map done_of r.calls.items }) r.a.items r.b.items };
+    ghost invariant = { λ r. Kept
+        (record {
+          first_a = r.first_a.items;
+          first_b = r.first_b.items;
+          done = map done_of r.calls.items;
+        }) r.a.items r.b.items };
 }
 
 impl Record {
@@ -43,7 +52,8 @@ impl Record {
     ///
     /// `AllocError` where memory is refused.
     pub(crate) fn of(alloc: Global, a: &[u8], b: &[u8]) -> Result<Record, AllocError>
-        ensures { IfOk result (λ made. made ≡ (record { first_a = a.now; first_b = b.now; done = [] })) }
+        ensures { IfOk result (λ made. made
+            ≡ (record { first_a = a.now; first_b = b.now; done = [] })) }
     {
         Ok(Record {
             alloc,
@@ -120,8 +130,10 @@ fn put_recorded(
 ) -> Result<(), AllocError>
     requires { at ≤ length bytes_of.old.items }
     ensures ok { OnOk result (bytes_of.new.items ≡ put at bytes.now bytes_of.old.items) }
-    ensures calls { OnOk result (map done_of calls.new.items ≡ map done_of calls.old.items ++ Wrote file at bytes.now ∷ []) }
-    ensures err { OnErr result ((bytes_of.new.items ≡ bytes_of.old.items) × (calls.new.items ≡ calls.old.items)) }
+    ensures calls { OnOk result (map done_of calls.new.items
+        ≡ map done_of calls.old.items ++ Wrote file at bytes.now ∷ []) }
+    ensures err { OnErr result ((bytes_of.new.items ≡ bytes_of.old.items)
+        × (calls.new.items ≡ calls.old.items)) }
 {
     let copy = Vec::from_slice(alloc, bytes)?;
     let count = calls.len();
@@ -135,7 +147,8 @@ fn put_recorded(
 
 // Records a sync, or changes nothing.
 fn record_sync(calls: &mut Vec<Call>, file: FileId) -> Result<(), AllocError>
-    ensures ok { OnOk result (map done_of calls.new.items ≡ map done_of calls.old.items ++ Synced file ∷ []) }
+    ensures ok { OnOk result (map done_of calls.new.items
+        ≡ map done_of calls.old.items ++ Synced file ∷ []) }
     ensures err { OnErr result (calls.new.items ≡ calls.old.items) }
 {
     calls.push(Call::Sync(file))?;

@@ -30,7 +30,9 @@ pub(crate) fn left_by(
     first: &[u8],
     calls: &[Call],
 ) -> Result<Vec<u8>, AllocError>
-    ensures { let since = heard_all file (map done_of calls.now) (record { base = first.now; writes = [] }) in IfOk result (λ left. left.items ≡ chosen choice since.writes since.base) }
+    ensures { let since = heard_all file (map done_of calls.now)
+        (record { base = first.now; writes = [] }) in
+        IfOk result (λ left. left.items ≡ chosen choice since.writes since.base) }
 {
     let mut replay = Replay {
         read: Vec::from_slice(alloc, first)?,
@@ -52,7 +54,10 @@ fn hear(
     replay: &mut Replay,
     call: &Call,
 ) -> Result<(), AllocError>
-    ensures { OnOk result ((since : Since) → Follows choice since replay.old.read.items replay.old.left.items replay.old.number → Follows choice (heard file (done_of call.now) since) replay.new.read.items replay.new.left.items replay.new.number) }
+    ensures { OnOk result ((since : Since)
+        → Follows choice since replay.old.read.items replay.old.left.items replay.old.number
+        → Follows choice (heard file (done_of call.now) since) replay.new.read.items
+        replay.new.left.items replay.new.number) }
 {
     match call {
         Call::Write(of, at, bytes) => {
@@ -94,7 +99,10 @@ fn hear_write(
     bytes: &[u8],
 ) -> Result<(), AllocError>
     ensures read { OnOk result (replay.new.read.items ≡ put at bytes.now replay.old.read.items) }
-    ensures left { (n : ℕ) → replay.old.number ≡ n % 64 → OnOk result (replay.new.left.items ≡ laid at (comes choice n (record { at = at; bytes = bytes.now }) replay.old.left.items) replay.old.left.items) }
+    ensures left { (n : ℕ) → replay.old.number ≡ n % 64
+        → OnOk result (replay.new.left.items
+        ≡ laid at (comes choice n (record { at = at; bytes = bytes.now }) replay.old.left.items)
+        replay.old.left.items) }
     ensures number { OnOk result (replay.new.number ≡ (replay.old.number + 1) % 64) }
 {
     lay(alloc, choice, replay.number, &mut replay.left, at, bytes)?;
@@ -120,7 +128,9 @@ fn lay(
     at: usize,
     bytes: &[u8],
 ) -> Result<(), AllocError>
-    ensures { (n : ℕ) → number ≡ n % 64 → OnOk result (left.new.items ≡ laid at (comes choice n (record { at = at; bytes = bytes.now }) left.old.items) left.old.items) }
+    ensures { (n : ℕ) → number ≡ n % 64 → OnOk result (left.new.items
+        ≡ laid at (comes choice n (record { at = at; bytes = bytes.now }) left.old.items)
+        left.old.items) }
 {
     if choice == 0 {
         return Ok(());
@@ -143,7 +153,8 @@ fn lay(
 
 // The byte 1, but 0 where the single byte 0 is written and finds no 1.
 fn one_at(left: &[u8], at: usize, bytes: &[u8]) -> u8
-    ensures { replicate (length bytes.now) result ≡ ones (record { at = at; bytes = bytes.now }) left.now }
+    ensures { replicate (length bytes.now) result
+        ≡ ones (record { at = at; bytes = bytes.now }) left.now }
 {
     if let [only] = bytes {
         if *only == 0 && !has_one(left, at) {

@@ -37,8 +37,10 @@ impl SimDisk {
     ///
     /// `AllocError` where memory is refused.
     pub fn of(alloc: Global, a: &[u8], b: &[u8]) -> Result<SimDisk, AllocError>
-        ensures files { IfOk result (λ disk. disk.history ≡ (record { first_a = a.now; first_b = b.now; done = [] })) }
-        ensures meter { IfOk result (λ disk. disk.meter ≡ (record { calls = 0; failures = 0; fuse = None; once = None })) }
+        ensures files { IfOk result (λ disk. disk.history
+            ≡ (record { first_a = a.now; first_b = b.now; done = [] })) }
+        ensures meter { IfOk result (λ disk. disk.meter
+            ≡ (record { calls = 0; failures = 0; fuse = None; once = None })) }
         ensures seen { IfOk result (λ disk. Same (two a.now b.now) (seen_of disk)) }
         ensures synced { IfOk result IsRested }
     {
@@ -91,7 +93,10 @@ impl SimDisk {
         ensures allowed { OnOk result (left_of self.old (moment_of self.old) (seen_of self.new)) }
         ensures synced { OnOk result (IsRested self.new) }
         ensures history { OnOk result (self.new.history ≡ restarted choice self.old.history) }
-        ensures meter { OnOk result (self.new.meter ≡ record self.old.meter { fuse = None; once = None }) }
+        ensures meter { OnOk result (self.new.meter ≡ record self.old.meter {
+          fuse = None;
+          once = None;
+        }) }
         ensures err { OnErr result (self.new ≡ self.old) }
     {
         self.record.crash(choice)?;
@@ -101,7 +106,8 @@ impl SimDisk {
 
     fn write(&mut self, file: FileId, at: usize, bytes: &[u8]) -> Result<(), DiskFault>
         requires { at ≤ length (seen_of self.old file) }
-        ensures ok { OnOk result (self.new ≡ passed (did (Wrote file at bytes.now) self.old.history) self.old) }
+        ensures ok { OnOk result (self.new
+            ≡ passed (did (Wrote file at bytes.now) self.old.history) self.old) }
         ensures turn { IsOk result → turn_of self.old.meter ≡ Passes }
         ensures err { OnErr result (FailsToWrite file at bytes.now self.old self.new) }
         ensures called { Called 1 self.old.meter.calls self.new.meter.calls }
@@ -135,7 +141,10 @@ impl SimDisk {
 
     // Counts a failure.
     fn fail(&mut self) -> DiskFault
-        ensures new { self.new ≡ record { history = self.old.history; meter = failed self.old.meter } }
+        ensures new { self.new ≡ record {
+          history = self.old.history;
+          meter = failed self.old.meter;
+        } }
         ensures calls { self.new.meter.calls ≡ self.old.meter.calls }
         ensures later { self.old.meter.failures ≤ self.new.meter.failures }
         ensures by_one { self.new.meter.failures ≤ self.old.meter.failures + 1 }
@@ -152,7 +161,16 @@ impl SimDisk {
         ensures later { self.old.meter.failures ≤ self.new.meter.failures }
         ensures by_one { self.new.meter.failures ≤ self.old.meter.failures + 1 }
         ensures grew { Grew self.old.meter.failures self.new.meter.failures }
-        ensures new { (self.new ≡ record { history = self.old.history; meter = failed self.old.meter }) ⊎ ((1 < length bytes.now) × (self.new ≡ record { history = did (Wrote file at (half bytes.now)) self.old.history; meter = failed self.old.meter })) }
+        ensures new { (self.new ≡ record {
+          history = self.old.history;
+          meter = failed self.old.meter;
+        })
+            ⊎ ((1 < length bytes.now)
+            × (self.new
+            ≡ record {
+              history = did (Wrote file at (half bytes.now)) self.old.history;
+              meter = failed self.old.meter;
+            })) }
     {
         let (first, _) = bytes.split_at(bytes.len() / 2);
         if !first.is_empty() {
@@ -192,7 +210,8 @@ impl Disk for SimDisk {
 
     ghost reads = { λ disk honest. reads_left disk.history };
 
-    ghost earlier = { λ disk s t files honest le left. left_earlier disk.history s t files le left };
+    ghost earlier = { λ disk s t files honest le left. left_earlier disk.history s t
+        files le left };
 
     fn failures(&self) -> u64 {
         self.meter.failures()
@@ -217,7 +236,8 @@ impl Disk for SimDisk {
         ensures ok { OnOk result (self.new ≡ passed self.old.history self.old) }
         ensures err { OnErr result (self.new ≡ failing self.old.history self.old) }
         ensures turn { IsOk result ↔ turn_of self.old.meter ≡ Passes }
-        ensures read { OnOk result (bytes.new ≡ take (length bytes.old) (drop at (seen_of self.old file))) }
+        ensures read { OnOk result (bytes.new
+            ≡ take (length bytes.old) (drop at (seen_of self.old file))) }
         ensures seen { Same (seen_of self.old) (seen_of self.new) }
         ensures crash { Goes moment_of left_of self.old self.new Same }
         ensures called { Called 1 self.old.meter.calls self.new.meter.calls }
@@ -231,10 +251,12 @@ impl Disk for SimDisk {
 
     fn write_at(&mut self, file: FileId, at: u64, bytes: &[u8]) -> Result<(), DiskFault>
         requires { at ≤ length (seen_of self.old file) }
-        ensures ok { OnOk result (self.new ≡ passed (did (Wrote file at bytes.now) self.old.history) self.old) }
+        ensures ok { OnOk result (self.new
+            ≡ passed (did (Wrote file at bytes.now) self.old.history) self.old) }
         ensures err { OnErr result (FailsToWrite file at bytes.now self.old self.new) }
         ensures turn { IsOk result → turn_of self.old.meter ≡ Passes }
-        ensures written { OnOk result (Put file at bytes.now (seen_of self.old) (seen_of self.new)) }
+        ensures written { OnOk result (Put file at bytes.now (seen_of self.old)
+            (seen_of self.new)) }
         ensures range { Written file at bytes.now (seen_of self.old) (seen_of self.new) }
         ensures crash { Goes moment_of left_of self.old self.new (Written file at bytes.now) }
         ensures called { Called 1 self.old.meter.calls self.new.meter.calls }

@@ -19,11 +19,16 @@ pub fn write_synced<D: Disk>(
 ) -> Result<(), DiskFault>
     requires { D.honest disk.old → at ≤ length (D.seen disk.old file) }
     ensures honest { D.honest disk.old ↔ D.honest disk.new }
-    ensures written { D.honest disk.old → OnOk result (Put file at bytes.now (D.seen disk.old) (D.seen disk.new)) }
-    ensures durable { D.honest disk.old → OnOk result (Synced D.moment D.left D.seen disk.new file) }
-    ensures any_moment { D.honest disk.old → Leaves D.moment D.left disk.old disk.new (Written file at bytes.now) }
-    ensures range { D.honest disk.old → FromEntry D.moment D.left disk.old (Written file at bytes.now) (D.seen disk.new) }
-    ensures called { D.honest disk.old → OnOk result (Called 2 (D.called disk.old) (D.called disk.new)) }
+    ensures written { D.honest disk.old
+        → OnOk result (Put file at bytes.now (D.seen disk.old) (D.seen disk.new)) }
+    ensures durable { D.honest disk.old
+        → OnOk result (Synced D.moment D.left D.seen disk.new file) }
+    ensures any_moment { D.honest disk.old
+        → Leaves D.moment D.left disk.old disk.new (Written file at bytes.now) }
+    ensures range { D.honest disk.old
+        → FromEntry D.moment D.left disk.old (Written file at bytes.now) (D.seen disk.new) }
+    ensures called { D.honest disk.old
+        → OnOk result (Called 2 (D.called disk.old) (D.called disk.new)) }
     ensures calls { D.honest disk.old → D.called disk.new ≤ D.called disk.old + 2 }
     ensures cause { HasCause (D.failed disk.old) (D.failed disk.new) result }
 {

@@ -26,7 +26,10 @@ endpoint_bytes e = big_bytes 4 e.addr ++ big_bytes 2 e.port
 -- protocol, inside, outside, remote, opener, what was seen
 unfoldable pub session_bytes : Session → List ℕ
 session_bytes s =
-    proto_number s.proto ∷ (endpoint_bytes s.inside ++ (endpoint_bytes s.outside ++ (endpoint_bytes s.remote ++ opener_code s.opener ∷ s.seen ∷ [])))
+    proto_number s.proto
+    ∷ (endpoint_bytes s.inside
+    ++ (endpoint_bytes s.outside
+    ++ (endpoint_bytes s.remote ++ opener_code s.opener ∷ s.seen ∷ [])))
 
 -- protocol, inside, remote
 unfoldable pub flow_bytes : Flow → List ℕ
@@ -57,7 +60,8 @@ prefix_bytes p = big_bytes 4 p.addr ++ p.len ∷ []
 
 -- lan name, wan name, inside prefixes, external address
 unfoldable pub config_bytes : Config → List ℕ
-config_bytes c = text_bytes 1 c.lan ++ (text_bytes 1 c.wan ++ (list_bytes 1 prefix_bytes c.inside ++ big_bytes 4 c.external))
+config_bytes c = text_bytes 1 c.lan
+    ++ (text_bytes 1 c.wan ++ (list_bytes 1 prefix_bytes c.inside ++ big_bytes 4 c.external))
 
 -- a text, and sessions in some order
 pub record Kept : Type 0 where
@@ -78,7 +82,8 @@ pub record Heading : Type 0 where
   pub kept : Kept
 
 unfoldable pub heading_bytes : Heading → List ℕ
-heading_bytes h = mark ++ (big_bytes 8 h.generation ++ (config_bytes h.config ++ snapshot_bytes h.kept))
+heading_bytes h =
+    mark ++ (big_bytes 8 h.generation ++ (config_bytes h.config ++ snapshot_bytes h.kept))
 
 -- Which values have a code.
 unfoldable pub IsEndpoint : Endpoint → Type 0

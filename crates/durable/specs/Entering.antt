@@ -57,7 +57,8 @@ abbrev pub entered : Entry → Durable → Durable
 entered (Load text) d = durable text d.sessions
 entered (Begin s) d = durable d.text (insert s d.sessions)
 entered (Seen flow seen) d = durable d.text (changed flow (seen_so seen) d.sessions)
-entered (Restart flow opener seen) d = durable d.text (changed flow (begun_anew opener seen) d.sessions)
+entered (Restart flow opener seen) d =
+    durable d.text (changed flow (begun_anew opener seen) d.sessions)
 entered (End flow) d = durable d.text (ended flow d.sessions)
 
 -- the state is one that a gateway with this configuration may have
@@ -81,9 +82,11 @@ module _ (config : Config) where
 
   -- so do those of a body
   abbrev pub BodyEnters : List ℕ → Durable → Durable → Type 0
-  BodyEnters body old new = (es : List Entry) × AreEntries es × (body ≡ body_bytes es) × Enters es old new
+  BodyEnters body old new = (es : List Entry) × AreEntries es × (body ≡ body_bytes es)
+      × Enters es old new
 
   -- and those of bodies, in order
   abbrev pub Changed : List (List ℕ) → Durable → Durable → Type 0
   Changed [] old new = new ≡ old
-  Changed (body ∷ bodies) old new = (mid : Durable) × BodyEnters body old mid × Changed bodies mid new
+  Changed (body ∷ bodies) old new = (mid : Durable) × BodyEnters body old mid
+      × Changed bodies mid new

@@ -14,7 +14,9 @@ IsClosed tail = (gate : ℕ) × (rest : List ℕ) × (tail ≡ gate ∷ rest) ×
 
 -- The bytes are open groups that lead from one state to another, and behind them this tail, with a closed gate in front.
 abbrev pub GroupsLead : Config → List ℕ → Durable → Durable → List ℕ → Type 0
-GroupsLead config bytes old new tail = (bodies : List (List ℕ)) × All (λ body. length body < 2 ^ 32) bodies × (bytes ≡ open_groups bodies ++ tail) × IsClosed tail
+GroupsLead config bytes old new tail = (bodies : List (List ℕ))
+    × All (λ body. length body < 2 ^ 32) bodies × (bytes ≡ open_groups bodies ++ tail)
+    × IsClosed tail
     × Changed config bodies old new
 
 -- The same from a heading on.

@@ -48,7 +48,8 @@ chosen f r bytes = r bytes >>= λ x. f x.0 >>= λ y. Some (y, x.1)
 
 unfoldable pub items_at : {X : Type 0} → Reader X → ℕ → Reader (List X)
 items_at read zero bytes = Some ([], bytes)
-items_at read (suc n) bytes = read bytes >>= λ x. items_at read n x.1 >>= λ xs. Some (x.0 ∷ xs.0, xs.1)
+items_at read (suc n) bytes =
+    read bytes >>= λ x. items_at read n x.1 >>= λ xs. Some (x.0 ∷ xs.0, xs.1)
 
 abbrev pub byte_at : Reader ℕ
 byte_at [] = None
@@ -88,12 +89,21 @@ SessionParts = Proto × (Endpoint × (Endpoint × (Endpoint × (Opener × ℕ)))
 abbrev pub session_from : SessionParts → Option Session
 session_from p =
     if nat_le p.1.1.1.1.1 (most_seen p.0)
-    then Some (record { proto = p.0; inside = p.1.0; outside = p.1.1.0; remote = p.1.1.1.0; opener = p.1.1.1.1.0; seen = p.1.1.1.1.1; last = 0 })
+    then Some (record {
+      proto = p.0;
+      inside = p.1.0;
+      outside = p.1.1.0;
+      remote = p.1.1.1.0;
+      opener = p.1.1.1.1.0;
+      seen = p.1.1.1.1.1;
+      last = 0;
+    })
     else None
 
 unfoldable pub session_at : Reader Session
 session_at =
-    chosen session_from (both proto_at (λ _. both endpoint_at (λ _. both endpoint_at (λ _. both endpoint_at (λ _. both opener_at (λ _. byte_at))))))
+    chosen session_from (both proto_at (λ _. both endpoint_at
+    (λ _. both endpoint_at (λ _. both endpoint_at (λ _. both opener_at (λ _. byte_at))))))
 
 abbrev pub flow_from : Proto × (Endpoint × Endpoint) → Option Flow
 flow_from p = Some (record { proto = p.0; inside = p.1.0; remote = p.1.1 })
@@ -128,7 +138,8 @@ entry_at = chosen (λ p. Some p.1) (both byte_at tagged_at)
 
 -- so many, behind their count
 abbrev pub list_at : {X : Type 0} → ℕ → Reader X → Reader (List X)
-list_at {X = X} width read = chosen (λ (p : ℕ × List X). Some p.1) (both (number_at width) (λ n. items_at read n))
+list_at {X = X} width read = chosen (λ (p : ℕ × List X). Some p.1)
+    (both (number_at width) (λ n. items_at read n))
 
 abbrev pub prefix_from : ℕ × ℕ → Option Prefix
 prefix_from p = Some (record { addr = p.0; len = p.1 })
@@ -149,7 +160,9 @@ abbrev pub config_from : ConfigParts → Option Config
 config_from p = Some (record { lan = p.0; wan = p.1.0; inside = p.1.1.0; external = p.1.1.1 })
 
 unfoldable pub config_at : Reader Config
-config_at = chosen config_from (both (text_at 1) (λ _. both (text_at 1) (λ _. both prefixes_at (λ _. number_at 4))))
+config_at =
+    chosen config_from (both (text_at 1) (λ _. both (text_at 1)
+    (λ _. both prefixes_at (λ _. number_at 4))))
 
 abbrev pub kept_from : List ℕ × List Session → Option Kept
 kept_from p = Some (record { text = p.0; sessions = p.1 })
@@ -170,4 +183,6 @@ abbrev pub heading_from : HeadingParts → Option Heading
 heading_from p = Some (record { generation = p.1.0; config = p.1.1.0; kept = p.1.1.1 })
 
 unfoldable pub heading_at : Reader Heading
-heading_at = chosen heading_from (both mark_at (λ _. both (number_at 8) (λ _. both config_at (λ _. snapshot_at))))
+heading_at =
+    chosen heading_from (both mark_at (λ _. both (number_at 8)
+    (λ _. both config_at (λ _. snapshot_at))))

@@ -50,7 +50,8 @@ pub record Holds (file : List ℕ) (h : Heading) (d : Durable) (end : ℕ) : Typ
 
 -- a file that is closed, or whole in front and older than this generation
 abbrev pub IsOlder : ℕ → List ℕ → Type 0
-IsOlder generation file = IsOpen file → (h : Heading) × IsHeaded file h × (h.generation < generation)
+IsOlder generation file = IsOpen file → (h : Heading) × IsHeaded file h
+    × (h.generation < generation)
 
 abbrev pub other : FileId → FileId
 other A = B
@@ -65,7 +66,8 @@ NoneOpen files = (¬ IsOpen (files A)) × (¬ IsOpen (files B))
 
 -- the files stand for this state: the empty one where none is open, or that of the active file
 abbrev pub Recovers : Files → Durable → Type 0
-Recovers files d = (NoneOpen files × (d ≡ empty)) ⊎ ((file : FileId) × (h : Heading) × (end : ℕ) × IsActive files file h d end)
+Recovers files d = (NoneOpen files × (d ≡ empty))
+    ⊎ ((file : FileId) × (h : Heading) × (end : ℕ) × IsActive files file h d end)
 
 -- the two pairs of files stand for the same
 abbrev pub Alike : Files → Files → Type 0
@@ -73,7 +75,8 @@ Alike files others = (d : Durable) → Recovers files d ↔ Recovers others d
 
 -- the configuration that the active file stores, if one is active, is this one
 abbrev pub IsConfigured : Config → Files → Type 0
-IsConfigured config files = (file : FileId) (h : Heading) (d : Durable) (end : ℕ) → IsActive files file h d end → h.config ≡ config
+IsConfigured config files = (file : FileId) (h : Heading) (d : Durable) (end : ℕ)
+    → IsActive files file h d end → h.config ≡ config
 
 -- What is known of the active file: its generation and its configuration, its state, where its heading ends, and
 -- where the closed gate behind its groups stands.

@@ -16,13 +16,19 @@ view (variants.Restart f opener seen) = Restart f opener seen
 view (variants.End f) = End f
 
 abbrev pub config_view : stored_config.StoredConfig → Config
-config_view c = record { lan = c.lan.now; wan = c.wan.now; inside = c.inside.items; external = c.external }
+config_view c =
+    record { lan = c.lan.now; wan = c.wan.now; inside = c.inside.items; external = c.external }
 
 abbrev pub kept_view : stored_snapshot.StoredSnapshot → Kept
 kept_view k = record { text = k.text.now; sessions = k.sessions.items }
 
 abbrev pub heading_view : stored.Stored → Heading
-heading_view h = record { generation = h.generation; config = config_view h.config; kept = kept_view h.snapshot }
+heading_view h =
+    record { generation = h.generation; config = config_view h.config; kept = kept_view h.snapshot }
 
 abbrev pub headed_view : headed.Headed → Heading
-headed_view h = record { generation = h.generation; config = h.bounds; kept = record { text = h.text.now; sessions = h.sessions.items } }
+headed_view h = record {
+  generation = h.generation;
+  config = h.bounds;
+  kept = record { text = h.text.now; sessions = h.sessions.items };
+}

@@ -27,8 +27,10 @@ fn name_of(alloc: Global, bytes: &[u8]) -> Result<String, DurableFault>
 /// - `Damaged` exactly where `Bounds::new` doesn't take it.
 /// - `NoMemory` where memory is refused.
 pub fn bounds_of(alloc: Global, config: StoredConfig<'_>) -> Result<Bounds, DurableFault>
-    ensures ok { IfOk result (λ bounds. (bounds ≡ config_view config.entry) × IsTrue (is_config (config_view config.entry))) }
-    ensures damaged { IsErrOf result DurableFault.Damaged → ¬ IsTrue (is_config (config_view config.entry)) }
+    ensures ok { IfOk result (λ bounds. (bounds ≡ config_view config.entry)
+        × IsTrue (is_config (config_view config.entry))) }
+    ensures damaged { IsErrOf result DurableFault.Damaged
+        → ¬ IsTrue (is_config (config_view config.entry)) }
 {
     let lan = name_of(alloc, config.lan)?;
     let wan = name_of(alloc, config.wan)?;

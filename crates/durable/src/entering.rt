@@ -25,7 +25,8 @@ pub fn begin(bounds: &Bounds, table: &mut Table, session: Session) -> Result<(),
     requires sound { AreSound bounds.now (listing table.old.held) }
     ensures ok { OnOk result (AreSound bounds.now (insert session (listing table.old.held))
         × (listing table.new.held ≡ insert session (listing table.old.held))) }
-    ensures damaged { IsErrOf result DurableFault.Damaged → ¬ AreSound bounds.now (insert session (listing table.old.held)) }
+    ensures damaged { IsErrOf result DurableFault.Damaged
+        → ¬ AreSound bounds.now (insert session (listing table.old.held)) }
 {
     if !session.is_placed(bounds) {
         return Err(DurableFault::Damaged);
@@ -47,7 +48,8 @@ fn see(bounds: &Bounds, table: &mut Table, flow: Flow, seen: u8) -> bool
     requires bits { IsSeen flow.proto seen }
     requires sound { AreSound bounds.now (listing table.old.held) }
     ensures named { IsTrue result ↔ IsNamed flow (listing table.old.held) }
-    ensures changed { IsTrue result → listing table.new.held ≡ changed flow (seen_so seen) (listing table.old.held) }
+    ensures changed { IsTrue result → listing table.new.held
+        ≡ changed flow (seen_so seen) (listing table.old.held) }
     ensures sound { IsTrue result → AreSound bounds.now (listing table.new.held) }
 {
     table.is_sound();
@@ -67,7 +69,8 @@ fn restart(bounds: &Bounds, table: &mut Table, flow: Flow, opener: Opener, seen:
     requires bits { IsSeen flow.proto seen }
     requires sound { AreSound bounds.now (listing table.old.held) }
     ensures named { IsTrue result ↔ IsNamed flow (listing table.old.held) }
-    ensures changed { IsTrue result → listing table.new.held ≡ changed flow (begun_anew opener seen) (listing table.old.held) }
+    ensures changed { IsTrue result → listing table.new.held
+        ≡ changed flow (begun_anew opener seen) (listing table.old.held) }
     ensures sound { IsTrue result → AreSound bounds.now (listing table.new.held) }
 {
     table.is_sound();
@@ -110,8 +113,10 @@ pub fn enter<'a>(
 ) -> Result<&'a [u8], DurableFault>
     requires fits { IsEntry (view entry) }
     requires sound { AreSound bounds.now (listing table.old.held) }
-    ensures ok { IfOk result (λ t. Admits bounds.now (view entry.entry) (durable text.now (listing table.old.held))
-        × (durable t.now (listing table.new.held) ≡ entered (view entry.entry) (durable text.now (listing table.old.held)))) }
+    ensures ok { IfOk result (λ t. Admits bounds.now (view entry.entry)
+        (durable text.now (listing table.old.held))
+        × (durable t.now (listing table.new.held)
+        ≡ entered (view entry.entry) (durable text.now (listing table.old.held)))) }
     ensures sound { OnOk result (AreSound bounds.now (listing table.new.held)) }
     ensures damaged { IsErrOf result DurableFault.Damaged
         → ¬ Admits bounds.now (view entry.entry) (durable text.now (listing table.old.held)) }
@@ -160,10 +165,12 @@ pub fn enter_body<'a>(
     body: &'a [u8],
 ) -> Result<&'a [u8], DurableFault>
     requires sound { AreSound bounds.now (listing table.old.held) }
-    ensures ok { IfOk result (λ t. BodyEnters bounds.now body.now (durable text.now (listing table.old.held)) (durable t.now (listing table.new.held))) }
+    ensures ok { IfOk result (λ t. BodyEnters bounds.now body.now
+        (durable text.now (listing table.old.held)) (durable t.now (listing table.new.held))) }
     ensures sound { OnOk result (AreSound bounds.now (listing table.new.held)) }
     ensures damaged { IsErrOf result DurableFault.Damaged
-        → (new : Durable) → ¬ BodyEnters bounds.now body.now (durable text.now (listing table.old.held)) new }
+        → (new : Durable)
+        → ¬ BodyEnters bounds.now body.now (durable text.now (listing table.old.held)) new }
 {
     let mut present = text;
     let mut rest = body;

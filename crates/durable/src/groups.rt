@@ -31,7 +31,8 @@ pub fn behind_gate(bytes: &[u8]) -> Option<&[u8]>
 
 /// The text whose code is the front of the bytes, and what stands behind it.
 fn whole_text(bytes: &[u8]) -> Option<(&[u8], &[u8])>
-    ensures ok { IfSome result (λ x. Begins (λ t. length t < 2 ^ 32) (text_bytes 4) bytes.now x.0.now x.1.now) }
+    ensures ok { IfSome result (λ x. Begins (λ t. length t < 2 ^ 32) (text_bytes 4) bytes.now
+        x.0.now x.1.now) }
     ensures none { IfNone result (NoneBegins (λ t. length t < 2 ^ 32) (text_bytes 4) bytes.now) }
 {
     text_of(bytes)
@@ -51,7 +52,9 @@ pub fn enter_groups<'a>(
     bytes: &'a [u8],
 ) -> Result<(&'a [u8], &'a [u8]), DurableFault>
     requires sound { AreSound bounds.now (listing table.old.held) }
-    ensures ok { IfOk result (λ x. GroupsLead bounds.now bytes.now (durable text.now (listing table.old.held)) (durable x.0.now (listing table.new.held)) x.1.now) }
+    ensures ok { IfOk result (λ x. GroupsLead bounds.now bytes.now
+        (durable text.now (listing table.old.held))
+        (durable x.0.now (listing table.new.held)) x.1.now) }
     ensures damaged { IsErrOf result DurableFault.Damaged → (new : Durable) (tail : List ℕ)
         → ¬ GroupsLead bounds.now bytes.now (durable text.now (listing table.old.held)) new tail }
 {

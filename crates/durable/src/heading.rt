@@ -174,8 +174,10 @@ fn read_heading(alloc: Global, bytes: &[u8]) -> Result<(Stored<'_>, &[u8]), Dura
 /// - `Damaged` exactly where no heading's code is a front of the bytes.
 /// - `NoMemory` where memory is refused.
 pub fn heading_of(alloc: Global, bytes: &[u8]) -> Result<(Stored<'_>, &[u8]), DurableFault>
-    ensures ok { IfOk result (λ x. Begins IsHeading heading_bytes bytes.now (heading_view x.0) x.1.now) }
-    ensures damaged { IsErrOf result DurableFault.Damaged → NoneBegins IsHeading heading_bytes bytes.now }
+    ensures ok { IfOk result (λ x. Begins IsHeading heading_bytes bytes.now
+        (heading_view x.0) x.1.now) }
+    ensures damaged { IsErrOf result DurableFault.Damaged
+        → NoneBegins IsHeading heading_bytes bytes.now }
 {
     read_heading(alloc, bytes)
 }

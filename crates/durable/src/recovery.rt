@@ -64,7 +64,8 @@ fn read_open<'a>(
     file: &'a [u8],
 ) -> Result<Option<(Headed<'a>, &'a [u8])>, DurableFault>
     ensures ok { IfOk result (IsReadOpen file.now) }
-    ensures damaged { IsErrOf result DurableFault.Damaged → IsOpen file.now × ((h : Heading) → ¬ IsHeaded file.now h) }
+    ensures damaged { IsErrOf result DurableFault.Damaged
+        → IsOpen file.now × ((h : Heading) → ¬ IsHeaded file.now h) }
 {
     let Some(rest) = behind_gate(file) else {
         return Ok(None);
@@ -92,7 +93,8 @@ fn read_open<'a>(
 fn fill(bounds: &Bounds, table: &mut Table, sessions: &[Session]) -> Result<(), DurableFault>
     requires bits { All (λ s. IsSeen s.proto s.seen) sessions.now }
     requires sound { AreSound bounds.now (listing table.old.held) }
-    ensures ok { OnOk result ((listing table.new.held ≡ arranged_on (listing table.old.held) sessions.now)
+    ensures ok { OnOk result ((listing table.new.held
+        ≡ arranged_on (listing table.old.held) sessions.now)
         × AreSound bounds.now (listing table.new.held)) }
     ensures damaged { IsErrOf result DurableFault.Damaged
         → ¬ AreSound bounds.now (arranged_on (listing table.old.held) sessions.now) }
@@ -108,7 +110,8 @@ fn table_of(alloc: Global, bounds: &Bounds, sessions: &[Session]) -> Result<Tabl
     requires bits { All (λ s. IsSeen s.proto s.seen) sessions.now }
     ensures ok { IfOk result (λ table. (listing table.held ≡ arranged sessions.now)
         × AreSound bounds.now (arranged sessions.now)) }
-    ensures damaged { IsErrOf result DurableFault.Damaged → ¬ AreSound bounds.now (arranged sessions.now) }
+    ensures damaged { IsErrOf result DurableFault.Damaged
+        → ¬ AreSound bounds.now (arranged sessions.now) }
 {
     let mut table = Table::new(alloc);
     match fill(bounds, &mut table, sessions) {
@@ -131,7 +134,8 @@ fn lead<'a>(
     requires text { IsRuleset headed.now.bounds headed.now.text.now }
     requires placed { listing table.old.held ≡ arranged headed.now.sessions.items }
     requires sound { AreSound headed.now.bounds (arranged headed.now.sessions.items) }
-    ensures ok { IfOk result (λ x. StateLeads (headed_view headed.now) rest.now (durable x.0.now x.1.items) x.2.now) }
+    ensures ok { IfOk result (λ x. StateLeads (headed_view headed.now) rest.now
+        (durable x.0.now x.1.items) x.2.now) }
     ensures damaged { IsErrOf result DurableFault.Damaged → (d : Durable) (tail : List ℕ)
         → ¬ StateLeads (headed_view headed.now) rest.now d tail }
 {
@@ -147,7 +151,8 @@ fn settle<'a>(
     rest: &'a [u8],
 ) -> Result<(&'a [u8], Vec<Session>, &'a [u8]), DurableFault>
     requires { IsHeading (headed_view headed.now) }
-    ensures ok { IfOk result (λ x. StateLeads (headed_view headed.now) rest.now (durable x.0.now x.1.items) x.2.now) }
+    ensures ok { IfOk result (λ x. StateLeads (headed_view headed.now) rest.now
+        (durable x.0.now x.1.items) x.2.now) }
     ensures damaged { IsErrOf result DurableFault.Damaged → (d : Durable) (tail : List ℕ)
         → ¬ StateLeads (headed_view headed.now) rest.now d tail }
 {
@@ -197,7 +202,8 @@ fn choose<'a>(
     requires a { IsReadOpen a.now first }
     requires b { IsReadOpen b.now second }
     ensures ok { IfOk result (λ found. Finds (pair a.now b.now) (found_view found)) }
-    ensures damaged { IsErrOf result DurableFault.Damaged → (found : Option Active) → ¬ Finds (pair a.now b.now) found }
+    ensures damaged { IsErrOf result DurableFault.Damaged → (found : Option Active)
+        → ¬ Finds (pair a.now b.now) found }
 {
     match first {
         None => match second {
@@ -242,8 +248,10 @@ pub fn recover<'a>(
     b: &'a [u8],
 ) -> Result<Option<Recovered<'a>>, DurableFault>
     ensures ok { IfOk result (λ found. Finds (pair a.now b.now) (found_view found)) }
-    ensures only { (found : Option Active) → Finds (pair a.now b.now) found → IfOk result (λ x. found_view x ≡ found) }
-    ensures damaged { IsErrOf result DurableFault.Damaged → (found : Option Active) → ¬ Finds (pair a.now b.now) found }
+    ensures only { (found : Option Active) → Finds (pair a.now b.now) found
+        → IfOk result (λ x. found_view x ≡ found) }
+    ensures damaged { IsErrOf result DurableFault.Damaged → (found : Option Active)
+        → ¬ Finds (pair a.now b.now) found }
 {
     let first = read_open(alloc, a)?;
     let second = read_open(alloc, b)?;

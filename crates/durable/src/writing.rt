@@ -32,7 +32,8 @@ fn endpoint_fits(endpoint: Endpoint)
 // Writes the code of an endpoint at this place.
 fn set_endpoint(code: &mut [u8], at: usize, endpoint: Endpoint)
     requires { at + 6 ≤ length code.old }
-    ensures set { code.new ≡ put (at + 4) (big_bytes 2 endpoint.port) (put at (big_bytes 4 endpoint.addr) code.old) }
+    ensures set { code.new ≡ put (at + 4) (big_bytes 2 endpoint.port)
+        (put at (big_bytes 4 endpoint.addr) code.old) }
     ensures fits { IsEndpoint endpoint }
 {
     endpoint_fits(endpoint);
@@ -51,7 +52,8 @@ pub fn load_front(text: &[u8]) -> [u8; 5]
 
 fn session_code(session: &Session) -> [u8; 21]
     ensures code { result ≡ session_bytes session.now }
-    ensures fits { IsSeen session.now.proto session.now.seen → session.now.last ≡ 0 → IsSession session.now }
+    ensures fits { IsSeen session.now.proto session.now.seen → session.now.last ≡ 0
+        → IsSession session.now }
 {
     let mut code = [0; 21];
     code[0] = session.proto.number();
@@ -67,7 +69,8 @@ fn session_code(session: &Session) -> [u8; 21]
 #[tactic(auto, unfolding(crate::specs::Coding::entry_bytes))]
 pub fn begin_code(session: &Session) -> [u8; 22]
     ensures code { result ≡ entry_bytes (Begin session.now) }
-    ensures fits { IsSeen session.now.proto session.now.seen → session.now.last ≡ 0 → IsEntry (Begin session.now) }
+    ensures fits { IsSeen session.now.proto session.now.seen → session.now.last ≡ 0
+        → IsEntry (Begin session.now) }
 {
     let mut code = [2; 22];
     code[1..].copy_from_slice(&session_code(session));
@@ -196,7 +199,8 @@ fn put_config(out: &mut Vec<u8>, bounds: &Bounds) -> Result<(), AllocError>
 fn put_snapshot(out: &mut Vec<u8>, text: &[u8], sessions: &[Session]) -> Result<(), AllocError>
     requires text { length text.now < 2 ^ 32 }
     requires count { length sessions.now < 2 ^ 32 }
-    ensures { OnOk result (out.new.items ≡ out.old.items ++ snapshot_bytes (record { text = text.now; sessions = sessions.now })) }
+    ensures { OnOk result (out.new.items ≡ out.old.items
+        ++ snapshot_bytes (record { text = text.now; sessions = sessions.now })) }
 {
     put_text(out, text)?;
     let count = sessions.len() as u32;
@@ -233,7 +237,8 @@ pub fn put_heading(
 ) -> Result<(), AllocError>
     requires text { length text.now < 2 ^ 32 }
     requires count { length sessions.now < 2 ^ 32 }
-    ensures { OnOk result (out.new.items ≡ out.old.items ++ heading_bytes (anew generation bounds.now (durable text.now sessions.now))) }
+    ensures { OnOk result (out.new.items ≡ out.old.items
+        ++ heading_bytes (anew generation bounds.now (durable text.now sessions.now))) }
 {
     put_mark(out)?;
     put_generation(out, generation)?;

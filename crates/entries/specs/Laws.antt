@@ -24,46 +24,55 @@ use Rattle.durable.specs.Entering.{Durable, Enters, IsDurable, flow_of}
 abbrev pub EntriesAreTheStep : Type 0
 EntriesAreTheStep =
     (config : Config) (s : State) (event : Event) (judged : Judged) (entries : List Entry)
-    → IsTrue (is_config config) → IsSound config s → IsJudged config event judged → AreEntriesOf config s judged entries
+    → IsTrue (is_config config) → IsSound config s → IsJudged config event judged
+    → AreEntriesOf config s judged entries
     → Enters config entries (lasting s) (lasting (step config s judged).0)
 
 -- so do those of a run, in turn
 abbrev pub RunsAreEntered : Type 0
 RunsAreEntered =
-    (config : Config) (s : State) (events : List Event) (judged : List Judged) (entries : List Entry)
-    → IsTrue (is_config config) → IsSound config s → AreJudged config events judged → AreEntriesOfAll config s judged entries
+    (config : Config) (s : State) (events : List Event) (judged : List Judged)
+    (entries : List Entry)
+    → IsTrue (is_config config) → IsSound config s → AreJudged config events judged
+    → AreEntriesOfAll config s judged entries
     → Enters config entries (lasting s) (lasting (after config s judged))
 
 -- an event has no entries exactly where none is needed
 abbrev pub EntriesAreNeeded : Type 0
 EntriesAreNeeded =
     (config : Config) (s : State) (event : Event) (judged : Judged) (entries : List Entry)
-    → IsTrue (is_config config) → IsSound config s → IsJudged config event judged → AreEntriesOf config s judged entries
+    → IsTrue (is_config config) → IsSound config s → IsJudged config event judged
+    → AreEntriesOf config s judged entries
     → (entries ≡ []) ↔ ¬ HasEntry config s judged
 
 -- every event has entries
 abbrev pub EntriesAreThere : Type 0
-EntriesAreThere = (config : Config) (s : State) (judged : Judged) → IsSound config s → (entries : List Entry) × AreEntriesOf config s judged entries
+EntriesAreThere = (config : Config) (s : State) (judged : Judged) → IsSound config s
+    → (entries : List Entry) × AreEntriesOf config s judged entries
 
 -- an event with no entries leaves what must survive as it is
 abbrev pub QuietStepsKeep : Type 0
 QuietStepsKeep =
     (config : Config) (s : State) (event : Event) (judged : Judged)
-    → IsTrue (is_config config) → IsSound config s → IsJudged config event judged → AreEntriesOf config s judged []
+    → IsTrue (is_config config) → IsSound config s → IsJudged config event judged
+    → AreEntriesOf config s judged []
     → lasting (step config s judged).0 ≡ lasting s
 
 -- whether an event has entries does not depend on the order that the sessions which end are told in
 abbrev pub EntriesAreOne : Type 0
 EntriesAreOne =
     (config : Config) (s : State) (judged : Judged) (entries others : List Entry)
-    → AreEntriesOf config s judged entries → AreEntriesOf config s judged others → (entries ≡ []) ↔ (others ≡ [])
+    → AreEntriesOf config s judged entries → AreEntriesOf config s judged others
+    → (entries ≡ []) ↔ (others ≡ [])
 
 -- What makes one session another of its flow and outside endpoint: nothing where opener and bits are the same, the
 -- bits where only they differ and there are some, else a beginning anew.
 pub record TellsChange (s t : Session) : Type 0 where
   pub nothing : s.opener ≡ t.opener → s.seen ≡ t.seen → between s t ≡ []
-  pub seen : s.opener ≡ t.opener → s.seen ≢ t.seen → 0 < t.seen → between s t ≡ Seen (flow_of t) t.seen ∷ []
-  pub emptied : s.seen ≢ t.seen → t.seen ≡ 0 → between s t ≡ Restart (flow_of t) t.opener t.seen ∷ []
+  pub seen : s.opener ≡ t.opener → s.seen ≢ t.seen → 0 < t.seen
+      → between s t ≡ Seen (flow_of t) t.seen ∷ []
+  pub emptied : s.seen ≢ t.seen → t.seen ≡ 0
+      → between s t ≡ Restart (flow_of t) t.opener t.seen ∷ []
   pub turned : s.opener ≢ t.opener → between s t ≡ Restart (flow_of t) t.opener t.seen ∷ []
 
 abbrev pub ChangesAreTold : Type 0
@@ -71,22 +80,28 @@ ChangesAreTold = (s t : Session) → TellsChange s t
 
 -- The entry of a packet of a session that is held: a restart where a SYN alone begins a closing session anew, else what
 -- was seen where a bit of it is new, else none.
-pub record ArePinned (sessions : List Session) (s : Session) (sender : Opener) (flags : Flags) (now : ℕ) : Type 0 where
-  pub anew : restarts s flags ≡ true → noted sessions (passed_by s sender flags now) ≡ Restart (flow_of s) sender 0 ∷ []
-  pub nothing : restarts s flags ≡ false → bit_or s.seen (shown s.proto s.opener sender flags) ≡ s.seen
+pub record ArePinned (sessions : List Session) (s : Session) (sender : Opener) (flags : Flags)
+    (now : ℕ) : Type 0 where
+  pub anew : restarts s flags ≡ true → noted sessions (passed_by s sender flags now)
+      ≡ Restart (flow_of s) sender 0 ∷ []
+  pub nothing : restarts s flags ≡ false
+      → bit_or s.seen (shown s.proto s.opener sender flags) ≡ s.seen
       → noted sessions (passed_by s sender flags now) ≡ []
   pub seen : restarts s flags ≡ false → bit_or s.seen (shown s.proto s.opener sender flags) ≢ s.seen
-      → noted sessions (passed_by s sender flags now) ≡ Seen (flow_of s) (bit_or s.seen (shown s.proto s.opener sender flags)) ∷ []
+      → noted sessions (passed_by s sender flags now)
+      ≡ Seen (flow_of s) (bit_or s.seen (shown s.proto s.opener sender flags)) ∷ []
 
 abbrev pub EntriesArePinned : Type 0
 EntriesArePinned =
-    (config : Config) (sessions : List Session) (s : Session) (sender : Opener) (flags : Flags) (now : ℕ)
+    (config : Config) (sessions : List Session) (s : Session) (sender : Opener)
+    (flags : Flags) (now : ℕ)
     → AreSound config sessions → In s sessions → ArePinned sessions s sender flags now
 
 -- A table tells the entry of a session that takes its place there: by the session of its flow that a slot holds, or it
 -- begins, where it clashes with none.
 pub record TellsEntries (held : List (Option Session)) : Type 0 where
-  pub goes_on : (slot : ℕ) (s t : Session) → slice_index_or held slot None ≡ Some s → same_flow t s ≡ true
+  pub goes_on : (slot : ℕ) (s t : Session) → slice_index_or held slot None ≡ Some s
+      → same_flow t s ≡ true
       → noted (listing held) t ≡ between s t
   pub begins : (t : Session) → ¬ AnyClash held t → noted (listing held) t ≡ Begin (stilled t) ∷ []
 
@@ -95,7 +110,8 @@ TablesTellEntries = (held : List (Option Session)) → IsSoundTable held → Tel
 
 -- a session of another flow makes no difference to an entry
 abbrev pub FlowsAreNotedApart : Type 0
-FlowsAreNotedApart = (sessions : List Session) (t u : Session) → same_flow u t ≡ false → noted (put t sessions) u ≡ noted sessions u
+FlowsAreNotedApart = (sessions : List Session) (t u : Session) → same_flow u t ≡ false
+    → noted (put t sessions) u ≡ noted sessions u
 
 -- the slots whose sessions are due, each once, hold the sessions that end
 abbrev pub DueSlotsAreOver : Type 0
@@ -107,14 +123,17 @@ DueSlotsAreOver =
 
 -- what must survive of a sound state is what a gateway may have, without moments
 abbrev pub LastingIsSound : Type 0
-LastingIsSound = (config : Config) (s : State) → IsSound config s → IsDurable config (lasting s) × AreStilled (lasting s).sessions
+LastingIsSound = (config : Config) (s : State) → IsSound config s
+    → IsDurable config (lasting s) × AreStilled (lasting s).sessions
 
 -- from whatever a gateway may have a state can be begun again
 abbrev pub RestartsAreThere : Type 0
-RestartsAreThere = (config : Config) (d : Durable) (moment : ℕ) → IsDurable config d → (s : State) × IsRestarted config d moment s
+RestartsAreThere = (config : Config) (d : Durable) (moment : ℕ) → IsDurable config d
+    → (s : State) × IsRestarted config d moment s
 
 -- a state that is begun again is sound, and just what it was begun from must survive of it
 abbrev pub RestartsAreSound : Type 0
 RestartsAreSound =
-    (config : Config) (d : Durable) (moment : ℕ) (s : State) → IsDurable config d → AreStilled d.sessions
+    (config : Config) (d : Durable) (moment : ℕ) (s : State) → IsDurable config d
+    → AreStilled d.sessions
     → IsRestarted config d moment s → IsSound config s × (lasting s ≡ d)

@@ -25,7 +25,11 @@ impl<F: DiskFile + Drop> Model for FileDisk<F> {
 
     ghost Value = { Filed F };
 
-    ghost view = { λ disk. record { files = disk.files; calls = disk.calls; failures = disk.failures } };
+    ghost view = { λ disk. record {
+      files = disk.files;
+      calls = disk.calls;
+      failures = disk.failures;
+    } };
 }
 
 impl<F: DiskFile + Drop> FileDisk<F> {
@@ -78,7 +82,8 @@ impl<F: DiskFile + Drop> Disk for FileDisk<F> {
     }
 
     fn len(&mut self, file: FileId) -> Result<u64, DiskFault>
-        ensures asked { Asks (λ old new. F.measures old new result) file self.old.files self.new.files }
+        ensures asked { Asks (λ old new. F.measures old new result) file self.old.files
+            self.new.files }
         ensures called { Called 1 self.old.calls self.new.calls }
         ensures cause { HasCause self.old.failures self.new.failures result }
     {
@@ -87,7 +92,8 @@ impl<F: DiskFile + Drop> Disk for FileDisk<F> {
     }
 
     fn read_at(&mut self, file: FileId, at: u64, bytes: &mut [u8]) -> Result<(), DiskFault>
-        ensures asked { Asks (λ old new. F.reads old new at bytes.old bytes.new result) file self.old.files self.new.files }
+        ensures asked { Asks (λ old new. F.reads old new at bytes.old bytes.new result) file
+            self.old.files self.new.files }
         ensures called { Called 1 self.old.calls self.new.calls }
         ensures cause { HasCause self.old.failures self.new.failures result }
     {
@@ -96,7 +102,8 @@ impl<F: DiskFile + Drop> Disk for FileDisk<F> {
     }
 
     fn write_at(&mut self, file: FileId, at: u64, bytes: &[u8]) -> Result<(), DiskFault>
-        ensures asked { Asks (λ old new. F.writes old new at bytes.now result) file self.old.files self.new.files }
+        ensures asked { Asks (λ old new. F.writes old new at bytes.now result) file self.old.files
+            self.new.files }
         ensures called { Called 1 self.old.calls self.new.calls }
         ensures cause { HasCause self.old.failures self.new.failures result }
     {
@@ -105,7 +112,8 @@ impl<F: DiskFile + Drop> Disk for FileDisk<F> {
     }
 
     fn sync(&mut self, file: FileId) -> Result<(), DiskFault>
-        ensures asked { Asks (λ old new. F.syncs old new result) file self.old.files self.new.files }
+        ensures asked { Asks (λ old new. F.syncs old new result) file self.old.files
+            self.new.files }
         ensures called { Called 1 self.old.calls self.new.calls }
         ensures cause { HasCause self.old.failures self.new.failures result }
     {

@@ -41,7 +41,8 @@ impl<F: DiskFile + Drop> Pair<F> {
 
     /// Fills `bytes` from one.
     pub(crate) fn fill(&mut self, file: FileId, at: u64, bytes: &mut [u8]) -> Result<(), DiskFault>
-        ensures { Asks (λ old new. F.reads old new at bytes.old bytes.new result) file self.old self.new }
+        ensures { Asks (λ old new. F.reads old new at bytes.old bytes.new result) file
+            self.old self.new }
     {
         match file {
             FileId::A => self.a.fill(at, bytes),

@@ -57,7 +57,8 @@ abbrev pub IsRoomy : ℕ → Type 0
 IsRoomy filled = filled + (14 * 65536 + 262149) + 6 ≤ 67108864
 
 -- The files stand for what the model has after a beginning of these events, which holds the first n.
-pub record IsSafe (config : Config) (s : State) (events : List Event) (n : ℕ) (files : Files) : Type 0 where
+pub record IsSafe (config : Config) (s : State) (events : List Event) (n : ℕ)
+    (files : Files) : Type 0 where
   pub count : ℕ
   pub answered : n ≤ count
   pub within : count ≤ length events
@@ -72,7 +73,8 @@ pub record IsReady {D : Type 0} (honest : D → Type 0) (gateway : Kept D) : Typ
   pub none : gateway.told.held ≡ []
 
 -- The files stand for a state that the entries which wait make the present one.
-pub record IsStanding (config : Config) (files : Files) (entries : List Entry) (s : State) : Type 0 where
+pub record IsStanding (config : Config) (files : Files) (entries : List Entry)
+    (s : State) : Type 0 where
   pub first : Durable
   pub recovers : Recovers files first
   pub enters : Enters config entries first (lasting s)

@@ -16,7 +16,8 @@ use Rattle.gateway.specs.Standing.{Standing, StandsFor}
 abbrev pub standing : {D : Type 0} → Durable → Kept D → Standing
 standing first g = record { first = first; state = g.told.state; held = length g.told.held }
 
-module _ {D : Type 0} (honest : D → Type 0) (moment : D → ℕ) (left : D → ℕ → Files → Type 0) (failed : D → ℕ)
+module _ {D : Type 0} (honest : D → Type 0) (moment : D → ℕ) (left : D → ℕ → Files → Type 0)
+    (failed : D → ℕ)
     (start now : Kept D) where
   -- What the files stand for, whatever a crash leaves now, and the present state are the model's after these events.
   pub record Rests (events : List Event) : Type 0 where
@@ -33,8 +34,10 @@ module _ {D : Type 0} (honest : D → Type 0) (moment : D → ℕ) (left : D →
     pub stood : start.fallen ≡ false
     pub keeps_honest : honest start.disk ↔ honest now.disk
     pub any_moment : IsReady honest start
-        → LeavesOnly moment left start.disk now.disk (IsSafe start.told.config start.told.state events 0)
-    pub configured : honest start.disk → LeavesOnly moment left start.disk now.disk (IsConfigured start.told.config)
+        → LeavesOnly moment left start.disk now.disk
+        (IsSafe start.told.config start.told.state events 0)
+    pub configured : honest start.disk
+        → LeavesOnly moment left start.disk now.disk (IsConfigured start.told.config)
 
   -- it has come through these events, and no call of the disk has failed
   pub record Stands (events : List Event) (out : List (ℕ × Answer)) : Type 0 where
@@ -47,7 +50,8 @@ module _ {D : Type 0} (honest : D → Type 0) (moment : D → ℕ) (left : D →
   pub record Ends (events : List Event) (out : List (ℕ × Answer)) : Type 0 where
     pub ran : Ran events out
     pub at_exit : IsReady honest start
-        → LeavesNow moment left now.disk (IsSafe start.told.config start.told.state events (length out))
+        → LeavesNow moment left now.disk (IsSafe start.told.config start.told.state events
+        (length out))
 
   -- why a run ends that stood at its start
   pub record IsWhy (why : GatewayFault) : Type 0 where
@@ -59,29 +63,35 @@ module _ {D : Type 0} (honest : D → Type 0) (moment : D → ℕ) (left : D →
     pub generations : why ≡ fault.Generations → now.generation ≡ 2 ^ 64 - 1
 
   -- it ends behind these events, with a fault
-  pub record Stops (events : List Event) (out : List (ℕ × Answer)) (why : GatewayFault) : Type 0 where
+  pub record Stops (events : List Event) (out : List (ℕ × Answer))
+      (why : GatewayFault) : Type 0 where
     pub ends : Ends events out
     pub is_why : IsWhy why
     -- where no call of the disk failed, it stands as before, and may go on
     pub stays : why ≢ fault.Device → Stands events out
 
   -- it ends behind the first of these events, with a fault, and takes none behind them
-  pub record StopsWithin (events : List Event) (out : List (ℕ × Answer)) (why : GatewayFault) : Type 0 where
+  pub record StopsWithin (events : List Event) (out : List (ℕ × Answer))
+      (why : GatewayFault) : Type 0 where
     pub front : List Event
     pub back : List Event
     pub split : events ≡ front ++ back
     pub stops : Stops front out why
 
-module _ {D : Type 0} (honest : D → Type 0) (moment : D → ℕ) (left : D → ℕ → Files → Type 0) (failed : D → ℕ)
+module _ {D : Type 0} (honest : D → Type 0) (moment : D → ℕ) (left : D → ℕ → Files → Type 0)
+    (failed : D → ℕ)
     (old new : Kept D) where
   -- Wherever a run began that stood at the entry, it has come through these events too.
   abbrev pub CarriesOn : List Event → List (ℕ × Answer) → List (ℕ × Answer) → Type 0
   CarriesOn more before out =
-      (start : Kept D) (events : List Event) → Stands honest moment left failed start old events before
+      (start : Kept D) (events : List Event)
+      → Stands honest moment left failed start old events before
       → Stands honest moment left failed start new (events ++ more) out
 
   -- Wherever a run began that stood at the entry, it ends behind the first of these events, with a fault.
   abbrev pub BreaksOff : List Event → List (ℕ × Answer) → List (ℕ × Answer) → GatewayFault → Type 0
   BreaksOff more before out why =
-      (start : Kept D) (events : List Event) → Stands honest moment left failed start old events before
-      → (front back : List Event) × (more ≡ front ++ back) × Stops honest moment left failed start new (events ++ front) out why
+      (start : Kept D) (events : List Event)
+      → Stands honest moment left failed start old events before
+      → (front back : List Event) × (more ≡ front ++ back)
+      × Stops honest moment left failed start new (events ++ front) out why

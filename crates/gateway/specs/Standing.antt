@@ -26,7 +26,8 @@ pub record Offers (config : Config) (event : Event) (old new : Standing) : Type 
   pub judged : Judged
   pub is_judged : IsJudged config event judged
   pub steps : new.state ≡ (step config old.state judged).0
-  pub given : (new.held ≡ old.held + 1) ⊎ ((old.held ≡ 0) × (new.held ≡ 0) × ¬ HasEntry config old.state judged)
+  pub given : (new.held ≡ old.held + 1)
+      ⊎ ((old.held ≡ 0) × (new.held ≡ 0) × ¬ HasEntry config old.state judged)
 
 -- nothing is held any longer, and the files stand for the present state
 pub record Settles (old new : Standing) : Type 0 where
@@ -42,7 +43,8 @@ Goes config Compacted old new = (old.held ≡ 0) × Settles old new
 
 abbrev pub Went : Config → List Call → Standing → Standing → Type 0
 Went config [] old new = new ≡ old
-Went config (call ∷ calls) old new = (mid : Standing) × Goes config call old mid × Went config calls mid new
+Went config (call ∷ calls) old new = (mid : Standing) × Goes config call old mid
+    × Went config calls mid new
 
 -- the events that the calls took, in order
 abbrev pub taken : List Call → List Event
@@ -56,7 +58,8 @@ abbrev pub settled : State → Standing
 settled s = record { first = lasting s; state = s; held = 0 }
 
 -- the files stand for the state after the events that were answered, and the present state is that after all of them
-pub record StandsFor (config : Config) (start : State) (judged : List Judged) (now : Standing) : Type 0 where
+pub record StandsFor (config : Config) (start : State) (judged : List Judged)
+    (now : Standing) : Type 0 where
   pub fewer : now.held ≤ length judged
   pub answered : now.first ≡ lasting (after config start (take (length judged - now.held) judged))
   pub all : now.state ≡ after config start judged
@@ -64,5 +67,7 @@ pub record StandsFor (config : Config) (start : State) (judged : List Judged) (n
 -- After any calls the two states are the model's after the answered events, and after all.
 abbrev pub CallsStandForTheModel : Type 0
 CallsStandForTheModel =
-    (config : Config) (start : State) (calls : List Call) (now : Standing) → IsTrue (is_config config) → IsSound config start
-    → Went config calls (settled start) now → (judged : List Judged) × AreJudged config (taken calls) judged × StandsFor config start judged now
+    (config : Config) (start : State) (calls : List Call) (now : Standing)
+    → IsTrue (is_config config) → IsSound config start
+    → Went config calls (settled start) now → (judged : List Judged)
+    × AreJudged config (taken calls) judged × StandsFor config start judged now

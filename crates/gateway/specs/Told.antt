@@ -33,7 +33,8 @@ pub record Took (old new : Told) (event : Event) (given : Given) : Type 0 where
   pub state : new.state ≡ (step old.config old.state judged).0
   pub last : new.last ≡ old.last + 1
   pub number : number_of given ≡ new.last
-  pub order : handed given ++ new.held ≡ old.held ++ (old.last + 1, (step old.config old.state judged).1) ∷ []
+  pub order : handed given ++ new.held ≡ old.held
+      ++ (old.last + 1, (step old.config old.state judged).1) ∷ []
 
 -- the events were taken in turn, as they are judged: what was handed out and what is held are the former held, and their answers
 pub record TookAll (old new : Told) (events : List Event) (out : List (ℕ × Answer)) : Type 0 where

@@ -29,7 +29,8 @@ abbrev pub IsUsed : List ℕ → ℕ → List (ℕ × Answer) → Type 0
 IsUsed body granted held = (0 < length body + granted) ⊎ (held ≢ [])
 
 -- what the waiting always keep: the room that was granted is there, for 64 answers too, and the group fits its file
-pub record IsPending (body : List ℕ) (room capacity : ℕ) (held : List (ℕ × Answer)) (place granted : ℕ) : Type 0 where
+pub record IsPending (body : List ℕ) (room capacity : ℕ) (held : List (ℕ × Answer))
+    (place granted : ℕ) : Type 0 where
   pub entries : List Entry
   pub coded : AreEntries entries
   pub are : body ≡ body_bytes entries

@@ -57,11 +57,19 @@ impl<D: Disk + Drop> Model for Gateway<D> {
       generation = g.store.generation;
       grown = g.store.grown;
       filled = g.pending.place + length (body_bytes g.pending.entries);
-      told = record { config = g.core.config; state = g.core.state; last = g.last; held = g.pending.held };
+      told = record {
+        config = g.core.config;
+        state = g.core.state;
+        last = g.last;
+        held = g.pending.held;
+      };
     } };
 
-    ghost invariant = { λ g. (g.store.config ≡ g.core.config) × (g.pending.held ≡ [] → g.pending.entries ≡ []) × (g.store.fallen ≡ false → g.pending.place ≡ g.store.end)
-        × (g.store.fallen ≡ false → D.honest g.store.disk → IsStanding g.core.config (D.seen g.store.disk) g.pending.entries g.core.state) };
+    ghost invariant = { λ g. (g.store.config ≡ g.core.config)
+        × (g.pending.held ≡ [] → g.pending.entries ≡ [])
+        × (g.store.fallen ≡ false → g.pending.place ≡ g.store.end)
+        × (g.store.fallen ≡ false → D.honest g.store.disk
+        → IsStanding g.core.config (D.seen g.store.disk) g.pending.entries g.core.state) };
 }
 
 impl<D: Disk + Drop> Gateway<D> {
@@ -85,10 +93,12 @@ impl<D: Disk + Drop> Gateway<D> {
         bounds: Bounds,
         moment: u64,
     ) -> Result<Gateway<D>, (D, OpenFault)>
-        ensures honest { MatchResult result (λ g. D.honest disk ↔ D.honest g.disk) (λ e. D.honest disk ↔ D.honest e.0) }
+        ensures honest { MatchResult result (λ g. D.honest disk ↔ D.honest g.disk)
+            (λ e. D.honest disk ↔ D.honest e.0) }
 
         // Whatever a crash leaves since the entry stands for what some pair left at the entry stands for.
-        ensures any_moment { D.honest disk → MatchResult result (λ g. Leaves D.moment D.left disk g.disk Alike)
+        ensures any_moment { D.honest disk
+            → MatchResult result (λ g. Leaves D.moment D.left disk g.disk Alike)
             (λ e. Leaves D.moment D.left disk e.0 Alike) }
 
         // Where each pair left at the entry has this configuration in its active file, if it has one, so has each since.
@@ -97,18 +107,22 @@ impl<D: Disk + Drop> Gateway<D> {
             (λ e. LeavesOnly D.moment D.left disk e.0 (IsConfigured bounds)) }
 
         // The state is begun again from what the files stood for, which a crash leaves from now on.
-        ensures ok { D.honest disk → IfOk result (λ g. (d : Durable) × Recovers (D.seen disk) d × IsRestarted bounds d moment g.told.state
+        ensures ok { D.honest disk → IfOk result (λ g. (d : Durable) × Recovers (D.seen disk) d
+            × IsRestarted bounds d moment g.told.state
             × LeavesNow D.moment D.left g.disk (λ files. Recovers files d)) }
         ensures taken { D.honest disk → OnOk result (IsConfigured bounds (D.seen disk)) }
         ensures config { IfOk result (λ g. g.told.config ≡ bounds) }
         ensures last { IfOk result (λ g. g.told.last ≡ 0) }
         ensures none { IfOk result (λ g. g.told.held ≡ []) }
         ensures stands { IfOk result (λ g. g.fallen ≡ false) }
-        ensures damaged { D.honest disk → IfErr result (λ e. e.1 ≡ OpenFault.Damaged → (d : Durable) → ¬ Recovers (D.seen disk) d) }
+        ensures damaged { D.honest disk → IfErr result (λ e. e.1 ≡ OpenFault.Damaged → (d : Durable)
+            → ¬ Recovers (D.seen disk) d) }
         ensures differs { D.honest disk → IfErr result (λ e. e.1 ≡ OpenFault.ConfigDiffers
             → (d : Durable) × Recovers (D.seen disk) d × ¬ IsConfigured bounds (D.seen disk)) }
-        ensures looks { D.honest disk → IfErr result (λ e. (e.1 ≡ OpenFault.Damaged) ⊎ (e.1 ≡ OpenFault.ConfigDiffers) → Looks D.moment D.left D.seen disk e.0) }
-        ensures device { IfErr result (λ e. e.1 ≡ OpenFault.Device → Grew (D.failed disk) (D.failed e.0)) }
+        ensures looks { D.honest disk → IfErr result (λ e. (e.1 ≡ OpenFault.Damaged)
+            ⊎ (e.1 ≡ OpenFault.ConfigDiffers) → Looks D.moment D.left D.seen disk e.0) }
+        ensures device { IfErr result (λ e. e.1 ≡ OpenFault.Device
+            → Grew (D.failed disk) (D.failed e.0)) }
     {
         match Store::open(alloc, disk, &bounds) {
             Ok(
@@ -187,14 +201,18 @@ impl<D: Disk + Drop> Gateway<D> {
         ensures value { result ≡ self.now.fallen }
 
         // Until then the files stand for one state, whatever a crash leaves now; the present one, where nothing is held.
-        ensures stands { result ≡ false → D.honest self.now.disk → (first : Durable) × Recovers (D.seen self.now.disk) first
+        ensures stands { result ≡ false → D.honest self.now.disk
+            → (first : Durable) × Recovers (D.seen self.now.disk) first
             × LeavesNow D.moment D.left self.now.disk (λ files. Recovers files first) }
-        ensures present { result ≡ false → D.honest self.now.disk → self.now.told.held ≡ [] → Recovers (D.seen self.now.disk) (lasting self.now.told.state) }
-        ensures configured { result ≡ false → D.honest self.now.disk → LeavesNow D.moment D.left self.now.disk (IsConfigured self.now.told.config) }
+        ensures present { result ≡ false → D.honest self.now.disk → self.now.told.held ≡ []
+            → Recovers (D.seen self.now.disk) (lasting self.now.told.state) }
+        ensures configured { result ≡ false → D.honest self.now.disk
+            → LeavesNow D.moment D.left self.now.disk (IsConfigured self.now.told.config) }
 
         // The groups of the active file end where the entries that wait begin.
         ensures places { result ≡ false → D.honest self.now.disk → (end : ℕ)
-            × HasPlaces (D.seen self.now.disk) self.now.generation self.now.grown end × (end ≤ self.now.filled) }
+            × HasPlaces (D.seen self.now.disk) self.now.generation self.now.grown end
+            × (end ≤ self.now.filled) }
         ensures filled { result ≡ false → D.honest self.now.disk → self.now.told.held ≡ []
             → HasPlaces (D.seen self.now.disk) self.now.generation self.now.grown self.now.filled }
     {
@@ -231,27 +249,39 @@ impl<D: Disk + Drop> Gateway<D> {
         ensures generation { self.new.generation ≡ self.old.generation }
         ensures grown { self.new.grown ≡ self.old.grown }
         ensures took { IfOk result (λ given. Took self.old.told self.new.told event given) }
-        ensures now { IfOk result (λ given. (judged : Judged) → IsJudged self.old.told.config event judged
-            → IsNow given ↔ ((self.old.told.held ≡ []) × ¬ HasEntry self.old.told.config self.old.told.state judged)) }
+        ensures now { IfOk result (λ given. (judged : Judged)
+            → IsJudged self.old.told.config event judged
+            → IsNow given
+            ↔ ((self.old.told.held ≡ [])
+            × ¬ HasEntry self.old.told.config self.old.told.state judged)) }
 
         // What waits has grown by the entries of the event.
-        ensures filled { OnOk result ((judged : Judged) × (entries : List Entry) × IsJudged self.old.told.config event judged
-            × AreEntriesOf self.old.told.config self.old.told.state judged entries × (self.new.filled ≡ self.old.filled + length (body_bytes entries))) }
+        ensures filled { OnOk result ((judged : Judged) × (entries : List Entry)
+            × IsJudged self.old.told.config event judged
+            × AreEntriesOf self.old.told.config self.old.told.state judged entries
+            × (self.new.filled ≡ self.old.filled + length (body_bytes entries))) }
         ensures err { IfErr result (λ e. (e.0 ≡ event) × (self.new ≡ self.old)) }
-        ensures reopen { IfErr result (λ e. (e.1 ≡ GatewayFault.Reopen) ↔ (self.old.fallen ≡ true)) }
+        ensures reopen { IfErr result (λ e. (e.1 ≡ GatewayFault.Reopen)
+            ↔ (self.old.fallen ≡ true)) }
         ensures stood { OnOk result (self.old.fallen ≡ false) }
-        ensures numbers_out { IfErr result (λ e. (e.1 ≡ GatewayFault.NumbersOut) ↔ ((self.old.fallen ≡ false) × (self.old.told.last ≡ 2 ^ 64 - 1))) }
+        ensures numbers_out { IfErr result (λ e. (e.1 ≡ GatewayFault.NumbersOut)
+            ↔ ((self.old.fallen ≡ false) × (self.old.told.last ≡ 2 ^ 64 - 1))) }
         ensures numbers_left { OnOk result (self.old.told.last < 2 ^ 64 - 1) }
         ensures held_full { IfErr result (λ e. (e.1 ≡ GatewayFault.HeldFull)
-            ↔ ((self.old.fallen ≡ false) × (self.old.told.last < 2 ^ 64 - 1) × (length self.old.told.held ≡ 64))) }
+            ↔ ((self.old.fallen ≡ false) × (self.old.told.last < 2 ^ 64 - 1)
+            × (length self.old.told.held ≡ 64))) }
         ensures held_few { OnOk result (length self.old.told.held < 64) }
-        ensures full { IfErr result (λ e. e.1 ≡ GatewayFault.Full → IsTooMuch self.old.filled self.old.told.config self.old.told.state event) }
+        ensures full { IfErr result (λ e. e.1 ≡ GatewayFault.Full
+            → IsTooMuch self.old.filled self.old.told.config self.old.told.state event) }
         ensures roomy { IsRoomy self.old.filled → IfErr result (λ e. e.1 ≢ GatewayFault.Full) }
-        ensures causes { IfErr result (λ e. (e.1 ≢ GatewayFault.Device) × (e.1 ≢ GatewayFault.Generations)) }
+        ensures causes { IfErr result (λ e. (e.1 ≢ GatewayFault.Device)
+            × (e.1 ≢ GatewayFault.Generations)) }
 
         // No memory is taken where nothing must be held.
-        ensures quiet { self.old.fallen ≡ false → self.old.told.last < 2 ^ 64 - 1 → self.old.told.held ≡ [] → IsNoLoad event.what
-            → (judged : Judged) → IsJudged self.old.told.config event judged → ¬ HasEntry self.old.told.config self.old.told.state judged → IsOk result }
+        ensures quiet { self.old.fallen ≡ false → self.old.told.last < 2 ^ 64 - 1
+            → self.old.told.held ≡ [] → IsNoLoad event.what
+            → (judged : Judged) → IsJudged self.old.told.config event judged
+            → ¬ HasEntry self.old.told.config self.old.told.state judged → IsOk result }
     {
         if self.store.has_fallen() {
             return Err((event, GatewayFault::Reopen));
@@ -295,7 +325,8 @@ impl<D: Disk + Drop> Gateway<D> {
         // It is answered at once as where it is offered: nothing is held, and nothing changes that must survive.
         ensures none_held { OnSome result (self.old.told.held ≡ []) }
         ensures no_entry { OnSome result ((judged : Judged)
-            → IsJudged self.old.told.config (record { moment = moment; what = Packet iface packet.old }) judged
+            → IsJudged self.old.told.config
+            (record { moment = moment; what = Packet iface packet.old }) judged
             → ¬ HasEntry self.old.told.config self.old.told.state judged) }
         ensures stood { OnSome result (self.old.fallen ≡ false) }
         ensures numbers_left { OnSome result (self.old.told.last < 2 ^ 64 - 1) }
@@ -345,29 +376,40 @@ impl<D: Disk + Drop> Gateway<D> {
         ensures honest { D.honest self.old.disk ↔ D.honest self.new.disk }
 
         // A crash at any moment leaves the state that the files stood for, or the present one.
-        ensures any_moment { self.old.fallen ≡ false → D.honest self.old.disk → (first : Durable) → Recovers (D.seen self.old.disk) first
-            → LeavesOnly D.moment D.left self.old.disk self.new.disk (RecoversEither first (lasting self.old.told.state)) }
+        ensures any_moment { self.old.fallen ≡ false → D.honest self.old.disk → (first : Durable)
+            → Recovers (D.seen self.old.disk) first
+            → LeavesOnly D.moment D.left self.old.disk self.new.disk
+            (RecoversEither first (lasting self.old.told.state)) }
         ensures configured { self.old.fallen ≡ false → D.honest self.old.disk
-            → LeavesOnly D.moment D.left self.old.disk self.new.disk (IsConfigured self.old.told.config) }
+            → LeavesOnly D.moment D.left self.old.disk self.new.disk
+            (IsConfigured self.old.told.config) }
 
         // After Ok the present one is left.
-        ensures ok { D.honest self.old.disk → OnOk result (LeavesNow D.moment D.left self.new.disk (λ files. Recovers files (lasting self.old.told.state))) }
-        ensures reads { D.honest self.old.disk → OnOk result (Recovers (D.seen self.new.disk) (lasting self.old.told.state)) }
+        ensures ok { D.honest self.old.disk
+            → OnOk result (LeavesNow D.moment D.left self.new.disk
+            (λ files. Recovers files (lasting self.old.told.state))) }
+        ensures reads { D.honest self.old.disk
+            → OnOk result (Recovers (D.seen self.new.disk) (lasting self.old.told.state)) }
         ensures answers { IfOk result (λ answers. answers.items ≡ self.old.told.held) }
         ensures none { OnOk result (self.new.told ≡ record self.old.told { held = [] }) }
         ensures generation { self.new.generation ≡ self.old.generation }
         ensures err { OnErr result (self.new.told ≡ self.old.told) }
         ensures reopen { IsErrOf result GatewayFault.Reopen ↔ (self.old.fallen ≡ true) }
         ensures reopen_stays { IsErrOf result GatewayFault.Reopen → self.new ≡ self.old }
-        ensures fell { IsErrOf result GatewayFault.Device ↔ ((self.old.fallen ≡ false) × (self.new.fallen ≡ true)) }
+        ensures fell { IsErrOf result GatewayFault.Device
+            ↔ ((self.old.fallen ≡ false) × (self.new.fallen ≡ true)) }
         ensures causes { IfErr result (λ e. (e ≡ GatewayFault.Reopen) ⊎ (e ≡ GatewayFault.Device)) }
-        ensures device { IsErrOf result GatewayFault.Device → Grew (D.failed self.old.disk) (D.failed self.new.disk) }
+        ensures device { IsErrOf result GatewayFault.Device
+            → Grew (D.failed self.old.disk) (D.failed self.new.disk) }
         ensures no_failure { OnOk result (D.failed self.new.disk ≡ D.failed self.old.disk) }
 
         // The group that was written has 5 bytes beside its entries.
-        ensures filled { D.honest self.old.disk → self.old.told.held ≢ [] → OnOk result (self.new.filled ≡ self.old.filled + 5) }
-        ensures idle { self.old.told.held ≡ [] → (self.new.disk ≡ self.old.disk) × (self.new.filled ≡ self.old.filled) }
-        ensures called { D.honest self.old.disk → self.old.told.held ≢ [] → OnOk result (Called 4 (D.called self.old.disk) (D.called self.new.disk)) }
+        ensures filled { D.honest self.old.disk → self.old.told.held ≢ []
+            → OnOk result (self.new.filled ≡ self.old.filled + 5) }
+        ensures idle { self.old.told.held ≡ [] → (self.new.disk ≡ self.old.disk)
+            × (self.new.filled ≡ self.old.filled) }
+        ensures called { D.honest self.old.disk → self.old.told.held ≢ []
+            → OnOk result (Called 4 (D.called self.old.disk) (D.called self.new.disk)) }
     {
         if self.store.has_fallen() {
             return Err(GatewayFault::Reopen);
@@ -398,20 +440,27 @@ impl<D: Disk + Drop> Gateway<D> {
 
         // A crash at any moment leaves the present state.
         ensures any_moment { self.old.fallen ≡ false → D.honest self.old.disk
-            → LeavesOnly D.moment D.left self.old.disk self.new.disk (λ files. Recovers files (lasting self.old.told.state)) }
+            → LeavesOnly D.moment D.left self.old.disk self.new.disk
+            (λ files. Recovers files (lasting self.old.told.state)) }
         ensures configured { self.old.fallen ≡ false → D.honest self.old.disk
-            → LeavesOnly D.moment D.left self.old.disk self.new.disk (IsConfigured self.old.told.config) }
+            → LeavesOnly D.moment D.left self.old.disk self.new.disk
+            (IsConfigured self.old.told.config) }
         ensures grown { OnOk result (self.new.grown ≡ 0) }
         ensures generation { OnOk result (self.new.generation ≡ self.old.generation + 1) }
-        ensures generations { IsErrOf result GatewayFault.Generations → self.old.generation ≡ 2 ^ 64 - 1 }
+        ensures generations { IsErrOf result GatewayFault.Generations
+            → self.old.generation ≡ 2 ^ 64 - 1 }
         ensures roomy { OnOk result (IsRoomy self.new.filled) }
         ensures stays { IfErr result (λ e. e ≢ GatewayFault.Device → self.new ≡ self.old) }
         ensures reopen { IsErrOf result GatewayFault.Reopen ↔ (self.old.fallen ≡ true) }
-        ensures fell { IsErrOf result GatewayFault.Device ↔ ((self.old.fallen ≡ false) × (self.new.fallen ≡ true)) }
-        ensures causes { IfErr result (λ e. (e ≡ GatewayFault.Reopen) ⊎ (e ≡ GatewayFault.NoMemory) ⊎ (e ≡ GatewayFault.Device) ⊎ (e ≡ GatewayFault.Generations)) }
-        ensures device { IsErrOf result GatewayFault.Device → Grew (D.failed self.old.disk) (D.failed self.new.disk) }
+        ensures fell { IsErrOf result GatewayFault.Device
+            ↔ ((self.old.fallen ≡ false) × (self.new.fallen ≡ true)) }
+        ensures causes { IfErr result (λ e. (e ≡ GatewayFault.Reopen) ⊎ (e ≡ GatewayFault.NoMemory)
+            ⊎ (e ≡ GatewayFault.Device) ⊎ (e ≡ GatewayFault.Generations)) }
+        ensures device { IsErrOf result GatewayFault.Device
+            → Grew (D.failed self.old.disk) (D.failed self.new.disk) }
         ensures no_failure { OnOk result (D.failed self.new.disk ≡ D.failed self.old.disk) }
-        ensures called { D.honest self.old.disk → OnOk result (Called 6 (D.called self.old.disk) (D.called self.new.disk)) }
+        ensures called { D.honest self.old.disk
+            → OnOk result (Called 6 (D.called self.old.disk) (D.called self.new.disk)) }
     {
         if self.store.has_fallen() {
             return Err(GatewayFault::Reopen);
@@ -449,31 +498,44 @@ impl<D: Disk + Drop> Gateway<D> {
         events: Vec<Event>,
     ) -> Result<Vec<(u64, Answer)>, (Vec<(u64, Answer)>, GatewayFault)>
         ensures honest { D.honest self.old.disk ↔ D.honest self.new.disk }
-        ensures ok { IfOk result (λ answers. TookAll self.old.told self.new.told events.items answers.items) }
+        ensures ok { IfOk result (λ answers. TookAll self.old.told self.new.told events.items
+            answers.items) }
         ensures none { OnOk result (self.new.told.held ≡ []) }
-        ensures err { IfErr result (λ e. TookFirst self.old.told self.new.told events.items e.0.items) }
+        ensures err { IfErr result (λ e. TookFirst self.old.told self.new.told events.items
+            e.0.items) }
 
         // A crash at any moment leaves what the model has after a beginning of the events.
         ensures any_moment { IsReady D.honest self.old
-            → LeavesOnly D.moment D.left self.old.disk self.new.disk (IsSafe self.old.told.config self.old.told.state events.items 0) }
+            → LeavesOnly D.moment D.left self.old.disk self.new.disk
+            (IsSafe self.old.told.config self.old.told.state events.items 0) }
 
         // A crash at the exit leaves that of a beginning which holds every event whose answer was handed out.
         ensures at_exit { IsReady D.honest self.old → MatchResult result
-            (λ answers. LeavesNow D.moment D.left self.new.disk (IsSafe self.old.told.config self.old.told.state events.items (length answers.items)))
-            (λ e. LeavesNow D.moment D.left self.new.disk (IsSafe self.old.told.config self.old.told.state events.items (length e.0.items))) }
+            (λ answers. LeavesNow D.moment D.left self.new.disk
+            (IsSafe self.old.told.config self.old.told.state events.items
+            (length answers.items)))
+            (λ e. LeavesNow D.moment D.left self.new.disk
+            (IsSafe self.old.told.config self.old.told.state events.items (length e.0.items))) }
 
         // With a fault, both are said of those that were taken.
-        ensures within { self.old.fallen ≡ false → IfErr result (λ e. StopsWithin D.honest D.moment D.left D.failed self.old self.new
+        ensures within { self.old.fallen ≡ false
+            → IfErr result (λ e. StopsWithin D.honest D.moment D.left D.failed self.old self.new
             events.items e.0.items e.1) }
         ensures configured { self.old.fallen ≡ false → D.honest self.old.disk
-            → LeavesOnly D.moment D.left self.old.disk self.new.disk (IsConfigured self.old.told.config) }
-        ensures reopen { IfErr result (λ e. (e.1 ≡ GatewayFault.Reopen) ↔ (self.old.fallen ≡ true)) }
+            → LeavesOnly D.moment D.left self.old.disk self.new.disk
+            (IsConfigured self.old.told.config) }
+        ensures reopen { IfErr result (λ e. (e.1 ≡ GatewayFault.Reopen)
+            ↔ (self.old.fallen ≡ true)) }
         ensures reopen_stays { self.old.fallen ≡ true → self.new ≡ self.old }
         ensures stood { OnOk result (self.old.fallen ≡ false) }
-        ensures causes { IfErr result (λ e. (e.1 ≢ GatewayFault.HeldFull) × (e.1 ≢ GatewayFault.Full)) }
-        ensures numbers_out { IfErr result (λ e. e.1 ≡ GatewayFault.NumbersOut → self.new.told.last ≡ 2 ^ 64 - 1) }
-        ensures fell { IfErr result (λ e. (e.1 ≡ GatewayFault.Device) ↔ ((self.old.fallen ≡ false) × (self.new.fallen ≡ true))) }
-        ensures device { IfErr result (λ e. e.1 ≡ GatewayFault.Device → Grew (D.failed self.old.disk) (D.failed self.new.disk)) }
+        ensures causes { IfErr result (λ e. (e.1 ≢ GatewayFault.HeldFull)
+            × (e.1 ≢ GatewayFault.Full)) }
+        ensures numbers_out { IfErr result (λ e. e.1 ≡ GatewayFault.NumbersOut
+            → self.new.told.last ≡ 2 ^ 64 - 1) }
+        ensures fell { IfErr result (λ e. (e.1 ≡ GatewayFault.Device)
+            ↔ ((self.old.fallen ≡ false) × (self.new.fallen ≡ true))) }
+        ensures device { IfErr result (λ e. e.1 ≡ GatewayFault.Device
+            → Grew (D.failed self.old.disk) (D.failed self.new.disk)) }
     {
         if self.has_fallen() {
             return Err((Vec::new(self.alloc), GatewayFault::Reopen));
@@ -499,8 +561,14 @@ fn begin(
 ) -> Result<(Core, Pending), NoMemory>
     requires { IsDurable bounds (durable text.items sessions.now) }
     ensures config { IfOk result (λ r. r.0.config ≡ bounds) }
-    ensures state { IfOk result (λ r. IsRestarted bounds (durable text.items sessions.now) moment r.0.state) }
-    ensures pending { IfOk result (λ r. r.1 ≡ record { held = []; entries = []; place = place; granted = 0 }) }
+    ensures state { IfOk result (λ r. IsRestarted bounds (durable text.items sessions.now) moment
+        r.0.state) }
+    ensures pending { IfOk result (λ r. r.1 ≡ record {
+      held = [];
+      entries = [];
+      place = place;
+      granted = 0;
+    }) }
 {
     // The core comes last, so that no way out of here lets one go.
     let Ok(pending) = Pending::new(alloc, place) else {

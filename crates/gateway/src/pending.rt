@@ -29,9 +29,15 @@ impl Model for Pending {
 
     ghost Value = { Waiting };
 
-    ghost view = { λ p. record { held = p.held.items; entries = entries_in p.group.body; place = p.place; granted = p.granted } };
+    ghost view = { λ p. record {
+      held = p.held.items;
+      entries = entries_in p.group.body;
+      place = p.place;
+      granted = p.granted;
+    } };
 
-    ghost invariant = { λ p. IsPending p.group.body p.group.room (vec_capacity p.held) p.held.items p.place p.granted };
+    ghost invariant = { λ p. IsPending p.group.body p.group.room (vec_capacity p.held) p.held.items
+        p.place p.granted };
 }
 
 impl Pending {
@@ -41,7 +47,12 @@ impl Pending {
     ///
     /// `AllocError` where memory is refused.
     pub(crate) fn new(alloc: Global, place: u64) -> Result<Pending, AllocError>
-        ensures { IfOk result (λ p. p ≡ record { held = []; entries = []; place = place; granted = 0 }) }
+        ensures { IfOk result (λ p. p ≡ record {
+          held = [];
+          entries = [];
+          place = place;
+          granted = 0;
+        }) }
     {
         let group = Group::new(alloc)?;
         Ok(Pending {
@@ -73,7 +84,8 @@ impl Pending {
     pub(crate) fn group(&self) -> &Group
         ensures body { result.now.body ≡ body_bytes self.now.entries }
         ensures coded { AreEntries self.now.entries }
-        ensures fits { self.now.entries ≢ [] → self.now.place + length result.now.body + 6 ≤ 67108864 }
+        ensures fits { self.now.entries ≢ []
+            → self.now.place + length result.now.body + 6 ≤ 67108864 }
     {
         &self.group
     }
@@ -138,7 +150,8 @@ impl Notes for Pending {
 // How many bytes the entries take, 14 for each session that ends and those of the others, if they fit the file
 // behind those that wait.
 fn room_for(place: u64, waiting: u64, ends: u64, others: u64) -> Option<u64>
-    ensures some { IfSome result (λ bytes. (bytes ≡ 14 * ends + others) × (place + waiting + bytes + 6 ≤ 67108864)) }
+    ensures some { IfSome result (λ bytes. (bytes ≡ 14 * ends + others)
+        × (place + waiting + bytes + 6 ≤ 67108864)) }
     ensures none { IfNone result (67108864 < place + waiting + (14 * ends + others) + 6) }
 {
     if place > LIMIT || waiting > LIMIT || ends > LIMIT || others > LIMIT {

@@ -35,12 +35,15 @@ pub(crate) fn take_all<D: Disk + Drop>(
     events: Vec<Event>,
     answers: &mut Vec<(u64, Answer)>,
 ) -> Result<(), GatewayFault>
-    requires begun { Stands D.honest D.moment D.left D.failed gateway.old gateway.old [] answers.old.items }
+    requires begun { Stands D.honest D.moment D.left D.failed gateway.old gateway.old []
+        answers.old.items }
     requires room { vec_len answers.old + length gateway.old.told.held + length events.items
         ≤ vec_capacity answers.old }
-    ensures ok { OnOk result (Ends D.honest D.moment D.left D.failed gateway.old gateway.new events.items answers.new.items) }
+    ensures ok { OnOk result (Ends D.honest D.moment D.left D.failed gateway.old gateway.new
+        events.items answers.new.items) }
     ensures none { OnOk result (gateway.new.told.held ≡ []) }
-    ensures err { IfErr result (StopsWithin D.honest D.moment D.left D.failed gateway.old gateway.new events.items answers.new.items) }
+    ensures err { IfErr result (StopsWithin D.honest D.moment D.left D.failed gateway.old
+        gateway.new events.items answers.new.items) }
     ensures stands { OnOk result (gateway.new.fallen ≡ false) }
 {
     for event in events {
@@ -62,10 +65,13 @@ pub fn take<D: Disk + Drop>(
     answers: &mut Vec<(u64, Answer)>,
 ) -> Result<(), GatewayFault>
     requires stands { gateway.old.fallen ≡ false }
-    requires room { vec_len answers.old + length gateway.old.told.held + 1 ≤ vec_capacity answers.old }
-    ensures ok { OnOk result (CarriesOn D.honest D.moment D.left D.failed gateway.old gateway.new (event ∷ [])
+    requires room { vec_len answers.old + length gateway.old.told.held + 1
+        ≤ vec_capacity answers.old }
+    ensures ok { OnOk result (CarriesOn D.honest D.moment D.left D.failed gateway.old gateway.new
+        (event ∷ [])
         answers.old.items answers.new.items) }
-    ensures err { IfErr result (BreaksOff D.honest D.moment D.left D.failed gateway.old gateway.new (event ∷ [])
+    ensures err { IfErr result (BreaksOff D.honest D.moment D.left D.failed gateway.old gateway.new
+        (event ∷ [])
         answers.old.items answers.new.items) }
     ensures stands { OnOk result (gateway.new.fallen ≡ false) }
     ensures room { vec_len answers.new + length gateway.new.told.held
@@ -114,10 +120,13 @@ fn make_room<D: Disk + Drop>(
     answers: &mut Vec<(u64, Answer)>,
 ) -> Result<(), GatewayFault>
     requires stands { gateway.old.fallen ≡ false }
-    requires room { vec_len answers.old + length gateway.old.told.held + 1 ≤ vec_capacity answers.old }
-    ensures ok { OnOk result (CarriesOn D.honest D.moment D.left D.failed gateway.old gateway.new (event ∷ [])
+    requires room { vec_len answers.old + length gateway.old.told.held + 1
+        ≤ vec_capacity answers.old }
+    ensures ok { OnOk result (CarriesOn D.honest D.moment D.left D.failed gateway.old gateway.new
+        (event ∷ [])
         answers.old.items answers.new.items) }
-    ensures err { IfErr result (BreaksOff D.honest D.moment D.left D.failed gateway.old gateway.new (event ∷ [])
+    ensures err { IfErr result (BreaksOff D.honest D.moment D.left D.failed gateway.old gateway.new
+        (event ∷ [])
         answers.old.items answers.new.items) }
     ensures stands { OnOk result (gateway.new.fallen ≡ false) }
     ensures room { vec_len answers.new + length gateway.new.told.held
@@ -145,7 +154,8 @@ pub fn compact<D: Disk + Drop>(
     requires room { vec_len answers.old + length gateway.old.told.held ≤ vec_capacity answers.old }
     ensures ok { OnOk result (CarriesOn D.honest D.moment D.left D.failed gateway.old gateway.new []
         answers.old.items answers.new.items) }
-    ensures err { IfErr result (BreaksOff D.honest D.moment D.left D.failed gateway.old gateway.new []
+    ensures err { IfErr result (BreaksOff D.honest D.moment D.left D.failed gateway.old
+        gateway.new []
         answers.old.items answers.new.items) }
     ensures stands { OnOk result (gateway.new.fallen ≡ false) }
     ensures none { OnOk result (gateway.new.told.held ≡ []) }
@@ -171,7 +181,8 @@ fn hold_fewer<D: Disk + Drop>(
     requires room { vec_len answers.old + length gateway.old.told.held ≤ vec_capacity answers.old }
     ensures ok { OnOk result (CarriesOn D.honest D.moment D.left D.failed gateway.old gateway.new []
         answers.old.items answers.new.items) }
-    ensures err { IfErr result (BreaksOff D.honest D.moment D.left D.failed gateway.old gateway.new []
+    ensures err { IfErr result (BreaksOff D.honest D.moment D.left D.failed gateway.old
+        gateway.new []
         answers.old.items answers.new.items) }
     ensures stands { OnOk result (gateway.new.fallen ≡ false) }
     ensures few { OnOk result (length gateway.new.told.held < 64) }
@@ -198,7 +209,8 @@ pub fn hand_out<D: Disk + Drop>(
     requires room { vec_len answers.old + length gateway.old.told.held ≤ vec_capacity answers.old }
     ensures ok { OnOk result (CarriesOn D.honest D.moment D.left D.failed gateway.old gateway.new []
         answers.old.items answers.new.items) }
-    ensures err { IfErr result (BreaksOff D.honest D.moment D.left D.failed gateway.old gateway.new []
+    ensures err { IfErr result (BreaksOff D.honest D.moment D.left D.failed gateway.old
+        gateway.new []
         answers.old.items answers.new.items) }
     ensures stands { OnOk result (gateway.new.fallen ≡ false) }
     ensures none { OnOk result (gateway.new.told.held ≡ []) }
@@ -224,10 +236,13 @@ fn offer<D: Disk + Drop>(
 ) -> Result<(), (Event, GatewayFault)>
     requires stands { gateway.old.fallen ≡ false }
     requires few { length gateway.old.told.held < 64 }
-    requires room { vec_len answers.old + length gateway.old.told.held + 1 ≤ vec_capacity answers.old }
-    ensures ok { OnOk result (CarriesOn D.honest D.moment D.left D.failed gateway.old gateway.new (event ∷ [])
+    requires room { vec_len answers.old + length gateway.old.told.held + 1
+        ≤ vec_capacity answers.old }
+    ensures ok { OnOk result (CarriesOn D.honest D.moment D.left D.failed gateway.old gateway.new
+        (event ∷ [])
         answers.old.items answers.new.items) }
-    ensures err { IfErr result (λ e. (e.0 ≡ event) × (gateway.new ≡ gateway.old) × (answers.new ≡ answers.old)) }
+    ensures err { IfErr result (λ e. (e.0 ≡ event) × (gateway.new ≡ gateway.old)
+        × (answers.new ≡ answers.old)) }
     ensures full { IsRoomy gateway.old.filled → IfErr result (λ e. e.1 ≢ GatewayFault.Full) }
     ensures why { IfErr result (λ e. e.1 ≢ GatewayFault.Full
         → BreaksOff D.honest D.moment D.left D.failed gateway.old gateway.new (event ∷ [])

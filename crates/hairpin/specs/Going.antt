@@ -12,7 +12,8 @@ use Rattle.hairpin.specs.declared.plan.Plan.{Plan}
 
 -- the plan of a packet that leaves so
 abbrev pub plan_of : Going → Plan
-plan_of g = record { first = Seen g.slot g.bits; second = None; iface = g.iface; src = g.src; dst = g.dst }
+plan_of g =
+    record { first = Seen g.slot g.bits; second = None; iface = g.iface; src = g.src; dst = g.dst }
 
 abbrev pub planned : Result Going Cause → Result Plan Cause
 planned (Ok g) = Ok (plan_of g)

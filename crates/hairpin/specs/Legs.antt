@@ -48,17 +48,20 @@ abbrev pub inward : Session → Passage
 inward t = record { sessions = t ∷ []; src = t.remote; dst = t.inside; iface = Lan }
 
 abbrev pub through : Session → Session → Passage
-through first t = record { sessions = first ∷ t ∷ []; src = first.outside; dst = t.inside; iface = Lan }
+through first t =
+    record { sessions = first ∷ t ∷ []; src = first.outside; dst = t.inside; iface = Lan }
 
 -- ---- sessions and mappings
 
 -- this protocol's inside endpoint has the session's mapping
 unfoldable pub maps_inside : Proto → Endpoint → Session → Bool
-maps_inside proto inside s = is_translated s && same_proto s.proto proto && same_endpoint s.inside inside
+maps_inside proto inside s =
+    is_translated s && same_proto s.proto proto && same_endpoint s.inside inside
 
 -- this protocol's outside endpoint has the session's mapping
 unfoldable pub maps_outside : Proto → Endpoint → Session → Bool
-maps_outside proto outside s = is_translated s && same_proto s.proto proto && same_endpoint s.outside outside
+maps_outside proto outside s =
+    is_translated s && same_proto s.proto proto && same_endpoint s.outside outside
 
 -- the session has this outside endpoint of the protocol
 unfoldable pub is_at : Proto → Endpoint → Session → Bool
@@ -107,11 +110,14 @@ then_with (Ok a) next = next a
 module _ (config : Config) (rules : Spelled) (sessions : List Session) (now : ℕ) (view : View) where
   -- what the rules may ask about the packet between these interfaces and endpoints
   abbrev pub facts_of : Iface → Option Iface → Endpoint → Endpoint → State → Facts
-  facts_of iif oif src dst state = record { iif = iif; oif = oif; src = src; dst = dst; proto = view.proto; state = state }
+  facts_of iif oif src dst state =
+      record { iif = iif; oif = oif; src = src; dst = dst; proto = view.proto; state = state }
 
   -- the forward chains let the packet pass, or drop it
-  abbrev pub forwarded : {A : Type 0} → Iface → Iface → Endpoint → Endpoint → State → Result A Cause → Result A Cause
-  forwarded iif oif src dst state way = unless_dropped (forward_verdict config (facts_of iif (Some oif) src dst state) rules) way
+  abbrev pub forwarded : {A : Type 0} → Iface → Iface → Endpoint → Endpoint → State → Result A Cause
+      → Result A Cause
+  forwarded iif oif src dst state way =
+      unless_dropped (forward_verdict config (facts_of iif (Some oif) src dst state) rules) way
 
   -- last, there are not too many sessions
   abbrev pub counted : Passage → Result Passage Cause
@@ -119,11 +125,21 @@ module _ (config : Config) (rules : Spelled) (sessions : List Session) (now : �
 
   -- the outside endpoint at this address that the port of the inside endpoint is given
   abbrev pub chosen : ℕ → Endpoint → Result Endpoint Cause
-  chosen addr inside = or_no_port (option_map (endpoint addr) (port_choice (is_taken sessions view.proto addr) inside.port))
+  chosen addr inside =
+      or_no_port (option_map (endpoint addr) (port_choice (is_taken sessions view.proto addr)
+      inside.port))
 
   abbrev pub new_session : Opener → Endpoint → Endpoint → Endpoint → Session
   new_session opener inside outside remote =
-      record { proto = view.proto; inside = inside; outside = outside; remote = remote; opener = opener; seen = 0; last = now }
+      record {
+        proto = view.proto;
+        inside = inside;
+        outside = outside;
+        remote = remote;
+        opener = opener;
+        seen = 0;
+        last = now;
+      }
 
   -- ---- out: from an inside endpoint to a remote one
 
@@ -136,14 +152,17 @@ module _ (config : Config) (rules : Spelled) (sessions : List Session) (now : �
   -- a mapping of the inside endpoint gives its outside endpoint, and no nat chain is asked; without one the rules decide
   abbrev pub outside_for : Option Session → Result Endpoint Cause
   outside_for (Some m) = Ok m.outside
-  outside_for None = outside_by_rules (postrouting_verdict config (facts_of Lan (Some Wan) view.src view.dst New) rules)
+  outside_for None =
+      outside_by_rules (postrouting_verdict config
+      (facts_of Lan (Some Wan) view.src view.dst New) rules)
 
   abbrev pub begun_out : Result Passage Cause
   begun_out = then_with (outside_for (find (maps_inside view.proto view.src) sessions))
       (λ outside. counted (outward (new_session Inside view.src outside view.dst)))
 
   abbrev pub out_by : Option Session → Result Passage Cause
-  out_by (Some s) = forwarded Lan Wan view.src view.dst (state_of s Inside view.flags) (Ok (outward (passed_by s Inside view.flags now)))
+  out_by (Some s) = forwarded Lan Wan view.src view.dst (state_of s Inside view.flags)
+      (Ok (outward (passed_by s Inside view.flags now)))
   out_by None = if needs_session view then Err NoSession else forwarded Lan Wan view.src view.dst New begun_out
 
   -- the packet's session goes on, or a new one begins
@@ -162,7 +181,8 @@ module _ (config : Config) (rules : Spelled) (sessions : List Session) (now : �
   -- an inside destination is the inside endpoint itself; for the external address the rules are asked first
   abbrev pub inside_for : Result Endpoint Cause
   inside_for = if is_inside config view.dst.addr then Ok view.dst
-      else inside_by_rules (find (maps_outside view.proto view.dst) sessions) (prerouting_verdict config (facts_of Wan None view.src view.dst New) rules)
+      else inside_by_rules (find (maps_outside view.proto view.dst) sessions)
+      (prerouting_verdict config (facts_of Wan None view.src view.dst New) rules)
 
   abbrev pub begun_in : Endpoint → Result Passage Cause
   begun_in inside = let t = new_session Remote inside view.dst view.src in
@@ -170,7 +190,8 @@ module _ (config : Config) (rules : Spelled) (sessions : List Session) (now : �
       else forwarded Wan Lan view.src inside New (counted (inward t))
 
   abbrev pub in_by : Option Session → Result Passage Cause
-  in_by (Some s) = forwarded Wan Lan view.src s.inside (state_of s Remote view.flags) (Ok (inward (passed_by s Remote view.flags now)))
+  in_by (Some s) = forwarded Wan Lan view.src s.inside (state_of s Remote view.flags)
+      (Ok (inward (passed_by s Remote view.flags now)))
   in_by None = if needs_session view then Err NoSession else then_with inside_for begun_in
 
   abbrev pub in_leg : Result Passage Cause
@@ -187,7 +208,8 @@ module _ (config : Config) (rules : Spelled) (sessions : List Session) (now : �
   abbrev pub first_by : Option Session → Result Session Cause
   first_by (Some s) = Ok (passed_by s Inside view.flags now)
   first_by None = if needs_session view then Err NoSession
-      else then_with (outside_near (find (maps_inside view.proto view.src) sessions)) (λ outside. Ok (new_session Inside view.src outside view.dst))
+      else then_with (outside_near (find (maps_inside view.proto view.src) sessions))
+      (λ outside. Ok (new_session Inside view.src outside view.dst))
 
   -- the first leg's packet is new, or of a session
   abbrev pub first_state : Option Session → State
@@ -197,7 +219,8 @@ module _ (config : Config) (rules : Spelled) (sessions : List Session) (now : �
   -- the second session, among the sessions that hold the first one
   module _ (first : Session) (held : List Session) where
     abbrev pub inside_far : Result Endpoint Cause
-    inside_far = inside_by_rules (find (maps_outside view.proto view.dst) held) (prerouting_verdict config (facts_of Lan None view.src view.dst New) rules)
+    inside_far = inside_by_rules (find (maps_outside view.proto view.dst) held)
+        (prerouting_verdict config (facts_of Lan None view.src view.dst New) rules)
 
     abbrev pub begun_second : Endpoint → Result Session Cause
     begun_second inside = let t = new_session Remote inside view.dst first.outside in
@@ -213,7 +236,8 @@ module _ (config : Config) (rules : Spelled) (sessions : List Session) (now : �
 
   -- out by the first session, and in by the second; the rules see the packet once, between its inside endpoints
   abbrev pub hairpin_by : Option Session → Result Passage Cause
-  hairpin_by found = then_with (first_by found) (λ first. then_with (second first (put first sessions))
+  hairpin_by found =
+      then_with (first_by found) (λ first. then_with (second first (put first sessions))
       (λ t. forwarded Lan Lan view.src t.inside (first_state found) (counted (through first t))))
 
   abbrev pub hairpin : Result Passage Cause

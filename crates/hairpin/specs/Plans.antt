@@ -12,12 +12,14 @@ use Rattle.hairpin.specs.declared.cause.Cause.{Cause}
 use Rattle.hairpin.specs.declared.plan.Plan.{Plan}
 
 -- the session may begin now: it clashes with none, and there are not too many
-pub record MayBegin (external : ℕ) (held : List (Option Session)) (now : ℕ) (s : Session) : Type 0 where
+pub record MayBegin (external : ℕ) (held : List (Option Session)) (now : ℕ)
+    (s : Session) : Type 0 where
   pub unseen : s.seen ≡ 0
   pub last : s.last ≡ now
   pub apart : ¬ AnyClash held s
   pub few : count_by is_some held ≢ most_sessions
-  pub placed : same_endpoint s.inside s.outside ≡ false → (s.outside.addr ≡ external) × (0 < s.outside.port)
+  pub placed : same_endpoint s.inside s.outside ≡ false
+      → (s.outside.addr ≡ external) × (0 < s.outside.port)
 
 -- the change is of the session that the slot holds
 abbrev pub IsOf : Change → ℕ → Type 0
@@ -27,32 +29,40 @@ IsOf (Restart of opener) slot = of ≡ slot
 IsOf (End of) slot = of ≡ slot
 
 -- the change has put the session in, and every other slot holds what it held
-pub record Became (held : List (Option Session)) (change : Change) (t : Session) (later : List (Option Session)) : Type 0 where
+pub record Became (held : List (Option Session)) (change : Change) (t : Session)
+    (later : List (Option Session)) : Type 0 where
   pub listing : listing later ≡ put t (listing held)
-  pub kept : (slot : ℕ) (s : Session) → slice_index_or held slot None ≡ Some s → ¬ IsOf change slot → slice_index_or later slot None ≡ Some s
+  pub kept : (slot : ℕ) (s : Session) → slice_index_or held slot None ≡ Some s → ¬ IsOf change slot
+      → slice_index_or later slot None ≡ Some s
 
 module _ (external : ℕ) (held : List (Option Session)) (now : ℕ) where
   -- the change gives this session
   abbrev pub Gives : Change → Session → Type 0
   Gives (Begin s) t = (s ≡ t) × MayBegin external held now s
-  Gives (Seen slot bits) t = (s : Session) × (slice_index_or held slot None ≡ Some s) × IsSeen s.proto bits × (t ≡ seen s bits now)
-  Gives (Restart slot opener) t = (s : Session) × (slice_index_or held slot None ≡ Some s) × (t ≡ restarted s opener now)
+  Gives (Seen slot bits) t = (s : Session) × (slice_index_or held slot None ≡ Some s)
+      × IsSeen s.proto bits × (t ≡ seen s bits now)
+  Gives (Restart slot opener) t = (s : Session) × (slice_index_or held slot None ≡ Some s)
+      × (t ≡ restarted s opener now)
   Gives (End slot) t = ⊥
 
 -- once the first change is made, the second gives this session
 abbrev pub GivesThen : ℕ → List (Option Session) → ℕ → Change → Session → Change → Session → Type 0
-GivesThen external held now first t second u = (later : List (Option Session)) → Became held first t later → Gives external later now second u
+GivesThen external held now first t second u = (later : List (Option Session))
+    → Became held first t later → Gives external later now second u
 
 -- a second change that begins no session is of one that is held already, and that the first change leaves alone
 abbrev pub IsApart : List (Option Session) → Change → Change → Type 0
-IsApart held first second = (slot : ℕ) → IsOf second slot → (¬ IsOf first slot) × (s : Session) × (slice_index_or held slot None ≡ Some s)
+IsApart held first second = (slot : ℕ) → IsOf second slot
+    → (¬ IsOf first slot) × (s : Session) × (slice_index_or held slot None ≡ Some s)
 
 module _ (external : ℕ) (held : List (Option Session)) (now : ℕ) where
   -- the changes give these sessions, in turn
   abbrev pub GiveAll : Change → Option Change → List Session → Type 0
-  GiveAll first None sessions = (t : Session) × Gives external held now first t × (sessions ≡ t ∷ [])
+  GiveAll first None sessions = (t : Session) × Gives external held now first t
+      × (sessions ≡ t ∷ [])
   GiveAll first (Some second) sessions =
-      (t : Session) × (u : Session) × Gives external held now first t × IsApart held first second × GivesThen external held now first t second u × (sessions ≡ t ∷ u ∷ [])
+      (t : Session) × (u : Session) × Gives external held now first t × IsApart held first second
+      × GivesThen external held now first t second u × (sessions ≡ t ∷ u ∷ [])
 
   -- the plan is the way on which the packet passes
   pub record IsPlanOf (plan : Plan) (passage : Passage) : Type 0 where

@@ -10,6 +10,9 @@ use Rattle.verdict.specs.declared.hook.Source.TheVariants.{From}
 
 -- the rules send packets to inside endpoints alone, and let them come from the external address alone
 pub record KeepBounds (config : Config) (rules : Spelled) : Type 0 where
-  pub to : (facts : Facts) (inside : Endpoint) → prerouting_verdict config facts rules ≡ To inside → IsTrue (is_inside config inside.addr)
-  pub port : (facts : Facts) (inside : Endpoint) → prerouting_verdict config facts rules ≡ To inside → 0 < facts.dst.port → 0 < inside.port
-  pub from : (facts : Facts) (addr : ℕ) → postrouting_verdict config facts rules ≡ From addr → addr ≡ config.external
+  pub to : (facts : Facts) (inside : Endpoint) → prerouting_verdict config facts rules ≡ To inside
+      → IsTrue (is_inside config inside.addr)
+  pub port : (facts : Facts) (inside : Endpoint) → prerouting_verdict config facts rules ≡ To inside
+      → 0 < facts.dst.port → 0 < inside.port
+  pub from : (facts : Facts) (addr : ℕ) → postrouting_verdict config facts rules ≡ From addr
+      → addr ≡ config.external

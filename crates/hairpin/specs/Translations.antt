@@ -28,7 +28,8 @@ IsOutsideOf p proto outside = (proto ≡ p.proto) × (outside ≡ p.outside)
 -- just the outside ports of the pairs are taken, and each pair is at the external address
 pub record Follows (external : ℕ) (pairs : Pairs) (ports : TakenPorts) : Type 0 where
   pub address : Contains ports.external external
-  pub taken : (proto : Proto) (port : ℕ) → IsTaken ports proto external port ↔ IsOutside pairs proto (endpoint external port)
+  pub taken : (proto : Proto) (port : ℕ) → IsTaken ports proto external port
+      ↔ IsOutside pairs proto (endpoint external port)
   pub placed : (p : Pair) → 0 < times pairs p → (p.outside.addr ≡ external) × (0 < p.outside.port)
 
 -- so many more pairs take no memory

@@ -42,7 +42,8 @@ pub fn goes_out(
     table: &Table,
     view: &View,
 ) -> Option<Result<Going, Cause>>
-    ensures way { (external now : ℕ) → IfSome result (λ going. Plans external table.now.held now (planned going)
+    ensures way { (external now : ℕ)
+        → IfSome result (λ going. Plans external table.now.held now (planned going)
         (out_way bounds.now rules.now (listing table.now.held) now view.now)) }
     ensures quiet { IfSome result (λ going. IfOk going (IsQuiet table.now)) }
 {
@@ -64,7 +65,8 @@ pub fn comes_in(
     table: &Table,
     view: &View,
 ) -> Option<Result<Going, Cause>>
-    ensures way { (external now : ℕ) → IfSome result (λ going. Plans external table.now.held now (planned going)
+    ensures way { (external now : ℕ)
+        → IfSome result (λ going. Plans external table.now.held now (planned going)
         (in_way bounds.now rules.now (listing table.now.held) now view.now)) }
     ensures quiet { IfSome result (λ going. IfOk going (IsQuiet table.now)) }
 {
@@ -76,7 +78,8 @@ pub fn comes_in(
 
 // The session of a packet from inside, where the first look tells it.
 fn glanced_out(table: &Table, view: &View) -> Option<Held>
-    ensures session { IfSome result (λ h. find (has_inside view.now.proto view.now.src view.now.dst) (listing table.now.held) ≡ Some h.session) }
+    ensures session { IfSome result (λ h. find (has_inside view.now.proto view.now.src view.now.dst)
+        (listing table.now.held) ≡ Some h.session) }
     ensures slot { IfSome result (λ h. at table.now h.slot ≡ Some h.session) }
 {
     table.is_sound();
@@ -91,7 +94,9 @@ fn glanced_out(table: &Table, view: &View) -> Option<Held>
 
 // The session of a packet from outside, where the first look tells it.
 fn glanced_in(table: &Table, view: &View) -> Option<Held>
-    ensures session { IfSome result (λ h. find (has_outside view.now.proto view.now.dst view.now.src) (listing table.now.held) ≡ Some h.session) }
+    ensures session { IfSome result
+        (λ h. find (has_outside view.now.proto view.now.dst view.now.src)
+        (listing table.now.held) ≡ Some h.session) }
     ensures slot { IfSome result (λ h. at table.now h.slot ≡ Some h.session) }
 {
     table.is_sound();
@@ -120,9 +125,12 @@ fn nothing_new(session: &Session, sender: Opener, flags: Flags) -> Option<u8>
 
 // How a packet goes out by the session that was found, if that goes on.
 fn on_out(bounds: &Bounds, rules: &Rules, found: &Held, view: &View) -> Option<Result<Going, Cause>>
-    ensures way { (external : ℕ) (held : List (Maybe Flow)) (now : ℕ) → slice_index_or held found.now.slot None ≡ Some found.now.session
-        → IfSome result (λ going. Plans external held now (planned going) (out_by bounds.now rules.now (listing held) now view.now (Some found.now.session))) }
-    ensures quiet { IfSome result (λ going. IfOk going (λ g. (g.slot ≡ found.now.slot) × (bit_or found.now.session.seen g.bits ≡ found.now.session.seen))) }
+    ensures way { (external : ℕ) (held : List (Maybe Flow)) (now : ℕ)
+        → slice_index_or held found.now.slot None ≡ Some found.now.session
+        → IfSome result (λ going. Plans external held now (planned going)
+        (out_by bounds.now rules.now (listing held) now view.now (Some found.now.session))) }
+    ensures quiet { IfSome result (λ going. IfOk going (λ g. (g.slot ≡ found.now.slot)
+        × (bit_or found.now.session.seen g.bits ≡ found.now.session.seen))) }
 {
     let session = &found.session;
     let Some(bits) = nothing_new(session, Opener::Inside, view.flags) else {
@@ -144,9 +152,12 @@ fn on_out(bounds: &Bounds, rules: &Rules, found: &Held, view: &View) -> Option<R
 
 // How a packet comes in by the session that was found, if that goes on.
 fn on_in(bounds: &Bounds, rules: &Rules, found: &Held, view: &View) -> Option<Result<Going, Cause>>
-    ensures way { (external : ℕ) (held : List (Maybe Flow)) (now : ℕ) → slice_index_or held found.now.slot None ≡ Some found.now.session
-        → IfSome result (λ going. Plans external held now (planned going) (in_by bounds.now rules.now (listing held) now view.now (Some found.now.session))) }
-    ensures quiet { IfSome result (λ going. IfOk going (λ g. (g.slot ≡ found.now.slot) × (bit_or found.now.session.seen g.bits ≡ found.now.session.seen))) }
+    ensures way { (external : ℕ) (held : List (Maybe Flow)) (now : ℕ)
+        → slice_index_or held found.now.slot None ≡ Some found.now.session
+        → IfSome result (λ going. Plans external held now (planned going)
+        (in_by bounds.now rules.now (listing held) now view.now (Some found.now.session))) }
+    ensures quiet { IfSome result (λ going. IfOk going (λ g. (g.slot ≡ found.now.slot)
+        × (bit_or found.now.session.seen g.bits ≡ found.now.session.seen))) }
 {
     let session = &found.session;
     let Some(bits) = nothing_new(session, Opener::Remote, view.flags) else {

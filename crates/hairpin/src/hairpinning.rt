@@ -56,7 +56,8 @@ pub fn both(
     requires ports { (0 < view.now.src.port) × (0 < view.now.dst.port) }
     requires inside { IsTrue (is_inside bounds.now view.now.src.addr) }
     requires external_destination { view.now.dst.addr ≡ bounds.now.external }
-    ensures { Plans bounds.now.external table.now.held now result (hairpin_way bounds.now rules.now (listing table.now.held) now view.now) }
+    ensures { Plans bounds.now.external table.now.held now result
+        (hairpin_way bounds.now rules.now (listing table.now.held) now view.now) }
 {
     let before = held_inside(table, view.proto, view.src, view.dst);
     let session = match first_session(bounds, table, translations, view, &before, now) {
@@ -97,7 +98,8 @@ fn passed(session: &Session, sender: Opener, flags: Flags, now: u64) -> Session
 // The state of the packet, by the first leg's session as it was held.
 fn state_of_first(before: &Option<Held>, view: &View) -> State
     ensures { (config : Config) (rules : Spelled) (sessions : List Flow) (now : ℕ)
-        → result ≡ first_state config rules sessions now view.now (option_map (λ (h : Known). h.session) before.now) }
+        → result ≡ first_state config rules sessions now view.now
+        (option_map (λ (h : Known). h.session) before.now) }
 {
     match before {
         Some(held) => state_of(&held.session, Opener::Inside, view.flags),
@@ -107,7 +109,8 @@ fn state_of_first(before: &Option<Held>, view: &View) -> State
 
 // What the packet makes of the leg's session.
 fn change_of_leg(leg: &Leg, sender: Opener, flags: Flags) -> Change
-    ensures held { IfSome leg.now.before (λ h. (external : ℕ) (places : List (Maybe Flow)) (now : ℕ) → slice_index_or places h.slot None ≡ Some h.session
+    ensures held { IfSome leg.now.before (λ h. (external : ℕ) (places : List (Maybe Flow)) (now : ℕ)
+        → slice_index_or places h.slot None ≡ Some h.session
         → Gives external places now result (passed_by h.session sender flags now)) }
     ensures slot { IfSome leg.now.before (λ h. (slot : ℕ) → IsOf result slot → slot ≡ h.slot) }
     ensures new { IfNone leg.now.before (result ≡ Change.Begin leg.now.session) }
@@ -129,7 +132,8 @@ fn outside_near(
     requires port { 0 < view.now.src.port }
     requires external_destination { view.now.dst.addr ≡ bounds.now.external }
     ensures { (rules : Spelled) (now : ℕ) → let sessions = listing table.now.held in
-        result ≡ near_outside bounds.now rules sessions now view.now (find (maps_inside view.now.proto view.now.src) sessions) }
+        result ≡ near_outside bounds.now rules sessions now view.now
+        (find (maps_inside view.now.proto view.now.src) sessions) }
 {
     bounds.facts();
     match translations.outside_of(view.proto, view.src) {
@@ -152,7 +156,9 @@ fn first_session(
     requires translations { AreOf bounds.now table.now.held translations.now }
     requires port { 0 < view.now.src.port }
     requires external_destination { view.now.dst.addr ≡ bounds.now.external }
-    ensures { (rules : Spelled) → result ≡ first_by bounds.now rules (listing table.now.held) now view.now (option_map (λ (h : Known). h.session) before.now) }
+    ensures { (rules : Spelled)
+        → result ≡ first_by bounds.now rules (listing table.now.held) now view.now
+        (option_map (λ (h : Known). h.session) before.now) }
 {
     match before {
         Some(held) => Ok(passed(&held.session, Opener::Inside, view.flags, now)),
@@ -182,7 +188,8 @@ fn mapped_far(
     view: &View,
 ) -> Result<Endpoint, Cause>
     requires { AreOf bounds.now table.now.held translations.now }
-    ensures { result ≡ or_no_mapping (find (maps_outside view.now.proto view.now.dst) (listing table.now.held)) }
+    ensures { result
+        ≡ or_no_mapping (find (maps_outside view.now.proto view.now.dst) (listing table.now.held)) }
 {
     bounds.facts();
     match translations.inside_of(view.proto, view.dst) {
@@ -230,9 +237,12 @@ fn begun_second(
     inside: Endpoint,
     now: u64,
 ) -> Result<Session, Cause>
-    requires keeps { (u : Flow) → In u (listing table.now.held) → same_flow first.now u ≡ true → u.outside ≡ first.now.outside }
+    requires keeps { (u : Flow) → In u (listing table.now.held) → same_flow first.now u ≡ true
+        → u.outside ≡ first.now.outside }
     requires away { first.now.remote ≢ first.now.outside }
-    ensures { (config : Config) (rules : Spelled) (sessions : List Flow) → result ≡ begun_far config rules sessions now view.now first.now (put first.now (listing table.now.held)) inside }
+    ensures { (config : Config) (rules : Spelled) (sessions : List Flow)
+        → result ≡ begun_far config rules sessions now view.now first.now
+        (put first.now (listing table.now.held)) inside }
 {
     let session = new_session(view, Opener::Remote, inside, view.dst, first.outside, now);
     if breaks_mapping(&session, first) {
@@ -254,11 +264,13 @@ fn second_session(
     now: u64,
 ) -> Result<Session, Cause>
     requires translations { AreOf bounds.now table.now.held translations.now }
-    requires keeps { (u : Flow) → In u (listing table.now.held) → same_flow first.now u ≡ true → u.outside ≡ first.now.outside }
+    requires keeps { (u : Flow) → In u (listing table.now.held) → same_flow first.now u ≡ true
+        → u.outside ≡ first.now.outside }
     requires remote { first.now.remote ≡ view.now.dst }
     requires away { first.now.outside ≢ view.now.dst }
     ensures { let sessions = listing table.now.held in
-        result ≡ second_by bounds.now rules.now sessions now view.now first.now (put first.now sessions) None }
+        result ≡ second_by bounds.now rules.now sessions now view.now first.now
+        (put first.now sessions) None }
 {
     if needs_session(view) {
         return Err(Cause::NoSession);
@@ -279,17 +291,25 @@ fn second_leg(
     now: u64,
 ) -> Result<Leg, Cause>
     requires translations { AreOf bounds.now table.now.held translations.now }
-    requires keeps { (u : Flow) → In u (listing table.now.held) → same_flow first.now u ≡ true → u.outside ≡ first.now.outside }
+    requires keeps { (u : Flow) → In u (listing table.now.held) → same_flow first.now u ≡ true
+        → u.outside ≡ first.now.outside }
     requires remote { first.now.remote ≡ view.now.dst }
     requires away { first.now.outside ≢ view.now.dst }
     ensures session { let sessions = listing table.now.held in
-        IfOk result (λ leg. second_by bounds.now rules.now sessions now view.now first.now (put first.now sessions)
-        (find (has_outside view.now.proto view.now.dst first.now.outside) (put first.now sessions)) ≡ Ok leg.session) }
+        IfOk result (λ leg. second_by bounds.now rules.now sessions now view.now first.now
+        (put first.now sessions)
+        (find (has_outside view.now.proto view.now.dst first.now.outside) (put first.now sessions))
+        ≡ Ok leg.session) }
     ensures cause { let sessions = listing table.now.held in
-        IfErr result (λ cause. second_by bounds.now rules.now sessions now view.now first.now (put first.now sessions)
-        (find (has_outside view.now.proto view.now.dst first.now.outside) (put first.now sessions)) ≡ Err cause) }
-    ensures before { IfOk result (λ leg. option_map (λ (h : Known). h.session) leg.before ≡ find (has_outside view.now.proto view.now.dst first.now.outside) (listing table.now.held)) }
-    ensures slot { IfOk result (λ leg. IfSome leg.before (λ h. at table.now h.slot ≡ Some h.session)) }
+        IfErr result (λ cause. second_by bounds.now rules.now sessions now view.now first.now
+        (put first.now sessions)
+        (find (has_outside view.now.proto view.now.dst first.now.outside) (put first.now sessions))
+        ≡ Err cause) }
+    ensures before { IfOk result (λ leg. option_map (λ (h : Known). h.session) leg.before
+        ≡ find (has_outside view.now.proto view.now.dst first.now.outside)
+        (listing table.now.held)) }
+    ensures slot { IfOk result (λ leg. IfSome leg.before (λ h. at table.now h.slot
+        ≡ Some h.session)) }
 {
     let before = held_outside(table, view.proto, view.dst, first.outside);
     match &before {
@@ -308,7 +328,16 @@ fn second_leg(
 }
 
 fn is_forwarded(bounds: &Bounds, rules: &Rules, view: &View, dst: Endpoint, state: State) -> bool
-    ensures { IsTrue result ↔ (forward_verdict bounds.now (record { iif = Iface.Lan; oif = Some Iface.Lan; src = view.now.src; dst = dst; proto = view.now.proto; state = state }) rules.now ≡ Forwarding.Pass) }
+    ensures { IsTrue result
+        ↔ (forward_verdict bounds.now (record {
+          iif = Iface.Lan;
+          oif = Some Iface.Lan;
+          src = view.now.src;
+          dst = dst;
+          proto = view.now.proto;
+          state = state;
+        })
+        rules.now ≡ Forwarding.Pass) }
 {
     let facts = facts_of(view, Iface::Lan, Some(Iface::Lan), dst, state);
     match forward(rules, bounds, &facts) {
@@ -319,7 +348,8 @@ fn is_forwarded(bounds: &Bounds, rules: &Rules, view: &View, dst: Endpoint, stat
 
 // How many sessions are held once the packet has passed.
 fn sessions_after(table: &Table, first: &Leg, second: &Leg) -> usize
-    ensures { result ≡ count table.now + option_map_or (λ (h : Known). 0) first.now.before 1 + option_map_or (λ (h : Known). 0) second.now.before 1 }
+    ensures { result ≡ count table.now + option_map_or (λ (h : Known). 0) first.now.before 1
+        + option_map_or (λ (h : Known). 0) second.now.before 1 }
 {
     table.is_sound();
     table.count() + news(first) + news(second)
@@ -349,12 +379,20 @@ fn after_first(
     requires ports { (0 < view.now.src.port) × (0 < view.now.dst.port) }
     requires inside { IsTrue (is_inside bounds.now view.now.src.addr) }
     requires external_destination { view.now.dst.addr ≡ bounds.now.external }
-    requires before { option_map (λ (h : Known). h.session) first.now.before ≡ find (has_inside view.now.proto view.now.src view.now.dst) (listing table.now.held) }
+    requires before { option_map (λ (h : Known). h.session) first.now.before
+        ≡ find (has_inside view.now.proto view.now.src view.now.dst) (listing table.now.held) }
     requires slot { IfSome first.now.before (λ h. at table.now h.slot ≡ Some h.session) }
-    requires session { first_by bounds.now rules.now (listing table.now.held) now view.now (find (has_inside view.now.proto view.now.src view.now.dst) (listing table.now.held)) ≡ Ok first.now.session }
-    ensures { let sessions = listing table.now.held in let found = find (has_inside view.now.proto view.now.src view.now.dst) sessions in
-        Plans bounds.now.external table.now.held now result (then_with (second_way bounds.now rules.now sessions now view.now first.now.session (put first.now.session sessions))
-        (λ t. forwarded bounds.now rules.now sessions now view.now Iface.Lan Iface.Lan view.now.src t.inside (first_state bounds.now rules.now sessions now view.now found)
+    requires session { first_by bounds.now rules.now (listing table.now.held) now view.now
+        (find (has_inside view.now.proto view.now.src view.now.dst) (listing table.now.held))
+        ≡ Ok first.now.session }
+    ensures { let sessions = listing table.now.held in
+        let found = find (has_inside view.now.proto view.now.src view.now.dst) sessions in
+        Plans bounds.now.external table.now.held now result
+        (then_with
+        (second_way bounds.now rules.now sessions now view.now first.now.session
+        (put first.now.session sessions))
+        (λ t. forwarded bounds.now rules.now sessions now view.now Iface.Lan Iface.Lan view.now.src
+        t.inside (first_state bounds.now rules.now sessions now view.now found)
         (counted bounds.now rules.now sessions now view.now (through first.now.session t)))) }
 {
     bounds.facts();

@@ -24,7 +24,8 @@ pub struct Held {
 
 /// The session of this inside endpoint and this remote one.
 pub fn held_inside(table: &Table, proto: Proto, inside: Endpoint, remote: Endpoint) -> Option<Held>
-    ensures session { option_map (λ (h : Known). h.session) result ≡ find (has_inside proto inside remote) (listing table.now.held) }
+    ensures session { option_map (λ (h : Known). h.session) result
+        ≡ find (has_inside proto inside remote) (listing table.now.held) }
     ensures slot { IfSome result (λ h. at table.now h.slot ≡ Some h.session) }
 {
     table.is_sound();
@@ -44,7 +45,8 @@ pub fn held_outside(
     outside: Endpoint,
     remote: Endpoint,
 ) -> Option<Held>
-    ensures session { option_map (λ (h : Known). h.session) result ≡ find (has_outside proto outside remote) (listing table.now.held) }
+    ensures session { option_map (λ (h : Known). h.session) result
+        ≡ find (has_outside proto outside remote) (listing table.now.held) }
     ensures slot { IfSome result (λ h. at table.now h.slot ≡ Some h.session) }
 {
     table.is_sound();
@@ -80,7 +82,8 @@ pub fn state_of(session: &Session, sender: Opener, flags: Flags) -> State
 
 /// What a packet from this side changes of the session that the slot holds.
 pub fn change_of(held: &Held, sender: Opener, flags: Flags) -> Change
-    ensures gives { (external : ℕ) (places : List (Maybe Flow)) (now : ℕ) → slice_index_or places held.now.slot None ≡ Some held.now.session
+    ensures gives { (external : ℕ) (places : List (Maybe Flow)) (now : ℕ)
+        → slice_index_or places held.now.slot None ≡ Some held.now.session
         → Gives external places now result (passed_by held.now.session sender flags now) }
     ensures slot { (slot : ℕ) → IsOf result slot → slot ≡ held.now.slot }
 {
@@ -100,7 +103,15 @@ pub fn new_session(
     remote: Endpoint,
     now: u64,
 ) -> Session
-    ensures { result ≡ record { proto = view.now.proto; inside = inside; outside = outside; remote = remote; opener = opener; seen = 0; last = now } }
+    ensures { result ≡ record {
+      proto = view.now.proto;
+      inside = inside;
+      outside = outside;
+      remote = remote;
+      opener = opener;
+      seen = 0;
+      last = now;
+    } }
 {
     Session {
         proto: view.proto,
@@ -115,7 +126,14 @@ pub fn new_session(
 
 /// What the rules may ask about the packet between these interfaces, on its way to this endpoint.
 pub fn facts_of(view: &View, iif: Iface, oif: Option<Iface>, dst: Endpoint, state: State) -> Facts
-    ensures { result ≡ record { iif = iif; oif = oif; src = view.now.src; dst = dst; proto = view.now.proto; state = state } }
+    ensures { result ≡ record {
+      iif = iif;
+      oif = oif;
+      src = view.now.src;
+      dst = dst;
+      proto = view.now.proto;
+      state = state;
+    } }
 {
     Facts {
         iif,

@@ -24,8 +24,10 @@ use verdict::{Destination, Forwarding, Rules, State, forward, prerouting};
 
 // How a packet of a session comes in.
 fn known_in(bounds: &Bounds, rules: &Rules, found: &Held, view: &View) -> Result<Plan, Cause>
-    ensures { (external : ℕ) (held : List (Maybe Flow)) (now : ℕ) → slice_index_or held found.now.slot None ≡ Some found.now.session
-        → Plans external held now result (in_by bounds.now rules.now (listing held) now view.now (Some found.now.session)) }
+    ensures { (external : ℕ) (held : List (Maybe Flow)) (now : ℕ)
+        → slice_index_or held found.now.slot None ≡ Some found.now.session
+        → Plans external held now result (in_by bounds.now rules.now (listing held) now view.now
+        (Some found.now.session)) }
 {
     let session = &found.session;
     let state = state_of(session, Opener::Remote, view.flags);
@@ -50,7 +52,8 @@ fn inside_of(
     view: &View,
 ) -> Result<Endpoint, Cause>
     ensures { (held : List (Maybe Flow)) (now : ℕ)
-        → ((p : Mapping) → times translations.now.pairs p ≡ tally p held) → AreSound bounds.now (listing held)
+        → ((p : Mapping) → times translations.now.pairs p ≡ tally p held)
+        → AreSound bounds.now (listing held)
         → result ≡ inside_for bounds.now rules.now (listing held) now view.now }
 {
     bounds.facts();
@@ -78,8 +81,10 @@ fn begins(
     now: u64,
 ) -> Result<Plan, Cause>
     requires few { length (listing table.now.held) ≤ most_sessions }
-    requires placed { (inside ≡ view.now.dst) ⊎ ((view.now.dst.addr ≡ bounds.now.external) × (0 < view.now.dst.port)) }
-    ensures { Plans bounds.now.external table.now.held now result (begun_in bounds.now rules.now (listing table.now.held) now view.now inside) }
+    requires placed { (inside ≡ view.now.dst)
+        ⊎ ((view.now.dst.addr ≡ bounds.now.external) × (0 < view.now.dst.port)) }
+    ensures { Plans bounds.now.external table.now.held now result
+        (begun_in bounds.now rules.now (listing table.now.held) now view.now inside) }
 {
     let session = new_session(view, Opener::Remote, inside, view.dst, view.src, now);
     if table.clashes_with(&session) {
@@ -127,8 +132,10 @@ pub fn in_leg(
     requires sound { AreSound bounds.now (listing table.now.held) }
     requires bounded { KeepBounds bounds.now rules.now }
     requires ports { (0 < view.now.src.port) × (0 < view.now.dst.port) }
-    requires routed { IsTrue (is_inside bounds.now view.now.dst.addr) ⊎ (view.now.dst.addr ≡ bounds.now.external) }
-    ensures { Plans bounds.now.external table.now.held now result (in_way bounds.now rules.now (listing table.now.held) now view.now) }
+    requires routed { IsTrue (is_inside bounds.now view.now.dst.addr)
+        ⊎ (view.now.dst.addr ≡ bounds.now.external) }
+    ensures { Plans bounds.now.external table.now.held now result
+        (in_way bounds.now rules.now (listing table.now.held) now view.now) }
 {
     match held_outside(table, view.proto, view.dst, view.src) {
         Some(found) => known_in(bounds, rules, &found, view),

@@ -45,7 +45,8 @@ pub fn out_leg(
     requires bounded { KeepBounds bounds.now rules.now }
     requires inside { IsTrue (is_inside bounds.now view.now.src.addr) }
     requires port { 0 < view.now.src.port }
-    ensures { Plans bounds.now.external table.now.held now result (out_way bounds.now rules.now (listing table.now.held) now view.now) }
+    ensures { Plans bounds.now.external table.now.held now result
+        (out_way bounds.now rules.now (listing table.now.held) now view.now) }
 {
     match held_inside(table, view.proto, view.src, view.dst) {
         Some(found) => known_out(bounds, rules, &found, view),
@@ -55,8 +56,10 @@ pub fn out_leg(
 
 // How a packet of a session goes out.
 fn known_out(bounds: &Bounds, rules: &Rules, found: &Held, view: &View) -> Result<Plan, Cause>
-    ensures { (external : ℕ) (held : List (Maybe Flow)) (now : ℕ) → slice_index_or held found.now.slot None ≡ Some found.now.session
-        → Plans external held now result (out_by bounds.now rules.now (listing held) now view.now (Some found.now.session)) }
+    ensures { (external : ℕ) (held : List (Maybe Flow)) (now : ℕ)
+        → slice_index_or held found.now.slot None ≡ Some found.now.session
+        → Plans external held now result (out_by bounds.now rules.now (listing held) now view.now
+        (Some found.now.session)) }
 {
     let state = state_of(&found.session, Opener::Inside, view.flags);
     match forward(rules, bounds, &facts_out(view, state)) {
@@ -78,8 +81,10 @@ fn new_out(
     requires bounded { KeepBounds bounds.now rules.now }
     requires inside { IsTrue (is_inside bounds.now view.now.src.addr) }
     requires port { 0 < view.now.src.port }
-    requires none { find (has_inside view.now.proto view.now.src view.now.dst) (listing table.now.held) ≡ None }
-    ensures { Plans bounds.now.external table.now.held now result (out_by bounds.now rules.now (listing table.now.held) now view.now None) }
+    requires none { find (has_inside view.now.proto view.now.src view.now.dst)
+        (listing table.now.held) ≡ None }
+    ensures { Plans bounds.now.external table.now.held now result
+        (out_by bounds.now rules.now (listing table.now.held) now view.now None) }
 {
     if needs_session(view) {
         return Err(Cause::NoSession);
@@ -103,8 +108,10 @@ fn begun_out(
     requires bounded { KeepBounds bounds.now rules.now }
     requires inside { IsTrue (is_inside bounds.now view.now.src.addr) }
     requires port { 0 < view.now.src.port }
-    requires none { find (has_inside view.now.proto view.now.src view.now.dst) (listing table.now.held) ≡ None }
-    ensures { Plans bounds.now.external table.now.held now result (begun_way bounds.now rules.now (listing table.now.held) now view.now) }
+    requires none { find (has_inside view.now.proto view.now.src view.now.dst)
+        (listing table.now.held) ≡ None }
+    ensures { Plans bounds.now.external table.now.held now result
+        (begun_way bounds.now rules.now (listing table.now.held) now view.now) }
 {
     bounds.facts();
     match outside_of(bounds, rules, table, translations, view) {
@@ -131,7 +138,8 @@ fn outside_of(
     requires bounded { KeepBounds bounds.now rules.now }
     requires port { 0 < view.now.src.port }
     ensures { (now : ℕ) → let sessions = listing table.now.held in
-        result ≡ outside_for bounds.now rules.now sessions now view.now (find (maps_inside view.now.proto view.now.src) sessions) }
+        result ≡ outside_for bounds.now rules.now sessions now view.now
+        (find (maps_inside view.now.proto view.now.src) sessions) }
 {
     bounds.facts();
     match translations.outside_of(view.proto, view.src) {
@@ -151,7 +159,8 @@ fn outside_by_rules(
     requires translations { AreOf bounds.now table.now.held translations.now }
     requires bounded { KeepBounds bounds.now rules.now }
     requires port { 0 < view.now.src.port }
-    ensures { (now : ℕ) → result ≡ outside_for bounds.now rules.now (listing table.now.held) now view.now None }
+    ensures { (now : ℕ)
+        → result ≡ outside_for bounds.now rules.now (listing table.now.held) now view.now None }
 {
     bounds.facts();
     match postrouting(rules, bounds, &facts_out(view, State::New)) {
@@ -166,15 +175,24 @@ fn outside_by_rules(
 
 // What the rules may ask about the packet in this state.
 fn facts_out(view: &View, state: State) -> Facts
-    ensures { result ≡ record { iif = Iface.Lan; oif = Some Iface.Wan; src = view.now.src; dst = view.now.dst; proto = view.now.proto; state = state } }
+    ensures { result ≡ record {
+      iif = Iface.Lan;
+      oif = Some Iface.Wan;
+      src = view.now.src;
+      dst = view.now.dst;
+      proto = view.now.proto;
+      state = state;
+    } }
 {
     facts_of(view, Iface::Lan, Some(Iface::Wan), view.dst, state)
 }
 
 // The plan of a packet from inside by the session.
 fn plan_of(found: &Held, flags: Flags) -> Plan
-    ensures { (external : ℕ) (held : List (Maybe Flow)) (now : ℕ) → slice_index_or held found.now.slot None ≡ Some found.now.session
-        → Plans external held now (Ok result) (Ok (outward (passed_by found.now.session Opener.Inside flags now))) }
+    ensures { (external : ℕ) (held : List (Maybe Flow)) (now : ℕ)
+        → slice_index_or held found.now.slot None ≡ Some found.now.session
+        → Plans external held now (Ok result)
+        (Ok (outward (passed_by found.now.session Opener.Inside flags now))) }
 {
     Plan {
         first: change_of(found, Opener::Inside, flags),
@@ -187,7 +205,13 @@ fn plan_of(found: &Held, flags: Flags) -> Plan
 
 // The plan of the packet that begins the session.
 fn plan_of_new(session: Session) -> Plan
-    ensures { result ≡ record { first = Change.Begin session; second = None; src = session.outside; dst = session.remote; iface = Iface.Wan } }
+    ensures { result ≡ record {
+      first = Change.Begin session;
+      second = None;
+      src = session.outside;
+      dst = session.remote;
+      iface = Iface.Wan;
+    } }
 {
     Plan {
         first: Change::Begin(session),

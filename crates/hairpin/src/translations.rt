@@ -75,16 +75,20 @@ impl Translations {
 
     /// The outside endpoint that stands for this inside endpoint, if it has a mapping.
     pub fn outside_of(&self, proto: Proto, inside: Endpoint) -> Option<Endpoint>
-        ensures found { IfSome result (λ outside. 0 < times self.now.pairs (pair_with proto inside outside)) }
-        ensures absent { IfNone result ((outside : Place) → times self.now.pairs (pair_with proto inside outside) ≡ 0) }
+        ensures found { IfSome result (λ outside. 0
+            < times self.now.pairs (pair_with proto inside outside)) }
+        ensures absent { IfNone result ((outside : Place)
+            → times self.now.pairs (pair_with proto inside outside) ≡ 0) }
     {
         self.map.outside_of(proto, inside)
     }
 
     /// The inside endpoint that this outside endpoint stands for, if it has a mapping.
     pub fn inside_of(&self, proto: Proto, outside: Endpoint) -> Option<Endpoint>
-        ensures found { IfSome result (λ inside. 0 < times self.now.pairs (pair_with proto inside outside)) }
-        ensures absent { IfNone result ((inside : Place) → times self.now.pairs (pair_with proto inside outside) ≡ 0) }
+        ensures found { IfSome result (λ inside. 0
+            < times self.now.pairs (pair_with proto inside outside)) }
+        ensures absent { IfNone result ((inside : Place)
+            → times self.now.pairs (pair_with proto inside outside) ≡ 0) }
     {
         self.map.inside_of(proto, outside)
     }
@@ -114,7 +118,8 @@ impl Translations {
     /// that tells which ports are taken leads to the same.
     pub fn choose(&self, proto: Proto, port: u16) -> Option<Endpoint>
         requires { 0 < port }
-        ensures { (taken : ℕ → Bool) → IsTestOf taken (λ q. IsOutside self.now.pairs proto (endpoint self.now.external q))
+        ensures { (taken : ℕ → Bool)
+            → IsTestOf taken (λ q. IsOutside self.now.pairs proto (endpoint self.now.external q))
             → result ≡ option_map (endpoint self.now.external) (port_choice taken port) }
     {
         match self.ports.pick(proto, self.external, port) {
@@ -128,12 +133,14 @@ impl Translations {
 
     /// Holds the mapping of the session once more, if it is translated.
     pub fn hold(&mut self, session: &Session)
-        requires one_to_one { same_endpoint session.now.inside session.now.outside ≡ false → KeepsOneToOne self.old.pairs (pair_of session.now) }
+        requires one_to_one { same_endpoint session.now.inside session.now.outside ≡ false
+            → KeepsOneToOne self.old.pairs (pair_of session.now) }
         requires few { times self.old.pairs (pair_of session.now) < 65536 }
         requires placed { same_endpoint session.now.inside session.now.outside ≡ false
             → (session.now.outside.addr ≡ self.old.external) × (0 < session.now.outside.port) }
         requires ready { HasRoom 1 self.old }
-        ensures counts { (p : Mapping) → times self.new.pairs p ≡ times self.old.pairs p + weight p (Some session.now) }
+        ensures counts { (p : Mapping) → times self.new.pairs p
+            ≡ times self.old.pairs p + weight p (Some session.now) }
         ensures room { (n : ℕ) → HasRoom (n + 1) self.old → HasRoom n self.new }
         ensures external { self.new.external ≡ self.old.external }
     {
@@ -145,7 +152,8 @@ impl Translations {
     /// Holds the mapping of the session once less, if it is translated.
     pub fn release(&mut self, session: &Session)
         requires { (p : Mapping) → weight p (Some session.now) ≤ times self.old.pairs p }
-        ensures counts { (p : Mapping) → times self.old.pairs p ≡ times self.new.pairs p + weight p (Some session.now) }
+        ensures counts { (p : Mapping) → times self.old.pairs p
+            ≡ times self.new.pairs p + weight p (Some session.now) }
         ensures room { (n : ℕ) → HasRoom n self.old → HasRoom n self.new }
         ensures external { self.new.external ≡ self.old.external }
     {
@@ -207,7 +215,8 @@ fn take_port(ports: &mut Ports, pair: Pair)
     requires not_zero { 0 < pair.outside.port }
     requires room { 0 < ports.old.room }
     ensures taken { (proto : Protocol) (port : ℕ) → IsTaken ports.new proto pair.outside.addr port
-        ↔ (IsTaken ports.old proto pair.outside.addr port ⊎ IsOutsideOf pair proto (endpoint pair.outside.addr port)) }
+        ↔ (IsTaken ports.old proto pair.outside.addr port
+        ⊎ IsOutsideOf pair proto (endpoint pair.outside.addr port)) }
     ensures addresses { ports.new.external ≡ ports.old.external }
     ensures room { ports.old.room ≤ ports.new.room + 1 }
 {
@@ -225,7 +234,8 @@ fn free_port(map: &Map, ports: &mut Ports, pair: Pair)
     requires address { Contains ports.old.external pair.outside.addr }
     requires not_zero { 0 < pair.outside.port }
     requires taken { (proto : Protocol) (port : ℕ) → IsTaken ports.old proto pair.outside.addr port
-        ↔ (IsOutside map.now proto (endpoint pair.outside.addr port) ⊎ IsOutsideOf pair proto (endpoint pair.outside.addr port)) }
+        ↔ (IsOutside map.now proto (endpoint pair.outside.addr port)
+        ⊎ IsOutsideOf pair proto (endpoint pair.outside.addr port)) }
     ensures taken { (proto : Protocol) (port : ℕ) → IsTaken ports.new proto pair.outside.addr port
         ↔ IsOutside map.now proto (endpoint pair.outside.addr port) }
     ensures addresses { ports.new.external ≡ ports.old.external }

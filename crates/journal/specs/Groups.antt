@@ -38,7 +38,8 @@ pub record Groups (file : List ℕ) (at : ℕ) (bodies : List (List ℕ)) (end :
 
 -- At this place stands an open group of this body, with a gate behind it.
 pub record GroupAt (file : List ℕ) (at : ℕ) (body : List ℕ) : Type 0 where
-  pub split : drop at file ≡ 1 ∷ (big_bytes 4 (length body) ++ (body ++ drop (at + 5 + length body) file))
+  pub split : drop at file
+      ≡ 1 ∷ (big_bytes 4 (length body) ++ (body ++ drop (at + 5 + length body) file))
   pub within : at + 5 + length body < length file
   pub fits : length body < 2 ^ 32
 
@@ -77,10 +78,12 @@ module _ {D : Type 0} (moment : D → ℕ) (left : D → ℕ → Files → Type 
     pub next_is : next ≡ at + length body + 5
     pub resting : Resting new file next
     pub before : take at (seen new file) ≡ take at (seen old file)
-    pub groups : (start : ℕ) (bodies : List (List ℕ)) → Groups (seen old file) start bodies at → Groups (seen new file) start (bodies ++ body ∷ []) next
+    pub groups : (start : ℕ) (bodies : List (List ℕ)) → Groups (seen old file) start bodies at
+        → Groups (seen new file) start (bodies ++ body ∷ []) next
     pub elsewhere : Elsewhere file (seen old) (seen new)
 
 -- A file has one reading from a place on as open groups with a closed gate behind them.
 abbrev pub GroupsOnce : Type 0
-GroupsOnce = (file : List ℕ) (at end other : ℕ) (bodies others : List (List ℕ)) → Groups file at bodies end → Groups file at others other
+GroupsOnce = (file : List ℕ) (at end other : ℕ) (bodies others : List (List ℕ))
+    → Groups file at bodies end → Groups file at others other
     → (bodies ≡ others) × (end ≡ other)

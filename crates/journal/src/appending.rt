@@ -30,22 +30,30 @@ pub fn append<D: Disk>(
     ensures honest { D.honest disk.old ↔ D.honest disk.new }
 
     // At `Ok` it stands: the file is synced and has the new group, and so has it whatever a crash leaves.
-    ensures ok { D.honest disk.old → IfOk result (λ next. Stands D.moment D.left D.seen disk.old disk.new file at group.now.body next) }
+    ensures ok { D.honest disk.old
+        → IfOk result (λ next. Stands D.moment D.left D.seen disk.old disk.new file at
+        group.now.body next) }
 
     // It reads as before, but for the open group and the 00 behind it.
-    ensures written { D.honest disk.old → OnOk result (Put file at (1 ∷ framed group.now.body) (D.seen disk.old) (D.seen disk.new)) }
+    ensures written { D.honest disk.old
+        → OnOk result (Put file at (1 ∷ framed group.now.body) (D.seen disk.old)
+        (D.seen disk.new)) }
 
     // A crash at any moment leaves the groups from before, with the new one, whole, or without it, and the other file.
-    ensures any_moment { D.honest disk.old → Leaves D.moment D.left disk.old disk.new (Appended file at group.now.body) }
+    ensures any_moment { D.honest disk.old
+        → Leaves D.moment D.left disk.old disk.new (Appended file at group.now.body) }
 
     // And so do the files read, whatever is answered.
-    ensures seen { D.honest disk.old → FromEntry D.moment D.left disk.old (Appended file at group.now.body) (D.seen disk.new) }
-    ensures called { D.honest disk.old → OnOk result (Called 4 (D.called disk.old) (D.called disk.new)) }
+    ensures seen { D.honest disk.old
+        → FromEntry D.moment D.left disk.old (Appended file at group.now.body) (D.seen disk.new) }
+    ensures called { D.honest disk.old
+        → OnOk result (Called 4 (D.called disk.old) (D.called disk.new)) }
     ensures calls { D.honest disk.old → D.called disk.new ≤ D.called disk.old + 4 }
     ensures failures { D.failed disk.old ≤ D.failed disk.new }
     ensures by_one { D.failed disk.new ≤ D.failed disk.old + 1 }
     ensures no_failure { OnOk result (D.failed disk.new ≡ D.failed disk.old) }
-    ensures device { IsErrOf result JournalFault.Device → Grew (D.failed disk.old) (D.failed disk.new) }
+    ensures device { IsErrOf result JournalFault.Device
+        → Grew (D.failed disk.old) (D.failed disk.new) }
     ensures full { IsErrOf result JournalFault.Full ↔ 67108864 < at + length group.now.body + 6 }
     ensures full_stays { IsErrOf result JournalFault.Full → disk.new ≡ disk.old }
     ensures damaged { IsErrOf result JournalFault.Damaged → ⊥ }

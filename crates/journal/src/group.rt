@@ -22,7 +22,10 @@ impl Model for Group {
 
     ghost Value = { Growing };
 
-    ghost view = { λ g. record { body = body_of g.bytes.items; room = vec_capacity g.bytes - length g.bytes.items } };
+    ghost view = { λ g. record {
+      body = body_of g.bytes.items;
+      room = vec_capacity g.bytes - length g.bytes.items;
+    } };
 
     ghost invariant = { λ g. IsFramed g.bytes.items };
 }
@@ -127,7 +130,8 @@ fn grow(bytes: &mut Vec<u8>, entry: &[u8]) -> Result<(), AllocError>
     requires fits { length bytes.old.items + length entry.now < 2 ^ 32 + 5 }
     ensures ok { OnOk result (bytes.new.items ≡ framed (body_of bytes.old.items ++ entry.now)) }
     ensures err { OnErr result (bytes.new.items ≡ bytes.old.items) }
-    ensures succeeds { length bytes.old.items + length entry.now ≤ vec_capacity bytes.old → IsOk result }
+    ensures succeeds { length bytes.old.items + length entry.now ≤ vec_capacity bytes.old
+        → IsOk result }
     ensures capacity { vec_capacity bytes.old ≤ vec_capacity bytes.new }
     ensures len { OnOk result (length bytes.new.items ≡ length bytes.old.items + length entry.now) }
 {

@@ -29,14 +29,18 @@ fn read_group<D: Disk>(
     requires within { D.honest disk.old → at < end }
     ensures honest { D.honest disk.old ↔ D.honest disk.new }
     ensures ok { D.honest disk.old → IfOk result (λ group. IsRead (D.seen disk.old file) at group) }
-    ensures torn { D.honest disk.old → IsErrOf result JournalFault.Damaged → IsTornAt (D.seen disk.old file) at }
-    ensures memory { D.honest disk.old → IsErrOf result JournalFault.NoMemory → get_or (D.seen disk.old file) at 0 ≡ 1 }
+    ensures torn { D.honest disk.old → IsErrOf result JournalFault.Damaged
+        → IsTornAt (D.seen disk.old file) at }
+    ensures memory { D.honest disk.old → IsErrOf result JournalFault.NoMemory
+        → get_or (D.seen disk.old file) at 0 ≡ 1 }
     ensures looks { D.honest disk.old → Looks D.moment D.left D.seen disk.old disk.new }
-    ensures within { IfOk result (λ group. IfSome group (λ body. at + 5 + length body.items < end)) }
+    ensures within { IfOk result (λ group. IfSome group (λ body. at + 5
+        + length body.items < end)) }
     ensures failures { D.failed disk.old ≤ D.failed disk.new }
     ensures by_one { D.failed disk.new ≤ D.failed disk.old + 1 }
     ensures no_failure { OnOk result (D.failed disk.new ≡ D.failed disk.old) }
-    ensures device { IsErrOf result JournalFault.Device → Grew (D.failed disk.old) (D.failed disk.new) }
+    ensures device { IsErrOf result JournalFault.Device
+        → Grew (D.failed disk.old) (D.failed disk.new) }
     ensures by_device { D.failed disk.old < D.failed disk.new → IsErrOf result JournalFault.Device }
     ensures full { IsErrOf result JournalFault.Full → ⊥ }
 {
@@ -76,18 +80,22 @@ pub fn groups<D: Disk>(
 ) -> Result<(Vec<Vec<u8>>, u64), JournalFault>
     requires { D.honest disk.old → at < length (D.seen disk.old file) }
     ensures honest { D.honest disk.old ↔ D.honest disk.new }
-    ensures ok { D.honest disk.old → IfOk result (λ r. Groups (D.seen disk.old file) at (bodies_of r.0.items) r.1) }
+    ensures ok { D.honest disk.old
+        → IfOk result (λ r. Groups (D.seen disk.old file) at (bodies_of r.0.items) r.1) }
 
     // No reading as whole groups with a closed gate behind them is there.
-    ensures damaged { D.honest disk.old → IsErrOf result JournalFault.Damaged → (bodies : List (List ℕ)) (end : ℕ) → Groups (D.seen disk.old file) at bodies end → ⊥ }
+    ensures damaged { D.honest disk.old → IsErrOf result JournalFault.Damaged
+        → (bodies : List (List ℕ)) (end : ℕ) → Groups (D.seen disk.old file) at bodies end → ⊥ }
 
     // Where no group stands at the place, it takes no memory.
-    ensures memory { D.honest disk.old → IsErrOf result JournalFault.NoMemory → get_or (D.seen disk.old file) at 0 ≡ 1 }
+    ensures memory { D.honest disk.old → IsErrOf result JournalFault.NoMemory
+        → get_or (D.seen disk.old file) at 0 ≡ 1 }
     ensures looks { D.honest disk.old → Looks D.moment D.left D.seen disk.old disk.new }
     ensures failures { D.failed disk.old ≤ D.failed disk.new }
     ensures by_one { D.failed disk.new ≤ D.failed disk.old + 1 }
     ensures no_failure { OnOk result (D.failed disk.new ≡ D.failed disk.old) }
-    ensures device { IsErrOf result JournalFault.Device → Grew (D.failed disk.old) (D.failed disk.new) }
+    ensures device { IsErrOf result JournalFault.Device
+        → Grew (D.failed disk.old) (D.failed disk.new) }
     ensures by_device { D.failed disk.old < D.failed disk.new → IsErrOf result JournalFault.Device }
     ensures full { IsErrOf result JournalFault.Full → ⊥ }
 {

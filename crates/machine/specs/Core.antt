@@ -16,18 +16,23 @@ pub record Core : Type 0 where
 
 -- the state whose sessions are those that are held
 abbrev pub state_of : List ℕ → Spelled → List (Option Session) → ℕ → State
-state_of text rules held now = record { text = text; rules = rules; sessions = listing held; clock = now }
+state_of text rules held now =
+    record { text = text; rules = rules; sessions = listing held; clock = now }
 
 -- the flows are those of a sound state, all of them alive, and translate at its external address
-pub record IsCore (config : Config) (text : List ℕ) (rules : Spelled) (flows : Flows) (clock : ℕ) : Type 0 where
+pub record IsCore (config : Config) (text : List ℕ) (rules : Spelled) (flows : Flows)
+    (clock : ℕ) : Type 0 where
   pub external : flows.translations.external ≡ config.external
   pub sound : IsSound config (state_of text rules flows.table.held clock)
   pub live : EndsNone clock (state_of text rules flows.table.held clock)
 
 -- what is done leads from the sessions that were held to those that are held, whatever the rules
-abbrev pub IsTransition : (State → State × Answer) → List (Option Session) → List (Option Session) → ℕ → Answer → Type 0
-IsTransition does old new now answer = (text : List ℕ) (rules : Spelled) → does (state_of text rules old now) ≡ (state_of text rules new now, answer)
+abbrev pub IsTransition : (State → State × Answer) → List (Option Session) → List (Option Session)
+    → ℕ → Answer → Type 0
+IsTransition does old new now answer = (text : List ℕ) (rules : Spelled)
+    → does (state_of text rules old now) ≡ (state_of text rules new now, answer)
 
 -- what is done adds no session, whatever the rules
 abbrev pub AddsNoSession : (State → State × Answer) → List (Option Session) → ℕ → Type 0
-AddsNoSession does held now = (text : List ℕ) (rules : Spelled) → AddsNone (state_of text rules held now) (does (state_of text rules held now))
+AddsNoSession does held now = (text : List ℕ) (rules : Spelled)
+    → AddsNone (state_of text rules held now) (does (state_of text rules held now))

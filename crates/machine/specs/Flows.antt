@@ -47,7 +47,8 @@ pub record MayJoin (external : ℕ) (held : List (Option Session)) (s : Session)
   pub seen : IsSeen s.proto s.seen
   pub apart : ¬ table.AnyClash held s
   pub few : count_by is_some held ≢ table.most_sessions
-  pub placed : same_endpoint s.inside s.outside ≡ false → (s.outside.addr ≡ external) × (0 < s.outside.port)
+  pub placed : same_endpoint s.inside s.outside ≡ false
+      → (s.outside.addr ≡ external) × (0 < s.outside.port)
 
 -- how many sessions the change adds
 abbrev pub adds : Change → ℕ

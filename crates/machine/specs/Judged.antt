@@ -45,7 +45,8 @@ abbrev pub AreJudged : Config → List Event → List Judged → Type 0
 AreJudged config [] [] = Unit {0}
 AreJudged config [] (judged ∷ more) = ⊥
 AreJudged config (event ∷ events) [] = ⊥
-AreJudged config (event ∷ events) (judged ∷ more) = IsJudged config event judged × AreJudged config events more
+AreJudged config (event ∷ events) (judged ∷ more) = IsJudged config event judged
+    × AreJudged config events more
 
 -- it brings no text
 abbrev pub IsNoLoad : What → Type 0

@@ -38,84 +38,115 @@ StartIsSound = (config : Config) (moment : ℕ) → IsSound config (empty_at mom
 -- and each step keeps it so
 abbrev pub StepsKeepSound : Type 0
 StepsKeepSound =
-    (config : Config) (s : State) (event : Event) (judged : Judged) → IsTrue (is_config config) → IsJudged config event judged → IsSound config s
+    (config : Config) (s : State) (event : Event) (judged : Judged) → IsTrue (is_config config)
+    → IsJudged config event judged → IsSound config s
     → IsSound config (step config s judged).0
 
 abbrev pub RunsKeepSound : Type 0
 RunsKeepSound =
-    (config : Config) (s : State) (events : List Event) (judged : List Judged) → IsTrue (is_config config) → AreJudged config events judged → IsSound config s
+    (config : Config) (s : State) (events : List Event) (judged : List Judged)
+    → IsTrue (is_config config) → AreJudged config events judged → IsSound config s
     → IsSound config (after config s judged)
 
 -- the clock never falls
 abbrev pub ClockNeverFalls : Type 0
-ClockNeverFalls = (config : Config) (s : State) (judged : Judged) → IsTrue (is_config config) → IsSound config s → s.clock ≤ (step config s judged).0.clock
+ClockNeverFalls = (config : Config) (s : State) (judged : Judged) → IsTrue (is_config config)
+    → IsSound config s → s.clock ≤ (step config s judged).0.clock
 
 -- no session outlives its timeout
 abbrev pub SessionsAreAlive : Type 0
 SessionsAreAlive =
-    (config : Config) (s : State) (judged : Judged) (t : Session) → IsTrue (is_config config) → IsSound config s
+    (config : Config) (s : State) (judged : Judged) (t : Session) → IsTrue (is_config config)
+    → IsSound config s
     → In t (step config s judged).0.sessions → IsAlive (step config s judged).0.clock t
 
 -- a packet that is dropped changes nothing: only the clock rises, and sessions that are alive no longer end
 abbrev pub DropsChangeNothing : Type 0
 DropsChangeNothing =
-    (config : Config) (s : State) (judged : Judged) (number : ℕ) → IsTrue (is_config config) → IsSound config s
-    → (step config s judged).1 ≡ Dropped number → (step config s judged).0 ≡ aged (later s.clock judged.moment) s
+    (config : Config) (s : State) (judged : Judged) (number : ℕ) → IsTrue (is_config config)
+    → IsSound config s
+    → (step config s judged).1 ≡ Dropped number
+    → (step config s judged).0 ≡ aged (later s.clock judged.moment) s
 
 -- no two mappings of a protocol share an outside endpoint
 abbrev pub OutsideIsNotShared : Type 0
 OutsideIsNotShared =
-    (config : Config) (s : State) (proto : Proto) (inside inside' outside : Endpoint) → IsSound config s
-    → IsMapping s.sessions proto inside outside → IsMapping s.sessions proto inside' outside → inside ≡ inside'
+    (config : Config) (s : State) (proto : Proto) (inside inside' outside : Endpoint)
+    → IsSound config s
+    → IsMapping s.sessions proto inside outside → IsMapping s.sessions proto inside' outside
+    → inside ≡ inside'
 
 -- an inside endpoint has one mapping of a protocol
 abbrev pub InsideMapsOnce : Type 0
 InsideMapsOnce =
-    (config : Config) (s : State) (proto : Proto) (inside outside outside' : Endpoint) → IsSound config s
-    → IsMapping s.sessions proto inside outside → IsMapping s.sessions proto inside outside' → outside ≡ outside'
+    (config : Config) (s : State) (proto : Proto) (inside outside outside' : Endpoint)
+    → IsSound config s
+    → IsMapping s.sessions proto inside outside → IsMapping s.sessions proto inside outside'
+    → outside ≡ outside'
 
 -- a mapping stays while a session of it is alive
 abbrev pub LivingMappingsStay : Type 0
 LivingMappingsStay =
-    (config : Config) (s : State) (judged : Judged) (proto : Proto) (inside outside : Endpoint) (mapping : IsMapping s.sessions proto inside outside)
-    → IsTrue (is_config config) → IsSound config s → IsAlive (later s.clock judged.moment) mapping.session
+    (config : Config) (s : State) (judged : Judged) (proto : Proto) (inside outside : Endpoint)
+    (mapping : IsMapping s.sessions proto inside outside)
+    → IsTrue (is_config config) → IsSound config s
+    → IsAlive (later s.clock judged.moment) mapping.session
     → IsMapping (step config s judged).0.sessions proto inside outside
 
 -- a packet with these fields came in here, and has this route
-pub record Came (config : Config) (judged : Judged) (iface : Iface) (bytes : List ℕ) (view : View) (r : Route) : Type 0 where
+pub record Came (config : Config) (judged : Judged) (iface : Iface) (bytes : List ℕ) (view : View)
+    (r : Route) : Type 0 where
   pub deed_is : judged.deed ≡ Packet iface bytes
   pub fields_are : fields bytes ≡ Ok view
   pub route_is : route config iface view ≡ Ok r
 
 -- the forward chains let a packet pass between these interfaces and endpoints, in this state of its connection
-abbrev pub LetsPass : Config → State → View → Iface → Iface → Endpoint → Endpoint → Connection → Type 0
+abbrev pub LetsPass : Config → State → View → Iface → Iface → Endpoint → Endpoint
+    → Connection → Type 0
 LetsPass config s view iif oif src dst connection =
-    forward_verdict config (record { iif = iif; oif = Some oif; src = src; dst = dst; proto = view.proto; state = connection }) s.rules ≡ Pass
+    forward_verdict config (record {
+      iif = iif;
+      oif = Some oif;
+      src = src;
+      dst = dst;
+      proto = view.proto;
+      state = connection;
+    }) s.rules
+    ≡ Pass
 
 -- while a session is alive, what its remote endpoint sends to its outside endpoint comes to its inside endpoint, if
 -- the forward chains let it
 abbrev pub AnswersComeIn : Type 0
 AnswersComeIn =
-    (config : Config) (s : State) (judged : Judged) (bytes : List ℕ) (view : View) (t : Session) → IsSound config s
-    → In t s.sessions → IsAlive (later s.clock judged.moment) t → Came config judged Wan bytes view InRoute
-    → HasOutside view.proto view.dst view.src t → LetsPass config s view Wan Lan view.src t.inside (state_of t Remote view.flags)
+    (config : Config) (s : State) (judged : Judged) (bytes : List ℕ) (view : View) (t : Session)
+    → IsSound config s
+    → In t s.sessions → IsAlive (later s.clock judged.moment) t
+    → Came config judged Wan bytes view InRoute
+    → HasOutside view.proto view.dst view.src t
+    → LetsPass config s view Wan Lan view.src t.inside (state_of t Remote view.flags)
     → (step config s judged).1 ≡ Forward Lan (translated bytes t.remote t.inside)
 
 -- and what its inside endpoint sends to its remote endpoint goes out from its outside endpoint
 abbrev pub SessionsGoOut : Type 0
 SessionsGoOut =
-    (config : Config) (s : State) (judged : Judged) (bytes : List ℕ) (view : View) (t : Session) → IsSound config s
-    → In t s.sessions → IsAlive (later s.clock judged.moment) t → Came config judged Lan bytes view Out
-    → HasInside view.proto view.src view.dst t → LetsPass config s view Lan Wan view.src view.dst (state_of t Inside view.flags)
+    (config : Config) (s : State) (judged : Judged) (bytes : List ℕ) (view : View) (t : Session)
+    → IsSound config s
+    → In t s.sessions → IsAlive (later s.clock judged.moment) t
+    → Came config judged Lan bytes view Out
+    → HasInside view.proto view.src view.dst t
+    → LetsPass config s view Lan Wan view.src view.dst (state_of t Inside view.flags)
     → (step config s judged).1 ≡ Forward Wan (translated bytes t.outside t.remote)
 
 -- a new session of an inside endpoint whose mapping lives has the mapping's outside endpoint, whatever its remote
 -- endpoint and the nat chains: unless it is TCP that may begin none, the forward chains drop it, or there are too many
 abbrev pub MappingsAreReused : Type 0
 MappingsAreReused =
-    (config : Config) (s : State) (judged : Judged) (bytes : List ℕ) (view : View) (outside : Endpoint) (mapping : IsMapping s.sessions view.proto view.src outside)
-    → IsSound config s → IsAlive (later s.clock judged.moment) mapping.session → Came config judged Lan bytes view Out
-    → ((u : Session) → In u s.sessions → IsAlive (later s.clock judged.moment) u → ¬ HasInside view.proto view.src view.dst u)
+    (config : Config) (s : State) (judged : Judged) (bytes : List ℕ) (view : View)
+    (outside : Endpoint) (mapping : IsMapping s.sessions view.proto view.src outside)
+    → IsSound config s → IsAlive (later s.clock judged.moment) mapping.session
+    → Came config judged Lan bytes view Out
+    → ((u : Session) → In u s.sessions → IsAlive (later s.clock judged.moment) u
+    → ¬ HasInside view.proto view.src view.dst u)
     → IsFalse (needs_session view) → LetsPass config s view Lan Wan view.src view.dst New
     → IsTrue (nat_lt (length (aged (later s.clock judged.moment) s).sessions) most_sessions)
     → (step config s judged).1 ≡ Forward Wan (translated bytes outside view.dst)
@@ -123,14 +154,19 @@ MappingsAreReused =
 -- only what a leg planned is forwarded: a packet that was read and has a route, between the leg's endpoints
 abbrev pub ForwardsArePlanned : Type 0
 ForwardsArePlanned =
-    (config : Config) (s : State) (judged : Judged) (out : Iface) (packet : List ℕ) → (step config s judged).1 ≡ Forward out packet
-    → (iface : Iface) × (bytes : List ℕ) × (view : View) × (r : Route) × (passage : Passage) × Came config judged iface bytes view r
-    × (leg config (aged (later s.clock judged.moment) s) view r ≡ Ok passage) × (out ≡ passage.iface) × (packet ≡ translated bytes passage.src passage.dst)
-    × ((step config s judged).0.sessions ≡ put_all passage.sessions (aged (later s.clock judged.moment) s).sessions)
+    (config : Config) (s : State) (judged : Judged) (out : Iface) (packet : List ℕ)
+    → (step config s judged).1 ≡ Forward out packet
+    → (iface : Iface) × (bytes : List ℕ) × (view : View) × (r : Route) × (passage : Passage)
+    × Came config judged iface bytes view r
+    × (leg config (aged (later s.clock judged.moment) s) view r ≡ Ok passage)
+    × (out ≡ passage.iface) × (packet ≡ translated bytes passage.src passage.dst)
+    × ((step config s judged).0.sessions
+    ≡ put_all passage.sessions (aged (later s.clock judged.moment) s).sessions)
 
 -- an event is judged in one way only
 abbrev pub EventsAreJudgedOnce : Type 0
-EventsAreJudgedOnce = (config : Config) (event : Event) (a b : Judged) → IsJudged config event a → IsJudged config event b → a ≡ b
+EventsAreJudgedOnce = (config : Config) (event : Event) (a b : Judged) → IsJudged config event a
+    → IsJudged config event b → a ≡ b
 
 -- a load that is refused changes nothing: only the clock rises, and sessions that are alive no longer end
 abbrev pub RefusalsChangeNothing : Type 0
@@ -141,11 +177,20 @@ RefusalsChangeNothing =
 -- a text that loads is in force from then on with its rules, and the sessions that are alive go on
 abbrev pub LoadsTakeForce : Type 0
 LoadsTakeForce =
-    (config : Config) (s : State) (judged : Judged) (text : List ℕ) (rules : Spelled) → judged.deed ≡ Take text rules
-    → step config s judged ≡ (record (aged (later s.clock judged.moment) s) { text = text; rules = rules }, Loaded)
+    (config : Config) (s : State) (judged : Judged) (text : List ℕ) (rules : Spelled)
+    → judged.deed ≡ Take text rules
+    → step config s judged ≡ (
+      record (aged (later s.clock judged.moment) s) {
+        text =
+            text;
+        rules = rules;
+      },
+      Loaded,
+    )
 
 -- nothing but a load changes the text and its rules
 abbrev pub OnlyLoadsChangeRules : Type 0
 OnlyLoadsChangeRules =
-    (config : Config) (s : State) (event : Event) (judged : Judged) → IsTrue (is_config config) → IsSound config s → IsJudged config event judged → IsNoLoad event.what
+    (config : Config) (s : State) (event : Event) (judged : Judged) → IsTrue (is_config config)
+    → IsSound config s → IsJudged config event judged → IsNoLoad event.what
     → ((step config s judged).0.text ≡ s.text) × ((step config s judged).0.rules ≡ s.rules)

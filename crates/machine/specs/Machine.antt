@@ -105,7 +105,8 @@ after config s (judged ∷ more) = after config (step config s judged).0 more
 -- the answers to them
 abbrev pub answers : Config → State → List Judged → List Answer
 answers config s [] = []
-answers config s (judged ∷ more) = (step config s judged).1 ∷ answers config (step config s judged).0 more
+answers config s (judged ∷ more) =
+    (step config s judged).1 ∷ answers config (step config s judged).0 more
 
 -- answers under the numbers behind last
 abbrev pub numbered : ℕ → List Answer → List (ℕ × Answer)

@@ -101,7 +101,8 @@ of_deed config s (deed.Packet iface bytes) = of_fields config s iface (fields by
 of_deed config s deed.Moment = []
 
 -- these are the entries of an event in a state
-pub record AreEntriesOf (config : Config) (s : State) (judged : Judged) (entries : List Entry) : Type 0 where
+pub record AreEntriesOf (config : Config) (s : State) (judged : Judged)
+    (entries : List Entry) : Type 0 where
   pub gone : List Session
   pub are_over : AreOver (later s.clock judged.moment) s.sessions gone
   pub are : entries ≡ ends gone ++ of_deed config (aged (later s.clock judged.moment) s) judged.deed
@@ -115,13 +116,15 @@ TakesText d = (text : List ℕ) × (rules : Spelled) × (d ≡ deed.Take text ru
 
 abbrev pub HasEntry : Config → State → Judged → Type 0
 HasEntry config s judged =
-    EndsSome (later s.clock judged.moment) s ⊎ TakesText judged.deed ⊎ (lasting (step config s judged).0 ≢ lasting (aged (later s.clock judged.moment) s))
+    EndsSome (later s.clock judged.moment) s ⊎ TakesText judged.deed
+    ⊎ (lasting (step config s judged).0 ≢ lasting (aged (later s.clock judged.moment) s))
 
 -- and these those of a run of events, in turn
 abbrev pub AreEntriesOfAll : Config → State → List Judged → List Entry → Type 0
 AreEntriesOfAll config s [] entries = entries ≡ []
 AreEntriesOfAll config s (judged ∷ more) entries =
-    (now later : List Entry) × AreEntriesOf config s judged now × AreEntriesOfAll config (step config s judged).0 more later × (entries ≡ now ++ later)
+    (now later : List Entry) × AreEntriesOf config s judged now
+    × AreEntriesOfAll config (step config s judged).0 more later × (entries ≡ now ++ later)
 
 -- ---- a state that is begun again from what is durable
 

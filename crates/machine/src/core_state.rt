@@ -66,7 +66,10 @@ impl Model for Core {
 
     ghost Value = { View };
 
-    ghost view = { λ c. record { config = c.bounds; state = state_of c.in_force.text c.in_force.rules c.flows.table.held c.clock } };
+    ghost view = { λ c. record {
+      config = c.bounds;
+      state = state_of c.in_force.text c.in_force.rules c.flows.table.held c.clock;
+    } };
 
     ghost invariant = { λ c. IsCore c.bounds c.in_force.text c.in_force.rules c.flows c.clock };
 }
@@ -106,21 +109,30 @@ fn put_through<N: Notes>(
     requires latest { IsLatest flows.old.table.held now }
     requires ready { IsTrue ready → IsReady 2 flows.old }
     requires room { IsTrue ready → N.keeps notes.old → 44 ≤ N.room notes.old }
-    requires planned { (way : Outcome Passage Reason) × Plans flows.old.translations.external flows.old.table.held now plan.now way }
-    ensures ok { IfOk result (λ answer. (way : Outcome Passage Reason) → Plans flows.old.translations.external flows.old.table.held now plan.now way
-        → IsTransition (λ s. sent s bytes way) flows.old.table.held flows.new.table.held now answer) }
-    ensures err { IfErr result (λ e. (e.0 ≡ bytes) × (flows.new.table.held ≡ flows.old.table.held)) }
+    requires planned { (way : Outcome Passage Reason)
+        × Plans flows.old.translations.external flows.old.table.held now plan.now way }
+    ensures ok { IfOk result (λ answer. (way : Outcome Passage Reason)
+        → Plans flows.old.translations.external flows.old.table.held now plan.now way
+        → IsTransition (λ s. sent s bytes way) flows.old.table.held flows.new.table.held
+        now answer) }
+    ensures err { IfErr result (λ e. (e.0 ≡ bytes)
+        × (flows.new.table.held ≡ flows.old.table.held)) }
     ensures external { flows.new.translations.external ≡ flows.old.translations.external }
     ensures ready { IsTrue ready → IsOk result }
-    ensures adds_none { (way : Outcome Passage Reason) → Plans flows.old.translations.external flows.old.table.held now plan.now way
-        → AddsNoSession (λ s. sent s bytes way) flows.old.table.held now → N.grants notes.old → IsOk result }
+    ensures adds_none { (way : Outcome Passage Reason)
+        → Plans flows.old.translations.external flows.old.table.held now plan.now way
+        → AddsNoSession (λ s. sent s bytes way) flows.old.table.held now → N.grants notes.old
+        → IsOk result }
     ensures keeps { N.keeps notes.old ↔ N.keeps notes.new }
     ensures beside { N.beside notes.new ≡ N.beside notes.old }
-    ensures noted { OnOk result ((way : Outcome Passage Reason) → Plans flows.old.translations.external flows.old.table.held now plan.now way
-        → N.keeps notes.old → N.noted notes.new ≡ N.noted notes.old ++ of_way (listing flows.old.table.held) way) }
+    ensures noted { OnOk result ((way : Outcome Passage Reason)
+        → Plans flows.old.translations.external flows.old.table.held now plan.now way
+        → N.keeps notes.old → N.noted notes.new ≡ N.noted notes.old
+        ++ of_way (listing flows.old.table.held) way) }
     ensures err_noted { OnErr result (N.noted notes.new ≡ N.noted notes.old) }
     ensures full { IfErr result (λ e. e.1 ≡ StepFault.Full → N.too_many notes.old 44) }
-    ensures quiet { (way : Outcome Passage Reason) → Plans flows.old.translations.external flows.old.table.held now plan.now way
+    ensures quiet { (way : Outcome Passage Reason)
+        → Plans flows.old.translations.external flows.old.table.held now plan.now way
         → of_way (listing flows.old.table.held) way ≡ [] → IsOk result }
 {
     match plan {
@@ -150,7 +162,8 @@ fn plan_for(
     requires bounded { KeepBounds bounds.now rules.now }
     requires ports { (0 < view.now.src.port) × (0 < view.now.dst.port) }
     requires routed { (iface : Iface) × (route_for bounds.now iface view.now ≡ Ok route) }
-    ensures { (text : List ℕ) → Plans flows.now.translations.external flows.now.table.held now result
+    ensures { (text : List ℕ)
+        → Plans flows.now.translations.external flows.now.table.held now result
         (leg bounds.now (state_of text rules.now flows.now.table.held now) view.now route) }
 {
     flows.is_tied();
@@ -173,7 +186,9 @@ fn glance(
     route: Route,
     view: &View,
 ) -> Option<Result<Going, Cause>>
-    ensures way { (text : List ℕ) (now : ℕ) → IfSome result (λ going. Plans flows.now.translations.external flows.now.table.held now (planned going)
+    ensures way { (text : List ℕ) (now : ℕ)
+        → IfSome result (λ going. Plans flows.now.translations.external flows.now.table.held now
+        (planned going)
         (leg bounds.now (state_of text rules.now flows.now.table.held now) view.now route)) }
     ensures quiet { IfSome result (λ going. IfOk going (IsQuiet flows.now.table)) }
 {
@@ -189,12 +204,19 @@ fn glance(
 fn send_on(flows: &mut Flows, going: &Going, packet: &mut [u8], now: u64)
     requires read { IsOkAnd (fields packet.old) (λ view. 2 ≤ view.ttl) }
     requires latest { IsLatest flows.old.table.held now }
-    requires planned { (way : Outcome Passage Reason) × Plans flows.old.translations.external flows.old.table.held now (Ok (plan_of going.now)) way }
+    requires planned { (way : Outcome Passage Reason)
+        × Plans flows.old.translations.external flows.old.table.held now
+        (Ok (plan_of going.now)) way }
     requires quiet { IsQuiet flows.old.table going.now }
-    ensures leads { (way : Outcome Passage Reason) → Plans flows.old.translations.external flows.old.table.held now (Ok (plan_of going.now)) way
-        → IsTransition (λ s. sent s packet.old way) flows.old.table.held flows.new.table.held now (Forward going.now.iface packet.new) }
+    ensures leads { (way : Outcome Passage Reason)
+        → Plans flows.old.translations.external flows.old.table.held now
+        (Ok (plan_of going.now)) way
+        → IsTransition (λ s. sent s packet.old way) flows.old.table.held flows.new.table.held now
+        (Forward going.now.iface packet.new) }
     ensures external { flows.new.translations.external ≡ flows.old.translations.external }
-    ensures none { (way : Outcome Passage Reason) → Plans flows.old.translations.external flows.old.table.held now (Ok (plan_of going.now)) way
+    ensures none { (way : Outcome Passage Reason)
+        → Plans flows.old.translations.external flows.old.table.held now
+        (Ok (plan_of going.now)) way
         → of_way (listing flows.old.table.held) way ≡ [] }
 {
     flows.table().is_sound();
@@ -206,12 +228,16 @@ fn send_on(flows: &mut Flows, going: &Going, packet: &mut [u8], now: u64)
 fn go_through(flows: &mut Flows, going: &Result<Going, Cause>, bytes: Bytes, now: u64) -> Answer
     requires read { IsOkAnd (fields bytes) (λ view. 2 ≤ view.ttl) }
     requires latest { IsLatest flows.old.table.held now }
-    requires planned { (way : Outcome Passage Reason) × Plans flows.old.translations.external flows.old.table.held now (planned going.now) way }
+    requires planned { (way : Outcome Passage Reason)
+        × Plans flows.old.translations.external flows.old.table.held now (planned going.now) way }
     requires quiet { IfOk going.now (IsQuiet flows.old.table) }
-    ensures leads { (way : Outcome Passage Reason) → Plans flows.old.translations.external flows.old.table.held now (planned going.now) way
-        → IsTransition (λ s. sent s bytes way) flows.old.table.held flows.new.table.held now result }
+    ensures leads { (way : Outcome Passage Reason)
+        → Plans flows.old.translations.external flows.old.table.held now (planned going.now) way
+        → IsTransition (λ s. sent s bytes way) flows.old.table.held flows.new.table.held
+        now result }
     ensures external { flows.new.translations.external ≡ flows.old.translations.external }
-    ensures none { (way : Outcome Passage Reason) → Plans flows.old.translations.external flows.old.table.held now (planned going.now) way
+    ensures none { (way : Outcome Passage Reason)
+        → Plans flows.old.translations.external flows.old.table.held now (planned going.now) way
         → of_way (listing flows.old.table.held) way ≡ [] }
 {
     match going {
@@ -241,20 +267,27 @@ fn pass_on<N: Notes>(
     requires latest { IsLatest flows.old.table.held now }
     requires ready { IsTrue ready → IsReady 2 flows.old }
     requires room { IsTrue ready → N.keeps notes.old → 44 ≤ N.room notes.old }
-    ensures ok { IfOk result (λ answer. pass bounds.now (state_of in_force.now.text in_force.now.rules flows.old.table.held now) iface bytes
+    ensures ok { IfOk result (λ answer. pass bounds.now
+        (state_of in_force.now.text in_force.now.rules flows.old.table.held now) iface bytes
         ≡ (state_of in_force.now.text in_force.now.rules flows.new.table.held now, answer)) }
-    ensures err { IfErr result (λ e. (e.0 ≡ bytes) × (flows.new.table.held ≡ flows.old.table.held)) }
+    ensures err { IfErr result (λ e. (e.0 ≡ bytes)
+        × (flows.new.table.held ≡ flows.old.table.held)) }
     ensures external { flows.new.translations.external ≡ flows.old.translations.external }
     ensures ready { IsTrue ready → IsOk result }
-    ensures adds_none { let s = state_of in_force.now.text in_force.now.rules flows.old.table.held now in
+    ensures adds_none { let s = state_of in_force.now.text in_force.now.rules
+        flows.old.table.held now in
         AddsNone s (pass bounds.now s iface bytes) → N.grants notes.old → IsOk result }
     ensures keeps { N.keeps notes.old ↔ N.keeps notes.new }
     ensures beside { N.beside notes.new ≡ N.beside notes.old }
     ensures noted { OnOk result (N.keeps notes.old → N.noted notes.new ≡ N.noted notes.old
-        ++ of_fields bounds.now (state_of in_force.now.text in_force.now.rules flows.old.table.held now) iface (fields bytes)) }
+        ++ of_fields bounds.now
+        (state_of in_force.now.text in_force.now.rules flows.old.table.held now) iface
+        (fields bytes)) }
     ensures err_noted { OnErr result (N.noted notes.new ≡ N.noted notes.old) }
     ensures full { IfErr result (λ e. e.1 ≡ StepFault.Full → N.too_many notes.old 44) }
-    ensures quiet { of_fields bounds.now (state_of in_force.now.text in_force.now.rules flows.old.table.held now) iface (fields bytes) ≡ [] → IsOk result }
+    ensures quiet { of_fields bounds.now
+        (state_of in_force.now.text in_force.now.rules flows.old.table.held now) iface
+        (fields bytes) ≡ [] → IsOk result }
 {
     bounds.facts();
     match View::read(bytes.as_slice()) {
@@ -282,10 +315,14 @@ fn pass_in_place(
     now: u64,
 ) -> Option<Iface>
     requires latest { IsLatest flows.old.table.held now }
-    ensures some { (text : List ℕ) → IfSome result (λ out. pass bounds.now (state_of text rules.now flows.old.table.held now) iface packet.old
+    ensures some { (text : List ℕ)
+        → IfSome result (λ out. pass bounds.now (state_of text rules.now flows.old.table.held now)
+        iface packet.old
         ≡ (state_of text rules.now flows.new.table.held now, Forward out packet.new)) }
     ensures external { flows.new.translations.external ≡ flows.old.translations.external }
-    ensures quiet { (text : List ℕ) → OnSome result (of_fields bounds.now (state_of text rules.now flows.old.table.held now) iface (fields packet.old) ≡ []) }
+    ensures quiet { (text : List ℕ)
+        → OnSome result (of_fields bounds.now (state_of text rules.now flows.old.table.held now)
+        iface (fields packet.old) ≡ []) }
     ensures none { IfNone result ((flows.new ≡ flows.old) × (packet.new ≡ packet.old)) }
 {
     let Ok(view) = View::read(packet) else {
@@ -306,7 +343,8 @@ fn note_load<N: Notes>(ready: bool, text: &Bytes, notes: &mut N) -> Result<(), S
     requires { IsTrue ready → N.keeps notes.old → 5 + length text.now ≤ N.room notes.old }
     ensures keeps { N.keeps notes.old ↔ N.keeps notes.new }
     ensures beside { N.beside notes.new ≡ N.beside notes.old }
-    ensures noted { OnOk result (N.keeps notes.old → N.noted notes.new ≡ N.noted notes.old ++ Load text.now ∷ []) }
+    ensures noted { OnOk result (N.keeps notes.old
+        → N.noted notes.new ≡ N.noted notes.old ++ Load text.now ∷ []) }
     ensures err_noted { OnErr result (N.noted notes.new ≡ N.noted notes.old) }
     ensures full { IsErrOf result StepFault.Full → N.too_many notes.old (5 + length text.now) }
     ensures ready { IsTrue ready → IsOk result }
@@ -336,21 +374,28 @@ fn act_on<N: Notes>(
     requires latest { IsLatest flows.old.table.held now }
     requires ready { IsTrue ready → IsReady 2 flows.old }
     requires room { IsTrue ready → N.keeps notes.old → most_bytes deed ≤ N.room notes.old }
-    ensures ok { IfOk result (λ answer. act bounds.now (state_of in_force.old.text in_force.old.rules flows.old.table.held now) deed
+    ensures ok { IfOk result (λ answer. act bounds.now
+        (state_of in_force.old.text in_force.old.rules flows.old.table.held now) deed
         ≡ (state_of in_force.new.text in_force.new.rules flows.new.table.held now, answer)) }
-    ensures err { IfErr result (λ e. (e.0 ≡ bringer deed) × (flows.new.table.held ≡ flows.old.table.held)) }
+    ensures err { IfErr result (λ e. (e.0 ≡ bringer deed)
+        × (flows.new.table.held ≡ flows.old.table.held)) }
     ensures stays { OnErr result (in_force.new ≡ in_force.old) }
     ensures external { flows.new.translations.external ≡ flows.old.translations.external }
     ensures ready { IsTrue ready → IsOk result }
-    ensures adds_none { let s = state_of in_force.old.text in_force.old.rules flows.old.table.held now in
+    ensures adds_none { let s = state_of in_force.old.text in_force.old.rules
+        flows.old.table.held now in
         AddsNone s (act bounds.now s deed) → N.grants notes.old → IsOk result }
     ensures keeps { N.keeps notes.old ↔ N.keeps notes.new }
     ensures beside { N.beside notes.new ≡ N.beside notes.old }
     ensures noted { OnOk result (N.keeps notes.old → N.noted notes.new ≡ N.noted notes.old
-        ++ of_deed bounds.now (state_of in_force.old.text in_force.old.rules flows.old.table.held now) deed) }
+        ++ of_deed bounds.now
+        (state_of in_force.old.text in_force.old.rules flows.old.table.held now) deed) }
     ensures err_noted { OnErr result (N.noted notes.new ≡ N.noted notes.old) }
-    ensures full { IfErr result (λ e. e.1 ≡ StepFault.Full → N.too_many notes.old (most_bytes deed)) }
-    ensures quiet { of_deed bounds.now (state_of in_force.old.text in_force.old.rules flows.old.table.held now) deed ≡ [] → IsOk result }
+    ensures full { IfErr result (λ e. e.1 ≡ StepFault.Full
+        → N.too_many notes.old (most_bytes deed)) }
+    ensures quiet { of_deed bounds.now
+        (state_of in_force.old.text in_force.old.rules flows.old.table.held now) deed ≡ []
+        → IsOk result }
 {
     match deed {
         Deed::Take(text, rules) => {
@@ -387,23 +432,36 @@ fn age_and_act<N: Notes>(
     requires sound { AreSound bounds.now (listing flows.old.table.held) }
     requires in_force { IsInForce bounds.now in_force.old.text in_force.old.rules }
     requires latest { IsLatest flows.old.table.held now }
-    requires live { EndsNone clock (state_of in_force.old.text in_force.old.rules flows.old.table.held clock) }
-    ensures ok { IfOk result (λ answer. act bounds.now (aged now (state_of in_force.old.text in_force.old.rules flows.old.table.held clock)) deed
+    requires live { EndsNone clock (state_of in_force.old.text in_force.old.rules
+        flows.old.table.held clock) }
+    ensures ok { IfOk result (λ answer. act bounds.now
+        (aged now (state_of in_force.old.text in_force.old.rules flows.old.table.held clock))
+        deed
         ≡ (state_of in_force.new.text in_force.new.rules flows.new.table.held now, answer)) }
-    ensures err { IfErr result (λ e. (e.0 ≡ bringer deed) × (flows.new.table.held ≡ flows.old.table.held)) }
+    ensures err { IfErr result (λ e. (e.0 ≡ bringer deed)
+        × (flows.new.table.held ≡ flows.old.table.held)) }
     ensures stays { OnErr result (in_force.new ≡ in_force.old) }
     ensures external { flows.new.translations.external ≡ flows.old.translations.external }
-    ensures succeeds { let s = state_of in_force.old.text in_force.old.rules flows.old.table.held clock in
-        EndsNone now s → AddsNone s (act bounds.now (aged now s) deed) → N.grants notes.old → IsOk result }
+    ensures succeeds { let s = state_of in_force.old.text in_force.old.rules
+        flows.old.table.held clock in
+        EndsNone now s → AddsNone s (act bounds.now (aged now s) deed) → N.grants notes.old
+        → IsOk result }
     ensures keeps { N.keeps notes.old ↔ N.keeps notes.new }
     ensures beside { N.beside notes.new ≡ N.beside notes.old }
-    ensures noted { OnOk result (N.keeps notes.old → (gone : List Flow) × AreOver now (listing flows.old.table.held) gone
+    ensures noted { OnOk result (N.keeps notes.old → (gone : List Flow)
+        × AreOver now (listing flows.old.table.held) gone
         × (N.noted notes.new ≡ N.noted notes.old
-        ++ (ends gone ++ of_deed bounds.now (aged now (state_of in_force.old.text in_force.old.rules flows.old.table.held clock)) deed))) }
+        ++ (ends gone
+        ++ of_deed bounds.now
+        (aged now
+        (state_of in_force.old.text in_force.old.rules flows.old.table.held clock))
+        deed))) }
     ensures err_noted { OnErr result (N.noted notes.new ≡ N.noted notes.old) }
-    ensures full { IfErr result (λ e. e.1 ≡ StepFault.Full → (gone : List Flow) × AreOver now (listing flows.old.table.held) gone
+    ensures full { IfErr result (λ e. e.1 ≡ StepFault.Full
+        → (gone : List Flow) × AreOver now (listing flows.old.table.held) gone
         × N.too_many notes.old (14 * length gone + most_bytes deed)) }
-    ensures quiet { let s = state_of in_force.old.text in_force.old.rules flows.old.table.held clock in
+    ensures quiet { let s = state_of in_force.old.text in_force.old.rules
+        flows.old.table.held clock in
         EndsNone now s → of_deed bounds.now (aged now s) deed ≡ [] → IsOk result }
 {
     match flows.expire_since(alloc, clock, now, deed.most_bytes(), notes) {
@@ -472,7 +530,8 @@ impl Core {
     ) -> Result<Core, NoMemory>
         requires { IsDurable bounds (durable text.items sessions.now) }
         ensures config { IfOk result (λ c. c.config ≡ bounds) }
-        ensures state { IfOk result (λ c. IsRestarted bounds (durable text.items sessions.now) moment c.state) }
+        ensures state { IfOk result (λ c. IsRestarted bounds (durable text.items sessions.now)
+            moment c.state) }
     {
         let in_force = in_force_again(alloc, &bounds, text)?;
         match Flows::of(alloc, &bounds, sessions, moment) {
@@ -526,11 +585,13 @@ impl Core {
     /// `NoMemory` where memory is refused, which happens only where a text is read, or a session ends or begins.
     /// The event comes back, and nothing has changed.
     pub fn step(&mut self, event: Event) -> Result<Answer, (Event, NoMemory)>
-        ensures ok { IfOk result (λ answer. (judged : Judged) × IsJudged self.old.config event judged
+        ensures ok { IfOk result (λ answer. (judged : Judged)
+            × IsJudged self.old.config event judged
             × (step self.old.config self.old.state judged ≡ (self.new.state, answer))) }
         ensures config { self.new.config ≡ self.old.config }
         ensures err { IfErr result (λ e. (e.0 ≡ event) × (self.new ≡ self.old)) }
-        ensures succeeds { IsNoLoad event.what → (judged : Judged) → IsJudged self.old.config event judged
+        ensures succeeds { IsNoLoad event.what → (judged : Judged)
+            → IsJudged self.old.config event judged
             → EndsNone (later self.old.state.clock event.moment) self.old.state
             → AddsNone self.old.state (step self.old.config self.old.state judged) → IsOk result }
     {
@@ -552,22 +613,29 @@ impl Core {
         event: Event,
         notes: &mut N,
     ) -> Result<Answer, (Event, StepFault)>
-        ensures ok { IfOk result (λ answer. (judged : Judged) × IsJudged self.old.config event judged
+        ensures ok { IfOk result (λ answer. (judged : Judged)
+            × IsJudged self.old.config event judged
             × (step self.old.config self.old.state judged ≡ (self.new.state, answer))
-            × (N.keeps notes.old → (entries : List Noted) × AreEntriesOf self.old.config self.old.state judged entries
+            × (N.keeps notes.old → (entries : List Noted)
+            × AreEntriesOf self.old.config self.old.state judged entries
             × (N.noted notes.new ≡ N.noted notes.old ++ entries))) }
         ensures config { self.new.config ≡ self.old.config }
         ensures keeps { N.keeps notes.old ↔ N.keeps notes.new }
         ensures beside { N.beside notes.new ≡ N.beside notes.old }
         ensures err { IfErr result (λ e. (e.0 ≡ event) × (self.new ≡ self.old)) }
         ensures err_noted { OnErr result (N.noted notes.new ≡ N.noted notes.old) }
-        ensures full { IfErr result (λ e. e.1 ≡ StepFault.Full → (judged : Judged) × IsJudged self.old.config event judged
-            × (gone : List Flow) × AreOver (later self.old.state.clock event.moment) self.old.state.sessions gone
+        ensures full { IfErr result (λ e. e.1 ≡ StepFault.Full
+            → (judged : Judged) × IsJudged self.old.config event judged
+            × (gone : List Flow)
+            × AreOver (later self.old.state.clock event.moment) self.old.state.sessions gone
             × N.too_many notes.old (14 * length gone + most_bytes judged.deed)) }
-        ensures succeeds { IsNoLoad event.what → (judged : Judged) → IsJudged self.old.config event judged
+        ensures succeeds { IsNoLoad event.what → (judged : Judged)
+            → IsJudged self.old.config event judged
             → EndsNone (later self.old.state.clock event.moment) self.old.state
-            → AddsNone self.old.state (step self.old.config self.old.state judged) → N.grants notes.old → IsOk result }
-        ensures quiet { IsNoLoad event.what → (judged : Judged) → IsJudged self.old.config event judged
+            → AddsNone self.old.state (step self.old.config self.old.state judged)
+            → N.grants notes.old → IsOk result }
+        ensures quiet { IsNoLoad event.what → (judged : Judged)
+            → IsJudged self.old.config event judged
             → AreEntriesOf self.old.config self.old.state judged [] → IsOk result }
     {
         let Event { moment, what } = event;
@@ -613,8 +681,10 @@ impl Core {
     /// session would end at the moment, and where a look at the packet alone doesn't tell that its session goes on.
     pub fn forward(&mut self, moment: u64, iface: Iface, packet: &mut [u8]) -> Option<Iface>
         ensures step { IfSome result (λ out. (judged : Judged)
-            × IsJudged self.old.config (record { moment = moment; what = Packet iface packet.old }) judged
-            × (step self.old.config self.old.state judged ≡ (self.new.state, Forward out packet.new))
+            × IsJudged self.old.config
+            (record { moment = moment; what = Packet iface packet.old }) judged
+            × (step self.old.config self.old.state judged
+            ≡ (self.new.state, Forward out packet.new))
             × AreEntriesOf self.old.config self.old.state judged []) }
         ensures none { IfNone result ((self.new ≡ self.old) × (packet.new ≡ packet.old)) }
         ensures config { self.new.config ≡ self.old.config }

@@ -47,7 +47,11 @@ impl Model for Flows {
 
     ghost Value = { View };
 
-    ghost view = { λ f. record { table = f.table; watched = f.due.ready; translations = f.translations } };
+    ghost view = { λ f. record {
+      table = f.table;
+      watched = f.due.ready;
+      translations = f.translations;
+    } };
 
     ghost invariant = { λ f. Tied f.table f.due f.translations.pairs };
 }
@@ -83,7 +87,8 @@ impl Flows {
         moment: u64,
     ) -> Result<Flows, AllocError>
         requires { AreSound bounds.now sessions.now }
-        ensures sessions { IfOk result (λ f. listing f.table.held ≡ map (moved moment) sessions.now) }
+        ensures sessions { IfOk result (λ f. listing f.table.held
+            ≡ map (moved moment) sessions.now) }
         ensures external { IfOk result (λ f. f.translations.external ≡ bounds.now.external) }
     {
         let mut flows = Flows::new(alloc, bounds.external())?;
@@ -119,7 +124,8 @@ impl Flows {
 
     /// What the flows always keep: each mapping is held as often as sessions have it.
     pub fn is_tied(&self)
-        ensures counts { (p : Mapping) → times self.now.translations.pairs p ≡ tally p self.now.table.held }
+        ensures counts { (p : Mapping) → times self.now.translations.pairs p
+            ≡ tally p self.now.table.held }
     {
         // What they keep is known once a field is read.
         let _table = &self.table;
@@ -168,10 +174,13 @@ impl Flows {
     /// The slots of the sessions that are alive no longer, each once.
     fn due(&self, alloc: Global, now: u64) -> Result<Vec<Slot>, AllocError>
         requires { IsLatest self.now.table.held now }
-        ensures exactly { IfOk result (λ slots. (slot : ℕ) → Contains slots.items slot ↔ IsSomeAnd (at self.now.table slot) (IsDue now)) }
-        ensures once { IfOk result (λ slots. (i j : ℕ) → i < j → j < length slots.items → slice_index slots.items i ≢ slice_index slots.items j) }
+        ensures exactly { IfOk result (λ slots. (slot : ℕ)
+            → Contains slots.items slot ↔ IsSomeAnd (at self.now.table slot) (IsDue now)) }
+        ensures once { IfOk result (λ slots. (i j : ℕ) → i < j → j < length slots.items
+            → slice_index slots.items i ≢ slice_index slots.items j) }
         ensures sound { IsSound self.now.table.held }
-        ensures succeeds { ((slot : ℕ) → ¬ IsSomeAnd (at self.now.table slot) (IsDue now)) → IsOk result }
+        ensures succeeds { ((slot : ℕ) → ¬ IsSomeAnd (at self.now.table slot) (IsDue now))
+            → IsOk result }
     {
         self.table.is_sound();
         self.due.due(alloc, now)
@@ -207,7 +216,8 @@ impl Flows {
         requires bits { IfSome (at self.old.table slot) (λ s. IsSeen s.proto bits) }
         requires latest { IsLatest self.old.table.held last }
         ensures became { (s : Flow) → at self.old.table slot ≡ Some s
-            → Became self.old.table.held (Change.Seen slot bits) (seen_with s bits last) self.new.table.held }
+            → Became self.old.table.held (Change.Seen slot bits) (seen_with s bits last)
+            self.new.table.held }
         ensures latest { IsLatest self.new.table.held last }
         ensures ready { (n : ℕ) → IsReady n self.old → IsReady n self.new }
         ensures external { self.new.translations.external ≡ self.old.translations.external }
@@ -223,7 +233,8 @@ impl Flows {
         requires held { IsSome (at self.old.table slot) }
         requires latest { IsLatest self.old.table.held last }
         ensures became { (s : Flow) → at self.old.table slot ≡ Some s
-            → Became self.old.table.held (Change.Restart slot opener) (restarted s opener last) self.new.table.held }
+            → Became self.old.table.held (Change.Restart slot opener) (restarted s opener last)
+            self.new.table.held }
         ensures latest { IsLatest self.new.table.held last }
         ensures ready { (n : ℕ) → IsReady n self.old → IsReady n self.new }
         ensures external { self.new.translations.external ≡ self.old.translations.external }
@@ -242,7 +253,8 @@ impl Flows {
     fn place(&mut self, session: Session) -> Result<(), AllocError>
         requires may { MayJoin self.old.translations.external self.old.table.held session }
         requires latest { IsLatest self.old.table.held session.last }
-        ensures placed { OnOk result (listing self.new.table.held ≡ put session (listing self.old.table.held)) }
+        ensures placed { OnOk result (listing self.new.table.held
+            ≡ put session (listing self.old.table.held)) }
         ensures external { self.new.translations.external ≡ self.old.translations.external }
     {
         self.reserve()?;
@@ -255,7 +267,8 @@ impl Flows {
         requires may { MayJoin self.old.translations.external self.old.table.held session }
         requires ready { IsReady 1 self.old }
         requires latest { IsLatest self.old.table.held session.last }
-        ensures became { Became self.old.table.held (Change.Begin session) session self.new.table.held }
+        ensures became { Became self.old.table.held (Change.Begin session) session
+            self.new.table.held }
         ensures latest { IsLatest self.new.table.held session.last }
         ensures ready { (n : ℕ) → IsReady (n + 1) self.old → IsReady n self.new }
         ensures external { self.new.translations.external ≡ self.old.translations.external }
@@ -270,9 +283,11 @@ impl Flows {
     /// Does what a change says, for which there is room.
     fn apply(&mut self, change: &Change, now: u64)
         requires latest { IsLatest self.old.table.held now }
-        requires gives { (t : Flow) × Gives self.old.translations.external self.old.table.held now change.now t }
+        requires gives { (t : Flow)
+            × Gives self.old.translations.external self.old.table.held now change.now t }
         requires ready { 0 < adds_by change.now → IsReady 1 self.old }
-        ensures became { (t : Flow) → Gives self.old.translations.external self.old.table.held now change.now t
+        ensures became { (t : Flow)
+            → Gives self.old.translations.external self.old.table.held now change.now t
             → Became self.old.table.held change.now t self.new.table.held }
         ensures latest { IsLatest self.new.table.held now }
         ensures ready { (n : ℕ) → IsReady (n + adds_by change.now) self.old → IsReady n self.new }
@@ -289,20 +304,28 @@ impl Flows {
     /// Does what a change says, for which there is room, and notes it.
     fn apply_noted<N: Notes>(&mut self, change: &Change, now: u64, notes: &mut N)
         requires latest { IsLatest self.old.table.held now }
-        requires gives { (t : Flow) × Gives self.old.translations.external self.old.table.held now change.now t
-            × (N.keeps notes.old → bytes_of (noted (listing self.old.table.held) t) ≤ N.room notes.old) }
+        requires gives { (t : Flow)
+            × Gives self.old.translations.external self.old.table.held now change.now t
+            × (N.keeps notes.old → bytes_of (noted (listing self.old.table.held) t)
+            ≤ N.room notes.old) }
         requires ready { 0 < adds_by change.now → IsReady 1 self.old }
-        ensures became { (t : Flow) → Gives self.old.translations.external self.old.table.held now change.now t
+        ensures became { (t : Flow)
+            → Gives self.old.translations.external self.old.table.held now change.now t
             → Became self.old.table.held change.now t self.new.table.held }
         ensures latest { IsLatest self.new.table.held now }
         ensures ready { (n : ℕ) → IsReady (n + adds_by change.now) self.old → IsReady n self.new }
         ensures external { self.new.translations.external ≡ self.old.translations.external }
         ensures keeps { N.keeps notes.old ↔ N.keeps notes.new }
         ensures beside { N.beside notes.new ≡ N.beside notes.old }
-        ensures noted { (t : Flow) → Gives self.old.translations.external self.old.table.held now change.now t → N.keeps notes.old
+        ensures noted { (t : Flow)
+            → Gives self.old.translations.external self.old.table.held now change.now t
+            → N.keeps notes.old
             → N.noted notes.new ≡ N.noted notes.old ++ noted (listing self.old.table.held) t }
-        ensures room { (t : Flow) → Gives self.old.translations.external self.old.table.held now change.now t → N.keeps notes.old
-            → N.room notes.old ≤ N.room notes.new + bytes_of (noted (listing self.old.table.held) t) }
+        ensures room { (t : Flow)
+            → Gives self.old.translations.external self.old.table.held now change.now t
+            → N.keeps notes.old
+            → N.room notes.old ≤ N.room notes.new
+            + bytes_of (noted (listing self.old.table.held) t) }
     {
         if !makes_entry(&self.table, change) {
             self.apply(change, now);
@@ -316,14 +339,23 @@ impl Flows {
     /// Does what a plan says, one change after the other, for which there is room, and notes it.
     fn apply_all<N: Notes>(&mut self, plan: &Plan, now: u64, notes: &mut N)
         requires latest { IsLatest self.old.table.held now }
-        requires give { (ts : List Flow) × GiveAll self.old.translations.external self.old.table.held now plan.now.first plan.now.second ts
-            × (N.keeps notes.old → bytes_of (noted_all ts (listing self.old.table.held)) ≤ N.room notes.old) }
-        requires ready { 0 < adds_by plan.now.first + adds_second plan.now.second → IsReady 2 self.old }
+        requires give { (ts : List Flow)
+            × GiveAll self.old.translations.external self.old.table.held now plan.now.first
+            plan.now.second ts
+            × (N.keeps notes.old → bytes_of (noted_all ts (listing self.old.table.held))
+            ≤ N.room notes.old) }
+        requires ready { 0 < adds_by plan.now.first + adds_second plan.now.second
+            → IsReady 2 self.old }
         ensures keeps { N.keeps notes.old ↔ N.keeps notes.new }
         ensures beside { N.beside notes.new ≡ N.beside notes.old }
-        ensures noted { (ts : List Flow) → GiveAll self.old.translations.external self.old.table.held now plan.now.first plan.now.second ts
-            → N.keeps notes.old → N.noted notes.new ≡ N.noted notes.old ++ noted_all ts (listing self.old.table.held) }
-        ensures listing { (ts : List Flow) → GiveAll self.old.translations.external self.old.table.held now plan.now.first plan.now.second ts
+        ensures noted { (ts : List Flow)
+            → GiveAll self.old.translations.external self.old.table.held now plan.now.first
+            plan.now.second ts
+            → N.keeps notes.old → N.noted notes.new ≡ N.noted notes.old
+            ++ noted_all ts (listing self.old.table.held) }
+        ensures listing { (ts : List Flow)
+            → GiveAll self.old.translations.external self.old.table.held now plan.now.first
+            plan.now.second ts
             → listing self.new.table.held ≡ put_all ts (listing self.old.table.held) }
         ensures latest { IsLatest self.new.table.held now }
         ensures external { self.new.translations.external ≡ self.old.translations.external }
@@ -342,12 +374,18 @@ impl Flows {
         now: u64,
         notes: &mut N,
     ) -> Result<(), StepFault>
-        requires give { (ts : List Flow) × GiveAll self.old.translations.external self.old.table.held now plan.now.first plan.now.second ts }
+        requires give { (ts : List Flow)
+            × GiveAll self.old.translations.external self.old.table.held now plan.now.first
+            plan.now.second ts }
         requires ready { IsTrue ready → IsReady 2 self.old }
         requires room { IsTrue ready → N.keeps notes.old → 44 ≤ N.room notes.old }
-        ensures ready { OnOk result (0 < adds_by plan.now.first + adds_second plan.now.second → IsReady 2 self.new) }
-        ensures room { OnOk result ((ts : List Flow) → GiveAll self.old.translations.external self.old.table.held now plan.now.first plan.now.second ts
-            → N.keeps notes.old → bytes_of (noted_all ts (listing self.old.table.held)) ≤ N.room notes.new) }
+        ensures ready { OnOk result (0 < adds_by plan.now.first + adds_second plan.now.second
+            → IsReady 2 self.new) }
+        ensures room { OnOk result ((ts : List Flow)
+            → GiveAll self.old.translations.external self.old.table.held now plan.now.first
+            plan.now.second ts
+            → N.keeps notes.old → bytes_of (noted_all ts (listing self.old.table.held))
+            ≤ N.room notes.new) }
         ensures held { self.new.table.held ≡ self.old.table.held }
         ensures external { self.new.translations.external ≡ self.old.translations.external }
         ensures keeps { N.keeps notes.old ↔ N.keeps notes.new }
@@ -355,8 +393,11 @@ impl Flows {
         ensures noted { N.noted notes.new ≡ N.noted notes.old }
         ensures full { IsErrOf result StepFault.Full → N.too_many notes.old 44 }
         ensures succeeds { IsTrue ready → IsOk result }
-        ensures adds_none { adds_by plan.now.first + adds_second plan.now.second ≡ 0 → N.grants notes.old → IsOk result }
-        ensures quiet { (ts : List Flow) → GiveAll self.old.translations.external self.old.table.held now plan.now.first plan.now.second ts
+        ensures adds_none { adds_by plan.now.first + adds_second plan.now.second ≡ 0
+            → N.grants notes.old → IsOk result }
+        ensures quiet { (ts : List Flow)
+            → GiveAll self.old.translations.external self.old.table.held now plan.now.first
+            plan.now.second ts
             → noted_all ts (listing self.old.table.held) ≡ [] → IsOk result }
     {
         self.table.is_sound();
@@ -387,23 +428,33 @@ impl Flows {
         notes: &mut N,
     ) -> Result<(), StepFault>
         requires latest { IsLatest self.old.table.held now }
-        requires give { (ts : List Flow) × GiveAll self.old.translations.external self.old.table.held now plan.now.first plan.now.second ts }
+        requires give { (ts : List Flow)
+            × GiveAll self.old.translations.external self.old.table.held now plan.now.first
+            plan.now.second ts }
         requires ready { IsTrue ready → IsReady 2 self.old }
         requires room { IsTrue ready → N.keeps notes.old → 44 ≤ N.room notes.old }
-        ensures ok { OnOk result ((ts : List Flow) → GiveAll self.old.translations.external self.old.table.held now plan.now.first plan.now.second ts
+        ensures ok { OnOk result ((ts : List Flow)
+            → GiveAll self.old.translations.external self.old.table.held now plan.now.first
+            plan.now.second ts
             → listing self.new.table.held ≡ put_all ts (listing self.old.table.held)) }
         ensures err { OnErr result (self.new.table.held ≡ self.old.table.held) }
         ensures latest { IsLatest self.new.table.held now }
         ensures external { self.new.translations.external ≡ self.old.translations.external }
         ensures keeps { N.keeps notes.old ↔ N.keeps notes.new }
         ensures beside { N.beside notes.new ≡ N.beside notes.old }
-        ensures noted { OnOk result ((ts : List Flow) → GiveAll self.old.translations.external self.old.table.held now plan.now.first plan.now.second ts
-            → N.keeps notes.old → N.noted notes.new ≡ N.noted notes.old ++ noted_all ts (listing self.old.table.held)) }
+        ensures noted { OnOk result ((ts : List Flow)
+            → GiveAll self.old.translations.external self.old.table.held now plan.now.first
+            plan.now.second ts
+            → N.keeps notes.old → N.noted notes.new ≡ N.noted notes.old
+            ++ noted_all ts (listing self.old.table.held)) }
         ensures err_noted { OnErr result (N.noted notes.new ≡ N.noted notes.old) }
         ensures full { IsErrOf result StepFault.Full → N.too_many notes.old 44 }
         ensures succeeds { IsTrue ready → IsOk result }
-        ensures adds_none { adds_by plan.now.first + adds_second plan.now.second ≡ 0 → N.grants notes.old → IsOk result }
-        ensures quiet { (ts : List Flow) → GiveAll self.old.translations.external self.old.table.held now plan.now.first plan.now.second ts
+        ensures adds_none { adds_by plan.now.first + adds_second plan.now.second ≡ 0
+            → N.grants notes.old → IsOk result }
+        ensures quiet { (ts : List Flow)
+            → GiveAll self.old.translations.external self.old.table.held now plan.now.first
+            plan.now.second ts
             → noted_all ts (listing self.old.table.held) ≡ [] → IsOk result }
     {
         match self.make_room(ready, plan, now, notes) {
@@ -418,8 +469,12 @@ impl Flows {
     /// A packet passed whose session goes on, at the second `now`.
     pub fn go_on(&mut self, going: &Going, now: u64)
         requires latest { IsLatest self.old.table.held now }
-        requires give { (ts : List Flow) × GiveAll self.old.translations.external self.old.table.held now (plan_of going.now).first (plan_of going.now).second ts }
-        ensures listing { (ts : List Flow) → GiveAll self.old.translations.external self.old.table.held now (plan_of going.now).first (plan_of going.now).second ts
+        requires give { (ts : List Flow)
+            × GiveAll self.old.translations.external self.old.table.held now
+            (plan_of going.now).first (plan_of going.now).second ts }
+        ensures listing { (ts : List Flow)
+            → GiveAll self.old.translations.external self.old.table.held now
+            (plan_of going.now).first (plan_of going.now).second ts
             → listing self.new.table.held ≡ put_all ts (listing self.old.table.held) }
         ensures latest { IsLatest self.new.table.held now }
         ensures ready { (n : ℕ) → IsReady n self.old → IsReady n self.new }
@@ -451,7 +506,8 @@ impl Flows {
         ensures external { self.new.translations.external ≡ self.old.translations.external }
         ensures keeps { N.keeps notes.old ↔ N.keeps notes.new }
         ensures beside { N.beside notes.new ≡ N.beside notes.old }
-        ensures noted { N.keeps notes.old → N.noted notes.new ≡ N.noted notes.old ++ ends (sessions_at self.old.table.held (slot ∷ [])) }
+        ensures noted { N.keeps notes.old → N.noted notes.new
+            ≡ N.noted notes.old ++ ends (sessions_at self.old.table.held (slot ∷ [])) }
         ensures room { N.keeps notes.old → N.room notes.old ≤ N.room notes.new + 14 }
     {
         if let Some(session) = self.table.get(slot) {
@@ -462,18 +518,24 @@ impl Flows {
 
     /// Ends the sessions of the slots, and notes them.
     fn end_all<N: Notes>(&mut self, slots: &[Slot], notes: &mut N)
-        requires held { (k : ℕ) → k < length slots.now → IsSome (at self.old.table (slice_index slots.now k)) }
-        requires once { (i j : ℕ) → i < j → j < length slots.now → slice_index slots.now i ≢ slice_index slots.now j }
+        requires held { (k : ℕ) → k < length slots.now
+            → IsSome (at self.old.table (slice_index slots.now k)) }
+        requires once { (i j : ℕ) → i < j → j < length slots.now
+            → slice_index slots.now i ≢ slice_index slots.now j }
         requires room { N.keeps notes.old → 14 * length slots.now ≤ N.room notes.old }
-        ensures ended { (k : ℕ) → k < length slots.now → at self.new.table (slice_index slots.now k) ≡ None }
-        ensures others { (slot : ℕ) → ¬ Contains slots.now slot → at self.new.table slot ≡ at self.old.table slot }
+        ensures ended { (k : ℕ) → k < length slots.now
+            → at self.new.table (slice_index slots.now k) ≡ None }
+        ensures others { (slot : ℕ) → ¬ Contains slots.now slot
+            → at self.new.table slot ≡ at self.old.table slot }
         ensures sound { IsSound self.new.table.held }
         ensures ready { (n : ℕ) → IsReady n self.old → IsReady n self.new }
         ensures external { self.new.translations.external ≡ self.old.translations.external }
         ensures keeps { N.keeps notes.old ↔ N.keeps notes.new }
         ensures beside { N.beside notes.new ≡ N.beside notes.old }
-        ensures noted { N.keeps notes.old → N.noted notes.new ≡ N.noted notes.old ++ ends (sessions_at self.old.table.held slots.now) }
-        ensures room { N.keeps notes.old → N.room notes.old ≤ N.room notes.new + 14 * length slots.now }
+        ensures noted { N.keeps notes.old → N.noted notes.new
+            ≡ N.noted notes.old ++ ends (sessions_at self.old.table.held slots.now) }
+        ensures room { N.keeps notes.old
+            → N.room notes.old ≤ N.room notes.new + 14 * length slots.now }
     {
         for slot in slots {
             self.end_noted(*slot, notes);
@@ -496,21 +558,27 @@ impl Flows {
         notes: &mut N,
     ) -> Result<bool, StepFault>
         requires { IsLatest self.old.table.held now }
-        ensures ok { OnOk result (listing self.new.table.held ≡ filter (alive now) (listing self.old.table.held)) }
+        ensures ok { OnOk result (listing self.new.table.held
+            ≡ filter (alive now) (listing self.old.table.held)) }
         ensures err { OnErr result (self.new.table.held ≡ self.old.table.held) }
         ensures external { self.new.translations.external ≡ self.old.translations.external }
         ensures ready { IfOk result (λ any. IsTrue any → IsReady 2 self.new) }
-        ensures room { IfOk result (λ any. IsTrue any → N.keeps notes.old → others ≤ N.room notes.new) }
-        ensures none { IfOk result (λ any. any ≡ false → self.new.table.held ≡ self.old.table.held) }
+        ensures room { IfOk result (λ any. IsTrue any → N.keeps notes.old
+            → others ≤ N.room notes.new) }
+        ensures none { IfOk result (λ any. any ≡ false
+            → self.new.table.held ≡ self.old.table.held) }
         ensures keeps { N.keeps notes.old ↔ N.keeps notes.new }
         ensures beside { N.beside notes.new ≡ N.beside notes.old }
-        ensures noted { OnOk result (N.keeps notes.old → (gone : List Flow) × AreOver now (listing self.old.table.held) gone
+        ensures noted { OnOk result (N.keeps notes.old
+            → (gone : List Flow) × AreOver now (listing self.old.table.held) gone
             × (N.noted notes.new ≡ N.noted notes.old ++ ends gone)) }
         ensures unchanged { IfOk result (λ any. any ≡ false → notes.new ≡ notes.old) }
         ensures err_noted { OnErr result (N.noted notes.new ≡ N.noted notes.old) }
-        ensures full { IsErrOf result StepFault.Full → (gone : List Flow) × AreOver now (listing self.old.table.held) gone
+        ensures full { IsErrOf result StepFault.Full → (gone : List Flow)
+            × AreOver now (listing self.old.table.held) gone
             × N.too_many notes.old (14 * length gone + others) }
-        ensures succeeds { ((slot : ℕ) → ¬ IsSomeAnd (at self.old.table slot) (IsDue now)) → IsOk result }
+        ensures succeeds { ((slot : ℕ) → ¬ IsSomeAnd (at self.old.table slot) (IsDue now))
+            → IsOk result }
     {
         let slots = match self.due(alloc, now) {
             Ok(slots) => slots,
@@ -540,21 +608,27 @@ impl Flows {
     ) -> Result<bool, StepFault>
         requires latest { IsLatest self.old.table.held now }
         requires live { (s : Flow) → In s (listing self.old.table.held) → alive clock s ≡ true }
-        ensures ok { OnOk result (listing self.new.table.held ≡ filter (alive now) (listing self.old.table.held)) }
+        ensures ok { OnOk result (listing self.new.table.held
+            ≡ filter (alive now) (listing self.old.table.held)) }
         ensures err { OnErr result (self.new.table.held ≡ self.old.table.held) }
         ensures external { self.new.translations.external ≡ self.old.translations.external }
         ensures ready { IfOk result (λ any. IsTrue any → IsReady 2 self.new) }
-        ensures room { IfOk result (λ any. IsTrue any → N.keeps notes.old → others ≤ N.room notes.new) }
-        ensures none { IfOk result (λ any. any ≡ false → self.new.table.held ≡ self.old.table.held) }
+        ensures room { IfOk result (λ any. IsTrue any → N.keeps notes.old
+            → others ≤ N.room notes.new) }
+        ensures none { IfOk result (λ any. any ≡ false
+            → self.new.table.held ≡ self.old.table.held) }
         ensures keeps { N.keeps notes.old ↔ N.keeps notes.new }
         ensures beside { N.beside notes.new ≡ N.beside notes.old }
-        ensures noted { OnOk result (N.keeps notes.old → (gone : List Flow) × AreOver now (listing self.old.table.held) gone
+        ensures noted { OnOk result (N.keeps notes.old
+            → (gone : List Flow) × AreOver now (listing self.old.table.held) gone
             × (N.noted notes.new ≡ N.noted notes.old ++ ends gone)) }
         ensures unchanged { IfOk result (λ any. any ≡ false → notes.new ≡ notes.old) }
         ensures err_noted { OnErr result (N.noted notes.new ≡ N.noted notes.old) }
-        ensures full { IsErrOf result StepFault.Full → (gone : List Flow) × AreOver now (listing self.old.table.held) gone
+        ensures full { IsErrOf result StepFault.Full → (gone : List Flow)
+            × AreOver now (listing self.old.table.held) gone
             × N.too_many notes.old (14 * length gone + others) }
-        ensures succeeds { ((slot : ℕ) → ¬ IsSomeAnd (at self.old.table slot) (IsDue now)) → IsOk result }
+        ensures succeeds { ((slot : ℕ) → ¬ IsSomeAnd (at self.old.table slot) (IsDue now))
+            → IsOk result }
     {
         if now == clock {
             return Ok(false);
@@ -565,8 +639,10 @@ impl Flows {
 
 // Whether the plan makes an entry.
 fn is_noted(table: &Table, plan: &Plan) -> bool
-    requires { (external now : ℕ) × (ts : List Flow) × GiveAll external table.now.held now plan.now.first plan.now.second ts }
-    ensures { (external now : ℕ) (ts : List Flow) → GiveAll external table.now.held now plan.now.first plan.now.second ts
+    requires { (external now : ℕ) × (ts : List Flow)
+        × GiveAll external table.now.held now plan.now.first plan.now.second ts }
+    ensures { (external now : ℕ) (ts : List Flow)
+        → GiveAll external table.now.held now plan.now.first plan.now.second ts
         → IsTrue result ↔ (noted_all ts (listing table.now.held) ≢ []) }
 {
     table.is_sound();
@@ -613,7 +689,10 @@ fn watch(due: &mut Due, slot: Slot, last: u64, timeout: u64)
     requires timeout { IsTimeout timeout }
     requires latest { IsLatestIdle due.old last }
     requires ready { slot < due.old.ready }
-    ensures updates { IdleUpdates due.old due.new slot (Some (record { last = last; timeout = timeout })) }
+    ensures updates { IdleUpdates due.old due.new slot (Some (record {
+      last = last;
+      timeout = timeout;
+    })) }
     ensures ready { due.old.ready ≤ due.new.ready }
 {
     match due.add(slot, last, timeout) {
@@ -627,7 +706,8 @@ fn touch(table: &Table, due: &mut Due, slot: Slot, last: u64)
     requires held { IsSome (at table.now slot) }
     requires watched { IsSome (idle_at due.old slot) }
     requires latest { IsLatestIdle due.old last }
-    ensures updates { IdleUpdates due.old due.new slot (option_map (λ s. record { last = last; timeout = timeout_of s }) (at table.now slot)) }
+    ensures updates { IdleUpdates due.old due.new slot
+        (option_map (λ s. record { last = last; timeout = timeout_of s }) (at table.now slot)) }
     ensures ready { due.new.ready ≡ due.old.ready }
 {
     if let Some(session) = table.get(slot) {

@@ -61,7 +61,8 @@ pub trait Notes {
         ensures keeps { keeps self.old ↔ keeps self.new }
         ensures beside { beside self.new ≡ beside self.old }
         ensures noted { keeps self.old → noted self.new ≡ noted self.old ++ view entry.entry ∷ [] }
-        ensures room { keeps self.old → room self.old ≤ room self.new + length (entry_bytes (view entry.entry)) };
+        ensures room { keeps self.old
+            → room self.old ≤ room self.new + length (entry_bytes (view entry.entry)) };
 }
 
 /// Notes that let every entry go.

@@ -78,14 +78,16 @@ pub fn between(old: &Session, new: &Session) -> Option<Entry<'static>>
 
 // Whether more was seen of the session, with these bits.
 fn shows_more(session: &Session, bits: u8) -> bool
-    ensures { (now : ℕ) → IsTrue result ↔ (entries_between session.now (seen_with session.now bits now) ≢ []) }
+    ensures { (now : ℕ) → IsTrue result
+        ↔ (entries_between session.now (seen_with session.now bits now) ≢ []) }
 {
     session.seen | bits != session.seen
 }
 
 // Whether the session isn't as one that begins from this side.
 fn begins_anew(session: &Session, opener: Opener) -> bool
-    ensures { (now : ℕ) → IsTrue result ↔ (entries_between session.now (restarted session.now opener now) ≢ []) }
+    ensures { (now : ℕ) → IsTrue result
+        ↔ (entries_between session.now (restarted session.now opener now) ≢ []) }
 {
     session.opener != opener || session.seen != 0
 }
@@ -156,8 +158,10 @@ pub fn note<N: Notes>(notes: &mut N, entry: Option<Entry<'_>>)
     requires room { N.keeps notes.old → bytes_of (listed entry) ≤ N.room notes.old }
     ensures keeps { N.keeps notes.old ↔ N.keeps notes.new }
     ensures beside { N.beside notes.new ≡ N.beside notes.old }
-    ensures noted { N.keeps notes.old → N.noted notes.new ≡ N.noted notes.old ++ listed entry.entry }
-    ensures room { N.keeps notes.old → N.room notes.old ≤ N.room notes.new + bytes_of (listed entry.entry) }
+    ensures noted { N.keeps notes.old → N.noted notes.new
+        ≡ N.noted notes.old ++ listed entry.entry }
+    ensures room { N.keeps notes.old
+        → N.room notes.old ≤ N.room notes.new + bytes_of (listed entry.entry) }
 {
     if let Some(entry) = entry {
         notes.note(entry);

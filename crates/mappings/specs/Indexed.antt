@@ -39,9 +39,13 @@ abbrev pub key_by : (Pair → Endpoint) → Pair → ℕ
 key_by side pair = key pair.proto (side pair)
 
 -- the row leads from the endpoint of each pair to its slot, and from no other
-pub record IsRow (side : Pair → Endpoint) (slots : List (Option Counted)) (row : List Entry) : Type 0 where
-  pub each : (slot : ℕ) (entry : Counted) → slice_index_or slots slot None ≡ Some entry → value_at row (key_by side entry.pair) ≡ Some slot
-  pub back : (number slot : ℕ) → value_at row number ≡ Some slot → (entry : Counted) × (slice_index_or slots slot None ≡ Some entry) × (key_by side entry.pair ≡ number)
+pub record IsRow (side : Pair → Endpoint) (slots : List (Option Counted))
+    (row : List Entry) : Type 0 where
+  pub each : (slot : ℕ) (entry : Counted) → slice_index_or slots slot None ≡ Some entry
+      → value_at row (key_by side entry.pair) ≡ Some slot
+  pub back : (number slot : ℕ) → value_at row number ≡ Some slot
+      → (entry : Counted) × (slice_index_or slots slot None ≡ Some entry)
+      × (key_by side entry.pair ≡ number)
 
 -- what holds of each pair in a slot
 pub record IsEntry (entry : Counted) : Type 0 where
@@ -51,7 +55,8 @@ pub record IsEntry (entry : Counted) : Type 0 where
 
 -- both rows lead to the pairs
 pub record AreIndexed (slots : List (Option Counted)) (inside outside : List Entry) : Type 0 where
-  pub entries : (slot : ℕ) (entry : Counted) → slice_index_or slots slot None ≡ Some entry → IsEntry entry
+  pub entries : (slot : ℕ) (entry : Counted) → slice_index_or slots slot None ≡ Some entry
+      → IsEntry entry
   pub by_inside : IsRow inside_of slots inside
   pub by_outside : IsRow outside_of slots outside
 
@@ -64,8 +69,10 @@ held_in index = pairs_in index.pairs.slots
 
 -- the pair shares neither endpoint with one of its protocol among these, but for itself
 abbrev pub KeepsOneToOneIn : List Counted → Pair → Type 0
-KeepsOneToOneIn entries new = (p : Pair) → 0 < times_in entries p → p.proto ≡ new.proto → (p.inside ≡ new.inside) ↔ (p.outside ≡ new.outside)
+KeepsOneToOneIn entries new = (p : Pair) → 0 < times_in entries p → p.proto ≡ new.proto
+    → (p.inside ≡ new.inside) ↔ (p.outside ≡ new.outside)
 
 -- how many pairs surely go in with no memory
 abbrev pub room_in : Index → ℕ
-room_in index = min (index.pairs.capacity - slab_len index.pairs) (min index.inside.room index.outside.room)
+room_in index =
+    min (index.pairs.capacity - slab_len index.pairs) (min index.inside.room index.outside.room)

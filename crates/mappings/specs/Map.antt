@@ -16,7 +16,9 @@ pair proto inside outside = record { proto = proto; inside = inside; outside = o
 
 -- whether the two pairs are one
 unfoldable pub same_pair : Pair → Pair → Bool
-same_pair p q = same_proto p.proto q.proto && (same_endpoint p.inside q.inside && same_endpoint p.outside q.outside)
+same_pair p q =
+    same_proto p.proto q.proto && (same_endpoint p.inside q.inside && same_endpoint
+    p.outside q.outside)
 
 -- one where the two are one
 abbrev pub one_at : Pair → Pair → ℕ
@@ -47,12 +49,15 @@ Gains old new gained = GainsIn old.held new.held gained
 
 -- the pair shares neither endpoint with a pair of its protocol that is held, but for itself
 abbrev pub KeepsOneToOne : Pairs → Pair → Type 0
-KeepsOneToOne m new = (p : Pair) → 0 < times m p → p.proto ≡ new.proto → (p.inside ≡ new.inside) ↔ (p.outside ≡ new.outside)
+KeepsOneToOne m new = (p : Pair) → 0 < times m p → p.proto ≡ new.proto
+    → (p.inside ≡ new.inside) ↔ (p.outside ≡ new.outside)
 
 -- two pairs of a protocol that are held are one where they share an outside or an inside endpoint
 pub record AreOneToOne (times_of : Pair → ℕ) : Type 0 where
-  pub by_outside : (p q : Pair) → 0 < times_of p → 0 < times_of q → p.proto ≡ q.proto → p.outside ≡ q.outside → p ≡ q
-  pub by_inside : (p q : Pair) → 0 < times_of p → 0 < times_of q → p.proto ≡ q.proto → p.inside ≡ q.inside → p ≡ q
+  pub by_outside : (p q : Pair) → 0 < times_of p → 0 < times_of q → p.proto ≡ q.proto
+      → p.outside ≡ q.outside → p ≡ q
+  pub by_inside : (p q : Pair) → 0 < times_of p → 0 < times_of q → p.proto ≡ q.proto
+      → p.inside ≡ q.inside → p ≡ q
 
 abbrev pub IsOneToOne : Pairs → Type 0
 IsOneToOne m = AreOneToOne (times m)

@@ -39,8 +39,10 @@ pub fn seems_held(index: &Index, pair: Pair) -> bool {
 /// The outside endpoint of the pair with this inside endpoint.
 pub fn find_outside(index: &Index, proto: Proto, inside: Endpoint) -> Option<Endpoint>
     requires { IsIndexed index.now }
-    ensures found { IfSome result (λ outside. 0 < times_in (held_in index.now) (pair proto inside outside)) }
-    ensures absent { IfNone result ((outside : Place) → times_in (held_in index.now) (pair proto inside outside) ≡ 0) }
+    ensures found { IfSome result (λ outside. 0
+        < times_in (held_in index.now) (pair proto inside outside)) }
+    ensures absent { IfNone result ((outside : Place)
+        → times_in (held_in index.now) (pair proto inside outside) ≡ 0) }
 {
     let slot = index.inside.get(key(proto, inside))?;
     Some(index.pairs[slot].pair.outside)
@@ -49,8 +51,10 @@ pub fn find_outside(index: &Index, proto: Proto, inside: Endpoint) -> Option<End
 /// The inside endpoint of the pair with this outside endpoint.
 pub fn find_inside(index: &Index, proto: Proto, outside: Endpoint) -> Option<Endpoint>
     requires { IsIndexed index.now }
-    ensures found { IfSome result (λ inside. 0 < times_in (held_in index.now) (pair proto inside outside)) }
-    ensures absent { IfNone result ((inside : Place) → times_in (held_in index.now) (pair proto inside outside) ≡ 0) }
+    ensures found { IfSome result (λ inside. 0
+        < times_in (held_in index.now) (pair proto inside outside)) }
+    ensures absent { IfNone result ((inside : Place)
+        → times_in (held_in index.now) (pair proto inside outside) ≡ 0) }
 {
     let slot = index.outside.get(key(proto, outside))?;
     Some(index.pairs[slot].pair.inside)
@@ -67,7 +71,8 @@ pub fn add(index: &mut Index, pair: Pair) -> Result<(), AllocError>
     ensures succeeds { 0 < room_in index.old → IsOk result }
     ensures again { 0 < times_in (held_in index.old) pair → IsOk result }
     ensures room_ok { OnOk result (room_in index.old ≤ room_in index.new + 1) }
-    ensures room_again { 0 < times_in (held_in index.old) pair → room_in index.old ≤ room_in index.new }
+    ensures room_again { 0 < times_in (held_in index.old) pair
+        → room_in index.old ≤ room_in index.new }
     ensures room_err { OnErr result (room_in index.old ≤ room_in index.new) }
 {
     match index.inside.get(key(pair.proto, pair.inside)) {
@@ -113,7 +118,8 @@ fn insert(
     ensures inside { OnOk result (Puts inside.old.held inside.new.held near (Some slot)) }
     ensures outside { OnOk result (Puts outside.old.held outside.new.held far (Some slot)) }
     ensures err_inside { OnErr result ((number : ℕ) → at inside.new number ≡ at inside.old number) }
-    ensures err_outside { OnErr result ((number : ℕ) → at outside.new number ≡ at outside.old number) }
+    ensures err_outside { OnErr result ((number : ℕ)
+        → at outside.new number ≡ at outside.old number) }
     ensures succeeds { 0 < inside.old.room → 0 < outside.old.room → IsOk result }
     ensures room_inside { inside.old.room ≤ inside.new.room + 1 }
     ensures room_outside { OnOk result (outside.old.room ≤ outside.new.room + 1) }
@@ -145,7 +151,8 @@ pub fn reserve(index: &mut Index) -> Result<(), AllocError>
 // The pair in the slot is held once more.
 fn count_up(pairs: &mut Slab<Counted>, slot: usize)
     requires { IsSomeAnd (get pairs.old slot) (λ entry. entry.count < 65536) }
-    ensures { IsSomeAnd (get pairs.old slot) (λ entry. pairs.new ≡ with_value pairs.old slot (record entry { count = entry.count + 1 })) }
+    ensures { IsSomeAnd (get pairs.old slot) (λ entry. pairs.new
+        ≡ with_value pairs.old slot (record entry { count = entry.count + 1 })) }
 {
     pairs[slot].count += 1;
 }
@@ -153,7 +160,8 @@ fn count_up(pairs: &mut Slab<Counted>, slot: usize)
 // The pair in the slot is held once less, and still held.
 fn count_down(pairs: &mut Slab<Counted>, slot: usize)
     requires { IsSomeAnd (get pairs.old slot) (λ entry. 0 < entry.count) }
-    ensures { IsSomeAnd (get pairs.old slot) (λ entry. pairs.new ≡ with_value pairs.old slot (record entry { count = entry.count - 1 })) }
+    ensures { IsSomeAnd (get pairs.old slot) (λ entry. pairs.new
+        ≡ with_value pairs.old slot (record entry { count = entry.count - 1 })) }
 {
     pairs[slot].count -= 1;
 }

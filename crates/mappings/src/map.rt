@@ -75,7 +75,8 @@ impl Map {
         ensures found { IfSome result (λ outside. 0 < times self.now (pair proto inside outside)) }
         ensures only { IfSome result (λ outside. (other : Place)
             → 0 < times self.now (pair proto inside other) → other ≡ outside) }
-        ensures absent { IfNone result ((outside : Place) → times self.now (pair proto inside outside) ≡ 0) }
+        ensures absent { IfNone result ((outside : Place)
+            → times self.now (pair proto inside outside) ≡ 0) }
     {
         find_outside(&self.index, proto, inside)
     }
@@ -86,7 +87,8 @@ impl Map {
         ensures found { IfSome result (λ inside. 0 < times self.now (pair proto inside outside)) }
         ensures only { IfSome result (λ inside. (other : Place)
             → 0 < times self.now (pair proto other outside) → other ≡ inside) }
-        ensures absent { IfNone result ((inside : Place) → times self.now (pair proto inside outside) ≡ 0) }
+        ensures absent { IfNone result ((inside : Place)
+            → times self.now (pair proto inside outside) ≡ 0) }
     {
         find_inside(&self.index, proto, outside)
     }

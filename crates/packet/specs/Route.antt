@@ -37,10 +37,12 @@ IsOnRoute config from view Out =
     (from ≡ Lan) × IsTrue (is_inside config view.src.addr)
     × IsFalse (is_inside config view.dst.addr) × IsFalse (is_external config view.dst.addr)
 IsOnRoute config from view In =
-    (from ≡ Wan) × IsFalse (is_inside config view.src.addr) × IsFalse (is_external config view.src.addr)
+    (from ≡ Wan) × IsFalse (is_inside config view.src.addr)
+    × IsFalse (is_external config view.src.addr)
     × IsTrue (is_external config view.dst.addr || is_inside config view.dst.addr)
 IsOnRoute config from view Hairpin =
-    (from ≡ Lan) × IsTrue (is_inside config view.src.addr) × IsTrue (is_external config view.dst.addr)
+    (from ≡ Lan) × IsTrue (is_inside config view.src.addr)
+    × IsTrue (is_external config view.dst.addr)
 
 -- a packet that has a route may be put through, and comes from where it claims
 abbrev pub RoutedIsOnRoute : Type 0
@@ -51,5 +53,6 @@ RoutedIsOnRoute =
 -- and one that may be put through and comes so has that route, where the external address isn't inside
 abbrev pub OnRouteIsRouted : Type 0
 OnRouteIsRouted =
-    (config : Config) (from : Iface) (view : View) (r : Route) → IsFalse (is_inside config config.external)
+    (config : Config) (from : Iface) (view : View) (r : Route)
+    → IsFalse (is_inside config config.external)
     → 2 ≤ view.ttl → IsOnRoute config from view r → route config from view ≡ Ok r

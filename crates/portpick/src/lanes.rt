@@ -66,7 +66,8 @@ pub(crate) fn set_port(words: &mut [u64], start: usize, port: u16)
     requires fits { start + 1024 ≤ length words.old }
     requires not_zero { 0 < port }
     ensures size { length words.new ≡ length words.old }
-    ensures sets { (n : ℕ) → IsSet words.new n ↔ (IsSet words.old n ⊎ (n ≡ 64 * start + place port)) }
+    ensures sets { (n : ℕ) → IsSet words.new n
+        ↔ (IsSet words.old n ⊎ (n ≡ 64 * start + place port)) }
 {
     let bit = place(port);
     set_bit(words, start + bit / 64, (bit % 64) as u32);
@@ -77,7 +78,8 @@ pub(crate) fn clear_port(words: &mut [u64], start: usize, port: u16)
     requires fits { start + 1024 ≤ length words.old }
     requires not_zero { 0 < port }
     ensures size { length words.new ≡ length words.old }
-    ensures clears { (n : ℕ) → IsSet words.new n ↔ (IsSet words.old n × (n ≢ 64 * start + place port)) }
+    ensures clears { (n : ℕ) → IsSet words.new n
+        ↔ (IsSet words.old n × (n ≢ 64 * start + place port)) }
 {
     let bit = place(port);
     clear_bit(words, start + bit / 64, (bit % 64) as u32);

@@ -19,7 +19,8 @@ pub(crate) fn first_clear_from(
     requires fits { end ≤ length words.now }
     requires bit { from < 64 }
     requires few { steps.old + 1024 < 2 ^ 32 }
-    ensures found { IfSome result (IsFirstClear words.now (64 * at + from) (64 * (end - at) - from)) }
+    ensures found { IfSome result (IsFirstClear words.now (64 * at + from) (64 * (end - at)
+        - from)) }
     ensures none { IfNone result (AllSet words.now (64 * at + from) (64 * (end - at) - from)) }
     ensures steps { steps.new ≤ steps.old + (end - at) }
 {

@@ -20,11 +20,13 @@ at rows key = value_at rows.held key
 -- the entries that rise, from the first on whose key isn't below this one
 abbrev pub entries_from : ℕ → List Entry → List Entry
 entries_from key [] = []
-entries_from key (entry ∷ entries) = cond (nat_lt entry.key key) (entries_from key entries) (entry ∷ entries)
+entries_from key (entry ∷ entries) =
+    cond (nat_lt entry.key key) (entries_from key entries) (entry ∷ entries)
 
 -- the key has this value now, or none, and each other key the one that it had
 abbrev pub Puts : List Entry → List Entry → ℕ → Option ℕ → Type 0
-Puts old new key value = (other : ℕ) → value_at new other ≡ cond (eqb other key) value (value_at old other)
+Puts old new key value = (other : ℕ) → value_at new other
+    ≡ cond (eqb other key) value (value_at old other)
 
 -- each key stands once, in rising order
 abbrev pub AreRising : List Entry → Type 0

@@ -71,7 +71,8 @@ pub record AreSound (runs : Vec Run Global) (spare : Vec (Vec Entry Global) Glob
 
 -- a change of the runs that leaves them sound with the same spare ones
 abbrev pub KeepsSound : Vec Run Global → Vec Run Global → Type 0
-KeepsSound old new = (spare : Vec (Vec Entry Global) Global) → AreSound old spare → AreSound new spare
+KeepsSound old new = (spare : Vec (Vec Entry Global) Global) → AreSound old spare
+    → AreSound new spare
 
 -- an entry goes in between: a part of the list stays before it and the rest after it
 pub record Inserts (entry : Entry) (old new : List Entry) : Type 0 where
@@ -126,5 +127,7 @@ IsEntryOf entries place entry = (d : Entry) → slice_index_or entries place d �
 pub record IsFoundAt (runs : List Run) (key number place : ℕ) : Type 0 where
   pub in_range : number < length runs
   pub in_run : (d : Run) → place < length (slice_index_or runs number d).entries.items
-  pub has_key : (d : Run) (e : Entry) → (slice_index_or (slice_index_or runs number d).entries.items place e).key ≡ key
-  pub has_value : (d : Run) (e : Entry) → value_at (held_in runs) key ≡ Some (slice_index_or (slice_index_or runs number d).entries.items place e).value
+  pub has_key : (d : Run) (e : Entry)
+      → (slice_index_or (slice_index_or runs number d).entries.items place e).key ≡ key
+  pub has_value : (d : Run) (e : Entry) → value_at (held_in runs) key
+      ≡ Some (slice_index_or (slice_index_or runs number d).entries.items place e).value

@@ -27,7 +27,11 @@ impl Model for Cell {
 
     ghost invariant = { λ c. c.low < 2 ^ 64 };
 
-    ghost inverse = { λ e. record { high = e.key / 2 ^ 64; low = e.key % 2 ^ 64; value = e.value } };
+    ghost inverse = { λ e. record {
+      high = e.key / 2 ^ 64;
+      low = e.key % 2 ^ 64;
+      value = e.value;
+    } };
 }
 
 impl Cell {

@@ -104,7 +104,8 @@ pub fn add(runs: &mut Vec<Run>, spare: &mut Vec<Vec<Cell>>, entry: Entry)
     requires spare { 0 < length spare.old.items }
     requires absent { value_at (held_in runs.old.items) entry.key ≡ None }
     ensures sound { AreSound runs.new spare.new }
-    ensures puts { Puts (held_in runs.old.items) (held_in runs.new.items) entry.key (Some entry.value) }
+    ensures puts { Puts (held_in runs.old.items) (held_in runs.new.items) entry.key
+        (Some entry.value) }
     ensures counted { length (held_in runs.new.items) ≡ length (held_in runs.old.items) + 1 }
     ensures room { length spare.old.items ≤ length spare.new.items + 1 }
 {
@@ -117,7 +118,8 @@ fn put(entries: &mut Vec<Cell>, entry: Entry)
     requires rising { AreKeysRising entries.old.items }
     requires few { length entries.old.items < most }
     requires wide { most ≤ vec_capacity entries.old }
-    ensures place { (place : ℕ) × IsPlaceFor entries.old.items entry.key place × (entries.new.items ≡ insert entries.old.items place entry) }
+    ensures place { (place : ℕ) × IsPlaceFor entries.old.items entry.key place
+        × (entries.new.items ≡ insert entries.old.items place entry) }
     ensures wide { most ≤ vec_capacity entries.new }
 {
     let place = place_of(entries, entry.key);
@@ -134,7 +136,8 @@ fn run_with_room(runs: &mut Vec<Run>, spare: &mut Vec<Vec<Cell>>, key: u128) -> 
     ensures sound { AreSound runs.new spare.new }
     ensures held { held_in runs.new.items ≡ held_in runs.old.items }
     ensures run { IsRunFor runs.new.items key result }
-    ensures few { (d : Span) → length (slice_index_or runs.new.items result d).entries.items < most }
+    ensures few { (d : Span)
+        → length (slice_index_or runs.new.items result d).entries.items < most }
     ensures room { length spare.old.items ≤ length spare.new.items + 1 }
 {
     let count = runs_up_to(runs, key);
@@ -180,7 +183,8 @@ fn begin(runs: &mut Vec<Run>, spare: &mut Vec<Vec<Cell>>, number: usize, low: u1
     ensures sound { AreSound runs.new spare.new }
     ensures held { held_in runs.new.items ≡ held_in runs.old.items }
     ensures run { IsRunFor runs.new.items low number }
-    ensures few { (d : Span) → length (slice_index_or runs.new.items number d).entries.items < most }
+    ensures few { (d : Span)
+        → length (slice_index_or runs.new.items number d).entries.items < most }
     ensures room { length spare.old.items ≤ length spare.new.items + 1 }
 {
     if number < runs.len() && runs[number].entries.len() < MOST {
@@ -193,7 +197,8 @@ fn begin(runs: &mut Vec<Run>, spare: &mut Vec<Vec<Cell>>, number: usize, low: u1
 // Lowers the bound of a run.
 fn lower(runs: &mut Vec<Run>, number: usize, low: u128)
     requires { number < length runs.old.items }
-    ensures runs { (run : Span) × (run ≡ slice_index_or runs.old.items number run) × (runs.new.items ≡ slice_set runs.old.items number (record run { low = low })) }
+    ensures runs { (run : Span) × (run ≡ slice_index_or runs.old.items number run)
+        × (runs.new.items ≡ slice_set runs.old.items number (record run { low = low })) }
     ensures capacity { vec_capacity runs.new ≡ vec_capacity runs.old }
 {
     runs[number].low = low;
@@ -205,7 +210,8 @@ fn open(runs: &mut Vec<Run>, spare: &mut Vec<Vec<Cell>>, number: usize, low: u12
     requires spare { 0 < length spare.old.items }
     requires gap { IsGap runs.old.items low number }
     ensures sound { AreSound runs.new spare.new }
-    ensures runs { (run : Span) × (runs.new.items ≡ insert runs.old.items number run) × (run.low ≡ low) × (run.entries.items ≡ []) }
+    ensures runs { (run : Span) × (runs.new.items ≡ insert runs.old.items number run)
+        × (run.low ≡ low) × (run.entries.items ≡ []) }
     ensures room { length spare.old.items ≡ length spare.new.items + 1 }
 {
     let Some(entries) = spare.pop() else {
@@ -231,7 +237,8 @@ fn cut(runs: &mut Vec<Run>, spare: &mut Vec<Vec<Cell>>, number: usize)
     requires sound { AreSound runs.old spare.old }
     requires spare { 0 < length spare.old.items }
     requires in_range { number < length runs.old.items }
-    requires full { (d : Span) → most ≤ length (slice_index_or runs.old.items number d).entries.items }
+    requires full { (d : Span)
+        → most ≤ length (slice_index_or runs.old.items number d).entries.items }
     ensures sound { AreSound runs.new spare.new }
     ensures cut { IsCut runs.old.items runs.new.items number }
     ensures room { length spare.old.items ≡ length spare.new.items + 1 }
@@ -269,7 +276,8 @@ pub fn take_out(runs: &mut Vec<Run>, spare: &mut Vec<Vec<Cell>>, key: u128) -> O
     ensures sound { AreSound runs.new spare.new }
     ensures value { result ≡ value_at (held_in runs.old.items) key }
     ensures gone { Puts (held_in runs.old.items) (held_in runs.new.items) key None }
-    ensures counted { OnSome result (length (held_in runs.new.items) + 1 ≡ length (held_in runs.old.items)) }
+    ensures counted { OnSome result (length (held_in runs.new.items) + 1
+        ≡ length (held_in runs.old.items)) }
     ensures none { IfNone result (held_in runs.new.items ≡ held_in runs.old.items) }
     ensures room { length spare.old.items ≤ length spare.new.items }
 {
@@ -285,9 +293,11 @@ pub fn take_out(runs: &mut Vec<Run>, spare: &mut Vec<Vec<Cell>>, key: u128) -> O
 fn take_at(runs: &mut Vec<Run>, number: usize, place: usize) -> Entry
     requires ordered { AreOrdered runs.old.items }
     requires in_range { number < length runs.old.items }
-    requires in_run { (d : Span) → place < length (slice_index_or runs.old.items number d).entries.items }
+    requires in_run { (d : Span)
+        → place < length (slice_index_or runs.old.items number d).entries.items }
     ensures sound { KeepsSound runs.old runs.new }
-    ensures entry { (d : Span) → IsEntryOf (slice_index_or runs.old.items number d).entries.items place result }
+    ensures entry { (d : Span)
+        → IsEntryOf (slice_index_or runs.old.items number d).entries.items place result }
     ensures gone { Puts (held_in runs.old.items) (held_in runs.new.items) result.key None }
     ensures counted { length (held_in runs.new.items) + 1 ≡ length (held_in runs.old.items) }
     ensures number { length runs.new.items ≡ length runs.old.items }
@@ -319,7 +329,8 @@ fn settle(runs: &mut Vec<Run>, spare: &mut Vec<Vec<Cell>>, number: usize)
 
 // Whether the two are no more than half a run.
 fn are_few(lower: &Run, higher: &Run) -> bool
-    ensures { IsTrue result ↔ (length lower.now.entries.items + length higher.now.entries.items ≤ half) }
+    ensures { IsTrue result
+        ↔ (length lower.now.entries.items + length higher.now.entries.items ≤ half) }
 {
     let most = MOST / 2;
     lower.entries.len() <= most && higher.entries.len() <= most - lower.entries.len()
@@ -329,7 +340,8 @@ fn are_few(lower: &Run, higher: &Run) -> bool
 fn join(runs: &mut Vec<Run>, spare: &mut Vec<Vec<Cell>>, number: usize)
     requires sound { AreSound runs.old spare.old }
     requires in_range { number + 1 < length runs.old.items }
-    requires few { (d : Span) → length (slice_index_or runs.old.items number d).entries.items + length (slice_index_or runs.old.items (number + 1) d).entries.items ≤ half }
+    requires few { (d : Span) → length (slice_index_or runs.old.items number d).entries.items
+        + length (slice_index_or runs.old.items (number + 1) d).entries.items ≤ half }
     ensures sound { AreSound runs.new spare.new }
     ensures held { held_in runs.new.items ≡ held_in runs.old.items }
     ensures room { length spare.new.items ≡ length spare.old.items + 1 }

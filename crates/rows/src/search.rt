@@ -16,7 +16,8 @@ const NEAR: usize = 8;
 pub fn count_before<T, P: Fn(&T) -> bool>(items: &[T], is_before: P) -> usize
     requires { P.IsAlwaysCallable is_before }
     ensures bound { result ≤ length items.now }
-    ensures partitioned { (p : T → Bool) → IsTestFor P.Fn is_before p → IsPartitionedBy p items.now → IsPartitionPoint (λ y. p y ≡ true) (λ y. p y ≡ false) items.now result }
+    ensures partitioned { (p : T → Bool) → IsTestFor P.Fn is_before p → IsPartitionedBy p items.now
+        → IsPartitionPoint (λ y. p y ≡ true) (λ y. p y ≡ false) items.now result }
 {
     let far = first_from(items, 0, FAR, &is_before);
     let near = first_from(items, far, NEAR, &is_before);
@@ -30,8 +31,11 @@ fn first_from<T, P: Fn(&T) -> bool>(items: &[T], from: usize, stride: usize, is_
     requires in_range { from ≤ length items.now }
     requires forward { 0 < stride }
     ensures bound { result ≤ length items.now }
-    ensures before { (p : T → Bool) → IsTestFor P.Fn is_before.now p → IsPartitionedBy p items.now → AllWithin (λ y. p y ≡ true) items.now 0 from → AllWithin (λ y. p y ≡ true) items.now 0 result }
-    ensures after { (p : T → Bool) → IsTestFor P.Fn is_before.now p → IsPartitionedBy p items.now → AllWithin (λ y. p y ≡ false) items.now (result + stride) (length items.now) }
+    ensures before { (p : T → Bool) → IsTestFor P.Fn is_before.now p → IsPartitionedBy p items.now
+        → AllWithin (λ y. p y ≡ true) items.now 0 from
+        → AllWithin (λ y. p y ≡ true) items.now 0 result }
+    ensures after { (p : T → Bool) → IsTestFor P.Fn is_before.now p → IsPartitionedBy p items.now
+        → AllWithin (λ y. p y ≡ false) items.now (result + stride) (length items.now) }
 {
     let mut place = from;
     while stride <= items.len() - place && is_before(&items[place + stride - 1]) {
@@ -45,7 +49,10 @@ fn count_from<T, P: Fn(&T) -> bool>(items: &[T], from: usize, many: usize, is_be
     requires callable { P.IsAlwaysCallable is_before.now }
     requires in_range { from ≤ length items.now }
     ensures bound { result ≤ length items.now }
-    ensures partitioned { (p : T → Bool) → IsTestFor P.Fn is_before.now p → IsPartitionedBy p items.now → AllWithin (λ y. p y ≡ true) items.now 0 from → AllWithin (λ y. p y ≡ false) items.now (from + many) (length items.now) → IsPartitionPoint (λ y. p y ≡ true) (λ y. p y ≡ false) items.now result }
+    ensures partitioned { (p : T → Bool) → IsTestFor P.Fn is_before.now p
+        → IsPartitionedBy p items.now → AllWithin (λ y. p y ≡ true) items.now 0 from
+        → AllWithin (λ y. p y ≡ false) items.now (from + many) (length items.now)
+        → IsPartitionPoint (λ y. p y ≡ true) (λ y. p y ≡ false) items.now result }
 {
     let end = from + many.min(items.len() - from);
     let mut place = from;

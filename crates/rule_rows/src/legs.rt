@@ -178,7 +178,8 @@ fn addressed(alloc: Global) -> Option<(Bounds, Translations)>
 #[tactic(auto, using(hairpin::proofs::Beginning::counts_none, hairpin::proofs::Beginning::bounds_none))]
 fn start(alloc: Global) -> Option<Empty>
     ensures external { IfSome result (λ s. s.translations.external ≡ s.bounds.external) }
-    ensures counts { IfSome result (λ s. (p : Mapping) → times s.translations.pairs p ≡ tally p s.table.held) }
+    ensures counts { IfSome result (λ s. (p : Mapping)
+        → times s.translations.pairs p ≡ tally p s.table.held) }
     ensures sound { IfSome result (λ s. AreSound s.bounds (listing s.table.held)) }
     ensures bounded { IfSome result (λ s. KeepBounds s.bounds s.rules) }
 {

@@ -64,7 +64,8 @@ module _ {A : Type 0} (Item : Spelling A) (braced : A → Bool) where
 
   abbrev pub Listed : Spelling (List A)
   Listed [] ts rest = Fill ts rest
-  Listed (x ∷ xs) ts rest = (a b : Tokens) × Fill ts a × Item x a b × Apart x xs b × Listed xs b rest
+  Listed (x ∷ xs) ts rest = (a b : Tokens) × Fill ts a × Item x a b × Apart x xs b
+      × Listed xs b rest
 
 -- one behind the other
 abbrev pub Each : {A : Type 0} → Spelling A → Spelling (List A)
@@ -80,7 +81,8 @@ MayComma false ts rest = ts ≡ rest
 abbrev pub Entries : {A : Type 0} → Spelling A → Bool → Spelling (List A)
 Entries Entry trailing [] ts rest = ⊥
 Entries Entry trailing (x ∷ []) ts rest = (a : Tokens) × Entry x ts a × MayComma trailing a rest
-Entries Entry trailing (x ∷ y ∷ xs) ts rest = (a : Tokens) × Entry x ts (Symbol Comma ∷ a) × Entries Entry trailing (y ∷ xs) a rest
+Entries Entry trailing (x ∷ y ∷ xs) ts rest = (a : Tokens) × Entry x ts (Symbol Comma ∷ a)
+    × Entries Entry trailing (y ∷ xs) a rest
 
 -- without the NEWLINEs before the closing brace
 abbrev pub inside : Tokens → Tokens
@@ -91,7 +93,8 @@ inside (t ∷ ts) = t ∷ inside ts
 
 -- between braces, where no NEWLINE counts
 abbrev pub Braces : {A : Type 0} → Spelling A → Spelling (List A)
-Braces Entry xs ts rest = (a : Tokens) × (ts ≡ Symbol Open ∷ a) × Entries Entry true xs (inside a) (Symbol Close ∷ rest)
+Braces Entry xs ts rest = (a : Tokens) × (ts ≡ Symbol Open ∷ a)
+    × Entries Entry true xs (inside a) (Symbol Close ∷ rest)
 
 abbrev pub CommentIs : Tokens → Tokens → Type 0
 CommentIs ts rest = (text : List ℕ) × (ts ≡ Name (codes "comment") ∷ Quoted text ∷ rest)
@@ -154,11 +157,13 @@ AreStates _ ts rest = ⊥
 
 abbrev pub SideIs : Head → Spelling Side
 SideIs head (One x) ts rest = IsBare x × ElementIs x ts rest
-SideIs head (Several xs) ts rest = Braces ElementIs xs ts rest ⊎ ((head ≡ State) × AreStates xs ts rest)
+SideIs head (Several xs) ts rest = Braces ElementIs xs ts rest
+    ⊎ ((head ≡ State) × AreStates xs ts rest)
 SideIs head (Named set) ts rest = ts ≡ Symbol At ∷ Name set.name ∷ rest
 
 abbrev pub MatchIs : Spelling Match
-MatchIs m ts rest = (a b : Tokens) × HeadIs m.head ts a × OperatorIs m.negated a b × SideIs m.head m.side b rest
+MatchIs m ts rest = (a b : Tokens) × HeadIs m.head ts a × OperatorIs m.negated a b
+    × SideIs m.head m.side b rest
 
 -- ---- rules
 
@@ -221,7 +226,8 @@ abbrev pub PlusIs : ℤ → ℤ → Tokens → Tokens → Type 0
 PlusIs z sum ts rest = (n : ℕ) × AmountIs n ts rest × (sum ≡ z +ℤ pos n)
 
 abbrev pub MinusIs : ℤ → ℤ → Tokens → Tokens → Type 0
-MinusIs z sum ts rest = (n : ℕ) × (a : Tokens) × (ts ≡ Symbol Minus ∷ a) × AmountIs n a rest × (sum ≡ z +ℤ neg_ℤ (pos n))
+MinusIs z sum ts rest = (n : ℕ) × (a : Tokens) × (ts ≡ Symbol Minus ∷ a) × AmountIs n a rest
+    × (sum ≡ z +ℤ neg_ℤ (pos n))
 
 -- a name, and perhaps a number that is added to what it means or taken from that
 abbrev pub NamedIs : PriorityName → ℤ → Tokens → Tokens → Type 0
@@ -231,7 +237,8 @@ NamedIs name z ts rest = (a : Tokens) × (ts ≡ Name (priority_name name) ∷ a
     ⊎ ((b : Tokens) × (a ≡ Symbol Plus ∷ b) × PlusIs (priority_value name) z b rest)))
 
 abbrev pub PriorityIs : Spelling ℤ
-PriorityIs z ts rest = PlusIs (pos 0) z ts rest ⊎ (MinusIs (pos 0) z ts rest ⊎ ((name : PriorityName) × NamedIs name z ts rest))
+PriorityIs z ts rest = PlusIs (pos 0) z ts rest
+    ⊎ (MinusIs (pos 0) z ts rest ⊎ ((name : PriorityName) × NamedIs name z ts rest))
 
 -- the policy aside
 abbrev pub BaseIs : Spelling Base
@@ -255,7 +262,9 @@ MemberIs (rule_member r) ts rest = RuleIs r ts rest
 -- comments, then the base and its policy if they are there, then the rules
 abbrev pub AreMembers : List Member → Option Base → List Rule → Type 0
 AreMembers (comment_member ∷ members) b rules = AreMembers members b rules
-AreMembers (base_member x ∷ policy_member p ∷ members) b rules = (b ≡ Some (record { line = tt; kind = x.kind; hook = x.hook; priority = x.priority; policy = p })) × (members ≡ map rule_member rules)
+AreMembers (base_member x ∷ policy_member p ∷ members) b rules =
+    (b ≡ Some (record { line = tt; kind = x.kind; hook = x.hook; priority = x.priority; policy = p }))
+    × (members ≡ map rule_member rules)
 AreMembers (base_member x ∷ members) b rules = (b ≡ Some x) × (members ≡ map rule_member rules)
 AreMembers members b rules = (b ≡ None) × (members ≡ map rule_member rules)
 
@@ -359,4 +368,5 @@ AreStatements statements tables = statements ≡ map table tables
 
 -- the tokens spell the ruleset
 abbrev pub Spells : Spelled → Tokens → Type 0
-Spells r ts = (statements : List Statement) × Listed StatementIs is_table statements ts [] × AreStatements statements r.tables
+Spells r ts = (statements : List Statement) × Listed StatementIs is_table statements ts []
+    × AreStatements statements r.tables

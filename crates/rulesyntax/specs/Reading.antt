@@ -101,7 +101,8 @@ abbrev pub seen : Bool → Tokens → Tokens
 seen true ts = inside ts
 seen false ts = ts
 
-abbrev pub Gives : {X : Type 0} → Bool → Result (X × Bor Tokens) ReadError → Option (X × Tokens) → Type 0
+abbrev pub Gives : {X : Type 0} → Bool → Result (X × Bor Tokens) ReadError
+    → Option (X × Tokens) → Type 0
 Gives braces (Ok x) read = read ≡ Some (x.0, seen braces x.1.now)
 Gives braces (Err e) read = Fails e read
 
@@ -213,7 +214,8 @@ addresses_behind a ts = do
   if nat_le a b.0 then Some (value.Addresses a b.0, b.1) else None
 
 unfoldable pub address_behind : ℕ → Reader Value
-address_behind a ts = if_some (symbol_at Slash ts) (prefix_behind a) (if_some (symbol_at Minus ts) (addresses_behind a) (Some (value.Address a, ts)))
+address_behind a ts = if_some (symbol_at Slash ts) (prefix_behind a)
+    (if_some (symbol_at Minus ts) (addresses_behind a) (Some (value.Address a, ts)))
 
 unfoldable pub numbers_behind : ℕ → Reader Value
 numbers_behind a ts = do
@@ -271,8 +273,10 @@ verdict_behind verdict_word.Accept ts = Some (Accept, ts)
 verdict_behind verdict_word.Drop ts = Some (Drop, ts)
 verdict_behind verdict_word.Return ts = Some (Return, ts)
 verdict_behind verdict_word.Continue ts = Some (Continue, ts)
-verdict_behind verdict_word.Jump ts = name_at ts >>= λ n. Some (Jump (record { line = tt; chain = n.0 }), n.1)
-verdict_behind verdict_word.Goto ts = name_at ts >>= λ n. Some (Goto (record { line = tt; chain = n.0 }), n.1)
+verdict_behind verdict_word.Jump ts =
+    name_at ts >>= λ n. Some (Jump (record { line = tt; chain = n.0 }), n.1)
+verdict_behind verdict_word.Goto ts =
+    name_at ts >>= λ n. Some (Goto (record { line = tt; chain = n.0 }), n.1)
 
 unfoldable pub verdict_at : Reader Verdict
 verdict_at ts = keyword_at verdict_words ts >>= λ k. verdict_behind k.0 k.1
@@ -325,14 +329,16 @@ is_state State = true
 is_state _ = false
 
 unfoldable pub operator_at : Tokens → Bool × Tokens
-operator_at ts = if_some (symbol_at Differs ts) (λ rest. (true, rest)) (if_some (symbol_at Equals ts) (λ rest. (false, rest)) (false, ts))
+operator_at ts = if_some (symbol_at Differs ts) (λ rest. (true, rest))
+    (if_some (symbol_at Equals ts) (λ rest. (false, rest)) (false, ts))
 
 abbrev pub states_side : List Element → Side
 states_side (x ∷ []) = One x
 states_side xs = Several xs
 
 unfoldable pub states_at : Reader Side
-states_at ts = entries_from element_at false (suc (length ts)) ts >>= λ xs. Some (states_side xs.0, xs.1)
+states_at ts =
+    entries_from element_at false (suc (length ts)) ts >>= λ xs. Some (states_side xs.0, xs.1)
 
 unfoldable pub one_at : Reader Side
 one_at ts = element_at ts >>= λ x. Some (One x.0, x.1)
@@ -347,7 +353,8 @@ unfoldable pub plain_at : Bool → Reader Side
 plain_at state ts = if_some (word_at (codes "vmap") ts) (λ _. None) (if state then states_at ts else one_at ts)
 
 unfoldable pub side_at : Bool → Reader Side
-side_at state ts = if_some (symbol_at At ts) named_behind (if_some (symbol_at Open ts) several_behind (plain_at state ts))
+side_at state ts = if_some (symbol_at At ts) named_behind
+    (if_some (symbol_at Open ts) several_behind (plain_at state ts))
 
 unfoldable pub match_at : Reader Match
 match_at ts = do
@@ -514,7 +521,8 @@ unfoldable pub more_behind : ℤ → Reader ℤ
 more_behind z ts = amount_at ts >>= λ n. Some (z +ℤ pos n.0, n.1)
 
 unfoldable pub named_priority : ℤ → Reader ℤ
-named_priority z ts = if_some (symbol_at Minus ts) (less_behind z) (if_some (symbol_at Plus ts) (more_behind z) (Some (z, ts)))
+named_priority z ts = if_some (symbol_at Minus ts) (less_behind z)
+    (if_some (symbol_at Plus ts) (more_behind z) (Some (z, ts)))
 
 unfoldable pub priority_at : Reader ℤ
 priority_at ts =
@@ -534,20 +542,27 @@ base_behind ts = do
 
 abbrev pub with_policy : Option Base → Policy → Option Base
 with_policy None p = None
-with_policy (Some b) p = Some (record { line = tt; kind = b.kind; hook = b.hook; priority = b.priority; policy = p })
+with_policy (Some b) p =
+    Some (record { line = tt; kind = b.kind; hook = b.hook; priority = b.priority; policy = p })
 
 unfoldable pub rule_step : Step ChainBody
-rule_step c ts = rule_at ts >>= λ r. Some ((record { stage = stage.Rules; base = c.base; rules = c.rules ++ r.0 ∷ [] }, false), r.1)
+rule_step c ts =
+    rule_at ts >>= λ r. Some
+    ((record { stage = stage.Rules; base = c.base; rules = c.rules ++ r.0 ∷ [] }, false), r.1)
 
 unfoldable pub policy_behind : ChainBody → Tokens → Option ((ChainBody × Bool) × Tokens)
-policy_behind c ts = keyword_at policy_words ts >>= λ p. Some ((record { stage = stage.Rules; base = with_policy c.base p.0; rules = c.rules }, false), p.1)
+policy_behind c ts = keyword_at policy_words ts >>= λ p. Some
+    ((record { stage = stage.Rules; base = with_policy c.base p.0; rules = c.rules }, false), p.1)
 
-unfoldable pub member_behind : ChainBody → MemberWord → Tokens → Option ((ChainBody × Bool) × Tokens)
+unfoldable pub member_behind : ChainBody → MemberWord → Tokens
+    → Option ((ChainBody × Bool) × Tokens)
 member_behind c member_word.Comment ts = quoted_at ts >>= λ rest. Some ((c, false), rest)
-member_behind c member_word.Type ts = base_behind ts >>= λ b. Some ((record { stage = stage.Policy; base = Some b.0; rules = c.rules }, false), b.1)
+member_behind c member_word.Type ts = base_behind ts >>= λ b. Some
+    ((record { stage = stage.Policy; base = Some b.0; rules = c.rules }, false), b.1)
 
 abbrev pub step_at : Stage → Step ChainBody
-step_at stage.Start c ts = if_some (keyword_at member_words ts) (λ k. member_behind c k.0 k.1) (rule_step c ts)
+step_at stage.Start c ts =
+    if_some (keyword_at member_words ts) (λ k. member_behind c k.0 k.1) (rule_step c ts)
 step_at stage.Policy c ts = if_some (word_at (codes "policy") ts) (policy_behind c) (rule_step c ts)
 step_at stage.Rules c ts = rule_step c ts
 
@@ -567,7 +582,17 @@ chain_behind ts = do
 -- ---- sets
 
 unfoldable pub type_behind : SetBody → Tokens → Option ((SetBody × Bool) × Tokens)
-type_behind s ts = name_at ts >>= λ n. Some ((record { types = s.types ++ record { line = tt; name_line = tt; name = n.0 } ∷ []; elements = s.elements }, false), n.1)
+type_behind s ts =
+    name_at ts >>= λ n. Some (
+      (
+        record {
+          types = s.types ++ record { line = tt; name_line = tt; name = n.0 } ∷ [];
+          elements = s.elements;
+        },
+        false,
+      ),
+      n.1,
+    )
 
 unfoldable pub elements_behind : SetBody → Tokens → Option ((SetBody × Bool) × Tokens)
 elements_behind s ts = do
@@ -578,7 +603,8 @@ elements_behind s ts = do
 
 unfoldable pub line_behind : SetBody → LineWord → Tokens → Option ((SetBody × Bool) × Tokens)
 line_behind s line_word.Type ts = type_behind s ts
-line_behind s line_word.Flags ts = entries_from flag_at false (suc (length ts)) ts >>= λ fs. Some ((s, false), fs.1)
+line_behind s line_word.Flags ts =
+    entries_from flag_at false (suc (length ts)) ts >>= λ fs. Some ((s, false), fs.1)
 line_behind s line_word.AutoMerge ts = Some ((s, false), ts)
 line_behind s line_word.Elements ts = elements_behind s ts
 line_behind s line_word.Comment ts = quoted_at ts >>= λ rest. Some ((s, false), rest)
@@ -600,8 +626,10 @@ set_behind ts = do
 
 unfoldable pub item_behind : TableBody → ItemWord → Tokens → Option ((TableBody × Bool) × Tokens)
 item_behind t item_word.Comment ts = quoted_at ts >>= λ rest. Some ((t, false), rest)
-item_behind t item_word.Set ts = set_behind ts >>= λ s. Some ((record { sets = t.sets ++ s.0 ∷ []; chains = t.chains }, true), s.1)
-item_behind t item_word.Chain ts = chain_behind ts >>= λ c. Some ((record { sets = t.sets; chains = t.chains ++ c.0 ∷ [] }, true), c.1)
+item_behind t item_word.Set ts =
+    set_behind ts >>= λ s. Some ((record { sets = t.sets ++ s.0 ∷ []; chains = t.chains }, true), s.1)
+item_behind t item_word.Chain ts = chain_behind ts >>= λ c. Some
+    ((record { sets = t.sets; chains = t.chains ++ c.0 ∷ [] }, true), c.1)
 
 unfoldable pub table_step : Step TableBody
 table_step t ts = keyword_at item_words ts >>= λ k. item_behind t k.0 k.1
@@ -627,9 +655,11 @@ table_behind ts = do
 unfoldable pub flush_behind : Spelled → Tokens → Option ((Spelled × Bool) × Tokens)
 flush_behind s ts = if length s.tables == 0 then (word_at (codes "ruleset") ts >>= λ rest. Some ((s, false), rest)) else None
 
-unfoldable pub statement_behind : Spelled → StatementWord → Tokens → Option ((Spelled × Bool) × Tokens)
+unfoldable pub statement_behind : Spelled → StatementWord → Tokens
+    → Option ((Spelled × Bool) × Tokens)
 statement_behind s statement_word.Flush ts = flush_behind s ts
-statement_behind s statement_word.Table ts = table_behind ts >>= λ t. Some ((record { tables = s.tables ++ t.0 ∷ [] }, true), t.1)
+statement_behind s statement_word.Table ts =
+    table_behind ts >>= λ t. Some ((record { tables = s.tables ++ t.0 ∷ [] }, true), t.1)
 
 unfoldable pub text_step : Step Spelled
 text_step s ts = keyword_at statement_words ts >>= λ k. statement_behind s k.0 k.1

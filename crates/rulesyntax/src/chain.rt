@@ -96,7 +96,8 @@ fn priority(tokens: &[Token]) -> Result<(i64, &[Token]), ReadError>
 
 /// The hook behind its word.
 fn hook(tokens: &[Token]) -> Result<(Hook, &[Token]), ReadError>
-    ensures { Gives false result (and_then (word_at (codes "hook") tokens.now) (keyword_at hook_words)) }
+    ensures { Gives false result (and_then (word_at (codes "hook") tokens.now)
+        (keyword_at hook_words)) }
 {
     let rest = word(tokens, b"hook")?;
     keyword::<Hook>(false, rest)
@@ -164,7 +165,8 @@ fn rule_step<'a>(
     source: &Source,
     tokens: &'a [Token],
 ) -> Result<(bool, &'a [Token]), ReadError>
-    ensures ok { IfOk result (λ x. rule_step body.old tokens.now ≡ Some ((body.new, x.0), x.1.now)) }
+    ensures ok { IfOk result (λ x. rule_step body.old tokens.now
+        ≡ Some ((body.new, x.0), x.1.now)) }
     ensures err { IfErr result (λ e. Fails e (rule_step body.old tokens.now)) }
 {
     let (rule, rest) = rule(source, tokens)?;
@@ -178,7 +180,8 @@ fn policy_step<'a>(
     body: &mut ChainBody,
     tokens: &'a [Token],
 ) -> Result<(bool, &'a [Token]), ReadError>
-    ensures ok { IfOk result (λ x. policy_behind body.old tokens.now ≡ Some ((body.new, x.0), x.1.now)) }
+    ensures ok { IfOk result (λ x. policy_behind body.old tokens.now
+        ≡ Some ((body.new, x.0), x.1.now)) }
     ensures err { IfErr result (λ e. Fails e (policy_behind body.old tokens.now)) }
 {
     let (policy, rest) = keyword::<Policy>(false, tokens)?;
@@ -194,7 +197,8 @@ fn member<'a>(
     line: Line,
     tokens: &'a [Token],
 ) -> Result<(bool, &'a [Token]), ReadError>
-    ensures ok { IfOk result (λ x. member_behind body.old word tokens.now ≡ Some ((body.new, x.0), x.1.now)) }
+    ensures ok { IfOk result (λ x. member_behind body.old word tokens.now
+        ≡ Some ((body.new, x.0), x.1.now)) }
     ensures err { IfErr result (λ e. Fails e (member_behind body.old word tokens.now)) }
 {
     match word {
@@ -217,7 +221,8 @@ fn step<'a>(
     source: &Source,
     tokens: &'a [Token],
 ) -> Result<(bool, &'a [Token]), ReadError>
-    ensures ok { IfOk result (λ x. chain_step body.old tokens.now ≡ Some ((body.new, x.0), x.1.now)) }
+    ensures ok { IfOk result (λ x. chain_step body.old tokens.now
+        ≡ Some ((body.new, x.0), x.1.now)) }
     ensures err { IfErr result (λ e. Fails e (chain_step body.old tokens.now)) }
 {
     match body.stage {

@@ -184,7 +184,8 @@ pub fn entries<'a, E: Entry + Drop>(
     braces: bool,
     tokens: &'a [Token],
 ) -> Result<(Items<E>, &'a [Token]), ReadError>
-    ensures { Gives braces result (entries_from E.reads braces (suc (length tokens.now)) (seen braces tokens.now)) }
+    ensures { Gives braces result (entries_from E.reads braces (suc (length tokens.now))
+        (seen braces tokens.now)) }
 {
     let mut entries = Items::new(source.alloc);
     let mut rest = tokens;

@@ -19,7 +19,8 @@ pub trait Body: Sized {
         source: &Source,
         tokens: &'a [Token],
     ) -> Result<(bool, &'a [Token]), ReadError>
-        ensures ok { IfOk result (λ x. steps self.old tokens.now ≡ Some ((self.new, x.0), x.1.now)) }
+        ensures ok { IfOk result (λ x. steps self.old tokens.now
+            ≡ Some ((self.new, x.0), x.1.now)) }
         ensures err { IfErr result (λ e. Fails e (steps self.old tokens.now)) };
 }
 

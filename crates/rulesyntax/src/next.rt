@@ -216,7 +216,8 @@ fn close(braces: bool, tokens: &[Token]) -> Result<&[Token], ReadError>
 
 /// What is read, and what stands behind the closing brace that must come next.
 pub fn closed<T: Drop>(read: T, braces: bool, tokens: &[Token]) -> Result<(T, &[Token]), ReadError>
-    ensures { Gives false result (and_then (close_at (seen braces tokens.now)) (λ rest. Some (read, rest))) }
+    ensures { Gives false result (and_then (close_at (seen braces tokens.now))
+        (λ rest. Some (read, rest))) }
 {
     let rest = close(braces, tokens)?;
     Ok((read, rest))

@@ -645,7 +645,8 @@ fn is_said(parts: &Parts, end: &Option<End>) -> bool
 
 /// What is read, if it says anything, and what stands behind its comment.
 fn commented<T: Drop>(read: T, is_said: bool, tokens: &[Token]) -> Result<(T, &[Token]), ReadError>
-    ensures { Gives false result (if is_said then and_then (comment_at tokens.now) (λ rest. Some (read, rest)) else None) }
+    ensures { Gives false result (if is_said then and_then (comment_at tokens.now)
+        (λ rest. Some (read, rest)) else None) }
 {
     if !is_said {
         return Err(stop(false, tokens));

@@ -70,8 +70,10 @@ pub fn parse(alloc: Global, text: &[u8]) -> Result<Spelled, LoadFault>
     ensures found { IfOk result (λ rules. IsSpelledBy rules text.now) }
 
     // What is spelled is answered, unless memory runs out.
-    ensures only { (rules : Spelled) → IsSpelledBy rules text.now → length text.now ≤ greatest_length → IsOkOrNoMemory rules result }
-    ensures too_long { (result ≡ Err (record { kind = TooLong; line = tt })) ↔ greatest_length < length text.now }
+    ensures only { (rules : Spelled) → IsSpelledBy rules text.now
+        → length text.now ≤ greatest_length → IsOkOrNoMemory rules result }
+    ensures too_long { (result ≡ Err (record { kind = TooLong; line = tt }))
+        ↔ greatest_length < length text.now }
     ensures kinds { IfErr result (λ fault. IsOfSyntax fault.kind) }
 
     // A fault is true of the text: one of syntax comes only where nothing is spelled.
@@ -91,8 +93,10 @@ pub fn parse(alloc: Global, text: &[u8]) -> Result<Spelled, LoadFault>
 
 /// Tokens spell one ruleset at most, and so does a text.
 pub fn one_ruleset()
-    ensures tokens { (tokens : List Token) (a b : Spelled) → Spells a tokens → Spells b tokens → a ≡ b }
-    ensures text { (text : List ℕ) (a b : Spelled) → IsSpelledBy a text → IsSpelledBy b text → a ≡ b }
+    ensures tokens { (tokens : List Token) (a b : Spelled) → Spells a tokens
+        → Spells b tokens → a ≡ b }
+    ensures text { (text : List ℕ) (a b : Spelled) → IsSpelledBy a text
+        → IsSpelledBy b text → a ≡ b }
 {
     one_token_list();
 }

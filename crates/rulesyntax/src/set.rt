@@ -28,7 +28,8 @@ fn set_type<'a>(
     line: Line,
     tokens: &'a [Token],
 ) -> Result<(bool, &'a [Token]), ReadError>
-    ensures ok { IfOk result (λ x. type_behind body.old tokens.now ≡ Some ((body.new, x.0), x.1.now)) }
+    ensures ok { IfOk result (λ x. type_behind body.old tokens.now
+        ≡ Some ((body.new, x.0), x.1.now)) }
     ensures err { IfErr result (λ e. Fails e (type_behind body.old tokens.now)) }
 {
     let name_line = source.line(tokens);
@@ -48,7 +49,8 @@ fn set_elements<'a>(
     line: Line,
     tokens: &'a [Token],
 ) -> Result<(bool, &'a [Token]), ReadError>
-    ensures ok { IfOk result (λ x. elements_behind body.old tokens.now ≡ Some ((body.new, x.0), x.1.now)) }
+    ensures ok { IfOk result (λ x. elements_behind body.old tokens.now
+        ≡ Some ((body.new, x.0), x.1.now)) }
     ensures err { IfErr result (λ e. Fails e (elements_behind body.old tokens.now)) }
 {
     let rest = symbol(false, tokens, Symbol::Equal)?;
@@ -65,7 +67,8 @@ fn set_line<'a>(
     line: Line,
     tokens: &'a [Token],
 ) -> Result<(bool, &'a [Token]), ReadError>
-    ensures ok { IfOk result (λ x. line_behind body.old word tokens.now ≡ Some ((body.new, x.0), x.1.now)) }
+    ensures ok { IfOk result (λ x. line_behind body.old word tokens.now
+        ≡ Some ((body.new, x.0), x.1.now)) }
     ensures err { IfErr result (λ e. Fails e (line_behind body.old word tokens.now)) }
 {
     match word {

@@ -32,7 +32,8 @@ fn add_set<'a>(
     line: Line,
     tokens: &'a [Token],
 ) -> Result<(bool, &'a [Token]), ReadError>
-    ensures ok { IfOk result (λ x. item_behind body.old item_word.Set tokens.now ≡ Some ((body.new, x.0), x.1.now)) }
+    ensures ok { IfOk result (λ x. item_behind body.old item_word.Set tokens.now
+        ≡ Some ((body.new, x.0), x.1.now)) }
     ensures err { IfErr result (λ e. Fails e (item_behind body.old item_word.Set tokens.now)) }
 {
     let (set, rest) = set(source, line, tokens)?;
@@ -47,7 +48,8 @@ fn add_chain<'a>(
     line: Line,
     tokens: &'a [Token],
 ) -> Result<(bool, &'a [Token]), ReadError>
-    ensures ok { IfOk result (λ x. item_behind body.old item_word.Chain tokens.now ≡ Some ((body.new, x.0), x.1.now)) }
+    ensures ok { IfOk result (λ x. item_behind body.old item_word.Chain tokens.now
+        ≡ Some ((body.new, x.0), x.1.now)) }
     ensures err { IfErr result (λ e. Fails e (item_behind body.old item_word.Chain tokens.now)) }
 {
     let (chain, rest) = chain(source, line, tokens)?;
@@ -63,7 +65,8 @@ fn item<'a>(
     line: Line,
     tokens: &'a [Token],
 ) -> Result<(bool, &'a [Token]), ReadError>
-    ensures ok { IfOk result (λ x. item_behind body.old word tokens.now ≡ Some ((body.new, x.0), x.1.now)) }
+    ensures ok { IfOk result (λ x. item_behind body.old word tokens.now
+        ≡ Some ((body.new, x.0), x.1.now)) }
     ensures err { IfErr result (λ e. Fails e (item_behind body.old word tokens.now)) }
 {
     match word {
@@ -174,7 +177,8 @@ fn flush<'a>(
     here: &'a [Token],
     tokens: &'a [Token],
 ) -> Result<(bool, &'a [Token]), ReadError>
-    ensures ok { IfOk result (λ x. flush_behind body.old tokens.now ≡ Some ((body.new, x.0), x.1.now)) }
+    ensures ok { IfOk result (λ x. flush_behind body.old tokens.now
+        ≡ Some ((body.new, x.0), x.1.now)) }
     ensures err { IfErr result (λ e. Fails e (flush_behind body.old tokens.now)) }
 {
     if body.tables.len() == 0 {
@@ -192,8 +196,10 @@ fn add_table<'a>(
     line: Line,
     tokens: &'a [Token],
 ) -> Result<(bool, &'a [Token]), ReadError>
-    ensures ok { IfOk result (λ x. statement_behind body.old statement_word.Table tokens.now ≡ Some ((body.new, x.0), x.1.now)) }
-    ensures err { IfErr result (λ e. Fails e (statement_behind body.old statement_word.Table tokens.now)) }
+    ensures ok { IfOk result (λ x. statement_behind body.old statement_word.Table tokens.now
+        ≡ Some ((body.new, x.0), x.1.now)) }
+    ensures err { IfErr result
+        (λ e. Fails e (statement_behind body.old statement_word.Table tokens.now)) }
 {
     let (table, rest) = table(source, line, tokens)?;
     body.tables.push(table)?;
@@ -208,7 +214,8 @@ fn statement<'a>(
     here: &'a [Token],
     tokens: &'a [Token],
 ) -> Result<(bool, &'a [Token]), ReadError>
-    ensures ok { IfOk result (λ x. statement_behind body.old word tokens.now ≡ Some ((body.new, x.0), x.1.now)) }
+    ensures ok { IfOk result (λ x. statement_behind body.old word tokens.now
+        ≡ Some ((body.new, x.0), x.1.now)) }
     ensures err { IfErr result (λ e. Fails e (statement_behind body.old word tokens.now)) }
 {
     match word {

@@ -15,7 +15,8 @@ OfSome P (x ∷ xs) = P x ⊎ OfSome P xs
 
 -- the verdict jumps or goes to the chain at that place among the names
 abbrev pub VerdictCalls : List (List ℕ) → ℕ → Verdict → Type 0
-VerdictCalls names b verdict = (name : List ℕ) × (target_of verdict ≡ Some name) × (slice_get names b ≡ Some name)
+VerdictCalls names b verdict = (name : List ℕ) × (target_of verdict ≡ Some name)
+    × (slice_get names b ≡ Some name)
 
 abbrev pub RuleCalls : List (List ℕ) → ℕ → Rule → Type 0
 RuleCalls names b rule = OfSome (VerdictCalls names b) (verdicts_of rule.end)
@@ -25,7 +26,8 @@ ChainCalls names b chain = OfSome (RuleCalls names b) chain.rules
 
 -- the chain at the one place jumps or goes to the chain at the other
 abbrev pub Calls : List Chain → ℕ → ℕ → Type 0
-Calls chains a b = (chain : Chain) × (slice_get chains a ≡ Some chain) × ChainCalls (chain_names chains) b chain
+Calls chains a b = (chain : Chain) × (slice_get chains a ≡ Some chain)
+    × ChainCalls (chain_names chains) b chain
 
 -- chains of a table that reach themselves by jumps and gotos
 abbrev pub IsLooped : List Chain → Type 0

@@ -81,7 +81,8 @@ is_value _ _ = false
 -- the fact is one of those that a value of the class means
 abbrev pub Lies : Class → Value → Fact → Type 0
 Lies Addresses (values.Address address) (Number n) = n ≡ address
-Lies Addresses (values.Prefix address len) (Number n) = IsTrue (covers n (record { addr = address; len = len }))
+Lies Addresses (values.Prefix address len) (Number n) =
+    IsTrue (covers n (record { addr = address; len = len }))
 Lies Addresses (values.Addresses low high) (Number n) = (low ≤ n) × (n ≤ high)
 Lies Services (values.Number number) (Number n) = n ≡ number
 Lies Services (values.Numbers low high) (Number n) = (low ≤ n) × (n ≤ high)

@@ -25,7 +25,8 @@ abbrev pub elements_of_set : Set → ℕ
 elements_of_set set = sum_by (λ line. length line.elements) set.elements
 
 abbrev pub elements_of_table : Table → ℕ
-elements_of_table table = sum_by elements_of_set table.sets + sum_by (λ chain. sum_by elements_of_rule chain.rules) table.chains
+elements_of_table table = sum_by elements_of_set table.sets
+    + sum_by (λ chain. sum_by elements_of_rule chain.rules) table.chains
 
 abbrev pub rules_of_table : Table → ℕ
 rules_of_table table = sum_by (λ chain. length chain.rules) table.chains

@@ -58,18 +58,23 @@ translates translation rule = option_map_or (ends_in translation) rule.end false
 
 -- the chain at that place is a base chain that forbids the translation
 abbrev pub Forbids : Wrong → Translation → List Chain → ℕ → Type 0
-Forbids why translation chains a = (chain : Chain) × (slice_get chains a ≡ Some chain) × (option_map_or (forbids why translation) chain.base false ≡ true)
+Forbids why translation chains a = (chain : Chain) × (slice_get chains a ≡ Some chain)
+    × (option_map_or (forbids why translation) chain.base false ≡ true)
 
 -- a rule of the chain at that place translates so
 abbrev pub Translates : Translation → List Chain → ℕ → Type 0
-Translates translation chains b = (chain : Chain) × (slice_get chains b ≡ Some chain) × (list_any (translates translation) chain.rules ≡ true)
+Translates translation chains b = (chain : Chain) × (slice_get chains b ≡ Some chain)
+    × (list_any (translates translation) chain.rules ≡ true)
 
 -- a base chain comes, by jumps and gotos or at once, to a translation that it forbids
 abbrev pub ComesTo : Wrong → Translation → List Chain → Type 0
-ComesTo why translation chains = (b : ℕ) × IsReachedFrom (Calls chains) (Forbids why translation chains) b × Translates translation chains b
+ComesTo why translation chains = (b : ℕ)
+    × IsReachedFrom (Calls chains) (Forbids why translation chains) b
+    × Translates translation chains b
 
 abbrev pub ComesToSome : Wrong → List Chain → Type 0
-ComesToSome why chains = ComesTo why Destination chains ⊎ ComesTo why Source chains ⊎ ComesTo why Masquerade chains
+ComesToSome why chains = ComesTo why Destination chains ⊎ ComesTo why Source chains
+    ⊎ ComesTo why Masquerade chains
 
 -- a base chain stands where its type can't
 abbrev pub is_misplaced : Chain → Bool

@@ -16,12 +16,14 @@ use Rattle.ruletext.specs.Counts.{pairs_of}
 
 -- some fact is one of both
 abbrev pub Share : Class → Element → Element → Type 0
-Share class one other = (fact : Fact) × StandsFor class one.value fact × StandsFor class other.value fact
+Share class one other = (fact : Fact) × StandsFor class one.value fact
+    × StandsFor class other.value fact
 
 -- two keys, at different places, share a fact
 abbrev pub KeysOverlap : Class → List Pair → Type 0
 KeysOverlap class [] = ⊥
-KeysOverlap class (pair ∷ later) = OfSome (λ other. Share class pair.key other.key) later ⊎ KeysOverlap class later
+KeysOverlap class (pair ∷ later) = OfSome (λ other. Share class pair.key other.key) later
+    ⊎ KeysOverlap class later
 
 abbrev pub EndOverlaps : Option End → Type 0
 EndOverlaps (Some (ends.Vmap vmap)) = KeysOverlap (class_of vmap.head) vmap.pairs
@@ -29,7 +31,8 @@ EndOverlaps _ = ⊥
 
 -- a verdict map of the table has two keys that share a fact
 abbrev pub TableOverlaps : Table → Type 0
-TableOverlaps table = OfSome (λ chain. OfSome (λ rule. EndOverlaps rule.end) chain.rules) table.chains
+TableOverlaps table =
+    OfSome (λ chain. OfSome (λ rule. EndOverlaps rule.end) chain.rules) table.chains
 
 abbrev pub HasOverlap : Spelled → Type 0
 HasOverlap text = OfSome TableOverlaps text.tables

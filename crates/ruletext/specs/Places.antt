@@ -28,7 +28,10 @@ is_misled config Masquerade end = false
 
 -- some rule ends so
 abbrev pub some_end_in : (End → Bool) → List Table → Bool
-some_end_in test tables = list_any (λ table. list_any (λ chain. list_any (λ rule. option_map_or test rule.end false) chain.rules) table.chains) tables
+some_end_in test tables =
+    list_any
+    (λ table. list_any (λ chain. list_any (λ rule. option_map_or test rule.end false) chain.rules)
+    table.chains) tables
 
 abbrev pub some_end : (End → Bool) → Spelled → Bool
 some_end test text = some_end_in test text.tables

@@ -18,4 +18,5 @@ IsRefused config text Syntax = IsShort text × IsSenseless text
 IsRefused config text Unsupported = IsShort text × IsSenseless text
 IsRefused config text Family = IsShort text × IsSenseless text
 IsRefused config text NoMemory = IsShort text
-IsRefused config text kind = IsShort text × ((rules : Spelled) × IsSpelledBy rules text × IsLeast (Holds config rules) (Some kind))
+IsRefused config text kind = IsShort text
+    × ((rules : Spelled) × IsSpelledBy rules text × IsLeast (Holds config rules) (Some kind))

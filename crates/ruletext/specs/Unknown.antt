@@ -28,7 +28,8 @@ chain_leads_nowhere known chain = list_any (rule_leads_nowhere known) chain.rule
 
 -- a jump or goto names no chain without a hook of its own table
 abbrev pub has_unknown_chain_in : Table → Bool
-has_unknown_chain_in table = list_any (chain_leads_nowhere (is_among (chain_names (plain_chains table.chains)))) table.chains
+has_unknown_chain_in table =
+    list_any (chain_leads_nowhere (is_among (chain_names (plain_chains table.chains)))) table.chains
 
 abbrev pub has_unknown_chain : Spelled → Bool
 has_unknown_chain text = list_any has_unknown_chain_in text.tables
@@ -49,7 +50,8 @@ chain_names_no_set known chain = list_any (rule_names_no_set known) chain.rules
 
 -- an `@` names no set of its own table
 abbrev pub has_unknown_set_in : Table → Bool
-has_unknown_set_in table = list_any (chain_names_no_set (is_among (set_names table.sets))) table.chains
+has_unknown_set_in table =
+    list_any (chain_names_no_set (is_among (set_names table.sets))) table.chains
 
 abbrev pub has_unknown_set : Spelled → Bool
 has_unknown_set text = list_any has_unknown_set_in text.tables

@@ -33,7 +33,8 @@ pub fn place_led_to(names: &Names, verdict: &Verdict) -> Option<usize>
 
 // Puts the place that a verdict leads to behind the others.
 fn push_verdict(row: &mut Items<usize>, names: &Names, verdict: &Verdict) -> Result<(), AllocError>
-    ensures { OnOk result ((b : ℕ) → Contains row.new b ↔ (Contains row.old b ⊎ VerdictCalls names.now b verdict.now)) }
+    ensures { OnOk result ((b : ℕ) → Contains row.new b
+        ↔ (Contains row.old b ⊎ VerdictCalls names.now b verdict.now)) }
 {
     match place_led_to(names, verdict) {
         Some(place) => row.push(place),
@@ -42,7 +43,8 @@ fn push_verdict(row: &mut Items<usize>, names: &Names, verdict: &Verdict) -> Res
 }
 
 fn push_pairs(row: &mut Items<usize>, names: &Names, pairs: &[Pair]) -> Result<(), AllocError>
-    ensures { OnOk result ((b : ℕ) → Contains row.new b ↔ (Contains row.old b ⊎ OfSome (λ pair. VerdictCalls names.now b pair.verdict) pairs.now)) }
+    ensures { OnOk result ((b : ℕ) → Contains row.new b
+        ↔ (Contains row.old b ⊎ OfSome (λ pair. VerdictCalls names.now b pair.verdict) pairs.now)) }
 {
     for pair in pairs {
         push_verdict(row, names, &pair.verdict)?;
@@ -51,7 +53,8 @@ fn push_pairs(row: &mut Items<usize>, names: &Names, pairs: &[Pair]) -> Result<(
 }
 
 fn push_end(row: &mut Items<usize>, names: &Names, end: &End) -> Result<(), AllocError>
-    ensures { OnOk result ((b : ℕ) → Contains row.new b ↔ (Contains row.old b ⊎ OfSome (VerdictCalls names.now b) (verdicts_in end.now))) }
+    ensures { OnOk result ((b : ℕ) → Contains row.new b
+        ↔ (Contains row.old b ⊎ OfSome (VerdictCalls names.now b) (verdicts_in end.now))) }
 {
     match end {
         End::Verdict(verdict) => push_verdict(row, names, verdict),
@@ -61,7 +64,8 @@ fn push_end(row: &mut Items<usize>, names: &Names, end: &End) -> Result<(), Allo
 }
 
 fn push_rule(row: &mut Items<usize>, names: &Names, rule: &Rule) -> Result<(), AllocError>
-    ensures { OnOk result ((b : ℕ) → Contains row.new b ↔ (Contains row.old b ⊎ RuleCalls names.now b rule.now)) }
+    ensures { OnOk result ((b : ℕ) → Contains row.new b
+        ↔ (Contains row.old b ⊎ RuleCalls names.now b rule.now)) }
 {
     match &rule.end {
         Some(end) => push_end(row, names, end),
@@ -70,7 +74,8 @@ fn push_rule(row: &mut Items<usize>, names: &Names, rule: &Rule) -> Result<(), A
 }
 
 fn push_rules(row: &mut Items<usize>, names: &Names, rules: &[Rule]) -> Result<(), AllocError>
-    ensures { OnOk result ((b : ℕ) → Contains row.new b ↔ (Contains row.old b ⊎ OfSome (RuleCalls names.now b) rules.now)) }
+    ensures { OnOk result ((b : ℕ) → Contains row.new b
+        ↔ (Contains row.old b ⊎ OfSome (RuleCalls names.now b) rules.now)) }
 {
     for rule in rules {
         push_rule(row, names, rule)?;

@@ -69,7 +69,8 @@ fn count_chain(chain: &Chain) -> usize
 }
 
 fn count_chains(chains: &[Chain]) -> usize
-    ensures { result ≡ min (sum_by (λ chain. sum_by elements_of_rule chain.rules) chains.now) usize.MAX }
+    ensures { result
+        ≡ min (sum_by (λ chain. sum_by elements_of_rule chain.rules) chains.now) usize.MAX }
 {
     let mut count = 0usize;
     for chain in chains {

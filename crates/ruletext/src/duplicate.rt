@@ -122,8 +122,10 @@ fn is_of_family(table: &Table, family: Family) -> bool
 
 // Adds the table's name where it is of the family; answers whether it stood there before.
 fn stands_twice(names: &mut Names, family: Family, table: &Table) -> Result<bool, AllocError>
-    ensures twice { IfOk result (λ twice. twice ≡ (is_of family table.now.family && is_among names.old table.now.name)) }
-    ensures names { OnOk result ((name : List ℕ) → is_among names.new name ≡ (is_among names.old name || is_among (names_in family (table.now ∷ [])) name)) }
+    ensures twice { IfOk result (λ twice. twice
+        ≡ (is_of family table.now.family && is_among names.old table.now.name)) }
+    ensures names { OnOk result ((name : List ℕ) → is_among names.new name
+        ≡ (is_among names.old name || is_among (names_in family (table.now ∷ [])) name)) }
 {
     if !is_of_family(table, family) {
         return Ok(false);

@@ -94,7 +94,8 @@ fn forbidding(
     chains: &[Chain],
 ) -> Result<Vec<bool>, AllocError>
     ensures same { IfOk result (λ marks. length marks.items ≡ length chains.now) }
-    ensures marks { IfOk result (λ marks. (a : ℕ) → IsMarked marks.items a ↔ Forbids why translation chains.now a) }
+    ensures marks { IfOk result (λ marks. (a : ℕ) → IsMarked marks.items a
+        ↔ Forbids why translation chains.now a) }
 {
     let mut marks = Vec::new(alloc);
     for chain in chains {
@@ -138,7 +139,8 @@ fn line_in(translation: Translation, rules: &[Rule]) -> Option<Line>
 // The first translation of this sort in a chain that has a mark.
 fn first_marked(translation: Translation, chains: &[Chain], marks: &[bool]) -> Option<Line>
     requires { length marks.now ≡ length chains.now }
-    ensures { IsSome result ↔ ((b : ℕ) × IsMarked marks.now b × Translates translation chains.now b) }
+    ensures { IsSome result
+        ↔ ((b : ℕ) × IsMarked marks.now b × Translates translation chains.now b) }
 {
     for (place, chain) in chains.iter().enumerate() {
         if !marks[place] {
@@ -254,7 +256,8 @@ fn wrong_hook_of(alloc: Global, table: &Table) -> Result<Option<Line>, AllocErro
 pub fn wrong_hook_in(alloc: Global, tables: &[Table]) -> Result<Option<Line>, AllocError>
     requires distinct { AreDistinct tables.now }
     requires flat { AreShallow tables.now }
-    ensures { IfOk result (λ line. IsSome line ↔ OfSome (λ table. HasWrongHook table.chains) tables.now) }
+    ensures { IfOk result (λ line. IsSome line
+        ↔ OfSome (λ table. HasWrongHook table.chains) tables.now) }
 {
     for table in tables {
         if let Some(line) = wrong_hook_of(alloc, table)? {

@@ -20,7 +20,8 @@ use std::alloc::Global;
 pub fn load(alloc: Global, spelled: Spelled, bounds: &Bounds) -> Result<Ruleset, LoadFault>
     ensures same { IfOk result (λ rules. rules ≡ spelled) }
     ensures may_run { IfOk result (λ rules. MayRun bounds.now rules) }
-    ensures refused { IfErr result (λ fault. (fault.kind ≡ kinds.NoMemory) ⊎ IsLeast (Holds bounds.now spelled) (Some fault.kind)) }
+    ensures refused { IfErr result (λ fault. (fault.kind ≡ kinds.NoMemory)
+        ⊎ IsLeast (Holds bounds.now spelled) (Some fault.kind)) }
 {
     if let Some(fault) = refusal_of(alloc, &spelled, bounds)? {
         return Err(fault);

@@ -34,7 +34,8 @@ pub fn has_long_path(alloc: Global, chains: &[Chain]) -> Result<bool, AllocError
 /// The first table with a chain that reaches itself.
 fn looped_table(alloc: Global, tables: &[Table]) -> Result<Option<usize>, AllocError>
     requires { AreDistinct tables.now }
-    ensures found { IfOk result (λ place. IsSome place ↔ OfSome (λ table. IsLooped table.chains) tables.now) }
+    ensures found { IfOk result (λ place. IsSome place
+        ↔ OfSome (λ table. IsLooped table.chains) tables.now) }
     ensures within { IfOk result (λ place. IfSome place (λ p. p < length tables.now)) }
 {
     for (place, table) in tables.iter().enumerate() {
@@ -48,7 +49,8 @@ fn looped_table(alloc: Global, tables: &[Table]) -> Result<Option<usize>, AllocE
 /// The first table with a path of more than 16 jumps and gotos.
 fn deep_table(alloc: Global, tables: &[Table]) -> Result<Option<usize>, AllocError>
     requires { AreDistinct tables.now }
-    ensures found { IfOk result (λ place. IsSome place ↔ OfSome (λ table. IsDeep table.chains) tables.now) }
+    ensures found { IfOk result (λ place. IsSome place
+        ↔ OfSome (λ table. IsDeep table.chains) tables.now) }
     ensures within { IfOk result (λ place. IfSome place (λ p. p < length tables.now)) }
 {
     for (place, table) in tables.iter().enumerate() {
@@ -62,7 +64,8 @@ fn deep_table(alloc: Global, tables: &[Table]) -> Result<Option<usize>, AllocErr
 /// The line of the first jump or goto that stands on a loop of chains, in the first table that has one.
 pub fn looped(alloc: Global, tables: &[Table]) -> Result<Option<Line>, AllocError>
     requires { AreDistinct tables.now }
-    ensures { IfOk result (λ line. IsSome line ↔ OfSome (λ table. IsLooped table.chains) tables.now) }
+    ensures { IfOk result (λ line. IsSome line
+        ↔ OfSome (λ table. IsLooped table.chains) tables.now) }
 {
     let Some(place) = looped_table(alloc, tables)? else {
         return Ok(None);

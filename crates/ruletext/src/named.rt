@@ -36,8 +36,10 @@ impl Named for Set {
 
 /// The names of these. Where no two have one name, each stands at its own place.
 pub fn names_of<T: Named>(alloc: Global, things: &[T]) -> Result<Names, AllocError>
-    ensures among { IfOk result (λ names. (name : List ℕ) → is_among names name ≡ is_among (map T.name_of things.now) name) }
-    ensures places { has_twice (map T.name_of things.now) ≡ false → IfOk result (λ names. names ≡ map T.name_of things.now) }
+    ensures among { IfOk result (λ names. (name : List ℕ)
+        → is_among names name ≡ is_among (map T.name_of things.now) name) }
+    ensures places { has_twice (map T.name_of things.now) ≡ false
+        → IfOk result (λ names. names ≡ map T.name_of things.now) }
 {
     let mut names = Names::new(alloc);
     for thing in things {

@@ -41,9 +41,12 @@ impl Names {
 
     /// Puts a copy of a name last, unless it is there; answers whether it is new.
     pub fn insert(&mut self, name: &[u8]) -> Result<bool, AllocError>
-        ensures is_new { IfOk result (λ is_new. is_new ≡ not (list_any (bytes_eq name.now) self.old)) }
-        ensures among { OnOk result ((other : List ℕ) → is_among self.new other ≡ (is_among self.old other || bytes_eq other name.now)) }
-        ensures names { IfOk result (λ is_new. self.new ≡ (if is_new then self.old ++ name.now ∷ [] else self.old)) }
+        ensures is_new { IfOk result (λ is_new. is_new
+            ≡ not (list_any (bytes_eq name.now) self.old)) }
+        ensures among { OnOk result ((other : List ℕ)
+            → is_among self.new other ≡ (is_among self.old other || bytes_eq other name.now)) }
+        ensures names { IfOk result (λ is_new. self.new
+            ≡ (if is_new then self.old ++ name.now ∷ [] else self.old)) }
     {
         let copy = Vec::from_slice(self.alloc, name)?;
         let (_place, is_new) = self.names.insert_full(copy)?;
@@ -60,7 +63,8 @@ impl Names {
     /// The place of a name, from 0.
     pub fn place_of(&self, name: &[u8]) -> Option<usize>
         ensures found { IfSome result (λ place. slice_get self.now place ≡ Some name.now) }
-        ensures only { IfSome result (λ place. (other : ℕ) → slice_get self.now other ≡ Some name.now → other ≡ place) }
+        ensures only { IfSome result (λ place. (other : ℕ)
+            → slice_get self.now other ≡ Some name.now → other ≡ place) }
         ensures any { is_some result ≡ list_any (bytes_eq name.now) self.now }
     {
         self.names.get_index_of(name)

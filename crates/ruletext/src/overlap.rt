@@ -94,7 +94,8 @@ fn overlap_of(alloc: Global, class: Class, pairs: &[Pair]) -> Result<Option<Line
 
 fn overlap_in_map(alloc: Global, vmap: &Vmap) -> Result<Option<Line>, AllocError>
     requires { length vmap.now.pairs ≤ limit }
-    ensures { IfOk result (λ line. IsSome line ↔ KeysOverlap (class_of_head vmap.now.head) vmap.now.pairs) }
+    ensures { IfOk result (λ line. IsSome line
+        ↔ KeysOverlap (class_of_head vmap.now.head) vmap.now.pairs) }
 {
     overlap_of(alloc, class_of(vmap.head), vmap.pairs.as_slice())
 }
@@ -123,14 +124,16 @@ fn overlap_in_rules(alloc: Global, rules: &[Rule]) -> Result<Option<Line>, Alloc
 
 fn overlap_in_chain(alloc: Global, chain: &Chain) -> Result<Option<Line>, AllocError>
     requires { AreFew chain.now.rules }
-    ensures { IfOk result (λ line. IsSome line ↔ OfSome (λ rule. EndOverlaps rule.end) chain.now.rules) }
+    ensures { IfOk result (λ line. IsSome line
+        ↔ OfSome (λ rule. EndOverlaps rule.end) chain.now.rules) }
 {
     overlap_in_rules(alloc, chain.rules.as_slice())
 }
 
 fn overlap_in_chains(alloc: Global, chains: &[Chain]) -> Result<Option<Line>, AllocError>
     requires { AreFewIn chains.now }
-    ensures { IfOk result (λ line. IsSome line ↔ OfSome (λ chain. OfSome (λ rule. EndOverlaps rule.end) chain.rules) chains.now) }
+    ensures { IfOk result (λ line. IsSome line
+        ↔ OfSome (λ chain. OfSome (λ rule. EndOverlaps rule.end) chain.rules) chains.now) }
 {
     for chain in chains {
         if let Some(line) = overlap_in_chain(alloc, chain)? {

@@ -49,7 +49,8 @@ fn misled_rule(bounds: &Bounds, what: Translation, rule: &Rule) -> Option<Line>
 }
 
 fn misled_rules(bounds: &Bounds, what: Translation, rules: &[Rule]) -> Option<Line>
-    ensures { is_some result ≡ list_any (λ rule. option_map_or (is_misled bounds.now what) rule.end false) rules.now }
+    ensures { is_some result
+        ≡ list_any (λ rule. option_map_or (is_misled bounds.now what) rule.end false) rules.now }
 {
     for rule in rules {
         if let Some(line) = misled_rule(bounds, what, rule) {
@@ -60,7 +61,10 @@ fn misled_rules(bounds: &Bounds, what: Translation, rules: &[Rule]) -> Option<Li
 }
 
 fn misled_chains(bounds: &Bounds, what: Translation, chains: &[Chain]) -> Option<Line>
-    ensures { is_some result ≡ list_any (λ chain. list_any (λ rule. option_map_or (is_misled bounds.now what) rule.end false) chain.rules) chains.now }
+    ensures { is_some result
+        ≡ list_any
+        (λ chain. list_any (λ rule. option_map_or (is_misled bounds.now what) rule.end false)
+        chain.rules) chains.now }
 {
     for chain in chains {
         if let Some(line) = misled_rules(bounds, what, chain.rules.as_slice()) {

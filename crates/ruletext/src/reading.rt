@@ -21,7 +21,8 @@ use std::alloc::Global;
 /// that it has, as `Kind` orders them. `NoMemory` comes only where a growth was refused.
 pub fn read(alloc: Global, text: &[u8], bounds: &Bounds) -> Result<Ruleset, LoadFault>
     ensures loads { IfOk result (λ rules. Loads bounds.now text.now rules) }
-    ensures only { (rules : Spelled) → Loads bounds.now text.now rules → IsOkOrNoMemory rules result }
+    ensures only { (rules : Spelled) → Loads bounds.now text.now rules
+        → IsOkOrNoMemory rules result }
     ensures refused { IfErr result (λ fault. IsRefused bounds.now text.now fault.kind) }
 {
     match parse(alloc, text) {

@@ -101,7 +101,8 @@ fn is_of_other_class(names: &Names, sets: &[Set], class: Class, name: &[u8]) -> 
 
 fn wrong_name(names: &Names, sets: &[Set], class: Class, set: &SetName) -> Option<Line>
     requires { names.now ≡ set_names sets.now }
-    ensures { is_some result ≡ (same_class class States || has_other_class sets.now class set.now.name) }
+    ensures { is_some result
+        ≡ (same_class class States || has_other_class sets.now class set.now.name) }
 {
     if is_same(class, Class::States) {
         return Some(set.line.copied());
@@ -119,7 +120,9 @@ fn excludes_several_states(class: Class, negated: bool, elements: &[Element]) ->
 }
 
 fn wrong_elements(class: Class, test: &Match, elements: &[Element]) -> Option<Line>
-    ensures { is_some result ≡ (has_stranger class elements.now || (same_class class States && test.now.negated && nat_lt 1 (length elements.now))) }
+    ensures { is_some result
+        ≡ (has_stranger class elements.now || (same_class class States && test.now.negated && nat_lt
+        1 (length elements.now))) }
 {
     if excludes_several_states(class, test.negated, elements) {
         return Some(test.line.copied());
@@ -241,7 +244,8 @@ pub fn wrong_type(alloc: Global, tables: &[Table]) -> Result<Option<Line>, Alloc
     requires sets { HaveDistinctSets tables.now }
     requires chains { AreDistinct tables.now }
     requires flat { AreShallow tables.now }
-    ensures { IfOk result (λ line. IsSome line ↔ OfSome (λ table. HasWrongType table.sets table.chains) tables.now) }
+    ensures { IfOk result (λ line. IsSome line
+        ↔ OfSome (λ table. HasWrongType table.sets table.chains) tables.now) }
 {
     for table in tables {
         if let Some(line) = wrong_in_table(alloc, table)? {

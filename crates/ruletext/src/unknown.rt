@@ -23,7 +23,8 @@ fn lost_verdict(names: &Names, verdict: &Verdict) -> Option<Line>
 }
 
 fn lost_pair(names: &Names, pairs: &[Pair]) -> Option<Line>
-    ensures { is_some result ≡ list_any (λ pair. leads_nowhere (is_among names.now) pair.verdict) pairs.now }
+    ensures { is_some result
+        ≡ list_any (λ pair. leads_nowhere (is_among names.now) pair.verdict) pairs.now }
 {
     for pair in pairs {
         if let Some(line) = lost_verdict(names, &pair.verdict) {
@@ -76,7 +77,8 @@ fn lost_chains(names: &Names, chains: &[Chain]) -> Option<Line>
 
 // The names of the chains without a hook.
 fn plain_names(alloc: Global, chains: &[Chain]) -> Result<Names, AllocError>
-    ensures { IfOk result (λ names. (name : List ℕ) → is_among names name ≡ is_among (chain_names (plain_chains chains.now)) name) }
+    ensures { IfOk result (λ names. (name : List ℕ)
+        → is_among names name ≡ is_among (chain_names (plain_chains chains.now)) name) }
 {
     let mut names = Names::new(alloc);
     for chain in chains {
@@ -86,7 +88,10 @@ fn plain_names(alloc: Global, chains: &[Chain]) -> Result<Names, AllocError>
 }
 
 fn add_plain(names: &mut Names, chain: &Chain) -> Result<(), AllocError>
-    ensures { OnOk result ((name : List ℕ) → is_among names.new name ≡ (is_among names.old name || is_among (chain_names (plain_chains (chain.now ∷ []))) name)) }
+    ensures { OnOk result ((name : List ℕ)
+        → is_among names.new name
+        ≡ (is_among names.old name || is_among
+        (chain_names (plain_chains (chain.now ∷ []))) name)) }
 {
     if chain.base.is_none() {
         names.insert(chain.name.as_slice())?;

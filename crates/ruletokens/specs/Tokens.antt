@@ -153,7 +153,8 @@ kind_of (b ∷ bs) = kind_by (shape_of b) b bs
 
 -- no longer front of the text is anything
 abbrev pub IsLongest : Text → Text → Type 0
-IsLongest front rest = (more behind : Text) → rest ≡ more ++ behind → IsSome (kind_of (front ++ more)) → more ≡ []
+IsLongest front rest = (more behind : Text) → rest ≡ more ++ behind
+    → IsSome (kind_of (front ++ more)) → more ≡ []
 
 -- the text begins with this piece, by longest match
 pub record Begins (text front : Text) (kind : Kind) (rest : Text) : Type 0 where

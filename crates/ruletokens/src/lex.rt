@@ -177,7 +177,8 @@ fn after(bytes: &[u8], wanted: u8) -> Option<&[u8]>
 
 /// A number up to 255 and the dot behind it, and the bytes behind that.
 fn octet(bytes: &[u8]) -> Option<(u64, &[u8])>
-    ensures some { IfSome result (λ x. (octets bytes.now ≡ Some x.0 ∷ octets x.1.now) × (x.0 ≤ 255)) }
+    ensures some { IfSome result (λ x. (octets bytes.now ≡ Some x.0 ∷ octets x.1.now)
+        × (x.0 ≤ 255)) }
     ensures none { IfNone result (Stops (octets bytes.now)) }
 {
     let (part, rest) = run(Class::Part, bytes);
@@ -368,7 +369,8 @@ fn newlines(bytes: &[u8]) -> usize {
 }
 
 fn add(tokens: &mut Items<Token>, token: Option<Token>) -> Result<(), AllocError>
-    ensures { OnOk result ((more : List Token) → tokens.new ++ more ≡ tokens.old ++ with_kind (found_kind token) more) }
+    ensures { OnOk result ((more : List Token)
+        → tokens.new ++ more ≡ tokens.old ++ with_kind (found_kind token) more) }
 {
     if let Some(token) = token {
         tokens.push(token)?;
@@ -405,5 +407,6 @@ pub fn tokens(
 /// A text has one list of tokens, whatever its bytes.
 pub fn one_token_list()
     ensures exists { (text : List ℕ) → (tokens : List Token) × AreTokens tokens text }
-    ensures unique { (text : List ℕ) (a b : List Token) → AreTokens a text → AreTokens b text → a ≡ b }
+    ensures unique { (text : List ℕ) (a b : List Token) → AreTokens a text
+        → AreTokens b text → a ≡ b }
 {}

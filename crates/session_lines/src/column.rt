@@ -45,7 +45,8 @@ fn put_endpoint(out: &mut Vec<u8>, endpoint: Endpoint) -> Result<(), AllocError>
 
 // Appends spaces up to a length.
 fn fill(out: &mut Vec<u8>, end: usize) -> Result<(), AllocError>
-    ensures ok { OnOk result (out.new.items ≡ out.old.items ++ replicate (end - length out.old.items) 32) }
+    ensures ok { OnOk result (out.new.items ≡ out.old.items
+        ++ replicate (end - length out.old.items) 32) }
     ensures err { OnErr result (out.new.items ≡ out.old.items) }
 {
     if out.len() < end {

@@ -15,7 +15,9 @@ endpoint_number e = e.addr * 65536 + e.port
 
 -- protocol, an endpoint and the remote one behind one another, a number of 104 bits
 abbrev pub key_number : Proto → Endpoint → Endpoint → ℕ
-key_number proto near remote = (proto_number proto * 281474976710656 + endpoint_number near) * 281474976710656 + endpoint_number remote
+key_number proto near remote =
+    (proto_number proto * 281474976710656 + endpoint_number near) * 281474976710656
+    + endpoint_number remote
 
 -- the address has 32 bits and the port 16
 abbrev pub IsEndpoint : Endpoint → Type 0
@@ -43,9 +45,12 @@ abbrev pub flow_name : Session → Option ℕ
 flow_name s = cond (is_translated s) None (Some (flow_number s))
 
 -- the entries have the slot of each session that has a name, under that name, and nothing else
-pub record Finds (name : Session → Option ℕ) (held : List (Option Session)) (entries : List Entry) : Type 0 where
-  pub session_of : (key slot : ℕ) → value_at entries key ≡ Some slot → (s : Session) × (slice_index_or held slot None ≡ Some s) × (name s ≡ Some key)
-  pub slot_of : (slot key : ℕ) (s : Session) → slice_index_or held slot None ≡ Some s → name s ≡ Some key → value_at entries key ≡ Some slot
+pub record Finds (name : Session → Option ℕ) (held : List (Option Session))
+    (entries : List Entry) : Type 0 where
+  pub session_of : (key slot : ℕ) → value_at entries key ≡ Some slot
+      → (s : Session) × (slice_index_or held slot None ≡ Some s) × (name s ≡ Some key)
+  pub slot_of : (slot key : ℕ) (s : Session) → slice_index_or held slot None ≡ Some s
+      → name s ≡ Some key → value_at entries key ≡ Some slot
 
 -- the name has this slot now, or none; where there is no name, nothing changes
 abbrev pub PutsName : List Entry → List Entry → Option ℕ → Option ℕ → Type 0

@@ -27,8 +27,10 @@ pub record KeepsIndex (old new : Index) : Type 0 where
 
 -- a translated session goes in, and any other leaves everything
 abbrev pub AddsTo : Translated → Translated → Session → ℕ → Type 0
-AddsTo old new s slot = (is_translated s ≡ true → TakesIn old new s slot) × (is_translated s ≡ false → new ≡ old)
+AddsTo old new s slot = (is_translated s ≡ true → TakesIn old new s slot)
+    × (is_translated s ≡ false → new ≡ old)
 
 -- a translated session that the slot holds goes out, and any other leaves everything
 abbrev pub EndsIn : List (Option Session) → Translated → Translated → Session → ℕ → Type 0
-EndsIn held old new s slot = (is_translated s ≡ true → Once held slot None new) × (is_translated s ≡ false → new ≡ old)
+EndsIn held old new s slot = (is_translated s ≡ true → Once held slot None new)
+    × (is_translated s ≡ false → new ≡ old)

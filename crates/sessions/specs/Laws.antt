@@ -15,14 +15,16 @@ use Rattle.sessions.specs.Stilled.{AreStilled, moved, stilled}
 -- what a table holds has one rising list, its listing
 abbrev pub ListingIsTheSet : Type 0
 ListingIsTheSet = (held : List (Option Session)) → IsSound held
-    → IsSetOf held (listing held) × ((sessions : List Session) → IsSetOf held sessions → sessions ≡ listing held)
+    → IsSetOf held (listing held) × ((sessions : List Session) → IsSetOf held sessions
+    → sessions ≡ listing held)
 
 -- the test of a clash tells exactly which two sessions clash
 abbrev pub ClashesTellsClash : Type 0
 ClashesTellsClash = (s t : Session) → IsTrue (clashes s t) ↔ Clash s t
 
 -- a translated session among these has these two endpoints
-pub record IsMapping (sessions : List Session) (protocol : Proto) (near far : Endpoint) : Type 0 where
+pub record IsMapping (sessions : List Session) (protocol : Proto)
+    (near far : Endpoint) : Type 0 where
   pub session : Session
   pub is_held : In session sessions
   pub translated : session.inside ≢ session.outside
@@ -32,12 +34,16 @@ pub record IsMapping (sessions : List Session) (protocol : Proto) (near far : En
 
 -- the mappings of what a table holds are a one-to-one function, for each protocol
 abbrev pub MappingsAreOneToOne : Type 0
-MappingsAreOneToOne = (held : List (Option Session)) (proto : Proto) (inside inside' outside outside' : Endpoint) → IsSound held
-    → IsMapping (listing held) proto inside outside → IsMapping (listing held) proto inside' outside' → (inside ≡ inside') ↔ (outside ≡ outside')
+MappingsAreOneToOne = (held : List (Option Session)) (proto : Proto)
+    (inside inside' outside outside' : Endpoint) → IsSound held
+    → IsMapping (listing held) proto inside outside
+    → IsMapping (listing held) proto inside' outside' → (inside ≡ inside')
+    ↔ (outside ≡ outside')
 
 -- in a session that was begun anew the side that began it awaits a reply
 abbrev pub RestartedAwaitsReply : Type 0
-RestartedAwaitsReply = (s : Session) (sender : Opener) (last : ℕ) → awaits_reply (restarted s sender last) sender ≡ true
+RestartedAwaitsReply = (s : Session) (sender : Opener) (last : ℕ)
+    → awaits_reply (restarted s sender last) sender ≡ true
 
 -- order, flow, clash, soundness, and what is put in or left out: none looks at when a session's last packet passed
 pub record MomentsDoNotCount : Type 0 where
@@ -46,7 +52,9 @@ pub record MomentsDoNotCount : Type 0 where
   pub clash : (n m : ℕ) (s t : Session) → Clash (moved n s) (moved m t) ↔ Clash s t
   pub parts : (n : ℕ) (test : Session → Bool) → ((s : Session) → test (moved n s) ≡ test s)
       → (ss : List Session) → filter test (map (moved n) ss) ≡ map (moved n) (filter test ss)
-  pub put : (n : ℕ) (t : Session) (ss : List Session) → put (moved n t) (map (moved n) ss) ≡ map (moved n) (put t ss)
+  pub put : (n : ℕ) (t : Session) (ss : List Session)
+      → put (moved n t) (map (moved n) ss) ≡ map (moved n) (put t ss)
   pub rises : (n : ℕ) (ss : List Session) → Rises (map (moved n) ss) ↔ Rises ss
-  pub sound : (config : Config) (n : ℕ) (ss : List Session) → AreSound config (map (moved n) ss) ↔ AreSound config ss
+  pub sound : (config : Config) (n : ℕ) (ss : List Session)
+      → AreSound config (map (moved n) ss) ↔ AreSound config ss
   pub stilled : (n : ℕ) (ss : List Session) → AreStilled ss → map stilled (map (moved n) ss) ≡ ss

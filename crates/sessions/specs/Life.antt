@@ -97,11 +97,13 @@ bit_if mark bit = if mark then bit else 0
 -- the bits that the control bits of a segment show
 abbrev pub shown_flags : Proto → Opener → Flags → ℕ
 shown_flags Udp sender flags = 0
-shown_flags Tcp sender flags = bit_if flags.ack (ack_bit sender) + bit_if flags.fin (fin_bit sender) + bit_if flags.rst reset_bit
+shown_flags Tcp sender flags =
+    bit_if flags.ack (ack_bit sender) + bit_if flags.fin (fin_bit sender) + bit_if flags.rst reset_bit
 
 -- the bits that a packet from this side shows
 abbrev pub shown : Proto → Opener → Opener → Flags → ℕ
-shown proto opener sender flags = bit_if (not (same_side opener sender)) reply_bit + shown_flags proto sender flags
+shown proto opener sender flags =
+    bit_if (not (same_side opener sender)) reply_bit + shown_flags proto sender flags
 
 -- this side began the session, and no reply has come
 abbrev pub awaits_reply : Session → Opener → Bool

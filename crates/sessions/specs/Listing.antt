@@ -53,11 +53,13 @@ pub record IsSetOf (held : List (Option Session)) (sessions : List Session) : Ty
 
 -- whether the session has this protocol, inside and remote endpoint
 unfoldable pub has_inside : Proto → Endpoint → Endpoint → Session → Bool
-has_inside proto inside remote s = same_proto s.proto proto && (same_endpoint s.inside inside && same_endpoint s.remote remote)
+has_inside proto inside remote s =
+    same_proto s.proto proto && (same_endpoint s.inside inside && same_endpoint s.remote remote)
 
 -- whether the session has this protocol, outside and remote endpoint
 unfoldable pub has_outside : Proto → Endpoint → Endpoint → Session → Bool
-has_outside proto outside remote s = same_proto s.proto proto && (same_endpoint s.outside outside && same_endpoint s.remote remote)
+has_outside proto outside remote s =
+    same_proto s.proto proto && (same_endpoint s.outside outside && same_endpoint s.remote remote)
 
 -- whether the session's endpoints differ inside and outside
 abbrev pub is_translated : Session → Bool
@@ -74,7 +76,8 @@ breaks_mapping s t = is_translated s && is_translated t && same_proto s.proto t.
 
 -- whether the two cannot both be held: the test of Clash, as a law says
 unfoldable pub clashes : Session → Session → Bool
-clashes s t = has_inside s.proto s.inside s.remote t || has_outside s.proto s.outside s.remote t || breaks_mapping s t
+clashes s t = has_inside s.proto s.inside s.remote t || has_outside s.proto s.outside s.remote t ||
+    breaks_mapping s t
 
 -- whether the two are of one protocol, inside and remote endpoint
 abbrev pub same_flow : Session → Session → Bool

@@ -41,11 +41,13 @@ HasOutside proto outside remote s = (s.proto ≡ proto) × (s.outside ≡ outsid
 -- both are translated, and their pairs of inside and outside endpoint share one of the two
 abbrev pub BreakMapping : Session → Session → Type 0
 BreakMapping s t = (s.inside ≢ s.outside) × (t.inside ≢ t.outside) × (s.proto ≡ t.proto)
-    × (((s.inside ≡ t.inside) × (s.outside ≢ t.outside)) ⊎ ((s.outside ≡ t.outside) × (s.inside ≢ t.inside)))
+    × (((s.inside ≡ t.inside) × (s.outside ≢ t.outside))
+    ⊎ ((s.outside ≡ t.outside) × (s.inside ≢ t.inside)))
 
 -- the two cannot both be held
 abbrev pub Clash : Session → Session → Type 0
-Clash s t = HasInside s.proto s.inside s.remote t ⊎ HasOutside s.proto s.outside s.remote t ⊎ BreakMapping s t
+Clash s t = HasInside s.proto s.inside s.remote t ⊎ HasOutside s.proto s.outside s.remote t
+    ⊎ BreakMapping s t
 
 -- some session at a place clashes with this one
 pub record AnyClash (places : List (Option Session)) (session : Session) : Type 0 where
@@ -60,7 +62,8 @@ ClashesWith t session = AnyClash t.held session
 
 -- no two sessions that are held clash, there are at most 65,536, and each has seen bits of its protocol
 pub record IsSound (held : List (Option Session)) : Type 0 where
-  pub apart : (i j : ℕ) (s t : Session) → i ≢ j → slice_index_or held i None ≡ Some s → slice_index_or held j None ≡ Some t → ¬ Clash s t
+  pub apart : (i j : ℕ) (s t : Session) → i ≢ j → slice_index_or held i None ≡ Some s
+      → slice_index_or held j None ≡ Some t → ¬ Clash s t
   pub at_most : count_by is_some held ≤ most_sessions
   pub seen : (i : ℕ) (s : Session) → slice_index_or held i None ≡ Some s → IsSeen s.proto s.seen
 

@@ -72,9 +72,11 @@ impl Index {
     /// Puts a session in, which isn't in, and for which there is room.
     pub fn insert(&mut self, session: &Session, slot: usize)
         requires flow { LacksName self.old.flows.held (flow_name session.now) }
-        requires mapping { translates session.now ≡ true → LacksMapping self.old.translated session.now }
+        requires mapping { translates session.now ≡ true
+            → LacksMapping self.old.translated session.now }
         requires room { 0 < room_of self.old }
-        ensures flow { PutsName self.old.flows.held self.new.flows.held (flow_name session.now) (Some slot) }
+        ensures flow { PutsName self.old.flows.held self.new.flows.held (flow_name session.now)
+            (Some slot) }
         ensures taken { AddsTo self.old.translated self.new.translated session.now slot }
         ensures room { room_of self.old ≤ room_of self.new + 1 }
     {
@@ -87,8 +89,10 @@ impl Index {
     pub fn remove(&mut self, sessions: &Slab<Session>, session: &Session, slot: usize)
         requires indexed { IsIndexed sessions.now.slots self.old }
         requires held { slice_index_or sessions.now.slots slot None ≡ Some session.now }
-        ensures flow { PutsName self.old.flows.held self.new.flows.held (flow_name session.now) None }
-        ensures gone { EndsIn sessions.now.slots self.old.translated self.new.translated session.now slot }
+        ensures flow { PutsName self.old.flows.held self.new.flows.held
+            (flow_name session.now) None }
+        ensures gone { EndsIn sessions.now.slots self.old.translated self.new.translated
+            session.now slot }
         ensures room { room_of self.old ≤ room_of self.new }
     {
         take(&mut self.flows, flow_key(session));
@@ -231,7 +235,8 @@ pub fn find_outside(
 ) -> Option<usize>
     requires { IsIndexed sessions.now.slots index.now }
     ensures found { IfSome result (IsAt sessions.now.slots (HasOutside proto outside remote)) }
-    ensures absent { IfNone result (IsNowhere sessions.now.slots (HasOutside proto outside remote)) }
+    ensures absent { IfNone result (IsNowhere sessions.now.slots
+        (HasOutside proto outside remote)) }
 {
     let first = index.translated.first_outside(proto, outside);
     seek_outside(sessions, index, first, proto, outside, remote)
@@ -249,7 +254,8 @@ fn seek_outside(
     requires indexed { IsIndexed sessions.now.slots index.now }
     requires first { first ≡ first_by_outside index.now.translated proto outside }
     ensures found { IfSome result (IsAt sessions.now.slots (HasOutside proto outside remote)) }
-    ensures absent { IfNone result (IsNowhere sessions.now.slots (HasOutside proto outside remote)) }
+    ensures absent { IfNone result (IsNowhere sessions.now.slots
+        (HasOutside proto outside remote)) }
 {
     if let Some(slot) = index
         .translated
@@ -298,8 +304,10 @@ fn breaks_mapping(
     session: &Session,
 ) -> bool
     requires indexed { IsIndexed sessions.now.slots index.now }
-    requires by_inside { by_inside ≡ first_by_inside index.now.translated session.now.proto session.now.inside }
-    requires by_outside { by_outside ≡ first_by_outside index.now.translated session.now.proto session.now.outside }
+    requires by_inside { by_inside
+        ≡ first_by_inside index.now.translated session.now.proto session.now.inside }
+    requires by_outside { by_outside
+        ≡ first_by_outside index.now.translated session.now.proto session.now.outside }
     ensures broken { IsTrue result → AnyClash sessions.now.slots session.now }
     ensures kept { ¬ IsTrue result → IsNowhere sessions.now.slots (BreakMapping session.now) }
 {

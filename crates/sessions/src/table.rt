@@ -147,8 +147,10 @@ impl Table {
 
     /// The slot of the one session of this protocol, inside and remote endpoint, where it is held.
     pub fn by_inside(&self, proto: Proto, inside: Endpoint, remote: Endpoint) -> Option<Slot>
-        ensures found { IfSome result (λ slot. IsSomeAnd (at self.now slot) (HasInside proto inside remote)) }
-        ensures absent { IfNone result ((slot : ℕ) → IfSome (at self.now slot) (λ s. ¬ HasInside proto inside remote s)) }
+        ensures found { IfSome result (λ slot. IsSomeAnd (at self.now slot)
+            (HasInside proto inside remote)) }
+        ensures absent { IfNone result ((slot : ℕ)
+            → IfSome (at self.now slot) (λ s. ¬ HasInside proto inside remote s)) }
     {
         let slot = find_inside(&self.sessions, &self.index, proto, inside, remote)?;
         Some(Slot(slot))
@@ -156,8 +158,10 @@ impl Table {
 
     /// The slot of the one session of this protocol, outside and remote endpoint, where it is held.
     pub fn by_outside(&self, proto: Proto, outside: Endpoint, remote: Endpoint) -> Option<Slot>
-        ensures found { IfSome result (λ slot. IsSomeAnd (at self.now slot) (HasOutside proto outside remote)) }
-        ensures absent { IfNone result ((slot : ℕ) → IfSome (at self.now slot) (λ s. ¬ HasOutside proto outside remote s)) }
+        ensures found { IfSome result (λ slot. IsSomeAnd (at self.now slot)
+            (HasOutside proto outside remote)) }
+        ensures absent { IfNone result ((slot : ℕ)
+            → IfSome (at self.now slot) (λ s. ¬ HasOutside proto outside remote s)) }
     {
         let slot = find_outside(&self.sessions, &self.index, proto, outside, remote)?;
         Some(Slot(slot))
@@ -166,7 +170,8 @@ impl Table {
     /// The slot of the session of this protocol, inside and remote endpoint, where the first look tells it. `None`
     /// says nothing of whether it is held. However many sessions are held, this reads two places of memory.
     pub fn glance_inside(&self, proto: Proto, inside: Endpoint, remote: Endpoint) -> Option<Slot>
-        ensures { IfSome result (λ slot. IsSomeAnd (at self.now slot) (HasInside proto inside remote)) }
+        ensures { IfSome result (λ slot. IsSomeAnd (at self.now slot)
+            (HasInside proto inside remote)) }
     {
         let slot = guess_inside(&self.sessions, &self.index, proto, inside, remote)?;
         Some(Slot(slot))
@@ -174,7 +179,8 @@ impl Table {
 
     /// As `glance_inside`, of the session of this protocol, outside and remote endpoint.
     pub fn glance_outside(&self, proto: Proto, outside: Endpoint, remote: Endpoint) -> Option<Slot>
-        ensures { IfSome result (λ slot. IsSomeAnd (at self.now slot) (HasOutside proto outside remote)) }
+        ensures { IfSome result (λ slot. IsSomeAnd (at self.now slot)
+            (HasOutside proto outside remote)) }
     {
         let slot = guess_outside(&self.sessions, &self.index, proto, outside, remote)?;
         Some(Slot(slot))
@@ -219,7 +225,8 @@ impl Table {
 
         // Each refusal comes exactly where it should, and nothing has changed then.
         ensures clash { result ≡ Err AddFault.Clash ↔ ClashesWith self.old session }
-        ensures full { result ≡ Err AddFault.TableFull ↔ (¬ ClashesWith self.old session × (count self.old ≡ most_sessions)) }
+        ensures full { result ≡ Err AddFault.TableFull
+            ↔ (¬ ClashesWith self.old session × (count self.old ≡ most_sessions)) }
         ensures no_memory { result ≡ Err AddFault.NoMemory → self.old.room ≡ 0 }
         ensures err { OnErr result (self.new.held ≡ self.old.held) }
         ensures err_room { OnErr result (self.old.room ≤ self.new.room) }
@@ -307,7 +314,8 @@ impl Table {
     pub fn see(&mut self, slot: Slot, bits: u8, last: u64)
         requires held { IsSome (at self.old slot) }
         requires bits { IfSome (at self.old slot) (λ s. IsSeen s.proto bits) }
-        ensures updates { Updates self.old self.new slot (option_map (λ s. seen_with s bits last) (at self.old slot)) }
+        ensures updates { Updates self.old self.new slot
+            (option_map (λ s. seen_with s bits last) (at self.old slot)) }
         ensures counted { count self.new ≡ count self.old }
         ensures room { self.new.room ≡ self.old.room }
         ensures slots { self.new.slots ≡ self.old.slots }
@@ -321,7 +329,8 @@ impl Table {
     /// nothing seen.
     pub fn restart(&mut self, slot: Slot, opener: Opener, last: u64)
         requires { IsSome (at self.old slot) }
-        ensures updates { Updates self.old self.new slot (option_map (λ s. restarted s opener last) (at self.old slot)) }
+        ensures updates { Updates self.old self.new slot
+            (option_map (λ s. restarted s opener last) (at self.old slot)) }
         ensures counted { count self.new ≡ count self.old }
         ensures room { self.new.room ≡ self.old.room }
         ensures slots { self.new.slots ≡ self.old.slots }
@@ -340,7 +349,8 @@ impl Table {
     pub fn amend(&mut self, slot: Slot, opener: Opener, seen: u8)
         requires held { IsSome (at self.old slot) }
         requires bits { IfSome (at self.old slot) (λ s. IsSeen s.proto seen) }
-        ensures updates { Updates self.old self.new slot (option_map (λ s. amended s opener seen) (at self.old slot)) }
+        ensures updates { Updates self.old self.new slot
+            (option_map (λ s. amended s opener seen) (at self.old slot)) }
         ensures counted { count self.new ≡ count self.old }
         ensures room { self.new.room ≡ self.old.room }
         ensures slots { self.new.slots ≡ self.old.slots }

@@ -139,7 +139,8 @@ impl Translated {
         requires told { IsTold sessions.now.slots self.now }
         requires first { first ≡ first_by_inside self.now proto inside }
         ensures found { IfSome result (IsAt sessions.now.slots (HasInside proto inside remote)) }
-        ensures absent { IfNone result (IsNowhereTranslated sessions.now.slots (HasInside proto inside remote)) }
+        ensures absent { IfNone result (IsNowhereTranslated sessions.now.slots
+            (HasInside proto inside remote)) }
     {
         let first = first?;
         if is_inside(sessions, first, proto, inside, remote) {
@@ -161,7 +162,8 @@ impl Translated {
         requires told { IsTold sessions.now.slots self.now }
         requires first { first ≡ first_by_outside self.now proto outside }
         ensures found { IfSome result (IsAt sessions.now.slots (HasOutside proto outside remote)) }
-        ensures absent { IfNone result (IsNowhereTranslated sessions.now.slots (HasOutside proto outside remote)) }
+        ensures absent { IfNone result (IsNowhereTranslated sessions.now.slots
+            (HasOutside proto outside remote)) }
     {
         let first = first?;
         if is_outside(sessions, first, proto, outside, remote) {
@@ -232,7 +234,8 @@ impl Translated {
     // The slot of another session of the same mapping than its first.
     fn next(&self, sessions: &Slab<Session>, session: &Session) -> Option<usize>
         requires told { IsTold sessions.now.slots self.now }
-        ensures heir { IfSome result (λ slot. IsAt sessions.now.slots (IsHeir self.now session.now slot) slot) }
+        ensures heir { IfSome result (λ slot. IsAt sessions.now.slots
+            (IsHeir self.now session.now slot) slot) }
         ensures none { IfNone result (HasNoHeir sessions.now.slots self.now session.now) }
     {
         has_endpoints(session);
@@ -257,8 +260,10 @@ impl Translated {
 
     // Takes the mapping of a session out, which has no other.
     fn end_mapping(&mut self, session: &Session)
-        requires { (mapping : ℕ) → at self.old.insides (inside_number session.now) ≡ Some mapping → IsSome (slice_index_or self.old.firsts.slots mapping None) }
-        ensures finishes { (mapping : ℕ) → at self.old.insides (inside_number session.now) ≡ Some mapping → Finishes self.old self.new mapping session.now }
+        requires { (mapping : ℕ) → at self.old.insides (inside_number session.now) ≡ Some mapping
+            → IsSome (slice_index_or self.old.firsts.slots mapping None) }
+        ensures finishes { (mapping : ℕ) → at self.old.insides (inside_number session.now)
+            ≡ Some mapping → Finishes self.old self.new mapping session.now }
         ensures room { room_in self.old ≤ room_in self.new }
     {
         let inside = mapping_key(session.proto, session.inside);
@@ -318,7 +323,8 @@ fn first_from(row: &Rows, from: u128) -> Option<usize>
 
 // Whether the slot holds a session of this protocol and inside endpoint.
 fn is_of(sessions: &Slab<Session>, slot: usize, proto: Proto, inside: Endpoint) -> bool
-    ensures { IsTrue result ↔ IsAt sessions.now.slots (λ s. (s.proto ≡ proto) × (s.inside ≡ inside)) slot }
+    ensures { IsTrue result
+        ↔ IsAt sessions.now.slots (λ s. (s.proto ≡ proto) × (s.inside ≡ inside)) slot }
 {
     match sessions.get(slot) {
         Some(held) => held.proto == proto && held.inside == inside,

@@ -60,7 +60,9 @@ fn beside(one: &Element, next: &Element) -> Join
 
 // Takes the next element in order in, unless the two are apart.
 fn takes_in(last: &mut Element, next: &Element) -> bool
-    ensures { is_before next.now last.old ≡ false → MatchBool result (IsJoined last.old next.now last.new) (IsApart last.old next.now × (last.new ≡ last.old)) }
+    ensures { is_before next.now last.old ≡ false
+        → MatchBool result (IsJoined last.old next.now last.new) (IsApart last.old next.now
+        × (last.new ≡ last.old)) }
 {
     match beside(last, next) {
         Join::Apart => false,
@@ -76,7 +78,8 @@ fn takes_in(last: &mut Element, next: &Element) -> bool
 pub(crate) fn join_touching(elements: &mut Vec<Element>)
     requires { IsSortedBy is_before elements.old.items }
     ensures intervals { AreIntervals elements.new.items }
-    ensures same { (fact : Fact) → IsMember fact elements.new.items ↔ IsMember fact elements.old.items }
+    ensures same { (fact : Fact) → IsMember fact elements.new.items
+        ↔ IsMember fact elements.old.items }
     ensures fewer { length elements.new.items ≤ length elements.old.items }
 {
     elements.dedup_by(|next, last| takes_in(last, next));

@@ -50,8 +50,10 @@ fn probe(element: &Element, value: Value<'_>, steps: &mut Steps) -> Ordering
 /// than their number has binary digits.
 pub(crate) fn search<'a, K: Keyed>(row: &'a [K], value: Value<'_>) -> (Option<&'a K>, Steps)
     requires { AllPairs (λ one next. IsBelow (K.key_of one) (K.key_of next)) row.now }
-    ensures found { IfSome result.0 (λ one. Contains row.now one.now × IsIn (fact_of value.entry) (K.key_of one.now)) }
-    ensures absent { IfNone result.0 (¬ Any (λ one. IsIn (fact_of value.entry) (K.key_of one)) row.now) }
+    ensures found { IfSome result.0 (λ one. Contains row.now one.now
+        × IsIn (fact_of value.entry) (K.key_of one.now)) }
+    ensures absent { IfNone result.0
+        (¬ Any (λ one. IsIn (fact_of value.entry) (K.key_of one)) row.now) }
     ensures probes { (digits : ℕ) → length row.now < 2 ^ digits → result.1 ≤ digits }
 {
     let mut steps = Steps::none();

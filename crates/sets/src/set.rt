@@ -40,7 +40,8 @@ impl Set {
     ///
     /// `Limit` exactly where there are more; no other. The elements are dropped then.
     pub fn union_of(mut elements: Vec<Element>) -> Result<Set, SetFault>
-        ensures ok { IfOk result (λ set. (fact : Fact) → IsMember fact set ↔ IsMember fact elements.items) }
+        ensures ok { IfOk result (λ set. (fact : Fact) → IsMember fact set
+            ↔ IsMember fact elements.items) }
         ensures intervals { IfOk result AreIntervals }
         ensures fewer { IfOk result (λ set. length set ≤ length elements.items) }
         ensures limit { (result ≡ Err SetFault.Limit) ↔ (limit < length elements.items) }

@@ -43,10 +43,12 @@ impl<V: Drop> Vmap<V> {
     /// `Limit` exactly where there are more; otherwise `Overlap` exactly where two keys share a value; no
     /// other. The pairs are dropped then.
     pub fn of(mut pairs: Vec<Pair<V>>) -> Result<Vmap<V>, SetFault>
-        ensures ok { IfOk result (λ vmap. (fact : Fact) (verdict : V) → MapsTo fact verdict vmap ↔ MapsTo fact verdict pairs.items) }
+        ensures ok { IfOk result (λ vmap. (fact : Fact) (verdict : V)
+            → MapsTo fact verdict vmap ↔ MapsTo fact verdict pairs.items) }
         ensures apart { OnOk result (¬ Overlaps pairs.items) }
         ensures limit { (result ≡ Err SetFault.Limit) ↔ (limit < length pairs.items) }
-        ensures overlap { (result ≡ Err SetFault.Overlap) ↔ ((length pairs.items ≤ limit) × Overlaps pairs.items) }
+        ensures overlap { (result ≡ Err SetFault.Overlap)
+            ↔ ((length pairs.items ≤ limit) × Overlaps pairs.items) }
         ensures no_memory { result ≢ Err SetFault.NoMemory }
     {
         if pairs.len() > LIMIT {
@@ -61,8 +63,10 @@ impl<V: Drop> Vmap<V> {
 
     /// The verdict of the one key in which the value lies, if there is one. Takes no memory.
     pub fn look_up(&self, value: Value<'_>) -> Option<&V>
-        ensures found { IfSome result (λ verdict. (other : V) → MapsTo (fact_of value.entry) other self.now ↔ (other ≡ verdict.now)) }
-        ensures absent { IfNone result ((verdict : V) → ¬ MapsTo (fact_of value.entry) verdict self.now) }
+        ensures found { IfSome result (λ verdict. (other : V)
+            → MapsTo (fact_of value.entry) other self.now ↔ (other ≡ verdict.now)) }
+        ensures absent { IfNone result ((verdict : V)
+            → ¬ MapsTo (fact_of value.entry) verdict self.now) }
     {
         self.look_up_counted(value).0
     }
@@ -70,8 +74,10 @@ impl<V: Drop> Vmap<V> {
     /// The verdict of the one key in which the value lies, if there is one, and with how many probes it was
     /// found. A probe is one key compared with the value. Takes no memory.
     pub fn look_up_counted(&self, value: Value<'_>) -> (Option<&V>, Steps)
-        ensures found { IfSome result.0 (λ verdict. (other : V) → MapsTo (fact_of value.entry) other self.now ↔ (other ≡ verdict.now)) }
-        ensures absent { IfNone result.0 ((verdict : V) → ¬ MapsTo (fact_of value.entry) verdict self.now) }
+        ensures found { IfSome result.0 (λ verdict. (other : V)
+            → MapsTo (fact_of value.entry) other self.now ↔ (other ≡ verdict.now)) }
+        ensures absent { IfNone result.0 ((verdict : V)
+            → ¬ MapsTo (fact_of value.entry) verdict self.now) }
         ensures probes { (digits : ℕ) → length self.now < 2 ^ digits → result.1 ≤ digits }
     {
         let (found, steps) = search(&self.pairs, value);

@@ -37,8 +37,10 @@ pub(crate) struct Ready {
 fn settle<D: Disk>(disk: &mut D) -> Result<(), DiskFault>
     ensures honest { D.honest disk.old ↔ D.honest disk.new }
     ensures leaves { D.honest disk.old → Leaves D.moment D.left disk.old disk.new Same }
-    ensures looks { D.honest disk.old → OnOk result (Looks D.moment D.left D.seen disk.old disk.new) }
-    ensures synced { D.honest disk.old → OnOk result ((file : FileId) → Synced D.moment D.left D.seen disk.new file) }
+    ensures looks { D.honest disk.old
+        → OnOk result (Looks D.moment D.left D.seen disk.old disk.new) }
+    ensures synced { D.honest disk.old → OnOk result ((file : FileId)
+        → Synced D.moment D.left D.seen disk.new file) }
     ensures cause { HasCause (D.failed disk.old) (D.failed disk.new) result }
 {
     disk.sync(FileId::A)?;
@@ -53,7 +55,8 @@ fn contents<D: Disk>(alloc: Global, disk: &mut D, file: FileId) -> Result<Vec<u8
     ensures looks { D.honest disk.old → Looks D.moment D.left D.seen disk.old disk.new }
     ensures failures { D.failed disk.old ≤ D.failed disk.new }
     ensures no_failure { OnOk result (D.failed disk.new ≡ D.failed disk.old) }
-    ensures device { IsErrOf result OpenFault.Device → Grew (D.failed disk.old) (D.failed disk.new) }
+    ensures device { IsErrOf result OpenFault.Device
+        → Grew (D.failed disk.old) (D.failed disk.new) }
     ensures damaged { IsErrOf result OpenFault.Damaged → ⊥ }
     ensures differs { IsErrOf result OpenFault.ConfigDiffers → ⊥ }
 {
@@ -68,13 +71,15 @@ fn look<D: Disk>(alloc: Global, disk: &mut D) -> Result<(Vec<u8>, Vec<u8>), Open
     ensures honest { D.honest disk.old ↔ D.honest disk.new }
     ensures ok { D.honest disk.old → IfOk result (λ read. (read.0.items ≡ D.seen disk.old A)
         × (read.1.items ≡ D.seen disk.old B)) }
-    ensures synced { D.honest disk.old → OnOk result ((file : FileId) → Synced D.moment D.left D.seen disk.new file) }
+    ensures synced { D.honest disk.old → OnOk result ((file : FileId)
+        → Synced D.moment D.left D.seen disk.new file) }
     ensures leaves { D.honest disk.old → Leaves D.moment D.left disk.old disk.new Same }
     ensures looks { D.honest disk.old → ¬ IsErrOf result OpenFault.Device
         → Looks D.moment D.left D.seen disk.old disk.new }
     ensures failures { D.failed disk.old ≤ D.failed disk.new }
     ensures no_failure { OnOk result (D.failed disk.new ≡ D.failed disk.old) }
-    ensures device { IsErrOf result OpenFault.Device → Grew (D.failed disk.old) (D.failed disk.new) }
+    ensures device { IsErrOf result OpenFault.Device
+        → Grew (D.failed disk.old) (D.failed disk.new) }
     ensures damaged { IsErrOf result OpenFault.Damaged → ⊥ }
     ensures differs { IsErrOf result OpenFault.ConfigDiffers → ⊥ }
 {
@@ -107,9 +112,11 @@ fn keep(alloc: Global, found: Recovered<'_>) -> Result<Ready, OpenFault>
 fn judge(alloc: Global, a: &[u8], b: &[u8], bounds: &Bounds) -> Result<Option<Ready>, OpenFault>
     ensures ok { IfOk result (λ found. IsJudged bounds.now (pair a.now b.now) found) }
     ensures bounds { IfOk result (λ found. IfSome found (λ r. r.bounds ≡ bounds.now)) }
-    ensures damaged { IsErrOf result OpenFault.Damaged → (d : Durable) → ¬ Recovers (pair a.now b.now) d }
+    ensures damaged { IsErrOf result OpenFault.Damaged → (d : Durable)
+        → ¬ Recovers (pair a.now b.now) d }
     ensures differs { IsErrOf result OpenFault.ConfigDiffers
-        → (d : Durable) × Recovers (pair a.now b.now) d × ¬ IsConfigured bounds.now (pair a.now b.now) }
+        → (d : Durable) × Recovers (pair a.now b.now) d
+        × ¬ IsConfigured bounds.now (pair a.now b.now) }
     ensures device { IsErrOf result OpenFault.Device → ⊥ }
 {
     match recover(alloc, a, b) {
@@ -129,21 +136,26 @@ fn judge(alloc: Global, a: &[u8], b: &[u8], bounds: &Bounds) -> Result<Option<Re
 // Makes file A, where no file is open: it holds no text and no session.
 fn begin<D: Disk>(alloc: Global, disk: &mut D, bounds: &Bounds) -> Result<Ready, OpenFault>
     requires none { D.honest disk.old → NoneOpen (D.seen disk.old) }
-    requires synced { D.honest disk.old → (file : FileId) → Synced D.moment D.left D.seen disk.old file }
+    requires synced { D.honest disk.old → (file : FileId)
+        → Synced D.moment D.left D.seen disk.old file }
     ensures honest { D.honest disk.old ↔ D.honest disk.new }
     ensures any_moment { D.honest disk.old
         → LeavesOnly D.moment D.left disk.old disk.new (λ files. Recovers files empty) }
-    ensures configured { D.honest disk.old → LeavesOnly D.moment D.left disk.old disk.new (IsConfigured bounds.now) }
+    ensures configured { D.honest disk.old
+        → LeavesOnly D.moment D.left disk.old disk.new (IsConfigured bounds.now) }
     ensures ok { D.honest disk.old → IfOk result (λ r. IsReady bounds.now (D.seen disk.new) r) }
-    ensures synced { D.honest disk.old → OnOk result ((file : FileId) → Synced D.moment D.left D.seen disk.new file) }
-    ensures fresh { D.honest disk.old → OnOk result (IsFirst bounds.now (D.seen disk.old) (D.seen disk.new)) }
+    ensures synced { D.honest disk.old → OnOk result ((file : FileId)
+        → Synced D.moment D.left D.seen disk.new file) }
+    ensures fresh { D.honest disk.old
+        → OnOk result (IsFirst bounds.now (D.seen disk.old) (D.seen disk.new)) }
     ensures first { IfOk result (λ r. r.generation ≡ 1) }
     ensures empty { IfOk result (λ r. state_of r ≡ empty) }
     ensures bounds { IfOk result (λ r. r.bounds ≡ bounds.now) }
     ensures stays { ¬ IsErrOf result OpenFault.Device → OnErr result (disk.new ≡ disk.old) }
     ensures failures { D.failed disk.old ≤ D.failed disk.new }
     ensures no_failure { OnOk result (D.failed disk.new ≡ D.failed disk.old) }
-    ensures device { IsErrOf result OpenFault.Device → Grew (D.failed disk.old) (D.failed disk.new) }
+    ensures device { IsErrOf result OpenFault.Device
+        → Grew (D.failed disk.old) (D.failed disk.new) }
     ensures damaged { IsErrOf result OpenFault.Damaged → ⊥ }
     ensures differs { IsErrOf result OpenFault.ConfigDiffers → ⊥ }
 {
@@ -178,28 +190,34 @@ pub(crate) fn make_ready<D: Disk>(
 ) -> Result<Ready, OpenFault>
     ensures honest { D.honest disk.old ↔ D.honest disk.new }
     ensures any_moment { D.honest disk.old → Leaves D.moment D.left disk.old disk.new Alike }
-    ensures configured { D.honest disk.old → LeavesNow D.moment D.left disk.old (IsConfigured bounds.now)
+    ensures configured { D.honest disk.old
+        → LeavesNow D.moment D.left disk.old (IsConfigured bounds.now)
         → LeavesOnly D.moment D.left disk.old disk.new (IsConfigured bounds.now) }
     ensures ok { D.honest disk.old → IfOk result (λ r. IsReady bounds.now (D.seen disk.new) r) }
-    ensures recovers { D.honest disk.old → IfOk result (λ r. Recovers (D.seen disk.old) (state_of r)) }
+    ensures recovers { D.honest disk.old
+        → IfOk result (λ r. Recovers (D.seen disk.old) (state_of r)) }
     ensures sound { IfOk result (λ r. IsDurable bounds.now (state_of r)) }
     ensures taken { D.honest disk.old → OnOk result (IsConfigured bounds.now (D.seen disk.old)) }
     ensures fresh { D.honest disk.old → NoneOpen (D.seen disk.old)
         → OnOk result (IsFirst bounds.now (D.seen disk.old) (D.seen disk.new)) }
-    ensures first { D.honest disk.old → NoneOpen (D.seen disk.old) → IfOk result (λ r. r.generation ≡ 1) }
+    ensures first { D.honest disk.old → NoneOpen (D.seen disk.old)
+        → IfOk result (λ r. r.generation ≡ 1) }
     ensures only_looks { D.honest disk.old → ¬ NoneOpen (D.seen disk.old)
         → OnOk result (Looks D.moment D.left D.seen disk.old disk.new) }
-    ensures synced { D.honest disk.old → OnOk result ((file : FileId) → Synced D.moment D.left D.seen disk.new file) }
+    ensures synced { D.honest disk.old → OnOk result ((file : FileId)
+        → Synced D.moment D.left D.seen disk.new file) }
     ensures bounds { IfOk result (λ r. r.bounds ≡ bounds.now) }
     ensures damaged { D.honest disk.old → IsErrOf result OpenFault.Damaged → (d : Durable)
         → ¬ Recovers (D.seen disk.old) d }
     ensures differs { D.honest disk.old → IsErrOf result OpenFault.ConfigDiffers
-        → (d : Durable) × Recovers (D.seen disk.old) d × ¬ IsConfigured bounds.now (D.seen disk.old) }
+        → (d : Durable) × Recovers (D.seen disk.old) d
+        × ¬ IsConfigured bounds.now (D.seen disk.old) }
     ensures looks { D.honest disk.old → ¬ IsErrOf result OpenFault.Device
         → OnErr result (Looks D.moment D.left D.seen disk.old disk.new) }
     ensures failures { D.failed disk.old ≤ D.failed disk.new }
     ensures no_failure { OnOk result (D.failed disk.new ≡ D.failed disk.old) }
-    ensures device { IsErrOf result OpenFault.Device → Grew (D.failed disk.old) (D.failed disk.new) }
+    ensures device { IsErrOf result OpenFault.Device
+        → Grew (D.failed disk.old) (D.failed disk.new) }
 {
     let (a, b) = look(alloc, disk)?;
     match judge(alloc, &a, &b, bounds)? {

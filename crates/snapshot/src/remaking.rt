@@ -24,12 +24,16 @@ pub(crate) fn beside(file: FileId) -> FileId
 /// `DiskFault` where one of them fails, which is the last one made.
 pub(crate) fn remake<D: Disk>(disk: &mut D, file: FileId, bytes: &[u8]) -> Result<(), DiskFault>
     ensures honest { D.honest disk.old ↔ D.honest disk.new }
-    ensures any_moment { D.honest disk.old → Leaves D.moment D.left disk.old disk.new (Remade file bytes.now) }
-    ensures fresh { D.honest disk.old → OnOk result (take (1 + length bytes.now) (D.seen disk.new file)
+    ensures any_moment { D.honest disk.old
+        → Leaves D.moment D.left disk.old disk.new (Remade file bytes.now) }
+    ensures fresh { D.honest disk.old
+        → OnOk result (take (1 + length bytes.now) (D.seen disk.new file)
         ≡ 1 ∷ bytes.now) }
     ensures synced { D.honest disk.old → OnOk result (Synced D.moment D.left D.seen disk.new file) }
-    ensures elsewhere { D.honest disk.old → OnOk result (Elsewhere file (D.seen disk.old) (D.seen disk.new)) }
-    ensures called { D.honest disk.old → OnOk result (Called 6 (D.called disk.old) (D.called disk.new)) }
+    ensures elsewhere { D.honest disk.old
+        → OnOk result (Elsewhere file (D.seen disk.old) (D.seen disk.new)) }
+    ensures called { D.honest disk.old
+        → OnOk result (Called 6 (D.called disk.old) (D.called disk.new)) }
     ensures cause { HasCause (D.failed disk.old) (D.failed disk.new) result }
 {
     write_synced(disk, file, 0, &[0])?;

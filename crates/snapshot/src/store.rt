@@ -50,14 +50,15 @@ impl<D: Disk + Drop> Model for Store<D> {
       end = s.end;
     } };
 
-    ghost invariant = { λ s. s.fallen ≡ false → D.honest s.disk → (d : Durable) × (rests : Rests D.moment D.left D.seen (record {
-      disk = s.disk;
-      fallen = s.fallen;
-      config = s.bounds;
-      generation = s.generation;
-      grown = s.end - s.start;
-      end = s.end;
-    }) s.active d) × (s.start ≡ behind rests.heading) };
+    ghost invariant = { λ s. s.fallen ≡ false → D.honest s.disk
+        → (d : Durable) × (rests : Rests D.moment D.left D.seen (record {
+          disk = s.disk;
+          fallen = s.fallen;
+          config = s.bounds;
+          generation = s.generation;
+          grown = s.end - s.start;
+          end = s.end;
+        }) s.active d) × (s.start ≡ behind rests.heading) };
 }
 
 /// A store, and the state that its files held.
@@ -89,26 +90,32 @@ impl<D: Disk + Drop> Store<D> {
             (λ e. D.honest disk ↔ D.honest e.0) }
 
         // Whatever a crash leaves since the entry stands for what some pair left at the entry stands for.
-        ensures any_moment { D.honest disk → MatchResult result (λ o. Leaves D.moment D.left disk o.store.disk Alike)
+        ensures any_moment { D.honest disk
+            → MatchResult result (λ o. Leaves D.moment D.left disk o.store.disk Alike)
             (λ e. Leaves D.moment D.left disk e.0 Alike) }
 
         // Where each pair left at the entry has this configuration in its active file, if it has one, so has each
         // since.
-        ensures configured { D.honest disk → LeavesNow D.moment D.left disk (IsConfigured bounds.now)
-            → MatchResult result (λ o. LeavesOnly D.moment D.left disk o.store.disk (IsConfigured bounds.now))
+        ensures configured { D.honest disk
+            → LeavesNow D.moment D.left disk (IsConfigured bounds.now)
+            → MatchResult result
+            (λ o. LeavesOnly D.moment D.left disk o.store.disk (IsConfigured bounds.now))
             (λ e. LeavesOnly D.moment D.left disk e.0 (IsConfigured bounds.now)) }
 
         // It is kept what the files stood for as they read, and that is what is answered.
-        ensures ok { D.honest disk → IfOk result (λ o. Recovers (D.seen disk) (durable o.text.items o.sessions.items)
+        ensures ok { D.honest disk
+            → IfOk result (λ o. Recovers (D.seen disk) (durable o.text.items o.sessions.items)
             × Keeps D.moment D.left D.seen o.store (durable o.text.items o.sessions.items)) }
         // Over any disk it is a state that a gateway with these bounds may have.
-        ensures sound { IfOk result (λ o. IsDurable bounds.now (durable o.text.items o.sessions.items)) }
+        ensures sound { IfOk result (λ o. IsDurable bounds.now
+            (durable o.text.items o.sessions.items)) }
         ensures taken { D.honest disk → OnOk result (IsConfigured bounds.now (D.seen disk)) }
 
         // Where no file is open, file A is made, of the first generation; else the files aren't changed.
         ensures fresh { D.honest disk → NoneOpen (D.seen disk)
             → IfOk result (λ o. IsFirst bounds.now (D.seen disk) (D.seen o.store.disk)) }
-        ensures first { D.honest disk → NoneOpen (D.seen disk) → IfOk result (λ o. o.store.generation ≡ 1) }
+        ensures first { D.honest disk → NoneOpen (D.seen disk)
+            → IfOk result (λ o. o.store.generation ≡ 1) }
         ensures only_looks { D.honest disk → ¬ NoneOpen (D.seen disk)
             → IfOk result (λ o. Looks D.moment D.left D.seen disk o.store.disk) }
         ensures stands { IfOk result (λ o. o.store.fallen ≡ false) }
@@ -121,7 +128,8 @@ impl<D: Disk + Drop> Store<D> {
             → Looks D.moment D.left D.seen disk e.0) }
         ensures failures { MatchResult result (λ o. D.failed o.store.disk ≡ D.failed disk)
             (λ e. D.failed disk ≤ D.failed e.0) }
-        ensures device { IfErr result (λ e. e.1 ≡ OpenFault.Device → Grew (D.failed disk) (D.failed e.0)) }
+        ensures device { IfErr result (λ e. e.1 ≡ OpenFault.Device
+            → Grew (D.failed disk) (D.failed e.0)) }
     {
         let mut disk = disk;
         match make_ready(alloc, &mut disk, bounds) {
@@ -205,15 +213,18 @@ impl<D: Disk + Drop> Store<D> {
     /// - `Device` where a call of the disk has failed. The store has fallen.
     pub fn commit(&mut self, group: &Group) -> Result<(), CommitFault>
         requires stands { self.old.fallen ≡ false }
-        requires fits { D.honest self.old.disk → Fits self.old.config (D.seen self.old.disk) group.now.body }
+        requires fits { D.honest self.old.disk
+            → Fits self.old.config (D.seen self.old.disk) group.now.body }
         ensures honest { D.honest self.old.disk ↔ D.honest self.new.disk }
 
         // A crash at any moment leaves the state from before, or the one with the group.
-        ensures any_moment { D.honest self.old.disk → (d e : Durable) → Recovers (D.seen self.old.disk) d
+        ensures any_moment { D.honest self.old.disk → (d e : Durable)
+            → Recovers (D.seen self.old.disk) d
             → BodyEnters self.old.config group.now.body d e
             → LeavesOnly D.moment D.left self.old.disk self.new.disk (RecoversEither d e) }
         ensures configured { D.honest self.old.disk
-            → LeavesOnly D.moment D.left self.old.disk self.new.disk (IsConfigured self.old.config) }
+            → LeavesOnly D.moment D.left self.old.disk self.new.disk
+            (IsConfigured self.old.config) }
 
         // After Ok it is kept.
         ensures ok { D.honest self.old.disk → (d e : Durable) → Recovers (D.seen self.old.disk) d
@@ -221,17 +232,20 @@ impl<D: Disk + Drop> Store<D> {
             → OnOk result (Keeps D.moment D.left D.seen self.new e) }
         ensures config { self.new.config ≡ self.old.config }
         ensures generation { self.new.generation ≡ self.old.generation }
-        ensures end { D.honest self.old.disk → OnOk result (self.new.end ≡ self.old.end + length group.now.body + 5) }
+        ensures end { D.honest self.old.disk
+            → OnOk result (self.new.end ≡ self.old.end + length group.now.body + 5) }
         ensures grown { D.honest self.old.disk
             → OnOk result (self.new.grown ≡ self.old.grown + length group.now.body + 5) }
-        ensures full { IsErrOf result CommitFault.Full ↔ 67108864 < self.old.end + length group.now.body + 6 }
+        ensures full { IsErrOf result CommitFault.Full
+            ↔ 67108864 < self.old.end + length group.now.body + 6 }
         ensures full_stays { IsErrOf result CommitFault.Full → self.new ≡ self.old }
         ensures fell { IsErrOf result CommitFault.Device ↔ self.new.fallen ≡ true }
         ensures called { D.honest self.old.disk
             → OnOk result (Called 4 (D.called self.old.disk) (D.called self.new.disk)) }
         ensures failures { D.failed self.old.disk ≤ D.failed self.new.disk }
         ensures no_failure { OnOk result (D.failed self.new.disk ≡ D.failed self.old.disk) }
-        ensures device { IsErrOf result CommitFault.Device → Grew (D.failed self.old.disk) (D.failed self.new.disk) }
+        ensures device { IsErrOf result CommitFault.Device
+            → Grew (D.failed self.old.disk) (D.failed self.new.disk) }
     {
         match append(&mut self.disk, self.active, self.end, group) {
             Ok(next) => {
@@ -263,7 +277,8 @@ impl<D: Disk + Drop> Store<D> {
         sessions: &[Session],
     ) -> Result<(), CompactFault>
         requires stands { self.old.fallen ≡ false }
-        requires durable { D.honest self.old.disk → Recovers (D.seen self.old.disk) (durable text.now sessions.now) }
+        requires durable { D.honest self.old.disk
+            → Recovers (D.seen self.old.disk) (durable text.now sessions.now) }
         requires text { length text.now ≤ 262144 }
         requires count { length sessions.now ≤ 65536 }
         ensures honest { D.honest self.old.disk ↔ D.honest self.new.disk }
@@ -273,7 +288,8 @@ impl<D: Disk + Drop> Store<D> {
             → LeavesOnly D.moment D.left self.old.disk self.new.disk
             (λ files. Recovers files (durable text.now sessions.now)) }
         ensures configured { D.honest self.old.disk
-            → LeavesOnly D.moment D.left self.old.disk self.new.disk (IsConfigured self.old.config) }
+            → LeavesOnly D.moment D.left self.old.disk self.new.disk
+            (IsConfigured self.old.config) }
 
         // After Ok it is kept.
         ensures ok { D.honest self.old.disk
@@ -287,7 +303,8 @@ impl<D: Disk + Drop> Store<D> {
 
         // A snapshot of the greatest text, and as many sessions as there may be, ends there.
         ensures small { OnOk result (self.new.end ≤ 1638538) }
-        ensures generations { IsErrOf result CompactFault.Generations ↔ self.old.generation ≡ 2 ^ 64 - 1 }
+        ensures generations { IsErrOf result CompactFault.Generations
+            ↔ self.old.generation ≡ 2 ^ 64 - 1 }
         ensures generations_stay { IsErrOf result CompactFault.Generations → self.new ≡ self.old }
         ensures memory_stays { IsErrOf result CompactFault.NoMemory → self.new ≡ self.old }
         ensures fell { IsErrOf result CompactFault.Device ↔ self.new.fallen ≡ true }
@@ -295,7 +312,8 @@ impl<D: Disk + Drop> Store<D> {
             → OnOk result (Called 6 (D.called self.old.disk) (D.called self.new.disk)) }
         ensures failures { D.failed self.old.disk ≤ D.failed self.new.disk }
         ensures no_failure { OnOk result (D.failed self.new.disk ≡ D.failed self.old.disk) }
-        ensures device { IsErrOf result CompactFault.Device → Grew (D.failed self.old.disk) (D.failed self.new.disk) }
+        ensures device { IsErrOf result CompactFault.Device
+            → Grew (D.failed self.old.disk) (D.failed self.new.disk) }
     {
         if self.generation == u64::MAX {
             return Err(CompactFault::Generations);

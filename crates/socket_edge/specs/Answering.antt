@@ -33,7 +33,8 @@ answer_body answer.Ticked = []
 
 -- the frame of an event's number and answer: kind, number, length of the body, body
 unfoldable pub frame : ℕ × Answer → List ℕ
-frame p = kind_byte p.1 ∷ big_bytes 8 p.0 ++ big_bytes 4 (length (answer_body p.1)) ++ answer_body p.1
+frame p =
+    kind_byte p.1 ∷ big_bytes 8 p.0 ++ big_bytes 4 (length (answer_body p.1)) ++ answer_body p.1
 
 abbrev pub frames : List (ℕ × Answer) → List ℕ
 frames answers = flat_map frame answers

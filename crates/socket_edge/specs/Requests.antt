@@ -41,7 +41,8 @@ head_with (Ok k) len moment = if nat_lt (longest k) len then head.Bad TooLong el
 -- the header at the front, tested once its 14 bytes are there; numbers stand with the highest byte first
 unfoldable pub head_of : List ℕ → Head
 head_of bytes = if nat_lt (length bytes) 14 then head.Cut
-    else head_with (announced (slice_index bytes 0) (slice_index bytes 1)) (big_number 4 (drop 2 bytes)) (big_number 8 (drop 6 bytes))
+    else head_with (announced (slice_index bytes 0) (slice_index bytes 1))
+    (big_number 4 (drop 2 bytes)) (big_number 8 (drop 6 bytes))
 
 abbrev pub what_of : Kind → List ℕ → What
 what_of (kind.Packet iface) body = what.Packet iface body
@@ -58,7 +59,10 @@ abbrev pub with_body : Head → List ℕ → Next
 with_body head.Cut bytes = Cut
 with_body (head.Bad fault) bytes = Bad fault
 with_body (head.Frame k moment len) bytes = if nat_lt (length bytes) (14 + len) then Cut
-    else Whole (record { moment = moment; what = what_of k (take len (drop 14 bytes)) }) (drop (14 + len) bytes)
+    else Whole (record {
+      moment = moment;
+      what = what_of k (take len (drop 14 bytes));
+    }) (drop (14 + len) bytes)
 
 unfoldable pub next : List ℕ → Next
 next bytes = with_body (head_of bytes) bytes
@@ -67,4 +71,5 @@ next bytes = with_body (head_of bytes) bytes
 abbrev pub TakesNext : Taken → List ℕ → Type 0
 TakesNext taken.Cut bytes = next bytes ≡ Cut
 TakesNext (taken.Bad fault) bytes = next bytes ≡ Bad fault
-TakesNext (taken.Whole event n) bytes = (next bytes ≡ Whole event (drop n bytes)) × (14 ≤ n) × (n ≤ length bytes)
+TakesNext (taken.Whole event n) bytes = (next bytes ≡ Whole event (drop n bytes)) × (14 ≤ n)
+    × (n ≤ length bytes)

@@ -32,13 +32,19 @@ pub record Answered (old new : Told) (bytes sent : List ℕ) : Type 0 where
 
 -- what a fault says of the bytes that were read and sent
 abbrev pub Ends : EdgeFault → Told → Told → List ℕ → List ℕ → Type 0 → Type 0
-Ends BadKind old new bytes sent at_end = ((whole_frames bytes).remainder ≡ Fault header.BadKind) × Answered old new bytes sent
-Ends BadInterface old new bytes sent at_end = ((whole_frames bytes).remainder ≡ Fault header.BadInterface) × Answered old new bytes sent
-Ends TooLong old new bytes sent at_end = ((whole_frames bytes).remainder ≡ Fault header.TooLong) × Answered old new bytes sent
-Ends Truncated old new bytes sent at_end = (rest : List ℕ) × ((whole_frames bytes).remainder ≡ Rest rest) × (rest ≢ []) × Answered old new bytes sent × at_end
+Ends BadKind old new bytes sent at_end = ((whole_frames bytes).remainder ≡ Fault header.BadKind)
+    × Answered old new bytes sent
+Ends BadInterface old new bytes sent at_end =
+    ((whole_frames bytes).remainder ≡ Fault header.BadInterface) × Answered old new bytes sent
+Ends TooLong old new bytes sent at_end = ((whole_frames bytes).remainder ≡ Fault header.TooLong)
+    × Answered old new bytes sent
+Ends Truncated old new bytes sent at_end = (rest : List ℕ)
+    × ((whole_frames bytes).remainder ≡ Rest rest) × (rest ≢ [])
+    × Answered old new bytes sent × at_end
 Ends Input old new bytes sent at_end = Answered old new bytes sent
 Ends Output old new bytes sent at_end = BeginsFrames old new (whole_frames bytes).events sent
-Ends (Gateway fault) old new bytes sent at_end = AnsweredFirst old new (whole_frames bytes).events sent
+Ends (Gateway fault) old new bytes sent at_end =
+    AnsweredFirst old new (whole_frames bytes).events sent
 
 -- all was read and answered, and it was whole frames
 pub record Done (count : ℕ) (old new : Told) (bytes sent : List ℕ) (at_end : Type 0) : Type 0 where
@@ -56,7 +62,8 @@ Ran (Err fault) old new bytes sent at_end = Ends fault old new bytes sent at_end
 abbrev pub events_in : List ℕ → List Event
 events_in bytes = (whole_frames bytes).events
 
-module _ {D : Type 0} (honest : D → Type 0) (moment : D → ℕ) (left : D → ℕ → Files → Type 0) (old new : Kept D) where
+module _ {D : Type 0} (honest : D → Type 0) (moment : D → ℕ) (left : D → ℕ → Files → Type 0)
+    (old new : Kept D) where
   -- Of an honest disk, where nothing was held at the entry. The first of the events were taken, and a beginning of their
   -- answers' frames was sent.
   pub record Outlives (events : List Event) (sent : List ℕ) : Type 0 where
@@ -69,15 +76,18 @@ module _ {D : Type 0} (honest : D → Type 0) (moment : D → ℕ) (left : D →
     pub unsent : List ℕ
     pub begins : sent ++ unsent ≡ frames (replies old.told judged)
     -- A crash at any moment since the entry leaves what the model has after a beginning of them.
-    pub any_moment : LeavesOnly moment left old.disk new.disk (IsSafe old.told.config old.told.state front 0)
+    pub any_moment : LeavesOnly moment left old.disk new.disk
+        (IsSafe old.told.config old.told.state front 0)
     -- A crash now leaves what it has after one that holds each event whose frame lies whole in what was sent.
-    pub at_exit : (n : ℕ) → n ≤ length front → length (frames (take n (replies old.told judged))) ≤ length sent
+    pub at_exit : (n : ℕ) → n ≤ length front
+        → length (frames (take n (replies old.told judged))) ≤ length sent
         → LeavesNow moment left new.disk (IsSafe old.told.config old.told.state front n)
 
   -- how the files fare while such events are taken, and such bytes sent
   pub record Fares (events : List Event) (sent : List ℕ) : Type 0 where
     pub keeps_honest : honest old.disk ↔ honest new.disk
-    pub configured : honest old.disk → old.fallen ≡ false → LeavesOnly moment left old.disk new.disk (IsConfigured old.told.config)
+    pub configured : honest old.disk → old.fallen ≡ false
+        → LeavesOnly moment left old.disk new.disk (IsConfigured old.told.config)
     pub outlives : IsReady honest old → Outlives events sent
     -- unless a call of the disk has failed, nothing is held behind it
     pub none : old.told.held ≡ [] → new.fallen ≡ false → new.told.held ≡ []
@@ -86,7 +96,8 @@ module _ {D : Type 0} (honest : D → Type 0) (moment : D → ℕ) (left : D →
 
 -- the stream so far is these events, and then these bytes
 pub record Reads (given : List ℕ) (events : List Event) (pending : List ℕ) : Type 0 where
-  pub goes : (more : List ℕ) → whole_frames (given ++ more) ≡ behind events (whole_frames (pending ++ more))
+  pub goes : (more : List ℕ) → whole_frames (given ++ more)
+      ≡ behind events (whole_frames (pending ++ more))
 
 -- the whole frames at the front were answered, and these bytes are left
 pub record Served (old new : Told) (bytes rest sent : List ℕ) (count : ℕ) : Type 0 where
@@ -123,7 +134,8 @@ GoesOn (step.Ends halt.Cut) = Unit {0}
 GoesOn (step.Ends (halt.Bad fault)) = Unit {0}
 GoesOn (step.Ends (halt.Refused fault)) = ⊥
 
-module _ {D : Type 0} (honest : D → Type 0) (moment : D → ℕ) (left : D → ℕ → Files → Type 0) (failed : D → ℕ) where
+module _ {D : Type 0} (honest : D → Type 0) (moment : D → ℕ) (left : D → ℕ → Files → Type 0)
+    (failed : D → ℕ) where
   -- where what was read ended it the gateway stands, and a fault of the gateway has its cause
   abbrev pub Explains : EdgeFault → Kept D → Kept D → Type 0
   Explains BadKind old new = new.fallen ≡ false
@@ -135,45 +147,62 @@ module _ {D : Type 0} (honest : D → Type 0) (moment : D → ℕ) (left : D →
   Explains (Gateway fault) old new = IsWhy honest moment left failed old new fault
 
   -- one carries on, or breaks off, whatever other answers were handed out before
-  abbrev pub CarriesBehind : Kept D → Kept D → List Event → List (ℕ × Answer) → List (ℕ × Answer) → Type 0
+  abbrev pub CarriesBehind : Kept D → Kept D → List Event → List (ℕ × Answer)
+      → List (ℕ × Answer) → Type 0
   CarriesBehind old new more before out =
-      (handed : List (ℕ × Answer)) → CarriesOn honest moment left failed old new more (handed ++ before) (handed ++ out)
+      (handed : List (ℕ × Answer))
+      → CarriesOn honest moment left failed old new more (handed ++ before) (handed ++ out)
 
-  abbrev pub BreaksBehind : Kept D → Kept D → List Event → List (ℕ × Answer) → List (ℕ × Answer) → GatewayFault → Type 0
+  abbrev pub BreaksBehind : Kept D → Kept D → List Event → List (ℕ × Answer) → List (ℕ × Answer)
+      → GatewayFault → Type 0
   BreaksBehind old new more before out why =
-      (handed : List (ℕ × Answer)) → BreaksOff honest moment left failed old new more (handed ++ before) (handed ++ out) why
+      (handed : List (ℕ × Answer))
+      → BreaksOff honest moment left failed old new more (handed ++ before) (handed ++ out) why
 
   -- what one frame at the front came to
-  abbrev pub Stepped : Step → List ℕ → List ℕ → Kept D → Kept D → List (ℕ × Answer) → List (ℕ × Answer) → Type 0
-  Stepped (step.Took forwarded) bytes rest old new before out = (event : Event) × (next bytes ≡ Whole event rest) × CarriesOn honest moment left failed old new (event ∷ []) before out
-  Stepped (step.Ends halt.Cut) bytes rest old new before out = (rest ≡ bytes) × (next bytes ≡ Cut) × CarriesOn honest moment left failed old new [] before out
-  Stepped (step.Ends (halt.Bad fault)) bytes rest old new before out = (rest ≡ bytes) × (next bytes ≡ Bad fault) × CarriesOn honest moment left failed old new [] before out
+  abbrev pub Stepped : Step → List ℕ → List ℕ → Kept D → Kept D → List (ℕ × Answer)
+      → List (ℕ × Answer) → Type 0
+  Stepped (step.Took forwarded) bytes rest old new before out = (event : Event)
+      × (next bytes ≡ Whole event rest)
+      × CarriesOn honest moment left failed old new (event ∷ []) before out
+  Stepped (step.Ends halt.Cut) bytes rest old new before out = (rest ≡ bytes) × (next bytes ≡ Cut)
+      × CarriesOn honest moment left failed old new [] before out
+  Stepped (step.Ends (halt.Bad fault)) bytes rest old new before out = (rest ≡ bytes)
+      × (next bytes ≡ Bad fault) × CarriesOn honest moment left failed old new [] before out
   Stepped (step.Ends (halt.Refused fault)) bytes rest old new before out =
-      (events : List Event) × (later : List ℕ) × Reads bytes events later × BreaksOff honest moment left failed old new events before out fault
+      (events : List Event) × (later : List ℕ) × Reads bytes events later
+      × BreaksOff honest moment left failed old new events before out fault
 
   -- what all whole frames at the front came to
-  abbrev pub Offered : Halt → List ℕ → List ℕ → ℕ → Kept D → Kept D → List (ℕ × Answer) → List (ℕ × Answer) → Type 0
+  abbrev pub Offered : Halt → List ℕ → List ℕ → ℕ → Kept D → Kept D → List (ℕ × Answer)
+      → List (ℕ × Answer) → Type 0
   Offered halt.Cut bytes rest count old new before out =
-      (events : List Event) × Reads bytes events rest × (next rest ≡ Cut) × (count ≡ length events) × CarriesOn honest moment left failed old new events before out
+      (events : List Event) × Reads bytes events rest × (next rest ≡ Cut) × (count ≡ length events)
+      × CarriesOn honest moment left failed old new events before out
   Offered (halt.Bad fault) bytes rest count old new before out =
-      (events : List Event) × Reads bytes events rest × (next rest ≡ Bad fault) × CarriesOn honest moment left failed old new events before out
+      (events : List Event) × Reads bytes events rest × (next rest ≡ Bad fault)
+      × CarriesOn honest moment left failed old new events before out
   Offered (halt.Refused fault) bytes rest count old new before out =
-      (events : List Event) × (later : List ℕ) × Reads bytes events later × BreaksOff honest moment left failed old new events before out fault
+      (events : List Event) × (later : List ℕ) × Reads bytes events later
+      × BreaksOff honest moment left failed old new events before out fault
 
   -- the events of the frames at the front were taken, and their answers handed out; nothing is held
-  pub record IsSettled (start now : Kept D) (events : List Event) (out : List (ℕ × Answer)) : Type 0 where
+  pub record IsSettled (start now : Kept D) (events : List Event)
+      (out : List (ℕ × Answer)) : Type 0 where
     pub stands : Stands honest moment left failed start now events out
     pub none : now.told.held ≡ []
 
   -- the frames at the front, behind which a header is faulty, were settled
-  pub record IsBad (fault : HeaderFault) (bytes rest : List ℕ) (start now : Kept D) (out : List (ℕ × Answer)) : Type 0 where
+  pub record IsBad (fault : HeaderFault) (bytes rest : List ℕ) (start now : Kept D)
+      (out : List (ℕ × Answer)) : Type 0 where
     pub events : List Event
     pub reads : Reads bytes events rest
     pub bad : next rest ≡ Bad fault
     pub settled : IsSettled start now events out
 
   -- the gateway's fault ended it behind the first of the events
-  pub record IsRefused (fault : GatewayFault) (bytes : List ℕ) (start now : Kept D) (out : List (ℕ × Answer)) : Type 0 where
+  pub record IsRefused (fault : GatewayFault) (bytes : List ℕ) (start now : Kept D)
+      (out : List (ℕ × Answer)) : Type 0 where
     pub front : List Event
     pub back : List Event
     pub split : events_in bytes ≡ front ++ back
@@ -182,20 +211,28 @@ module _ {D : Type 0} (honest : D → Type 0) (moment : D → ℕ) (left : D →
     pub none : now.fallen ≡ false → now.told.held ≡ []
 
   -- the frames at the front were settled, or why not
-  abbrev pub Closed : Result (Unit {0}) EdgeFault → List ℕ → List ℕ → ℕ → Kept D → Kept D → List (ℕ × Answer) → Type 0
+  abbrev pub Closed : Result (Unit {0}) EdgeFault → List ℕ → List ℕ → ℕ → Kept D → Kept D
+      → List (ℕ × Answer) → Type 0
   Closed (Ok done) bytes rest count start now out =
-      (events : List Event) × Reads bytes events rest × (next rest ≡ Cut) × (count ≡ length events) × IsSettled start now events out
-  Closed (Err BadKind) bytes rest count start now out = IsBad header.BadKind bytes rest start now out
-  Closed (Err BadInterface) bytes rest count start now out = IsBad header.BadInterface bytes rest start now out
-  Closed (Err TooLong) bytes rest count start now out = IsBad header.TooLong bytes rest start now out
+      (events : List Event) × Reads bytes events rest × (next rest ≡ Cut) × (count ≡ length events)
+      × IsSettled start now events out
+  Closed (Err BadKind) bytes rest count start now out =
+      IsBad header.BadKind bytes rest start now out
+  Closed (Err BadInterface) bytes rest count start now out =
+      IsBad header.BadInterface bytes rest start now out
+  Closed (Err TooLong) bytes rest count start now out =
+      IsBad header.TooLong bytes rest start now out
   Closed (Err Truncated) bytes rest count start now out = ⊥
   Closed (Err Input) bytes rest count start now out = ⊥
   Closed (Err Output) bytes rest count start now out = ⊥
   Closed (Err (Gateway fault)) bytes rest count start now out = IsRefused fault bytes start now out
 
   -- all whole frames at the front were settled and their answers sent, or why not
-  abbrev pub SettledAndSent : Result ℕ EdgeFault → Kept D → Kept D → List ℕ → List ℕ → List (ℕ × Answer) → List ℕ → Type 0
+  abbrev pub SettledAndSent : Result ℕ EdgeFault → Kept D → Kept D → List ℕ → List ℕ
+      → List (ℕ × Answer) → List ℕ → Type 0
   SettledAndSent (Ok count) old new bytes rest out sent =
-      (events : List Event) × Reads bytes events rest × (next rest ≡ Cut) × (count ≡ length events) × IsSettled old new events out × (sent ≡ frames out)
+      (events : List Event) × Reads bytes events rest × (next rest ≡ Cut) × (count ≡ length events)
+      × IsSettled old new events out × (sent ≡ frames out)
   SettledAndSent (Err fault) old new bytes rest out sent =
-      Ends fault old.told new.told bytes sent ⊥ × Fares honest moment left old new (events_in bytes) sent × Explains fault old new
+      Ends fault old.told new.told bytes sent ⊥
+      × Fares honest moment left old new (events_in bytes) sent × Explains fault old new

@@ -41,7 +41,8 @@ header kind iface len moment = kind ∷ iface ∷ big_bytes 4 len ++ big_bytes 8
 
 -- the frame of an event
 abbrev pub request : Event → List ℕ
-request event = header (kind_of event.what) (interface_of event.what) (length (request_body event.what)) event.moment ++ request_body event.what
+request event = header (kind_of event.what) (interface_of event.what)
+    (length (request_body event.what)) event.moment ++ request_body event.what
 
 -- a frame can carry the event
 pub record Fits (event : Event) : Type 0 where
@@ -50,7 +51,9 @@ pub record Fits (event : Event) : Type 0 where
 
 -- fewer bytes than a header has, or a frame that lacks some of its end
 abbrev pub IsNoFrame : List ℕ → Type 0
-IsNoFrame rest = (length rest < 14) ⊎ ((event : Event) × (lacking : List ℕ) × Fits event × (lacking ≢ []) × (rest ++ lacking ≡ request event))
+IsNoFrame rest = (length rest < 14)
+    ⊎ ((event : Event) × (lacking : List ℕ) × Fits event × (lacking ≢ [])
+    × (rest ++ lacking ≡ request event))
 
 -- a header's first fault
 unfoldable pub header_fault : ℕ → ℕ → ℕ → Option HeaderFault

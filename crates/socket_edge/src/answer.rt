@@ -131,7 +131,8 @@ pub fn put_frame(out: &mut Vec<u8>, number: u64, answer: &Answer) -> Result<(), 
 /// `AllocError` where memory is refused. The frames of a beginning of the answers are put.
 pub fn put_frames(out: &mut Vec<u8>, answers: &[(u64, Answer)]) -> Result<(), AllocError>
     ensures ok { OnOk result (out.new.items ≡ out.old.items ++ frames answers.now) }
-    ensures err { OnErr result ((n : ℕ) × (out.new.items ≡ out.old.items ++ frames (take n answers.now))) }
+    ensures err { OnErr result ((n : ℕ)
+        × (out.new.items ≡ out.old.items ++ frames (take n answers.now))) }
 {
     for pair in answers {
         put_frame(out, pair.0, &pair.1)?;

@@ -72,8 +72,10 @@ fn serve<W: Write, D: Disk + Drop>(
     requires sent { waiting.old.answered ≡ [] }
     ensures served { (sent : List ℕ) × Appends (W.contents writer.old) (W.contents writer.new) sent
         × Came result gateway.old.told gateway.new.told waiting.old.pending waiting.new.pending sent
-        × Fares D.honest D.moment D.left gateway.old gateway.new (events_in waiting.old.pending) sent }
-    ensures why { IfErr result (λ e. Explains D.honest D.moment D.left D.failed e gateway.old gateway.new) }
+        × Fares D.honest D.moment D.left gateway.old gateway.new
+        (events_in waiting.old.pending) sent }
+    ensures why { IfErr result (λ e. Explains D.honest D.moment D.left D.failed e gateway.old
+        gateway.new) }
     ensures stands { OnOk result (gateway.new.fallen ≡ false) }
     ensures sent { OnOk result (waiting.new.answered ≡ []) }
     ensures passed { OnOk result (D.failed gateway.new.disk ≡ D.failed gateway.old.disk) }
@@ -109,12 +111,16 @@ fn read_once<R: Read, W: Write, D: Disk + Drop>(
     requires stands { gateway.old.fallen ≡ false }
     requires sent { waiting.old.answered ≡ [] }
     requires cut { next waiting.old.pending ≡ Cut }
-    ensures turned { (got sent : List ℕ) × Consumes (R.remaining reader.old) (R.remaining reader.new) got
+    ensures turned { (got sent : List ℕ)
+        × Consumes (R.remaining reader.old) (R.remaining reader.new) got
         × Appends (W.contents writer.old) (W.contents writer.new) sent
-        × Turned result gateway.old.told gateway.new.told (waiting.old.pending ++ got) waiting.new.pending sent
+        × Turned result gateway.old.told gateway.new.told (waiting.old.pending ++ got)
+        waiting.new.pending sent
         (IsAtEnd (R.remaining reader.new))
-        × Fares D.honest D.moment D.left gateway.old gateway.new (events_in (waiting.old.pending ++ got)) sent }
-    ensures why { IfErr result (λ e. Explains D.honest D.moment D.left D.failed e gateway.old gateway.new) }
+        × Fares D.honest D.moment D.left gateway.old gateway.new
+        (events_in (waiting.old.pending ++ got)) sent }
+    ensures why { IfErr result (λ e. Explains D.honest D.moment D.left D.failed e gateway.old
+        gateway.new) }
     ensures stands { OnOk result (gateway.new.fallen ≡ false) }
     ensures sent { OnOk result (waiting.new.answered ≡ []) }
     ensures passed { OnOk result (D.failed gateway.new.disk ≡ D.failed gateway.old.disk) }
@@ -179,15 +185,20 @@ pub fn run<R: Read, W: Write, D: Disk + Drop>(
     gateway: &mut Gateway<D>,
 ) -> Result<u64, EdgeFault>
     // What was read and what was written, how the run ended, and what a crash leaves of it.
-    ensures ran { (given written : List ℕ) × Consumes (R.remaining reader.old) (R.remaining reader.new) given
+    ensures ran { (given written : List ℕ)
+        × Consumes (R.remaining reader.old) (R.remaining reader.new) given
         × Appends (W.contents writer.old) (W.contents writer.new) written
-        × Ran result gateway.old.told gateway.new.told given written (IsAtEnd (R.remaining reader.new))
+        × Ran result gateway.old.told gateway.new.told given written
+        (IsAtEnd (R.remaining reader.new))
         × Fares D.honest D.moment D.left gateway.old gateway.new (events_in given) written }
-    ensures why { gateway.old.fallen ≡ false → IfErr result (λ e. Explains D.honest D.moment D.left D.failed e gateway.old gateway.new) }
+    ensures why { gateway.old.fallen ≡ false
+        → IfErr result (λ e. Explains D.honest D.moment D.left D.failed e gateway.old gateway.new) }
     ensures stands { OnOk result ((gateway.old.fallen ≡ false) × (gateway.new.fallen ≡ false)) }
-    ensures reopen { IfErr result (λ e. (e ≡ EdgeFault.Gateway GatewayFault.Reopen) ↔ (gateway.old.fallen ≡ true)) }
+    ensures reopen { IfErr result (λ e. (e ≡ EdgeFault.Gateway GatewayFault.Reopen)
+        ↔ (gateway.old.fallen ≡ true)) }
     ensures reopen_stays { gateway.old.fallen ≡ true → gateway.new ≡ gateway.old }
-    ensures causes { IfErr result (λ e. (e ≢ EdgeFault.Gateway GatewayFault.HeldFull) × (e ≢ EdgeFault.Gateway GatewayFault.Full)) }
+    ensures causes { IfErr result (λ e. (e ≢ EdgeFault.Gateway GatewayFault.HeldFull)
+        × (e ≢ EdgeFault.Gateway GatewayFault.Full)) }
     ensures compacted { IfOk result (λ count. 0 < count → gateway.new.grown ≤ 1048576) }
 {
     if gateway.has_fallen() {

@@ -23,7 +23,8 @@ pub fn forward_frame<D: Disk + Drop>(
     requires short { length bytes.old ≤ 14 + 65535 }
     ensures left { result ≡ true → (answer : ℕ × Answer) × (bytes.new ≡ frame answer)
         × ((before : List (ℕ × Answer)) → CarriesOn D.honest D.moment D.left D.failed
-        gateway.old gateway.new (record { moment = moment; what = Packet iface (drop 14 bytes.old) } ∷ [])
+        gateway.old gateway.new
+        (record { moment = moment; what = Packet iface (drop 14 bytes.old) } ∷ [])
         before (before ++ answer ∷ [])) }
     ensures stays { result ≡ false → (bytes.new ≡ bytes.old) × (gateway.new ≡ gateway.old) }
     ensures held { gateway.new.told.held ≡ gateway.old.told.held }
@@ -42,7 +43,8 @@ pub fn forward_frame<D: Disk + Drop>(
 pub fn move_down(bytes: &mut [u8], from: usize, len: usize, to: usize)
     requires within { from + len ≤ length bytes.old }
     requires down { to ≤ from }
-    ensures there { take (to + len) bytes.new ≡ take to bytes.old ++ take len (drop from bytes.old) }
+    ensures there { take (to + len) bytes.new ≡ take to bytes.old
+        ++ take len (drop from bytes.old) }
     ensures behind { drop (from + len) bytes.new ≡ drop (from + len) bytes.old }
     ensures size { length bytes.new ≡ length bytes.old }
 {

@@ -7,5 +7,6 @@ ghost use Rattle.socket_edge.specs.Streams.{AreBytes, IsStream};
 /// those events and that end. Bytes read as nothing else: they are the frames of the events that
 /// they read as, and then that end.
 pub fn streams_read_exactly()
-    ensures law { (bytes : List ℕ) (f : Framed) → AreBytes bytes → (whole_frames bytes ≡ f) ↔ IsStream bytes f }
+    ensures law { (bytes : List ℕ) (f : Framed) → AreBytes bytes
+        → (whole_frames bytes ≡ f) ↔ IsStream bytes f }
 {}

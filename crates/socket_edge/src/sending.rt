@@ -12,7 +12,8 @@ use std::io::Write;
 /// Writes the bytes.
 fn write_out<W: Write>(writer: &mut W, bytes: &[u8]) -> Result<(), EdgeFault>
     ensures ok { OnOk result (Appends (W.contents writer.old) (W.contents writer.new) bytes.now) }
-    ensures err { IfErr result (λ e. (e ≡ EdgeFault.Output) × AppendsFront (W.contents writer.old) (W.contents writer.new) bytes.now) }
+    ensures err { IfErr result (λ e. (e ≡ EdgeFault.Output)
+        × AppendsFront (W.contents writer.old) (W.contents writer.new) bytes.now) }
 {
     let mut at = 0;
     while at < bytes.len() {
@@ -27,24 +28,31 @@ fn write_out<W: Write>(writer: &mut W, bytes: &[u8]) -> Result<(), EdgeFault>
 
 /// Writes the one and then the other.
 fn write_both<W: Write>(writer: &mut W, first: &[u8], second: &[u8]) -> Result<(), EdgeFault>
-    ensures ok { OnOk result (Appends (W.contents writer.old) (W.contents writer.new) (first.now ++ second.now)) }
-    ensures err { IfErr result (λ e. (e ≡ EdgeFault.Output) × AppendsFront (W.contents writer.old) (W.contents writer.new) (first.now ++ second.now)) }
+    ensures ok { OnOk result (Appends (W.contents writer.old) (W.contents writer.new) (first.now
+        ++ second.now)) }
+    ensures err { IfErr result (λ e. (e ≡ EdgeFault.Output)
+        × AppendsFront (W.contents writer.old) (W.contents writer.new) (first.now ++ second.now)) }
 {
     write_out(writer, first)?;
     write_out(writer, second)
 }
 
 fn write_head<W: Write>(writer: &mut W, number: u64, answer: &Answer) -> Result<(), EdgeFault>
-    ensures ok { OnOk result (Appends (W.contents writer.old) (W.contents writer.new) (frame_head (number, answer.now))) }
-    ensures err { IfErr result (λ e. (e ≡ EdgeFault.Output) × AppendsFront (W.contents writer.old) (W.contents writer.new) (frame_head (number, answer.now))) }
+    ensures ok { OnOk result (Appends (W.contents writer.old) (W.contents writer.new)
+        (frame_head (number, answer.now))) }
+    ensures err { IfErr result (λ e. (e ≡ EdgeFault.Output)
+        × AppendsFront (W.contents writer.old) (W.contents writer.new)
+        (frame_head (number, answer.now))) }
 {
     let bytes = head_bytes(number, answer);
     write_out(writer, &bytes)
 }
 
 fn write_body<W: Write>(writer: &mut W, answer: &Answer) -> Result<(), EdgeFault>
-    ensures ok { OnOk result (Appends (W.contents writer.old) (W.contents writer.new) (answer_body answer.now)) }
-    ensures err { IfErr result (λ e. (e ≡ EdgeFault.Output) × AppendsFront (W.contents writer.old) (W.contents writer.new) (answer_body answer.now)) }
+    ensures ok { OnOk result (Appends (W.contents writer.old) (W.contents writer.new)
+        (answer_body answer.now)) }
+    ensures err { IfErr result (λ e. (e ≡ EdgeFault.Output)
+        × AppendsFront (W.contents writer.old) (W.contents writer.new) (answer_body answer.now)) }
 {
     match answer {
         Answer::Forward(iface, packet) => {
@@ -57,8 +65,11 @@ fn write_body<W: Write>(writer: &mut W, answer: &Answer) -> Result<(), EdgeFault
 
 /// Writes a frame without memory.
 fn write_frame<W: Write>(writer: &mut W, number: u64, answer: &Answer) -> Result<(), EdgeFault>
-    ensures ok { OnOk result (Appends (W.contents writer.old) (W.contents writer.new) (frame (number, answer.now))) }
-    ensures err { IfErr result (λ e. (e ≡ EdgeFault.Output) × AppendsFront (W.contents writer.old) (W.contents writer.new) (frame (number, answer.now))) }
+    ensures ok { OnOk result (Appends (W.contents writer.old) (W.contents writer.new)
+        (frame (number, answer.now))) }
+    ensures err { IfErr result (λ e. (e ≡ EdgeFault.Output)
+        × AppendsFront (W.contents writer.old) (W.contents writer.new)
+        (frame (number, answer.now))) }
 {
     write_head(writer, number, answer)?;
     write_body(writer, answer)
@@ -71,8 +82,10 @@ fn write_frame<W: Write>(writer: &mut W, number: u64, answer: &Answer) -> Result
 /// `Output` where a write fails or takes no byte. A beginning of the frames is written then, also a
 /// part of a frame.
 pub fn send<W: Write>(writer: &mut W, answers: &[(u64, Answer)]) -> Result<(), EdgeFault>
-    ensures ok { OnOk result (Appends (W.contents writer.old) (W.contents writer.new) (frames answers.now)) }
-    ensures err { IfErr result (λ e. (e ≡ EdgeFault.Output) × AppendsFront (W.contents writer.old) (W.contents writer.new) (frames answers.now)) }
+    ensures ok { OnOk result (Appends (W.contents writer.old) (W.contents writer.new)
+        (frames answers.now)) }
+    ensures err { IfErr result (λ e. (e ≡ EdgeFault.Output)
+        × AppendsFront (W.contents writer.old) (W.contents writer.new) (frames answers.now)) }
 {
     for pair in answers {
         write_frame(writer, pair.0, &pair.1)?;
@@ -90,9 +103,11 @@ pub(crate) fn send_behind<W: Write>(
     bytes: &[u8],
     answers: &[(u64, Answer)],
 ) -> Result<(), EdgeFault>
-    ensures ok { OnOk result (Appends (W.contents writer.old) (W.contents writer.new) (bytes.now ++ frames answers.now)) }
+    ensures ok { OnOk result (Appends (W.contents writer.old) (W.contents writer.new) (bytes.now
+        ++ frames answers.now)) }
     ensures err { IfErr result (λ e. (e ≡ EdgeFault.Output)
-        × AppendsFront (W.contents writer.old) (W.contents writer.new) (bytes.now ++ frames answers.now)) }
+        × AppendsFront (W.contents writer.old) (W.contents writer.new) (bytes.now
+        ++ frames answers.now)) }
 {
     write_out(writer, bytes)?;
     send(writer, answers)
@@ -109,8 +124,10 @@ pub fn send_all<W: Write>(
     writer: &mut W,
     answers: &[(u64, Answer)],
 ) -> Result<(), EdgeFault>
-    ensures ok { OnOk result (Appends (W.contents writer.old) (W.contents writer.new) (frames answers.now)) }
-    ensures err { IfErr result (λ e. (e ≡ EdgeFault.Output) × AppendsFront (W.contents writer.old) (W.contents writer.new) (frames answers.now)) }
+    ensures ok { OnOk result (Appends (W.contents writer.old) (W.contents writer.new)
+        (frames answers.now)) }
+    ensures err { IfErr result (λ e. (e ≡ EdgeFault.Output)
+        × AppendsFront (W.contents writer.old) (W.contents writer.new) (frames answers.now)) }
 {
     let mut bytes = Vec::new(alloc);
     match put_frames(&mut bytes, answers) {

@@ -110,7 +110,8 @@ pub fn empty_for(
 fn put_back(waiting: &mut Waiting, answers: &mut Vec<(u64, Answer)>, bodies: &mut Vec<Vec<u8>>)
     ensures put { (handed : List (ℕ × Answer)) × (answers.old.items ≡ handed ++ answers.new.items)
         × (waiting.new ≡ record waiting.old { answered = waiting.old.answered ++ frames handed }) }
-    ensures fits { length waiting.old.answered + length (frames answers.old.items) + length waiting.old.pending
+    ensures fits { length waiting.old.answered + length (frames answers.old.items)
+        + length waiting.old.pending
         ≤ waiting.old.reach → answers.new.items ≡ [] }
     ensures fewer { vec_len answers.new ≤ vec_len answers.old }
     ensures capacity { vec_capacity answers.new ≡ vec_capacity answers.old }

@@ -53,7 +53,8 @@ impl Model for Waiting {
       reach = w.end;
     } };
 
-    ghost invariant = { λ w. (w.answered ≤ w.start) × (w.start ≤ w.end) × (w.end ≤ length w.bytes.items) };
+    ghost invariant = { λ w. (w.answered ≤ w.start) × (w.start ≤ w.end)
+        × (w.end ≤ length w.bytes.items) };
 }
 
 impl Waiting {
@@ -97,7 +98,8 @@ impl Waiting {
         ensures put { result ≡ true
             → self.new ≡ record self.old { answered = self.old.answered ++ frames answers.now } }
         ensures full { result ≡ false → self.new ≡ self.old }
-        ensures fits { length self.old.answered + length (frames answers.now) + length self.old.pending
+        ensures fits { length self.old.answered + length (frames answers.now)
+            + length self.old.pending
             ≤ self.old.reach → result ≡ true }
     {
         match fill_frames(
@@ -157,8 +159,12 @@ impl Waiting {
     /// `NoMemory` or `Failed`: nothing was read.
     pub fn read<R: Read>(&mut self, reader: &mut R) -> Result<usize, Unread>
         requires { self.old.answered ≡ [] }
-        ensures ok { IfOk result (λ n. (got : List ℕ) × Consumes (R.remaining reader.old) (R.remaining reader.new) got
-            × (self.new ≡ record self.old { pending = self.old.pending ++ got; reach = length self.old.pending + n })
+        ensures ok { IfOk result (λ n. (got : List ℕ)
+            × Consumes (R.remaining reader.old) (R.remaining reader.new) got
+            × (self.new ≡ record self.old {
+              pending = self.old.pending ++ got;
+              reach = length self.old.pending + n;
+            })
             × (n ≡ length got) × (n ≤ 65536)) }
         ensures end { IfOk result (λ n. n ≡ 0 → IsAtEnd (R.remaining reader.new)) }
         ensures err { OnErr result (Consumes (R.remaining reader.old) (R.remaining reader.new) []
@@ -197,7 +203,8 @@ fn make_room(bytes: &mut Vec<u8>, len: usize) -> Result<(), AllocError>
     requires { len ≤ length bytes.old.items }
     ensures front { take len bytes.new.items ≡ take len bytes.old.items }
     ensures longer { length bytes.old.items ≤ length bytes.new.items }
-    ensures most { length bytes.new.items ≢ length bytes.old.items → length bytes.new.items ≡ len + 65536 }
+    ensures most { length bytes.new.items ≢ length bytes.old.items
+        → length bytes.new.items ≡ len + 65536 }
     ensures ok { OnOk result (len + 65536 ≤ length bytes.new.items) }
 {
     let end = len + MOST_READ;
@@ -211,10 +218,12 @@ fn make_room(bytes: &mut Vec<u8>, len: usize) -> Result<(), AllocError>
 fn read_behind<R: Read>(bytes: &mut [u8], len: usize, reader: &mut R) -> Result<usize, Unread>
     requires { len + 65536 ≤ length bytes.old }
     ensures len { length bytes.new ≡ length bytes.old }
-    ensures ok { IfOk result (λ n. (got : List ℕ) × Consumes (R.remaining reader.old) (R.remaining reader.new) got
+    ensures ok { IfOk result (λ n. (got : List ℕ)
+        × Consumes (R.remaining reader.old) (R.remaining reader.new) got
         × (take (len + n) bytes.new ≡ take len bytes.old ++ got) × (n ≡ length got) × (n ≤ 65536)) }
     ensures end { IfOk result (λ n. n ≡ 0 → IsAtEnd (R.remaining reader.new)) }
-    ensures err { OnErr result (Consumes (R.remaining reader.old) (R.remaining reader.new) [] × (take len bytes.new ≡ take len bytes.old)) }
+    ensures err { OnErr result (Consumes (R.remaining reader.old) (R.remaining reader.new) []
+        × (take len bytes.new ≡ take len bytes.old)) }
 {
     match reader.read(&mut bytes[len..len + MOST_READ]) {
         Ok(n) => Ok(n),

@@ -60,7 +60,15 @@ const RST: Flags = Flags {
 };
 
 fn begun(proto: Proto, remote: Endpoint) -> Session
-    ensures { result ≡ record { proto = proto; inside = HOST; outside = OUTSIDE; remote = remote; opener = Opener.Inside; seen = 0; last = 1000 } }
+    ensures { result ≡ record {
+      proto = proto;
+      inside = HOST;
+      outside = OUTSIDE;
+      remote = remote;
+      opener = Opener.Inside;
+      seen = 0;
+      last = 1000;
+    } }
 {
     Session {
         proto,

@@ -10,7 +10,8 @@ MarksAreShort = (text : Text) (at : ℕ) → length text < 2 ^ 63 → length (ma
 pub record IsWithinLine (text front rest before behind : Text) (at : ℕ) : Type 0 where
   pub whole : text ≡ before ++ front ++ rest ++ behind
   pub place : length before + length front ≡ at
-  pub one_line : (k : ℕ) → k < length (front ++ rest) → is_newline (slice_index (front ++ rest) k) ≡ false
+  pub one_line : (k : ℕ) → k < length (front ++ rest)
+      → is_newline (slice_index (front ++ rest) k) ≡ false
   pub begins : 0 < length before → is_newline (slice_index before (length before - 1)) ≡ true
   pub ends : 0 < length behind → is_newline (slice_index behind 0) ≡ true
 
@@ -18,4 +19,5 @@ pub record IsWithinLine (text front rest before behind : Text) (at : ℕ) : Type
 abbrev pub TheLineHoldsThePlace : Type 0
 TheLineHoldsThePlace =
     (text : Text) (at : ℕ) → at ≤ length text
-    → (before : Text) × (behind : Text) × IsWithinLine text (line_front text at) (line_rest text at) before behind at
+    → (before : Text) × (behind : Text)
+    × IsWithinLine text (line_front text at) (line_rest text at) before behind at

@@ -55,7 +55,8 @@ lead number front rest = codes "line " ++ decimal number ++ codes ": " ++ dots_i
 
 -- what is shown from the place on
 unfoldable pub trail : Text → Text → Text
-trail front rest = map visible (take (room front rest) rest) ++ dots_if (nat_lt (room front rest) (length rest))
+trail front rest =
+    map visible (take (room front rest) rest) ++ dots_if (nat_lt (room front rest) (length rest))
 
 -- the line, and below it the mark, as far from the left as the place
 abbrev pub marked_line : Text → Text → Text

@@ -81,7 +81,8 @@ fn hidden(front: &[u8], rest: &[u8]) -> usize
 // What is shown of a line before a place.
 #[tactic(auto, unfolding(crate::specs::Lines::lead))]
 fn lead(alloc: Global, spot: &Spot<'_>) -> Result<Vec<u8>, AllocError>
-    ensures { IfOk result (λ shown. shown.items ≡ lead spot.now.line spot.now.front.now spot.now.rest.now) }
+    ensures { IfOk result (λ shown. shown.items
+        ≡ lead spot.now.line spot.now.front.now spot.now.rest.now) }
 {
     let start = hidden(spot.front, spot.rest);
     let mut digits = Buffer::new();
@@ -112,7 +113,8 @@ fn put_marked_line(
     front: &[u8],
     rest: &[u8],
 ) -> Result<(), AllocError>
-    ensures { OnOk result (out.new.items ≡ out.old.items ++ marked_line before.now (trail front.now rest.now)) }
+    ensures { OnOk result (out.new.items ≡ out.old.items
+        ++ marked_line before.now (trail front.now rest.now)) }
 {
     out.extend_from_slice(before)?;
     put_trail(out, front, rest)?;

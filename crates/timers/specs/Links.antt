@@ -89,7 +89,8 @@ pub record IsRing (next previous tag last : ℕ → ℕ) : Type 0 where
   pub head : (k : ℕ) → k < 3 → tag k ≡ k
   pub on : (k : ℕ) → tag k < 3 → (previous (next k) ≡ k) × (tag (next k) ≡ tag k)
   pub back : (k : ℕ) → tag k < 3 → (next (previous k) ≡ k) × (tag (previous k) ≡ tag k)
-  pub up : (k : ℕ) → tag k < 3 → 3 ≤ k → 3 ≤ next k → (rank k < rank (next k)) × (last k ≤ last (next k))
+  pub up : (k : ℕ) → tag k < 3 → 3 ≤ k → 3 ≤ next k → (rank k < rank (next k))
+      × (last k ≤ last (next k))
   pub below : (k : ℕ) → tag k < 3 → rank k < top
 
 -- each slot that is watched stands at its place, the places are in three rings, and they aren't too many
@@ -118,8 +119,10 @@ IsOverAt links now k = IsSomeAnd (watch links k) (λ w. IsOver now (idle_of w))
 
 -- the slots of the first queues that are alive no longer, each once
 pub record IsFound (links : List Link) (now queues : ℕ) (slots : List ℕ) : Type 0 where
-  pub all : (slot : ℕ) → tag links (slot + 3) < queues → IsOverAt links now (slot + 3) → Contains slots slot
-  pub each : (slot : ℕ) → Contains slots slot → (tag links (slot + 3) < queues) × IsOverAt links now (slot + 3)
+  pub all : (slot : ℕ) → tag links (slot + 3) < queues → IsOverAt links now (slot + 3)
+      → Contains slots slot
+  pub each : (slot : ℕ) → Contains slots slot → (tag links (slot + 3) < queues)
+      × IsOverAt links now (slot + 3)
   pub once : (i j : ℕ) → i < j → j < length slots → slice_index slots i ≢ slice_index slots j
 
 -- the place is the head of this queue, or that of one of these slots
@@ -130,9 +133,14 @@ IsPassed slots head k = (k ≡ head) ⊎ ((3 ≤ k) × Contains slots (k - 3))
 -- and of the places before this one are found, as far as they are alive no longer
 pub record IsWalked (links : List Link) (now head at : ℕ) (slots : List ℕ) : Type 0 where
   pub here : tag links at ≡ head
-  pub all : (slot : ℕ) → tag links (slot + 3) < head → IsOverAt links now (slot + 3) → Contains slots slot
-  pub led : (slot : ℕ) → tag links (slot + 3) ≡ head → IsPassed slots head (previous links (slot + 3)) → (slot + 3 ≡ at) ⊎ Contains slots slot
-  pub each : (slot : ℕ) → Contains slots slot → (tag links (slot + 3) ≤ head) × IsOverAt links now (slot + 3)
-  pub before : (rank : ℕ → ℕ) → ((k : ℕ) → tag links k < 3 → 3 ≤ k → 3 ≤ next links k → rank k < rank (next links k)) → (slot : ℕ) → Contains slots slot
+  pub all : (slot : ℕ) → tag links (slot + 3) < head → IsOverAt links now (slot + 3)
+      → Contains slots slot
+  pub led : (slot : ℕ) → tag links (slot + 3) ≡ head
+      → IsPassed slots head (previous links (slot + 3)) → (slot + 3 ≡ at) ⊎ Contains slots slot
+  pub each : (slot : ℕ) → Contains slots slot → (tag links (slot + 3) ≤ head)
+      × IsOverAt links now (slot + 3)
+  pub before : (rank : ℕ → ℕ)
+      → ((k : ℕ) → tag links k < 3 → 3 ≤ k → 3 ≤ next links k → rank k < rank (next links k))
+      → (slot : ℕ) → Contains slots slot
       → tag links (slot + 3) ≡ head → 3 ≤ at → rank (slot + 3) < rank at
   pub once : (i j : ℕ) → i < j → j < length slots → slice_index slots i ≢ slice_index slots j

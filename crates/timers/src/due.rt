@@ -82,7 +82,10 @@ impl Due {
         requires free { at self.old slot ≡ None }
         requires timeout { IsTimeout timeout }
         requires latest { IsLatest self.old last }
-        ensures ok { OnOk result (Updates self.old self.new slot (Some (record { last = last; timeout = timeout }))) }
+        ensures ok { OnOk result (Updates self.old self.new slot (Some (record {
+          last = last;
+          timeout = timeout;
+        }))) }
         ensures err { OnErr result ((other : ℕ) → at self.new other ≡ at self.old other) }
         ensures succeeds { slot < self.old.ready → IsOk result }
         ensures ready { self.old.ready ≤ self.new.ready }
@@ -98,7 +101,10 @@ impl Due {
         requires held { IsSome (at self.old slot) }
         requires timeout { IsTimeout timeout }
         requires latest { IsLatest self.old last }
-        ensures updates { Updates self.old self.new slot (Some (record { last = last; timeout = timeout })) }
+        ensures updates { Updates self.old self.new slot (Some (record {
+          last = last;
+          timeout = timeout;
+        })) }
         ensures ready { self.new.ready ≡ self.old.ready }
     {
         renew(&mut self.links, slot, Idle { last, timeout });

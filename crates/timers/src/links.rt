@@ -237,7 +237,8 @@ fn join(links: &mut Vec<Cell>, a: usize, b: usize)
 fn set_next(links: &mut Vec<Cell>, place: usize, to: usize)
     requires inside { place < length links.old.items }
     requires to { to < most_places }
-    ensures { links.new.items ≡ slice_set links.old.items place (record (link links.old.items place) { next = to }) }
+    ensures { links.new.items ≡ slice_set links.old.items place
+        (record (link links.old.items place) { next = to }) }
 {
     links[place].set_next(to);
 }
@@ -245,7 +246,8 @@ fn set_next(links: &mut Vec<Cell>, place: usize, to: usize)
 fn set_previous(links: &mut Vec<Cell>, place: usize, to: usize)
     requires inside { place < length links.old.items }
     requires to { to < most_places }
-    ensures { links.new.items ≡ slice_set links.old.items place (record (link links.old.items place) { previous = to }) }
+    ensures { links.new.items ≡ slice_set links.old.items place
+        (record (link links.old.items place) { previous = to }) }
 {
     links[place].set_previous(to);
 }

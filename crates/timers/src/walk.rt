@@ -43,7 +43,8 @@ fn push_over(
 
 // The slot of the place, where its session is alive no longer.
 fn slot_over(links: &[Cell], place: usize, now: u64) -> Option<Slot>
-    ensures over { IfSome result (λ slot. IsSomeAnd (watch links.now place) (λ w. (w.slot ≡ slot) × IsOver now (idle_of w))) }
+    ensures over { IfSome result (λ slot. IsSomeAnd (watch links.now place) (λ w. (w.slot ≡ slot)
+        × IsOver now (idle_of w))) }
     ensures alive { IfNone result (¬ IsOverAt links.now now place) }
 {
     if place >= links.len() {
@@ -53,7 +54,8 @@ fn slot_over(links: &[Cell], place: usize, now: u64) -> Option<Slot>
 }
 
 fn watch_over(watch: &Option<Watch>, now: u64) -> Option<Slot>
-    ensures over { IfSome result (λ slot. IsSomeAnd watch.now (λ w. (w.slot ≡ slot) × IsOver now (idle_of w))) }
+    ensures over { IfSome result (λ slot. IsSomeAnd watch.now (λ w. (w.slot ≡ slot)
+        × IsOver now (idle_of w))) }
     ensures alive { IfNone result (¬ IsSomeAnd watch.now (λ w. IsOver now (idle_of w))) }
 {
     match watch {

@@ -24,7 +24,12 @@ impl Model for Trial {
 
     ghost Value = { Metered };
 
-    ghost view = { λ t. record { calls = t.turns.calls; failures = t.disk.meter.failures; fuse = t.turns.fuse; once = t.turns.once } };
+    ghost view = { λ t. record {
+      calls = t.turns.calls;
+      failures = t.disk.meter.failures;
+      fuse = t.turns.fuse;
+      once = t.turns.once;
+    } };
 }
 
 impl Trial {
@@ -34,7 +39,12 @@ impl Trial {
     ///
     /// `AllocError` where memory is refused.
     pub fn of(alloc: Global, a: &[u8], b: &[u8]) -> Result<Trial, AllocError>
-        ensures { IfOk result (λ t. t ≡ record { calls = 0; failures = 0; fuse = None; once = None }) }
+        ensures { IfOk result (λ t. t ≡ record {
+          calls = 0;
+          failures = 0;
+          fuse = None;
+          once = None;
+        }) }
     {
         let disk = SimDisk::of(alloc, a, b)?;
         Ok(Trial {
@@ -112,7 +122,8 @@ impl Trial {
 // Whether a file has so many bytes from a place on.
 fn reaches(disk: &mut SimDisk, file: FileId, at: u64, count: u64) -> Result<bool, DiskFault>
     ensures cause { HasCause disk.old.meter.failures disk.new.meter.failures result }
-    ensures reaches { IfOk result (λ reaches. IsTrue reaches → at + count ≤ length (seen_of disk.new file)) }
+    ensures reaches { IfOk result (λ reaches. IsTrue reaches
+        → at + count ≤ length (seen_of disk.new file)) }
 {
     let len = disk.len(file)?;
     Ok(at <= len && count <= len - at)

@@ -47,15 +47,19 @@ AreCalls chains a [] = Unit {0}
 AreCalls chains a (place ∷ places) = Calls chains place.chain a × AreCalls chains place.chain places
 
 -- a chain is read and those that called it: of none it is known what it comes to
-pub record Reading (chains : List Chain) (known : List (Option Outcome)) (here : Place) (places : List Place) : Type 0 where
+pub record Reading (chains : List Chain) (known : List (Option Outcome)) (here : Place)
+    (places : List Place) : Type 0 where
   pub calls : AreCalls chains here.chain places
   pub unknown : OfEach (λ place. IsUnknown known place.chain) (here ∷ places)
   pub roomy : length chains ≤ length known
 
 -- a step of the walk takes no more steps than it reads rules
-abbrev pub Spent : List Chain → Place → List Place → List (Option Outcome) → ℕ → Place → List Place → List (Option Outcome) → ℕ → Option Outcome → Type 0
+abbrev pub Spent : List Chain → Place → List Place → List (Option Outcome) → ℕ → Place → List Place
+    → List (Option Outcome) → ℕ → Option Outcome → Type 0
 Spent chains here places known steps here2 places2 known2 steps2 None =
     Reading chains known2 here2 places2
-    × (steps2 + unread chains known2 + read_at (here ∷ places) ≤ steps + unread chains known + read_at (here2 ∷ places2))
+    × (steps2 + unread chains known2 + read_at (here ∷ places)
+    ≤ steps + unread chains known + read_at (here2 ∷ places2))
 Spent chains here places known steps here2 places2 known2 steps2 (Some outcome) =
-    (length chains ≤ length known2) × (steps2 + unread chains known2 + read_at (here ∷ places) ≤ steps + unread chains known)
+    (length chains ≤ length known2)
+    × (steps2 + unread chains known2 + read_at (here ∷ places) ≤ steps + unread chains known)

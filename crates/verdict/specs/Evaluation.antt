@@ -47,7 +47,8 @@ ending call (Goto target) = Some (call target.chain)
 
 -- a translation of the destination keeps the packet's port where it gives none; masquerading gives the external address
 unfoldable pub translation : Config → Facts → End → Option Outcome
-translation config facts (ends.Dnat dnat) = Some (To (record { addr = dnat.address; port = unwrap_or dnat.port facts.dst.port }))
+translation config facts (ends.Dnat dnat) =
+    Some (To (record { addr = dnat.address; port = unwrap_or dnat.port facts.dst.port }))
 translation config facts (ends.Snat snat) = Some (From snat.address)
 translation config facts (ends.Masquerade line) = Some (From config.external)
 translation config facts _ = None
@@ -66,7 +67,8 @@ after config facts table call rule =
 -- a list of rules, read from the first on
 abbrev pub walk : Config → Facts → Table → (List ℕ → Outcome) → List Rule → Outcome
 walk config facts table call [] = Ends
-walk config facts table call (rule ∷ rules) = unwrap_or (after config facts table call rule) (walk config facts table call rules)
+walk config facts table call (rule ∷ rules) =
+    unwrap_or (after config facts table call rule) (walk config facts table call rules)
 
 -- the rules of the chain of that name
 abbrev pub rules_of : List Chain → List ℕ → List Rule
@@ -76,8 +78,10 @@ rules_of (chain ∷ chains) name = if bytes_eq chain.name name then chain.rules 
 -- what a called chain comes to, with so many jumps and gotos left
 unfoldable pub called : ℕ → Config → Facts → Table → List ℕ → Outcome
 called zero config facts table name = Ends
-called (suc left) config facts table name = walk config facts table (called left config facts table) (rules_of table.chains name)
+called (suc left) config facts table name =
+    walk config facts table (called left config facts table) (rules_of table.chains name)
 
 -- what the rules of a base chain come to; no path of a loaded text has more than 16 jumps and gotos
 unfoldable pub chain_outcome : Config → Facts → Table → List Rule → Outcome
-chain_outcome config facts table rules = walk config facts table (called 16 config facts table) rules
+chain_outcome config facts table rules =
+    walk config facts table (called 16 config facts table) rules

@@ -41,7 +41,8 @@ at_hook hook table chain base = if same_hook base.hook hook then record { table 
 -- the base chains of a hook, in the order of the text
 abbrev pub bases_among : Hook → Table → List Chain → List BaseChain
 bases_among hook table [] = []
-bases_among hook table (chain ∷ chains) = option_map_or (at_hook hook table chain) chain.base [] ++ bases_among hook table chains
+bases_among hook table (chain ∷ chains) =
+    option_map_or (at_hook hook table chain) chain.base [] ++ bases_among hook table chains
 
 abbrev pub bases_of : Hook → List Table → List BaseChain
 bases_of hook [] = []
@@ -68,7 +69,8 @@ settled policy Ends = by_policy policy
 settled policy outcome = outcome
 
 abbrev pub base_outcome : Config → Facts → BaseChain → Outcome
-base_outcome config facts this = settled this.base.policy (chain_outcome config facts this.table this.chain.rules)
+base_outcome config facts this =
+    settled this.base.policy (chain_outcome config facts this.table this.chain.rules)
 
 -- accept hands the packet on to the next base chain, all else is final
 abbrev pub handed_on : Outcome → Outcome → Outcome
@@ -78,11 +80,13 @@ handed_on outcome next = outcome
 -- base chains are asked one after the other
 abbrev pub asked_in_turn : Config → Facts → List BaseChain → Outcome
 asked_in_turn config facts [] = Accepts
-asked_in_turn config facts (first ∷ others) = handed_on (base_outcome config facts first) (asked_in_turn config facts others)
+asked_in_turn config facts (first ∷ others) =
+    handed_on (base_outcome config facts first) (asked_in_turn config facts others)
 
 -- what the base chains of a hook come to
 unfoldable pub hook_outcome : Config → Facts → Hook → Spelled → Outcome
-hook_outcome config facts hook text = asked_in_turn config facts (in_order (bases_of hook text.tables))
+hook_outcome config facts hook text =
+    asked_in_turn config facts (in_order (bases_of hook text.tables))
 
 -- a packet passes where every base chain accepts
 abbrev pub filtered_by : Outcome → Forwarding

@@ -12,7 +12,8 @@ head_of asks number = (asks * 8589934592 + number) * 134217728
 -- the line at this place asks for one number alone, and the key says so, or the key says its place alone
 abbrev pub IsKey : Probe → ℕ → ℕ → Type 0
 IsKey probe place key =
-    ((probe.asks < 8) × (probe.low ≡ probe.high) × (probe.low ≤ 4294967296) × (key ≡ head_of probe.asks probe.low + place))
+    ((probe.asks < 8) × (probe.low ≡ probe.high) × (probe.low ≤ 4294967296)
+    × (key ≡ head_of probe.asks probe.low + place))
     ⊎ (key ≡ head_of 8 0 + place)
 
 -- keys in order
@@ -22,7 +23,8 @@ AreOrdered keys = IsNonDecreasingBy (λ key. key) keys
 -- each of these lines has its key among these
 abbrev pub HaveKeys : List Line → ℕ → List ℕ → Type 0
 HaveKeys lines many keys =
-    (i : ℕ) (line : Line) → i < many → slice_get lines i ≡ Some line → i < 134217728 → (key : ℕ) × IsKey line.probe i key × Contains keys key
+    (i : ℕ) (line : Line) → i < many → slice_get lines i ≡ Some line → i < 134217728
+    → (key : ℕ) × IsKey line.probe i key × Contains keys key
 
 -- the keys of lines, in order
 pub record AreKeys (lines : List Line) (keys : List ℕ) : Type 0 where
@@ -36,7 +38,8 @@ HasNone keys head i = ¬ Contains keys (head + i)
 -- nor one of a number of a packet
 abbrev pub HasNoneOf : List ℕ → List ℕ → ℕ → ℕ → Type 0
 HasNoneOf keys numbers many i =
-    (asks : ℕ) → asks < many → HasNone keys (head_of asks (min 4294967296 (slice_index numbers asks))) i
+    (asks : ℕ) → asks < many
+    → HasNone keys (head_of asks (min 4294967296 (slice_index numbers asks))) i
 
 -- no key at this place says that a packet of these numbers may meet the line there
 pub record IsPassed (keys numbers : List ℕ) (i : ℕ) : Type 0 where

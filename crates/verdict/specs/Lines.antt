@@ -60,17 +60,20 @@ place_of_head Oifname = 8
 
 -- the number that is asked for lies within the probe's bounds, or none is asked for
 unfoldable pub may_hold : List ℕ → Probe → Bool
-may_hold numbers probe = option_map_or (is_between probe.low probe.high) (slice_get numbers probe.asks) true
+may_hold numbers probe =
+    option_map_or (is_between probe.low probe.high) (slice_get numbers probe.asks) true
 
 -- where the probe fails, not all of the matches hold
 abbrev pub Tells : List Set → List Match → Probe → Type 0
 Tells sets matches probe =
-    (config : Config) (facts : Facts) → may_hold (numbers_of facts) probe ≡ false → list_all (holds config sets facts) matches ≡ false
+    (config : Config) (facts : Facts) → may_hold (numbers_of facts) probe ≡ false
+    → list_all (holds config sets facts) matches ≡ false
 
 -- where the probe fails, the match does not hold
 abbrev pub TellsIn : List Set → Match → Probe → Type 0
 TellsIn sets test probe =
-    (config : Config) (facts : Facts) → may_hold (numbers_of facts) probe ≡ false → holds config sets facts test ≡ false
+    (config : Config) (facts : Facts) → may_hold (numbers_of facts) probe ≡ false
+    → holds config sets facts test ≡ false
 
 -- the place of the first chain of that name, or behind all of them
 abbrev pub place_among : List Chain → List ℕ → ℕ
@@ -84,7 +87,8 @@ place_led chains verdict = option_map_or (place_among chains) (target_of verdict
 -- the places that verdicts lead to stand in the row from this number on
 abbrev pub LeadsFrom : List Chain → List ℕ → ℕ → List Verdict → Type 0
 LeadsFrom chains targets from verdicts =
-    (k : ℕ) (verdict : Verdict) → slice_get verdicts k ≡ Some verdict → slice_get targets (from + k) ≡ Some (place_led chains verdict)
+    (k : ℕ) (verdict : Verdict) → slice_get verdicts k ≡ Some verdict
+    → slice_get targets (from + k) ≡ Some (place_led chains verdict)
 
 -- what a line says of its rule
 pub record IsLine (table : Table) (row : Row) (rule : Rule) (line : Line) : Type 0 where
@@ -110,7 +114,8 @@ pub record IsRuleLaid (table : Table) (rule : Rule) (old new : Row) : Type 0 whe
 -- the rules stand in the row from this number on
 abbrev pub AreLines : Table → Row → ℕ → List Rule → Type 0
 AreLines table row from rules =
-    (i : ℕ) (rule : Rule) → slice_get rules i ≡ Some rule → (line : Line) × (slice_get row.lines (from + i) ≡ Some line) × IsLine table row rule line
+    (i : ℕ) (rule : Rule) → slice_get rules i ≡ Some rule
+    → (line : Line) × (slice_get row.lines (from + i) ≡ Some line) × IsLine table row rule line
 
 -- rules are laid behind others
 pub record IsChainLaid (table : Table) (rules : List Rule) (old new : Row) : Type 0 where
@@ -129,7 +134,8 @@ pub record IsSpan (table : Table) (row : Row) (chain : Chain) (span : Span) : Ty
 -- so do all these chains
 abbrev pub AreSpans : Table → Row → List Chain → List Span → Type 0
 AreSpans table row chains spans =
-    (a : ℕ) (chain : Chain) → slice_get chains a ≡ Some chain → (span : Span) × (slice_get spans a ≡ Some span) × IsSpan table row chain span
+    (a : ℕ) (chain : Chain) → slice_get chains a ≡ Some chain
+    → (span : Span) × (slice_get spans a ≡ Some span) × IsSpan table row chain span
 
 -- the chains of a table, laid one behind the other
 abbrev pub AreChainsLaid : Table → Laid → Type 0
@@ -142,7 +148,8 @@ pub record IsLaid (table : Table) (laid : Laid) : Type 0 where
 
 abbrev pub AreLaid : List Table → List Laid → Type 0
 AreLaid tables rows =
-    (t : ℕ) (table : Table) → slice_get tables t ≡ Some table → (laid : Laid) × (slice_get rows t ≡ Some laid) × IsLaid table laid
+    (t : ℕ) (table : Table) → slice_get tables t ≡ Some table
+    → (laid : Laid) × (slice_get rows t ≡ Some laid) × IsLaid table laid
 
 -- rules of a loaded text, each table of which lies in a row of its own, with what is noted of the hooks
 pub record IsFlat (text : Spelled) (rows : List Laid) (asking : Asking) : Type 0 where

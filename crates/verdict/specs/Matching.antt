@@ -38,7 +38,8 @@ is_between low high n = nat_le low n && nat_le n high
 -- the fact is one of those that the value stands for
 unfoldable pub lies : Class → Value → Fact → Bool
 lies Addresses (Address address) (Fact.Number n) = n == address
-lies Addresses (Prefix address len) (Fact.Number n) = covers n (record { addr = address; len = len })
+lies Addresses (Prefix address len) (Fact.Number n) =
+    covers n (record { addr = address; len = len })
 lies Addresses (Range low high) (Fact.Number n) = is_between low high n
 lies Services (Number number) (Fact.Number n) = n == number
 lies Services (Numbers low high) (Fact.Number n) = is_between low high n
@@ -60,7 +61,8 @@ is_in_set class fact set = list_any (λ line. is_member class line.elements fact
 
 -- the fact is a member of the table's set of that name
 unfoldable pub is_in_named : List Set → Class → List ℕ → Fact → Bool
-is_in_named sets class name fact = option_map_or (is_in_set class fact) (find (λ set. bytes_eq set.name name) sets) false
+is_in_named sets class name fact =
+    option_map_or (is_in_set class fact) (find (λ set. bytes_eq set.name name) sets) false
 
 -- the fact is a member of a side
 unfoldable pub is_on_side : List Set → Class → Side → Fact → Bool

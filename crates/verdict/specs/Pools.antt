@@ -14,9 +14,11 @@ pub record Adds (old new : List Part) (more : Fact → Bool) (many : ℕ) : Type
 
 -- the pool holds the facts that the elements of the set stand for, read as values of the class that its type names
 abbrev pub IsPool : Set → List Part → Type 0
-IsPool set pool = (class : Class) (fact : Fact) → class_in set.types ≡ Some class → IsMember fact pool ↔ IsTrue (is_in_set class fact set)
+IsPool set pool = (class : Class) (fact : Fact) → class_in set.types ≡ Some class
+    → IsMember fact pool ↔ IsTrue (is_in_set class fact set)
 
 -- each set has its pool at its place
 abbrev pub ArePools : List Set → List (List Part) → Type 0
 ArePools sets pools =
-    (a : ℕ) (set : Set) → slice_get sets a ≡ Some set → (pool : List Part) × (slice_get pools a ≡ Some pool) × IsPool set pool
+    (a : ℕ) (set : Set) → slice_get sets a ≡ Some set → (pool : List Part)
+    × (slice_get pools a ≡ Some pool) × IsPool set pool

@@ -24,7 +24,8 @@ final_in config facts this = final_of this.base.priority (base_outcome config fa
 -- the preferred one of them all
 abbrev pub first_final : Config → Facts → List BaseChain → Option Final
 first_final config facts [] = None
-first_final config facts (first ∷ others) = preferred (final_in config facts first) (first_final config facts others)
+first_final config facts (first ∷ others) =
+    preferred (final_in config facts first) (first_final config facts others)
 
 abbrev pub outcome_of : Option Final → Outcome
 outcome_of None = Accepts

@@ -22,4 +22,5 @@ TargetsHave P rule = OfEach (TargetHas P) (verdicts_of rule.end)
 
 -- no path of so many jumps and gotos begins at a chain of this name
 abbrev pub EndsWithin : List Chain → ℕ → List ℕ → Type 0
-EndsWithin chains n name = (a : ℕ) → slice_get (chain_names chains) a ≡ Some name → ¬ HasPath (Calls chains) n a
+EndsWithin chains n name = (a : ℕ) → slice_get (chain_names chains) a ≡ Some name
+    → ¬ HasPath (Calls chains) n a

@@ -28,7 +28,8 @@ pub record Keeps (X : Type 0) (old new : List X) : Type 0 where
 
 -- the pool holds the facts that the side of the match does
 abbrev pub IsSide : List Set → Match → List Part → Type 0
-IsSide sets own pool = (fact : Fact) → IsMember fact pool ↔ IsTrue (is_on_side sets (class_of own.head) own.side fact)
+IsSide sets own pool = (fact : Fact) → IsMember fact pool
+    ↔ IsTrue (is_on_side sets (class_of own.head) own.side fact)
 
 -- the set that a side names
 abbrev pub set_named : List Set → Side → Option Set
@@ -48,25 +49,31 @@ stands_on class (Several elements) fact = is_member class elements fact
 stands_on class (Named named) fact = false
 
 -- at this place is the pool of the match's side
-pub record HasSide (sets : List Set) (pools : List (List Part)) (own : Match) (place : ℕ) : Type 0 where
+pub record HasSide (sets : List Set) (pools : List (List Part)) (own : Match)
+    (place : ℕ) : Type 0 where
   pub pool : List Part
   pub at : slice_get pools place ≡ Some pool
   pub side : IsSide sets own pool
 
 -- the test is the match, whose side is a pool
-pub record IsTest (sets : List Set) (pools : List (List Part)) (own : Match) (test : Test) : Type 0 where
+pub record IsTest (sets : List Set) (pools : List (List Part)) (own : Match)
+    (test : Test) : Type 0 where
   pub head : test.head ≡ own.head
   pub negated : test.negated ≡ own.negated
   pub held : HasSide sets pools own test.pool
 
 -- the matches stand in the row of tests at this span
-pub record AreTests (sets : List Set) (pools : List (List Part)) (tests : List Test) (span : Span) (matches : List Match) : Type 0 where
+pub record AreTests (sets : List Set) (pools : List (List Part)) (tests : List Test) (span : Span)
+    (matches : List Match) : Type 0 where
   pub ends : span.start + length matches ≡ span.end
   pub within : span.end ≤ length tests
-  pub each : (k : ℕ) (own : Match) → slice_get matches k ≡ Some own → (test : Test) × (slice_get tests (span.start + k) ≡ Some test) × IsTest sets pools own test
+  pub each : (k : ℕ) (own : Match) → slice_get matches k ≡ Some own
+      → (test : Test) × (slice_get tests (span.start + k) ≡ Some test) × IsTest sets pools own test
 
 -- matches are laid behind other tests, at this span
-pub record AreTestsLaid (sets : List Set) (matches : List Match) (tests : List Test) (pools : List (List Part)) (tests2 : List Test) (pools2 : List (List Part)) (span : Span) : Type 0 where
+pub record AreTestsLaid (sets : List Set) (matches : List Match) (tests : List Test)
+    (pools : List (List Part)) (tests2 : List Test) (pools2 : List (List Part))
+    (span : Span) : Type 0 where
   pub tests_stay : Keeps Test tests tests2
   pub pools_stay : Keeps (List Part) pools pools2
   pub are : AreTests sets pools2 tests2 span matches
@@ -81,16 +88,20 @@ pub record AddsPair (class : Class) (pair : Pair) (old new : List (Key ℕ)) : T
 pub record ArePairs (class : Class) (pairs : List Pair) (keys : List (Key ℕ)) : Type 0 where
   pub count : length keys ≡ length pairs
   pub each : (k : ℕ) (pair : Pair) → slice_get pairs k ≡ Some pair
-      → (part : Part) × (slice_get keys k ≡ Some (record { key = part; verdict = k })) × ((fact : Fact) → IsIn fact part ↔ IsTrue (lies class pair.key.value fact))
+      → (part : Part) × (slice_get keys k ≡ Some (record { key = part; verdict = k }))
+      × ((fact : Fact) → IsIn fact part ↔ IsTrue (lies class pair.key.value fact))
 
 -- the map leads a fact to the places of the pairs whose keys hold it
 abbrev pub IsMap : Class → List Pair → List (Key ℕ) → Type 0
 IsMap class pairs map =
-    (fact : Fact) (k : ℕ) → MapsTo fact k map ↔ ((pair : Pair) × (slice_get pairs k ≡ Some pair) × IsTrue (lies class pair.key.value fact))
+    (fact : Fact) (k : ℕ) → MapsTo fact k map
+    ↔ ((pair : Pair) × (slice_get pairs k ≡ Some pair)
+    × IsTrue (lies class pair.key.value fact))
 
 -- at this place is the verdict map that a rule ends in, if it does
 abbrev pub HasMap : List (List (Key ℕ)) → ℕ → Option End → Type 0
-HasMap maps at (Some (ends.Vmap vmap)) = (map : List (Key ℕ)) × (slice_get maps at ≡ Some map) × IsMap (class_of vmap.head) vmap.pairs map
+HasMap maps at (Some (ends.Vmap vmap)) = (map : List (Key ℕ)) × (slice_get maps at ≡ Some map)
+    × IsMap (class_of vmap.head) vmap.pairs map
 HasMap maps at _ = Unit {0}
 
 -- what rules of a loaded text keep: each value is one of its class, no two keys of a map share a fact, and there are no

@@ -26,7 +26,8 @@ pub(crate) fn is_same_hook(one: Hook, other: Hook) -> bool
 
 // Whether the chain is a base chain of the hook.
 fn stands_at(chain: &Chain, hook: Hook) -> bool
-    ensures { result ≡ false → (table : TableOf) → option_map_or (at_hook hook table chain.now) chain.now.base [] ≡ [] }
+    ensures { result ≡ false → (table : TableOf)
+        → option_map_or (at_hook hook table chain.now) chain.now.base [] ≡ [] }
 {
     match &chain.base {
         None => false,

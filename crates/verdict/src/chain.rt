@@ -31,7 +31,8 @@ pub enum Outcome {
 
 // The place to which the map leads the fact.
 fn place_led(map: &Map<usize>, fact: Fact<'_>) -> Option<usize>
-    ensures found { IfSome result (λ place. (other : ℕ) → MapsTo (fact_of fact.entry) other map.now ↔ (other ≡ place)) }
+    ensures found { IfSome result (λ place. (other : ℕ) → MapsTo (fact_of fact.entry) other map.now
+        ↔ (other ≡ place)) }
     ensures absent { IfNone result ((place : ℕ) → ¬ MapsTo (fact_of fact.entry) place map.now) }
 {
     match map.look_up(fact) {

@@ -122,8 +122,11 @@ fn final_at(
     requires known { AreKnown bounds.now facts.now table.now known.old }
     ensures still_known { AreKnown bounds.now facts.now table.now known.new }
     ensures still_roomy { length table.now.chains ≤ length known.new }
-    ensures spent { steps.new + unread table.now.chains known.new ≤ steps.old + unread table.now.chains known.old }
-    ensures outcome { IfSome (slice_get table.now.chains place) (λ chain. result ≡ first_final bounds.now facts.now (option_map_or (at_hook hook table.now chain) chain.base [])) }
+    ensures spent { steps.new + unread table.now.chains known.new
+        ≤ steps.old + unread table.now.chains known.old }
+    ensures outcome { IfSome (slice_get table.now.chains place) (λ chain. result
+        ≡ first_final bounds.now facts.now (option_map_or (at_hook hook table.now chain)
+        chain.base [])) }
 {
     let base = table.chains.as_slice()[place].base.as_ref()?;
     if !is_same_hook(base.hook, hook) {
@@ -149,7 +152,8 @@ fn final_over(
     requires roomy { length table.now.chains ≤ length known.old }
     requires room { steps.old + unread table.now.chains known.old < 2 ^ 32 }
     requires known { AreKnown bounds.now facts.now table.now known.old }
-    ensures first { result ≡ first_final bounds.now facts.now (bases_among hook table.now table.now.chains) }
+    ensures first { result ≡ first_final bounds.now facts.now
+        (bases_among hook table.now table.now.chains) }
     ensures spent { steps.new ≤ steps.old + unread table.now.chains known.old }
 {
     let mut first = None;
@@ -174,7 +178,8 @@ fn final_among(
     requires shallow { ¬ IsDeep table.now.chains }
     requires few { length table.now.chains ≤ 256 }
     requires room { steps.old + rules_of_table table.now < 2 ^ 32 }
-    ensures first { result ≡ first_final bounds.now facts.now (bases_among hook table.now table.now.chains) }
+    ensures first { result ≡ first_final bounds.now facts.now
+        (bases_among hook table.now table.now.chains) }
     ensures spent { steps.new ≤ steps.old + rules_of_table table.now }
 {
     if !any_stands_at(table.chains.as_slice(), hook) {

@@ -105,7 +105,8 @@ fn next_among(keys: &[u64], numbers: &[u64], from: u64, to: u64) -> u64
     requires numbers { length numbers.now ≤ 8 }
     ensures from { from ≤ result }
     ensures to { result ≤ to }
-    ensures none { (i : ℕ) → from ≤ i → i < result → HasNoneOf keys.now numbers.now (length numbers.now) i }
+    ensures none { (i : ℕ) → from ≤ i → i < result
+        → HasNoneOf keys.now numbers.now (length numbers.now) i }
 {
     let mut next = to;
     for (asks, number) in numbers.iter().enumerate() {

@@ -92,7 +92,8 @@ pub fn has_protocol(head: Head, proto: Proto) -> bool
 }
 
 fn holds(bounds: &Bounds, facts: &Facts, pools: &[Pool], test: &Test) -> bool
-    ensures { (sets : List SetOf) (own : MatchOf) → IsTest sets pools.now own test.now → result ≡ match_holds bounds.now sets facts.now own }
+    ensures { (sets : List SetOf) (own : MatchOf) → IsTest sets pools.now own test.now
+        → result ≡ match_holds bounds.now sets facts.now own }
 {
     if !has_protocol(test.head, facts.proto) {
         return false; // a negated test demands the protocol too
@@ -116,7 +117,9 @@ pub(crate) fn all_hold(
     span: Span,
 ) -> bool
     requires { span.end ≤ length tests.now }
-    ensures { (sets : List SetOf) (matches : List MatchOf) → AreTests sets pools.now tests.now span matches → result ≡ list_all (match_holds bounds.now sets facts.now) matches }
+    ensures { (sets : List SetOf) (matches : List MatchOf)
+        → AreTests sets pools.now tests.now span matches
+        → result ≡ list_all (match_holds bounds.now sets facts.now) matches }
 {
     let mut at = span.start;
     while at < span.end {

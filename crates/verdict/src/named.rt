@@ -37,7 +37,10 @@ fn put(
     name: &[u8],
     place: usize,
 ) -> Result<(), AllocError>
-    ensures { OnOk result ((other : List ℕ) → place_in places.new other ≡ option_or (place_in places.old other) (if bytes_eq other name.now then Some place else None)) }
+    ensures { OnOk result ((other : List ℕ)
+        → place_in places.new other
+        ≡ option_or (place_in places.old other)
+        (if bytes_eq other name.now then Some place else None)) }
 {
     if places.contains_key(name) {
         return Ok(());
@@ -74,7 +77,9 @@ impl<'a> Named<'a> {
 
     /// The place of the first set of this name.
     pub(crate) fn place_of(&self, name: &[u8]) -> Option<usize>
-        ensures found { IfSome result (λ place. (set : SetOf) × (slice_get self.now place ≡ Some set) × (find (λ set. bytes_eq set.name name.now) self.now ≡ Some set)) }
+        ensures found { IfSome result (λ place. (set : SetOf)
+            × (slice_get self.now place ≡ Some set)
+            × (find (λ set. bytes_eq set.name name.now) self.now ≡ Some set)) }
         ensures absent { IfNone result (find (λ set. bytes_eq set.name name.now) self.now ≡ None) }
     {
         self.places.get(name).copied()

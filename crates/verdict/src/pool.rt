@@ -45,7 +45,8 @@ fn push_parts(
     elements: &[Element],
 ) -> Result<(), AllocError>
     requires { has_stranger class elements.now ≡ false }
-    ensures { OnOk result (Adds parts.old.items parts.new.items (is_member class elements.now) (length elements.now)) }
+    ensures { OnOk result (Adds parts.old.items parts.new.items (is_member class elements.now)
+        (length elements.now)) }
 {
     for element in elements {
         push_part(alloc, parts, class, &element.value)?;
@@ -55,7 +56,9 @@ fn push_parts(
 
 fn parts_of(alloc: Global, class: Class, lines: &[SetElements]) -> Result<Vec<Part>, AllocError>
     requires { list_any (λ line. has_stranger class line.elements) lines.now ≡ false }
-    ensures { IfOk result (λ parts. Adds [] parts.items (λ fact. list_any (λ line. is_member class line.elements fact) lines.now) (sum_by (λ line. length line.elements) lines.now)) }
+    ensures { IfOk result (λ parts. Adds [] parts.items
+        (λ fact. list_any (λ line. is_member class line.elements fact) lines.now)
+        (sum_by (λ line. length line.elements) lines.now)) }
 {
     let mut parts = Vec::new(alloc);
     for line in lines {
@@ -129,7 +132,8 @@ pub(crate) fn pools_of(alloc: Global, sets: &[Set]) -> Result<Items<Pool>, Alloc
 }
 
 fn place_named(sets: &Named<'_>, side: &Side) -> Option<usize>
-    ensures found { IfSome result (λ place. (set : SetOf) × (slice_get sets.now place ≡ Some set) × (set_named sets.now side.now ≡ Some set)) }
+    ensures found { IfSome result (λ place. (set : SetOf) × (slice_get sets.now place ≡ Some set)
+        × (set_named sets.now side.now ≡ Some set)) }
     ensures absent { IfNone result (set_named sets.now side.now ≡ None) }
 {
     match side {
@@ -153,7 +157,8 @@ fn parts_standing(
     elements: &[Element],
 ) -> Result<Vec<Part>, AllocError>
     requires { has_stranger class elements.now ≡ false }
-    ensures { IfOk result (λ parts. Adds [] parts.items (is_member class elements.now) (length elements.now)) }
+    ensures { IfOk result (λ parts. Adds [] parts.items (is_member class elements.now)
+        (length elements.now)) }
 {
     let mut parts = Vec::new(alloc);
     push_parts(alloc, &mut parts, class, elements)?;
@@ -163,7 +168,8 @@ fn parts_standing(
 // The parts of the elements that stand in the rule itself.
 fn parts_of_side(alloc: Global, class: Class, side: &Side) -> Result<Vec<Part>, AllocError>
     requires { AreValues class side.now }
-    ensures { IfOk result (λ parts. Adds [] parts.items (stands_on class side.now) (elements_of_side side.now)) }
+    ensures { IfOk result (λ parts. Adds [] parts.items (stands_on class side.now)
+        (elements_of_side side.now)) }
 {
     match side {
         Side::One(element) => part_alone(alloc, class, &element.value),
@@ -186,7 +192,8 @@ pub(crate) fn lay_side(
     requires sets { ArePools sets.now pools.old }
     requires typed { is_wrong_match sets.now own.now ≡ false }
     requires few { elements_of_side own.now.side ≤ 16384 }
-    ensures { IfOk result (λ place. Keeps (List PartOf) pools.old pools.new × HasSide sets.now pools.new own.now place) }
+    ensures { IfOk result (λ place. Keeps (List PartOf) pools.old pools.new
+        × HasSide sets.now pools.new own.now place) }
 {
     if let Some(place) = place_named(sets, &own.side) {
         return Ok(place);

@@ -150,7 +150,8 @@ fn is_bounded(test: &Test, asks: u8) -> bool
 
 // The bounds that a test sets whose pool has at most so many intervals: the ends of its pool.
 fn bounds_of(pools: &[Pool], test: &Test, most: usize) -> Option<Probe>
-    ensures { IfSome result (λ probe. (sets : List SetOf) (own : MatchOf) → IsTest sets pools.now own test.now → TellsIn sets own probe) }
+    ensures { IfSome result (λ probe. (sets : List SetOf) (own : MatchOf)
+        → IsTest sets pools.now own test.now → TellsIn sets own probe) }
 {
     let asks = place_of(test.head);
     if !is_bounded(test, asks) {
@@ -170,7 +171,8 @@ fn bounds_of(pools: &[Pool], test: &Test, most: usize) -> Option<Probe>
 // The bounds of the first of the tests that sets any.
 fn first_bounds(pools: &[Pool], tests: &[Test], span: Span, most: usize) -> Option<Probe>
     requires { span.end ≤ length tests.now }
-    ensures { IfSome result (λ probe. (sets : List SetOf) (matches : List MatchOf) → AreTests sets pools.now tests.now span matches → Tells sets matches probe) }
+    ensures { IfSome result (λ probe. (sets : List SetOf) (matches : List MatchOf)
+        → AreTests sets pools.now tests.now span matches → Tells sets matches probe) }
 {
     let mut at = span.start;
     while at < span.end {
@@ -185,7 +187,8 @@ fn first_bounds(pools: &[Pool], tests: &[Test], span: Span, most: usize) -> Opti
 // What a rule asks first: the bounds of a test whose pool is one interval, or else of one with more, or none.
 fn probe_of(pools: &[Pool], tests: &[Test], span: Span) -> Probe
     requires { span.end ≤ length tests.now }
-    ensures { (sets : List SetOf) (matches : List MatchOf) → AreTests sets pools.now tests.now span matches → Tells sets matches result }
+    ensures { (sets : List SetOf) (matches : List MatchOf)
+        → AreTests sets pools.now tests.now span matches → Tells sets matches result }
 {
     if let Some(probe) = first_bounds(pools, tests, span, 1) {
         return probe;
@@ -227,7 +230,8 @@ fn lay_targets(
     chains: &[Chain],
     end: &Option<End>,
 ) -> Result<(), AllocError>
-    ensures { OnOk result (targets.new ≡ targets.old ++ map (place_led chains.now) (verdicts_of end.now)) }
+    ensures { OnOk result (targets.new ≡ targets.old
+        ++ map (place_led chains.now) (verdicts_of end.now)) }
 {
     match end {
         Some(End::Verdict(verdict)) => targets.push(place_led_to(chains, verdict))?,
@@ -238,7 +242,8 @@ fn lay_targets(
 }
 
 fn lay_keys(targets: &mut Items<usize>, chains: &[Chain], pairs: &[Pair]) -> Result<(), AllocError>
-    ensures { OnOk result (targets.new ≡ targets.old ++ map (place_led chains.now) (map (λ pair. pair.verdict) pairs.now)) }
+    ensures { OnOk result (targets.new ≡ targets.old
+        ++ map (place_led chains.now) (map (λ pair. pair.verdict) pairs.now)) }
 {
     for pair in pairs {
         targets.push(place_led_to(chains, &pair.verdict))?;
@@ -257,7 +262,8 @@ fn lay_tests(
     requires sets { ArePools sets.now pools.old }
     requires typed { list_any (is_wrong_match sets.now) matches.now ≡ false }
     requires few { sum_by (λ own. elements_of_side own.side) matches.now ≤ 16384 }
-    ensures { IfOk result (AreTestsLaid sets.now matches.now tests.old pools.old tests.new pools.new) }
+    ensures { IfOk result (AreTestsLaid sets.now matches.now tests.old pools.old tests.new
+        pools.new) }
 {
     let start = tests.len();
     for own in matches {
@@ -310,7 +316,8 @@ fn lay_chain(
 ) -> Result<(), AllocError>
     requires named { sets.now ≡ table.now.sets }
     requires sets { ArePools table.now.sets row.old.pools }
-    requires ready { (i : ℕ) (rule : RuleOf) → slice_get rules.now i ≡ Some rule → IsReady table.now.sets rule }
+    requires ready { (i : ℕ) (rule : RuleOf) → slice_get rules.now i ≡ Some rule
+        → IsReady table.now.sets rule }
     ensures { OnOk result (IsChainLaid table.now rules.now row.old row.new) }
 {
     for rule in rules {
@@ -333,7 +340,11 @@ fn lay_chains(
     requires typed { ¬ HasWrongType table.now.sets table.now.chains }
     requires few { elements_of_table table.now ≤ 16384 }
     requires apart { ¬ TableOverlaps table.now }
-    ensures { IfOk result (λ keys. IsLaid table.now (record { spans = spans.new; keys = keys; row = row.new })) }
+    ensures { IfOk result (λ keys. IsLaid table.now (record {
+      spans = spans.new;
+      keys = keys;
+      row = row.new;
+    })) }
 {
     for chain in table.chains.as_slice() {
         let start = row.lines.len();

@@ -171,7 +171,8 @@ fn near(lines: &[Line], numbers: &[u64], from: usize, end: usize, steps: &mut St
     requires room { steps.old + end < 2 ^ 32 + from }
     ensures from { from ≤ result }
     ensures to { result ≤ end }
-    ensures skipped { (i : ℕ) (line : LineOf) → from ≤ i → i < result → slice_get lines.now i ≡ Some line → line_may_hold numbers.now line.probe ≡ false }
+    ensures skipped { (i : ℕ) (line : LineOf) → from ≤ i → i < result
+        → slice_get lines.now i ≡ Some line → line_may_hold numbers.now line.probe ≡ false }
     ensures found { result < end → steps.new + from ≡ steps.old + result + 1 }
     ensures none { result ≡ end → steps.new + from ≡ steps.old + end }
 {
@@ -212,7 +213,8 @@ fn candidate(
     requires numbers { length numbers.now ≡ 8 }
     ensures from { from ≤ result }
     ensures to { result ≤ end }
-    ensures skipped { (i : ℕ) (line : LineOf) → from ≤ i → i < result → slice_get lines.now i ≡ Some line → line_may_hold numbers.now line.probe ≡ false }
+    ensures skipped { (i : ℕ) (line : LineOf) → from ≤ i → i < result
+        → slice_get lines.now i ≡ Some line → line_may_hold numbers.now line.probe ≡ false }
     ensures found { result < end → steps.new + from ≡ steps.old + result + 1 }
     ensures none { result ≡ end → steps.new + from ≡ steps.old + end }
 {
@@ -248,7 +250,9 @@ fn next_rule(
     requires room { steps.old + length (rules_at table.now.chains here.chain) < 2 ^ 32 + here.at }
     ensures from { here.at ≤ result }
     ensures to { result ≤ length (rules_at table.now.chains here.chain) }
-    ensures skipped { (config : Config) → AreSkipped config facts.now table.now (rules_at table.now.chains here.chain) here.at result }
+    ensures skipped { (config : Config)
+        → AreSkipped config facts.now table.now (rules_at table.now.chains here.chain)
+        here.at result }
     ensures looked { steps.new + here.at ≤ steps.old + result + 1 }
     ensures all { steps.new + here.at ≤ steps.old + length (rules_at table.now.chains here.chain) }
 {
@@ -272,7 +276,8 @@ fn move_from(
     requires rules { rules.now ≡ rules_at table.now.chains here.chain }
     requires chain { here.chain < length table.now.chains }
     requires at { here.at < length rules.now }
-    ensures { IfSome (slice_get rules.now here.at) (λ rule. result ≡ move_of_rule bounds.now facts.now table.now rule) }
+    ensures { IfSome (slice_get rules.now here.at) (λ rule. result
+        ≡ move_of_rule bounds.now facts.now table.now rule) }
 {
     let span = laid.spans.as_slice()[here.chain];
     let line = laid.row.lines.as_slice()[span.start + here.at];
@@ -291,7 +296,8 @@ fn remember_all(stack: &mut Stack, known: &mut [Option<Outcome>], outcome: Outco
 // Returns to where the chain was called from.
 fn back(walk: &mut Walk, known: &mut [Option<Outcome>]) -> Option<Outcome>
     ensures known { known.new ≡ told_of known.old (walk.old.here ∷ []) outcomes.Ends }
-    ensures back { MatchOption result (walk.old.stack ≡ walk.new.here ∷ walk.new.stack) (λ outcome. (outcome ≡ outcomes.Ends) × (walk.old.stack ≡ [])) }
+    ensures back { MatchOption result (walk.old.stack ≡ walk.new.here ∷ walk.new.stack)
+        (λ outcome. (outcome ≡ outcomes.Ends) × (walk.old.stack ≡ [])) }
 {
     remember(known, walk.here.chain, Outcome::Ends);
     match walk.stack.pop() {
@@ -313,7 +319,8 @@ fn act(
 ) -> Option<Outcome>
     requires within { at < count }
     requires room { Calling step (length walk.old.stack < 16) }
-    ensures { Acts step at count walk.old.here walk.old.stack known.old walk.new.here walk.new.stack known.new result }
+    ensures { Acts step at count walk.old.here walk.old.stack known.old walk.new.here walk.new.stack
+        known.new result }
 {
     let chain = walk.here.chain;
     let next = Place { chain, at: at + 1 };
@@ -363,9 +370,13 @@ fn step(
     requires standing { Standing bounds.now facts.now table.now (walk.old.here ∷ walk.old.stack) }
     requires ends { ¬ IsLooped table.now.chains }
     requires reading { Reading table.now.chains known.old walk.old.here walk.old.stack }
-    requires room { steps.old + length (rules_at table.now.chains walk.old.here.chain) < 2 ^ 32 + walk.old.here.at }
-    ensures stepped { AreKnown bounds.now facts.now table.now known.new × Stepped bounds.now facts.now table.now (walk.old.here ∷ walk.old.stack) (walk.new.here ∷ walk.new.stack) result }
-    ensures spent { Spent table.now.chains walk.old.here walk.old.stack known.old steps.old walk.new.here walk.new.stack known.new steps.new result }
+    requires room { steps.old + length (rules_at table.now.chains walk.old.here.chain)
+        < 2 ^ 32 + walk.old.here.at }
+    ensures stepped { AreKnown bounds.now facts.now table.now known.new
+        × Stepped bounds.now facts.now table.now (walk.old.here ∷ walk.old.stack)
+        (walk.new.here ∷ walk.new.stack) result }
+    ensures spent { Spent table.now.chains walk.old.here walk.old.stack known.old steps.old
+        walk.new.here walk.new.stack known.new steps.new result }
 {
     let chain = walk.here.chain;
     let at = next_rule(table, laid, facts, numbers, walk.here, steps);
@@ -396,11 +407,14 @@ fn walked(
     requires standing { Standing bounds.now facts.now table.now (walk.old.here ∷ walk.old.stack) }
     requires ends { ¬ IsLooped table.now.chains }
     requires reading { Reading table.now.chains known.old walk.old.here walk.old.stack }
-    requires room { steps.old + unread table.now.chains known.old < 2 ^ 32 + read_at (walk.old.here ∷ walk.old.stack) }
-    ensures outcome { result ≡ whole bounds.now facts.now table.now outcomes.Ends (walk.old.here ∷ walk.old.stack) }
+    requires room { steps.old + unread table.now.chains known.old
+        < 2 ^ 32 + read_at (walk.old.here ∷ walk.old.stack) }
+    ensures outcome { result ≡ whole bounds.now facts.now table.now outcomes.Ends (walk.old.here
+        ∷ walk.old.stack) }
     ensures still_known { AreKnown bounds.now facts.now table.now known.new }
     ensures still_roomy { length table.now.chains ≤ length known.new }
-    ensures spent { steps.new + unread table.now.chains known.new + read_at (walk.old.here ∷ walk.old.stack) ≤ steps.old + unread table.now.chains known.old }
+    ensures spent { steps.new + unread table.now.chains known.new
+        + read_at (walk.old.here ∷ walk.old.stack) ≤ steps.old + unread table.now.chains known.old }
 {
     loop {
         if let Some(outcome) = step(bounds, facts, table, laid, numbers, walk, known, steps) {
@@ -460,8 +474,10 @@ fn step_alone(
     requires ends { ¬ IsLooped table.now.chains }
     requires reading { Reading table.now.chains known.old here.old [] }
     requires room { steps.old + unread table.now.chains known.old < 2 ^ 32 + here.old.at }
-    ensures stepped { AreKnown bounds.now facts.now table.now known.new × Stepped bounds.now facts.now table.now (here.old ∷ []) (here.new ∷ []) result }
-    ensures spent { Spent table.now.chains here.old [] known.old steps.old here.new [] known.new steps.new result }
+    ensures stepped { AreKnown bounds.now facts.now table.now known.new
+        × Stepped bounds.now facts.now table.now (here.old ∷ []) (here.new ∷ []) result }
+    ensures spent { Spent table.now.chains here.old [] known.old steps.old here.new [] known.new
+        steps.new result }
 {
     let chain = here.chain;
     let at = next_rule(table, laid, facts, numbers, *here, steps);
@@ -506,15 +522,18 @@ pub(crate) fn chain_outcome(
 ) -> Outcome
     requires laid { IsLaid table.now laid.now }
     requires within { base < length table.now.chains }
-    requires short { OfEach (TargetsHave (EndsWithin table.now.chains 16)) (rules_at table.now.chains base) }
+    requires short { OfEach (TargetsHave (EndsWithin table.now.chains 16))
+        (rules_at table.now.chains base) }
     requires ends { ¬ IsLooped table.now.chains }
     requires roomy { length table.now.chains ≤ length known.old }
     requires room { steps.old + unread table.now.chains known.old < 2 ^ 32 }
     requires known { AreKnown bounds.now facts.now table.now known.old }
-    ensures outcome { result ≡ outcome_of_chain bounds.now facts.now table.now (rules_at table.now.chains base) }
+    ensures outcome { result ≡ outcome_of_chain bounds.now facts.now table.now
+        (rules_at table.now.chains base) }
     ensures still_known { AreKnown bounds.now facts.now table.now known.new }
     ensures still_roomy { length table.now.chains ≤ length known.new }
-    ensures spent { steps.new + unread table.now.chains known.new ≤ steps.old + unread table.now.chains known.old }
+    ensures spent { steps.new + unread table.now.chains known.new
+        ≤ steps.old + unread table.now.chains known.old }
 {
     if let Some(outcome) = known_at(known, base) {
         return outcome;
