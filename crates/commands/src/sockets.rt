@@ -123,7 +123,7 @@ fn client_of<R: Net>(rt: &R, path: &str, requests: &[u8]) -> io::Result<UnixStre
     Ok(client)
 }
 
-// Prints what is left to read of a client.
+// Prints what is left to read of a client, also where reading fails behind it.
 fn print_answers<W: Write>(
     alloc: Global,
     path: &str,
@@ -134,10 +134,12 @@ fn print_answers<W: Write>(
 {
     let mut answers = Vec::new(alloc);
     let mut reader = client;
-    if let Err(error) = reader.read_to_end(&mut answers) {
+    let read = reader.read_to_end(&mut answers);
+    let printed = output.write_all(answers.as_slice());
+    if let Err(error) = read {
         return Err(Stop::at_path(alloc, path, "can't be read", &error));
     }
-    match output.write_all(answers.as_slice()) {
+    match printed {
         Ok(()) => Ok(()),
         Err(_) => Err(Stop::from(Refusal::Output)),
     }

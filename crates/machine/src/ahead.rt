@@ -5,7 +5,7 @@ use packet::endpoint::{Endpoint, Proto};
 use sessions::{Coming, MOST_AHEAD, Session, Slot, Table};
 
 /// The slots whose sessions, with all that leads to them, are too many for near memory.
-pub const WIDE: usize = 4_096;
+const WIDE: usize = 4_096;
 
 /// For how many sessions that end it is looked ahead.
 const MOST_ENDING: usize = 128;

@@ -10,7 +10,7 @@ use Rattle.rulesyntax.specs.declared.tree.Value.{Value}
 use Rattle.rulesyntax.specs.declared.tree.Value.TheVariants.{Address, Prefix, Addresses, Number, Numbers, Name, Quoted}
 use Rattle.rulesyntax.specs.declared.tree.Element.{Element}
 use Rattle.rulesyntax.specs.Grammar.{Tokens, Spelling, inside, MayComma, Entries, ValueIs, ElementIs}
-use Rattle.rulesyntax.specs.Reading.{if_some, Reader, rank, next_at, number_of, number_at, address_of, address_at, symbol_of, symbol_at, close_at, is_close, prefix_behind, addresses_behind, address_behind, numbers_behind, number_behind, value_of, value_at, element_at, behind_comma, comma_at, entries_from, braced_at}
+use Rattle.rulesyntax.specs.Reading.{if_some, Reader, rank, next_at, number_of, number_at, address_of, address_at, symbol_of, symbol_at, close_at, is_close, prefix_behind, addresses_behind, address_behind, numbers_behind, number_behind, value_of, value_at, element_at, behind_comma, comma_at, entries_from, opened_at}
 use Rattle.rulesyntax.proofs.Sound.{Sound, nothing, just, then_sound, if_sound, cond_sound, next_sound, number_sound, address_sound, symbol_sound, close_sound}
 
 -- it is spelled so
@@ -210,15 +210,15 @@ module _ {E : Type 0} (X : Spelling E) (reads : Reader E) (entered : Entered X r
       let s : length h.0 < n = omega (arith, ((entered.sound ts).so (x, token.Symbol Comma ∷ h.0) c).1) in
       rw (c, comma_some braces h.0 (entries_open braces (y ∷ xs) h.0 rest h.2), entries_complete braces (y ∷ xs) n h.0 rest h.2 e f s) refl
 
-  pub braced_sound : (ts : Tokens) → Sound (Within X ts) (braced_at reads ts)
-  unfolding braced_at
+  pub braced_sound : (ts : Tokens) → Sound (Within X ts) (opened_at reads ts)
+  unfolding opened_at
   braced_sound ts =
       then_sound (entries_sound true (suc (length ts)) (inside ts)) (λ (r : List E × Tokens) (h : Takes (Entries X true) (inside ts) r).
       then_sound (close_sound r.1) (λ (u : Tokens) (e : r.1 ≡ token.Symbol Close ∷ u).
       just {x = (r.0, u)} (subst (λ (v : Tokens). Entries X true r.0 (inside ts) v) e h.0, omega (arith, h.1, inside_shorter ts, ap length e))))
 
-  pub braced_complete : (xs : List E) (ts rest : Tokens) → Entries X true xs (inside ts) (token.Symbol Close ∷ rest) → braced_at reads ts ≡ Some (xs, rest)
-  unfolding braced_at close_at is_close
+  pub braced_complete : (xs : List E) (ts rest : Tokens) → Entries X true xs (inside ts) (token.Symbol Close ∷ rest) → opened_at reads ts ≡ Some (xs, rest)
+  unfolding opened_at close_at is_close
   braced_complete xs ts rest h = rw (entries_complete true xs (suc (length ts)) (inside ts) (token.Symbol Close ∷ rest) h refl refl (omega (arith, inside_shorter ts))) refl
 
 -- ---- elements as entries

@@ -257,8 +257,8 @@ entries_from reads braces (suc n) ts = do
     Some (x.0 ∷ xs.0, xs.1)) else Some (x.0 ∷ [], (comma_at braces x.1).1)
 
 -- behind the opening brace
-unfoldable pub braced_at : {E : Type 0} → Reader E → Reader (List E)
-braced_at reads ts = do
+unfoldable pub opened_at : {E : Type 0} → Reader E → Reader (List E)
+opened_at reads ts = do
   xs ← entries_from reads true (suc (length ts)) (inside ts)
   rest ← close_at xs.1
   Some (xs.0, rest)
@@ -347,7 +347,7 @@ unfoldable pub named_behind : Reader Side
 named_behind ts = name_at ts >>= λ n. Some (Named (record { line = tt; name = n.0 }), n.1)
 
 unfoldable pub several_behind : Reader Side
-several_behind ts = braced_at element_at ts >>= λ xs. Some (Several xs.0, xs.1)
+several_behind ts = opened_at element_at ts >>= λ xs. Some (Several xs.0, xs.1)
 
 unfoldable pub plain_at : Bool → Reader Side
 plain_at state ts = if_some (word_at (codes "vmap") ts) (λ _. None) (if state then states_at ts else one_at ts)
@@ -406,7 +406,7 @@ vmap_at ts = do
   h ← head_at ts
   a ← word_at (codes "vmap") h.1
   b ← symbol_at Open a
-  ps ← braced_at pair_at b
+  ps ← opened_at pair_at b
   Some (record { line = tt; head = h.0; pairs = ps.0 }, ps.1)
 
 -- `to` and perhaps `ip` before it
@@ -598,7 +598,7 @@ unfoldable pub elements_behind : SetBody → Tokens → Option ((SetBody × Bool
 elements_behind s ts = do
   a ← symbol_at Equal ts
   b ← symbol_at Open a
-  xs ← braced_at element_at b
+  xs ← opened_at element_at b
   Some ((record { types = s.types; elements = s.elements ++ record { line = tt; elements = xs.0 } ∷ [] }, false), xs.1)
 
 unfoldable pub line_behind : SetBody → LineWord → Tokens → Option ((SetBody × Bool) × Tokens)

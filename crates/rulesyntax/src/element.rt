@@ -2,7 +2,7 @@
 
 ghost use Rattle.std.specs.Prelude.{◌≡◌, ◌&&◌, false, true, length, suc};
 ghost use Rattle.ruletokens.specs.declared.token.Symbol.TheVariants.{Open};
-ghost use Rattle.rulesyntax.specs.Reading.{Gives, Reader, ◌>>=◌ as and_then, seen, symbol_at, prefix_behind, addresses_behind, address_behind, numbers_behind, number_behind, value_at, element_at, behind_comma, comma_at, entries_from, braced_at, flag_at, is_close};
+ghost use Rattle.rulesyntax.specs.Reading.{Gives, Reader, ◌>>=◌ as and_then, seen, symbol_at, prefix_behind, addresses_behind, address_behind, numbers_behind, number_behind, value_at, element_at, behind_comma, comma_at, entries_from, opened_at, flag_at, is_close};
 
 use crate::error::ReadError;
 use crate::keyword::Flag;
@@ -202,24 +202,24 @@ pub fn entries<'a, E: Entry + Drop>(
 }
 
 /// The entries behind an opening brace, and what stands behind the closing one.
-#[tactic(auto, unfolding(crate::specs::Reading::braced_at))]
-pub fn braced<'a, E: Entry + Drop>(
+#[tactic(auto, unfolding(crate::specs::Reading::opened_at))]
+pub fn opened<'a, E: Entry + Drop>(
     source: &Source,
     tokens: &'a [Token],
 ) -> Result<(Items<E>, &'a [Token]), ReadError>
-    ensures { Gives false result (braced_at E.reads tokens.now) }
+    ensures { Gives false result (opened_at E.reads tokens.now) }
 {
     let (entries, rest) = entries::<E>(source, true, tokens)?;
     closed(entries, true, rest)
 }
 
 /// The entries between braces, and what stands behind them.
-pub fn opened<'a, E: Entry + Drop>(
+pub fn braced<'a, E: Entry + Drop>(
     source: &Source,
     tokens: &'a [Token],
 ) -> Result<(Items<E>, &'a [Token]), ReadError>
-    ensures { Gives false result (and_then (symbol_at Open tokens.now) (braced_at E.reads)) }
+    ensures { Gives false result (and_then (symbol_at Open tokens.now) (opened_at E.reads)) }
 {
     let rest = symbol(false, tokens, Symbol::Open)?;
-    braced::<E>(source, rest)
+    opened::<E>(source, rest)
 }

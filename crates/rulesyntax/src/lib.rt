@@ -2,7 +2,8 @@
 //!
 //! `parse`, which stands in `ruleset`, answers the tree exactly where the text spells one, and else what is wrong, and
 //! in which line. `tree` is what it answers, `fault` and `line` why it doesn't; `error` is what the crate's own
-//! functions hand on until then: a fault with its line, or want of memory.
+//! functions hand on until then: the token that can't stand where it does, or want of memory. Of the one `ruleset`
+//! makes a fault with its line.
 //!
 //! The crate `ruletokens` cuts a text into tokens, `next` and `keyword` read one token, `element` elements
 //! and lists with commas, `rule`, `chain`, `set` and `table` what their names say, and `list` what stands

@@ -281,7 +281,7 @@ fn named<'a>(
 fn several<'a>(source: &Source, tokens: &'a [Token]) -> Result<(Side, &'a [Token]), ReadError>
     ensures { Gives false result (several_behind tokens.now) }
 {
-    let (elements, rest) = braced::<Element>(source, tokens)?;
+    let (elements, rest) = opened::<Element>(source, tokens)?;
     Ok((Side::Several(elements), rest))
 }
 
@@ -469,7 +469,7 @@ fn vmap<'a>(source: &Source, tokens: &'a [Token]) -> Result<(Vmap, &'a [Token]),
     let line = line(source, false, tokens);
     let (head, rest) = head(tokens)?;
     let rest = word(rest, b"vmap")?;
-    let (pairs, rest) = opened::<Pair>(source, rest)?;
+    let (pairs, rest) = braced::<Pair>(source, rest)?;
     Ok((Vmap { line, head, pairs }, rest))
 }
 

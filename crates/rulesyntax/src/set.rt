@@ -3,7 +3,7 @@
 ghost use Rattle.std.specs.Prelude.{◌≡◌, Some, false, codes, IfOk, IfErr};
 ghost use Rattle.rulesyntax.specs.Reading.{Gives, Fails, type_behind, elements_behind, line_behind, set_step, no_lines, set_behind};
 
-use crate::element::{entries, opened};
+use crate::element::{braced, entries};
 use crate::error::ReadError;
 use crate::keyword::{Flag, LineWord};
 use crate::list::{Body, block};
@@ -54,7 +54,7 @@ fn set_elements<'a>(
     ensures err { IfErr result (λ e. Fails e (elements_behind body.old tokens.now)) }
 {
     let rest = symbol(false, tokens, Symbol::Equal)?;
-    let (elements, rest) = opened::<Element>(source, rest)?;
+    let (elements, rest) = braced::<Element>(source, rest)?;
     body.elements.push(SetElements { line, elements })?;
     Ok((false, rest))
 }

@@ -12,7 +12,7 @@ use rulesyntax::line::Line;
 use rulesyntax::tree::{Chain, Family, Set, SetElements, SetType, Table};
 use std::alloc::{AllocError, Global};
 
-// The first thing whose name stands before. The names are those of the things so far.
+// The first thing whose name stands before it, by names of which none is known yet.
 fn second_in<'a, T: Named>(names: &mut Names, things: &'a [T]) -> Result<Option<&'a T>, AllocError>
     requires { names.now ≡ [] }
     ensures { IfOk result (λ found. is_some found ≡ has_twice (map T.name_of things.now)) }

@@ -95,7 +95,7 @@ fn first_of(alloc: Global, wanted: &Wanted, chains: &[Chain]) -> Result<Line, Al
     Ok(first_in(&names, wanted, chains))
 }
 
-fn looping(alloc: Global, chains: &[Chain]) -> Result<Wanted, AllocError>
+fn wanted_on_loops(alloc: Global, chains: &[Chain]) -> Result<Wanted, AllocError>
     requires { has_twice (chain_names chains.now) ≡ false }
 {
     let rows = graph_of(alloc, chains)?;
@@ -107,7 +107,7 @@ fn looping(alloc: Global, chains: &[Chain]) -> Result<Wanted, AllocError>
 pub fn line_of_loop(alloc: Global, chains: &[Chain]) -> Result<Line, AllocError>
     requires { has_twice (chain_names chains.now) ≡ false }
 {
-    let wanted = looping(alloc, chains)?;
+    let wanted = wanted_on_loops(alloc, chains)?;
     first_of(alloc, &wanted, chains)
 }
 
@@ -154,23 +154,23 @@ fn steps_behind(alloc: Global, rows: &[Items<usize>]) -> Result<Vec<usize>, Allo
     Ok(numbers)
 }
 
-fn lengths(alloc: Global, rows: &[Items<usize>]) -> Result<Wanted, AllocError> {
+fn wanted_by_lengths(alloc: Global, rows: &[Items<usize>]) -> Result<Wanted, AllocError> {
     let before = steps_before(alloc, rows)?;
     let behind = steps_behind(alloc, rows)?;
     Ok(Wanted::Long { before, behind })
 }
 
-fn long(alloc: Global, chains: &[Chain]) -> Result<Wanted, AllocError>
+fn wanted_on_long_paths(alloc: Global, chains: &[Chain]) -> Result<Wanted, AllocError>
     requires { has_twice (chain_names chains.now) ≡ false }
 {
     let rows = graph_of(alloc, chains)?;
-    lengths(alloc, rows.as_slice())
+    wanted_by_lengths(alloc, rows.as_slice())
 }
 
 /// The line of the first jump or goto on a path of more than 16; 1 where there is none.
 pub fn line_of_depth(alloc: Global, chains: &[Chain]) -> Result<Line, AllocError>
     requires { has_twice (chain_names chains.now) ≡ false }
 {
-    let wanted = long(alloc, chains)?;
+    let wanted = wanted_on_long_paths(alloc, chains)?;
     first_of(alloc, &wanted, chains)
 }

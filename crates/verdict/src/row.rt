@@ -356,8 +356,8 @@ fn lay_chains(
     Ok(keys)
 }
 
-// The same in a row of its own.
-fn lay_by(alloc: Global, table: &Table, sets: &Named<'_>) -> Result<Laid, AllocError>
+// The chains of a table in a row of its own, by its sets and their names.
+fn lay_with_sets(alloc: Global, table: &Table, sets: &Named<'_>) -> Result<Laid, AllocError>
     requires named { sets.now ≡ table.now.sets }
     requires typed { ¬ HasWrongType table.now.sets table.now.chains }
     requires few { elements_of_table table.now ≤ 16384 }
@@ -397,7 +397,7 @@ pub(crate) fn lay(alloc: Global, table: &Table) -> Result<Laid, AllocError>
         Ok(sets) => sets,
         Err(error) => return Err(error),
     };
-    let laid = lay_by(alloc, table, &sets);
+    let laid = lay_with_sets(alloc, table, &sets);
     drop(sets);
     laid
 }
