@@ -5,7 +5,8 @@ use commands::{Refusal, Stop, bind, bounds, loop_back, serve_clients};
 use gateway::Gateway;
 use std::alloc::Global;
 use std::fs;
-use std::io::Read;
+use std::fs::File;
+use std::io::{Read, Write};
 use std::net::Shutdown;
 use std::test::Fail;
 use trial_disk::Trial;
@@ -72,25 +73,28 @@ fn requests(alloc: Global) -> Result<Vec<u8>, Fail> {
     Ok(requests)
 }
 
-// How many bytes a loop prints until a call of the disk fails, where nothing is told.
-fn printed(rt: &HostRuntime, gateway: &mut Trials, path: &str) -> Result<Option<usize>, Fail> {
+// Whether a loop ends since a call of the disk failed, and nothing is told.
+fn is_cut_off<W: Write>(
+    rt: &HostRuntime,
+    gateway: &mut Trials,
+    path: &str,
+    output: &mut W,
+) -> Result<bool, Fail> {
     let alloc = rt.alloc();
     let listener = bind(rt, alloc, path)?;
     let requests = requests(alloc)?;
-    let mut output = Vec::new(alloc);
     let mut errors = Vec::new(alloc);
     let looped = loop_back(
         rt,
         alloc,
-        &listener,
+        listener,
         path,
         requests.as_slice(),
-        &mut output,
+        output,
         &mut errors,
         gateway,
     );
-    let is_cut = is_device(&looped) && errors.is_empty();
-    Ok(if is_cut { Some(output.len()) } else { None })
+    Ok(is_device(&looped) && errors.is_empty())
 }
 
 // The second flush fails, and what the first one handed out is printed.
@@ -98,9 +102,22 @@ fn printed(rt: &HostRuntime, gateway: &mut Trials, path: &str) -> Result<Option<
 fn a_loop_over_a_gateway_that_fails(rt: HostRuntime) -> Result<(), Fail> {
     fresh(&rt, "failing-loop")?;
     let mut gateway = troubled(rt.alloc(), 4)?;
-    let count = printed(&rt, &mut gateway, "failing-loop/natgw.sock")?;
-    assert!(rt; count == Some(64 * 13));
+    let mut output = Vec::new(rt.alloc());
+    assert!(rt; is_cut_off(&rt, &mut gateway, "failing-loop/natgw.sock", &mut output)?);
+    assert!(rt; output.len() == 64 * 13);
     fs::remove_file(&rt, "failing-loop/natgw.sock")?;
+    Ok(())
+}
+
+// The second flush fails, and what the first one handed out can't be printed: a file that is open for reading takes nothing.
+#[test]
+fn a_loop_that_can_print_nothing(rt: HostRuntime) -> Result<(), Fail> {
+    fresh(&rt, "failing-print")?;
+    fs::write(&rt, "failing-print/output", b"".as_slice())?;
+    let mut output = File::open(&rt, "failing-print/output")?;
+    let mut gateway = troubled(rt.alloc(), 4)?;
+    assert!(rt; is_cut_off(&rt, &mut gateway, "failing-print/natgw.sock", &mut output)?);
+    fs::remove_file(&rt, "failing-print/natgw.sock")?;
     Ok(())
 }
 

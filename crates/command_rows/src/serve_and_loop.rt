@@ -63,7 +63,7 @@ fn looped(
     loop_back(
         rt,
         alloc,
-        &listener,
+        listener,
         path,
         REQUESTS,
         &mut output,

@@ -13,8 +13,8 @@ use std::io::Read;
 ///
 /// That of the reader, or of kind `OutOfMemory` where memory is refused.
 pub(crate) fn read_front<R: Read + Drop>(alloc: Global, reader: R, most: u64) -> io::Result<Vec<u8>>
-    ensures { IfOk result (λ bytes. IfSome (R.remaining reader) (λ known. bytes.items
-        ≡ take most known)) }
+    ensures { IfOk result (λ bytes.
+        IfSome (R.remaining reader) (λ known. bytes.items ≡ take most known)) }
 {
     let mut bytes = Vec::new(alloc);
     reader.take(most).read_to_end(&mut bytes)?;

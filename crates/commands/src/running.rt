@@ -32,7 +32,8 @@ const LOOP_LIMIT: u64 = 2_048;
 /// - Of all but `check` what `open` says of the two files.
 /// - Of `serve` and `loop` `File` where the socket can't be bound.
 /// - What the run meets: the fault of a stream (of `serve` and `loop` that of the gateway alone), `Output`, and of
-///   `serve` and `loop` `File` where the socket fails or can't be removed. What was answered before is written.
+///   `serve` and `loop` `File` where the socket fails or can't be removed. What was answered before is written, by `loop`
+///   as far as it can be read back.
 ///
 /// `NoMemory` may come at any place.
 pub fn run(rt: &HostRuntime, options: &Options<'_>) -> Result<ExitCode, Stop> {
@@ -142,7 +143,7 @@ fn loop_in<D: Disk + Drop>(
     let looped = loop_back(
         rt,
         alloc,
-        &listener,
+        listener,
         socket.as_str(),
         requests,
         &mut rt.stdout(),

@@ -150,25 +150,29 @@ fn print_answers<W: Write>(
 ///
 /// # Errors
 ///
-/// `File` where the socket can't be used; a fault of the gateway, behind the answers that were given before; `Output`
-/// where the answers can't be printed or a word can't be told.
+/// A fault of the gateway; `File` where the socket can't be used; `Output` where the answers can't be printed or a word
+/// can't be told. In each case the answers that can be read back are printed before.
 pub fn loop_back<R: Net, W: Write, E: Write, D: Disk + Drop>(
     rt: &R,
     alloc: Global,
-    listener: &UnixListener,
+    listener: UnixListener,
     path: &str,
     requests: &[u8],
     output: &mut W,
     errors: &mut E,
     gateway: &mut Gateway<D>,
 ) -> Result<(), Stop>
-    ensures { IfErr result (λ stop. IsOfServing stop.refusal) }
+    ensures stands { OnOk result (gateway.old.fallen ≡ false → gateway.new.fallen ≡ false) }
+    ensures causes { IfErr result (λ stop. IsOfServing stop.refusal) }
 {
     let client = match client_of(rt, path, requests) {
         Ok(client) => client,
         Err(error) => return Err(Stop::at_path(alloc, path, "takes no requests", &error)),
     };
-    let served = serve_clients(alloc, listener, path, 1, errors, gateway);
-    print_answers(alloc, path, &client, output)?;
-    served
+    let served = serve_clients(alloc, &listener, path, 1, errors, gateway);
+    // A client that wasn't accepted would wait for answers as long as somebody may accept it.
+    drop(listener);
+    let printed = print_answers(alloc, path, &client, output);
+    served?;
+    printed
 }
