@@ -1,7 +1,7 @@
 -- A translated packet is read again.
 use Rattle.std.proofs.Common.{◌≡◌, ◌≢◌, ℕ, ◌+◌, ◌-◌, ◌<◌, ◌≤◌, ◌==◌, true, false, if◌then◌else◌, List, length, drop, slice_index, Ok, refl, sym, ap, ◌∙◌, arith, drop-drop, get_or-drop, length-drop, IsOkAnd}
 use Rattle.std.proofs.lemmas.Bool.Decides.{nat_tests}
-use Rattle.packet.specs.Fields.{fields, version, header_length, more_fragments, fragment_offset, time_to_live, protocol, transport, u8_at, u16_at, u32_at, data_offset, IsUdpFault, IsTcpFault, IsTransportFault, flags_of, no_flags, view_of}
+use Rattle.packet.specs.Fields.{fields, version, header_length, more_fragments, fragment_offset, time_to_live, protocol, transport, u8_at, u16_at, u32_at, data_offset, is_udp_fault, is_tcp_fault, is_transport_fault, flags_of, no_flags, view_of}
 use Rattle.packet.specs.Translated.{moved, translated, checksum_at, header_total}
 use Rattle.packet.specs.Laws.{IsWithin, IsEndpoint, KeepsOthers, TranslatedIsRead, TranslatedKeepsOthers}
 use Rattle.packet.specs.declared.endpoint.Endpoint.{Endpoint}
@@ -27,12 +27,12 @@ unfolding u16_at
 u16_at-drop h i b = rw (drop-drop i h b) refl
 
 -- tests and fields of a transport part, by the bytes that they look at
-udp_same : (p q : List ℕ) → length q ≡ length p → u16_at 4 q ≡ u16_at 4 p → IsUdpFault q ≡ IsUdpFault p
-unfolding IsUdpFault
+udp_same : (p q : List ℕ) → length q ≡ length p → u16_at 4 q ≡ u16_at 4 p → is_udp_fault q ≡ is_udp_fault p
+unfolding is_udp_fault
 udp_same p q long four = rw (long, four) refl
 
-tcp_same : (p q : List ℕ) → length q ≡ length p → u8_at 12 q ≡ u8_at 12 p → IsTcpFault q ≡ IsTcpFault p
-unfolding IsTcpFault data_offset
+tcp_same : (p q : List ℕ) → length q ≡ length p → u8_at 12 q ≡ u8_at 12 p → is_tcp_fault q ≡ is_tcp_fault p
+unfolding is_tcp_fault data_offset
 tcp_same p q long twelve = rw (long, twelve) refl
 
 flags_same : (p q : List ℕ) → u8_at 13 q ≡ u8_at 13 p → flags_of q ≡ flags_of p
@@ -42,9 +42,9 @@ flags_same p q thirteen = rw thirteen refl
 transport_same : (b new : List ℕ) → protocol new ≡ protocol b → length (transport new) ≡ length (transport b)
     → u16_at 4 (transport new) ≡ u16_at 4 (transport b)
     → ((protocol b == 17) ≡ false → u8_at 12 (transport new) ≡ u8_at 12 (transport b))
-    → IsTransportFault new ≡ IsTransportFault b
+    → is_transport_fault new ≡ is_transport_fault b
 transport_same b new proto long four twelve =
-    rw proto ((elim (protocol b == 17) as (λ t. (protocol b == 17) ≡ t → (if t then IsUdpFault (transport new) else IsTcpFault (transport new)) ≡ (if t then IsUdpFault (transport b) else IsTcpFault (transport b))) [
+    rw proto ((elim (protocol b == 17) as (λ t. (protocol b == 17) ≡ t → (if t then is_udp_fault (transport new) else is_tcp_fault (transport new)) ≡ (if t then is_udp_fault (transport b) else is_tcp_fault (transport b))) [
       | true ↦ λ e. udp_same (transport b) (transport new) long four
       | false ↦ λ e. tcp_same (transport b) (transport new) long (twelve e)
     ]) refl)
@@ -118,7 +118,7 @@ record Carries (b new : List ℕ) (src dst : Endpoint) : Type 0 where
   pub long : length (transport new) ≡ length (transport b)
   pub src_port : u16_at 0 (transport new) ≡ src.port
   pub dst_port : u16_at 2 (transport new) ≡ dst.port
-  pub whole : IsTransportFault new ≡ IsTransportFault b
+  pub whole : is_transport_fault new ≡ is_transport_fault b
   pub flags : (if protocol new == 17 then no_flags else flags_of (transport new)) ≡ (if protocol b == 17 then no_flags else flags_of (transport b))
 
 same_header : (b new : List ℕ) → slice_index new 0 ≡ slice_index b 0 → header_length new ≡ header_length b
