@@ -83,7 +83,8 @@ One line is printed: ok, with status 0, or the fault, with status 1:
   syntax         another token where it can't stand, or a text that ends too early
   unknown-chain  a jump or goto to no chain without a hook in the same table
   unknown-set    @ with a name that no set of the same table has
-  duplicate      two tables, chains or sets of one name, or two type or elements lines in a set
+  duplicate      two tables of one family, or two chains or sets of one table, of one name,
+                 or two type or elements lines in a set
   loop           chains that come back to themselves by jumps and gotos
   depth          a path of more than 16 jumps and gotos
   wrong-hook     a chain or a translation at a hook where it can't be

@@ -12,7 +12,9 @@ is_closing (byte ∷ second ∷ rest) = false
 
 -- 1 at every byte, but 0 where a closing byte finds no 1
 abbrev pub ones : Patch → List ℕ → List ℕ
-ones w before = if is_closing w.bytes && not (nat_eq (get_or before w.at 0) 1) then 0 ∷ [] else replicate (length w.bytes) 1
+ones w before =
+    if is_closing w.bytes && not (nat_eq (get_or before w.at 0) 1) then 0 ∷ []
+    else replicate (length w.bytes) 1
 
 -- What comes of a write under a choice, none or as many bytes. The number is the write's since the sync, from 0.
 abbrev pub comes : ℕ → ℕ → Patch → List ℕ → Option (List ℕ)

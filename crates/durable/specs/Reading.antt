@@ -56,7 +56,9 @@ byte_at [] = None
 byte_at (b ∷ rest) = Some (b, rest)
 
 unfoldable pub number_at : ℕ → Reader ℕ
-number_at n bytes = if nat_lt (length bytes) n then None else Some (big_number n bytes, drop n bytes)
+number_at n bytes =
+    if nat_lt (length bytes) n then None
+    else Some (big_number n bytes, drop n bytes)
 
 unfoldable pub front_at : ℕ → Reader (List ℕ)
 front_at n bytes = if nat_lt (length bytes) n then None else Some (take n bytes, drop n bytes)

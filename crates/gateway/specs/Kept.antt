@@ -23,7 +23,8 @@ pub record Kept (D : Type 0) : Type 0 where
   pub fallen : Bool
   -- the generation of the active file
   pub generation : ℕ
-  -- of the active file: how many bytes of groups it has, and where the entries that wait would end in it
+  -- of the active file: how many bytes of groups it has, and where the entries that wait would end if they stood right
+  -- behind these; gate and length come before them, so that their group ends five bytes later
   pub grown : ℕ
   pub filled : ℕ
   -- the state, the last number, and the answers that are held

@@ -50,8 +50,8 @@ module _ {D : Type 0} (honest : D → Type 0) (moment : D → ℕ) (left : D →
   pub record Ends (events : List Event) (out : List (ℕ × Answer)) : Type 0 where
     pub ran : Ran events out
     pub at_exit : IsReady honest start
-        → LeavesNow moment left now.disk (IsSafe start.told.config start.told.state events
-        (length out))
+        → LeavesNow moment left now.disk
+        (IsSafe start.told.config start.told.state events (length out))
 
   -- why a run ends that stood at its start
   pub record IsWhy (why : GatewayFault) : Type 0 where

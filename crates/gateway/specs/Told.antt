@@ -1,4 +1,4 @@
--- What contracts see of a gateway.
+-- The state of a gateway, its last number and the answers that it holds; and what taking events makes of them.
 use Rattle.std.specs.Prelude.{◌≡◌, ℕ, ◌+◌, List, [], ◌∷◌, ◌++◌, length}
 use Rattle.packet.specs.Config.{Config}
 use Rattle.machine.specs.Judged.{Judged, IsJudged, AreJudged}

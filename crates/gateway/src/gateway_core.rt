@@ -209,7 +209,7 @@ impl<D: Disk + Drop> Gateway<D> {
         ensures configured { result ≡ false → D.honest self.now.disk
             → LeavesNow D.moment D.left self.now.disk (IsConfigured self.now.told.config) }
 
-        // The groups of the active file end where the entries that wait begin.
+        // The groups of the active file end no later than the entries that wait.
         ensures places { result ≡ false → D.honest self.now.disk → (end : ℕ)
             × HasPlaces (D.seen self.now.disk) self.now.generation self.now.grown end
             × (end ≤ self.now.filled) }
@@ -251,8 +251,7 @@ impl<D: Disk + Drop> Gateway<D> {
         ensures took { IfOk result (λ given. Took self.old.told self.new.told event given) }
         ensures now { IfOk result (λ given. (judged : Judged)
             → IsJudged self.old.told.config event judged
-            → IsNow given
-            ↔ ((self.old.told.held ≡ [])
+            → IsNow given ↔ ((self.old.told.held ≡ [])
             × ¬ HasEntry self.old.told.config self.old.told.state judged)) }
 
         // What waits has grown by the entries of the event.

@@ -67,12 +67,10 @@ pub fn take<D: Disk + Drop>(
     requires stands { gateway.old.fallen ≡ false }
     requires room { vec_len answers.old + length gateway.old.told.held + 1
         ≤ vec_capacity answers.old }
-    ensures ok { OnOk result (CarriesOn D.honest D.moment D.left D.failed gateway.old gateway.new
-        (event ∷ [])
-        answers.old.items answers.new.items) }
-    ensures err { IfErr result (BreaksOff D.honest D.moment D.left D.failed gateway.old gateway.new
-        (event ∷ [])
-        answers.old.items answers.new.items) }
+    ensures ok { OnOk result (CarriesOn D.honest D.moment D.left D.failed
+        gateway.old gateway.new (event ∷ []) answers.old.items answers.new.items) }
+    ensures err { IfErr result (BreaksOff D.honest D.moment D.left D.failed
+        gateway.old gateway.new (event ∷ []) answers.old.items answers.new.items) }
     ensures stands { OnOk result (gateway.new.fallen ≡ false) }
     ensures room { vec_len answers.new + length gateway.new.told.held
         ≤ vec_len answers.old + length gateway.old.told.held + 1 }
@@ -122,12 +120,10 @@ fn make_room<D: Disk + Drop>(
     requires stands { gateway.old.fallen ≡ false }
     requires room { vec_len answers.old + length gateway.old.told.held + 1
         ≤ vec_capacity answers.old }
-    ensures ok { OnOk result (CarriesOn D.honest D.moment D.left D.failed gateway.old gateway.new
-        (event ∷ [])
-        answers.old.items answers.new.items) }
-    ensures err { IfErr result (BreaksOff D.honest D.moment D.left D.failed gateway.old gateway.new
-        (event ∷ [])
-        answers.old.items answers.new.items) }
+    ensures ok { OnOk result (CarriesOn D.honest D.moment D.left D.failed
+        gateway.old gateway.new (event ∷ []) answers.old.items answers.new.items) }
+    ensures err { IfErr result (BreaksOff D.honest D.moment D.left D.failed
+        gateway.old gateway.new (event ∷ []) answers.old.items answers.new.items) }
     ensures stands { OnOk result (gateway.new.fallen ≡ false) }
     ensures room { vec_len answers.new + length gateway.new.told.held
         ≤ vec_len answers.old + length gateway.old.told.held + 1 }
@@ -152,11 +148,10 @@ pub fn compact<D: Disk + Drop>(
 ) -> Result<(), GatewayFault>
     requires stands { gateway.old.fallen ≡ false }
     requires room { vec_len answers.old + length gateway.old.told.held ≤ vec_capacity answers.old }
-    ensures ok { OnOk result (CarriesOn D.honest D.moment D.left D.failed gateway.old gateway.new []
-        answers.old.items answers.new.items) }
-    ensures err { IfErr result (BreaksOff D.honest D.moment D.left D.failed gateway.old
-        gateway.new []
-        answers.old.items answers.new.items) }
+    ensures ok { OnOk result (CarriesOn D.honest D.moment D.left D.failed
+        gateway.old gateway.new [] answers.old.items answers.new.items) }
+    ensures err { IfErr result (BreaksOff D.honest D.moment D.left D.failed
+        gateway.old gateway.new [] answers.old.items answers.new.items) }
     ensures stands { OnOk result (gateway.new.fallen ≡ false) }
     ensures none { OnOk result (gateway.new.told.held ≡ []) }
     ensures roomy { OnOk result (IsRoomy gateway.new.filled) }
@@ -179,11 +174,10 @@ fn hold_fewer<D: Disk + Drop>(
 ) -> Result<(), GatewayFault>
     requires stands { gateway.old.fallen ≡ false }
     requires room { vec_len answers.old + length gateway.old.told.held ≤ vec_capacity answers.old }
-    ensures ok { OnOk result (CarriesOn D.honest D.moment D.left D.failed gateway.old gateway.new []
-        answers.old.items answers.new.items) }
-    ensures err { IfErr result (BreaksOff D.honest D.moment D.left D.failed gateway.old
-        gateway.new []
-        answers.old.items answers.new.items) }
+    ensures ok { OnOk result (CarriesOn D.honest D.moment D.left D.failed
+        gateway.old gateway.new [] answers.old.items answers.new.items) }
+    ensures err { IfErr result (BreaksOff D.honest D.moment D.left D.failed
+        gateway.old gateway.new [] answers.old.items answers.new.items) }
     ensures stands { OnOk result (gateway.new.fallen ≡ false) }
     ensures few { OnOk result (length gateway.new.told.held < 64) }
     ensures room { vec_len answers.new + length gateway.new.told.held
@@ -207,11 +201,10 @@ pub fn hand_out<D: Disk + Drop>(
 ) -> Result<(), GatewayFault>
     requires stands { gateway.old.fallen ≡ false }
     requires room { vec_len answers.old + length gateway.old.told.held ≤ vec_capacity answers.old }
-    ensures ok { OnOk result (CarriesOn D.honest D.moment D.left D.failed gateway.old gateway.new []
-        answers.old.items answers.new.items) }
-    ensures err { IfErr result (BreaksOff D.honest D.moment D.left D.failed gateway.old
-        gateway.new []
-        answers.old.items answers.new.items) }
+    ensures ok { OnOk result (CarriesOn D.honest D.moment D.left D.failed
+        gateway.old gateway.new [] answers.old.items answers.new.items) }
+    ensures err { IfErr result (BreaksOff D.honest D.moment D.left D.failed
+        gateway.old gateway.new [] answers.old.items answers.new.items) }
     ensures stands { OnOk result (gateway.new.fallen ≡ false) }
     ensures none { OnOk result (gateway.new.told.held ≡ []) }
     ensures items { OnOk result (answers.new.items ≡ answers.old.items ++ gateway.old.told.held) }
@@ -238,9 +231,8 @@ fn offer<D: Disk + Drop>(
     requires few { length gateway.old.told.held < 64 }
     requires room { vec_len answers.old + length gateway.old.told.held + 1
         ≤ vec_capacity answers.old }
-    ensures ok { OnOk result (CarriesOn D.honest D.moment D.left D.failed gateway.old gateway.new
-        (event ∷ [])
-        answers.old.items answers.new.items) }
+    ensures ok { OnOk result (CarriesOn D.honest D.moment D.left D.failed
+        gateway.old gateway.new (event ∷ []) answers.old.items answers.new.items) }
     ensures err { IfErr result (λ e. (e.0 ≡ event) × (gateway.new ≡ gateway.old)
         × (answers.new ≡ answers.old)) }
     ensures full { IsRoomy gateway.old.filled → IfErr result (λ e. e.1 ≢ GatewayFault.Full) }

@@ -74,7 +74,8 @@ is_taken sessions proto addr port = is_some (find (is_at proto (endpoint addr po
 -- the session once a packet of it from this side has passed: a SYN alone begins a closing one anew
 abbrev pub passed_by : Session → Opener → Flags → ℕ → Session
 passed_by s sender flags now =
-    if restarts s flags then restarted s sender now else seen s (shown s.proto s.opener sender flags) now
+    if restarts s flags then restarted s sender now
+    else seen s (shown s.proto s.opener sender flags) now
 
 -- only a session lets the packet pass: it is TCP, and not a SYN alone (RFC 5382, section 4)
 abbrev pub needs_session : View → Bool
@@ -121,13 +122,15 @@ module _ (config : Config) (rules : Spelled) (sessions : List Session) (now : �
 
   -- last, there are not too many sessions
   abbrev pub counted : Passage → Result Passage Cause
-  counted passage = if nat_lt most_sessions (length (put_all passage.sessions sessions)) then Err TableFull else Ok passage
+  counted passage =
+      if nat_lt most_sessions (length (put_all passage.sessions sessions)) then Err TableFull
+      else Ok passage
 
   -- the outside endpoint at this address that the port of the inside endpoint is given
   abbrev pub chosen : ℕ → Endpoint → Result Endpoint Cause
   chosen addr inside =
-      or_no_port (option_map (endpoint addr) (port_choice (is_taken sessions view.proto addr)
-      inside.port))
+      or_no_port (option_map (endpoint addr)
+      (port_choice (is_taken sessions view.proto addr) inside.port))
 
   abbrev pub new_session : Opener → Endpoint → Endpoint → Endpoint → Session
   new_session opener inside outside remote =
@@ -163,7 +166,9 @@ module _ (config : Config) (rules : Spelled) (sessions : List Session) (now : �
   abbrev pub out_by : Option Session → Result Passage Cause
   out_by (Some s) = forwarded Lan Wan view.src view.dst (state_of s Inside view.flags)
       (Ok (outward (passed_by s Inside view.flags now)))
-  out_by None = if needs_session view then Err NoSession else forwarded Lan Wan view.src view.dst New begun_out
+  out_by None =
+      if needs_session view then Err NoSession
+      else forwarded Lan Wan view.src view.dst New begun_out
 
   -- the packet's session goes on, or a new one begins
   abbrev pub out_leg : Result Passage Cause

@@ -75,8 +75,8 @@ impl Translations {
 
     /// The outside endpoint that stands for this inside endpoint, if it has a mapping.
     pub fn outside_of(&self, proto: Proto, inside: Endpoint) -> Option<Endpoint>
-        ensures found { IfSome result (λ outside. 0
-            < times self.now.pairs (pair_with proto inside outside)) }
+        ensures found { IfSome result (λ outside.
+            0 < times self.now.pairs (pair_with proto inside outside)) }
         ensures absent { IfNone result ((outside : Place)
             → times self.now.pairs (pair_with proto inside outside) ≡ 0) }
     {
@@ -85,8 +85,8 @@ impl Translations {
 
     /// The inside endpoint that this outside endpoint stands for, if it has a mapping.
     pub fn inside_of(&self, proto: Proto, outside: Endpoint) -> Option<Endpoint>
-        ensures found { IfSome result (λ inside. 0
-            < times self.now.pairs (pair_with proto inside outside)) }
+        ensures found { IfSome result (λ inside.
+            0 < times self.now.pairs (pair_with proto inside outside)) }
         ensures absent { IfNone result ((inside : Place)
             → times self.now.pairs (pair_with proto inside outside) ≡ 0) }
     {

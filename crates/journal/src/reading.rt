@@ -34,8 +34,8 @@ fn read_group<D: Disk>(
     ensures memory { D.honest disk.old → IsErrOf result JournalFault.NoMemory
         → get_or (D.seen disk.old file) at 0 ≡ 1 }
     ensures looks { D.honest disk.old → Looks D.moment D.left D.seen disk.old disk.new }
-    ensures within { IfOk result (λ group. IfSome group (λ body. at + 5
-        + length body.items < end)) }
+    ensures within { IfOk result (λ group.
+        IfSome group (λ body. at + 5 + length body.items < end)) }
     ensures failures { D.failed disk.old ≤ D.failed disk.new }
     ensures by_one { D.failed disk.new ≤ D.failed disk.old + 1 }
     ensures no_failure { OnOk result (D.failed disk.new ≡ D.failed disk.old) }

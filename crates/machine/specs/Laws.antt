@@ -179,14 +179,8 @@ abbrev pub LoadsTakeForce : Type 0
 LoadsTakeForce =
     (config : Config) (s : State) (judged : Judged) (text : List ℕ) (rules : Spelled)
     → judged.deed ≡ Take text rules
-    → step config s judged ≡ (
-      record (aged (later s.clock judged.moment) s) {
-        text =
-            text;
-        rules = rules;
-      },
-      Loaded,
-    )
+    → step config s judged
+    ≡ (record (aged (later s.clock judged.moment) s) { text = text; rules = rules }, Loaded)
 
 -- nothing but a load changes the text and its rules
 abbrev pub OnlyLoadsChangeRules : Type 0

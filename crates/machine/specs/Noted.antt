@@ -64,7 +64,9 @@ goes_on s t = same_side s.opener t.opener && nat_lt 0 t.seen
 
 -- what makes the one session the other: nothing, more that was seen, or a beginning anew
 abbrev pub between : Session → Session → List Entry
-between s t = if is_same s t then [] else (if goes_on s t then Seen (flow_of t) t.seen ∷ [] else Restart (flow_of t) t.opener t.seen ∷ [])
+between s t =
+    if is_same s t then []
+    else (if goes_on s t then Seen (flow_of t) t.seen ∷ [] else Restart (flow_of t) t.opener t.seen ∷ [])
 
 abbrev pub noted_by : Option Session → Session → List Entry
 noted_by None t = Begin (stilled t) ∷ []
@@ -107,13 +109,15 @@ pub record AreEntriesOf (config : Config) (s : State) (judged : Judged)
   pub are_over : AreOver (later s.clock judged.moment) s.sessions gone
   pub are : entries ≡ ends gone ++ of_deed config (aged (later s.clock judged.moment) s) judged.deed
 
--- some session ends, or a text is taken, or what is done changes what is durable
+-- some session is alive no longer at this moment
 abbrev pub EndsSome : ℕ → State → Type 0
 EndsSome now s = (t : Session) × In t s.sessions × (alive now t ≡ false)
 
+-- a text is taken
 abbrev pub TakesText : Deed → Type 0
 TakesText d = (text : List ℕ) × (rules : Spelled) × (d ≡ deed.Take text rules)
 
+-- some session ends, or a text is taken, or what is done changes what is durable
 abbrev pub HasEntry : Config → State → Judged → Type 0
 HasEntry config s judged =
     EndsSome (later s.clock judged.moment) s ⊎ TakesText judged.deed

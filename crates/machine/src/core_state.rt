@@ -279,15 +279,16 @@ fn pass_on<N: Notes>(
         AddsNone s (pass bounds.now s iface bytes) → N.grants notes.old → IsOk result }
     ensures keeps { N.keeps notes.old ↔ N.keeps notes.new }
     ensures beside { N.beside notes.new ≡ N.beside notes.old }
-    ensures noted { OnOk result (N.keeps notes.old → N.noted notes.new ≡ N.noted notes.old
-        ++ of_fields bounds.now
-        (state_of in_force.now.text in_force.now.rules flows.old.table.held now) iface
-        (fields bytes)) }
+    ensures noted { OnOk result (N.keeps notes.old → N.noted notes.new
+        ≡ N.noted notes.old ++ of_fields bounds.now
+        (state_of in_force.now.text in_force.now.rules flows.old.table.held now)
+        iface (fields bytes)) }
     ensures err_noted { OnErr result (N.noted notes.new ≡ N.noted notes.old) }
     ensures full { IfErr result (λ e. e.1 ≡ StepFault.Full → N.too_many notes.old 44) }
     ensures quiet { of_fields bounds.now
-        (state_of in_force.now.text in_force.now.rules flows.old.table.held now) iface
-        (fields bytes) ≡ [] → IsOk result }
+        (state_of in_force.now.text in_force.now.rules flows.old.table.held now)
+        iface (fields bytes) ≡ []
+        → IsOk result }
 {
     bounds.facts();
     match View::read(bytes.as_slice()) {
@@ -450,11 +451,8 @@ fn age_and_act<N: Notes>(
     ensures beside { N.beside notes.new ≡ N.beside notes.old }
     ensures noted { OnOk result (N.keeps notes.old → (gone : List Flow)
         × AreOver now (listing flows.old.table.held) gone
-        × (N.noted notes.new ≡ N.noted notes.old
-        ++ (ends gone
-        ++ of_deed bounds.now
-        (aged now
-        (state_of in_force.old.text in_force.old.rules flows.old.table.held clock))
+        × (N.noted notes.new ≡ N.noted notes.old ++ (ends gone ++ of_deed bounds.now
+        (aged now (state_of in_force.old.text in_force.old.rules flows.old.table.held clock))
         deed))) }
     ensures err_noted { OnErr result (N.noted notes.new ≡ N.noted notes.old) }
     ensures full { IfErr result (λ e. e.1 ≡ StepFault.Full

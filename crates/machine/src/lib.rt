@@ -1,15 +1,15 @@
 //! The machine: the state of a gateway, and the step that an event does to it.
 //!
 //! An event is a ruleset to load, a packet from one of two interfaces, or a moment. `specs/Machine` says
-//! what a step is, on plain lists; `Core::step` is proved to be it.
+//! what a step is, on plain lists; `Core::step` and `step_noted`, by which a gateway takes it, are proved to be it.
 //!
 //! - `event`, `bytes`: what comes in, and what it is answered.
 //! - `flows`: the sessions with their timers and mappings, which change together. What a packet changes is
 //!   the plan of its leg (crate `hairpin`).
 //! - `ahead`: among many sessions, a look at what packets and ends of sessions are going to read.
 //! - `deed`: what an event does, once its text is read.
-//! - `core_state`: `Core`, which has all the state and takes a step for each event (`step`). A packet whose session
-//!   goes on it also takes where the packet lies, without an event of its own (`forward`).
+//! - `core_state`: `Core`, which has all the state and takes a step for each event (`step`, `step_noted`). A packet
+//!   whose session goes on it also takes where the packet lies, for which no `Event` is made (`forward`).
 //! - `notes`: where a step notes the entries by which it changes what must survive (crate `durable`).
 //! - `noting`: the entries of changes. `specs/Noted` says which an event has, `specs/Notes` how many bytes.
 //! - `laws`: what holds of every step, and of every state that is reached.

@@ -17,8 +17,8 @@ pair proto inside outside = record { proto = proto; inside = inside; outside = o
 -- whether the two pairs are one
 unfoldable pub same_pair : Pair → Pair → Bool
 same_pair p q =
-    same_proto p.proto q.proto && (same_endpoint p.inside q.inside && same_endpoint
-    p.outside q.outside)
+    same_proto p.proto q.proto
+    && (same_endpoint p.inside q.inside && same_endpoint p.outside q.outside)
 
 -- one where the two are one
 abbrev pub one_at : Pair → Pair → ℕ

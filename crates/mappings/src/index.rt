@@ -39,8 +39,8 @@ pub fn seems_held(index: &Index, pair: Pair) -> bool {
 /// The outside endpoint of the pair with this inside endpoint.
 pub fn find_outside(index: &Index, proto: Proto, inside: Endpoint) -> Option<Endpoint>
     requires { IsIndexed index.now }
-    ensures found { IfSome result (λ outside. 0
-        < times_in (held_in index.now) (pair proto inside outside)) }
+    ensures found { IfSome result (λ outside.
+        0 < times_in (held_in index.now) (pair proto inside outside)) }
     ensures absent { IfNone result ((outside : Place)
         → times_in (held_in index.now) (pair proto inside outside) ≡ 0) }
 {
@@ -51,8 +51,8 @@ pub fn find_outside(index: &Index, proto: Proto, inside: Endpoint) -> Option<End
 /// The inside endpoint of the pair with this outside endpoint.
 pub fn find_inside(index: &Index, proto: Proto, outside: Endpoint) -> Option<Endpoint>
     requires { IsIndexed index.now }
-    ensures found { IfSome result (λ inside. 0
-        < times_in (held_in index.now) (pair proto inside outside)) }
+    ensures found { IfSome result (λ inside.
+        0 < times_in (held_in index.now) (pair proto inside outside)) }
     ensures absent { IfNone result ((inside : Place)
         → times_in (held_in index.now) (pair proto inside outside) ≡ 0) }
 {

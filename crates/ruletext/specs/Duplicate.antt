@@ -27,13 +27,13 @@ has_line_twice set = nat_lt 1 (length set.types) || nat_lt 1 (length set.element
 
 -- two chains or two sets of one name, or a set with two lines of one sort
 abbrev pub has_twice_within : Table → Bool
-has_twice_within table = has_twice (chain_names table.chains) || has_twice (set_names table.sets) ||
-    list_any has_line_twice table.sets
+has_twice_within table = has_twice (chain_names table.chains) || has_twice (set_names table.sets)
+    || list_any has_line_twice table.sets
 
 -- two tables of one family and name, or a table that has something twice
 abbrev pub has_duplicate_in : List Table → Bool
-has_duplicate_in tables = has_twice (names_in Ip tables) || has_twice (names_in Inet tables) ||
-    list_any has_twice_within tables
+has_duplicate_in tables = has_twice (names_in Ip tables) || has_twice (names_in Inet tables)
+    || list_any has_twice_within tables
 
 abbrev pub has_duplicate : Spelled → Bool
 has_duplicate text = has_duplicate_in text.tables

@@ -57,7 +57,9 @@ is_plain (b ∷ c ∷ bs) = not (b == 48)
 
 -- the decimal number that the bytes, all of them, are
 unfoldable pub decimal : ℕ → Text → Option ℕ
-decimal most bs = if is_plain bs && list_all is_ascii_digit bs && nat_le (decimal_from 0 bs) most then Some (decimal_from 0 bs) else None
+decimal most bs =
+    if is_plain bs && list_all is_ascii_digit bs && nat_le (decimal_from 0 bs) most then Some (decimal_from 0 bs)
+    else None
 
 -- in front of the first part
 abbrev pub with_byte : ℕ → List Text → List Text
@@ -127,7 +129,9 @@ with_inner b (Some text) = Some (b ∷ text)
 -- the bytes before the one quote at the end
 unfoldable pub before_quote : Text → Option Text
 before_quote [] = None
-before_quote (b ∷ bs) = if is_inner b then with_inner b (before_quote bs) else (if b == 34 && length bs == 0 then Some [] else None)
+before_quote (b ∷ bs) =
+    if is_inner b then with_inner b (before_quote bs)
+    else (if b == 34 && length bs == 0 then Some [] else None)
 
 abbrev pub quoted : Option Text → Option Kind
 quoted None = None
@@ -136,9 +140,13 @@ quoted (Some text) = Some (token (Quoted text))
 -- Each shape's bytes behind the first. A quote that isn't closed is wrong.
 unfoldable pub kind_by : Shape → ℕ → Text → Option Kind
 kind_by shape.Word b bs = if list_all is_word bs then Some (token (Name (b ∷ bs))) else None
-kind_by shape.Numeral b bs = if list_all is_numeral bs then Some (token (numeral (b ∷ bs))) else None
+kind_by shape.Numeral b bs =
+    if list_all is_numeral bs then Some (token (numeral (b ∷ bs)))
+    else None
 kind_by shape.Comment b bs = if list_all is_line bs then Some blank else None
-kind_by shape.Quote b bs = if list_all is_inner bs then Some (token Wrong) else quoted (before_quote bs)
+kind_by shape.Quote b bs =
+    if list_all is_inner bs then Some (token Wrong)
+    else quoted (before_quote bs)
 kind_by shape.Escape b bs = two (token Wrong) 10 blank bs
 kind_by shape.Equal b bs = two (token (Symbol Equal)) 61 (token (Symbol Equals)) bs
 kind_by shape.Bang b bs = two (token Wrong) 61 (token (Symbol Differs)) bs
@@ -203,11 +211,15 @@ abbrev pub IsShaped : Shape → Text → Text → Type 0
 IsShaped s text behind = (b : ℕ) × (text ≡ b ∷ behind) × (shape_of b ≡ s)
 
 abbrev pub with_digit : ℕ → ℕ → ℕ → Option ℕ
-with_digit most n b = if is_ascii_digit b && nat_le (n * 10 + (b - 48)) most then Some (n * 10 + (b - 48)) else None
+with_digit most n b =
+    if is_ascii_digit b && nat_le (n * 10 + (b - 48)) most then Some (n * 10 + (b - 48))
+    else None
 
 unfoldable pub digits_from : ℕ → ℕ → Text → Option ℕ
 digits_from most n [] = Some n
-digits_from most n (b ∷ bs) = if is_ascii_digit b && nat_le (n * 10 + (b - 48)) most then digits_from most (n * 10 + (b - 48)) bs else None
+digits_from most n (b ∷ bs) =
+    if is_ascii_digit b && nat_le (n * 10 + (b - 48)) most then digits_from most (n * 10 + (b - 48)) bs
+    else None
 
 abbrev pub octets : Text → List (Option ℕ)
 octets bs = map (decimal 255) (parts_of bs)

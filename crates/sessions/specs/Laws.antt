@@ -14,9 +14,8 @@ use Rattle.sessions.specs.Stilled.{AreStilled, moved, stilled}
 
 -- what a table holds has one rising list, its listing
 abbrev pub ListingIsTheSet : Type 0
-ListingIsTheSet = (held : List (Option Session)) → IsSound held
-    → IsSetOf held (listing held) × ((sessions : List Session) → IsSetOf held sessions
-    → sessions ≡ listing held)
+ListingIsTheSet = (held : List (Option Session)) → IsSound held → IsSetOf held (listing held)
+    × ((sessions : List Session) → IsSetOf held sessions → sessions ≡ listing held)
 
 -- the test of a clash tells exactly which two sessions clash
 abbrev pub ClashesTellsClash : Type 0
@@ -37,8 +36,8 @@ abbrev pub MappingsAreOneToOne : Type 0
 MappingsAreOneToOne = (held : List (Option Session)) (proto : Proto)
     (inside inside' outside outside' : Endpoint) → IsSound held
     → IsMapping (listing held) proto inside outside
-    → IsMapping (listing held) proto inside' outside' → (inside ≡ inside')
-    ↔ (outside ≡ outside')
+    → IsMapping (listing held) proto inside' outside'
+    → (inside ≡ inside') ↔ (outside ≡ outside')
 
 -- in a session that was begun anew the side that began it awaits a reply
 abbrev pub RestartedAwaitsReply : Type 0

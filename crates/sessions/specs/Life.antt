@@ -56,7 +56,9 @@ is_acknowledged seen = has seen (ack_bit Inside) && has seen (ack_bit Remote)
 
 -- the phase of a TCP session
 abbrev pub phase_of : ℕ → Phase
-phase_of seen = if is_closing seen then Closing else (if is_acknowledged seen then Established else Partial)
+phase_of seen =
+    if is_closing seen then Closing
+    else (if is_acknowledged seen then Established else Partial)
 
 -- how many seconds a TCP session of this phase may be idle
 abbrev pub timeout_in : Phase → ℕ

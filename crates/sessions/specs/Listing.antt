@@ -76,8 +76,8 @@ breaks_mapping s t = is_translated s && is_translated t && same_proto s.proto t.
 
 -- whether the two cannot both be held: the test of Clash, as a law says
 unfoldable pub clashes : Session → Session → Bool
-clashes s t = has_inside s.proto s.inside s.remote t || has_outside s.proto s.outside s.remote t ||
-    breaks_mapping s t
+clashes s t = has_inside s.proto s.inside s.remote t || has_outside s.proto s.outside s.remote t
+    || breaks_mapping s t
 
 -- whether the two are of one protocol, inside and remote endpoint
 abbrev pub same_flow : Session → Session → Bool

@@ -36,7 +36,9 @@ longest kind.Moment = 0
 -- the first fault of kind, interface and length, or the header
 abbrev pub head_with : Result Kind HeaderFault → ℕ → ℕ → Head
 head_with (Err fault) len moment = head.Bad fault
-head_with (Ok k) len moment = if nat_lt (longest k) len then head.Bad TooLong else head.Frame k moment len
+head_with (Ok k) len moment =
+    if nat_lt (longest k) len then head.Bad TooLong
+    else head.Frame k moment len
 
 -- the header at the front, tested once its 14 bytes are there; numbers stand with the highest byte first
 unfoldable pub head_of : List ℕ → Head

@@ -127,7 +127,7 @@ end_of (halt.Bad header.BadInterface) = Err BadInterface
 end_of (halt.Bad header.TooLong) = Err TooLong
 end_of (halt.Refused fault) = Err (Gateway fault)
 
--- the gateway took no fault
+-- the gateway refused nothing
 abbrev pub GoesOn : Step → Type 0
 GoesOn (step.Took forwarded) = Unit {0}
 GoesOn (step.Ends halt.Cut) = Unit {0}

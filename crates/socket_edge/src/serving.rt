@@ -43,7 +43,7 @@ pub enum Halt {
 /// What the front of the bytes came to.
 #[derive(Clone, Copy, Drop)]
 pub enum Step {
-    /// A frame was taken, and whether its answer is a packet that left at once.
+    /// A frame was taken, and whether the last answer that was handed out with it, if any, is a packet that leaves.
     Took(bool),
     /// No more frames are offered.
     Ends(Halt),
@@ -111,8 +111,8 @@ fn put_back(waiting: &mut Waiting, answers: &mut Vec<(u64, Answer)>, bodies: &mu
     ensures put { (handed : List (ℕ × Answer)) × (answers.old.items ≡ handed ++ answers.new.items)
         × (waiting.new ≡ record waiting.old { answered = waiting.old.answered ++ frames handed }) }
     ensures fits { length waiting.old.answered + length (frames answers.old.items)
-        + length waiting.old.pending
-        ≤ waiting.old.reach → answers.new.items ≡ [] }
+        + length waiting.old.pending ≤ waiting.old.reach
+        → answers.new.items ≡ [] }
     ensures fewer { vec_len answers.new ≤ vec_len answers.old }
     ensures capacity { vec_capacity answers.new ≡ vec_capacity answers.old }
 {

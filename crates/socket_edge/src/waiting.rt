@@ -99,8 +99,8 @@ impl Waiting {
             → self.new ≡ record self.old { answered = self.old.answered ++ frames answers.now } }
         ensures full { result ≡ false → self.new ≡ self.old }
         ensures fits { length self.old.answered + length (frames answers.now)
-            + length self.old.pending
-            ≤ self.old.reach → result ≡ true }
+            + length self.old.pending ≤ self.old.reach
+            → result ≡ true }
     {
         match fill_frames(
             &mut self.bytes.as_mut_slice()[self.answered..self.start],

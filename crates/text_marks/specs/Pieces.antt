@@ -50,4 +50,6 @@ quoted token = codes "`" ++ shortened token ++ codes "`"
 -- the token at the front, or the end that stands there
 abbrev pub named : Text → Text
 named [] = codes "the end of the text"
-named (b ∷ bs) = if b == 10 then codes "the end of the line" else quoted (take (length_from b bs) (b ∷ bs))
+named (b ∷ bs) =
+    if b == 10 then codes "the end of the line"
+    else quoted (take (length_from b bs) (b ∷ bs))

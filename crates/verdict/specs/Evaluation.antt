@@ -24,12 +24,15 @@ use Rattle.verdict.specs.Matching.{lies, asked, has_protocol, holds}
 -- the verdict of the first key that holds the fact; of a loaded text no other key does
 abbrev pub looked_up : Class → List Pair → Fact → Option Verdict
 looked_up class [] fact = None
-looked_up class (pair ∷ pairs) fact = if lies class pair.key.value fact then Some pair.verdict else looked_up class pairs fact
+looked_up class (pair ∷ pairs) fact =
+    if lies class pair.key.value fact then Some pair.verdict
+    else looked_up class pairs fact
 
 -- the verdict of a map, which has none for a packet of another protocol than its head's
 unfoldable pub mapped : Config → Facts → Vmap → Option Verdict
 mapped config facts vmap =
-    if has_protocol vmap.head facts.proto then looked_up (class_of vmap.head) vmap.pairs (asked config facts vmap.head) else None
+    if has_protocol vmap.head facts.proto then looked_up (class_of vmap.head) vmap.pairs (asked config facts vmap.head)
+    else None
 
 -- a called chain that ended lets the rules behind the jump go on
 abbrev pub unless_ended : Outcome → Option Outcome
@@ -62,7 +65,8 @@ taken config facts call end = translation config facts end
 -- the end of a rule is taken where all its matches hold; without an end the next rule is asked
 unfoldable pub after : Config → Facts → Table → (List ℕ → Outcome) → Rule → Option Outcome
 after config facts table call rule =
-    if list_all (holds config table.sets facts) rule.matches then option_and_then (taken config facts call) rule.end else None
+    if list_all (holds config table.sets facts) rule.matches then option_and_then (taken config facts call) rule.end
+    else None
 
 -- a list of rules, read from the first on
 abbrev pub walk : Config → Facts → Table → (List ℕ → Outcome) → List Rule → Outcome
@@ -73,7 +77,9 @@ walk config facts table call (rule ∷ rules) =
 -- the rules of the chain of that name
 abbrev pub rules_of : List Chain → List ℕ → List Rule
 rules_of [] name = []
-rules_of (chain ∷ chains) name = if bytes_eq chain.name name then chain.rules else rules_of chains name
+rules_of (chain ∷ chains) name =
+    if bytes_eq chain.name name then chain.rules
+    else rules_of chains name
 
 -- what a called chain comes to, with so many jumps and gotos left
 unfoldable pub called : ℕ → Config → Facts → Table → List ℕ → Outcome

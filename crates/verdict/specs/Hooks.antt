@@ -36,7 +36,9 @@ pub record BaseChain : Type 0 where
   pub base : Base
 
 abbrev pub at_hook : Hook → Table → Chain → Base → List BaseChain
-at_hook hook table chain base = if same_hook base.hook hook then record { table = table; chain = chain; base = base } ∷ [] else []
+at_hook hook table chain base =
+    if same_hook base.hook hook then record { table = table; chain = chain; base = base } ∷ []
+    else []
 
 -- the base chains of a hook, in the order of the text
 abbrev pub bases_among : Hook → Table → List Chain → List BaseChain
@@ -52,7 +54,8 @@ bases_of hook (table ∷ tables) = bases_among hook table table.chains ++ bases_
 abbrev pub put : BaseChain → List BaseChain → List BaseChain
 put this [] = this ∷ []
 put this (first ∷ others) =
-    if int_le this.base.priority first.base.priority then this ∷ first ∷ others else first ∷ put this others
+    if int_le this.base.priority first.base.priority then this ∷ first ∷ others
+    else first ∷ put this others
 
 -- by rising priority, equal ones in the order of the text
 abbrev pub in_order : List BaseChain → List BaseChain

@@ -78,7 +78,9 @@ TellsIn sets test probe =
 -- the place of the first chain of that name, or behind all of them
 abbrev pub place_among : List Chain → List ℕ → ℕ
 place_among [] name = 0
-place_among (chain ∷ chains) name = if bytes_eq chain.name name then 0 else place_among chains name + 1
+place_among (chain ∷ chains) name =
+    if bytes_eq chain.name name then 0
+    else place_among chains name + 1
 
 -- the place of the chain that a verdict leads to; a verdict that leads to none has place 0
 abbrev pub place_led : List Chain → Verdict → ℕ

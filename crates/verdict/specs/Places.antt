@@ -56,7 +56,8 @@ move_at config facts chains end = option_map_or Gives (translation config facts 
 -- what a rule makes of it
 abbrev pub move_of : Config → Facts → Table → Rule → Move
 move_of config facts table rule =
-    if list_all (holds config table.sets facts) rule.matches then option_map_or (move_at config facts table.chains) rule.end Next else Next
+    if list_all (holds config table.sets facts) rule.matches then option_map_or (move_at config facts table.chains) rule.end Next
+    else Next
 
 -- what a move makes of its chain, given what each chain comes to
 abbrev pub ending_by : (ℕ → Outcome) → Move → Option Outcome
@@ -160,8 +161,8 @@ pub record GoesOn (config : Config) (facts : Facts) (table : Table)
 -- and one that gives an outcome gives that of the whole
 abbrev pub Stepped : Config → Facts → Table → List Place → List Place → Option Outcome → Type 0
 Stepped config facts table places places2 result =
-    MatchOption result (GoesOn config facts table places places2) (λ outcome. outcome
-    ≡ whole config facts table Ends places)
+    MatchOption result (GoesOn config facts table places places2)
+    (λ outcome. outcome ≡ whole config facts table Ends places)
 
 -- the chain at that place is read now
 abbrev pub IsRead : List Place → ℕ → Type 0
@@ -210,15 +211,11 @@ pub record EndsAll (given : Outcome) (here : Place) (places : List Place)
 abbrev pub Acts : Move → ℕ → ℕ → Place → List Place → List (Option Outcome) → Place → List Place
     → List (Option Outcome) → Option Outcome → Type 0
 Acts Next at count here places known here2 places2 known2 result =
-    (result ≡ None) × GoesTo (record {
-      chain = here.chain;
-      at = at + 1;
-    }) places known here2 places2 known2
+    (result ≡ None)
+    × GoesTo (record { chain = here.chain; at = at + 1 }) places known here2 places2 known2
 Acts (Gives Ends) at count here places known here2 places2 known2 result =
-    (result ≡ None) × GoesTo (record {
-      chain = here.chain;
-      at = count;
-    }) places known here2 places2 known2
+    (result ≡ None)
+    × GoesTo (record { chain = here.chain; at = count }) places known here2 places2 known2
 Acts (Gives outcome) at count here places known here2 places2 known2 result =
     EndsAll outcome here places known known2 result
 Acts (Jumps place) at count here places known here2 places2 known2 result =

@@ -11,7 +11,9 @@ use Rattle.verdict.specs.Hooks.{BaseChain, base_outcome}
 abbrev pub preferred : Option Final → Option Final → Option Final
 preferred None later = later
 preferred (Some one) None = Some one
-preferred (Some one) (Some other) = if int_le one.priority other.priority then Some one else Some other
+preferred (Some one) (Some other) =
+    if int_le one.priority other.priority then Some one
+    else Some other
 
 -- a base chain that accepts leaves the packet to the others
 abbrev pub final_of : ℤ → Outcome → Option Final

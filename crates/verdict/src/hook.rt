@@ -124,9 +124,9 @@ fn final_at(
     ensures still_roomy { length table.now.chains ≤ length known.new }
     ensures spent { steps.new + unread table.now.chains known.new
         ≤ steps.old + unread table.now.chains known.old }
-    ensures outcome { IfSome (slice_get table.now.chains place) (λ chain. result
-        ≡ first_final bounds.now facts.now (option_map_or (at_hook hook table.now chain)
-        chain.base [])) }
+    ensures outcome { IfSome (slice_get table.now.chains place) (λ chain.
+        result ≡ first_final bounds.now facts.now
+        (option_map_or (at_hook hook table.now chain) chain.base [])) }
 {
     let base = table.chains.as_slice()[place].base.as_ref()?;
     if !is_same_hook(base.hook, hook) {

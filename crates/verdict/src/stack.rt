@@ -51,8 +51,8 @@ impl Stack {
     }
 
     pub(crate) fn pop(&mut self) -> Option<Place>
-        ensures { MatchOption result ((self.old ≡ []) × (self.new ≡ [])) (λ place. self.old
-            ≡ place ∷ self.new) }
+        ensures { MatchOption result ((self.old ≡ []) × (self.new ≡ []))
+            (λ place. self.old ≡ place ∷ self.new) }
     {
         if self.depth == 0 {
             return None;
