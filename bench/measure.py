@@ -255,6 +255,7 @@ def main():
         if name not in LOADS:
             words.error(f"there is no load {name}")
     if given.write:
+        os.makedirs(given.write, exist_ok=True)
         for name in names:
             make, count = LOADS[name]
             write_stream(os.path.join(given.write, f"{name}.frames"), make, max(1000, int(count * given.scale)))
