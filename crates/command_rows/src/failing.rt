@@ -1,8 +1,10 @@
 //! Sockets over a disk of which a call fails.
 use crate::serve_and_loop::client;
 use crate::shared::{REQUESTS, SIDES, fresh};
-use commands::{Refusal, Stop, bind, bounds, loop_back, serve_clients};
+use checking::bounds;
+use commands::{bind, loop_back, serve_clients};
 use gateway::Gateway;
+use refusals::{Refusal, Stop};
 use std::alloc::Global;
 use std::fs;
 use std::fs::File;

@@ -1,7 +1,8 @@
 //! What stands in the files, and the sessions that come back.
 use crate::shared::{ANSWERS, LINE, REQUESTS, SIDES, answered, fresh, opened};
-use commands::{Refusal, show};
+use commands::show;
 use options::Sides;
+use refusals::Refusal;
 use std::fs;
 use std::test::Fail;
 

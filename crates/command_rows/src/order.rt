@@ -1,8 +1,9 @@
 //! The order in which faults are found: the configuration, the file that a command names, the two files, the socket. And
 //! what is left where a command gives up.
 use crate::shared::{SIDES, fresh};
-use commands::{Refusal, Stop, run};
+use commands::run;
 use options::{Opening, Options, Sides, Task, Work};
+use refusals::{Refusal, Stop};
 use std::fs;
 use std::process::ExitCode;
 use std::test::Fail;

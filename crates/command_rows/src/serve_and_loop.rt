@@ -1,7 +1,8 @@
 //! Requests through sockets.
 use crate::shared::{ANSWERS, OverFiles, REQUESTS, SIDES, fresh, opened};
-use commands::{Refusal, Stop, bind, loop_back, serve_clients, settle};
+use commands::{bind, loop_back, serve_clients, settle};
 use gateway::GatewayFault;
+use refusals::{Refusal, Stop};
 use socket_edge::EdgeFault;
 use std::alloc::Global;
 use std::fs;

@@ -1,8 +1,10 @@
 //! The requests of a first packet and their answers, and directories of a test.
-use commands::{Stop, bounds, open, replay};
+use checking::bounds;
+use commands::{open, replay};
 use file_disk::FileDisk;
 use gateway::Gateway;
 use options::{Opening, Sides};
+use refusals::Stop;
 use std::fs;
 use std::test::Fail;
 

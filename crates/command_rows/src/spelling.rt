@@ -1,7 +1,8 @@
 //! Addresses, prefixes and configurations as they are spelled.
-use commands::{Refusal, address, bounds, number, prefix};
+use checking::{address, bounds, number, prefix};
 use options::Sides;
 use packet::endpoint::Prefix;
+use refusals::Refusal;
 use std::alloc::Global;
 use std::test::*;
 

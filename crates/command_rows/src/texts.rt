@@ -1,6 +1,7 @@
 //! What `check` finds of texts, and how it explains it.
 use crate::shared::SIDES;
-use commands::{Stop, bounds, check, report};
+use checking::{bounds, check, report};
+use refusals::Stop;
 use std::alloc::Global;
 use std::test::Fail;
 

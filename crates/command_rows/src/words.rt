@@ -1,5 +1,5 @@
 //! The two lines of each refusal.
-use commands::{Refusal, Stop, tell};
+use refusals::{Refusal, Stop, tell};
 use std::alloc::Global;
 use std::test::Fail;
 

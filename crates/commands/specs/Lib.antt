@@ -1,3 +1,1 @@
-pub mod Words
-pub mod Spelling
-pub mod Verdicts
+pub mod Faults

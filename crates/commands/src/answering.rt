@@ -1,15 +1,16 @@
 //! Streams of requests, and what the end of one means.
 ghost use Rattle.std.specs.Prelude.{◌≡◌, ℕ, List, Result, IsOk, IfErr, OnOk};
 ghost use Rattle.std.specs.Io.KnownBytes.{Appends, Consumes, IsAtEnd};
-ghost use Rattle.commands.specs.declared.refusal.Refusal.TheVariants.{Output};
-ghost use Rattle.commands.specs.Words.{IsOfGateway, IsOfStream, IsToldAs, edge_refusal, first_line};
+ghost use Rattle.refusals.specs.declared.refusal.Refusal.TheVariants.{Output};
+ghost use Rattle.refusals.specs.Words.{first_line};
+ghost use Rattle.commands.specs.Faults.{IsOfGateway, IsOfStream, IsToldAs, edge_refusal};
 ghost use Rattle.socket_edge.specs.Running.{Ran};
 ghost use Rattle.socket_edge.specs.declared.fault.EdgeFault.{EdgeFault as Fault};
 
-use crate::stop::tell_word;
-use crate::{Refusal, ends_program};
+use crate::faults::{ends_program, of_edge};
 use disk_model::Disk;
 use gateway::Gateway;
+use refusals::{Refusal, tell_word};
 use socket_edge::EdgeFault;
 use std::alloc::Global;
 use std::io::{Read, Write};
@@ -51,7 +52,7 @@ pub fn replay<R: Read, W: Write, D: Disk + Drop>(
 {
     match answer_all(alloc, reader, writer, gateway) {
         Ok(_) => Ok(()),
-        Err(fault) => Err(Refusal::of_edge(fault)),
+        Err(fault) => Err(of_edge(fault)),
     }
 }
 
@@ -75,7 +76,7 @@ pub fn settle<W: Write>(ended: Result<u64, EdgeFault>, errors: &mut W) -> Result
         Ok(_) => return Ok(()),
         Err(fault) => fault,
     };
-    let refusal = Refusal::of_edge(fault);
+    let refusal = of_edge(fault);
     if ends_program(fault) {
         return Err(refusal);
     }

@@ -1,14 +1,16 @@
 //! A gateway over the files of a directory, or what is the matter with them.
 ghost use Rattle.std.specs.Prelude.{◌≡◌, IfErr};
-ghost use Rattle.commands.specs.Words.{IsOfFiles, IsOfPath};
+ghost use Rattle.refusals.specs.Words.{IsOfPath};
+ghost use Rattle.commands.specs.Faults.{IsOfFiles};
 
-use crate::config::bounds;
-use crate::{Refusal, Stop};
+use crate::faults::of_opening;
+use checking::bounds;
 use diagnosis::diagnose;
 use file_disk::{FileDisk, OpenError};
 use gateway::{Gateway, OpenFault};
 use options::{Opening, Sides};
 use packet::bounds::Bounds;
+use refusals::{Refusal, Stop};
 use std::alloc::Global;
 
 // Why the files of a directory can't be opened.
@@ -67,7 +69,7 @@ pub fn open(
     match Gateway::open(alloc, disk, bounds, opening.moment) {
         Ok(gateway) => Ok(gateway),
         Err((disk, fault)) => {
-            let refusal = Refusal::of_opening(fault);
+            let refusal = of_opening(fault);
             match fault {
                 OpenFault::Damaged | OpenFault::ConfigDiffers => {
                     Err(unsound(alloc, disk, sides, opening.directory, refusal))

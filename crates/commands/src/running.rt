@@ -1,13 +1,13 @@
 //! The commands, put together.
-use crate::config::bounds;
-use crate::files::read_file;
 use crate::opening::open;
 use crate::sockets::{bind, loop_back, serve_clients};
-use crate::{Refusal, Stop, check, replay, show};
+use crate::{replay, show};
+use checking::{bounds, check, read_file};
 use disk_model::Disk;
 use gateway::Gateway;
 use options::{Opening, Options, Sides, Task, Work};
 use packet::bounds::Bounds;
+use refusals::{Refusal, Stop};
 use rulesyntax::GREATEST_LENGTH;
 use std::alloc::Global;
 use std::fs;

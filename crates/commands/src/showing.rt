@@ -2,13 +2,13 @@
 ghost use Rattle.std.specs.Prelude.{◌≡◌, IfErr, OnOk};
 ghost use Rattle.std.specs.List.{flat_map};
 ghost use Rattle.std.specs.Io.KnownBytes.{Appends};
-ghost use Rattle.commands.specs.declared.refusal.Refusal.TheVariants.{NoMemory};
-ghost use Rattle.commands.specs.Words.{IsOfPrinting};
+ghost use Rattle.refusals.specs.declared.refusal.Refusal.TheVariants.{NoMemory};
+ghost use Rattle.refusals.specs.Words.{IsOfPrinting};
 ghost use Rattle.session_lines.specs.Lines.{line};
 
-use crate::Refusal;
 use disk_model::Disk;
 use gateway::Gateway;
+use refusals::Refusal;
 use std::alloc::Global;
 use std::io::Write;
 

@@ -1,11 +1,12 @@
 //! The clients of a Unix socket, one after the other.
 ghost use Rattle.std.specs.Prelude.{◌≡◌, [], false, IsErr, IsOk, IfErr, OnOk};
-ghost use Rattle.commands.specs.Words.{IsOfPath, IsOfServing};
+ghost use Rattle.refusals.specs.Words.{IsOfPath};
+ghost use Rattle.commands.specs.Faults.{IsOfServing};
 
 use crate::answering::{answer_all, settle};
-use crate::{Refusal, Stop};
 use disk_model::Disk;
 use gateway::Gateway;
+use refusals::{Refusal, Stop};
 use std::alloc::Global;
 use std::fs::Files;
 use std::io;

@@ -10,7 +10,8 @@
 #![tactic(auto)]
 
 use command_line::{Parsed, parse};
-use commands::{Refusal, Stop, run, tell};
+use commands::run;
+use refusals::{Refusal, Stop, tell};
 use std::io::ErrorKind;
 use std::process::ExitCode;
 

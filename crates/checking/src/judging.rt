@@ -1,12 +1,12 @@
 //! Whether a ruleset would load.
 ghost use Rattle.std.specs.Prelude.{◌≡◌, ℕ, List, true, false, [], IfOk, IfErr};
 ghost use Rattle.std.specs.Io.KnownBytes.{Appends};
-ghost use Rattle.commands.specs.declared.refusal.Refusal.TheVariants.{NoMemory};
-ghost use Rattle.commands.specs.Verdicts.{IsShown, IsVerdict, TellsOf};
-ghost use Rattle.commands.specs.Words.{IsOfPrinting};
+ghost use Rattle.refusals.specs.declared.refusal.Refusal.TheVariants.{NoMemory};
+ghost use Rattle.checking.specs.Verdicts.{IsShown, IsVerdict, TellsOf};
+ghost use Rattle.refusals.specs.Words.{IsOfPrinting};
 
-use crate::Refusal;
 use packet::bounds::Bounds;
+use refusals::Refusal;
 use rulesyntax::fault::{Kind, LoadFault};
 use ruletext::reading::read;
 use std::alloc::{AllocError, Global};

@@ -1,4 +1,4 @@
-use Rattle.commands.proofs.config.address.Goals as goal
+use Rattle.checking.proofs.config.address.Goals as goal
 
 pub returns-in-Ok-clause-some : goal.returns-in-Ok-clause-some
 returns-in-Ok-clause-some c = (c.in-Ok.address, c.in-Ok.ensures.value, c.to_bits.ensures)

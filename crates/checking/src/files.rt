@@ -1,7 +1,7 @@
 //! The file that a command reads.
 ghost use Rattle.std.specs.Prelude.{◌≡◌, IfOk, IfSome, take};
 
-use crate::Stop;
+use refusals::Stop;
 use std::alloc::Global;
 use std::fs::{File, Files};
 use std::io;
@@ -26,12 +26,7 @@ pub(crate) fn read_front<R: Read + Drop>(alloc: Global, reader: R, most: u64) ->
 /// # Errors
 ///
 /// `File` where it can't be opened or read, `NoMemory` where memory is refused.
-pub(crate) fn read_file(
-    rt: &impl Files,
-    alloc: Global,
-    path: &str,
-    most: u64,
-) -> Result<Vec<u8>, Stop> {
+pub fn read_file(rt: &impl Files, alloc: Global, path: &str, most: u64) -> Result<Vec<u8>, Stop> {
     let read = match File::open(rt, path) {
         Ok(file) => read_front(alloc, file, most),
         Err(error) => Err(error),

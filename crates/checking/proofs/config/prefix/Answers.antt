@@ -1,7 +1,7 @@
 use Rattle.std.proofs.Common.{arith, Some, None}
 use Rattle.std.proofs.lemmas.Str.Pattern.{split_parts}
-use Rattle.commands.proofs.Lacking.{prefix_is_split}
-use Rattle.commands.proofs.config.prefix.Goals as goal
+use Rattle.checking.proofs.Lacking.{prefix_is_split}
+use Rattle.checking.proofs.config.prefix.Goals as goal
 
 pub returns-in_err-front-clause-none : goal.returns-in_err-front-clause-none
 returns-in_err-front-clause-none c =

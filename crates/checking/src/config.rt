@@ -1,14 +1,14 @@
 //! Addresses and prefixes as they are spelled, and the configuration made of them.
 ghost use Rattle.std.specs.Prelude.{◌≡◌, ◌⊎◌, IfOk, IfErr, IfSome, IfNone, OnErr, ℕ, List};
 ghost use Rattle.packet.specs.declared.endpoint.Prefix.{Prefix};
-ghost use Rattle.commands.specs.declared.refusal.Refusal.TheVariants.{Config, NoMemory};
-ghost use Rattle.commands.specs.Spelling.{IsNoConfig, SpellsAddress, SpellsNumber, SpellsPrefix, SpellsPrefixes};
+ghost use Rattle.refusals.specs.declared.refusal.Refusal.TheVariants.{Config, NoMemory};
+ghost use Rattle.checking.specs.Spelling.{IsNoConfig, SpellsAddress, SpellsNumber, SpellsPrefix, SpellsPrefixes};
 
-use crate::{Refusal, Stop};
 use itoa::Buffer;
 use options::Sides;
 use packet::bounds::{Bounds, ConfigFault};
 use packet::endpoint::Prefix;
+use refusals::{Refusal, Stop};
 use std::alloc::{AllocError, Global};
 use std::net::Ipv4Addr;
 

@@ -3,8 +3,8 @@ ghost use Rattle.std.specs.Prelude.{◌≡◌, ◌++◌, ℕ, List, IsTrue, IfOk
 ghost use Rattle.std.specs.List.{list_all};
 ghost use Rattle.std.specs.Io.KnownBytes.{Appends};
 ghost use Rattle.std.specs.IoError.{error_kind};
-ghost use Rattle.commands.specs.declared.refusal.Refusal.TheVariants.{NoMemory};
-ghost use Rattle.commands.specs.Words.{advised, first_line, is_one_line, path_refusal, second_line, sentence_of};
+ghost use Rattle.refusals.specs.declared.refusal.Refusal.TheVariants.{NoMemory};
+ghost use Rattle.refusals.specs.Words.{advised, first_line, is_one_line, path_refusal, second_line, sentence_of};
 
 use crate::Refusal;
 use std::alloc::{AllocError, AllocFailed, Global};
@@ -62,7 +62,7 @@ impl Stop {
 
     /// A call of the system failed on this path: `NoMemory` exactly where memory was refused, otherwise `File`.
     /// `what` says what couldn't be done.
-    pub(crate) fn at_path(alloc: Global, path: &str, what: &str, error: &io::Error) -> Stop
+    pub fn at_path(alloc: Global, path: &str, what: &str, error: &io::Error) -> Stop
         ensures { result.refusal ≡ path_refusal (error_kind error.now) }
     {
         match error.kind() {
@@ -162,7 +162,7 @@ fn general(refusal: Refusal) -> &'static str
 /// # Errors
 ///
 /// That of the writer. A part may have been written then.
-pub(crate) fn tell_word<W: Write>(writer: &mut W, refusal: Refusal) -> io::Result<()>
+pub fn tell_word<W: Write>(writer: &mut W, refusal: Refusal) -> io::Result<()>
     ensures { OnOk result (Appends (W.contents writer.old) (W.contents writer.new)
         (first_line refusal)) }
 {

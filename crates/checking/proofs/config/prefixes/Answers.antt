@@ -1,10 +1,10 @@
 use Rattle.std.proofs.Common.{rules, arith, ◌∷◌, List, subst, Some, None}
 use Rattle.std.proofs.lemmas.Str.Pattern.{split_parts}
 use Rattle.packet.specs.declared.endpoint.Prefix.{Prefix}
-use Rattle.commands.specs.Spelling.{SpellsPrefixes}
-use Rattle.commands.proofs.Lacking.{if_config, prefixes_are_split}
-use Rattle.commands.proofs.Round.{back-shorter, found-behind}
-use Rattle.commands.proofs.config.prefixes.Goals as goal
+use Rattle.checking.specs.Spelling.{SpellsPrefixes}
+use Rattle.checking.proofs.Lacking.{if_config, prefixes_are_split}
+use Rattle.checking.proofs.Round.{back-shorter, found-behind}
+use Rattle.checking.proofs.config.prefixes.Goals as goal
 
 pub loop-front-smaller : goal.loop-front-smaller
 loop-front-smaller c =

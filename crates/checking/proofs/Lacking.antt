@@ -11,9 +11,9 @@ use Rattle.std.proofs.lemmas.List.{length-append}
 use Rattle.std.proofs.Math.Seq.{get_or-append_seam}
 use Rattle.std.proofs.lemmas.Str.Pattern.{IsSplitOnceResult, split_after, split_parts}
 use Rattle.packet.specs.declared.endpoint.Prefix.{Prefix}
-use Rattle.commands.specs.declared.refusal.Refusal.TheVariants.{Config}
-use Rattle.commands.specs.declared.stop.Stop.{Stop}
-use Rattle.commands.specs.Spelling.{SpellsAddress, SpellsNumber, SpellsPrefix, SpellsPrefixes}
+use Rattle.refusals.specs.declared.refusal.Refusal.TheVariants.{Config}
+use Rattle.refusals.specs.declared.stop.Stop.{Stop}
+use Rattle.checking.specs.Spelling.{SpellsAddress, SpellsNumber, SpellsPrefix, SpellsPrefixes}
 
 abbrev pub Lacks : ℕ → List ℕ → Type 0
 Lacks c [] = ⊤

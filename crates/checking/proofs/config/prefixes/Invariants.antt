@@ -4,8 +4,8 @@ use Rattle.std.proofs.Common.{List, ◌∷◌, ◌++◌, length}
 use denote.Shadow.{shadow}
 use denote.Text.{Utf8}
 use Rattle.packet.specs.declared.endpoint.Prefix.{Prefix}
-use Rattle.commands.specs.Spelling.{SpellsPrefixes}
-use Rattle.commands.proofs.config.prefixes.Given as goal
+use Rattle.checking.specs.Spelling.{SpellsPrefixes}
+use Rattle.checking.proofs.config.prefixes.Given as goal
 
 abbrev pub invariant-loop-front : goal.invariant-loop-front
 invariant-loop-front l =

@@ -1,10 +1,8 @@
 //! Why a command gives up, in a word.
-ghost use Rattle.std.specs.Prelude.{◌≡◌, ◌↔◌, IsTrue};
-ghost use Rattle.commands.specs.declared.refusal.Refusal.TheVariants.{NoMemory};
-ghost use Rattle.commands.specs.Words.{IsOfGateway, edge_refusal, gateway_refusal, opening_refusal, word_of};
+ghost use Rattle.std.specs.Prelude.{◌≡◌};
+ghost use Rattle.refusals.specs.declared.refusal.Refusal.TheVariants.{NoMemory};
+ghost use Rattle.refusals.specs.Words.{word_of};
 
-use gateway::{GatewayFault, OpenFault};
-use socket_edge::EdgeFault;
 use std::alloc::{AllocError, AllocFailed};
 use thiserror::Error;
 
@@ -86,53 +84,4 @@ impl Refusal {
             Refusal::Output => "output",
         }
     }
-
-    /// The refusal for a fault of the gateway. `HeldFull`, which no run ends with, counts as `Full`.
-    pub(crate) fn of_gateway(fault: GatewayFault) -> Refusal
-        ensures { result ≡ gateway_refusal fault }
-    {
-        match fault {
-            GatewayFault::Reopen => Refusal::Reopen,
-            GatewayFault::NumbersOut => Refusal::NumbersOut,
-            GatewayFault::HeldFull | GatewayFault::Full => Refusal::Full,
-            GatewayFault::NoMemory => Refusal::NoMemory,
-            GatewayFault::Device => Refusal::Device,
-            GatewayFault::Generations => Refusal::Generations,
-        }
-    }
-
-    /// The refusal for an opening that failed.
-    pub(crate) fn of_opening(fault: OpenFault) -> Refusal
-        ensures { result ≡ opening_refusal fault }
-    {
-        match fault {
-            OpenFault::Device => Refusal::Device,
-            OpenFault::Damaged => Refusal::Damaged,
-            OpenFault::ConfigDiffers => Refusal::ConfigDiffers,
-            OpenFault::NoMemory => Refusal::NoMemory,
-        }
-    }
-
-    /// The refusal for a stream of requests that ended early.
-    pub(crate) fn of_edge(fault: EdgeFault) -> Refusal
-        ensures { result ≡ edge_refusal fault }
-    {
-        match fault {
-            EdgeFault::BadKind => Refusal::BadKind,
-            EdgeFault::BadInterface => Refusal::BadInterface,
-            EdgeFault::TooLong => Refusal::TooLong,
-            EdgeFault::Truncated => Refusal::Truncated,
-            EdgeFault::Input => Refusal::Input,
-            EdgeFault::Output => Refusal::Output,
-            EdgeFault::Gateway(fault) => Refusal::of_gateway(fault),
-        }
-    }
-}
-
-/// Whether a fault of one stream ends the program. Any other one ends a connection alone, and where the gateway stands
-/// whoever connects next can be served.
-pub(crate) fn ends_program(fault: EdgeFault) -> bool
-    ensures { IsTrue result ↔ IsOfGateway fault }
-{
-    matches!(fault, EdgeFault::Gateway(_))
 }

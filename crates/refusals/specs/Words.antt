@@ -1,17 +1,11 @@
 -- The word that people read for each way in which a command gives up.
-use Rattle.std.specs.Prelude.{◌≡◌, ◌⊎◌, ℕ, Bool, List, Result, Ok, Err, Option, None, Some, ◌++◌, ◌&&◌, nat_lt, length, codes, option_map, string_bytes, ⊤, if◌then◌else◌}
+use Rattle.std.specs.Prelude.{◌≡◌, ◌⊎◌, ℕ, Bool, List, Option, None, Some, ◌++◌, ◌&&◌, nat_lt, length, codes, option_map, string_bytes, if◌then◌else◌}
 use Rattle.std.specs.List.{list_all}
 use Rattle.std.specs.declared.io.ErrorKind.{ErrorKind}
 use Rattle.std.specs.declared.io.ErrorKind.TheVariants as kind
-use Rattle.gateway.specs.declared.fault.GatewayFault.{GatewayFault}
-use Rattle.gateway.specs.declared.fault.GatewayFault.TheVariants as gateway
-use Rattle.snapshot.specs.declared.fault.OpenFault.{OpenFault}
-use Rattle.snapshot.specs.declared.fault.OpenFault.TheVariants as opening
-use Rattle.socket_edge.specs.declared.fault.EdgeFault.{EdgeFault}
-use Rattle.socket_edge.specs.declared.fault.EdgeFault.TheVariants as edge
-use Rattle.commands.specs.declared.refusal.Refusal.{Refusal}
-use Rattle.commands.specs.declared.refusal.Refusal.TheVariants as refusal
-use Rattle.commands.specs.declared.stop.Stop.{Stop}
+use Rattle.refusals.specs.declared.refusal.Refusal.{Refusal}
+use Rattle.refusals.specs.declared.refusal.Refusal.TheVariants as refusal
+use Rattle.refusals.specs.declared.stop.Stop.{Stop}
 
 abbrev pub word_of : Refusal → List ℕ
 word_of refusal.Config = codes "config"
@@ -75,43 +69,6 @@ advised r (Some advice) = if is_one_line advice then advice else sentence_of r
 abbrev pub second_line : Stop → List ℕ
 second_line stop = advised stop.refusal (option_map string_bytes stop.advice)
 
--- a gateway that holds too many answers has no room either
-abbrev pub gateway_refusal : GatewayFault → Refusal
-gateway_refusal gateway.Reopen = refusal.Reopen
-gateway_refusal gateway.NumbersOut = refusal.NumbersOut
-gateway_refusal gateway.HeldFull = refusal.Full
-gateway_refusal gateway.Full = refusal.Full
-gateway_refusal gateway.NoMemory = refusal.NoMemory
-gateway_refusal gateway.Device = refusal.Device
-gateway_refusal gateway.Generations = refusal.Generations
-
-abbrev pub opening_refusal : OpenFault → Refusal
-opening_refusal opening.Device = refusal.Device
-opening_refusal opening.Damaged = refusal.Damaged
-opening_refusal opening.ConfigDiffers = refusal.ConfigDiffers
-opening_refusal opening.NoMemory = refusal.NoMemory
-
-abbrev pub edge_refusal : EdgeFault → Refusal
-edge_refusal edge.BadKind = refusal.BadKind
-edge_refusal edge.BadInterface = refusal.BadInterface
-edge_refusal edge.TooLong = refusal.TooLong
-edge_refusal edge.Truncated = refusal.Truncated
-edge_refusal edge.Input = refusal.Input
-edge_refusal edge.Output = refusal.Output
-edge_refusal (edge.Gateway fault) = gateway_refusal fault
-
--- a run that ended well is told as that, and a fault by its refusal
-abbrev pub IsToldAs : Result ℕ EdgeFault → Result (Unit {0}) Refusal → Type 0
-IsToldAs (Ok count) (Ok done) = Unit {0}
-IsToldAs (Ok count) (Err r) = ⊥
-IsToldAs (Err fault) (Ok done) = ⊥
-IsToldAs (Err fault) (Err r) = r ≡ edge_refusal fault
-
--- the gateway has failed, and not what came in or went out
-abbrev pub IsOfGateway : EdgeFault → Type 0
-IsOfGateway (edge.Gateway fault) = ⊤
-IsOfGateway fault = ⊥
-
 -- of a call of the system on a path
 abbrev pub path_refusal : ErrorKind → Refusal
 path_refusal kind.OutOfMemory = refusal.NoMemory
@@ -121,19 +78,6 @@ path_refusal _ = refusal.File
 abbrev pub IsOfPath : Refusal → Type 0
 IsOfPath r = (r ≡ refusal.File) ⊎ (r ≡ refusal.NoMemory)
 
--- what may be the matter with the files of a directory
-abbrev pub IsOfFiles : Refusal → Type 0
-IsOfFiles r = IsOfPath r ⊎ ((fault : OpenFault) × (r ≡ opening_refusal fault))
-
 -- what may be the matter where something is printed
 abbrev pub IsOfPrinting : Refusal → Type 0
 IsOfPrinting r = (r ≡ refusal.NoMemory) ⊎ (r ≡ refusal.Output)
-
--- what may end a stream of requests
-abbrev pub IsOfStream : Refusal → Type 0
-IsOfStream r = (fault : EdgeFault) × (r ≡ edge_refusal fault)
-
--- what may end the serving of clients: the socket, the gateway, or that a client's word can't be told
-abbrev pub IsOfServing : Refusal → Type 0
-IsOfServing r = IsOfPath r ⊎ (r ≡ refusal.Output)
-    ⊎ ((fault : GatewayFault) × (r ≡ gateway_refusal fault))
