@@ -4,7 +4,7 @@ ghost use Rattle.std.specs.List.{list_all};
 ghost use Rattle.std.specs.Io.KnownBytes.{Appends};
 ghost use Rattle.std.specs.IoError.{error_kind};
 ghost use Rattle.refusals.specs.declared.refusal.Refusal.TheVariants.{NoMemory};
-ghost use Rattle.refusals.specs.Words.{advised, first_line, is_one_line, path_refusal, second_line, sentence_of};
+ghost use Rattle.refusals.specs.Words.{IsOfPath, advised, first_line, is_one_line, path_refusal, second_line, sentence_of};
 
 use crate::Refusal;
 use std::alloc::{AllocError, AllocFailed, Global};
@@ -63,7 +63,8 @@ impl Stop {
     /// A call of the system failed on this path: `NoMemory` exactly where memory was refused, otherwise `File`.
     /// `what` says what couldn't be done.
     pub fn at_path(alloc: Global, path: &str, what: &str, error: &io::Error) -> Stop
-        ensures { result.refusal ≡ path_refusal (error_kind error.now) }
+        ensures refusal { result.refusal ≡ path_refusal (error_kind error.now) }
+        ensures of_path { IsOfPath result.refusal }
     {
         match error.kind() {
             ErrorKind::OutOfMemory => Stop::from(Refusal::NoMemory),

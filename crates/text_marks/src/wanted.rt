@@ -3,7 +3,7 @@
 //! The parser itself is asked: where the text up to the place is followed by a word that can stand there, the text
 //! goes wrong behind that word, at its end, or it is whole.
 use crate::line::newlines;
-use rulesyntax::fault::Kind;
+use rulesyntax::fault::{Kind, LoadFault};
 use rulesyntax::{GREATEST_LENGTH, parse};
 use std::alloc::{AllocError, Global};
 
@@ -102,8 +102,26 @@ const SIGNS: [&str; 13] = [
     "{", "}", ",", ";", ":", "/", "-", "+", "=", "==", "!=", "@", "\n",
 ];
 
-// Whether the text up to a place goes on with this word and what stands behind it.
-fn fits(alloc: Global, before: &[u8], word: &str, behind: &str) -> Result<bool, AllocError> {
+// The fault of a text, if it has one.
+fn fault_of(alloc: Global, text: &[u8]) -> Result<Option<LoadFault>, AllocError> {
+    match parse(alloc, text).err() {
+        Some(fault) => {
+            if fault.kind == Kind::NoMemory {
+                return Err(AllocError);
+            }
+            Ok(Some(fault))
+        }
+        None => Ok(None),
+    }
+}
+
+// The text up to a place, with this word and what stands behind it.
+fn continued(
+    alloc: Global,
+    before: &[u8],
+    word: &str,
+    behind: &str,
+) -> Result<Vec<u8>, AllocError> {
     let mut text = Vec::from_slice(alloc, before)?;
     text.extend_from_slice(b" ")?;
     text.extend_from_slice(word.as_bytes())?;
@@ -111,31 +129,25 @@ fn fits(alloc: Global, before: &[u8], word: &str, behind: &str) -> Result<bool, 
     text.extend_from_slice(behind.as_bytes())?;
     // Here the line goes on behind its end, so that the end of the text has a line of its own.
     text.extend_from_slice(b"\\\n")?;
+    Ok(text)
+}
+
+// Whether the text up to a place goes on with this word and what stands behind it.
+fn fits(alloc: Global, before: &[u8], word: &str, behind: &str) -> Result<bool, AllocError> {
+    let text = continued(alloc, before, word, behind)?;
     if text.len() > GREATEST_LENGTH {
         return Ok(false);
     }
-    match parse(alloc, text.as_slice()) {
-        Ok(_spelled) => Ok(true),
-        Err(fault) => {
-            if fault.kind == Kind::NoMemory {
-                return Err(AllocError);
-            }
-            Ok(fault.line.number() > newlines(text.as_slice()))
-        }
+    match fault_of(alloc, text.as_slice())? {
+        Some(fault) => Ok(fault.line.number() > newlines(text.as_slice())),
+        None => Ok(true),
     }
 }
 
 // Whether the text could end here.
 fn may_end(alloc: Global, before: &[u8]) -> Result<bool, AllocError> {
-    match parse(alloc, before) {
-        Ok(_spelled) => Ok(true),
-        Err(fault) => {
-            if fault.kind == Kind::NoMemory {
-                return Err(AllocError);
-            }
-            Ok(false)
-        }
-    }
+    let fault = fault_of(alloc, before)?;
+    Ok(fault.is_none())
 }
 
 // What could stand at a place, as it is found out.
@@ -151,6 +163,15 @@ impl<'a> Probe<'a> {
         fits(self.alloc, self.before, word, "")
     }
 
+    fn fits_any(&self, words: &[&str]) -> Result<bool, AllocError> {
+        for word in words {
+            if self.fits(word)? {
+                return Ok(true);
+            }
+        }
+        Ok(false)
+    }
+
     fn add(&mut self, quote: &[u8], name: &str) -> Result<(), AllocError> {
         if !self.shown.is_empty() {
             self.shown.extend_from_slice(b", ")?;
@@ -163,8 +184,7 @@ impl<'a> Probe<'a> {
     // Numbers, addresses and texts in quotes.
     fn add_classes(&mut self) -> Result<(), AllocError> {
         for class in &CLASSES {
-            let [first, second, third] = class.samples;
-            if self.fits(first)? || self.fits(second)? || self.fits(third)? {
+            if self.fits_any(&class.samples)? {
                 self.add(b"", class.name)?;
             }
         }
@@ -173,7 +193,7 @@ impl<'a> Probe<'a> {
 
     // Whether something may stand behind the word that can't behind a name without a meaning.
     fn has_meaning(&self, word: &str) -> Result<bool, AllocError> {
-        for behind in BEHIND_WORDS {
+        for behind in &BEHIND_WORDS {
             if fits(self.alloc, self.before, word, behind)?
                 && !fits(self.alloc, self.before, FREE_NAME, behind)?
             {
@@ -189,7 +209,7 @@ impl<'a> Probe<'a> {
         if any {
             self.add(b"", "a name")?;
         }
-        for word in WORDS {
+        for word in &WORDS {
             if self.fits(word)? && (!any || self.has_meaning(word)?) {
                 self.add(b"`", word)?;
             }
@@ -198,9 +218,9 @@ impl<'a> Probe<'a> {
     }
 
     fn add_signs(&mut self) -> Result<(), AllocError> {
-        for sign in SIGNS {
+        for sign in &SIGNS {
             if self.fits(sign)? {
-                if sign == "\n" {
+                if *sign == "\n" {
                     self.add(b"", "the end of the line")?;
                 } else {
                     self.add(b"`", sign)?;
