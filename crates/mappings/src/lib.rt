@@ -6,8 +6,8 @@
 //! (RFC 4787, REQ-1), and an outside endpoint stands for one inside endpoint.
 //!
 //! Each pair has a slot, with its count. Two maps lead to it, one from the protocol and the inside endpoint, the
-//! other from the protocol and the outside endpoint; so no call walks over all pairs, and a look-up reads one
-//! bucket. Nothing asks for the pairs in order.
+//! other from the protocol and the outside endpoint; so a look-up reads one bucket, and the overflow where that is
+//! full, and no call walks over all pairs but one that makes more places. Nothing asks for the pairs in order.
 //!
 //! - `map`: the pairs that are held, and the look-ups by either endpoint
 //! - `index`: the slots, and the two maps

@@ -34,7 +34,7 @@ const _: () = prove!(size_of::<Counted>() == 24);
 
 /// The pairs that are held.
 ///
-/// A look-up reads one bucket and one slot, however many pairs are held. A pair takes 32 bytes in its slot, and
+/// A look-up reads one bucket and one slot, and searches the overflow where the bucket is full. A pair takes 32 bytes in its slot, and
 /// between 16 and 32 in each of two maps, 12 for each place of theirs.
 #[derive(Drop)]
 pub struct Map {
