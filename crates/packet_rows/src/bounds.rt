@@ -6,133 +6,134 @@ use packet::route::{Route, RouteFault};
 use packet::steps::Steps;
 use packet::view::View;
 use std::alloc::Global;
+use std::process::Abort;
 use std::test::*;
 
+// Bounds with so many inside prefixes, which are all the same.
 fn bounds(
     alloc: Global,
     names: (&str, &str),
-    inside: &[Prefix],
+    prefix: Prefix,
+    count: usize,
     external: u32,
 ) -> Result<Result<Bounds, ConfigFault>, Fail> {
     let lan = String::from_str(alloc, names.0)?;
     let wan = String::from_str(alloc, names.1)?;
-    let mut prefixes = Vec::new(alloc);
-    for prefix in inside {
-        prefixes.push(*prefix)?;
-    }
-    Ok(Bounds::new(lan, wan, prefixes, external))
+    let inside = vec![in alloc; prefix; count]?;
+    Ok(Bounds::new(lan, wan, inside, external))
 }
 
-const INSIDE: [Prefix; 1] = [Prefix {
+// Why these bounds aren't taken, if they aren't.
+fn fault_of(
+    alloc: Global,
+    names: (&str, &str),
+    prefix: Prefix,
+    count: usize,
+    external: u32,
+) -> Result<Option<ConfigFault>, Fail> {
+    Ok(bounds(alloc, names, prefix, count, external)?.err())
+}
+
+const BOTH: (&str, &str) = ("lan", "wan");
+
+const INSIDE: Prefix = Prefix {
     addr: 0xc0a80000,
     len: 16,
-}];
+};
 
-const HOST_BITS: [Prefix; 1] = [Prefix {
+const HOST_BITS: Prefix = Prefix {
     addr: 0xc0a80100,
     len: 16,
-}];
+};
 
-const TOO_LONG: [Prefix; 1] = [Prefix { addr: 0, len: 33 }];
+const TOO_LONG: Prefix = Prefix { addr: 0, len: 33 };
 
-const MANY: [Prefix; 17] = [Prefix {
-    addr: 0xc0a80000,
-    len: 16,
-}; 17];
+// Two names, and the number of inside prefixes.
+const BAD_NAMES: [(&str, &str, &str, usize, ConfigFault); 4] = [
+    ("empty name", "", "wan", 0, ConfigFault::BadName),
+    (
+        "16 bytes",
+        "lan",
+        "0123456789abcdef",
+        1,
+        ConfigFault::BadName,
+    ),
+    ("a space", "lan", "w an", 1, ConfigFault::BadName),
+    ("equal names", "lan", "lan", 0, ConfigFault::EqualNames),
+];
 
-const NONE: [Prefix; 0] = [];
-
-#[test]
-fn configurations_are_refused(rt: HostRuntime) -> Result<(), Fail> {
-    let alloc = rt.alloc();
-    let both = ("lan", "wan");
-    let cases: [(&str, (&str, &str), &[Prefix], u32, ConfigFault); 9] = [
-        (
-            "empty name",
-            ("", "wan"),
-            &NONE,
-            EXTERNAL,
-            ConfigFault::BadName,
-        ),
-        (
-            "16 bytes",
-            ("lan", "0123456789abcdef"),
-            &INSIDE,
-            EXTERNAL,
-            ConfigFault::BadName,
-        ),
-        (
-            "a space",
-            ("lan", "w an"),
-            &INSIDE,
-            EXTERNAL,
-            ConfigFault::BadName,
-        ),
-        (
-            "equal names",
-            ("lan", "lan"),
-            &NONE,
-            EXTERNAL,
-            ConfigFault::EqualNames,
-        ),
-        ("no prefix", both, &NONE, EXTERNAL, ConfigFault::PrefixCount),
-        ("17 prefixes", both, &MANY, HOST, ConfigFault::PrefixCount),
-        ("host bits", both, &HOST_BITS, HOST, ConfigFault::BadPrefix),
-        ("33 bits", both, &TOO_LONG, HOST, ConfigFault::BadPrefix),
-        (
-            "external inside",
-            both,
-            &INSIDE,
-            HOST,
-            ConfigFault::ExternalInside,
-        ),
-    ];
-    for (case, names, inside, external, expected) in cases {
-        let found = bounds(alloc, names, inside, external)?;
-        assert_eq!(rt; found.err(), Some(expected), "at {case}");
+fn names_are_refused(rt: &impl Abort, alloc: Global) -> Result<(), Fail> {
+    for (case, lan, wan, count, expected) in &BAD_NAMES {
+        let found = fault_of(alloc, (*lan, *wan), INSIDE, *count, EXTERNAL)?;
+        assert_eq!(rt; found, Some(*expected), "at {case}");
     }
     Ok(())
 }
 
-const SIXTEEN: [Prefix; 16] = [Prefix {
-    addr: 0xc0a80000,
-    len: 16,
-}; 16];
+// An inside prefix, how many of it there are, and the external address.
+const BAD_ADDRESSES: [(&str, Prefix, usize, u32, ConfigFault); 5] = [
+    ("no prefix", INSIDE, 0, EXTERNAL, ConfigFault::PrefixCount),
+    ("17 prefixes", INSIDE, 17, HOST, ConfigFault::PrefixCount),
+    ("host bits", HOST_BITS, 1, HOST, ConfigFault::BadPrefix),
+    ("33 bits", TOO_LONG, 1, HOST, ConfigFault::BadPrefix),
+    (
+        "external inside",
+        INSIDE,
+        1,
+        HOST,
+        ConfigFault::ExternalInside,
+    ),
+];
+
+fn addresses_are_refused(rt: &impl Abort, alloc: Global) -> Result<(), Fail> {
+    for (case, prefix, count, external, expected) in &BAD_ADDRESSES {
+        let found = fault_of(alloc, BOTH, *prefix, *count, *external)?;
+        assert_eq!(rt; found, Some(*expected), "at {case}");
+    }
+    Ok(())
+}
+
+#[test]
+fn configurations_are_refused(rt: HostRuntime) -> Result<(), Fail> {
+    names_are_refused(&rt, rt.alloc())?;
+    addresses_are_refused(&rt, rt.alloc())
+}
 
 #[test]
 fn sixteen_prefixes_are_taken(rt: HostRuntime) -> Result<(), Fail> {
-    let found = bounds(rt.alloc(), ("lan", "wan"), &SIXTEEN, EXTERNAL)?;
-    assert!(rt; found.is_ok());
+    assert_eq!(rt; fault_of(rt.alloc(), BOTH, INSIDE, 16, EXTERNAL)?, None);
     Ok(())
 }
 
 fn boxed(alloc: Global) -> Result<Box<Bounds>, Fail> {
-    match bounds(alloc, ("en-0.a_B", "0123456789abcde"), &INSIDE, EXTERNAL)? {
+    match bounds(alloc, ("en-0.a_B", "0123456789abcde"), INSIDE, 1, EXTERNAL)? {
         Ok(bounds) => Ok(Box::new(alloc, bounds)?),
         Err(_) => Err("refused".into()),
     }
+}
+
+fn has_names(bounds: &Bounds, lan: &[u8], wan: &[u8]) -> bool {
+    bounds.lan() == lan && bounds.wan() == wan
+}
+
+fn has_addresses(bounds: &Bounds, inside: &[Prefix], external: u32) -> bool {
+    bounds.inside() == inside && bounds.external() == external
 }
 
 #[test]
 fn configurations_are_shown(rt: HostRuntime) -> Result<(), Fail> {
     let bounds = boxed(rt.alloc())?;
     bounds.facts();
-    assert!(rt; bounds.lan() == b"en-0.a_B".as_slice());
-    assert!(rt; bounds.wan() == b"0123456789abcde".as_slice());
-    assert!(rt; bounds.inside() == INSIDE.as_slice());
-    assert_eq!(rt; bounds.external(), EXTERNAL);
+    assert!(rt; has_names(&bounds, b"en-0.a_B", b"0123456789abcde"));
+    assert!(rt; has_addresses(&bounds, &[INSIDE], EXTERNAL));
     Ok(())
 }
 
 #[test]
 fn addresses_are_placed(rt: HostRuntime) -> Result<(), Fail> {
     let bounds = boxed(rt.alloc())?;
-    for (addr, is_inside) in [(0xc0a8ffff, true), (0xc0a90000, false)] {
-        assert_eq!(rt; bounds.is_inside(addr), is_inside);
-    }
-    for (addr, is_external) in [(EXTERNAL, true), (HOST, false)] {
-        assert_eq!(rt; bounds.is_external(addr), is_external);
-    }
+    assert!(rt; bounds.is_inside(0xc0a8ffff) && !bounds.is_inside(0xc0a90000));
+    assert!(rt; bounds.is_external(EXTERNAL) && !bounds.is_external(HOST));
     Ok(())
 }
 
@@ -228,8 +229,10 @@ fn packets_are_routed(rt: HostRuntime) -> Result<(), Fail> {
 
 #[test]
 fn route_faults_are_numbered(rt: HostRuntime) {
-    assert_eq!(rt; RouteFault::Ttl.number(), 10);
-    assert_eq!(rt; RouteFault::NoRoute.number(), 12);
+    assert_eq!(rt;
+        (RouteFault::Ttl.number(), RouteFault::NoRoute.number()),
+        (10, 12)
+    );
 }
 
 #[test]

@@ -43,8 +43,10 @@ fn flags_are_read(rt: HostRuntime) {
 #[test]
 fn protocols_are_numbered(rt: HostRuntime) {
     assert_eq!(rt; (Proto::Tcp.number(), Proto::Udp.number()), (6, 17));
-    assert_eq!(rt; Proto::of_number(17), Some(Proto::Udp));
-    assert_eq!(rt; Proto::of_number(1), None);
+    assert_eq!(rt;
+        (Proto::of_number(17), Proto::of_number(1)),
+        (Some(Proto::Udp), None)
+    );
 }
 
 // The packet with two bytes changed, and its fault.

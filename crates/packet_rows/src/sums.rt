@@ -23,11 +23,14 @@ fn put(bytes: &mut [u8], at: usize, word: u64) {
     }
 }
 
+fn put_address(packet: &mut [u8], place: usize, addr: u32) {
+    put(packet, place, addr as u64 / 65536);
+    put(packet, place.saturating_add(2), addr as u64);
+}
+
 fn put_endpoints(packet: &mut [u8], options: usize, src: Endpoint, dst: Endpoint) {
-    for (place, addr) in [(12, src.addr as u64), (16, dst.addr as u64)] {
-        put(packet, place, addr / 65536);
-        put(packet, place.saturating_add(2), addr);
-    }
+    put_address(packet, 12, src.addr);
+    put_address(packet, 16, dst.addr);
     put(packet, options.saturating_add(20), src.port as u64);
     put(packet, options.saturating_add(22), dst.port as u64);
 }
@@ -199,15 +202,18 @@ fn sums(rt: HostRuntime) {
     }
 }
 
+// Whether packets of both protocols agree, made in these bytes.
+fn both_agree_in(packet: &mut [u8], whole: &mut [u8]) -> bool {
+    agree_in(packet, whole, Proto::Udp, 0, 0x7a57, OTHER, SAME)
+        && agree_in(packet, whole, Proto::Tcp, 0, 0x7a57, OTHER, SAME)
+}
+
 // As many bytes as a length can tell, and one more.
 #[test]
 fn longest(rt: HostRuntime) -> Result<(), Fail> {
     let mut packet = vec![in rt.alloc(); 0u8; 65_535]?;
     let mut whole = vec![in rt.alloc(); 0u8; 65_535]?;
-    for proto in [Proto::Udp, Proto::Tcp] {
-        let (packet, whole) = (packet.as_mut_slice(), whole.as_mut_slice());
-        assert!(rt; agree_in(packet, whole, proto, 0, 0x7a57, OTHER, SAME));
-    }
+    assert!(rt; both_agree_in(packet.as_mut_slice(), whole.as_mut_slice()));
     packet.push(0)?;
     assert_eq!(rt; View::read(packet.as_slice()).err(), Some(Fault::Length));
     Ok(())

@@ -1,7 +1,7 @@
 //! Queues of one or two sessions, whose slots are taken once from a table: what a test does then needs no more of it.
-ghost use Rattle.std.specs.Prelude.{◌≢◌, IfOk};
+ghost use Rattle.std.specs.Prelude.{◌≡◌, ◌≢◌, ℕ, None, IfOk, IsSome};
 ghost use Rattle.sessions.specs.Life.{IsSeen};
-ghost use Rattle.timers.specs.Due.{IsLatest};
+ghost use Rattle.timers.specs.Due.{at, IsLatest};
 
 use packet::endpoint::{Endpoint, Proto};
 use sessions::{Opener, Session, Slot, Table};
@@ -38,6 +38,17 @@ fn two_slots(alloc: Global) -> Result<(Slot, Slot), Fail>
     Ok((first, second))
 }
 
+// Watches both sessions, of which the second was seen last; each may be idle for 300 seconds.
+fn watch_both(due: &mut Due, first: Slot, second: Slot) -> Result<(), AllocError>
+    requires unwatched { (slot : ℕ) → at due.old slot ≡ None }
+    requires two { first ≢ second }
+    ensures watched { IfOk result (λ _. IsSome (at due.new first)) }
+    ensures latest { IfOk result (λ _. IsLatest due.new 1001) }
+{
+    due.add(first, 1000, 300)?;
+    due.add(second, 1001, 300)
+}
+
 // The slots of the sessions that are over in this second, which comes behind all that was seen of them.
 fn assert_listed(
     rt: &impl Abort,
@@ -59,8 +70,7 @@ fn two_idle_sessions(rt: HostRuntime) -> Result<(), Fail> {
     let (first, second) = two_slots(alloc)?;
     let mut due = Box::new(alloc, Due::new(alloc))?;
     due.reserve(2)?;
-    due.add(first, 1000, 300)?;
-    due.add(second, 1001, 300)?;
+    watch_both(&mut due, first, second)?;
     assert_listed(&rt, alloc, &due, 1301, &[first, second])?;
     Ok(())
 }
@@ -70,8 +80,7 @@ fn the_first_of_two(rt: HostRuntime) -> Result<(), Fail> {
     let alloc = rt.alloc();
     let (first, second) = two_slots(alloc)?;
     let mut due = Box::new(alloc, Due::new(alloc))?;
-    due.add(first, 1000, 300)?;
-    due.add(second, 1001, 300)?;
+    watch_both(&mut due, first, second)?;
     assert_listed(&rt, alloc, &due, 1300, &[first])?;
     Ok(())
 }
@@ -87,17 +96,30 @@ fn an_idle_session(rt: HostRuntime) -> Result<(), Fail> {
     Ok(())
 }
 
+// The session sends a packet, and then no more.
+fn assert_refreshed(
+    rt: &impl Abort,
+    alloc: Global,
+    due: &mut Due,
+    slot: Slot,
+) -> Result<(), AllocError>
+    requires watched { IsSome (at due.old slot) }
+    requires latest { IsLatest due.old 1000 }
+{
+    due.touch(slot, 1003, 7440);
+    assert_listed(rt, alloc, due, 8442, &[])?;
+    assert_listed(rt, alloc, due, u64::MAX, &[slot])?;
+    due.remove(slot);
+    assert_listed(rt, alloc, due, u64::MAX, &[])
+}
+
 #[test]
 fn a_refreshed_session(rt: HostRuntime) -> Result<(), Fail> {
     let alloc = rt.alloc();
     let (slot, _) = two_slots(alloc)?;
     let mut due = Box::new(alloc, Due::new(alloc))?;
     due.add(slot, 1000, 240)?;
-    due.touch(slot, 1003, 7440);
-    assert_listed(&rt, alloc, &due, 8442, &[])?;
-    assert_listed(&rt, alloc, &due, u64::MAX, &[slot])?;
-    due.remove(slot);
-    assert_listed(&rt, alloc, &due, u64::MAX, &[])?;
+    assert_refreshed(&rt, alloc, &mut due, slot)?;
     Ok(())
 }
 
@@ -106,8 +128,7 @@ fn a_session_moves_behind_another(rt: HostRuntime) -> Result<(), Fail> {
     let alloc = rt.alloc();
     let (first, second) = two_slots(alloc)?;
     let mut due = Box::new(alloc, Due::new(alloc))?;
-    due.add(first, 1000, 300)?;
-    due.add(second, 1001, 300)?;
+    watch_both(&mut due, first, second)?;
     due.touch(first, 1002, 300);
     assert_listed(&rt, alloc, &due, u64::MAX, &[second, first])?;
     Ok(())

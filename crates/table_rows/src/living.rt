@@ -1,5 +1,3 @@
-ghost use Rattle.std.specs.Prelude.{◌≡◌};
-
 use packet::bounds::Bounds;
 use packet::endpoint::{Endpoint, Flags, Prefix, Proto};
 use sessions::Opener::{self, Inside, Remote};
@@ -59,27 +57,21 @@ const RST: Flags = Flags {
     ack: false,
 };
 
-fn begun(proto: Proto, remote: Endpoint) -> Session
-    ensures { result ≡ record {
-      proto = proto;
-      inside = HOST;
-      outside = OUTSIDE;
-      remote = remote;
-      opener = Opener.Inside;
-      seen = 0;
-      last = 1000;
-    } }
-{
-    Session {
-        proto,
-        inside: HOST,
-        outside: OUTSIDE,
-        remote,
-        opener: Inside,
-        seen: 0,
-        last: 1000,
-    }
-}
+const QUERY: Session = Session {
+    proto: Proto::Udp,
+    inside: HOST,
+    outside: OUTSIDE,
+    remote: SERVER,
+    opener: Inside,
+    seen: 0,
+    last: 1000,
+};
+
+// What the first packet of a connection begins.
+const STREAM: Session = Session {
+    proto: Proto::Tcp,
+    ..QUERY
+};
 
 // Each packet comes a second after the one before; the phase is the one that it leaves.
 fn goes_through(rt: &impl Abort, session: Session, packets: &[(Opener, Flags, Phase)]) -> Session {
@@ -92,14 +84,10 @@ fn goes_through(rt: &impl Abort, session: Session, packets: &[(Opener, Flags, Ph
     session
 }
 
-fn syn() -> Session {
-    begun(Proto::Tcp, SERVER)
-}
-
 // The session of a handshake: its last packet passed in second 1002.
 fn open(rt: &impl Abort) -> Session {
     let handshake = [(Remote, SYN_ACK, Partial), (Inside, ACK, Established)];
-    goes_through(rt, syn(), &handshake)
+    goes_through(rt, STREAM, &handshake)
 }
 
 // Whether the session is alive in this second, and in the next one no longer.
@@ -109,8 +97,8 @@ fn ends_after(session: &Session, second: u64) -> bool {
 
 #[test]
 fn phases(rt: HostRuntime) {
-    assert_eq!(rt; syn().phase(), Partial);
-    assert!(rt; ends_after(&syn(), 1239));
+    assert_eq!(rt; STREAM.phase(), Partial);
+    assert!(rt; ends_after(&STREAM, 1239));
     let reset = goes_through(&rt, open(&rt), &[(Remote, RST, Closing)]);
     assert!(rt; ends_after(&reset, 1242));
 }
@@ -131,22 +119,20 @@ fn both_sides_open_at_once(rt: HostRuntime) {
         (Inside, SYN_ACK, Partial),
         (Remote, SYN_ACK, Established),
     ];
-    goes_through(&rt, syn(), &crossing);
+    goes_through(&rt, STREAM, &crossing);
 }
 
 #[test]
 fn queries(rt: HostRuntime) {
-    let query = begun(Proto::Udp, SERVER);
-    assert!(rt; query.is_alive(0) && ends_after(&query, 1299));
-    assert_eq!(rt; query.shown(Remote, Flags::none()), 1);
+    assert!(rt; QUERY.is_alive(0) && ends_after(&QUERY, 1299));
+    assert_eq!(rt; QUERY.shown(Remote, Flags::none()), 1);
 }
 
 #[test]
 fn states(rt: HostRuntime) {
-    let query = begun(Proto::Udp, SERVER);
-    assert!(rt; query.awaits_reply(Inside));
-    assert!(rt; !query.awaits_reply(Remote));
-    let answered = Session { seen: 1, ..query };
+    assert!(rt; QUERY.awaits_reply(Inside));
+    assert!(rt; !QUERY.awaits_reply(Remote));
+    let answered = Session { seen: 1, ..QUERY };
     assert!(rt; !answered.awaits_reply(Inside));
 }
 
@@ -154,15 +140,20 @@ fn states(rt: HostRuntime) {
 fn two_sessions(alloc: Global) -> Result<(Box<Table>, Slot), Fail> {
     let mut table = Box::new(alloc, Table::new(alloc))?;
     table.reserve()?;
-    let slot = table.add(begun(Proto::Udp, SERVER))?;
-    table.add(begun(Proto::Tcp, SERVER))?;
+    let slot = table.add(QUERY)?;
+    table.add(STREAM)?;
     Ok((table, slot))
+}
+
+// A second query with the same endpoints.
+fn add_again(table: &mut Table) -> Result<Slot, AddFault> {
+    table.add(QUERY)
 }
 
 #[test]
 fn one_table(rt: HostRuntime) -> Result<(), Fail> {
     let (mut table, slot) = two_sessions(rt.alloc())?;
-    assert_eq!(rt; table.add(begun(Proto::Udp, SERVER)), Err(AddFault::Clash));
+    assert_eq!(rt; add_again(&mut table), Err(AddFault::Clash));
     assert_eq!(rt; table.count(), 2);
     assert!(rt; slot.number() < table.slots());
     Ok(())
@@ -172,25 +163,32 @@ fn one_table(rt: HostRuntime) -> Result<(), Fail> {
 fn sessions_are_listed(rt: HostRuntime) -> Result<(), Fail> {
     let alloc = rt.alloc();
     let (table, _) = two_sessions(alloc)?;
-    let wanted = [begun(Proto::Tcp, SERVER), begun(Proto::Udp, SERVER)];
+    let wanted = [STREAM, QUERY];
     assert!(rt; table.list(alloc)?.as_slice() == wanted.as_slice());
     Ok(())
+}
+
+fn assert_by_inside(rt: &impl Abort, table: &Table, inside: Endpoint, expected: Option<Slot>) {
+    assert_eq!(rt; table.by_inside(Proto::Udp, inside, SERVER), expected);
+}
+
+fn assert_by_outside(rt: &impl Abort, table: &Table, outside: Endpoint, expected: Option<Slot>) {
+    assert_eq!(rt; table.by_outside(Proto::Udp, outside, SERVER), expected);
 }
 
 #[test]
 fn sessions_are_found(rt: HostRuntime) -> Result<(), Fail> {
     let (table, slot) = two_sessions(rt.alloc())?;
-    assert_eq!(rt; table.by_inside(Proto::Udp, HOST, SERVER), Some(slot));
-    for (outside, expected) in [(OUTSIDE, Some(slot)), (HOST, None)] {
-        assert_eq!(rt; table.by_outside(Proto::Udp, outside, SERVER), expected);
-    }
+    assert_by_inside(&rt, &table, HOST, Some(slot));
+    assert_by_outside(&rt, &table, OUTSIDE, Some(slot));
+    assert_by_outside(&rt, &table, HOST, None);
     Ok(())
 }
 
 // A table of a query alone, and its slot.
 fn one_query(alloc: Global) -> Result<(Box<Table>, Slot), Fail> {
     let mut table = Box::new(alloc, Table::new(alloc))?;
-    let slot = table.add(begun(Proto::Udp, SERVER))?;
+    let slot = table.add(QUERY)?;
     Ok((table, slot))
 }
 
@@ -222,22 +220,25 @@ fn end(table: &mut Table, slot: Slot) -> Option<Session> {
     table.get(slot)
 }
 
+fn assert_holds(rt: &impl Abort, held: Option<Session>, expected: Option<Session>) {
+    assert_eq!(rt; held, expected);
+}
+
 #[test]
 fn seen_and_begun_anew(rt: HostRuntime) -> Result<(), Fail> {
     let (mut table, slot) = one_query(rt.alloc())?;
-    let query = begun(Proto::Udp, SERVER);
     let seen = Session {
         seen: 1,
         last: 1001,
-        ..query
+        ..QUERY
     };
-    assert_eq!(rt; see(&mut table, slot, 1, 1001), Some(seen));
+    assert_holds(&rt, see(&mut table, slot, 1, 1001), Some(seen));
     let anew = Session {
         opener: Remote,
         last: 1002,
-        ..query
+        ..QUERY
     };
-    assert_eq!(rt; restart(&mut table, slot, Remote, 1002), Some(anew));
+    assert_holds(&rt, restart(&mut table, slot, Remote, 1002), Some(anew));
     Ok(())
 }
 
@@ -247,10 +248,10 @@ fn amended_and_ended(rt: HostRuntime) -> Result<(), Fail> {
     let amended = Session {
         opener: Remote,
         seen: 1,
-        ..begun(Proto::Udp, SERVER)
+        ..QUERY
     };
-    assert_eq!(rt; amend(&mut table, slot, Remote, 1), Some(amended));
-    assert_eq!(rt; end(&mut table, slot), None);
+    assert_holds(&rt, amend(&mut table, slot, Remote, 1), Some(amended));
+    assert_holds(&rt, end(&mut table, slot), None);
     Ok(())
 }
 
@@ -280,10 +281,7 @@ fn bounds(alloc: Global) -> Result<Box<Bounds>, Fail> {
 fn placed_sessions(rt: HostRuntime) -> Result<(), Fail> {
     let bounds = bounds(rt.alloc())?;
     for (outside, expected) in [(OUTSIDE, true), (HOST, true), (SERVER, false)] {
-        let session = Session {
-            outside,
-            ..begun(Proto::Udp, SERVER)
-        };
+        let session = Session { outside, ..QUERY };
         assert_eq!(rt; session.is_placed(&bounds), expected);
     }
     Ok(())

@@ -1,6 +1,6 @@
 //! A table that is filled, half emptied and filled again, each time in another order.
 use packet::endpoint::{Endpoint, Proto};
-use sessions::{Opener, Session, Slot, Table, are_known_bits, order};
+use sessions::{Opener, Session, Table, are_known_bits, order};
 use std::alloc::Global;
 use std::cmp::Ordering;
 use std::process::Abort;
@@ -66,21 +66,25 @@ fn end(table: &mut Table, number: u16) -> Result<(), Fail> {
     }
 }
 
-fn session_at(table: &Table, slot: Option<Slot>) -> Option<Session> {
-    match slot {
-        Some(slot) => table.get(slot),
-        None => None,
-    }
+// The session that is held with these endpoints inside and remote, or outside and remote.
+fn by_inside(table: &Table, session: &Session) -> Option<Session> {
+    table.get(table.by_inside(session.proto, session.inside, session.remote)?)
+}
+
+fn by_outside(table: &Table, session: &Session) -> Option<Session> {
+    table.get(table.by_outside(session.proto, session.outside, session.remote)?)
+}
+
+fn assert_found(rt: &impl Abort, found: Option<Session>, wanted: Option<Session>, number: u16) {
+    assert_eq!(rt; found, wanted, "{number}");
 }
 
 // Finds the session from both sides where it is held, and else from neither.
 fn look_up(rt: &impl Abort, table: &Table, number: u16, is_held: bool) {
     let session = numbered(number);
     let wanted = if is_held { Some(session) } else { None };
-    let inside = table.by_inside(session.proto, session.inside, session.remote);
-    assert_eq!(rt; session_at(table, inside), wanted, "{number}");
-    let outside = table.by_outside(session.proto, session.outside, session.remote);
-    assert_eq!(rt; session_at(table, outside), wanted, "{number}");
+    assert_found(rt, by_inside(table, &session), wanted, number);
+    assert_found(rt, by_outside(table, &session), wanted, number);
 }
 
 fn add_all(table: &mut Table) -> Result<(), Fail> {
@@ -116,31 +120,40 @@ fn look_up_all(rt: &impl Abort, table: &Table, are_ended: bool) {
     }
 }
 
+fn assert_behind(rt: &impl Abort, before: Option<Session>, session: &Session) {
+    if let Some(before) = before {
+        assert_eq!(rt; order(&before, session), Ordering::Less);
+    }
+}
+
 // The list rises strictly, and has so many sessions.
 fn assert_listed(rt: &impl Abort, alloc: Global, table: &Table, count: usize) -> Result<(), Fail> {
     let sessions = table.list(alloc)?;
     assert_eq!(rt; sessions.len(), count);
     let mut before: Option<Session> = None;
     for session in sessions.iter() {
-        if let Some(before) = before {
-            assert_eq!(rt; order(&before, session), Ordering::Less);
-        }
+        assert_behind(rt, before, session);
         before = Some(*session);
     }
     Ok(())
 }
 
+// The table holds nothing yet.
+fn fill_in_turned_orders(rt: &impl Abort, alloc: Global, table: &mut Table) -> Result<(), Fail> {
+    add_all(table)?;
+    look_up_all(rt, table, false);
+    assert_listed(rt, alloc, table, 65_536)?;
+    end_some(table)?;
+    look_up_all(rt, table, true);
+    assert_listed(rt, alloc, table, 28_086)?;
+    add_again(table)?;
+    look_up_all(rt, table, false);
+    assert_listed(rt, alloc, table, 65_536)
+}
+
 #[test]
 fn turned_orders(rt: HostRuntime) -> Result<(), Fail> {
     let alloc = rt.alloc();
-    let mut table = Table::new(alloc);
-    add_all(&mut table)?;
-    look_up_all(&rt, &table, false);
-    assert_listed(&rt, alloc, &table, 65_536)?;
-    end_some(&mut table)?;
-    look_up_all(&rt, &table, true);
-    assert_listed(&rt, alloc, &table, 28_086)?;
-    add_again(&mut table)?;
-    look_up_all(&rt, &table, false);
-    assert_listed(&rt, alloc, &table, 65_536)
+    let mut table = Box::new(alloc, Table::new(alloc))?;
+    fill_in_turned_orders(&rt, alloc, &mut table)
 }

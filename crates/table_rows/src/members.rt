@@ -1,10 +1,11 @@
 use packet::endpoint::Prefix;
 use sets::{Element, Pair, Range, Set, SetFault, Value, Vmap};
 use std::alloc::{AllocError, AllocFailed, Global};
+use std::process::Abort;
 use std::test::*;
 
 /// Why a test ends early.
-#[derive(Clone, Copy, Debug, Drop)]
+#[derive(Debug, Drop)]
 enum Fail {
     Memory,
     Refused(SetFault),
@@ -83,20 +84,28 @@ fn verdict(vmap: &Vmap<u8>, port: u32) -> Option<u8> {
     vmap.look_up(Value::Number(port)).copied()
 }
 
+fn assert_has_port(rt: &impl Abort, set: &Set, port: u32, wanted: bool) {
+    assert_eq!(rt; has_port(set, port), wanted, "port {port}");
+}
+
+const UNION: [(u32, u32); 4] = [(1, 10), (5, 20), (21, 21), (30, 30)];
+
+// A port, and whether the union has it.
+const HELD: [(u32, bool); 7] = [
+    (0, false),
+    (1, true),
+    (10, true),
+    (21, true),
+    (22, false),
+    (30, true),
+    (31, false),
+];
+
 #[test]
 fn ports_of_a_union(rt: HostRuntime) -> Result<(), Fail> {
-    let set = set_of(rt.alloc(), &[(1, 10), (5, 20), (21, 21), (30, 30)])?;
-    let held = [
-        (0, false),
-        (1, true),
-        (10, true),
-        (21, true),
-        (22, false),
-        (30, true),
-        (31, false),
-    ];
-    for (port, wanted) in held {
-        assert_eq!(rt; has_port(&set, port), wanted, "port {port}");
+    let set = set_of(rt.alloc(), &UNION)?;
+    for (port, wanted) in HELD {
+        assert_has_port(&rt, &set, port, wanted);
     }
     assert!(rt; !has_name(&set, b"lan"));
     Ok(())
@@ -104,10 +113,14 @@ fn ports_of_a_union(rt: HostRuntime) -> Result<(), Fail> {
 
 #[test]
 fn intervals_of_a_union(rt: HostRuntime) -> Result<(), Fail> {
-    let set = set_of(rt.alloc(), &[(1, 10), (5, 20), (21, 21), (30, 30)])?;
+    let set = set_of(rt.alloc(), &UNION)?;
     let wanted = [numbers(1, 21), numbers(30, 30)];
     assert!(rt; set.intervals() == wanted.as_slice());
     Ok(())
+}
+
+fn assert_probed(rt: &impl Abort, set: &Set, port: u32, wanted: (bool, u32)) {
+    assert_eq!(rt; probed(set, port), wanted, "port {port}");
 }
 
 // Three intervals: the middle one is compared with first.
@@ -115,7 +128,7 @@ fn intervals_of_a_union(rt: HostRuntime) -> Result<(), Fail> {
 fn probes_of_three(rt: HostRuntime) -> Result<(), Fail> {
     let set = set_of(rt.alloc(), &[(22, 30), (1, 10), (12, 20)])?;
     for (port, wanted, probes) in [(15, true, 1), (5, true, 2), (25, true, 2), (11, false, 2)] {
-        assert_eq!(rt; probed(&set, port), (wanted, probes), "port {port}");
+        assert_probed(&rt, &set, port, (wanted, probes));
     }
     Ok(())
 }
@@ -154,25 +167,34 @@ fn last_of_a_prefix(rt: HostRuntime) {
     assert_eq!(rt; one, Range::one(addr));
 }
 
+fn assert_verdict(rt: &impl Abort, vmap: &Vmap<u8>, port: u32, wanted: Option<u8>) {
+    assert_eq!(rt; verdict(vmap, port), wanted, "port {port}");
+}
+
+const KEYS: [(u32, u32, u8); 3] = [(22, 22, 1), (80, 443, 2), (1, 21, 3)];
+
+// A port, and the verdict of the key that has it.
+const VERDICTS: [(u32, Option<u8>); 6] = [
+    (22, Some(1)),
+    (80, Some(2)),
+    (443, Some(2)),
+    (1, Some(3)),
+    (23, None),
+    (444, None),
+];
+
 #[test]
 fn verdict_of_a_key(rt: HostRuntime) -> Result<(), Fail> {
-    let vmap = vmap_of(rt.alloc(), &[(22, 22, 1), (80, 443, 2), (1, 21, 3)])?;
-    for (port, wanted) in [
-        (22, Some(1)),
-        (80, Some(2)),
-        (443, Some(2)),
-        (1, Some(3)),
-        (23, None),
-        (444, None),
-    ] {
-        assert_eq!(rt; verdict(&vmap, port), wanted, "port {port}");
+    let vmap = vmap_of(rt.alloc(), &KEYS)?;
+    for (port, wanted) in VERDICTS {
+        assert_verdict(&rt, &vmap, port, wanted);
     }
     Ok(())
 }
 
 #[test]
 fn probes_of_a_key(rt: HostRuntime) -> Result<(), Fail> {
-    let vmap = vmap_of(rt.alloc(), &[(22, 22, 1), (80, 443, 2), (1, 21, 3)])?;
+    let vmap = vmap_of(rt.alloc(), &KEYS)?;
     let (found, probes) = vmap.look_up_counted(Value::Number(22));
     assert_eq!(rt; (found.copied(), probes.count()), (Some(1), 1));
     Ok(())
@@ -191,14 +213,16 @@ fn keys_that_share_a_value(rt: HostRuntime) -> Result<(), Fail> {
     Ok(())
 }
 
+fn named(alloc: Global, bytes: &[u8], verdict: u8) -> Result<Pair<u8>, AllocError> {
+    Ok(pair(name(alloc, bytes)?, verdict))
+}
+
 #[test]
 fn a_name_twice(rt: HostRuntime) -> Result<(), Fail> {
-    let alloc = rt.alloc();
-    let pairs = vec![in alloc;
-        pair(name(alloc, b"lan")?, 1),
-        pair(numbers(1, 10), 2),
-        pair(name(alloc, b"lan")?, 3),
-    ]?;
+    let mut pairs = Vec::new(rt.alloc());
+    pairs.push(named(rt.alloc(), b"lan", 1)?)?;
+    pairs.push(pair(numbers(1, 10), 2))?;
+    pairs.push(named(rt.alloc(), b"lan", 3)?)?;
     assert_eq!(rt; Vmap::of(pairs).err(), Some(SetFault::Overlap));
     Ok(())
 }
@@ -220,11 +244,21 @@ fn fault_of_vmap(alloc: Global, count: u32) -> Result<Option<SetFault>, AllocErr
     Ok(Vmap::of(pairs).err())
 }
 
+fn assert_at_the_limit(
+    rt: &impl Abort,
+    alloc: Global,
+    count: u32,
+    fault: Option<SetFault>,
+) -> Result<(), AllocError> {
+    assert_eq!(rt; fault_of_set(alloc, count)?, fault);
+    assert_eq!(rt; fault_of_vmap(alloc, count)?, fault);
+    Ok(())
+}
+
 #[test]
 fn at_the_limit(rt: HostRuntime) -> Result<(), Fail> {
     for (count, fault) in [(16_384, None), (16_385, Some(SetFault::Limit))] {
-        assert_eq!(rt; fault_of_set(rt.alloc(), count)?, fault);
-        assert_eq!(rt; fault_of_vmap(rt.alloc(), count)?, fault);
+        assert_at_the_limit(&rt, rt.alloc(), count, fault)?;
     }
     Ok(())
 }

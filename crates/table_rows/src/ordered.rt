@@ -66,14 +66,12 @@ fn entries_rise(rt: HostRuntime) -> Result<(), AllocError> {
 
 #[test]
 fn entries_go_in_and_out(rt: HostRuntime) -> Result<(), AllocError> {
-    assert_eq!(rt; Rows::new(rt.alloc()).get(7), None);
+    assert_has(&rt, &Rows::new(rt.alloc()), 7, None);
     let mut rows = three(&rt, rt.alloc())?;
-    for value in [Some(2), None] {
-        assert_gives(&rt, &mut rows, 7, value);
-    }
-    for (key, value) in [(0, 3), (HIGH, 1)] {
-        assert_has(&rt, &rows, key, Some(value));
-    }
+    assert_gives(&rt, &mut rows, 7, Some(2));
+    assert_gives(&rt, &mut rows, 7, None);
+    assert_has(&rt, &rows, 0, Some(3));
+    assert_has(&rt, &rows, HIGH, Some(1));
     Ok(())
 }
 

@@ -34,6 +34,31 @@ fn hold(rt: &impl Abort, map: &mut Map, pair: Pair) -> Result<(), AllocError>
     Ok(())
 }
 
+// Each endpoint of UDP leads to the other while their pair is held, and to none once it is gone.
+fn assert_led(rt: &impl Abort, map: &Map, is_held: bool) {
+    let (outside, inside) = if is_held {
+        (Some(OUTSIDE), Some(INSIDE))
+    } else {
+        (None, None)
+    };
+    assert_eq!(rt; map.outside_of(Proto::Udp, INSIDE), outside);
+    assert_eq!(rt; map.inside_of(Proto::Udp, OUTSIDE), inside);
+}
+
+// Neither endpoint leads anywhere by TCP, nor does the outside one where an inside one is asked for.
+fn assert_led_by_udp_alone(rt: &impl Abort, map: &Map) {
+    assert_eq!(rt; map.outside_of(Proto::Tcp, INSIDE), None);
+    assert_eq!(rt; map.inside_of(Proto::Tcp, OUTSIDE), None);
+    assert_eq!(rt; map.outside_of(Proto::Udp, OUTSIDE), None);
+}
+
+// Gives one hold back, if the pair is held.
+fn release(map: &mut Map, pair: Pair) {
+    if map.outside_of(pair.proto, pair.inside) == Some(pair.outside) {
+        map.release(pair);
+    }
+}
+
 // On a map that holds nothing.
 fn goes_with_its_last_hold(rt: &impl Abort, map: &mut Map) -> Result<(), AllocError>
     requires { (p : Mapping) → times map.old p ≡ 0 }
@@ -46,16 +71,12 @@ fn goes_with_its_last_hold(rt: &impl Abort, map: &mut Map) -> Result<(), AllocEr
     hold(rt, map, udp)?;
     map.is_one_to_one();
     hold(rt, map, udp)?;
-    assert_eq!(rt; map.outside_of(Proto::Udp, INSIDE), Some(OUTSIDE));
-    assert_eq!(rt; map.inside_of(Proto::Udp, OUTSIDE), Some(INSIDE));
-    assert_eq!(rt; map.outside_of(Proto::Tcp, INSIDE), None);
-    assert_eq!(rt; map.inside_of(Proto::Tcp, OUTSIDE), None);
-    assert_eq!(rt; map.outside_of(Proto::Udp, OUTSIDE), None);
-    map.release(udp);
-    assert_eq!(rt; map.outside_of(Proto::Udp, INSIDE), Some(OUTSIDE));
-    map.release(udp);
-    assert_eq!(rt; map.outside_of(Proto::Udp, INSIDE), None);
-    assert_eq!(rt; map.inside_of(Proto::Udp, OUTSIDE), None);
+    assert_led(rt, map, true);
+    assert_led_by_udp_alone(rt, map);
+    release(map, udp);
+    assert_led(rt, map, true);
+    release(map, udp);
+    assert_led(rt, map, false);
     Ok(())
 }
 

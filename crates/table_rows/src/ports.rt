@@ -89,20 +89,22 @@ fn give_back(ports: &mut Ports, port: u16)
     }
 }
 
+// Whether it is at the second address, the port that is asked for, and the one that is got.
+const ASKED: [(Proto, bool, u16, u16); 8] = [
+    (Proto::Udp, false, 65534, 65534),
+    (Proto::Udp, false, 65534, 1024),
+    (Proto::Udp, false, 1023, 1023),
+    (Proto::Udp, false, 1023, 1),
+    (Proto::Udp, false, 5000, 5000),
+    (Proto::Udp, false, 5000, 5002),
+    (Proto::Tcp, false, 5000, 5000),
+    (Proto::Udp, true, 5000, 5000),
+];
+
 #[test]
 fn second_host_gets_the_next_port(rt: HostRuntime) -> Result<(), AllocError> {
     let mut ports = two_addresses(rt.alloc())?;
-    let rows = [
-        (Proto::Udp, false, 65534, 65534),
-        (Proto::Udp, false, 65534, 1024),
-        (Proto::Udp, false, 1023, 1023),
-        (Proto::Udp, false, 1023, 1),
-        (Proto::Udp, false, 5000, 5000),
-        (Proto::Udp, false, 5000, 5002),
-        (Proto::Tcp, false, 5000, 5000),
-        (Proto::Udp, true, 5000, 5000),
-    ];
-    for row in rows {
+    for row in ASKED {
         let (proto, is_second, port, expected) = row;
         assert_gets_at(&rt, &mut ports, proto, is_second, port, expected)?;
     }
@@ -123,12 +125,20 @@ fn all_odd_low_ports_taken(rt: HostRuntime) -> Result<(), AllocError> {
     assert_gets(&rt, &mut ports, at, 7, Some(9))
 }
 
-#[test]
-fn reserved_ports_are_taken(rt: HostRuntime) -> Result<(), AllocError> {
-    let mut ports = two_addresses(rt.alloc())?;
+// A refusal of memory at the first try must not stand in the way of the second.
+fn reserve(ports: &mut Ports) -> Result<(), AllocError>
+    ensures addresses { ports.new.external ≡ ports.old.external }
+{
     if ports.reserve().is_err() {
         ports.reserve()?;
     }
+    Ok(())
+}
+
+#[test]
+fn reserved_ports_are_taken(rt: HostRuntime) -> Result<(), AllocError> {
+    let mut ports = two_addresses(rt.alloc())?;
+    reserve(&mut ports)?;
     assert_gets(&rt, &mut ports, (Proto::Tcp, FIRST), 80, Some(80))?;
     assert_gets(&rt, &mut ports, (Proto::Tcp, SECOND), 65535, Some(65535))
 }

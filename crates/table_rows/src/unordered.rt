@@ -47,28 +47,44 @@ fn put(rt: &impl Abort, map: &mut Buckets, key: u64, value: usize) -> Result<(),
     Ok(())
 }
 
+const STAYING: [(u64, usize); 4] = [(u64::MAX, 1), (0, 3), (1, usize::MAX), (2, 0xffff_ffff)];
+
+fn put_staying(rt: &impl Abort, map: &mut Buckets) -> Result<(), AllocError> {
+    for (key, value) in STAYING {
+        put(rt, map, key, value)?;
+    }
+    Ok(())
+}
+
+fn assert_have_stayed(rt: &impl Abort, map: &Buckets) {
+    for (key, value) in STAYING {
+        assert_has(rt, map, key, Some(value));
+    }
+}
+
 #[test]
 fn entries_go_in_and_out(rt: HostRuntime) -> Result<(), AllocError> {
     let mut map = empty(rt.alloc())?;
     assert_has(&rt, &map, 7, None);
     reserve_one(&mut map)?;
-    for (key, value) in [
-        (u64::MAX, 1),
-        (7, 2),
-        (0, 3),
-        (1, usize::MAX),
-        (2, 0xffff_ffff),
-    ] {
-        put(&rt, &mut map, key, value)?;
-    }
-    for value in [Some(2), None] {
-        assert_gives(&rt, &mut map, 7, value);
-    }
-    for (key, value) in [(u64::MAX, 1), (0, 3), (1, usize::MAX), (2, 0xffff_ffff)] {
-        assert_has(&rt, &map, key, Some(value));
-    }
+    put(&rt, &mut map, 7, 2)?;
+    put_staying(&rt, &mut map)?;
+    assert_gives(&rt, &mut map, 7, Some(2));
+    assert_gives(&rt, &mut map, 7, None);
+    assert_have_stayed(&rt, &map);
     assert_gives(&rt, &mut map, 1, Some(usize::MAX));
     assert_has(&rt, &map, 1, None);
+    Ok(())
+}
+
+fn assert_sought(
+    rt: &impl Abort,
+    map: &mut Buckets,
+    key: u64,
+    value: usize,
+    found: Option<usize>,
+) -> Result<(), AllocError> {
+    assert_eq!(rt; map.get_or_insert(key, value)?, found);
     Ok(())
 }
 
@@ -83,7 +99,7 @@ fn entries_go_in_where_they_are_sought(rt: HostRuntime) -> Result<(), AllocError
         (0, usize::MAX, None),
         (0, 4, Some(usize::MAX)),
     ] {
-        assert_eq!(rt; map.get_or_insert(key, value)?, found);
+        assert_sought(&rt, &mut map, key, value, found)?;
     }
     assert_has(&rt, &map, 7, Some(2));
     assert_gives(&rt, &mut map, 0, Some(usize::MAX));
@@ -152,19 +168,21 @@ fn many_meeting(rt: &impl Abort, alloc: Global) -> Result<Box<Buckets>, AllocErr
     Ok(map)
 }
 
+fn assert_have_met(rt: &impl Abort, map: &Buckets, first: usize, end: usize) {
+    for number in first..end {
+        assert_has(rt, map, meeting(number), Some(number));
+    }
+}
+
 #[test]
 fn keys_that_meet_are_told_apart(rt: HostRuntime) -> Result<(), AllocError> {
     let mut map = many_meeting(&rt, rt.alloc())?;
-    for number in 0..300 {
-        assert_has(&rt, &map, meeting(number), Some(number));
-    }
+    assert_have_met(&rt, &map, 0, 300);
     for number in 0..290 {
         assert_gives(&rt, &mut map, meeting(299 - number), Some(299 - number));
         assert_has(&rt, &map, meeting(299 - number), None);
     }
-    for number in 0..10 {
-        assert_has(&rt, &map, meeting(number), Some(number));
-    }
+    assert_have_met(&rt, &map, 0, 10);
     for number in 10..300 {
         assert_has(&rt, &map, meeting(number), None);
     }
@@ -181,8 +199,6 @@ fn keys_that_met_are_found_again(rt: HostRuntime) -> Result<(), AllocError> {
     for number in 0..900 {
         put(&rt, &mut map, key_of(number), number)?;
     }
-    for number in 20..300 {
-        assert_has(&rt, &map, meeting(number), Some(number));
-    }
+    assert_have_met(&rt, &map, 20, 300);
     Ok(())
 }
