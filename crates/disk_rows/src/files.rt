@@ -3,6 +3,7 @@ use disk_model::{Disk, DiskFault, FileId};
 use file_disk::{FileDisk, OpenError, name_of};
 use std::fs;
 use std::os::unix::fs::PermissionsExt;
+use std::process::Abort;
 use std::test::Fail;
 
 // An empty directory.
@@ -67,28 +68,35 @@ fn middle(disk: &mut FileDisk) -> Result<[u8; 8], DiskFault> {
     Ok(bytes)
 }
 
-#[test]
-fn written_bytes_come_back(rt: HostRuntime) -> Result<(), Fail> {
-    written(&rt, "kept")?;
-    let mut disk = disk_of(&rt, "kept/")?;
-    assert!(rt; lengths(&mut disk)? == (18, 6));
-    assert!(rt; middle(&mut disk)? == *b"t FILE, ");
+fn assert_kept(rt: &impl Abort, disk: &mut FileDisk) -> Result<(), Fail> {
+    assert!(rt; lengths(disk)? == (18, 6));
+    assert!(rt; middle(disk)? == *b"t FILE, ");
     assert!(rt; disk.failures() == 0);
     Ok(())
 }
 
 #[test]
+fn written_bytes_come_back(rt: HostRuntime) -> Result<(), Fail> {
+    written(&rt, "kept")?;
+    let mut disk = disk_of(&rt, "kept/")?;
+    assert_kept(&rt, &mut disk)
+}
+
+const WRITTEN: [(&str, &[u8]); 2] = [
+    ("files/natgw.a", b"first FILE, longer"),
+    ("files/natgw.b", b"second"),
+];
+
+const NAMES: [(FileId, &str); 2] = [(FileId::A, "natgw.a"), (FileId::B, "natgw.b")];
+
+#[test]
 fn written_bytes_stand_in_the_files(rt: HostRuntime) -> Result<(), Fail> {
     written(&rt, "files")?;
-    let rows: [(&str, &[u8]); 2] = [
-        ("files/natgw.a", b"first FILE, longer"),
-        ("files/natgw.b", b"second"),
-    ];
-    for (path, expected) in rows {
-        assert!(rt; is_file(&rt, path, expected)?, "{path}");
+    for (path, expected) in &WRITTEN {
+        assert!(rt; is_file(&rt, path, *expected)?, "{path}");
     }
-    for (file, name) in [(FileId::A, "natgw.a"), (FileId::B, "natgw.b")] {
-        assert!(rt; name_of(file) == name, "{name}");
+    for (file, name) in &NAMES {
+        assert!(rt; name_of(*file) == *name, "{name}");
     }
     Ok(())
 }
@@ -101,7 +109,7 @@ fn is_private(rt: &HostRuntime, path: &str) -> Result<bool, Fail> {
 #[test]
 fn access_of_the_owner_alone(rt: HostRuntime) -> Result<(), Fail> {
     written(&rt, "private")?;
-    for path in ["private/natgw.a", "private/natgw.b"] {
+    for path in &["private/natgw.a", "private/natgw.b"] {
         assert!(rt; is_private(&rt, path)?, "{path}");
     }
     Ok(())
@@ -114,33 +122,43 @@ fn three(disk: &mut FileDisk, at: u64) -> (Option<[u8; 3]>, u64) {
     (read.ok().map(|()| bytes), disk.failures())
 }
 
+fn read_past_the_end(rt: &impl Abort, disk: &mut FileDisk) -> Result<(), Fail> {
+    put(disk, FileId::B, 2, b"xy")?;
+    for (at, expected) in [(2, None), (1, Some(*b"\0xy"))] {
+        assert!(rt; three(disk, at) == (expected, 1), "{at}");
+    }
+    get(disk, FileId::B, 4, &mut [])?;
+    assert!(rt; disk.failures() == 1);
+    Ok(())
+}
+
 // A read past the end fails, and counts; a write there leaves zeros between.
 #[test]
 fn past_the_end(rt: HostRuntime) -> Result<(), Fail> {
     fresh(&rt, "ends")?;
     let mut disk = disk_of(&rt, "ends")?;
-    put(&mut disk, FileId::B, 2, b"xy")?;
-    for (at, expected) in [(2, None), (1, Some(*b"\0xy"))] {
-        assert!(rt; three(&mut disk, at) == (expected, 1), "{at}");
-    }
-    get(&mut disk, FileId::B, 4, &mut [])?;
-    assert!(rt; disk.failures() == 1);
-    Ok(())
+    read_past_the_end(&rt, &mut disk)
 }
 
 fn length_of(rt: &HostRuntime, path: &str) -> Result<u64, Fail> {
     Ok(fs::metadata(rt, path)?.len())
 }
 
+fn write_past_all_places(rt: &impl Abort, disk: &mut FileDisk) -> Result<(), Fail> {
+    put(disk, FileId::B, 2, b"xy")?;
+    assert!(rt; put(disk, FileId::B, u64::MAX, b"z").is_err());
+    assert!(rt; disk.failures() == 1);
+    Ok(())
+}
+
 #[test]
 fn past_all_places(rt: HostRuntime) -> Result<(), Fail> {
     fresh(&rt, "places")?;
     let mut disk = disk_of(&rt, "places")?;
-    put(&mut disk, FileId::B, 2, b"xy")?;
-    assert!(rt; put(&mut disk, FileId::B, u64::MAX, b"z").is_err());
-    assert!(rt; disk.failures() == 1);
-    for (path, expected) in [("places/natgw.b", 4), ("places/natgw.a", 0)] {
-        assert!(rt; length_of(&rt, path)? == expected, "{path}");
+    write_past_all_places(&rt, &mut disk)?;
+    drop(disk);
+    for (path, expected) in &[("places/natgw.b", 4), ("places/natgw.a", 0)] {
+        assert!(rt; length_of(&rt, path)? == *expected, "{path}");
     }
     Ok(())
 }
@@ -149,16 +167,21 @@ fn is_locked(rt: &HostRuntime, directory: &str) -> bool {
     matches!(FileDisk::open(rt, directory), Err(OpenError::Locked))
 }
 
+// Whether there is no second disk beside this one, not where its first file has gone either.
+fn is_alone(rt: &HostRuntime, _first: &FileDisk) -> Result<bool, Fail> {
+    let is_alone = is_locked(rt, "locked");
+    fs::remove_file(rt, "locked/natgw.a")?;
+    Ok(is_alone && is_locked(rt, "locked"))
+}
+
 // While one disk lives there is no second one, and once it is dropped there is.
 #[test]
 fn one_disk_a_directory(rt: HostRuntime) -> Result<(), Fail> {
     fresh(&rt, "locked")?;
     let first = disk_of(&rt, "locked")?;
-    assert!(rt; is_locked(&rt, "locked"));
-    // Not where the first file has gone either.
-    fs::remove_file(&rt, "locked/natgw.a")?;
-    assert!(rt; is_locked(&rt, "locked"));
+    let is_alone = is_alone(&rt, &first);
     drop(first);
+    assert!(rt; is_alone?);
     assert!(rt; !is_locked(&rt, "locked"));
     let _second = disk_of(&rt, "locked")?;
     Ok(())

@@ -4,6 +4,7 @@ use disk_model::SimDisk;
 use packet::bounds::Bounds;
 use packet::endpoint::Prefix;
 use std::alloc::{AllocError, Global};
+use std::process::Abort;
 use std::test::Fail;
 
 // A file that was just made: gate, mark, generation 1, `lan`, `wan`, 192.168.0.0/16, 203.0.113.1, no text, no session,
@@ -95,37 +96,42 @@ const FILES: [(&[u8], char); 6] = [
     (b"\x01NGW1", 'F'),
 ];
 
+fn assert_found(rt: &impl Abort, alloc: Global, file: &[u8], expected: char) -> Result<(), Fail> {
+    assert!(rt; is_found(alloc, file, expected)?, "{}", file.len());
+    Ok(())
+}
+
 #[test]
 fn faults_of_one_file(rt: HostRuntime) -> Result<(), Fail> {
     for (file, expected) in &FILES {
-        assert!(rt; is_found(rt.alloc(), *file, *expected)?, "{}", file.len());
+        assert_found(&rt, rt.alloc(), *file, *expected)?;
     }
-    assert!(rt; is_found(rt.alloc(), &FRESH[..39], 'F')?);
-    Ok(())
+    assert_found(&rt, rt.alloc(), &FRESH[..39], 'F')
+}
+
+fn assert_begun(rt: &impl Abort, alloc: Global, times: u8, expected: char) -> Result<(), Fail> {
+    let file = begun(alloc, 1, times)?;
+    assert_found(rt, alloc, &file, expected)
 }
 
 // A session that stands twice clashes with itself.
 #[test]
 fn faults_of_a_snapshot(rt: HostRuntime) -> Result<(), Fail> {
-    let alloc = rt.alloc();
-    for (times, expected) in [(1, '.'), (2, 'S')] {
-        let file = begun(alloc, 1, times)?;
-        assert!(rt; is_found(alloc, &file, expected)?);
-    }
-    Ok(())
+    assert_begun(&rt, rt.alloc(), 1, '.')?;
+    assert_begun(&rt, rt.alloc(), 2, 'S')
+}
+
+fn assert_changes(rt: &impl Abort, alloc: Global, body: &[u8], length: usize) -> Result<(), Fail> {
+    let file = grown(alloc, body)?;
+    assert_found(rt, alloc, &file[..file.len().min(length)], 'C')
 }
 
 #[test]
 fn faults_of_changes(rt: HostRuntime) -> Result<(), Fail> {
-    let alloc = rt.alloc();
     let ended = [5, 0x11, 0, 0, 0, 1, 0, 1, 0, 0, 0, 2, 0, 2];
-    for body in [[9].as_slice(), &ended] {
-        let file = grown(alloc, body)?;
-        assert!(rt; is_found(alloc, &file, 'C')?, "{}", body.len());
-    }
-    let short = grown(alloc, &[9])?;
-    assert!(rt; is_found(alloc, &short[..short.len().min(43)], 'C')?);
-    Ok(())
+    assert_changes(&rt, rt.alloc(), &[9], usize::MAX)?;
+    assert_changes(&rt, rt.alloc(), &ended, usize::MAX)?;
+    assert_changes(&rt, rt.alloc(), &[9], 43)
 }
 
 // A whole file whose snapshot has no session, with a group behind it that begins one.
@@ -144,101 +150,124 @@ fn letter_of_cut(length: usize) -> char {
 }
 
 // Each length of a whole file with a session, and with a group behind it.
-#[test]
-fn cut_files(rt: HostRuntime) -> Result<(), Fail> {
-    let alloc = rt.alloc();
-    let file = with_a_group(alloc)?;
+fn assert_cuts(rt: &impl Abort, alloc: Global, file: &[u8]) -> Result<(), Fail> {
     for length in 1..file.len() {
         let found = letters(alloc, &file[..length], b"")?;
         assert_eq!(rt; found, (letter_of_cut(length), 'e'), "{length}");
     }
-    assert_eq!(rt; letters(alloc, &file, b"")?, ('.', '.'));
+    assert_eq!(rt; letters(alloc, file, b"")?, ('.', '.'));
     Ok(())
+}
+
+#[test]
+fn cut_files(rt: HostRuntime) -> Result<(), Fail> {
+    let file = with_a_group(rt.alloc())?;
+    assert_cuts(&rt, rt.alloc(), &file)
 }
 
 const HERE: (&str, u32) = ("wan", 0xcb00_7101);
 
 const THERE: (&str, u32) = ("wan0", 0xcb00_7102);
 
-fn is_told(
-    alloc: Global,
-    a: &[u8],
-    b: &[u8],
-    configured: (&str, u32),
-    expected: &str,
-) -> Result<bool, Fail> {
-    let bounds = bounds(alloc, configured.0, configured.1)?;
-    let finding = examine(alloc, a, b, &bounds)?;
-    let line = format!(in alloc; "{finding}")?;
-    Ok(line.as_str() == expected)
+// Two files, the configuration of the program that reads them, and what is said then.
+#[derive(Clone, Copy)]
+struct Line<'a> {
+    a: &'a [u8],
+    b: &'a [u8],
+    configured: (&'a str, u32),
+    expected: &'a str,
 }
 
-const LINES: [(&[u8], &[u8], (&str, u32), &str); 5] = [
-    (
-        b"",
-        b"\x01NGW1",
-        HERE,
-        "natgw.a is empty; natgw.b has no whole beginning, it was cut short or changed: put both back from one backup, or move natgw.b away to begin with nothing",
-    ),
-    (
-        b"\x01",
-        b"\x01NGW1",
-        HERE,
-        "natgw.a is no file of natgw, or one of another version; natgw.b has no whole beginning, it was cut short or changed: put both back from one backup, or move both away to begin with nothing",
-    ),
-    (
-        &FRESH,
-        &FRESH,
-        HERE,
-        "natgw.a and natgw.b have one generation, so they are not of one backup: put both back from one, or move one of them away to go on with what the other holds",
-    ),
-    (
-        &FRESH,
-        b"",
-        THERE,
-        "the files were written with another configuration: start natgw with --wan wan --external 203.0.113.1, or name another directory",
-    ),
-    (b"", b"", THERE, "the files are sound"),
+fn line_of(alloc: Global, a: &[u8], b: &[u8], bounds: &Bounds) -> Result<String, Fail> {
+    let finding = examine(alloc, a, b, bounds)?;
+    Ok(format!(in alloc; "{finding}")?)
+}
+
+fn is_told(alloc: Global, line: &Line<'_>) -> Result<bool, Fail> {
+    let (wan, external) = line.configured;
+    let bounds = bounds(alloc, wan, external)?;
+    let said = line_of(alloc, line.a, line.b, &bounds)?;
+    Ok(said.as_str() == line.expected)
+}
+
+fn assert_told(rt: &impl Abort, alloc: Global, lines: &[Line<'_>]) -> Result<(), Fail> {
+    for line in lines {
+        assert!(rt; is_told(alloc, line)?, "{}", line.expected);
+    }
+    Ok(())
+}
+
+const LINES: [Line<'static>; 5] = [
+    Line {
+        a: b"",
+        b: b"\x01NGW1",
+        configured: HERE,
+        expected: "natgw.a is empty; natgw.b has no whole beginning, it was cut short or changed: put both back from one backup, or move natgw.b away to begin with nothing",
+    },
+    Line {
+        a: b"\x01",
+        b: b"\x01NGW1",
+        configured: HERE,
+        expected: "natgw.a is no file of natgw, or one of another version; natgw.b has no whole beginning, it was cut short or changed: put both back from one backup, or move both away to begin with nothing",
+    },
+    Line {
+        a: &FRESH,
+        b: &FRESH,
+        configured: HERE,
+        expected: "natgw.a and natgw.b have one generation, so they are not of one backup: put both back from one, or move one of them away to go on with what the other holds",
+    },
+    Line {
+        a: &FRESH,
+        b: b"",
+        configured: THERE,
+        expected: "the files were written with another configuration: start natgw with --wan wan --external 203.0.113.1, or name another directory",
+    },
+    Line {
+        a: b"",
+        b: b"",
+        configured: THERE,
+        expected: "the files are sound",
+    },
 ];
 
 #[test]
 fn lines(rt: HostRuntime) -> Result<(), Fail> {
-    for (a, b, configured, expected) in &LINES {
-        assert!(rt;
-            is_told(rt.alloc(), *a, *b, *configured, *expected)?,
-            "{expected}"
-        );
-    }
-    Ok(())
+    assert_told(&rt, rt.alloc(), &LINES)
 }
 
 #[test]
 fn line_of_a_cut_file(rt: HostRuntime) -> Result<(), Fail> {
-    let expected =
-        "natgw.a holds generation 1, no session; natgw.b has no whole beginning, it was cut short or changed: put both back from one backup";
-    assert!(rt; is_told(rt.alloc(), &FRESH, &FRESH[..30], THERE, expected)?);
-    Ok(())
+    let line = Line {
+        a: &FRESH,
+        b: &FRESH[..30],
+        configured: THERE,
+        expected: "natgw.a holds generation 1, no session; natgw.b has no whole beginning, it was cut short or changed: put both back from one backup",
+    };
+    assert_told(&rt, rt.alloc(), &[line])
 }
 
-// What is said of this file beside one of generation 2.
-const BESIDE: [(&[u8], &str); 2] = [
-    (&FRESH, "the files are sound"),
-    (
-        b"\x01#!/bin/sh",
-        "natgw.a is no file of natgw, or one of another version; natgw.b holds generation 2, one session: put both back from one backup, or move natgw.a away to go on with what natgw.b holds",
-    ),
-];
+// What is said of two files beside one of generation 2.
+fn lines_beside(newer: &[u8]) -> [Line<'_>; 2] {
+    [
+        Line {
+            a: &FRESH,
+            b: newer,
+            configured: HERE,
+            expected: "the files are sound",
+        },
+        Line {
+            a: b"\x01#!/bin/sh",
+            b: newer,
+            configured: HERE,
+            expected: "natgw.a is no file of natgw, or one of another version; natgw.b holds generation 2, one session: put both back from one backup, or move natgw.a away to go on with what natgw.b holds",
+        },
+    ]
+}
 
 #[test]
 fn lines_beside_a_newer_file(rt: HostRuntime) -> Result<(), Fail> {
     let newer = begun(rt.alloc(), 2, 1)?;
-    for (file, expected) in &BESIDE {
-        assert!(rt;
-            is_told(rt.alloc(), *file, &newer, HERE, *expected)?,
-            "{expected}"
-        );
-    }
-    Ok(())
+    assert_told(&rt, rt.alloc(), &lines_beside(&newer))
 }
 
 fn disk_of(alloc: Global) -> Result<Box<SimDisk>, Fail> {
@@ -247,31 +276,43 @@ fn disk_of(alloc: Global) -> Result<Box<SimDisk>, Fail> {
 }
 
 // What two damaged files are, if they are.
-fn damage_of(alloc: Global, disk: &mut SimDisk) -> Result<Option<(Reading, Reading)>, Fail> {
-    let bounds = bounds(alloc, HERE.0, HERE.1)?;
-    match diagnose(alloc, disk, &bounds)? {
+fn damage_of(
+    alloc: Global,
+    disk: &mut SimDisk,
+    bounds: &Bounds,
+) -> Result<Option<(Reading, Reading)>, Fail> {
+    match diagnose(alloc, disk, bounds)? {
         Finding::Damaged(damage) => Ok(Some((damage.a, damage.b))),
         _ => Ok(None),
     }
 }
 
-fn is_unread(alloc: Global, disk: &mut SimDisk) -> Result<bool, Fail> {
-    let bounds = bounds(alloc, HERE.0, HERE.1)?;
-    Ok(diagnose(alloc, disk, &bounds).is_err())
+fn is_unread(alloc: Global, disk: &mut SimDisk, bounds: &Bounds) -> bool {
+    diagnose(alloc, disk, bounds).is_err()
 }
 
-#[test]
-fn files_of_a_disk(rt: HostRuntime) -> Result<(), Fail> {
-    let alloc = rt.alloc();
-    let mut disk = disk_of(alloc)?;
+fn assert_diagnosed(
+    rt: &impl Abort,
+    alloc: Global,
+    disk: &mut SimDisk,
+    bounds: &Bounds,
+) -> Result<(), Fail> {
     let whole = Reading::Whole(Held {
         generation: 2,
         sessions: 1,
         is_configured: true,
     });
-    let damage = damage_of(alloc, &mut disk)?;
+    let damage = damage_of(alloc, disk, bounds)?;
     assert_eq!(rt; damage, Some((Reading::Faulty(Fault::Foreign), whole)));
     disk.fuse_after(3);
-    assert!(rt; is_unread(alloc, &mut disk)?);
+    assert!(rt; is_unread(alloc, disk, bounds));
     Ok(())
+}
+
+#[test]
+fn files_of_a_disk(rt: HostRuntime) -> Result<(), Fail> {
+    let alloc = rt.alloc();
+    let bounds = bounds(alloc, HERE.0, HERE.1)?;
+    let mut disk = disk_of(alloc)?;
+    assert_diagnosed(&rt, alloc, &mut disk, &bounds)
 }

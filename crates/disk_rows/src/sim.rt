@@ -40,14 +40,19 @@ fn counts(disk: &SimDisk) -> (u64, u64) {
     (disk.calls(), disk.failures())
 }
 
-fn written_thrice(alloc: Global, choice: u64) -> Result<Box<SimDisk>, Fail> {
+fn write_thrice(disk: &mut SimDisk) -> Result<(), DiskFault> {
+    write(disk, FileId::A, 1, b"XY")?;
+    write(disk, FileId::A, 6, b"ZZ")?;
+    write(disk, FileId::A, 0, &[0])
+}
+
+// Whether this choice leaves such a first file of one that was written thrice, and the second one as it was.
+fn is_left(alloc: Global, choice: u64, expected: &[u8]) -> Result<bool, Fail> {
     let mut disk = disk_of(alloc, b"abcdef", b"b")?;
-    let writes: [(u64, &[u8]); 3] = [(1, b"XY"), (6, b"ZZ"), (0, &[0])];
-    for (at, bytes) in writes {
-        write(&mut disk, FileId::A, at, bytes)?;
-    }
+    write_thrice(&mut disk)?;
     crash(&mut disk, choice)?;
-    Ok(disk)
+    let is_second = holds(alloc, &mut disk, FileId::B, b"b")?;
+    Ok(is_second && holds(alloc, &mut disk, FileId::A, expected)?)
 }
 
 const CHOICES: [(u64, &[u8]); 9] = [
@@ -64,14 +69,8 @@ const CHOICES: [(u64, &[u8]); 9] = [
 
 #[test]
 fn crash_choices(rt: HostRuntime) -> Result<(), Fail> {
-    let alloc = rt.alloc();
     for (choice, expected) in &CHOICES {
-        let mut disk = written_thrice(alloc, *choice)?;
-        assert!(rt;
-            holds(alloc, &mut disk, FileId::A, *expected)?,
-            "choice {choice}"
-        );
-        assert!(rt; holds(alloc, &mut disk, FileId::B, b"b")?);
+        assert!(rt; is_left(rt.alloc(), *choice, *expected)?, "choice {choice}");
     }
     Ok(())
 }
@@ -86,55 +85,55 @@ fn left_of_many(alloc: Global) -> Result<Vec<u8>, Fail> {
     contents(alloc, &mut disk, FileId::B)
 }
 
-// A place past the old end that no chosen write covers is 00, and the choice has 64 bits.
-#[test]
-fn chosen_writes(rt: HostRuntime) -> Result<(), Fail> {
-    let left = left_of_many(rt.alloc())?;
+fn assert_chosen(rt: &impl Abort, left: &[u8]) {
     assert_eq!(rt; left.len(), 65);
     for (place, byte) in left.iter().enumerate() {
         let is_left = place == 0 || place == 3 || place == 64;
         assert_eq!(rt; *byte, if is_left { b'x' } else { 0 }, "place {place}");
     }
+}
+
+// A place past the old end that no chosen write covers is 00, and the choice has 64 bits.
+#[test]
+fn chosen_writes(rt: HostRuntime) -> Result<(), Fail> {
+    let left = left_of_many(rt.alloc())?;
+    assert_chosen(&rt, &left);
     Ok(())
 }
 
-fn crashed_behind_a_sync(alloc: Global, choice: u64) -> Result<Box<SimDisk>, Fail> {
+// Whether what was synced is there behind this choice of a crash.
+fn is_kept(alloc: Global, choice: u64) -> Result<bool, Fail> {
     let mut disk = disk_of(alloc, b"a", b"b")?;
     write(&mut disk, FileId::B, 1, b"cd")?;
     disk.sync(FileId::B)?;
     write(&mut disk, FileId::A, 0, &[0])?;
     crash(&mut disk, choice)?;
-    Ok(disk)
+    holds(alloc, &mut disk, FileId::B, b"bcd")
 }
 
 #[test]
 fn synced_stays(rt: HostRuntime) -> Result<(), Fail> {
-    let alloc = rt.alloc();
     for choice in 0..12 {
-        let mut disk = crashed_behind_a_sync(alloc, choice)?;
-        assert!(rt;
-            holds(alloc, &mut disk, FileId::B, b"bcd")?,
-            "choice {choice}"
-        );
+        assert!(rt; is_kept(rt.alloc(), choice)?, "choice {choice}");
     }
     Ok(())
 }
 
-fn closed(alloc: Global, before: &[u8]) -> Result<Box<SimDisk>, Fail> {
+// Whether a crash leaves this of a file that is closed.
+fn is_closed(alloc: Global, before: &[u8], expected: &[u8]) -> Result<bool, Fail> {
     let mut disk = disk_of(alloc, before, b"")?;
     write(&mut disk, FileId::A, 0, &[0])?;
     crash(&mut disk, 2)?;
-    Ok(disk)
+    holds(alloc, &mut disk, FileId::A, expected)
 }
+
+const CLOSED: [(&[u8], &[u8]); 3] = [(b"\x01", b"\x01"), (b"\x05", b"\x00"), (b"", b"\x00")];
 
 // Each choice leaves 01 under a closing byte only where it stood before.
 #[test]
 fn closing_byte(rt: HostRuntime) -> Result<(), Fail> {
-    let alloc = rt.alloc();
-    let rows: [(&[u8], &[u8]); 3] = [(b"\x01", b"\x01"), (b"\x05", b"\x00"), (b"", b"\x00")];
-    for (before, expected) in rows {
-        let mut disk = closed(alloc, before)?;
-        assert!(rt; holds(alloc, &mut disk, FileId::A, expected)?);
+    for (before, expected) in &CLOSED {
+        assert!(rt; is_closed(rt.alloc(), *before, *expected)?);
     }
     Ok(())
 }
@@ -184,46 +183,49 @@ fn assert_counts(rt: &impl Abort, disk: &SimDisk, calls: u64, failures: u64) {
     assert_eq!(rt; counts(disk), (calls, failures));
 }
 
-#[test]
-fn fuse(rt: HostRuntime) -> Result<(), Fail> {
-    let alloc = rt.alloc();
-    let mut disk = disk_of(alloc, b"abc", b"")?;
+fn blow(rt: &impl Abort, disk: &mut SimDisk) {
     disk.fuse_after(2);
-    for (call, expected) in CALLS {
-        assert_answered(&rt, &mut disk, call, expected);
+    for (call, expected) in &CALLS {
+        assert_answered(rt, disk, *call, *expected);
     }
-    assert_counts(&rt, &disk, 5, 3);
-    crash(&mut disk, 1)?;
-    assert!(rt; holds(alloc, &mut disk, FileId::A, b"Xbc")?);
-    assert_counts(&rt, &disk, 7, 3);
+    assert_counts(rt, disk, 5, 3);
+}
+
+fn assert_blown(rt: &impl Abort, alloc: Global, disk: &mut SimDisk) -> Result<(), Fail> {
+    blow(rt, disk);
+    crash(disk, 1)?;
+    assert!(rt; holds(alloc, disk, FileId::A, b"Xbc")?);
+    assert_counts(rt, disk, 7, 3);
     Ok(())
 }
 
-// A disk of which the second call is to fail, the write of these bytes.
-fn fails_at_the_write(alloc: Global, bytes: &[u8]) -> Result<Box<SimDisk>, Fail> {
+#[test]
+fn fuse(rt: HostRuntime) -> Result<(), Fail> {
+    let mut disk = disk_of(rt.alloc(), b"abc", b"")?;
+    assert_blown(&rt, rt.alloc(), &mut disk)
+}
+
+// Whether the second call fails, the write of these bytes, and leaves such a file.
+fn is_half_written(alloc: Global, bytes: &[u8], expected: &[u8]) -> Result<bool, Fail> {
     let mut disk = disk_of(alloc, b"abc", b"")?;
     disk.fail_once(1);
     answer(&mut disk, Call::Sync)?;
-    if answer(&mut disk, Call::Write(bytes)).is_ok() {
-        return Err("the write has passed".into());
-    }
-    Ok(disk)
+    let has_failed = answer(&mut disk, Call::Write(bytes)).is_err() && disk.failures() == 1;
+    Ok(has_failed && holds(alloc, &mut disk, FileId::A, expected)?)
 }
+
+const HALVES: [(&[u8], &[u8]); 4] = [
+    (b"", b"abc"),
+    (b"X", b"abc"),
+    (b"XY", b"Xbc"),
+    (b"UVWXYZXYZ", b"UVWX"),
+];
 
 // A write that fails so puts its first half, and the next call passes.
 #[test]
 fn fails_once(rt: HostRuntime) -> Result<(), Fail> {
-    let alloc = rt.alloc();
-    let rows: [(&[u8], &[u8]); 4] = [
-        (b"", b"abc"),
-        (b"X", b"abc"),
-        (b"XY", b"Xbc"),
-        (b"UVWXYZXYZ", b"UVWX"),
-    ];
-    for (bytes, expected) in rows {
-        let mut disk = fails_at_the_write(alloc, bytes)?;
-        assert!(rt; disk.failures() == 1);
-        assert!(rt; holds(alloc, &mut disk, FileId::A, expected)?);
+    for (bytes, expected) in &HALVES {
+        assert!(rt; is_half_written(rt.alloc(), *bytes, *expected)?);
     }
     Ok(())
 }
@@ -238,15 +240,18 @@ fn grow(disk: &mut SimDisk) -> (u64, &'static [u8])
     }
 }
 
+fn assert_refused(rt: &impl Abort, alloc: Global, disk: &mut SimDisk) -> Result<(), Fail> {
+    let (failures, expected) = grow(disk);
+    assert_counts(rt, disk, 2, failures);
+    assert!(rt; holds(alloc, disk, FileId::A, expected)?);
+    let failures = failures + u64::from(answer(disk, Call::Sync).is_err());
+    assert!(rt; disk.failures() == failures);
+    Ok(())
+}
+
 // Where its growth is refused (`rt try --test --fail-alloc N`), a call has failed and has touched nothing.
 #[test]
 fn refused_growth(rt: HostRuntime) -> Result<(), Fail> {
-    let alloc = rt.alloc();
-    let mut disk = disk_of(alloc, b"abc", b"")?;
-    let (failures, expected) = grow(&mut disk);
-    assert_counts(&rt, &disk, 2, failures);
-    assert!(rt; holds(alloc, &mut disk, FileId::A, expected)?);
-    let failures = failures + u64::from(answer(&mut disk, Call::Sync).is_err());
-    assert!(rt; disk.failures() == failures);
-    Ok(())
+    let mut disk = disk_of(rt.alloc(), b"abc", b"")?;
+    assert_refused(&rt, rt.alloc(), &mut disk)
 }

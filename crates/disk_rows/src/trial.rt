@@ -64,53 +64,68 @@ const CALLS: [(Call<'static>, Result<Option<u64>, DiskFault>); 6] = [
     (Call::ReadOne(0), Err(DiskFault)),
 ];
 
+fn blow(rt: &impl Abort, disk: &mut Trial) {
+    disk.fuse_after(2);
+    for (call, expected) in &CALLS {
+        assert_answered(rt, disk, *call, *expected);
+    }
+    assert_counts(rt, disk, 6, 4);
+}
+
+fn assert_blown(rt: &impl Abort, alloc: Global, disk: &mut Trial) -> Result<(), Fail> {
+    blow(rt, disk);
+    assert!(rt; holds(alloc, disk, b"aXc")?);
+    disk.crash(0)?;
+    assert!(rt; holds(alloc, disk, b"abc")?);
+    assert_answered(rt, disk, Call::Sync, Ok(None));
+    Ok(())
+}
+
 #[test]
 fn fuse(rt: HostRuntime) -> Result<(), Fail> {
-    let alloc = rt.alloc();
-    let mut disk = abc(alloc)?;
-    disk.fuse_after(2);
-    for (call, expected) in CALLS {
-        assert_answered(&rt, &mut disk, call, expected);
-    }
-    assert_counts(&rt, &disk, 6, 4);
-    assert!(rt; holds(alloc, &mut disk, b"aXc")?);
-    disk.crash(0)?;
-    assert!(rt; holds(alloc, &mut disk, b"abc")?);
-    assert_answered(&rt, &mut disk, Call::Sync, Ok(None));
+    let mut disk = abc(rt.alloc())?;
+    assert_blown(&rt, rt.alloc(), &mut disk)
+}
+
+fn assert_failing(rt: &impl Abort, alloc: Global, disk: &mut Trial) -> Result<(), Fail> {
+    disk.fail_once(1);
+    assert_answered(rt, disk, Call::Sync, Ok(None));
+    assert_answered(rt, disk, Call::Write(0, b"UVWXYZXYZ"), Err(DiskFault));
+    assert!(rt; holds(alloc, disk, b"UVWX")?);
+    disk.fail_once(0);
+    assert_answered(rt, disk, Call::Sync, Err(DiskFault));
+    assert_answered(rt, disk, Call::Write(4, b"12"), Ok(None));
+    assert_counts(rt, disk, 4, 2);
+    assert!(rt; holds(alloc, disk, b"UVWX12")?);
     Ok(())
 }
 
 // A write that fails so puts its first half, any other call nothing, and the next call passes.
 #[test]
 fn fails_once(rt: HostRuntime) -> Result<(), Fail> {
-    let alloc = rt.alloc();
-    let mut disk = abc(alloc)?;
-    disk.fail_once(1);
-    assert_answered(&rt, &mut disk, Call::Sync, Ok(None));
-    assert_answered(&rt, &mut disk, Call::Write(0, b"UVWXYZXYZ"), Err(DiskFault));
-    assert!(rt; holds(alloc, &mut disk, b"UVWX")?);
-    disk.fail_once(0);
-    assert_answered(&rt, &mut disk, Call::Sync, Err(DiskFault));
-    assert_answered(&rt, &mut disk, Call::Write(4, b"12"), Ok(None));
-    assert_counts(&rt, &disk, 4, 2);
-    assert!(rt; holds(alloc, &mut disk, b"UVWX12")?);
-    Ok(())
+    let mut disk = abc(rt.alloc())?;
+    assert_failing(&rt, rt.alloc(), &mut disk)
+}
+
+// Calls, and whether one has strayed then.
+const STRAYS: [(Call<'static>, bool); 3] = [
+    (Call::ReadTwo(1), false),
+    (Call::Write(3, b"d"), false),
+    (Call::Write(5, b"e"), true),
+];
+
+fn assert_strays(rt: &impl Abort, disk: &mut Trial) {
+    for (call, has_strayed) in &STRAYS {
+        assert_answered(rt, disk, *call, Ok(None));
+        assert!(rt; disk.has_strayed() == *has_strayed);
+    }
 }
 
 // Out of its file a call touches nothing, and it is seen.
 #[test]
 fn strays(rt: HostRuntime) -> Result<(), Fail> {
-    let alloc = rt.alloc();
-    let mut disk = abc(alloc)?;
-    let rows = [
-        (Call::ReadTwo(1), false),
-        (Call::Write(3, b"d"), false),
-        (Call::Write(5, b"e"), true),
-    ];
-    for (call, has_strayed) in rows {
-        assert_answered(&rt, &mut disk, call, Ok(None));
-        assert!(rt; disk.has_strayed() == has_strayed);
-    }
-    assert!(rt; holds(alloc, &mut disk, b"abcd")?);
+    let mut disk = abc(rt.alloc())?;
+    assert_strays(&rt, &mut disk);
+    assert!(rt; holds(rt.alloc(), &mut disk, b"abcd")?);
     Ok(())
 }

@@ -1,77 +1,25 @@
 //! Texts of one's own, packets, and what they come to by the rules of reading.
-use packet::bounds::{Bounds, ConfigFault};
+use crate::shared::{EXTERNAL, Loaded, bounds, load_rules};
 use packet::endpoint::{Endpoint, Iface, Prefix, Proto};
-use rulesyntax::fault::LoadFault;
-use rulesyntax::parse;
-use ruletext::load::load;
-use std::alloc::{AllocError, AllocFailed, Global};
-use std::test::*;
+use std::alloc::{AllocError, Global};
+use std::process::Abort;
+use std::test::Fail;
 use verdict::facts::{Facts, State};
 use verdict::hook::{
     Destination, Forwarding, Source, forward, forward_counted, postrouting, prerouting,
 };
-use verdict::rules::Rules;
 
 const HOST: u32 = 0xc0a80102;
 
-const EXTERNAL: u32 = 0xcb007101;
-
 const SERVER: u32 = 0xc6336407;
 
-/// Why a test ends early.
-#[derive(Debug, Drop)]
-enum Fail {
-    Memory,
-    Config(ConfigFault),
-    Refused(LoadFault),
-}
-
-impl From<AllocError> for Fail {
-    fn from(_: AllocError) -> Fail {
-        Fail::Memory
-    }
-}
-
-impl<T: Drop> From<AllocFailed<T>> for Fail {
-    fn from(_: AllocFailed<T>) -> Fail {
-        Fail::Memory
-    }
-}
-
-impl From<ConfigFault> for Fail {
-    fn from(fault: ConfigFault) -> Fail {
-        Fail::Config(fault)
-    }
-}
-
-impl From<LoadFault> for Fail {
-    fn from(fault: LoadFault) -> Fail {
-        Fail::Refused(fault)
-    }
-}
-
-fn bounds(alloc: Global) -> Result<Bounds, Fail> {
-    let inside = Prefix {
-        addr: 0xc0a80100,
-        len: 24,
-    };
-    let prefixes = Vec::from_slice(alloc, &[inside])?;
-    let lan = String::from_str(alloc, "lan0")?;
-    let wan = String::from_str(alloc, "wan0")?;
-    Ok(Bounds::new(lan, wan, prefixes, EXTERNAL)?)
-}
-
-// Rules, and the configuration that they were loaded for. They lie behind a box, so that a test lets them go by one call.
-#[derive(Drop)]
-struct Loaded {
-    rules: Rules,
-    bounds: Bounds,
-}
+const INSIDE: Prefix = Prefix {
+    addr: 0xc0a80100,
+    len: 24,
+};
 
 fn rules_of(alloc: Global, text: &[u8]) -> Result<Box<Loaded>, Fail> {
-    let bounds = bounds(alloc)?;
-    let rules = Rules::of(alloc, load(alloc, parse(alloc, text)?, &bounds)?)?;
-    Ok(Box::new(alloc, Loaded { rules, bounds })?)
+    load_rules(alloc, text, bounds(alloc, "lan0", "wan0", INSIDE)?)
 }
 
 fn at(addr: u32, port: u16) -> Endpoint {
@@ -210,15 +158,17 @@ fn holds(alloc: Global, test: &str) -> Result<bool, Fail> {
     Ok(filtered(alloc, chains.as_str(), &outward(53))? == Forwarding::Drop)
 }
 
-#[test]
-fn matches(rt: HostRuntime) -> Result<(), Fail> {
-    for test in &HOLD {
-        assert!(rt; holds(rt.alloc(), test)?, "{test}");
-    }
-    for test in &FAIL {
-        assert!(rt; !holds(rt.alloc(), test)?, "{test}");
+fn assert_each(rt: &impl Abort, alloc: Global, tests: &[&str], expected: bool) -> Result<(), Fail> {
+    for test in tests {
+        assert!(rt; holds(alloc, test)? == expected, "{test}");
     }
     Ok(())
+}
+
+#[test]
+fn matches(rt: HostRuntime) -> Result<(), Fail> {
+    assert_each(&rt, rt.alloc(), &HOLD, true)?;
+    assert_each(&rt, rt.alloc(), &FAIL, false)
 }
 
 const TRANSLATIONS: &[u8] = b"
@@ -275,8 +225,8 @@ fn destination(loaded: &Loaded, port: u16) -> Destination {
 #[test]
 fn destinations(rt: HostRuntime) -> Result<(), Fail> {
     let loaded = rules_of(rt.alloc(), TRANSLATIONS)?;
-    for (port, expected) in DESTINATIONS {
-        assert!(rt; destination(&loaded, port) == expected, "{port}");
+    for (port, expected) in &DESTINATIONS {
+        assert!(rt; destination(&loaded, *port) == *expected, "{port}");
     }
     Ok(())
 }
@@ -301,8 +251,8 @@ fn source(loaded: &Loaded, host: u32) -> Source {
 #[test]
 fn sources(rt: HostRuntime) -> Result<(), Fail> {
     let loaded = rules_of(rt.alloc(), TRANSLATIONS)?;
-    for (host, expected) in SOURCES {
-        assert!(rt; source(&loaded, host) == expected, "{host}");
+    for (host, expected) in &SOURCES {
+        assert!(rt; source(&loaded, *host) == *expected, "{host}");
     }
     Ok(())
 }
@@ -326,48 +276,50 @@ fn no_rules_translate_nothing(rt: HostRuntime) -> Result<(), Fail> {
     Ok(())
 }
 
-// Chains c0 to c16, each of which leads to the next by this many of these verdicts.
-fn levels(alloc: Global, count: u32, rules: u32, verdict: &str) -> Result<String, AllocError> {
+// A chain that leads to the next one by this many of these verdicts.
+fn level(alloc: Global, number: u32, rules: usize, verdict: &str) -> Result<String, AllocError> {
+    let next = u64::from(number) + 1;
+    let line = format!(in alloc; "{verdict} c{next}\n")?;
+    let lines = line.repeat(alloc, rules)?;
+    format!(in alloc; "chain c{number} {{\n{lines}}}\n")
+}
+
+// Chains c0 to c15, of which each but the last leads to the next so.
+fn levels(alloc: Global, rules: usize, verdict: &str) -> Result<String, AllocError> {
     let mut text = String::from_str(
         alloc,
         "chain fw { type filter hook forward priority 0; goto c0; }\n",
     )?;
-    for level in 0..count {
-        let open = format!(in alloc; "chain c{level} {{\n")?;
-        text.push_str(open.as_str())?;
-        for _ in 0..rules {
-            let next = u64::from(level) + 1;
-            let line = format!(in alloc; "{verdict} c{next}\n")?;
-            text.push_str(line.as_str())?;
-        }
-        text.push_str("}\n")?;
+    for number in 0..15 {
+        text.push_str(level(alloc, number, rules, verdict)?.as_str())?;
     }
-    let last = format!(in alloc; "chain c{count} {{ return; }}\n")?;
-    text.push_str(last.as_str())?;
+    text.push_str("chain c15 { return; }\n")?;
     Ok(text)
+}
+
+// What the packet comes to that is led through these levels.
+fn led(alloc: Global, rules: usize, verdict: &str) -> Result<Forwarding, Fail> {
+    let chains = levels(alloc, rules, verdict)?;
+    filtered(alloc, chains.as_str(), &outward(53))
 }
 
 // A packet that read each rule as often as it is led to would never be done.
 #[test]
 fn branching(rt: HostRuntime) -> Result<(), Fail> {
-    let chains = levels(rt.alloc(), 15, 250, "jump")?;
-    assert_eq!(rt;
-        filtered(rt.alloc(), chains.as_str(), &outward(53))?,
-        Forwarding::Pass
-    );
+    assert_eq!(rt; led(rt.alloc(), 250, "jump")?, Forwarding::Pass);
     Ok(())
 }
 
 #[test]
 fn deep(rt: HostRuntime) -> Result<(), Fail> {
-    for verdict in ["jump", "goto"] {
-        let chains = levels(rt.alloc(), 15, 1, verdict)?;
-        assert_eq!(rt;
-            filtered(rt.alloc(), chains.as_str(), &outward(53))?,
-            Forwarding::Pass
-        );
+    for verdict in &["jump", "goto"] {
+        assert_eq!(rt; led(rt.alloc(), 1, verdict)?, Forwarding::Pass);
     }
     Ok(())
+}
+
+fn rule_of_port(alloc: Global, port: u32) -> Result<String, AllocError> {
+    format!(in alloc; "udp dport {port} drop\n")
 }
 
 // As many rules as a ruleset may have, each of which asks for a port of its own.
@@ -377,8 +329,7 @@ fn most_rules(alloc: Global) -> Result<String, AllocError> {
         "table ip f {\nchain fw { type filter hook forward priority 0;\n",
     )?;
     for port in 1000u32..5096 {
-        let line = format!(in alloc; "udp dport {port} drop\n")?;
-        text.push_str(line.as_str())?;
+        text.push_str(rule_of_port(alloc, port)?.as_str())?;
     }
     text.push_str("}\n}\n")?;
     Ok(text)
@@ -390,12 +341,23 @@ fn counted(loaded: &Loaded, port: u16) -> (Forwarding, u32) {
     (found, steps.count())
 }
 
+// What becomes of a packet by its port, and how many rules that takes.
+const COUNTED: [(u16, Forwarding, u32); 4] = [
+    (1000, Forwarding::Drop, 1),
+    (1100, Forwarding::Drop, 101),
+    (5095, Forwarding::Drop, 4096),
+    (5096, Forwarding::Pass, 4096),
+];
+
+fn greatest_rules(alloc: Global) -> Result<Box<Loaded>, Fail> {
+    rules_of(alloc, most_rules(alloc)?.as_bytes())
+}
+
 #[test]
 fn greatest(rt: HostRuntime) -> Result<(), Fail> {
-    let loaded = rules_of(rt.alloc(), most_rules(rt.alloc())?.as_bytes())?;
-    assert_eq!(rt; counted(&loaded, 1000), (Forwarding::Drop, 1));
-    assert_eq!(rt; counted(&loaded, 1100), (Forwarding::Drop, 101));
-    assert_eq!(rt; counted(&loaded, 5095), (Forwarding::Drop, 4096));
-    assert_eq!(rt; counted(&loaded, 5096), (Forwarding::Pass, 4096));
+    let loaded = greatest_rules(rt.alloc())?;
+    for (port, expected, steps) in &COUNTED {
+        assert_eq!(rt; counted(&loaded, *port), (*expected, *steps), "{port}");
+    }
     Ok(())
 }

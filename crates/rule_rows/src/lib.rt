@@ -2,6 +2,7 @@
 //!
 //! The rows stand above the crates that they try, so that each of these is proved once, without them.
 //!
+//! - `shared`: configurations, and the rules of a text;
 //! - `beside`: what drawn rulesets come to, beside an evaluation of their rules one by one (`verdict`);
 //! - `hooks`: the verdicts of the three hooks (`verdict`);
 //! - `legs`: plans and causes before any session has begun (`hairpin`);
@@ -16,3 +17,5 @@ mod hooks;
 mod legs;
 #[cfg(test)]
 mod marks;
+#[cfg(test)]
+mod shared;

@@ -1,63 +1,56 @@
 //! Reports of wrong texts.
-use packet::bounds::Bounds;
+use crate::shared::bounds;
 use packet::endpoint::Prefix;
 use ruletext::read;
 use std::alloc::{AllocError, Global};
 use std::process::Abort;
-use std::test::*;
+use std::test::Fail;
 use text_marks::explain;
 
-// 192.168.0.0/16 inside, 203.0.113.1 outside.
-fn bounds(alloc: Global) -> Result<Bounds, AllocError> {
-    let lan = String::from_str(alloc, "lan")?;
-    let wan = String::from_str(alloc, "wan")?;
-    let prefix = Prefix {
-        addr: 0xc0a8_0000,
-        len: 16,
-    };
-    let inside = vec![in alloc; prefix]?;
-    Bounds::new(lan, wan, inside, 0xcb00_7101).map_err(|_| AllocError)
-}
+const INSIDE: Prefix = Prefix {
+    addr: 0xc0a8_0000,
+    len: 16,
+};
 
 // The report of a text's fault.
-fn shown(alloc: Global, text: &[u8]) -> Result<Vec<u8>, AllocError> {
-    let bounds = bounds(alloc)?;
+fn shown(alloc: Global, text: &[u8]) -> Result<Vec<u8>, Fail> {
+    let bounds = bounds(alloc, "lan", "wan", INSIDE)?;
     match read(alloc, text, &bounds) {
-        Ok(_rules) => Err(AllocError),
-        Err(fault) => explain(alloc, text, &bounds, &fault),
+        Ok(_rules) => Err(Fail::new("it has no fault")),
+        Err(fault) => Ok(explain(alloc, text, &bounds, &fault)?),
     }
 }
 
 // A text and its report: the line, the mark below it, what is found, and what is expected.
-struct Row {
-    text: &'static str,
-    line: &'static str,
-    mark: &'static str,
-    found: &'static str,
-    expected: &'static str,
+#[derive(Clone, Copy)]
+struct Row<'a> {
+    text: &'a str,
+    line: &'a str,
+    mark: &'a str,
+    found: &'a str,
+    expected: &'a str,
 }
 
-fn assert_shown(
-    rt: &impl Abort,
-    alloc: Global,
-    text: &str,
-    lines: [&str; 4],
-) -> Result<(), AllocError> {
-    let shown = shown(alloc, text.as_bytes())?;
-    let [line, mark, found, expected] = lines;
-    let wanted = format!(in alloc; "{line}\n{mark}\nfound: {found}\nexpected: {expected}\n")?;
-    assert!(rt; shown.as_slice() == wanted.as_bytes(), "{text}");
-    Ok(())
+fn report_of(alloc: Global, row: &Row<'_>) -> Result<String, AllocError> {
+    let Row {
+        line,
+        mark,
+        found,
+        expected,
+        ..
+    } = row;
+    format!(in alloc; "{line}\n{mark}\nfound: {found}\nexpected: {expected}\n")
 }
 
-fn assert_all_shown(rt: &impl Abort, alloc: Global, rows: &[Row]) -> Result<(), AllocError> {
+fn is_shown(alloc: Global, row: &Row<'_>) -> Result<bool, Fail> {
+    let report = report_of(alloc, row)?;
+    let shown = shown(alloc, row.text.as_bytes())?;
+    Ok(shown.as_slice() == report.as_bytes())
+}
+
+fn assert_shown(rt: &impl Abort, alloc: Global, rows: &[Row<'_>]) -> Result<(), Fail> {
     for row in rows {
-        assert_shown(
-            rt,
-            alloc,
-            row.text,
-            [row.line, row.mark, row.found, row.expected],
-        )?;
+        assert!(rt; is_shown(alloc, row)?, "{}", row.text);
     }
     Ok(())
 }
@@ -76,7 +69,7 @@ const ONE_OF_A_NAME: &str =
 const A_VALUE: &str =
     "addresses for saddr and daddr, ports up to 65535 for sport and dport, protocols up to 255 for protocol and l4proto, names of interfaces for iifname and oifname, states for ct state; sets with one such `type`; dnat, snat and masquerade from nat chains alone";
 
-const SYNTAX: [Row; 8] = [
+const SYNTAX: [Row<'static>; 8] = [
     Row {
         text: "table ip t {\n\tchain c { tcp dport 22 reject; }; }\n",
         line: "line 2: \tchain c { tcp dport 22 reject; }; }",
@@ -136,11 +129,11 @@ const SYNTAX: [Row; 8] = [
 ];
 
 #[test]
-fn syntax(rt: HostRuntime) -> Result<(), AllocError> {
-    assert_all_shown(&rt, rt.alloc(), &SYNTAX)
+fn syntax(rt: HostRuntime) -> Result<(), Fail> {
+    assert_shown(&rt, rt.alloc(), &SYNTAX)
 }
 
-const NAMES: [Row; 4] = [
+const NAMES: [Row<'static>; 4] = [
     Row {
         text: "table ip t { chain c { accept; jump d; }; }",
         line: "line 1: table ip t { chain c { accept; jump d; }; }",
@@ -172,11 +165,11 @@ const NAMES: [Row; 4] = [
 ];
 
 #[test]
-fn names(rt: HostRuntime) -> Result<(), AllocError> {
-    assert_all_shown(&rt, rt.alloc(), &NAMES)
+fn names(rt: HostRuntime) -> Result<(), Fail> {
+    assert_shown(&rt, rt.alloc(), &NAMES)
 }
 
-const RULES: [Row; 5] = [
+const RULES: [Row<'static>; 5] = [
     Row {
         text: "table ip n { chain p { type nat hook forward priority 0; }; }",
         line: "line 1: table ip n { chain p { type nat hook forward priority 0; }; }",
@@ -215,116 +208,152 @@ const RULES: [Row; 5] = [
 ];
 
 #[test]
-fn rules(rt: HostRuntime) -> Result<(), AllocError> {
-    assert_all_shown(&rt, rt.alloc(), &RULES)
+fn rules(rt: HostRuntime) -> Result<(), Fail> {
+    assert_shown(&rt, rt.alloc(), &RULES)
 }
 
-// A table with these chains, each in a line of its own and with a jump to the next.
-fn chains(alloc: Global, count: u32) -> Result<String, AllocError> {
+fn chain(alloc: Global, number: u32) -> Result<String, AllocError> {
+    let next = u64::from(number) + 1;
+    format!(in alloc; "chain c{number} {{ jump c{next}; }}\n")
+}
+
+// A table with these chains, each in a line of its own and with a jump to the next, and then these words.
+fn chains(alloc: Global, count: u32, last: &str) -> Result<String, AllocError> {
     let mut text = String::from_str(alloc, "table ip t {\n")?;
     for number in 0..count {
-        let next = number + 1;
-        let chain = format!(in alloc; "chain c{number} {{ jump c{next}; }}\n")?;
-        text.push_str(chain.as_str())?;
+        text.push_str(chain(alloc, number)?.as_str())?;
     }
+    text.push_str(last)?;
     Ok(text)
 }
 
 #[test]
-fn back_by_jumps(rt: HostRuntime) -> Result<(), AllocError> {
-    let mut text = chains(rt.alloc(), 2)?;
-    text.push_str("chain c2 { accept; goto c1; }; }")?;
-    let lines = [
-        "line 3: chain c1 { jump c2; }",
-        "                   ^",
-        "`jump`, which comes back to its chain by jumps and gotos",
-        "chains of which none leads back to itself",
-    ];
-    assert_shown(&rt, rt.alloc(), text.as_str(), lines)
+fn back_by_jumps(rt: HostRuntime) -> Result<(), Fail> {
+    let text = chains(rt.alloc(), 2, "chain c2 { accept; goto c1; }; }")?;
+    let row = Row {
+        text: text.as_str(),
+        line: "line 3: chain c1 { jump c2; }",
+        mark: "                   ^",
+        found: "`jump`, which comes back to its chain by jumps and gotos",
+        expected: "chains of which none leads back to itself",
+    };
+    assert_shown(&rt, rt.alloc(), &[row])
 }
 
 #[test]
-fn seventeen_jumps(rt: HostRuntime) -> Result<(), AllocError> {
-    let mut text = chains(rt.alloc(), 17)?;
-    text.push_str("chain c17 { }; }")?;
-    let lines = [
-        "line 2: chain c0 { jump c1; }",
-        "                   ^",
-        "`jump`, which is on a path of more than 16 jumps and gotos",
-        "at most 16 jumps and gotos on every path",
-    ];
-    assert_shown(&rt, rt.alloc(), text.as_str(), lines)
+fn seventeen_jumps(rt: HostRuntime) -> Result<(), Fail> {
+    let text = chains(rt.alloc(), 17, "chain c17 { }; }")?;
+    let row = Row {
+        text: text.as_str(),
+        line: "line 2: chain c0 { jump c1; }",
+        mark: "                   ^",
+        found: "`jump`, which is on a path of more than 16 jumps and gotos",
+        expected: "at most 16 jumps and gotos on every path",
+    };
+    assert_shown(&rt, rt.alloc(), &[row])
 }
 
-#[test]
-fn one_chain_too_many(rt: HostRuntime) -> Result<(), AllocError> {
-    let alloc = rt.alloc();
+fn empty_chain(alloc: Global, number: u32) -> Result<String, AllocError> {
+    format!(in alloc; "chain c{number} {{ }};\n")
+}
+
+// A table of empty chains, each in a line of its own.
+fn empty_chains(alloc: Global, count: u32) -> Result<String, AllocError> {
     let mut text = String::from_str(alloc, "table ip t {\n")?;
-    for number in 0u32..257 {
-        let chain = format!(in alloc; "chain c{number} {{ }};\n")?;
-        text.push_str(chain.as_str())?;
+    for number in 0..count {
+        text.push_str(empty_chain(alloc, number)?.as_str())?;
     }
     text.push_str("}")?;
-    let lines = [
-        "line 258: chain c256 { };",
-        "          ^",
-        "`chain`, which is one more than there may be",
-        "at most 256 chains, 4096 rules, and 16384 elements and pairs in all",
-    ];
-    assert_shown(&rt, alloc, text.as_str(), lines)
-}
-
-// A character so many times.
-fn run_of(alloc: Global, what: char, count: u32) -> Result<String, AllocError> {
-    let mut run = String::new(alloc);
-    for _ in 0..count {
-        run.push(what)?;
-    }
-    Ok(run)
+    Ok(text)
 }
 
 #[test]
-fn one_byte_too_many(rt: HostRuntime) -> Result<(), AllocError> {
+fn one_chain_too_many(rt: HostRuntime) -> Result<(), Fail> {
+    let text = empty_chains(rt.alloc(), 257)?;
+    let row = Row {
+        text: text.as_str(),
+        line: "line 258: chain c256 { };",
+        mark: "          ^",
+        found: "`chain`, which is one more than there may be",
+        expected: "at most 256 chains, 4096 rules, and 16384 elements and pairs in all",
+    };
+    assert_shown(&rt, rt.alloc(), &[row])
+}
+
+// A text so many times between two others.
+fn run_of(
+    alloc: Global,
+    front: &str,
+    (what, count): (&str, usize),
+    last: &str,
+) -> Result<String, AllocError> {
+    let run = what.repeat(alloc, count)?;
+    format!(in alloc; "{front}{run}{last}")
+}
+
+#[test]
+fn one_byte_too_many(rt: HostRuntime) -> Result<(), Fail> {
     let alloc = rt.alloc();
-    let text = run_of(alloc, ' ', 262_145)?;
-    let blank = "";
-    let line = format!(in alloc; "line 1: ...{blank:120}")?;
-    let mark = format!(in alloc; "{blank:130}^")?;
-    let lines = [
-        line.as_str(),
-        mark.as_str(),
-        "` `, the first byte that is too many",
-        "a text of at most 262144 bytes",
-    ];
-    assert_shown(&rt, alloc, text.as_str(), lines)
+    let text = run_of(alloc, "", (" ", 262_145), "")?;
+    let line = run_of(alloc, "line 1: ...", (" ", 120), "")?;
+    let mark = run_of(alloc, "", (" ", 130), "^")?;
+    let row = Row {
+        text: text.as_str(),
+        line: line.as_str(),
+        mark: mark.as_str(),
+        found: "` `, the first byte that is too many",
+        expected: "a text of at most 262144 bytes",
+    };
+    assert_shown(&rt, alloc, &[row])
 }
 
 const AT_THE_START: &str = "`flush`, `table`, `;`, the end of the line, the end of the text";
 
-#[test]
-fn long_line(rt: HostRuntime) -> Result<(), AllocError> {
-    let alloc = rt.alloc();
-    let side = run_of(alloc, ';', 300)?;
-    let text = format!(in alloc; "{side}x{side}")?;
-    let blank = "";
-    let line = format!(in alloc; "line 1: ...{blank:;<60}x{blank:;<59}...")?;
-    let mark = format!(in alloc; "{blank:71}^")?;
-    let found = "`x`, which is no word that is known here";
-    assert_shown(
-        &rt,
-        alloc,
-        text.as_str(),
-        [line.as_str(), mark.as_str(), found, AT_THE_START],
-    )
+// An `x` between so many semicolons and so many more.
+fn semicolons(
+    alloc: Global,
+    front: &str,
+    (before, behind): (usize, usize),
+    last: &str,
+) -> Result<String, AllocError> {
+    let before = ";".repeat(alloc, before)?;
+    let behind = run_of(alloc, "x", (";", behind), last)?;
+    format!(in alloc; "{front}{before}{behind}")
 }
 
 #[test]
-fn long_name(rt: HostRuntime) -> Result<(), AllocError> {
+fn long_line(rt: HostRuntime) -> Result<(), Fail> {
     let alloc = rt.alloc();
-    let name = run_of(alloc, 'z', 50)?;
-    let line = format!(in alloc; "line 1: {name}")?;
-    let blank = "";
-    let found = format!(in alloc; "`{blank:z<40}...`, which is no word that is known here")?;
-    let lines = [line.as_str(), "        ^", found.as_str(), AT_THE_START];
-    assert_shown(&rt, alloc, name.as_str(), lines)
+    let text = semicolons(alloc, "", (300, 300), "")?;
+    let line = semicolons(alloc, "line 1: ...", (60, 59), "...")?;
+    let mark = run_of(alloc, "", (" ", 71), "^")?;
+    let row = Row {
+        text: text.as_str(),
+        line: line.as_str(),
+        mark: mark.as_str(),
+        found: "`x`, which is no word that is known here",
+        expected: AT_THE_START,
+    };
+    assert_shown(&rt, alloc, &[row])
+}
+
+#[test]
+fn long_name(rt: HostRuntime) -> Result<(), Fail> {
+    let alloc = rt.alloc();
+    let name = "z".repeat(alloc, 50)?;
+    let line = run_of(alloc, "line 1: ", ("z", 50), "")?;
+    let found = run_of(
+        alloc,
+        "`",
+        ("z", 40),
+        "...`, which is no word that is known here",
+    )?;
+    let row = Row {
+        text: name.as_str(),
+        line: line.as_str(),
+        mark: "        ^",
+        found: found.as_str(),
+        expected: AT_THE_START,
+    };
+    assert_shown(&rt, alloc, &[row])
 }

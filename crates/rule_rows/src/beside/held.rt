@@ -2,71 +2,21 @@
 use crate::beside::drawn::{Draw, Packet, Ruleset};
 use crate::beside::plain::passes;
 use crate::beside::spelled::text;
-use packet::bounds::{Bounds, ConfigFault};
+use crate::shared::{Loaded, bounds, load_rules};
 use packet::endpoint::{Endpoint, Iface, Prefix, Proto};
-use rulesyntax::fault::LoadFault;
-use rulesyntax::parse;
-use ruletext::load::load;
-use std::alloc::{AllocError, AllocFailed, Global};
-use std::test::*;
+use std::alloc::Global;
+use std::test::Fail;
 use verdict::facts::{Facts, State};
 use verdict::hook::{Forwarding, forward};
-use verdict::rules::Rules;
 
-/// Why a test ends early.
-#[derive(Debug, Drop)]
-enum Fail {
-    Memory,
-    Config(ConfigFault),
-    Refused(LoadFault),
-}
+const INSIDE: Prefix = Prefix {
+    addr: 0x0a000000,
+    len: 8,
+};
 
-impl From<AllocError> for Fail {
-    fn from(_: AllocError) -> Fail {
-        Fail::Memory
-    }
-}
-
-impl<T: Drop> From<AllocFailed<T>> for Fail {
-    fn from(_: AllocFailed<T>) -> Fail {
-        Fail::Memory
-    }
-}
-
-impl From<ConfigFault> for Fail {
-    fn from(fault: ConfigFault) -> Fail {
-        Fail::Config(fault)
-    }
-}
-
-impl From<LoadFault> for Fail {
-    fn from(fault: LoadFault) -> Fail {
-        Fail::Refused(fault)
-    }
-}
-
-fn bounds(alloc: Global) -> Result<Bounds, Fail> {
-    let inside = Prefix {
-        addr: 0x0a000000,
-        len: 8,
-    };
-    let prefixes = Vec::from_slice(alloc, &[inside])?;
-    let lan = String::from_str(alloc, "lan")?;
-    let wan = String::from_str(alloc, "wan")?;
-    Ok(Bounds::new(lan, wan, prefixes, 0xcb007101)?)
-}
-
-// Rules, and the configuration that they were loaded for. They lie behind a box, so that a test lets them go by one call.
-#[derive(Drop)]
-struct Loaded {
-    rules: Rules,
-    bounds: Bounds,
-}
-
-fn rules_of(alloc: Global, text: &[u8]) -> Result<Box<Loaded>, Fail> {
-    let bounds = bounds(alloc)?;
-    let rules = Rules::of(alloc, load(alloc, parse(alloc, text)?, &bounds)?)?;
-    Ok(Box::new(alloc, Loaded { rules, bounds })?)
+fn rules_of(alloc: Global, ruleset: &Ruleset) -> Result<Box<Loaded>, Fail> {
+    let text = text(alloc, ruleset)?;
+    load_rules(alloc, text.as_bytes(), bounds(alloc, "lan", "wan", INSIDE)?)
 }
 
 fn at(addr: u32, port: u32) -> Endpoint {
@@ -120,8 +70,7 @@ fn count(counts: Counts, loaded: &Loaded, ruleset: &Ruleset, packet: Packet) -> 
 // A ruleset and 32 packets.
 fn drawn(alloc: Global, draw: &mut Draw, counts: Counts) -> Result<Counts, Fail> {
     let ruleset = draw.ruleset(alloc)?;
-    let text = text(alloc, &ruleset)?;
-    let loaded = rules_of(alloc, text.as_bytes())?;
+    let loaded = rules_of(alloc, &ruleset)?;
     let mut counts = counts;
     for _ in 0..32 {
         counts = count(counts, &loaded, &ruleset, draw.packet(&ruleset));
