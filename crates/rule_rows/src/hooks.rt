@@ -284,11 +284,11 @@ fn level(alloc: Global, number: u32, rules: usize, verdict: &str) -> Result<Stri
     format!(in alloc; "chain c{number} {{\n{lines}}}\n")
 }
 
-// Chains c0 to c15, of which each but the last leads to the next so.
+// Chains c0 to c15, of which each but the last leads to the next so, and a base chain that leads to the first and drops
+// what comes back.
 fn levels(alloc: Global, rules: usize, verdict: &str) -> Result<String, AllocError> {
-    let mut text = String::from_str(
-        alloc,
-        "chain fw { type filter hook forward priority 0; goto c0; }\n",
+    let mut text = format!(in alloc;
+        "chain fw {{ type filter hook forward priority 0; {verdict} c0; drop; }}\n"
     )?;
     for number in 0..15 {
         text.push_str(level(alloc, number, rules, verdict)?.as_str())?;
@@ -306,14 +306,17 @@ fn led(alloc: Global, rules: usize, verdict: &str) -> Result<Forwarding, Fail> {
 // A packet that read each rule as often as it is led to would never be done.
 #[test]
 fn branching(rt: HostRuntime) -> Result<(), Fail> {
-    assert_eq!(rt; led(rt.alloc(), 250, "jump")?, Forwarding::Pass);
+    assert_eq!(rt; led(rt.alloc(), 250, "jump")?, Forwarding::Drop);
     Ok(())
 }
 
+// Sixteen jumps come back one by one, and sixteen gotos don't.
+const DEEP: [(&str, Forwarding); 2] = [("jump", Forwarding::Drop), ("goto", Forwarding::Pass)];
+
 #[test]
 fn deep(rt: HostRuntime) -> Result<(), Fail> {
-    for verdict in &["jump", "goto"] {
-        assert_eq!(rt; led(rt.alloc(), 1, verdict)?, Forwarding::Pass);
+    for (verdict, expected) in &DEEP {
+        assert_eq!(rt; led(rt.alloc(), 1, verdict)?, *expected, "{verdict}");
     }
     Ok(())
 }
