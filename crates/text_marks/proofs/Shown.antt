@@ -1,6 +1,7 @@
 -- Texts put together.
-use Rattle.std.proofs.Common.{◌≡◌, ◌∙◌, ℕ, List, [], ◌++◌, length, take, min, map, ap, append_assoc}
-use Rattle.std.proofs.lemmas.List.{take_min}
+use Rattle.std.proofs.Common.{◌≡◌, ◌∙◌, ℕ, ◌+◌, ◌<◌, List, [], ◌∷◌, ◌++◌, length, get_or, take, min, map, ap, append_assoc, add-one}
+use Rattle.std.proofs.Math.Seq.{take-suc}
+use Rattle.std.proofs.lemmas.List.{map-append, take_min}
 use Rattle.text_marks.specs.Lines.{visible}
 
 pub shortened_text :
@@ -16,3 +17,11 @@ pub three_parts :
 three_parts line found more zero one two three e f g h =
     let whole : three ≡ (([] ++ line) ++ found) ++ more = cc in
     whole
+
+-- a turn of a loop that shows each byte so
+pub one_more : (f : ℕ → ℕ) (bytes : List ℕ) (i shown : ℕ) (start old new : List ℕ) → i < length bytes → old ≡ start ++ map f (take i bytes)
+    → shown ≡ f (get_or bytes i 0) → new ≡ old ++ (shown ∷ []) → new ≡ start ++ map f (take (i + 1) bytes)
+one_more f bytes i shown start old new lt so_far is put =
+    let longer : map f (take (i + 1) bytes) ≡ map f (take i bytes) ++ (f (get_or bytes i 0) ∷ []) = rw (add-one, take-suc bytes i 0 lt) (simp map-append) in
+    let regrouped : (start ++ map f (take i bytes)) ++ (f (get_or bytes i 0) ∷ []) ≡ start ++ map f (take (i + 1) bytes) = rw (longer, append_assoc) in
+    put ∙ ap (λ (n : ℕ). old ++ (n ∷ [])) is ∙ ap (λ (l : List ℕ). l ++ (f (get_or bytes i 0) ∷ [])) so_far ∙ regrouped
