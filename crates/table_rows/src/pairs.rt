@@ -34,6 +34,28 @@ fn hold(rt: &impl Abort, map: &mut Map, pair: Pair) -> Result<(), AllocError>
     Ok(())
 }
 
+// What an inside endpoint leads to.
+fn assert_outside(
+    rt: &impl Abort,
+    map: &Map,
+    proto: Proto,
+    inside: Endpoint,
+    expected: Option<Endpoint>,
+) {
+    assert_eq!(rt; map.outside_of(proto, inside), expected);
+}
+
+// What an outside endpoint leads to.
+fn assert_inside(
+    rt: &impl Abort,
+    map: &Map,
+    proto: Proto,
+    outside: Endpoint,
+    expected: Option<Endpoint>,
+) {
+    assert_eq!(rt; map.inside_of(proto, outside), expected);
+}
+
 // Each endpoint of UDP leads to the other while their pair is held, and to none once it is gone.
 fn assert_led(rt: &impl Abort, map: &Map, is_held: bool) {
     let (outside, inside) = if is_held {
@@ -41,15 +63,15 @@ fn assert_led(rt: &impl Abort, map: &Map, is_held: bool) {
     } else {
         (None, None)
     };
-    assert_eq!(rt; map.outside_of(Proto::Udp, INSIDE), outside);
-    assert_eq!(rt; map.inside_of(Proto::Udp, OUTSIDE), inside);
+    assert_outside(rt, map, Proto::Udp, INSIDE, outside);
+    assert_inside(rt, map, Proto::Udp, OUTSIDE, inside);
 }
 
 // Neither endpoint leads anywhere by TCP, nor does the outside one where an inside one is asked for.
 fn assert_led_by_udp_alone(rt: &impl Abort, map: &Map) {
-    assert_eq!(rt; map.outside_of(Proto::Tcp, INSIDE), None);
-    assert_eq!(rt; map.inside_of(Proto::Tcp, OUTSIDE), None);
-    assert_eq!(rt; map.outside_of(Proto::Udp, OUTSIDE), None);
+    assert_outside(rt, map, Proto::Tcp, INSIDE, None);
+    assert_inside(rt, map, Proto::Tcp, OUTSIDE, None);
+    assert_outside(rt, map, Proto::Udp, OUTSIDE, None);
 }
 
 // Gives one hold back, if the pair is held.
@@ -101,7 +123,7 @@ fn assert_held_once_reserved(rt: &impl Abort, map: &mut Map) -> Result<(), Alloc
         outside: OUTSIDE,
     };
     hold(rt, map, tcp)?;
-    assert_eq!(rt; map.inside_of(Proto::Tcp, OUTSIDE), Some(INSIDE));
+    assert_inside(rt, map, Proto::Tcp, OUTSIDE, Some(INSIDE));
     Ok(())
 }
 

@@ -47,18 +47,27 @@ fn put(rt: &impl Abort, map: &mut Buckets, key: u64, value: usize) -> Result<(),
     Ok(())
 }
 
-const STAYING: [(u64, usize); 4] = [(u64::MAX, 1), (0, 3), (1, usize::MAX), (2, 0xffff_ffff)];
+const ENTRIES: [(u64, usize); 5] = [
+    (u64::MAX, 1),
+    (7, 2),
+    (0, 3),
+    (1, usize::MAX),
+    (2, 0xffff_ffff),
+];
 
-fn put_staying(rt: &impl Abort, map: &mut Buckets) -> Result<(), AllocError> {
-    for (key, value) in STAYING {
+fn put_entries(rt: &impl Abort, map: &mut Buckets) -> Result<(), AllocError> {
+    for (key, value) in ENTRIES {
         put(rt, map, key, value)?;
     }
     Ok(())
 }
 
+// The entries but for the one that was taken out.
 fn assert_have_stayed(rt: &impl Abort, map: &Buckets) {
-    for (key, value) in STAYING {
-        assert_has(rt, map, key, Some(value));
+    for (key, value) in ENTRIES {
+        if key != 7 {
+            assert_has(rt, map, key, Some(value));
+        }
     }
 }
 
@@ -67,8 +76,7 @@ fn entries_go_in_and_out(rt: HostRuntime) -> Result<(), AllocError> {
     let mut map = empty(rt.alloc())?;
     assert_has(&rt, &map, 7, None);
     reserve_one(&mut map)?;
-    put(&rt, &mut map, 7, 2)?;
-    put_staying(&rt, &mut map)?;
+    put_entries(&rt, &mut map)?;
     assert_gives(&rt, &mut map, 7, Some(2));
     assert_gives(&rt, &mut map, 7, None);
     assert_have_stayed(&rt, &map);

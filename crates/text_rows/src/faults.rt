@@ -171,6 +171,10 @@ fn each_growth_past_a_limit(rt: HostRuntime) {
 const MASQUERADE: &str =
     "table ip nat { chain post { type nat hook postrouting priority srcnat; oifname \"wan\" masquerade; }; }";
 
+fn loads(alloc: Global, bounds: &Bounds, text: &[u8]) -> bool {
+    read(alloc, text, bounds).is_ok()
+}
+
 // Of 101 bytes, none load, and all.
 #[test]
 fn each_cut(rt: HostRuntime) -> Result<(), AllocError> {
@@ -178,8 +182,8 @@ fn each_cut(rt: HostRuntime) -> Result<(), AllocError> {
     let bounds = bounds(alloc)?;
     for cut in 0..=MASQUERADE.len() {
         let text = MASQUERADE.as_bytes().get(..cut).unwrap_or(b"?");
-        let loads = read(alloc, text, &bounds).is_ok();
-        assert!(rt; loads == (cut == 0 || cut == 101), "{cut} bytes");
+        let wanted = cut == 0 || cut == 101;
+        assert!(rt; loads(alloc, &bounds, text) == wanted, "{cut} bytes");
     }
     Ok(())
 }

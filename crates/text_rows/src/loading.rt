@@ -12,7 +12,7 @@ use std::test::*;
 pub(crate) type Row = (&'static str, &'static str);
 
 // 192.168.0.0/16 inside, 203.0.113.1 outside.
-pub(crate) fn bounds(alloc: Global) -> Result<Bounds, AllocError> {
+pub(crate) fn bounds(alloc: Global) -> Result<Box<Bounds>, AllocError> {
     let lan = String::from_str(alloc, "lan")?;
     let wan = String::from_str(alloc, "wan")?;
     let prefix = Prefix {
@@ -20,7 +20,10 @@ pub(crate) fn bounds(alloc: Global) -> Result<Bounds, AllocError> {
         len: 16,
     };
     let inside = vec![in alloc; prefix]?;
-    Bounds::new(lan, wan, inside, 0xcb00_7101).map_err(|_| AllocError)
+    match Bounds::new(lan, wan, inside, 0xcb00_7101) {
+        Ok(bounds) => Ok(Box::new(alloc, bounds)?),
+        Err(_) => Err(AllocError),
+    }
 }
 
 // The line and the kind of a fault.
@@ -50,6 +53,20 @@ fn said_between(
     said(alloc, bounds, whole.as_str())
 }
 
+fn check_row(
+    rt: &impl Abort,
+    alloc: Global,
+    bounds: &Bounds,
+    before: &str,
+    behind: &str,
+    row: &Row,
+) -> Result<(), AllocError> {
+    let (text, wanted) = row;
+    let answer = said_between(alloc, bounds, before, *text, behind)?;
+    assert_eq!(rt; answer.as_str(), *wanted, "{text}");
+    Ok(())
+}
+
 // Each text, put between the two others, must be answered so.
 pub(crate) fn check(
     rt: &impl Abort,
@@ -59,9 +76,8 @@ pub(crate) fn check(
     rows: &[Row],
 ) -> Result<(), AllocError> {
     let bounds = bounds(alloc)?;
-    for (text, wanted) in rows {
-        let answer = said_between(alloc, &bounds, before, *text, behind)?;
-        assert_eq!(rt; answer.as_str(), *wanted, "{text}");
+    for row in rows {
+        check_row(rt, alloc, &bounds, before, behind, row)?;
     }
     Ok(())
 }
@@ -110,8 +126,13 @@ fn check_rows(rt: HostRuntime) -> Result<(), AllocError> {
     check(&rt, rt.alloc(), "", "", &TEXTS)
 }
 
-// One rule of a chain that no rule leads to, in a table with a set of each type and another chain.
-const SINGLE_RULES: [Row; 107] = [
+// A table with a set of each type and a chain, and the beginning of another chain, to which no rule leads.
+const BEFORE_A_RULE: &str =
+    "table ip t {\nset a { type ipv4_addr; elements = { 10.0.0.0/8, 10.1.0.1 }; }\nset p { type inet_service; elements = { 80, 443, 1000-2000 }; }\nset n { type ifname; elements = { lan, \"wan\" }; }\nset o { type inet_proto; elements = { tcp, 17 }; }\nchain d { }\nchain c {\n";
+
+const BEHIND_A_RULE: &str = "\n}\n}\n";
+
+const VERDICTS: [Row; 20] = [
     ("accept", "ok"),
     ("counter", "ok"),
     ("counter packets 1 bytes 2 drop comment \"x\"", "ok"),
@@ -135,6 +156,9 @@ const SINGLE_RULES: [Row; 107] = [
     ("ip6 saddr 1 accept", "line 8: unsupported"),
     ("jump", "line 8: syntax"),
     ("jump 5", "line 8: syntax"),
+];
+
+const MATCHES: [Row; 47] = [
     ("ip saddr 10.0.0.1 accept", "ok"),
     ("ip saddr 10.0.0.1/24 accept", "ok"),
     ("ip saddr 10.0.0.1-10.0.0.9 accept", "ok"),
@@ -188,6 +212,10 @@ const SINGLE_RULES: [Row; 107] = [
     ("oifname 5 accept", "line 8: wrong-type"),
     ("iifname @n accept", "ok"),
     ("iifname @a accept", "line 8: wrong-type"),
+];
+
+// States of connections, maps and translations.
+const STATES_AND_MAPS: [Row; 40] = [
     ("ct state new accept", "ok"),
     (
         "ct state established,related,invalid,untracked accept",
@@ -269,11 +297,24 @@ const SINGLE_RULES: [Row; 107] = [
     ("masquerade", "ok"),
 ];
 
+fn check_verdicts(rt: &impl Abort, alloc: Global) -> Result<(), AllocError> {
+    check(rt, alloc, BEFORE_A_RULE, BEHIND_A_RULE, &VERDICTS)
+}
+
+fn check_matches(rt: &impl Abort, alloc: Global) -> Result<(), AllocError> {
+    check(rt, alloc, BEFORE_A_RULE, BEHIND_A_RULE, &MATCHES)
+}
+
+fn check_states_and_maps(rt: &impl Abort, alloc: Global) -> Result<(), AllocError> {
+    check(rt, alloc, BEFORE_A_RULE, BEHIND_A_RULE, &STATES_AND_MAPS)
+}
+
+// One rule each.
 #[test]
 fn single_rules(rt: HostRuntime) -> Result<(), AllocError> {
-    let before =
-        "table ip t {\nset a { type ipv4_addr; elements = { 10.0.0.0/8, 10.1.0.1 }; }\nset p { type inet_service; elements = { 80, 443, 1000-2000 }; }\nset n { type ifname; elements = { lan, \"wan\" }; }\nset o { type inet_proto; elements = { tcp, 17 }; }\nchain d { }\nchain c {\n";
-    check(&rt, rt.alloc(), before, "\n}\n}\n", &SINGLE_RULES)
+    check_verdicts(&rt, rt.alloc())?;
+    check_matches(&rt, rt.alloc())?;
+    check_states_and_maps(&rt, rt.alloc())
 }
 
 // The lines of one set, of which no rule speaks.
@@ -589,6 +630,25 @@ pub(crate) fn repeated(
     Ok(text)
 }
 
+// The chain that a chain leads to, if it leads to one.
+fn target_of(number: u32, count: u32, leading: bool, ring: bool) -> Option<u32> {
+    let next = number.saturating_add(1);
+    if leading && next < count {
+        return Some(next);
+    }
+    if ring && next == count {
+        return Some(0);
+    }
+    None
+}
+
+fn chain(alloc: Global, number: u32, target: Option<u32>) -> Result<String, AllocError> {
+    match target {
+        Some(target) => format!(in alloc; "chain c{number}{{jump c{target}}}\n"),
+        None => format!(in alloc; "chain c{number}{{}}\n"),
+    }
+}
+
 // A table with so many chains; each but the last leads to the next, and the last to the first where it is wanted.
 pub(crate) fn row_of_chains(
     alloc: Global,
@@ -598,24 +658,21 @@ pub(crate) fn row_of_chains(
 ) -> Result<String, AllocError> {
     let mut text = String::from_str(alloc, "table t{\n")?;
     for number in 0..count {
-        let next = number.saturating_add(1);
-        text.push_str(format!(in alloc; "chain c{number}{{")?.as_str())?;
-        if leading && next < count {
-            text.push_str(format!(in alloc; "jump c{next}")?.as_str())?;
-        }
-        if ring && next == count {
-            text.push_str("jump c0")?;
-        }
-        text.push_str("}\n")?;
+        let target = target_of(number, count, leading, ring);
+        text.push_str(chain(alloc, number, target)?.as_str())?;
     }
     text.push_str("}")?;
     Ok(text)
 }
 
+fn pair(alloc: Global, number: u32) -> Result<String, AllocError> {
+    format!(in alloc; "{number}:drop,\n")
+}
+
 fn vmap_of(alloc: Global, count: u32) -> Result<String, AllocError> {
     let mut text = String::from_str(alloc, "table t { chain c { tcp dport vmap {\n")?;
     for number in 0..count {
-        text.push_str(format!(in alloc; "{number}:drop,\n")?.as_str())?;
+        text.push_str(pair(alloc, number)?.as_str())?;
     }
     text.push_str("} } }")?;
     Ok(text)
@@ -749,24 +806,35 @@ fn is_said_of_vmap(alloc: Global, count: u32, wanted: &str) -> Result<bool, Allo
     is_said(alloc, text.as_str(), wanted)
 }
 
-#[test]
-fn at_the_limits(rt: HostRuntime) -> Result<(), AllocError> {
+fn check_chains(rt: &impl Abort, alloc: Global) -> Result<(), AllocError> {
     for row in &CHAINS {
-        assert!(rt; is_said_of_chains(rt.alloc(), row)?, "{} chains", row.0);
+        assert!(rt; is_said_of_chains(alloc, row)?, "{} chains", row.0);
     }
+    Ok(())
+}
+
+fn check_lines(rt: &impl Abort, alloc: Global) -> Result<(), AllocError> {
     for row in &LINES {
         assert!(rt;
-            is_said_of_lines(rt.alloc(), row)?,
+            is_said_of_lines(alloc, row)?,
             "{} times {}",
             row.count,
             row.line
         );
     }
+    Ok(())
+}
+
+fn check_vmaps(rt: &impl Abort, alloc: Global) -> Result<(), AllocError> {
     for (count, wanted) in VMAPS {
-        assert!(rt;
-            is_said_of_vmap(rt.alloc(), count, wanted)?,
-            "{count} pairs"
-        );
+        assert!(rt; is_said_of_vmap(alloc, count, wanted)?, "{count} pairs");
     }
     Ok(())
+}
+
+#[test]
+fn at_the_limits(rt: HostRuntime) -> Result<(), AllocError> {
+    check_chains(&rt, rt.alloc())?;
+    check_lines(&rt, rt.alloc())?;
+    check_vmaps(&rt, rt.alloc())
 }

@@ -1,7 +1,8 @@
 //! Which texts spell a ruleset, and what is told of the others.
 
 use rulesyntax::fault::Kind;
-use rulesyntax::tree::{Chain, Element, End, Rule, Set, Side, Verdict};
+use rulesyntax::line::Line;
+use rulesyntax::tree::{Chain, Element, End, Rule, Set, Side, Table, Verdict};
 use rulesyntax::{one_ruleset, parse};
 use std::alloc::{AllocError, Global};
 use std::process::Abort;
@@ -16,10 +17,16 @@ fn answer(alloc: Global, text: &[u8]) -> Result<String, AllocError> {
     }
 }
 
-fn check(rt: &impl Abort, alloc: Global, rows: &[Row]) -> Result<(), Fail> {
-    for (text, expected) in rows {
-        let found = answer(alloc, text.as_bytes())?;
-        assert_eq!(rt; found.as_str(), *expected, "{text}");
+// The text is the row's, or has it within.
+fn check_text(rt: &impl Abort, alloc: Global, text: &[u8], row: &Row) -> Result<(), AllocError> {
+    let found = answer(alloc, text)?;
+    assert_eq!(rt; found.as_str(), row.1, "{}", row.0);
+    Ok(())
+}
+
+fn check(rt: &impl Abort, alloc: Global, rows: &[Row]) -> Result<(), AllocError> {
+    for row in rows {
+        check_text(rt, alloc, row.0.as_bytes(), row)?;
     }
     Ok(())
 }
@@ -340,23 +347,26 @@ const TOKENS: [Row; 24] = [
 ];
 
 #[test]
-fn texts(rt: HostRuntime) -> Result<(), Fail> {
+fn texts(rt: HostRuntime) -> Result<(), AllocError> {
     check(&rt, rt.alloc(), &TABLES)?;
     check(&rt, rt.alloc(), &SETS)?;
     check(&rt, rt.alloc(), &CHAINS)
 }
 
-fn check_rules(rt: &impl Abort, alloc: Global, rows: &[Row]) -> Result<(), Fail> {
-    for (rule, expected) in rows {
-        let text = format!(in alloc; "table t {{ chain c {{ {rule} }} }}")?;
-        let found = answer(alloc, text.as_bytes())?;
-        assert_eq!(rt; found.as_str(), *expected, "{rule}");
+fn in_a_chain(alloc: Global, rule: &str) -> Result<String, AllocError> {
+    format!(in alloc; "table t {{ chain c {{ {rule} }} }}")
+}
+
+fn check_rules(rt: &impl Abort, alloc: Global, rows: &[Row]) -> Result<(), AllocError> {
+    for row in rows {
+        let text = in_a_chain(alloc, row.0)?;
+        check_text(rt, alloc, text.as_bytes(), row)?;
     }
     Ok(())
 }
 
 #[test]
-fn rules(rt: HostRuntime) -> Result<(), Fail> {
+fn rules(rt: HostRuntime) -> Result<(), AllocError> {
     check_rules(&rt, rt.alloc(), &RULES)?;
     check_rules(&rt, rt.alloc(), &MORE_RULES)?;
     check_rules(&rt, rt.alloc(), &TOKENS)
@@ -368,37 +378,50 @@ fn padded(alloc: Global, spaces: usize) -> Result<Vec<u8>, AllocError> {
     Ok(text)
 }
 
-#[test]
-fn lengths(rt: HostRuntime) -> Result<(), Fail> {
-    let longest = padded(rt.alloc(), 262_133)?;
-    assert_eq!(rt; longest.len(), 262_144);
-    assert_eq!(rt; answer(rt.alloc(), longest.as_slice())?.as_str(), "ok");
-    let longer = padded(rt.alloc(), 262_134)?;
-    assert_eq!(rt;
-        answer(rt.alloc(), longer.as_slice())?.as_str(),
-        "line 1: too-long"
-    );
+// The text of so many spaces in front of a table must have this length, and this must be told of it.
+fn check_padded(
+    rt: &impl Abort,
+    alloc: Global,
+    spaces: usize,
+    length: usize,
+    expected: &str,
+) -> Result<(), AllocError> {
+    let text = padded(alloc, spaces)?;
+    assert_eq!(rt; text.len(), length);
+    let found = answer(alloc, text.as_slice())?;
+    assert_eq!(rt; found.as_str(), expected);
     Ok(())
+}
+
+#[test]
+fn lengths(rt: HostRuntime) -> Result<(), AllocError> {
+    check_padded(&rt, rt.alloc(), 262_133, 262_144, "ok")?;
+    check_padded(&rt, rt.alloc(), 262_134, 262_145, "line 1: too-long")
 }
 
 type Lines = Vec<usize>;
 
+fn put(lines: &mut Lines, line: &Line) -> Result<(), AllocError> {
+    lines.push(line.number())?;
+    Ok(())
+}
+
 fn element_lines(lines: &mut Lines, elements: &[Element]) -> Result<(), AllocError> {
     for element in elements {
-        lines.push(element.line.number())?;
+        put(lines, &element.line)?;
     }
     Ok(())
 }
 
 fn set_lines(lines: &mut Lines, set: &Set) -> Result<(), AllocError> {
-    lines.push(set.line.number())?;
-    lines.push(set.name_line.number())?;
+    put(lines, &set.line)?;
+    put(lines, &set.name_line)?;
     for set_type in set.types.as_slice() {
-        lines.push(set_type.line.number())?;
-        lines.push(set_type.name_line.number())?;
+        put(lines, &set_type.line)?;
+        put(lines, &set_type.name_line)?;
     }
     for listed in set.elements.as_slice() {
-        lines.push(listed.line.number())?;
+        put(lines, &listed.line)?;
         element_lines(lines, listed.elements.as_slice())?;
     }
     Ok(())
@@ -406,7 +429,7 @@ fn set_lines(lines: &mut Lines, set: &Set) -> Result<(), AllocError> {
 
 fn verdict_lines(lines: &mut Lines, verdict: &Verdict) -> Result<(), AllocError> {
     match verdict {
-        Verdict::Jump(target) | Verdict::Goto(target) => lines.push(target.line.number())?,
+        Verdict::Jump(target) | Verdict::Goto(target) => put(lines, &target.line)?,
         _ => (),
     }
     Ok(())
@@ -416,38 +439,38 @@ fn end_lines(lines: &mut Lines, end: &End) -> Result<(), AllocError> {
     match end {
         End::Verdict(verdict) => verdict_lines(lines, verdict)?,
         End::Vmap(vmap) => {
-            lines.push(vmap.line.number())?;
+            put(lines, &vmap.line)?;
             for pair in vmap.pairs.as_slice() {
-                lines.push(pair.key.line.number())?;
+                put(lines, &pair.key.line)?;
                 verdict_lines(lines, &pair.verdict)?;
             }
         }
         End::Dnat(dnat) => {
-            lines.push(dnat.line.number())?;
-            lines.push(dnat.address_line.number())?;
+            put(lines, &dnat.line)?;
+            put(lines, &dnat.address_line)?;
         }
         End::Snat(snat) => {
-            lines.push(snat.line.number())?;
-            lines.push(snat.address_line.number())?;
+            put(lines, &snat.line)?;
+            put(lines, &snat.address_line)?;
         }
-        End::Masquerade(line) => lines.push(line.number())?,
+        End::Masquerade(line) => put(lines, line)?,
     }
     Ok(())
 }
 
 fn side_lines(lines: &mut Lines, side: &Side) -> Result<(), AllocError> {
     match side {
-        Side::One(element) => lines.push(element.line.number())?,
+        Side::One(element) => put(lines, &element.line)?,
         Side::Several(elements) => element_lines(lines, elements.as_slice())?,
-        Side::Named(set) => lines.push(set.line.number())?,
+        Side::Named(set) => put(lines, &set.line)?,
     }
     Ok(())
 }
 
 fn rule_lines(lines: &mut Lines, rule: &Rule) -> Result<(), AllocError> {
-    lines.push(rule.line.number())?;
+    put(lines, &rule.line)?;
     for found in rule.matches.as_slice() {
-        lines.push(found.line.number())?;
+        put(lines, &found.line)?;
         side_lines(lines, &found.side)?;
     }
     if let Some(end) = &rule.end {
@@ -457,14 +480,42 @@ fn rule_lines(lines: &mut Lines, rule: &Rule) -> Result<(), AllocError> {
 }
 
 fn chain_lines(lines: &mut Lines, chain: &Chain) -> Result<(), AllocError> {
-    lines.push(chain.line.number())?;
+    put(lines, &chain.line)?;
     if let Some(base) = &chain.base {
-        lines.push(base.line.number())?;
+        put(lines, &base.line)?;
     }
     for rule in chain.rules.as_slice() {
         rule_lines(lines, rule)?;
     }
     Ok(())
+}
+
+fn table_lines(lines: &mut Lines, table: &Table) -> Result<(), AllocError> {
+    put(lines, &table.line)?;
+    for set in table.sets.as_slice() {
+        set_lines(lines, set)?;
+    }
+    for chain in table.chains.as_slice() {
+        chain_lines(lines, chain)?;
+    }
+    Ok(())
+}
+
+// The lines of everything in the tables, and a 0 behind them.
+fn all_lines(alloc: Global, tables: &[Table]) -> Result<Lines, AllocError> {
+    let mut lines = Vec::new(alloc);
+    for table in tables {
+        table_lines(&mut lines, table)?;
+    }
+    lines.push(0)?;
+    Ok(lines)
+}
+
+fn lines_of(alloc: Global, text: &str) -> Result<Lines, Fail> {
+    match parse(alloc, text.as_bytes()) {
+        Ok(rules) => Ok(all_lines(alloc, rules.tables.as_slice())?),
+        Err(_) => Err("a ruleset".into()),
+    }
 }
 
 const SPREAD: &str = "
@@ -511,20 +562,7 @@ const SPREAD_LINES: [usize; 32] = [
 
 #[test]
 fn lines(rt: HostRuntime) -> Result<(), Fail> {
-    let rules = parse(rt.alloc(), SPREAD.as_bytes())
-        .ok()
-        .ok_or("a ruleset")?;
-    let mut lines = Vec::new(rt.alloc());
-    for table in rules.tables.as_slice() {
-        lines.push(table.line.number())?;
-        for set in table.sets.as_slice() {
-            set_lines(&mut lines, set)?;
-        }
-        for chain in table.chains.as_slice() {
-            chain_lines(&mut lines, chain)?;
-        }
-    }
-    lines.push(0)?;
+    let lines = lines_of(rt.alloc(), SPREAD)?;
     assert_eq!(rt; lines.as_slice(), SPREAD_LINES.as_slice());
     Ok(())
 }
