@@ -2,9 +2,7 @@
 //! there again is what the machine in memory has after a beginning of them that holds every answered one.
 //!
 //! - `events`: the events that numbers stand for; `packets`: their packets;
-//! - `model`: what the machine answers, and what must survive behind each event;
 //! - `stops`: the gateway that is stopped.
 mod events;
-mod model;
 mod packets;
 mod stops;

@@ -1,6 +1,6 @@
 //! Texts and packets that are cut at each byte, and texts at a limit and past it, offered to a gateway: what is refused
 //! leaves the rules as they were.
-use crate::script::{flush, offer, play};
+use crate::script::{flush, fresh_behind, offer, play};
 use crate::shared::{Answer, Event, Given, MASQUERADE, Trials, What, fresh};
 use crate::words::body;
 use std::alloc::Global;
@@ -37,15 +37,18 @@ lan 1000 4500001c00010000 40118eea c0a80103 c6336407 13880035 0008003b
 flush
 = 104 wan 4500001c00010000 3f118fea c0a80103 c6336407 13880035 0008003b";
 
+fn cut_each(alloc: Global, gateway: &mut Trials) -> Result<(), Fail> {
+    for cut in 1..=100 {
+        play(alloc, gateway, refused(alloc, cut)?.as_str())?;
+    }
+    play(alloc, gateway, STAYS)
+}
+
 #[test]
 fn each_cut(rt: HostRuntime) -> Result<(), Fail> {
     let alloc = rt.alloc();
-    let mut gateway = fresh(alloc)?;
-    play(alloc, &mut gateway, WHOLE)?;
-    for cut in 1..=100 {
-        play(alloc, &mut gateway, refused(alloc, cut)?.as_str())?;
-    }
-    play(alloc, &mut gateway, STAYS)
+    let mut gateway = fresh_behind(alloc, &[WHOLE])?;
+    cut_each(alloc, &mut gateway)
 }
 
 const UDP: &str = "4500001c0001000040118eebc0a80102c6336407138800350008003c";
@@ -62,66 +65,69 @@ fn dropped(alloc: Global, packet: &str, cut: usize, number: usize) -> Result<Str
     Ok(format!(in alloc; "lan 1000 {bytes}\n= now {number} drop {cause}")?)
 }
 
-#[test]
-fn each_cut_of_packets(rt: HostRuntime) -> Result<(), Fail> {
-    let alloc = rt.alloc();
-    let mut gateway = fresh(alloc)?;
+fn cut_packets(alloc: Global, gateway: &mut Trials) -> Result<(), Fail> {
     let mut number = 0_usize;
     for packet in [UDP, SYN] {
         for cut in 0..packet.len() / 2 {
             number = number.saturating_add(1);
-            let lines = dropped(alloc, packet, cut, number)?;
-            play(alloc, &mut gateway, lines.as_str())?;
+            play(
+                alloc,
+                gateway,
+                dropped(alloc, packet, cut, number)?.as_str(),
+            )?;
         }
     }
-    play(
-        alloc,
-        &mut gateway,
-        "sessions\ngrown\n= 0\nat 1000\n= now 69 ticked",
-    )
+    play(alloc, gateway, NO_SESSION)
 }
 
-// A text of so many lines between the two others.
-fn repeated(
-    alloc: Global,
-    before: &str,
-    line: &str,
-    count: u32,
-    behind: &str,
-) -> Result<String, Fail> {
-    let mut text = String::from_str(alloc, before)?;
-    for _ in 0..count {
-        text.push_str(line)?;
-    }
-    text.push_str(behind)?;
-    Ok(text)
+const NO_SESSION: &str = "\
+sessions
+grown
+= 0
+at 1000
+= now 69 ticked";
+
+#[test]
+fn each_cut_of_packets(rt: HostRuntime) -> Result<(), Fail> {
+    let alloc = rt.alloc();
+    let mut gateway = fresh(alloc)?;
+    cut_packets(alloc, &mut gateway)
+}
+
+fn empty_chain(alloc: Global, number: u32) -> Result<String, Fail> {
+    Ok(format!(in alloc; "chain c{number} {{ }}\n")?)
 }
 
 // So many chains without a rule.
 fn chains(alloc: Global, count: u32) -> Result<String, Fail> {
     let mut text = String::from_str(alloc, "table t {\n")?;
     for number in 0..count {
-        text.push_str(format!(in alloc; "chain c{number} {{ }}\n")?.as_str())?;
+        text.push_str(empty_chain(alloc, number)?.as_str())?;
     }
     text.push_str("}")?;
     Ok(text)
 }
 
-// So many rules, each of which leads to the next chain by these words.
+// A chain with a rule that leads to the next one by these words.
+fn leading_chain(alloc: Global, words: &str, number: u32, behind: &str) -> Result<String, Fail> {
+    let next = number.saturating_add(1);
+    Ok(format!(in alloc; "chain c{number} {{ {words} c{next}{behind}; }}\n")?)
+}
+
+// So many chains that lead to the next one, and the last.
 fn path(alloc: Global, words: &str, count: u32, behind: &str) -> Result<String, Fail> {
     let mut text = String::from_str(alloc, "table t {\n")?;
     for number in 0..count {
-        let next = number.saturating_add(1);
-        let chain = format!(in alloc; "chain c{number} {{ {words} c{next}{behind}; }}\n")?;
-        text.push_str(chain.as_str())?;
+        text.push_str(leading_chain(alloc, words, number, behind)?.as_str())?;
     }
-    text.push_str(format!(in alloc; "chain c{count} {{ }}\n}}")?.as_str())?;
+    text.push_str(empty_chain(alloc, count)?.as_str())?;
+    text.push_str("}")?;
     Ok(text)
 }
 
-fn is_loaded(gateway: &mut Trials, text: Vec<u8>) -> Result<bool, Fail> {
+fn is_loaded(alloc: Global, gateway: &mut Trials, text: &[u8]) -> Result<bool, Fail> {
     let moment = 1000;
-    let what = What::Load(body(text)?);
+    let what = What::Load(body(Vec::from_slice(alloc, text)?)?);
     match offer(gateway, Event { moment, what }) {
         Ok(Given::Now(_, Answer::Refused)) => Ok(false),
         Ok(Given::Held(_)) => Ok(matches!(flush(gateway)?.as_slice(), [(_, Answer::Loaded)])),
@@ -130,30 +136,61 @@ fn is_loaded(gateway: &mut Trials, text: Vec<u8>) -> Result<bool, Fail> {
 }
 
 // The text at the limit is loaded, the other one, which has one thing more, is refused, and the first stays.
-fn keeps_to(alloc: Global, at: &[u8], past: &[u8]) -> Result<bool, Fail> {
-    let mut gateway = fresh(alloc)?;
-    let first = Vec::from_slice(alloc, at)?;
-    let second = Vec::from_slice(alloc, past)?;
-    let is_kept = is_loaded(&mut gateway, first)? && !is_loaded(&mut gateway, second)?;
-    Ok(is_kept && gateway.rules() == at)
+fn keeps_to(alloc: Global, gateway: &mut Trials, at: &[u8], past: &[u8]) -> Result<bool, Fail> {
+    let is_first_loaded = is_loaded(alloc, gateway, at)?;
+    let is_second_loaded = is_loaded(alloc, gateway, past)?;
+    Ok(is_first_loaded && !is_second_loaded && gateway.rules() == at)
 }
 
 fn look(rt: &impl Abort, alloc: Global, at: &str, past: &str) -> Result<(), Fail> {
-    let is_kept = keeps_to(alloc, at.as_bytes(), past.as_bytes())?;
+    let mut gateway = fresh(alloc)?;
+    let is_kept = keeps_to(alloc, &mut gateway, at.as_bytes(), past.as_bytes())?;
     assert!(rt; is_kept, "{} bytes", at.len());
     Ok(())
 }
 
-fn limit_of_lines(
-    rt: &impl Abort,
-    alloc: Global,
-    before: &str,
-    line: &str,
+/// A text of as many lines as there may be.
+struct Lines {
+    before: &'static str,
+    line: &'static str,
     count: u32,
-    behind: &str,
-) -> Result<(), Fail> {
-    let at = repeated(alloc, before, line, count, behind)?;
-    let past = repeated(alloc, before, line, count.saturating_add(1), behind)?;
+    behind: &'static str,
+}
+
+// Rules, elements of a set, and bytes.
+const LIMITS: [Lines; 3] = [
+    Lines {
+        before: "table t { chain c {\n",
+        line: "drop\n",
+        count: 4096,
+        behind: "} }",
+    },
+    Lines {
+        before: "table t { set s { type inet_service; elements = {\n",
+        line: "1,\n",
+        count: 16384,
+        behind: "} } }",
+    },
+    Lines {
+        before: "",
+        line: "\n",
+        count: 262_144,
+        behind: "",
+    },
+];
+
+fn repeated(alloc: Global, lines: &Lines, count: u32) -> Result<String, Fail> {
+    let mut text = String::from_str(alloc, lines.before)?;
+    for _ in 0..count {
+        text.push_str(lines.line)?;
+    }
+    text.push_str(lines.behind)?;
+    Ok(text)
+}
+
+fn limit_of_lines(rt: &impl Abort, alloc: Global, lines: &Lines) -> Result<(), Fail> {
+    let at = repeated(alloc, lines, lines.count)?;
+    let past = repeated(alloc, lines, lines.count.saturating_add(1))?;
     look(rt, alloc, at.as_str(), past.as_str())
 }
 
@@ -169,16 +206,22 @@ fn limit_of_path(rt: &impl Abort, alloc: Global, words: &str, behind: &str) -> R
     look(rt, alloc, at.as_str(), past.as_str())
 }
 
+// The words that lead to a chain, and those behind its name.
+const LEADING: [(&str, &str); 3] = [
+    ("jump", ""),
+    ("goto", ""),
+    ("tcp dport vmap { 1 : jump", " }"),
+];
+
 #[test]
 fn at_the_limits(rt: HostRuntime) -> Result<(), Fail> {
     let alloc = rt.alloc();
-    let rules = "table t { chain c {\n";
-    let elements = "table t { set s { type inet_service; elements = {\n";
-    limit_of_lines(&rt, alloc, rules, "drop\n", 4096, "} }")?;
-    limit_of_lines(&rt, alloc, elements, "1,\n", 16384, "} } }")?;
-    limit_of_lines(&rt, alloc, "", "\n", 262_144, "")?;
+    for lines in &LIMITS {
+        limit_of_lines(&rt, alloc, lines)?;
+    }
     limit_of_chains(&rt, alloc)?;
-    limit_of_path(&rt, alloc, "jump", "")?;
-    limit_of_path(&rt, alloc, "goto", "")?;
-    limit_of_path(&rt, alloc, "tcp dport vmap { 1 : jump", " }")
+    for (words, behind) in &LEADING {
+        limit_of_path(&rt, alloc, words, behind)?;
+    }
+    Ok(())
 }

@@ -84,14 +84,21 @@ fn tick(moment: u64) -> Event {
     Event { moment, what }
 }
 
-// At 1300 all sessions end that began at 1000.
+// The packets from the last to the first. At 1300 all sessions end that began at 1000.
+const OFFERED: [(u64, &[u8; 28]); 4] = [
+    (1300, &NEIGHBOUR),
+    (1000, &HAIRPIN),
+    (1000, &FIRST),
+    (1000, &FIRST),
+];
+
 fn some_events(alloc: Global) -> Option<Vec<Event>> {
-    let rules = load(alloc, 1000, RULES)?;
-    let first = from_lan(alloc, 1000, &FIRST)?;
-    let again = from_lan(alloc, 1000, &FIRST)?;
-    let hairpin = from_lan(alloc, 1000, &HAIRPIN)?;
-    let neighbour = from_lan(alloc, 1300, &NEIGHBOUR)?;
-    vec![in alloc; neighbour, hairpin, again, first, rules].ok()
+    let mut events = Vec::new(alloc);
+    for (moment, packet) in &OFFERED {
+        events.push(from_lan(alloc, *moment, packet)?).ok()?;
+    }
+    events.push(load(alloc, 1000, RULES)?).ok()?;
+    Some(events)
 }
 
 // The second text and the packet change something.
@@ -110,6 +117,13 @@ fn begin(alloc: Global) -> Option<Begun> {
         offered: some_events(alloc)?,
         run: some_run(alloc)?,
     })
+}
+
+fn begin_twice(alloc: Global) -> Option<Begun> {
+    match begin(alloc) {
+        Some(begun) => Some(begun),
+        None => begin(alloc),
+    }
 }
 
 /// Why the calls ended early.
@@ -164,9 +178,16 @@ fn count_sessions(gateway: &Trials) -> Option<usize> {
     Some(gateway.sessions().ok()?.len())
 }
 
+// Counts them, a second time where memory was refused.
+fn count_twice(gateway: &Trials) -> Result<usize, Stop> {
+    match count_sessions(gateway) {
+        Some(count) => Ok(count),
+        None => count_sessions(gateway).ok_or(Stop::Wrong),
+    }
+}
+
 fn expect_sessions(gateway: &Trials, count: usize) -> Result<(), Stop> {
-    let counted = count_sessions(gateway).or_else(|| count_sessions(gateway));
-    must(counted == Some(count))
+    must(count_twice(gateway)? == count)
 }
 
 // Offers it again, where as much has to be held as before.
@@ -269,8 +290,7 @@ fn calls(gateway: &mut Trials, offered: &mut Vec<Event>, events: Vec<Event>) -> 
 // The files open again, and hold no more than was taken.
 fn expect_left(alloc: Global, disk: Trial, all: &mut Vec<Bounds>) -> Result<(), Stop> {
     let gateway = open_twice(alloc, disk, all)?;
-    let counted = count_sessions(&gateway).or_else(|| count_sessions(&gateway));
-    must(counted.is_some_and(|count| count <= 3) && gateway.held() == 0)
+    must(count_twice(&gateway)? <= 3 && gateway.held() == 0)
 }
 
 fn scenario(alloc: Global, begun: Begun) -> Result<(), Stop> {
@@ -290,7 +310,7 @@ fn scenario(alloc: Global, begun: Begun) -> Result<(), Stop> {
 #[test]
 fn each_growth(rt: HostRuntime) -> Result<(), Fail> {
     let alloc = rt.alloc();
-    let begun = begin(alloc).or_else(|| begin(alloc)).ok_or("no memory")?;
+    let begun = begin_twice(alloc).ok_or("no memory")?;
     assert_eq!(rt; scenario(alloc, begun), Ok(()));
     Ok(())
 }

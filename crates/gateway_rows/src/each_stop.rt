@@ -1,12 +1,13 @@
 //! A script that is stopped behind each call of the disk, or in which each call fails once: what is there again is what
 //! the machine in memory has after a beginning of the events that holds every answered one, and so is all that is
 //! answered from there on.
-use crate::script::{compact, flush, offer, play, run};
-use crate::shared::{
-    Answer, Event, GatewayFault, Given, OpenFault, Session, Trials, Trouble, bounds, crashed,
-    disk_of, expect_trouble, machine, open, opened,
+use crate::model::{Lasting, Model, step};
+use crate::script::{offer, play, run};
+use crate::shared::{Answer, Event, Given, Trials, Trouble, crashed, disk_of, machine};
+use crate::told::{
+    Told, begun, do_compact, do_flush, hear, hear_all, not_begun, opened_again, taken,
 };
-use crate::words::{answer_line, event, lasting_line, moved};
+use crate::words::{event, moved};
 use machine::Core;
 use std::alloc::Global;
 use std::process::Abort;
@@ -63,182 +64,78 @@ fn is_event(line: &str) -> bool {
     line != "flush" && line != "compact"
 }
 
-/// What the machine answers to the events of the script, and what must survive before them and after each.
-#[derive(Drop)]
-struct Model {
-    answers: Vec<String>,
-    states: Vec<String>,
-}
-
-// The text and the sessions, without the moments of their last packets.
-fn lasting(alloc: Global, rules: &[u8], sessions: &[Session]) -> Result<String, Fail> {
-    let mut state = String::from_str(alloc, std::str::from_utf8(rules)?)?;
-    for session in sessions {
-        state.push_str(", ")?;
-        state.push_str(lasting_line(alloc, session)?.as_str())?;
-    }
-    Ok(state)
-}
-
-fn state_of(alloc: Global, core: &Core) -> Result<String, Fail> {
-    lasting(alloc, core.rules(), core.sessions()?.as_slice())
-}
-
-fn step(alloc: Global, core: &mut Core, event: Event) -> Result<String, Fail> {
-    match core.step(event) {
-        Ok(answer) => answer_line(alloc, &answer),
-        Err((_, fault)) => Err(fault.into()),
-    }
-}
-
-// Takes one event more.
-fn go_on(alloc: Global, core: &mut Core, model: &mut Model, line: &str) -> Result<(), Fail> {
-    let answer = step(alloc, core, event(alloc, line)?)?;
-    model.answers.push(answer)?;
-    model.states.push(state_of(alloc, core)?)?;
-    Ok(())
-}
-
-fn go_through(alloc: Global, core: &mut Core, model: &mut Model) -> Result<(), Fail> {
-    model.states.push(state_of(alloc, core)?)?;
+fn go_through(alloc: Global, core: &mut Core) -> Result<Model, Fail> {
+    let mut model = Model::begin(alloc, core)?;
     for line in &SCRIPT {
         if is_event(line) {
-            go_on(alloc, core, model, line)?;
+            model.go_on(alloc, core, event(alloc, line)?)?;
         }
     }
-    Ok(())
+    Ok(model)
 }
 
 fn run_of_machine(alloc: Global) -> Result<Model, Fail> {
     let mut core = machine(alloc, 1000)?;
-    let mut model = Model {
-        answers: Vec::new(alloc),
-        states: Vec::new(alloc),
-    };
-    go_through(alloc, &mut core, &mut model)?;
-    Ok(model)
+    go_through(alloc, &mut core)
 }
 
-// The lines of all events of the script, and of those behind it.
-fn all_lines(alloc: Global) -> Result<Vec<&'static str>, Fail> {
-    let mut lines = Vec::new(alloc);
-    for line in SCRIPT.iter().chain(LATER.iter()) {
-        if is_event(line) {
-            lines.push(*line)?;
+// The events of the script and of those behind it, but for the first ones.
+fn events_behind(alloc: Global, taken: usize) -> Result<Vec<Event>, Fail> {
+    let mut events = Vec::new(alloc);
+    let mut left = taken;
+    put_behind(alloc, &mut events, &mut left, &SCRIPT)?;
+    put_behind(alloc, &mut events, &mut left, &LATER)?;
+    Ok(events)
+}
+
+fn put_behind(
+    alloc: Global,
+    events: &mut Vec<Event>,
+    left: &mut usize,
+    lines: &[&str],
+) -> Result<(), Fail> {
+    for line in lines {
+        if !is_event(line) {
+            continue;
+        }
+        if *left == 0 {
+            events.push(event(alloc, line)?)?;
+        }
+        *left = left.saturating_sub(1);
+    }
+    Ok(())
+}
+
+// Takes so many events of the script, each of them at 2000.
+fn take_first(alloc: Global, core: &mut Core, taken: usize) -> Result<(), Fail> {
+    let mut left = taken;
+    for line in &SCRIPT {
+        if is_event(line) && left > 0 {
+            let _ = step(core, moved(event(alloc, line)?, 2000))?;
+            left = left.saturating_sub(1);
         }
     }
-    Ok(lines)
+    Ok(())
 }
 
-// Takes all events, so many of them at 2000, and hears what is answered behind those.
-fn hear_behind(
-    alloc: Global,
-    core: &mut Core,
-    taken: usize,
-    answers: &mut Vec<String>,
-) -> Result<(), Fail> {
-    for (number, line) in all_lines(alloc)?.iter().enumerate() {
-        let event = event(alloc, line)?;
-        if number < taken {
-            let _ = step(alloc, core, moved(event, 2000))?;
-        } else {
-            answers.push(step(alloc, core, event)?)?;
-        }
+fn hear_rest(core: &mut Core, events: Vec<Event>, answers: &mut Vec<Answer>) -> Result<(), Fail> {
+    for event in events {
+        answers.push(step(core, event)?)?;
     }
     Ok(())
 }
 
 // What the machine answers behind so many events, if it was stopped there and begun again at 2000. None of them ends a
 // session, so that at 2000 they lead to the same state.
-fn answers_behind(alloc: Global, taken: usize) -> Result<Vec<String>, Fail> {
+fn answers_behind(alloc: Global, taken: usize) -> Result<Vec<Answer>, Fail> {
     let mut core = machine(alloc, 2000)?;
     let mut answers = Vec::new(alloc);
-    hear_behind(alloc, &mut core, taken, &mut answers)?;
+    take_first(alloc, &mut core, taken)?;
+    hear_rest(&mut core, events_behind(alloc, taken)?, &mut answers)?;
     Ok(answers)
 }
 
-fn events_behind(alloc: Global, taken: usize) -> Result<Vec<Event>, Fail> {
-    let mut events = Vec::new(alloc);
-    for (number, line) in all_lines(alloc)?.iter().enumerate() {
-        if number >= taken {
-            events.push(event(alloc, line)?)?;
-        }
-    }
-    Ok(events)
-}
-
-/// How far a script came.
-#[derive(Clone, Copy, Drop)]
-struct Told {
-    offered: usize,
-    answered: usize,
-    has_fallen: bool,
-}
-
-// The answers come in order, and are the machine's.
-fn hear(
-    alloc: Global,
-    model: &Model,
-    told: &mut Told,
-    number: u64,
-    answer: &Answer,
-) -> Result<(), Fail> {
-    let place = told.answered;
-    told.answered = place.saturating_add(1);
-    let line = answer_line(alloc, answer)?;
-    let wanted = model
-        .answers
-        .as_slice()
-        .get(place)
-        .ok_or("one answer too many")?;
-    if told.answered as u64 != number || line != *wanted {
-        return Err(Fail::new(format_args!("{number}: {line}: {wanted}")));
-    }
-    Ok(())
-}
-
-fn hear_all(
-    alloc: Global,
-    model: &Model,
-    told: &mut Told,
-    answers: &[(u64, Answer)],
-) -> Result<(), Fail> {
-    for (number, answer) in answers {
-        hear(alloc, model, told, *number, answer)?;
-    }
-    Ok(())
-}
-
-fn fall(told: &mut Told, fault: GatewayFault) -> Result<(), Fail> {
-    if fault != GatewayFault::Device {
-        return Err(fault.into());
-    }
-    told.has_fallen = true;
-    Ok(())
-}
-
-fn do_flush(
-    alloc: Global,
-    gateway: &mut Trials,
-    model: &Model,
-    told: &mut Told,
-) -> Result<(), Fail> {
-    match flush(gateway) {
-        Ok(answers) => hear_all(alloc, model, told, answers.as_slice()),
-        Err(fault) => fall(told, fault),
-    }
-}
-
-fn do_compact(gateway: &mut Trials, told: &mut Told) -> Result<(), Fail> {
-    match compact(gateway) {
-        Some(Ok(())) => Ok(()),
-        Some(Err(fault)) => fall(told, fault),
-        None => Err(Fail::new("answers are held")),
-    }
-}
-
 fn do_offer(
-    alloc: Global,
     gateway: &mut Trials,
     model: &Model,
     told: &mut Told,
@@ -246,7 +143,7 @@ fn do_offer(
 ) -> Result<(), Fail> {
     told.offered = told.offered.saturating_add(1);
     match offer(gateway, event) {
-        Ok(Given::Now(number, answer)) => hear(alloc, model, told, number, &answer),
+        Ok(Given::Now(number, answer)) => hear(model.answers.as_slice(), told, number, &answer),
         Ok(Given::Held(_)) => Ok(()),
         Err((_, fault)) => Err(fault.into()),
     }
@@ -260,19 +157,15 @@ fn do_line(
     line: &str,
 ) -> Result<(), Fail> {
     match line {
-        "flush" => do_flush(alloc, gateway, model, told),
+        "flush" => do_flush(model, gateway, told),
         "compact" => do_compact(gateway, told),
-        _ => do_offer(alloc, gateway, model, told, event(alloc, line)?),
+        _ => do_offer(gateway, model, told, event(alloc, line)?),
     }
 }
 
 // Plays the script up to its first fault.
 fn drive(alloc: Global, gateway: &mut Trials, model: &Model) -> Result<Told, Fail> {
-    let mut told = Told {
-        offered: 0,
-        answered: 0,
-        has_fallen: false,
-    };
+    let mut told = not_begun(false);
     for line in &SCRIPT {
         do_line(alloc, gateway, model, &mut told, line)?;
         if told.has_fallen {
@@ -283,35 +176,25 @@ fn drive(alloc: Global, gateway: &mut Trials, model: &Model) -> Result<Told, Fai
     Ok(told)
 }
 
-fn not_opened(disk: Trial, fault: OpenFault) -> Result<(Trial, Told), Fail> {
-    if fault != OpenFault::Device {
-        drop(disk);
-        return Err(fault.into());
-    }
-    let told = Told {
-        offered: 0,
-        answered: 0,
-        has_fallen: true,
-    };
-    Ok((disk, told))
+fn drive_to_its_end(
+    alloc: Global,
+    mut gateway: Trials,
+    model: &Model,
+) -> Result<(Trial, Told), Fail> {
+    let told = drive(alloc, &mut gateway, model)?;
+    Ok((disk_of(gateway), told))
 }
 
-// Opens a gateway over empty files with trouble at a call of the disk, and plays the script.
+// Over files that were empty.
 fn driven(alloc: Global, model: &Model, at: Trouble) -> Result<(Trial, Told), Fail> {
-    let bounds = bounds(alloc, "wan")?;
-    let mut disk = Trial::of(alloc, b"", b"")?;
-    expect_trouble(&mut disk, at, 0);
-    match open(alloc, disk, bounds, 1000) {
-        Ok(mut gateway) => {
-            let told = drive(alloc, &mut gateway, model)?;
-            Ok((disk_of(gateway), told))
-        }
-        Err((disk, fault)) => not_opened(disk, fault),
+    match begun(alloc, at)? {
+        Ok(gateway) => drive_to_its_end(alloc, gateway, model),
+        Err(disk) => Ok((disk, not_begun(true))),
     }
 }
 
-fn began_anew(sessions: &[Session]) -> Result<(), Fail> {
-    for session in sessions {
+fn began_anew(gateway: &Trials) -> Result<(), Fail> {
+    for session in gateway.sessions()?.as_slice() {
         if session.last != 2000 {
             return Err(Fail::new("another moment"));
         }
@@ -319,32 +202,12 @@ fn began_anew(sessions: &[Session]) -> Result<(), Fail> {
     Ok(())
 }
 
-// How many events lead to the state, of those that were offered: at least those that were answered.
-fn taken(model: &Model, told: Told, state: &str) -> Result<usize, Fail> {
-    for count in told.answered..=told.offered {
-        if let Some(wanted) = model.states.as_slice().get(count)
-            && wanted.as_str() == state
-        {
-            return Ok(count);
-        }
-    }
-    Err(Fail::new(format_args!("another state: {state}")))
-}
-
-fn expect_same(
-    alloc: Global,
-    taken: usize,
-    answers: &[(u64, Answer)],
-    wanted: &[String],
-) -> Result<(), Fail> {
-    if answers.len() != wanted.len() {
+// All is answered that the machine answers.
+fn expect_all(wanted: &[Answer], answers: &[(u64, Answer)]) -> Result<(), Fail> {
+    let mut told = not_begun(false);
+    hear_all(wanted, &mut told, answers)?;
+    if told.answered != wanted.len() {
         return Err(Fail::new("another number of answers"));
-    }
-    for ((number, answer), wanted) in answers.iter().zip(wanted.iter()) {
-        let line = answer_line(alloc, answer)?;
-        if line != *wanted {
-            return Err(Fail::new(format_args!("{taken}, {number}: {line}: {wanted}")));
-        }
     }
     Ok(())
 }
@@ -352,27 +215,26 @@ fn expect_same(
 fn goes_on(alloc: Global, gateway: &mut Trials, taken: usize) -> Result<(), Fail> {
     let wanted = answers_behind(alloc, taken)?;
     match run(gateway, events_behind(alloc, taken)?) {
-        Ok(answers) => expect_same(alloc, taken, answers.as_slice(), wanted.as_slice()),
+        Ok(answers) => expect_all(wanted.as_slice(), answers.as_slice()),
         Err((_, fault)) => Err(fault.into()),
     }
 }
 
-// The state of a gateway that was just opened.
-fn left(alloc: Global, gateway: &Trials) -> Result<String, Fail> {
-    let sessions = gateway.sessions()?;
-    began_anew(sessions.as_slice())?;
-    lasting(alloc, gateway.rules(), sessions.as_slice())
+// A gateway that was just opened has the state behind some of the events, and goes on as the machine does.
+fn check_opened(
+    alloc: Global,
+    model: &Model,
+    gateway: &mut Trials,
+    told: Told,
+) -> Result<(), Fail> {
+    began_anew(gateway)?;
+    let left = Lasting::of_gateway(alloc, gateway)?;
+    goes_on(alloc, gateway, taken(model, told, &left)?)
 }
 
 fn check(alloc: Global, model: &Model, disk: Trial, told: Told) -> Result<(), Fail> {
-    if disk.has_strayed() {
-        drop(disk);
-        return Err(Fail::new("it strayed"));
-    }
-    let mut gateway = opened(alloc, disk, 2000)?;
-    let state = left(alloc, &gateway)?;
-    let taken = taken(model, told, state.as_str())?;
-    goes_on(alloc, &mut gateway, taken)
+    let mut gateway = opened_again(alloc, disk, 2000)?;
+    check_opened(alloc, model, &mut gateway, told)
 }
 
 fn stop(rt: &impl Abort, alloc: Global, model: &Model, call: u64, choice: u64) -> Result<(), Fail> {

@@ -1,8 +1,8 @@
 //! What is refused where a file is full or has the greatest generation, and what stays. (That no number is left can't be
 //! shown: 2^64 - 1 events would have to come first.)
 use crate::script::{play, run_through};
-use crate::shared::{FRESH_FRONT, Trials, disk_of, opened, reopened};
-use crate::words::{events, hex, put_hex};
+use crate::shared::{FRESH_FRONT, Trials, assert_file, disk_of, opened, reopened};
+use crate::words::{hex, put_hex};
 use disk_model::FileId;
 use std::alloc::{AllocError, Global};
 use std::process::Abort;
@@ -44,14 +44,11 @@ grown
 // The disk, whose second file is empty.
 fn left(rt: &impl Abort, alloc: Global, gateway: Trials) -> Result<Trial, Fail> {
     let mut disk = disk_of(gateway);
-    match disk.bytes(alloc, FileId::B) {
-        Ok(second) => {
-            assert!(rt; second.is_empty());
-            Ok(disk)
-        }
-        Err(fault) => {
+    match assert_file(rt, alloc, &mut disk, FileId::B, b"") {
+        Ok(()) => Ok(disk),
+        Err(fail) => {
             drop(disk);
-            Err(fault.into())
+            Err(fail)
         }
     }
 }
@@ -184,8 +181,7 @@ const BOTH_ANSWERS: &str = "\
 fn run_makes_room(rt: HostRuntime) -> Result<(), Fail> {
     let alloc = rt.alloc();
     let mut gateway = open_nearly_full(alloc)?;
-    let both = events(alloc, BOTH)?;
-    run_through(alloc, &mut gateway, both, BOTH_ANSWERS)?;
+    run_through(alloc, &mut gateway, BOTH, BOTH_ANSWERS)?;
     play(alloc, &mut gateway, "held\n= 0\ngrown\n= 27")?;
     let mut gateway = reopened(alloc, gateway, 2000)?;
     play(alloc, &mut gateway, ALL_THREE)

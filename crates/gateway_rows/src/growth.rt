@@ -1,10 +1,10 @@
 //! Groups that grow, compaction, and runs of many events.
-use crate::script::{expect, handed, name, play, run, run_through};
+use crate::script::{expect, handed, name, play, run, run_through, two_flushed};
 use crate::shared::{
-    Answer, Event, FRESH_FRONT, MASQUERADE, TWO_FLUSHED, TWO_HELD, Trials, Trouble, calls_of,
-    disk_of, fresh, lost_power, opened, reopened, troubled,
+    Answer, Event, FRESH_FRONT, MASQUERADE, Trials, Trouble, assert_file, calls_of, disk_of, fresh,
+    lost_power, opened, reopened, troubled,
 };
-use crate::words::{event, events, hex, put_hex};
+use crate::words::{event, hex, put_hex};
 use disk_model::FileId;
 use std::alloc::Global;
 use std::process::Abort;
@@ -52,32 +52,36 @@ compact
 grown
 = 0";
 
-fn answered(alloc: Global) -> Result<Trials, Fail> {
-    let mut gateway = fresh(alloc)?;
-    play(alloc, &mut gateway, TWO_HELD)?;
-    play(alloc, &mut gateway, TWO_FLUSHED)?;
-    Ok(gateway)
-}
-
 #[test]
 fn compacted(rt: HostRuntime) -> Result<(), Fail> {
     let alloc = rt.alloc();
     let second = snapshot(alloc, "0000000000000002")?;
     assert_eq!(rt; second.len(), 162);
-    let mut gateway = answered(alloc)?;
+    let mut gateway = two_flushed(alloc)?;
     play(alloc, &mut gateway, COMPACTED)?;
     let mut disk = disk_of(gateway);
     look(&rt, alloc, &mut disk, second.as_slice())?;
     found_again(&rt, alloc, disk, second.as_slice())
 }
 
-// The second file is the snapshot, and the first is as it was.
+// The second file is the snapshot, and the first begins with these bytes. How long the first is.
+fn look_at(
+    rt: &impl Abort,
+    alloc: Global,
+    disk: &mut Trial,
+    front: &[u8],
+    second: &[u8],
+) -> Result<usize, Fail> {
+    assert_file(rt, alloc, disk, FileId::B, second)?;
+    let first = disk.bytes(alloc, FileId::A)?;
+    assert!(rt; first.as_slice().starts_with(front));
+    Ok(first.len())
+}
+
+// The first file is as it was.
 fn look(rt: &impl Abort, alloc: Global, disk: &mut Trial, second: &[u8]) -> Result<(), Fail> {
     let front = hex(alloc, FRESH_FRONT)?;
-    let older = disk.bytes(alloc, FileId::A)?;
-    assert_eq!(rt; disk.bytes(alloc, FileId::B)?.as_slice(), second);
-    assert!(rt; older.as_slice().starts_with(front.as_slice()));
-    assert_eq!(rt; older.len(), 173);
+    assert_eq!(rt; look_at(rt, alloc, disk, front.as_slice(), second)?, 173);
     Ok(())
 }
 
@@ -90,9 +94,7 @@ fn found_again(rt: &impl Abort, alloc: Global, disk: Trial, second: &[u8]) -> Re
 
 fn look_again(rt: &impl Abort, alloc: Global, disk: &mut Trial, second: &[u8]) -> Result<(), Fail> {
     let third = snapshot(alloc, "0000000000000003")?;
-    let newer = disk.bytes(alloc, FileId::A)?;
-    assert_eq!(rt; disk.bytes(alloc, FileId::B)?.as_slice(), second);
-    assert!(rt; newer.as_slice().starts_with(third.as_slice()));
+    let _len = look_at(rt, alloc, disk, third.as_slice(), second)?;
     assert!(rt; !disk.has_strayed());
     Ok(())
 }
@@ -120,9 +122,21 @@ grown
 = 0";
 
 fn failed_compaction(alloc: Global, at: Trouble) -> Result<Trials, Fail> {
-    let mut gateway = troubled(alloc, answered(alloc)?, at)?;
+    let mut gateway = troubled(alloc, two_flushed(alloc)?, at)?;
     play(alloc, &mut gateway, COMPACTION_FAILS)?;
     Ok(gateway)
+}
+
+fn fault(alloc: Global, call: u64) -> Result<(), Fail> {
+    let gateway = failed_compaction(alloc, Trouble::Fault(call))?;
+    let mut gateway = reopened(alloc, gateway, 2000)?;
+    play(alloc, &mut gateway, KEPT)
+}
+
+fn stop(alloc: Global, call: u64, choice: u64) -> Result<(), Fail> {
+    let gateway = failed_compaction(alloc, Trouble::Stop(call))?;
+    let mut gateway = lost_power(alloc, gateway, choice, 2000)?;
+    play(alloc, &mut gateway, KEPT)
 }
 
 // Each of the six calls fails, alone or with all behind it; nothing is lost.
@@ -130,13 +144,9 @@ fn failed_compaction(alloc: Global, at: Trouble) -> Result<Trials, Fail> {
 fn compaction_stops(rt: HostRuntime) -> Result<(), Fail> {
     let alloc = rt.alloc();
     for call in 0..6 {
-        let gateway = failed_compaction(alloc, Trouble::Fault(call))?;
-        let mut gateway = reopened(alloc, gateway, 2000)?;
-        play(alloc, &mut gateway, KEPT)?;
+        fault(alloc, call)?;
         for choice in [0, 1, 2, 3, 5, 10] {
-            let gateway = failed_compaction(alloc, Trouble::Stop(call))?;
-            let mut gateway = lost_power(alloc, gateway, choice, 2000)?;
-            play(alloc, &mut gateway, KEPT)?;
+            stop(alloc, call, choice)?;
         }
     }
     Ok(())
@@ -175,6 +185,18 @@ fn run_loads(
     Ok(end)
 }
 
+fn assert_run(
+    rt: &impl Abort,
+    alloc: Global,
+    gateway: &mut Trials,
+    count: u64,
+    answered: u64,
+    end: &str,
+) -> Result<(), Fail> {
+    assert_eq!(rt; run_loads(alloc, gateway, count, answered)?, end);
+    Ok(())
+}
+
 fn expect_loaded(alloc: Global, answers: &[(u64, Answer)], count: u64) -> Result<(), Fail> {
     let lines = all_loaded(alloc, count)?;
     let said = handed(alloc, answers)?;
@@ -195,7 +217,7 @@ fn run_flushes_at_64(rt: HostRuntime) -> Result<(), Fail> {
     let alloc = rt.alloc();
     let calls = calls_of(fresh(alloc)?);
     let mut gateway = fresh(alloc)?;
-    assert_eq!(rt; run_loads(alloc, &mut gateway, 65, 65)?, "done");
+    assert_run(&rt, alloc, &mut gateway, 65, 65, "done")?;
     play(alloc, &mut gateway, RAN)?;
     assert_eq!(rt; calls_of(gateway), calls.saturating_add(8));
     Ok(())
@@ -209,10 +231,9 @@ at 1001
 = reopen";
 
 fn run_stops(rt: &impl Abort, alloc: Global, gateway: &mut Trials) -> Result<(), Fail> {
-    assert_eq!(rt; run_loads(alloc, gateway, 100, 64)?, "device");
+    assert_run(rt, alloc, gateway, 100, 64, "device")?;
     play(alloc, gateway, RAN_INTO_FAULT)?;
-    assert_eq!(rt; run_loads(alloc, gateway, 1, 0)?, "reopen");
-    Ok(())
+    assert_run(rt, alloc, gateway, 1, 0, "reopen")
 }
 
 // The second flush fails: 64 answers are handed out.
@@ -244,16 +265,22 @@ const MIXED_ANSWERS: &str = "\
 5 refused
 6 drop 13";
 
+const TICKS: &str = "\
+at 1002
+at 1003";
+
+const TICKS_ANSWERS: &str = "\
+7 loaded
+8 ticked
+9 ticked";
+
 // What is held at the entry comes first.
 #[test]
 fn run_in_order(rt: HostRuntime) -> Result<(), Fail> {
     let alloc = rt.alloc();
     let mut gateway = fresh(alloc)?;
-    let mixed = events(alloc, MIXED)?;
-    run_through(alloc, &mut gateway, mixed, MIXED_ANSWERS)?;
+    run_through(alloc, &mut gateway, MIXED, MIXED_ANSWERS)?;
     play(alloc, &mut gateway, "load 1001 table t { }\n= held 7")?;
-    let ticks = events(alloc, "at 1002\nat 1003")?;
-    let answers = "7 loaded\n8 ticked\n9 ticked";
-    run_through(alloc, &mut gateway, ticks, answers)?;
+    run_through(alloc, &mut gateway, TICKS, TICKS_ANSWERS)?;
     play(alloc, &mut gateway, "held\n= 0\ngrown\n= 154")
 }

@@ -1,8 +1,8 @@
 //! Which answers are held, what a flush writes and hands out, and how many are held at the most.
-use crate::script::play;
+use crate::script::{fresh_behind, play, two_flushed};
 use crate::shared::{
-    FRESH_FRONT, MASQUERADE, THIRD_HELD, THREE_FLUSHED, TWO_FLUSHED, TWO_HELD, Trials, disk_of,
-    fresh,
+    FRESH_FRONT, MASQUERADE, THIRD_HELD, THREE_FLUSHED, TWO_FLUSHED, TWO_HELD, Trials, assert_file,
+    disk_of, fresh,
 };
 use crate::words::put_hex;
 use disk_model::FileId;
@@ -28,18 +28,10 @@ fn look(rt: &impl Abort, alloc: Global, gateway: Trials, a: &[u8]) -> Result<u64
 }
 
 fn look_at(rt: &impl Abort, alloc: Global, disk: &mut Trial, a: &[u8]) -> Result<u64, Fail> {
-    assert_eq!(rt; disk.bytes(alloc, FileId::A)?.as_slice(), a);
-    assert!(rt; disk.bytes(alloc, FileId::B)?.is_empty());
+    assert_file(rt, alloc, disk, FileId::A, a)?;
+    assert_file(rt, alloc, disk, FileId::B, b"")?;
     assert!(rt; !disk.has_strayed());
     Ok(disk.calls())
-}
-
-// Empty files, and two events.
-fn two_flushed(alloc: Global) -> Result<Trials, Fail> {
-    let mut gateway = fresh(alloc)?;
-    play(alloc, &mut gateway, TWO_HELD)?;
-    play(alloc, &mut gateway, TWO_FLUSHED)?;
-    Ok(gateway)
 }
 
 const COUNTS_HELD: &str = "\
@@ -60,10 +52,7 @@ fn held_rows(rt: HostRuntime) -> Result<(), Fail> {
     let alloc = rt.alloc();
     let file = one_group(alloc)?;
     assert_eq!(rt; file.len(), 173);
-    let mut gateway = fresh(alloc)?;
-    for lines in [TWO_HELD, COUNTS_HELD, TWO_FLUSHED, COUNTS_FLUSHED] {
-        play(alloc, &mut gateway, lines)?;
-    }
+    let gateway = fresh_behind(alloc, &[TWO_HELD, COUNTS_HELD, TWO_FLUSHED, COUNTS_FLUSHED])?;
     let _calls = look(&rt, alloc, gateway, file.as_slice())?;
     Ok(())
 }
@@ -71,10 +60,7 @@ fn held_rows(rt: HostRuntime) -> Result<(), Fail> {
 #[test]
 fn third_joins(rt: HostRuntime) -> Result<(), Fail> {
     let alloc = rt.alloc();
-    let mut gateway = fresh(alloc)?;
-    for lines in [TWO_HELD, THIRD_HELD, THREE_FLUSHED] {
-        play(alloc, &mut gateway, lines)?;
-    }
+    drop(fresh_behind(alloc, &[TWO_HELD, THIRD_HELD, THREE_FLUSHED])?);
     Ok(())
 }
 

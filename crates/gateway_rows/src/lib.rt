@@ -3,6 +3,7 @@
 //!
 //! - `shared`: the gateway, and lines that several tests begin with;
 //! - `words`: events, answers and sessions as lines of text; `script`: lines that are played;
+//! - `model`: what the machine in memory makes of events; `told`: how far a gateway comes that is stopped;
 //! - `held_rows`: answers that are held; `opening`: what an opening finds; `stop_rows`: losses of power in a flush;
 //!   `faults`: each refusal, and what stays; `growth`: compaction, and runs; `each_stop`: a long script, stopped or failing
 //!   at each call of the disk; `each_growth`: memory that is refused; `each_cut`: texts that are cut, and texts at a limit;
@@ -27,6 +28,8 @@ mod growth;
 #[cfg(test)]
 mod held_rows;
 #[cfg(test)]
+mod model;
+#[cfg(test)]
 mod opening;
 #[cfg(test)]
 mod script;
@@ -34,5 +37,7 @@ mod script;
 mod shared;
 #[cfg(test)]
 mod stop_rows;
+#[cfg(test)]
+mod told;
 #[cfg(test)]
 mod words;

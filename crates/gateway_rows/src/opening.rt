@@ -1,8 +1,8 @@
 //! What an opening finds, makes and refuses.
-use crate::script::play;
+use crate::script::{play, two_flushed};
 use crate::shared::{
-    FRESH, NOTHING, OpenFault, TWO_FLUSHED, TWO_HELD, Trials, Trouble, bounds, crashed, disk_of,
-    expect_trouble, fresh, open, opened,
+    FRESH, NOTHING, OpenFault, Trouble, assert_file, bounds, crashed, disk_of, expect_trouble,
+    open, opened,
 };
 use crate::words::hex;
 use disk_model::{Disk, FileId};
@@ -13,8 +13,8 @@ use trial_disk::Trial;
 
 // Looks at the bytes of both files, and whether each call was within its file.
 fn look(rt: &impl Abort, alloc: Global, disk: &mut Trial, a: &[u8], b: &[u8]) -> Result<(), Fail> {
-    assert_eq!(rt; disk.bytes(alloc, FileId::A)?.as_slice(), a);
-    assert_eq!(rt; disk.bytes(alloc, FileId::B)?.as_slice(), b);
+    assert_file(rt, alloc, disk, FileId::A, a)?;
+    assert_file(rt, alloc, disk, FileId::B, b)?;
     assert!(rt; !disk.has_strayed());
     Ok(())
 }
@@ -31,19 +31,17 @@ at 1001
 = now 1 ticked";
 
 // Opens it over these files: there is no state, and file A is made.
-fn begins(rt: &impl Abort, alloc: Global, a: &str, b: &str) -> Result<(), Fail> {
-    let (a, b) = (hex(alloc, a)?, hex(alloc, b)?);
-    let disk = Trial::of(alloc, a.as_slice(), b.as_slice())?;
-    let mut gateway = opened(alloc, disk, 1000)?;
-    play(alloc, &mut gateway, NOTHING_YET)?;
+fn begins(rt: &impl Abort, alloc: Global, a: &[u8], b: &[u8]) -> Result<(), Fail> {
     let made = hex(alloc, FRESH)?;
-    look(
-        rt,
-        alloc,
-        &mut disk_of(gateway),
-        made.as_slice(),
-        b.as_slice(),
-    )
+    let mut gateway = opened(alloc, Trial::of(alloc, a, b)?, 1000)?;
+    play(alloc, &mut gateway, NOTHING_YET)?;
+    look(rt, alloc, &mut disk_of(gateway), made.as_slice(), b)
+}
+
+fn begins_over(rt: &impl Abort, alloc: Global, a: &str, b: &str) -> Result<(), Fail> {
+    let a = hex(alloc, a)?;
+    let b = hex(alloc, b)?;
+    begins(rt, alloc, a.as_slice(), b.as_slice())
 }
 
 // A gate that is neither 00 nor 01 is closed too.
@@ -61,17 +59,14 @@ fn no_open_file(rt: HostRuntime) -> Result<(), Fail> {
         ("ff", "ff"),
     ];
     for (a, b) in rows {
-        begins(&rt, alloc, a, b)?;
+        begins_over(&rt, alloc, a, b)?;
     }
     Ok(())
 }
 
 // An active file of generation 1 whose text and session stand in a group, and one of generation 2 with other rules.
 fn grown_file(alloc: Global) -> Result<Vec<u8>, Fail> {
-    let mut gateway = fresh(alloc)?;
-    play(alloc, &mut gateway, TWO_HELD)?;
-    play(alloc, &mut gateway, TWO_FLUSHED)?;
-    let mut disk = disk_of(gateway);
+    let mut disk = disk_of(two_flushed(alloc)?);
     let file = disk.bytes(alloc, FileId::A);
     drop(disk);
     Ok(file?)
@@ -141,16 +136,17 @@ fn refuses(
     }
 }
 
+fn assert_differs(rt: &impl Abort, alloc: Global, file: &[u8]) -> Result<(), Fail> {
+    let fault = refuses(rt, alloc, "wan1", file, b"")?;
+    assert_eq!(rt; fault, OpenFault::ConfigDiffers);
+    Ok(())
+}
+
 #[test]
 fn config_differs(rt: HostRuntime) -> Result<(), Fail> {
     let alloc = rt.alloc();
-    let grown = grown_file(alloc)?;
-    let fresh = hex(alloc, FRESH)?;
-    for file in [grown.as_slice(), fresh.as_slice()] {
-        let fault = refuses(&rt, alloc, "wan1", file, b"")?;
-        assert_eq!(rt; fault, OpenFault::ConfigDiffers);
-    }
-    Ok(())
+    assert_differs(&rt, alloc, grown_file(alloc)?.as_slice())?;
+    assert_differs(&rt, alloc, hex(alloc, FRESH)?.as_slice())
 }
 
 // Another mark; no snapshot; more sessions than there are; a text that doesn't load; a group that is cut; one without the
@@ -167,11 +163,20 @@ const DAMAGED: [&str; 8] = [
 ];
 
 // It is judged by its own configuration alone.
-fn assert_damaged(rt: &impl Abort, alloc: Global, row: usize, file: &[u8]) -> Result<(), Fail> {
+fn assert_damaged(rt: &impl Abort, alloc: Global, row: usize, file: &str) -> Result<(), Fail> {
+    let file = hex(alloc, file)?;
     for wan in ["wan", "wan1"] {
-        let fault = refuses(rt, alloc, wan, file, b"")?;
+        let fault = refuses(rt, alloc, wan, file.as_slice(), b"")?;
         assert_eq!(rt; fault, OpenFault::Damaged, "row {row}");
     }
+    Ok(())
+}
+
+// Two files are open, of the same generation.
+fn assert_twice_is_damaged(rt: &impl Abort, alloc: Global) -> Result<(), Fail> {
+    let file = hex(alloc, FRESH)?;
+    let fault = refuses(rt, alloc, "wan", file.as_slice(), file.as_slice())?;
+    assert_eq!(rt; fault, OpenFault::Damaged);
     Ok(())
 }
 
@@ -179,13 +184,9 @@ fn assert_damaged(rt: &impl Abort, alloc: Global, row: usize, file: &[u8]) -> Re
 fn damaged(rt: HostRuntime) -> Result<(), Fail> {
     let alloc = rt.alloc();
     for (row, file) in DAMAGED.iter().enumerate() {
-        let file = hex(alloc, file)?;
-        assert_damaged(&rt, alloc, row, file.as_slice())?;
+        assert_damaged(&rt, alloc, row, file)?;
     }
-    let twice = hex(alloc, FRESH)?;
-    let fault = refuses(&rt, alloc, "wan", twice.as_slice(), twice.as_slice())?;
-    assert_eq!(rt; fault, OpenFault::Damaged);
-    Ok(())
+    assert_twice_is_damaged(&rt, alloc)
 }
 
 // The words for a trouble, with its call.
@@ -269,17 +270,26 @@ fn stop(
     play(alloc, &mut gateway, state)
 }
 
+// Behind each call of an opening, and each choice of what is left.
+fn stop_each(
+    rt: &impl Abort,
+    alloc: Global,
+    file: &[u8],
+    state: &str,
+    calls: u64,
+) -> Result<(), Fail> {
+    for choice in [0, 1, 2, 3, 5, 10] {
+        for calls in 0..=calls {
+            stop(rt, alloc, file, state, calls, choice)?;
+        }
+    }
+    Ok(())
+}
+
 #[test]
 fn power_is_lost(rt: HostRuntime) -> Result<(), Fail> {
     let alloc = rt.alloc();
     let file = grown_file(alloc)?;
-    for choice in [0, 1, 2, 3, 5, 10] {
-        for calls in 0..=12 {
-            stop(&rt, alloc, b"", NOTHING, calls, choice)?;
-        }
-        for calls in 0..=6 {
-            stop(&rt, alloc, file.as_slice(), ANSWERED, calls, choice)?;
-        }
-    }
-    Ok(())
+    stop_each(&rt, alloc, b"", NOTHING, 12)?;
+    stop_each(&rt, alloc, file.as_slice(), ANSWERED, 6)
 }

@@ -7,8 +7,10 @@
 //!   as it was;
 //! - `flush`: a line for each answer with its number, or the fault; `compact`: `done`, or the fault;
 //! - `held`, `grown`: the number; `rules`: the text; `sessions`: a line for each.
-use crate::shared::{Answer, Bytes, Event, GatewayFault, Given, Iface, Trials, What};
-use crate::words::{event, event_line, given_line, handed_line, session_line, squeezed};
+use crate::shared::{
+    Answer, Bytes, Event, GatewayFault, Given, TWO_FLUSHED, TWO_HELD, Trials, What, fresh,
+};
+use crate::words::{event, event_line, events, given_line, handed_line, session_line, squeezed};
 use std::alloc::Global;
 use std::test::Fail;
 
@@ -65,14 +67,14 @@ fn number(alloc: Global, number: u64) -> Result<Vec<String>, Fail> {
     one(alloc, format!(in alloc; "{number}")?)
 }
 
-/// Takes the events in turn, which are all answered, and expects these lines of their answers.
+/// Takes the events of these lines in turn, which are all answered, and expects those lines of their answers.
 pub fn run_through(
     alloc: Global,
     gateway: &mut Trials,
-    events: Vec<Event>,
+    asked: &str,
     lines: &str,
 ) -> Result<(), Fail> {
-    match run(gateway, events) {
+    match run(gateway, events(alloc, asked)?) {
         Ok(answers) => expect(alloc, handed(alloc, answers.as_slice())?.as_slice(), lines),
         Err((_, fault)) => Err(fault.into()),
     }
@@ -111,14 +113,20 @@ fn ask_event(alloc: Global, gateway: &mut Trials, line: &str) -> Result<Vec<Stri
     }
 }
 
-/// Hands a packet in where it lies.
-fn forward(
-    gateway: &mut Trials,
-    moment: u64,
-    iface: Iface,
-    packet: &mut [u8],
-) -> Option<(u64, Iface)> {
-    gateway.forward(moment, iface, packet)
+/// Hands a packet in where it lies. It leaves there, or comes back as an event; so does any other event.
+pub fn forward(gateway: &mut Trials, event: Event) -> Result<(u64, Answer), Event> {
+    let Event { moment, what } = event;
+    let What::Packet(iface, packet) = what else {
+        return Err(Event { moment, what });
+    };
+    let mut bytes = packet.into_vec();
+    match gateway.forward(moment, iface, &mut bytes) {
+        Some((number, out)) => Ok((number, Answer::Forward(out, Bytes::of(bytes)))),
+        None => Err(Event {
+            moment,
+            what: What::Packet(iface, Bytes::of(bytes)),
+        }),
+    }
 }
 
 fn stays(alloc: Global, event: &Event, line: &str) -> Result<Vec<String>, Fail> {
@@ -129,20 +137,13 @@ fn stays(alloc: Global, event: &Event, line: &str) -> Result<Vec<String>, Fail> 
 }
 
 fn ask_forward(alloc: Global, gateway: &mut Trials, line: &str) -> Result<Vec<String>, Fail> {
-    let Event { moment, what } = event(alloc, line)?;
-    let What::Packet(iface, packet) = what else {
+    let event = event(alloc, line)?;
+    if !matches!(&event.what, What::Packet(..)) {
         return Err(Fail::new("forward: no packet"));
-    };
-    let mut bytes = packet.into_vec();
-    match forward(gateway, moment, iface, &mut bytes) {
-        Some((number, out)) => {
-            let answer = Answer::Forward(out, Bytes::of(bytes));
-            one(alloc, handed_line(alloc, number, &answer)?)
-        }
-        None => {
-            let what = What::Packet(iface, Bytes::of(bytes));
-            stays(alloc, &Event { moment, what }, line)
-        }
+    }
+    match forward(gateway, event) {
+        Ok((number, answer)) => one(alloc, handed_line(alloc, number, &answer)?),
+        Err(event) => stays(alloc, &event, line),
     }
 }
 
@@ -249,6 +250,26 @@ pub fn play(alloc: Global, gateway: &mut Trials, lines: &str) -> Result<(), Fail
         }
     }
     said.end()
+}
+
+/// Plays the lines of each of these.
+pub fn play_all(alloc: Global, gateway: &mut Trials, scripts: &[&str]) -> Result<(), Fail> {
+    for lines in scripts {
+        play(alloc, gateway, lines)?;
+    }
+    Ok(())
+}
+
+/// A gateway over files that were empty, over which these were played.
+pub fn fresh_behind(alloc: Global, scripts: &[&str]) -> Result<Trials, Fail> {
+    let mut gateway = fresh(alloc)?;
+    play_all(alloc, &mut gateway, scripts)?;
+    Ok(gateway)
+}
+
+/// A gateway with a text and a session, of which both events are answered.
+pub fn two_flushed(alloc: Global) -> Result<Trials, Fail> {
+    fresh_behind(alloc, &[TWO_HELD, TWO_FLUSHED])
 }
 
 /// Expects these lines.

@@ -1,4 +1,5 @@
 //! The gateway, and what several tests begin with.
+use disk_model::FileId;
 pub use gateway::{
     Answer, Bytes, Event, Gateway, GatewayFault, Given, Iface, OpenFault, Session, What,
 };
@@ -6,6 +7,7 @@ use machine::Core;
 use packet::bounds::Bounds;
 use packet::endpoint::Prefix;
 use std::alloc::Global;
+use std::process::Abort;
 use std::test::Fail;
 use trial_disk::Trial;
 
@@ -71,6 +73,19 @@ pub fn bounds(alloc: Global, wan: &str) -> Result<Bounds, Fail> {
 pub fn machine(alloc: Global, moment: u64) -> Result<Box<Core>, Fail> {
     let core = Core::start(alloc, bounds(alloc, "wan")?, moment)?;
     Ok(Box::new(alloc, core)?)
+}
+
+/// A file of the disk has these bytes.
+pub fn assert_file(
+    rt: &impl Abort,
+    alloc: Global,
+    disk: &mut Trial,
+    id: FileId,
+    bytes: &[u8],
+) -> Result<(), Fail> {
+    let file = disk.bytes(alloc, id)?;
+    assert_eq!(rt; file.as_slice(), bytes);
+    Ok(())
 }
 
 /// Opens a gateway over the disk, which may be refused.

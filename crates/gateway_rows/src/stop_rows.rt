@@ -1,5 +1,5 @@
 //! What is there again after a loss of power at each call of a flush, after a call that fails, and after a long time.
-use crate::script::{expect, handed, name, play, run};
+use crate::script::{expect, handed, name, play, play_all, run, two_flushed};
 use crate::shared::{
     NOTHING, THIRD_HELD, THREE_FLUSHED, TWO_FLUSHED, TWO_HELD, Trials, Trouble, fresh, lost_power,
     reopened, troubled,
@@ -26,9 +26,7 @@ held
 // Behind each of these calls the power is lost: the group is written, and synced; its gate is written, and synced.
 fn stopped_flush(alloc: Global, call: u64, flushed: &str) -> Result<Trials, Fail> {
     let mut gateway = troubled(alloc, fresh(alloc)?, Trouble::Stop(call))?;
-    play(alloc, &mut gateway, TWO_HELD)?;
-    play(alloc, &mut gateway, THIRD_HELD)?;
-    play(alloc, &mut gateway, flushed)?;
+    play_all(alloc, &mut gateway, &[TWO_HELD, THIRD_HELD, flushed])?;
     Ok(gateway)
 }
 
@@ -115,9 +113,11 @@ fn expect_name(came: &str, wanted: &str) -> Result<(), Fail> {
 // Two events are answered, and a call of the flush of the third fails; the first flush made four calls.
 fn fallen(alloc: Global, call: u64) -> Result<Trials, Fail> {
     let mut gateway = troubled(alloc, fresh(alloc)?, Trouble::Fault(call.saturating_add(4)))?;
-    for lines in [TWO_HELD, TWO_FLUSHED, ONE_HELD, FALLEN] {
-        play(alloc, &mut gateway, lines)?;
-    }
+    play_all(
+        alloc,
+        &mut gateway,
+        &[TWO_HELD, TWO_FLUSHED, ONE_HELD, FALLEN],
+    )?;
     run_is_refused(alloc, &mut gateway)?;
     Ok(gateway)
 }
@@ -163,11 +163,9 @@ wan 1550 4500001c00010000 40111494 c6336407 cb007101 00351388 000885e4
 flush
 = 1 drop 13";
 
-fn answered(alloc: Global) -> Result<Trials, Fail> {
-    let mut gateway = fresh(alloc)?;
-    play(alloc, &mut gateway, TWO_HELD)?;
-    play(alloc, &mut gateway, TWO_FLUSHED)?;
-    Ok(gateway)
+fn restart(alloc: Global, choice: u64, lines: &str) -> Result<(), Fail> {
+    let mut gateway = lost_power(alloc, two_flushed(alloc)?, choice, 1250)?;
+    play(alloc, &mut gateway, lines)
 }
 
 #[test]
@@ -175,19 +173,21 @@ fn restarted(rt: HostRuntime) -> Result<(), Fail> {
     let alloc = rt.alloc();
     for choice in 0..4 {
         for lines in [ALIVE, REPLY_IN_TIME, REPLY_TOO_LATE] {
-            let mut gateway = lost_power(alloc, answered(alloc)?, choice, 1250)?;
-            play(alloc, &mut gateway, lines)?;
+            restart(alloc, choice, lines)?;
         }
     }
     Ok(())
 }
 
+fn last_at(alloc: Global, moment: u64) -> Result<String, Fail> {
+    let session = "udp 192.168.1.2:5000 203.0.113.1:5000 198.51.100.7:53 inside 0";
+    Ok(format!(in alloc; "sessions\n= {session} at {moment}")?)
+}
+
 // Its last packet is taken to have passed when the gateway was opened, however long ago it did.
 fn resumes(alloc: Global, moment: u64) -> Result<(), Fail> {
-    let mut gateway = reopened(alloc, answered(alloc)?, moment)?;
-    let lines = format!(in alloc;
-        "sessions\n= udp 192.168.1.2:5000 203.0.113.1:5000 198.51.100.7:53 inside 0 at {moment}"
-    )?;
+    let lines = last_at(alloc, moment)?;
+    let mut gateway = reopened(alloc, two_flushed(alloc)?, moment)?;
     play(alloc, &mut gateway, lines.as_str())
 }
 

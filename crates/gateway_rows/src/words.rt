@@ -197,20 +197,13 @@ fn endpoint(alloc: Global, endpoint: Endpoint) -> Result<String, Fail> {
     Ok(format!(in alloc; "{addr}:{}", endpoint.port)?)
 }
 
-/// The line of a session but for the moment of its last packet.
-pub fn lasting_line(alloc: Global, session: &Session) -> Result<String, Fail> {
+/// The line of a session.
+pub fn session_line(alloc: Global, session: &Session) -> Result<String, Fail> {
     let proto = proto(session.proto);
     let inside = endpoint(alloc, session.inside)?;
     let outside = endpoint(alloc, session.outside)?;
     let remote = endpoint(alloc, session.remote)?;
     let opener = opener(session.opener);
-    let seen = session.seen;
-    Ok(format!(in alloc; "{proto} {inside} {outside} {remote} {opener} {seen}")?)
-}
-
-/// The line of a session.
-pub fn session_line(alloc: Global, session: &Session) -> Result<String, Fail> {
-    let lasting = lasting_line(alloc, session)?;
-    let last = session.last;
-    Ok(format!(in alloc; "{lasting} at {last}")?)
+    let (seen, last) = (session.seen, session.last);
+    Ok(format!(in alloc; "{proto} {inside} {outside} {remote} {opener} {seen} at {last}")?)
 }

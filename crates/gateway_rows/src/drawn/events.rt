@@ -47,7 +47,7 @@ pub fn numbers(alloc: Global, seed: u64) -> Result<Vec<Number>, Fail> {
 }
 
 /// A flush comes behind one event of four, and a compaction behind one of sixteen flushes.
-pub fn behind(number: Number) -> Next {
+pub fn behind(number: &Number) -> Next {
     match number[6] {
         0..4 => Next::Compact,
         4..64 => Next::Flush,
@@ -56,7 +56,7 @@ pub fn behind(number: Number) -> Next {
 }
 
 /// The event at this place that a number stands for. Moments lie eight seconds apart, and some of them back.
-pub fn event(alloc: Global, place: usize, number: Number) -> Result<Event, Fail> {
+pub fn event(alloc: Global, place: usize, number: &Number) -> Result<Event, Fail> {
     let back = u64::from(number[5] % 32);
     let moment = (place as u64).saturating_mul(8).saturating_add(1000);
     let what = what(alloc, number)?;
@@ -66,7 +66,7 @@ pub fn event(alloc: Global, place: usize, number: Number) -> Result<Event, Fail>
     })
 }
 
-fn what(alloc: Global, number: Number) -> Result<What, Fail> {
+fn what(alloc: Global, number: &Number) -> Result<What, Fail> {
     let flags = flags(number);
     match number[0] {
         0..8 => load(alloc, number),
@@ -88,7 +88,7 @@ fn from_wan(packet: Bytes) -> Result<What, Fail> {
     Ok(What::Packet(Iface::Wan, packet))
 }
 
-fn text(number: Number) -> &'static str {
+fn text(number: &Number) -> &'static str {
     match number[1] {
         0..112 => MASQUERADE,
         112..176 => FILTER,
@@ -97,7 +97,7 @@ fn text(number: Number) -> &'static str {
     }
 }
 
-fn load(alloc: Global, number: Number) -> Result<What, Fail> {
+fn load(alloc: Global, number: &Number) -> Result<What, Fail> {
     let text = Vec::from_slice(alloc, text(number).as_bytes())?;
     if text.len() > 65_535 {
         return Err(Fail::new("too long a text"));
@@ -105,12 +105,12 @@ fn load(alloc: Global, number: Number) -> Result<What, Fail> {
     Ok(What::Load(Bytes::of(text)))
 }
 
-fn flags(number: Number) -> u8 {
+fn flags(number: &Number) -> u8 {
     FLAGS.get(usize::from(number[4] % 8)).copied().unwrap_or(0)
 }
 
 // One of four hosts inside, and one of two ports.
-fn host(number: Number) -> Peer {
+fn host(number: &Number) -> Peer {
     Peer {
         high: 0xc0a8,
         low: 0x0102 + u16::from(number[1] % 4),
@@ -119,7 +119,7 @@ fn host(number: Number) -> Peer {
 }
 
 // One of two hosts, and one of two ports.
-fn remote(number: Number) -> Peer {
+fn remote(number: &Number) -> Peer {
     Peer {
         high: 0xc633,
         low: 0x6407 + 2 * u16::from(number[3] / 2 % 2),
@@ -128,7 +128,7 @@ fn remote(number: Number) -> Peer {
 }
 
 // The external address, with a port that a session may have.
-fn outer(number: Number) -> Peer {
+fn outer(number: &Number) -> Peer {
     Peer {
         high: 0xcb00,
         low: 0x7101,
@@ -137,7 +137,7 @@ fn outer(number: Number) -> Peer {
 }
 
 // A remote host sends there, or to a host as it is.
-fn inner(number: Number) -> Peer {
+fn inner(number: &Number) -> Peer {
     if number[7] < 192 {
         outer(number)
     } else {

@@ -1,11 +1,10 @@
 //! The gateway over a disk that is stopped, or fails, at each of its calls, and opened again.
 use crate::drawn::events::{EVENTS, Next, Number, behind, event, numbers};
-use crate::drawn::model::{Lasting, Model, is_same, run_of_machine};
-use crate::script::{compact, flush};
-use crate::shared::{
-    Answer, Bytes, Event, GatewayFault, Given, OpenFault, Trials, Trouble, What, bounds, crashed,
-    disk_of, expect_trouble, open, opened,
-};
+use crate::model::{Lasting, Model};
+use crate::script::{forward, offer};
+use crate::shared::{Event, Given, Trials, Trouble, crashed, disk_of, machine};
+use crate::told::{Told, begun, do_compact, do_flush, hear, not_begun, opened_again, taken};
+use machine::Core;
 use std::alloc::Global;
 use std::test::*;
 use trial_disk::Trial;
@@ -17,65 +16,22 @@ struct Script {
     model: Model,
 }
 
-/// How far the events came.
-#[derive(Clone, Copy, Drop)]
-struct Told {
-    offered: usize,
-    answered: usize,
-    has_fallen: bool,
+fn go_through(alloc: Global, core: &mut Core, numbers: &[Number]) -> Result<Model, Fail> {
+    let mut model = Model::begin(alloc, core)?;
+    for (place, number) in numbers.iter().enumerate() {
+        model.go_on(alloc, core, event(alloc, place, number)?)?;
+    }
+    Ok(model)
 }
 
 fn script_of(alloc: Global, seed: u64) -> Result<Script, Fail> {
     let numbers = numbers(alloc, seed)?;
-    let model = run_of_machine(alloc, numbers.as_slice())?;
+    let mut core = machine(alloc, 1000)?;
+    let model = go_through(alloc, &mut core, numbers.as_slice())?;
     Ok(Script { numbers, model })
 }
 
-fn offer(gateway: &mut Trials, event: Event) -> Result<Given, GatewayFault> {
-    gateway.offer(event).map_err(|(_, fault)| fault)
-}
-
-// A packet is handed in where it lies first. It leaves there, or comes back as an event that is to be offered.
-fn forward(gateway: &mut Trials, event: Event) -> Result<(u64, Answer), Event> {
-    let Event { moment, what } = event;
-    let What::Packet(iface, packet) = what else {
-        return Err(Event { moment, what });
-    };
-    let mut bytes = packet.into_vec();
-    match gateway.forward(moment, iface, &mut bytes) {
-        Some((number, out)) => Ok((number, Answer::Forward(out, Bytes::of(bytes)))),
-        None => Err(Event {
-            moment,
-            what: What::Packet(iface, Bytes::of(bytes)),
-        }),
-    }
-}
-
-// The answers come in order, and are the machine's.
-fn hear(model: &Model, told: &mut Told, number: u64, answer: &Answer) -> Result<(), Fail> {
-    let place = told.answered;
-    told.answered = place.saturating_add(1);
-    match model.answers.as_slice().get(place) {
-        Some(wanted) if told.answered as u64 == number && is_same(answer, wanted) => Ok(()),
-        _ => Err(Fail::new(format_args!("another answer: {number}"))),
-    }
-}
-
-fn hear_all(model: &Model, told: &mut Told, answers: &[(u64, Answer)]) -> Result<(), Fail> {
-    for (number, answer) in answers {
-        hear(model, told, *number, answer)?;
-    }
-    Ok(())
-}
-
-fn fall(told: &mut Told, fault: GatewayFault) -> Result<(), Fail> {
-    if fault != GatewayFault::Device {
-        return Err(fault.into());
-    }
-    told.has_fallen = true;
-    Ok(())
-}
-
+// A packet is handed in where it lies first.
 fn do_offer(
     model: &Model,
     gateway: &mut Trials,
@@ -84,29 +40,12 @@ fn do_offer(
 ) -> Result<(), Fail> {
     told.offered = told.offered.saturating_add(1);
     match forward(gateway, event) {
-        Ok((number, answer)) => hear(model, told, number, &answer),
-        Err(event) => match offer(gateway, event)? {
-            Given::Now(number, answer) => hear(model, told, number, &answer),
-            Given::Held(_) => Ok(()),
+        Ok((number, answer)) => hear(model.answers.as_slice(), told, number, &answer),
+        Err(event) => match offer(gateway, event) {
+            Ok(Given::Now(number, answer)) => hear(model.answers.as_slice(), told, number, &answer),
+            Ok(Given::Held(_)) => Ok(()),
+            Err((_, fault)) => Err(fault.into()),
         },
-    }
-}
-
-fn do_flush(model: &Model, gateway: &mut Trials, told: &mut Told) -> Result<(), Fail> {
-    match flush(gateway) {
-        Ok(answers) => hear_all(model, told, answers.as_slice()),
-        Err(fault) => fall(told, fault),
-    }
-}
-
-fn do_compact(gateway: &mut Trials, told: &mut Told) -> Result<(), Fail> {
-    if told.has_fallen {
-        return Ok(());
-    }
-    match compact(gateway) {
-        Some(Ok(())) => Ok(()),
-        Some(Err(fault)) => fall(told, fault),
-        None => Err(Fail::new("answers are held")),
     }
 }
 
@@ -114,7 +53,7 @@ fn go_behind(
     model: &Model,
     gateway: &mut Trials,
     told: &mut Told,
-    number: Number,
+    number: &Number,
 ) -> Result<(), Fail> {
     match behind(number) {
         Next::Nothing => Ok(()),
@@ -130,63 +69,41 @@ fn go_behind(
 fn drive(alloc: Global, gateway: &mut Trials, script: &Script) -> Result<Told, Fail> {
     let mut told = not_begun(false);
     for (place, number) in script.numbers.iter().enumerate() {
-        let event = event(alloc, place, *number)?;
+        let event = event(alloc, place, number)?;
         do_offer(&script.model, gateway, &mut told, event)?;
-        go_behind(&script.model, gateway, &mut told, *number)?;
+        go_behind(&script.model, gateway, &mut told, number)?;
         if told.has_fallen {
             return Ok(told);
         }
     }
     do_flush(&script.model, gateway, &mut told)?;
+    if !told.has_fallen && told.answered != EVENTS {
+        return Err(Fail::new("it ended early"));
+    }
     Ok(told)
 }
 
-fn not_begun(has_fallen: bool) -> Told {
-    Told {
-        offered: 0,
-        answered: 0,
-        has_fallen,
-    }
-}
-
-fn not_opened(disk: Trial, fault: OpenFault) -> Result<(Trial, Told), Fail> {
-    if fault != OpenFault::Device {
-        drop(disk);
-        return Err(fault.into());
-    }
-    Ok((disk, not_begun(true)))
+fn drive_to_its_end(
+    alloc: Global,
+    mut gateway: Trials,
+    script: &Script,
+) -> Result<(Trial, Told), Fail> {
+    let told = drive(alloc, &mut gateway, script)?;
+    Ok((disk_of(gateway), told))
 }
 
 // Over files that were empty.
 fn driven(alloc: Global, script: &Script, trouble: Trouble) -> Result<(Trial, Told), Fail> {
-    let bounds = bounds(alloc, "wan")?;
-    let mut disk = Trial::of(alloc, b"", b"")?;
-    expect_trouble(&mut disk, trouble, 0);
-    match open(alloc, disk, bounds, 1000) {
-        Ok(mut gateway) => {
-            let told = drive(alloc, &mut gateway, script)?;
-            Ok((disk_of(gateway), told))
-        }
-        Err((disk, fault)) => not_opened(disk, fault),
+    match begun(alloc, trouble)? {
+        Ok(gateway) => drive_to_its_end(alloc, gateway, script),
+        Err(disk) => Ok((disk, not_begun(true))),
     }
 }
 
 // What the files stand for, opened when all events are past.
 fn left(alloc: Global, disk: Trial) -> Result<Lasting, Fail> {
-    let gateway = opened(alloc, disk, 10_000)?;
-    Lasting::of(alloc, gateway.rules(), gateway.sessions()?)
-}
-
-// How many events that weren't answered are in the state, if it is the machine's behind some of those that were offered.
-fn unanswered(model: &Model, told: Told, left: &Lasting) -> Option<usize> {
-    for count in told.answered..=told.offered {
-        if let Some(state) = model.states.as_slice().get(count)
-            && state.is(left)
-        {
-            return Some(count.saturating_sub(told.answered));
-        }
-    }
-    None
+    let gateway = opened_again(alloc, disk, 10_000)?;
+    Lasting::of_gateway(alloc, &gateway)
 }
 
 /// What was seen: how many troubles, and behind how many of them something was there that wasn't answered.
@@ -196,12 +113,12 @@ struct Seen {
     survivals: u64,
 }
 
-fn tell(seen: &mut Seen, told: Told, unanswered: usize) {
+fn tell(seen: &mut Seen, told: Told, taken: usize) {
     if !told.has_fallen {
         return;
     }
     seen.troubles = seen.troubles.saturating_add(1);
-    if unanswered > 0 {
+    if taken > told.answered {
         seen.survivals = seen.survivals.saturating_add(1);
     }
 }
@@ -214,13 +131,9 @@ fn check(
     told: Told,
     seen: &mut Seen,
 ) -> Result<bool, Fail> {
-    if disk.has_strayed() || !told.has_fallen && told.answered != EVENTS {
-        drop(disk);
-        return Err(Fail::new("it strayed, or ended early"));
-    }
     let left = left(alloc, disk)?;
-    let unanswered = unanswered(model, told, &left).ok_or("another state")?;
-    tell(seen, told, unanswered);
+    let taken = taken(model, told, &left)?;
+    tell(seen, told, taken);
     Ok(told.has_fallen)
 }
 
@@ -274,12 +187,11 @@ fn none_seen() -> Seen {
     }
 }
 
-// Stops the events of a seed at each call, up to the first that they don't reach.
-fn stop_each(alloc: Global, seed: u64) -> Result<Seen, Fail> {
-    let script = script_of(alloc, seed)?;
+// Stops the events at each call, up to the first that they don't reach.
+fn stop_at_each(alloc: Global, script: &Script) -> Result<Seen, Fail> {
     let mut seen = none_seen();
     for call in 0..10_000 {
-        if !stop_by_choices(alloc, &script, call, &mut seen)? {
+        if !stop_by_choices(alloc, script, call, &mut seen)? {
             return Ok(seen);
         }
     }
@@ -287,15 +199,24 @@ fn stop_each(alloc: Global, seed: u64) -> Result<Seen, Fail> {
 }
 
 // Each call fails once.
-fn fault_each(alloc: Global, seed: u64) -> Result<Seen, Fail> {
-    let script = script_of(alloc, seed)?;
+fn fault_at_each(alloc: Global, script: &Script) -> Result<Seen, Fail> {
     let mut seen = none_seen();
     for call in 0..10_000 {
-        if !fault(alloc, &script, call, &mut seen)? {
+        if !fault(alloc, script, call, &mut seen)? {
             return Ok(seen);
         }
     }
     Err(Fail::new("it doesn't end"))
+}
+
+fn stop_each(alloc: Global, seed: u64) -> Result<Seen, Fail> {
+    let script = script_of(alloc, seed)?;
+    stop_at_each(alloc, &script)
+}
+
+fn fault_each(alloc: Global, seed: u64) -> Result<Seen, Fail> {
+    let script = script_of(alloc, seed)?;
+    fault_at_each(alloc, &script)
 }
 
 // Of each seed 886, 910 and 978 calls, with seven choices each.

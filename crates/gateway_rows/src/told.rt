@@ -1,0 +1,108 @@
+//! How far a gateway comes whose disk stops or fails, and whether it answers what the machine in memory does.
+use crate::model::{Lasting, Model, is_same};
+use crate::script::{compact, flush};
+use crate::shared::{
+    Answer, GatewayFault, OpenFault, Trials, Trouble, bounds, expect_trouble, open, opened,
+};
+use std::alloc::Global;
+use std::test::Fail;
+use trial_disk::Trial;
+
+/// How far the events came.
+#[derive(Clone, Copy, Drop)]
+pub struct Told {
+    pub offered: usize,
+    pub answered: usize,
+    pub has_fallen: bool,
+}
+
+/// Before the first event.
+pub fn not_begun(has_fallen: bool) -> Told {
+    Told {
+        offered: 0,
+        answered: 0,
+        has_fallen,
+    }
+}
+
+/// Opens a gateway over empty files, with trouble at a call of the disk; where the opening meets it, the disk comes back.
+pub fn begun(alloc: Global, at: Trouble) -> Result<Result<Trials, Trial>, Fail> {
+    let bounds = bounds(alloc, "wan")?;
+    let mut disk = Trial::of(alloc, b"", b"")?;
+    expect_trouble(&mut disk, at, 0);
+    match open(alloc, disk, bounds, 1000) {
+        Ok(gateway) => Ok(Ok(gateway)),
+        Err((disk, OpenFault::Device)) => Ok(Err(disk)),
+        Err((disk, fault)) => {
+            drop(disk);
+            Err(fault.into())
+        }
+    }
+}
+
+/// Opens it again, if each call was within its file.
+pub fn opened_again(alloc: Global, disk: Trial, moment: u64) -> Result<Trials, Fail> {
+    if disk.has_strayed() {
+        drop(disk);
+        return Err(Fail::new("it strayed"));
+    }
+    opened(alloc, disk, moment)
+}
+
+/// The answers come in order, and are the machine's.
+pub fn hear(wanted: &[Answer], told: &mut Told, number: u64, answer: &Answer) -> Result<(), Fail> {
+    let place = told.answered;
+    told.answered = place.saturating_add(1);
+    match wanted.get(place) {
+        Some(wanted) if told.answered as u64 == number && is_same(answer, wanted) => Ok(()),
+        _ => Err(Fail::new(format_args!("another answer: {number}"))),
+    }
+}
+
+/// Hears each of the answers.
+pub fn hear_all(wanted: &[Answer], told: &mut Told, answers: &[(u64, Answer)]) -> Result<(), Fail> {
+    for (number, answer) in answers {
+        hear(wanted, told, *number, answer)?;
+    }
+    Ok(())
+}
+
+fn fall(told: &mut Told, fault: GatewayFault) -> Result<(), Fail> {
+    if fault != GatewayFault::Device {
+        return Err(fault.into());
+    }
+    told.has_fallen = true;
+    Ok(())
+}
+
+/// Flushes, and hears what is handed out.
+pub fn do_flush(model: &Model, gateway: &mut Trials, told: &mut Told) -> Result<(), Fail> {
+    match flush(gateway) {
+        Ok(answers) => hear_all(model.answers.as_slice(), told, answers.as_slice()),
+        Err(fault) => fall(told, fault),
+    }
+}
+
+/// Compacts, if it hasn't fallen.
+pub fn do_compact(gateway: &mut Trials, told: &mut Told) -> Result<(), Fail> {
+    if told.has_fallen {
+        return Ok(());
+    }
+    match compact(gateway) {
+        Some(Ok(())) => Ok(()),
+        Some(Err(fault)) => fall(told, fault),
+        None => Err(Fail::new("answers are held")),
+    }
+}
+
+/// How many events lead to what is left, of those that were offered: at least those that were answered.
+pub fn taken(model: &Model, told: Told, left: &Lasting) -> Result<usize, Fail> {
+    for count in told.answered..=told.offered {
+        if let Some(state) = model.states.as_slice().get(count)
+            && state.is(left)
+        {
+            return Ok(count);
+        }
+    }
+    Err(Fail::new(format_args!("another state: {} to {}", told.answered, told.offered)))
+}
