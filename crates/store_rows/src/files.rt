@@ -1,112 +1,42 @@
 //! The bytes of files, and what is found in them when they are whole, changed or cut.
 
+use crate::shared::{BEGIN, FLOW, FRESH, LOAD, MASQUERADE, QUERY, bounds, joined};
 use disk_model::FileId;
 use durable::{
     DurableFault, Flow, Recovered, begin_code, end_code, load_front, put_heading, recover,
     restart_code, seen_code,
 };
 use packet::bounds::Bounds;
-use packet::endpoint::{Endpoint, Prefix, Proto};
+use packet::endpoint::Proto;
 use sessions::{Opener, Session};
 use std::alloc::{AllocError, Global};
 use std::process::Abort;
-use std::test::*;
+use std::test::Fail;
 
-// A file that was just made: gate, mark, generation 1, `lan`, `wan`, 192.168.0.0/16, 203.0.113.1, no text, no session,
-// and a closed gate.
-const FRESH: [u8; 40] = [
-    0x01, 0x4e, 0x47, 0x57, 0x31, 0x00, 0x00, 0x00, 0x00, 0x00, 0x00, 0x00, 0x01, 0x03, 0x6c, 0x61,
-    0x6e, 0x03, 0x77, 0x61, 0x6e, 0x01, 0xc0, 0xa8, 0x00, 0x00, 0x10, 0xcb, 0x00, 0x71, 0x01, 0x00,
-    0x00, 0x00, 0x00, 0x00, 0x00, 0x00, 0x00, 0x00,
-];
-
-// The front of the same with generation 2.
+// The front of the fresh file with generation 2.
 const NEWER: [u8; 39] = [
     0x01, 0x4e, 0x47, 0x57, 0x31, 0x00, 0x00, 0x00, 0x00, 0x00, 0x00, 0x00, 0x02, 0x03, 0x6c, 0x61,
     0x6e, 0x03, 0x77, 0x61, 0x6e, 0x01, 0xc0, 0xa8, 0x00, 0x00, 0x10, 0xcb, 0x00, 0x71, 0x01, 0x00,
     0x00, 0x00, 0x00, 0x00, 0x00, 0x00, 0x00,
 ];
 
-// An open gate, the length of a body of 128 bytes, and the front of a load of 101 bytes.
-const LOAD: [u8; 10] = [0x01, 0x00, 0x00, 0x00, 0x80, 0x01, 0x00, 0x00, 0x00, 0x65];
-
-// What goes out to wan leaves from the external address.
-const MASQUERADE: &[u8; 101] =
-    b"table ip nat { chain post { type nat hook postrouting priority srcnat; oifname \"wan\" masquerade; }; }";
-
-// UDP from 192.168.1.2:5000, outside 203.0.113.1:5000, to 198.51.100.7:53, begun from inside, nothing seen.
-const BEGIN: [u8; 22] = [
-    0x02, 0x11, 0xc0, 0xa8, 0x01, 0x02, 0x13, 0x88, 0xcb, 0x00, 0x71, 0x01, 0x13, 0x88, 0xc6, 0x33,
-    0x64, 0x07, 0x00, 0x35, 0x00, 0x00,
-];
-
-const QUERY: Session = Session {
-    proto: Proto::Udp,
-    inside: Endpoint {
-        addr: 0xc0a8_0102,
-        port: 5000,
-    },
-    outside: Endpoint {
-        addr: 0xcb00_7101,
-        port: 5000,
-    },
-    remote: Endpoint {
-        addr: 0xc633_6407,
-        port: 53,
-    },
-    opener: Opener::Inside,
-    seen: 0,
-    last: 0,
-};
-
-const FLOW: Flow = Flow {
-    proto: Proto::Udp,
-    inside: Endpoint {
-        addr: 0xc0a8_0102,
-        port: 5000,
-    },
-    remote: Endpoint {
-        addr: 0xc633_6407,
-        port: 53,
-    },
-};
-
 const TCP: Flow = Flow {
     proto: Proto::Tcp,
     ..FLOW
 };
 
-fn bounds(alloc: Global, wan: &str) -> Result<Bounds, AllocError> {
-    let lan = String::from_str(alloc, "lan")?;
-    let wan = String::from_str(alloc, wan)?;
-    let prefix = Prefix {
-        addr: 0xc0a8_0000,
-        len: 16,
-    };
-    let inside = vec![in alloc; prefix]?;
-    Bounds::new(lan, wan, inside, 0xcb00_7101).map_err(|_| AllocError)
-}
-
-// This front, a group in which a text is loaded and a session begins, then more entries, and a closed gate.
+// This front, a group in which a text is loaded and a session begins, and a closed gate.
 fn loaded(alloc: Global, front: &[u8]) -> Result<Vec<u8>, AllocError> {
-    let mut file = Vec::from_slice(alloc, front)?;
-    file.extend_from_slice(&LOAD)?;
-    file.extend_from_slice(MASQUERADE)?;
-    file.extend_from_slice(&BEGIN)?;
-    file.extend_from_slice(&[0])?;
-    Ok(file)
+    joined(alloc, &[front, &LOAD, MASQUERADE, &BEGIN, &[0]])
 }
 
-// The same with one more group of one entry, of fewer than 256 bytes.
+// The newer file with one more group of one entry, of fewer than 256 bytes.
 fn followed(alloc: Global, entry: &[u8]) -> Result<Vec<u8>, AllocError> {
-    let mut file = Vec::from_slice(alloc, &NEWER)?;
-    file.extend_from_slice(&LOAD)?;
-    file.extend_from_slice(MASQUERADE)?;
-    file.extend_from_slice(&BEGIN)?;
-    file.extend_from_slice(&[1, 0, 0, 0, entry.len().min(255) as u8])?;
-    file.extend_from_slice(entry)?;
-    file.extend_from_slice(&[0])?;
-    Ok(file)
+    let front = [1, 0, 0, 0, entry.len().min(255) as u8];
+    joined(
+        alloc,
+        &[&NEWER, &LOAD, MASQUERADE, &BEGIN, &front, entry, &[0]],
+    )
 }
 
 // `-` where no file is open, `D` where they are damaged, else `0` without a session and `1` with one.
@@ -133,20 +63,9 @@ fn outcome_behind(alloc: Global, entry: &[u8]) -> Result<u8, AllocError> {
 
 // The file with the highest bit of one byte turned.
 fn turned(alloc: Global, file: &[u8], place: usize) -> Result<Vec<u8>, AllocError> {
-    let mut made = Vec::new(alloc);
-    for (at, byte) in file.iter().enumerate() {
-        made.push(if at == place { *byte ^ 0x80 } else { *byte })?;
-    }
-    Ok(made)
-}
-
-// The file without what stands from this place on.
-fn cut(alloc: Global, file: &[u8], place: usize) -> Result<Vec<u8>, AllocError> {
-    let mut made = Vec::new(alloc);
-    for (at, byte) in file.iter().enumerate() {
-        if at < place {
-            made.push(*byte)?;
-        }
+    let mut made = Vec::from_slice(alloc, file)?;
+    if place < made.len() {
+        made[place] ^= 0x80;
     }
     Ok(made)
 }
@@ -164,23 +83,39 @@ fn place_of(found: &Recovered<'_>) -> (FileId, u64, usize, usize) {
     (found.file, found.generation, found.start, found.end)
 }
 
+// A gate, the heading of generation 1 with no text and no session, and a closed gate.
+fn heading(alloc: Global, bounds: &Bounds) -> Result<Vec<u8>, AllocError> {
+    let mut made = Vec::from_slice(alloc, &[1])?;
+    put_heading(&mut made, 1, bounds, b"", &[])?;
+    made.push(0)?;
+    Ok(made)
+}
+
 #[test]
 fn fresh_heading(rt: HostRuntime) -> Result<(), Fail> {
-    let alloc = rt.alloc();
-    let ours = bounds(alloc, "wan")?;
-    let mut made = Vec::from_slice(alloc, &[1])?;
-    put_heading(&mut made, 1, &ours, b"", &[])?;
-    made.push(0)?;
+    let bounds = bounds(rt.alloc(), "wan")?;
+    let made = heading(rt.alloc(), &bounds)?;
     assert!(rt; made.as_slice() == FRESH.as_slice());
     Ok(())
+}
+
+// Which file is open, its generation, where its groups begin and end, and what they come to.
+fn assert_found(
+    rt: &impl Abort,
+    found: &Recovered<'_>,
+    place: (FileId, u64, usize, usize),
+    text: &[u8],
+    sessions: &[Session],
+) {
+    assert!(rt; place_of(found) == place);
+    assert!(rt; found.text == text);
+    assert!(rt; found.sessions.as_slice() == sessions);
 }
 
 #[test]
 fn fresh_file(rt: HostRuntime) -> Result<(), Fail> {
     let found = found(rt.alloc(), &FRESH, b"")?;
-    assert!(rt; place_of(&found) == (FileId::A, 1, 39, 39));
-    assert!(rt; found.text.is_empty());
-    assert!(rt; found.sessions.is_empty());
+    assert_found(&rt, &found, (FileId::A, 1, 39, 39), b"", &[]);
     Ok(())
 }
 
@@ -192,8 +127,8 @@ fn is_of_wan(alloc: Global, wan: &str) -> Result<bool, Fail> {
 
 #[test]
 fn fresh_configuration(rt: HostRuntime) -> Result<(), Fail> {
-    for (wan, expected) in [("wan", true), ("dsl", false)] {
-        assert_eq!(rt; is_of_wan(rt.alloc(), wan)?, expected, "{wan}");
+    for (wan, expected) in &[("wan", true), ("dsl", false)] {
+        assert_eq!(rt; is_of_wan(rt.alloc(), wan)?, *expected, "{wan}");
     }
     Ok(())
 }
@@ -210,27 +145,39 @@ fn codes_of_two_events(rt: HostRuntime) -> Result<(), Fail> {
 fn two_events(rt: HostRuntime) -> Result<(), Fail> {
     let file = loaded(rt.alloc(), &NEWER)?;
     let found = found(rt.alloc(), &FRESH, &file)?;
-    assert!(rt; place_of(&found) == (FileId::B, 2, 39, 172));
-    assert!(rt; found.text == MASQUERADE.as_slice());
-    assert!(rt; found.sessions.as_slice() == [QUERY].as_slice());
+    assert_found(&rt, &found, (FileId::B, 2, 39, 172), MASQUERADE, &[QUERY]);
     Ok(())
+}
+
+fn assert_outcome(rt: &impl Abort, alloc: Global, a: &[u8], b: &[u8], expected: u8) {
+    assert_eq!(rt; outcome(alloc, a, b), expected);
 }
 
 #[test]
 fn closed_files(rt: HostRuntime) -> Result<(), Fail> {
-    let file = loaded(rt.alloc(), &FRESH)?;
-    let rows: [(&[u8], &[u8], u8); 5] = [
+    let rows: [(&[u8], &[u8], u8); 4] = [
         (b"", b"", b'-'),
         (b"\x02NGW1", b"\0", b'-'),
         (b"\x02NGW1", &FRESH, b'0'),
-        // The closed gate of the fresh file stands where the group would begin.
-        (&file, b"", b'0'),
         // One generation.
         (&FRESH, &FRESH, b'D'),
     ];
-    for (a, b, expected) in rows {
-        assert_eq!(rt; outcome(rt.alloc(), a, b), expected);
+    for (a, b, expected) in &rows {
+        assert_outcome(&rt, rt.alloc(), *a, *b, *expected);
     }
+    // The closed gate of the fresh file stands where the group would begin.
+    let file = loaded(rt.alloc(), &FRESH)?;
+    assert_outcome(&rt, rt.alloc(), &file, b"", b'0');
+    Ok(())
+}
+
+fn assert_behind(
+    rt: &impl Abort,
+    alloc: Global,
+    entry: &[u8],
+    expected: u8,
+) -> Result<(), AllocError> {
+    assert_eq!(rt; outcome_behind(alloc, entry)?, expected);
     Ok(())
 }
 
@@ -245,26 +192,26 @@ fn one_more_group(rt: HostRuntime) -> Result<(), Fail> {
         (b"", b'1'),
         (b"\x06", b'D'),
     ];
-    for (entry, expected) in rows {
-        assert_eq!(rt; outcome_behind(rt.alloc(), entry)?, expected);
+    for (entry, expected) in &rows {
+        assert_behind(&rt, rt.alloc(), *entry, *expected)?;
     }
     Ok(())
 }
 
+const SEEN: [(Flow, u8, u8); 3] = [(FLOW, 1, b'1'), (FLOW, 2, b'D'), (TCP, 1, b'D')];
+
 #[test]
 fn one_more_group_of_seen(rt: HostRuntime) -> Result<(), Fail> {
-    for (flow, seen, expected) in [(FLOW, 1, b'1'), (FLOW, 2, b'D'), (TCP, 1, b'D')] {
-        let entry = seen_code(&flow, seen);
-        assert_eq!(rt; outcome_behind(rt.alloc(), &entry)?, expected);
+    for (flow, seen, expected) in &SEEN {
+        assert_behind(&rt, rt.alloc(), &seen_code(flow, *seen), *expected)?;
     }
     Ok(())
 }
 
 #[test]
 fn one_more_group_of_end(rt: HostRuntime) -> Result<(), Fail> {
-    for (flow, expected) in [(FLOW, b'0'), (TCP, b'D')] {
-        let entry = end_code(&flow);
-        assert_eq!(rt; outcome_behind(rt.alloc(), &entry)?, expected);
+    for (flow, expected) in &[(FLOW, b'0'), (TCP, b'D')] {
+        assert_behind(&rt, rt.alloc(), &end_code(flow), *expected)?;
     }
     Ok(())
 }
@@ -315,13 +262,11 @@ fn outcome_older_turned(alloc: Global, newer: &[u8], place: usize) -> Result<u8,
     Ok(outcome(alloc, newer, &older))
 }
 
-#[test]
-fn each_byte_turned(rt: HostRuntime) -> Result<(), Fail> {
-    let newer = loaded(rt.alloc(), &NEWER)?;
+fn assert_turned(rt: &impl Abort, alloc: Global, newer: &[u8]) -> Result<(), Fail> {
     let mut place: usize = 0;
     for (count, wanted) in &TURNED_ACTIVE {
         for _ in 0..*count {
-            let came = outcome_turned(rt.alloc(), &newer, place)?;
+            let came = outcome_turned(alloc, newer, place)?;
             assert_eq!(rt; came, *wanted, "place {place}");
             place = place.saturating_add(1);
         }
@@ -331,12 +276,16 @@ fn each_byte_turned(rt: HostRuntime) -> Result<(), Fail> {
 }
 
 #[test]
-fn each_byte_of_the_older_file_turned(rt: HostRuntime) -> Result<(), Fail> {
+fn each_byte_turned(rt: HostRuntime) -> Result<(), Fail> {
     let newer = loaded(rt.alloc(), &NEWER)?;
+    assert_turned(&rt, rt.alloc(), &newer)
+}
+
+fn assert_older_turned(rt: &impl Abort, alloc: Global, newer: &[u8]) -> Result<(), Fail> {
     let mut place: usize = 0;
     for (count, wanted) in &TURNED_OLDER {
         for _ in 0..*count {
-            let came = outcome_older_turned(rt.alloc(), &newer, place)?;
+            let came = outcome_older_turned(alloc, newer, place)?;
             assert_eq!(rt; came, *wanted, "place {place}");
             place = place.saturating_add(1);
         }
@@ -345,44 +294,41 @@ fn each_byte_of_the_older_file_turned(rt: HostRuntime) -> Result<(), Fail> {
     Ok(())
 }
 
-// The first file cut at this place, and the fresh one.
-fn outcome_cut(alloc: Global, newer: &[u8], place: usize) -> Result<u8, AllocError> {
-    let newer = cut(alloc, newer, place)?;
-    Ok(outcome(alloc, &newer, &FRESH))
+#[test]
+fn each_byte_of_the_older_file_turned(rt: HostRuntime) -> Result<(), Fail> {
+    let newer = loaded(rt.alloc(), &NEWER)?;
+    assert_older_turned(&rt, rt.alloc(), &newer)
+}
+
+// The first file cut at each place, and the fresh one.
+fn assert_cuts(rt: &impl Abort, alloc: Global, newer: &[u8]) {
+    for place in 0..newer.len() {
+        let wanted = if place == 0 { b'0' } else { b'D' };
+        let came = outcome(alloc, &newer[..place], &FRESH);
+        assert_eq!(rt; came, wanted, "cut at {place}");
+    }
+    assert_outcome(rt, alloc, newer, b"", b'1');
+    assert_outcome(rt, alloc, newer, &FRESH, b'1');
 }
 
 #[test]
 fn each_cut(rt: HostRuntime) -> Result<(), Fail> {
     let newer = loaded(rt.alloc(), &NEWER)?;
-    for place in 0..newer.len() {
-        let wanted = if place == 0 { b'0' } else { b'D' };
-        assert_eq!(rt;
-            outcome_cut(rt.alloc(), &newer, place)?,
-            wanted,
-            "cut at {place}"
-        );
-    }
-    assert_eq!(rt; outcome(rt.alloc(), &newer, b""), b'1');
-    assert_eq!(rt; outcome(rt.alloc(), &newer, &FRESH), b'1');
+    assert_cuts(&rt, rt.alloc(), &newer);
     Ok(())
 }
 
-// The first file, and the fresh one cut at this place.
-fn outcome_older_cut(alloc: Global, newer: &[u8], place: usize) -> Result<u8, AllocError> {
-    let older = cut(alloc, &FRESH, place)?;
-    Ok(outcome(alloc, newer, &older))
+// The first file, and the fresh one cut at each place. Cut at 39 it ends with its snapshot, and has no gate behind it.
+fn assert_older_cuts(rt: &impl Abort, alloc: Global, newer: &[u8]) {
+    for place in 1..FRESH.len() {
+        let came = outcome(alloc, newer, &FRESH[..place]);
+        assert_eq!(rt; came, b'D', "cut at {place}");
+    }
 }
 
-// Cut at 39 it ends with its snapshot, and has no gate behind it.
 #[test]
 fn each_cut_of_the_older_file(rt: HostRuntime) -> Result<(), Fail> {
     let newer = loaded(rt.alloc(), &NEWER)?;
-    for place in 1..FRESH.len() {
-        assert_eq!(rt;
-            outcome_older_cut(rt.alloc(), &newer, place)?,
-            b'D',
-            "cut at {place}"
-        );
-    }
+    assert_older_cuts(&rt, rt.alloc(), &newer);
     Ok(())
 }

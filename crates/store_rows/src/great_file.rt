@@ -1,10 +1,10 @@
 //! Reading takes time in proportion to the bytes: with a walk over all sessions for each entry this test would not
 //! end within its time.
 
-use durable::recover;
+use durable::{Recovered, recover};
 use std::alloc::{AllocError, Global};
 use std::process::Abort;
-use std::test::*;
+use std::test::Fail;
 
 // Gate, mark, generation 1, `lan`, `wan`, 192.168.0.0/16, 203.0.113.1, no text, 65,536 sessions.
 const FRONT: [u8; 39] = [
@@ -60,18 +60,24 @@ fn great(alloc: Global, groups: u32) -> Result<Vec<u8>, AllocError> {
     Ok(file)
 }
 
+fn assert_found(rt: &impl Abort, found: &Recovered<'_>) -> Result<(), Fail> {
+    let counts = (found.sessions.len(), found.start, found.end);
+    assert!(rt; counts == (65_536, 1_376_295, 46_596_365), "{counts:?}");
+    let last = found.sessions.last().ok_or("there are sessions")?;
+    assert!(rt; (last.inside.addr, last.seen) == (0xc0a8_ffff, 1));
+    Ok(())
+}
+
+fn recovered<'a>(alloc: Global, file: &'a [u8]) -> Result<Box<Recovered<'a>>, Fail> {
+    let found = recover(alloc, file, b"")?.ok_or("a file is open")?;
+    Ok(Box::new(alloc, found)?)
+}
+
 #[test]
 fn great_file(rt: HostRuntime) -> Result<(), Fail> {
-    let alloc = rt.alloc();
     // 1,376,295 bytes of heading, 46 groups of 983,045 and a gate: 3,014,656 entries.
-    let file = great(alloc, 46)?;
+    let file = great(rt.alloc(), 46)?;
     assert_eq!(rt; file.len(), 46_596_366);
-    let found = recover(alloc, &file, b"")?.ok_or("a file is open")?;
-    assert_eq!(rt; found.sessions.len(), 65_536);
-    assert_eq!(rt; found.start, 1_376_295);
-    assert_eq!(rt; found.end, 46_596_365);
-    let last = found.sessions.last().ok_or("there are sessions")?;
-    assert_eq!(rt; last.inside.addr, 0xc0a8_ffff);
-    assert_eq!(rt; last.seen, 1);
-    Ok(())
+    let found = recovered(rt.alloc(), &file)?;
+    assert_found(&rt, &found)
 }

@@ -1,86 +1,22 @@
 //! What a store writes, and what it finds again.
 
+use crate::shared::{BEGIN, FLOW, FRESH, LOAD, MASQUERADE, QUERY, bounds, joined};
 use disk_model::{Disk, FileId};
-use durable::{Flow, begin_code, end_code, load_front};
+use durable::{begin_code, end_code, load_front};
 use journal::Group;
 use packet::bounds::Bounds;
-use packet::endpoint::{Endpoint, Prefix, Proto};
-use sessions::{Opener, Session};
 use snapshot::{CommitFault, CompactFault, OpenFault, Opened, Store};
 use std::alloc::{AllocError, Global};
 use std::process::Abort;
-use std::test::*;
+use std::test::Fail;
 use trial_disk::Trial;
 
-// A file that was just made: gate, mark, generation 1, `lan`, `wan`, 192.168.0.0/16, 203.0.113.1, no text, no session,
-// and a closed gate.
-const FRESH: [u8; 40] = [
-    0x01, 0x4e, 0x47, 0x57, 0x31, 0x00, 0x00, 0x00, 0x00, 0x00, 0x00, 0x00, 0x01, 0x03, 0x6c, 0x61,
-    0x6e, 0x03, 0x77, 0x61, 0x6e, 0x01, 0xc0, 0xa8, 0x00, 0x00, 0x10, 0xcb, 0x00, 0x71, 0x01, 0x00,
-    0x00, 0x00, 0x00, 0x00, 0x00, 0x00, 0x00, 0x00,
-];
-
-// The same with generation 2, up to the length of a text of 101 bytes.
+// The fresh file with generation 2, up to the length of a text of 101 bytes.
 const NEWER: [u8; 35] = [
     0x01, 0x4e, 0x47, 0x57, 0x31, 0x00, 0x00, 0x00, 0x00, 0x00, 0x00, 0x00, 0x02, 0x03, 0x6c, 0x61,
     0x6e, 0x03, 0x77, 0x61, 0x6e, 0x01, 0xc0, 0xa8, 0x00, 0x00, 0x10, 0xcb, 0x00, 0x71, 0x01, 0x00,
     0x00, 0x00, 0x65,
 ];
-
-// An open gate, the length of a body of 128 bytes, and the front of a load of 101 bytes.
-const LOAD: [u8; 10] = [0x01, 0x00, 0x00, 0x00, 0x80, 0x01, 0x00, 0x00, 0x00, 0x65];
-
-// What goes out to wan leaves from the external address.
-const MASQUERADE: &[u8; 101] =
-    b"table ip nat { chain post { type nat hook postrouting priority srcnat; oifname \"wan\" masquerade; }; }";
-
-// UDP from 192.168.1.2:5000, outside 203.0.113.1:5000, to 198.51.100.7:53, begun from inside, nothing seen.
-const BEGIN: [u8; 22] = [
-    0x02, 0x11, 0xc0, 0xa8, 0x01, 0x02, 0x13, 0x88, 0xcb, 0x00, 0x71, 0x01, 0x13, 0x88, 0xc6, 0x33,
-    0x64, 0x07, 0x00, 0x35, 0x00, 0x00,
-];
-
-const QUERY: Session = Session {
-    proto: Proto::Udp,
-    inside: Endpoint {
-        addr: 0xc0a8_0102,
-        port: 5000,
-    },
-    outside: Endpoint {
-        addr: 0xcb00_7101,
-        port: 5000,
-    },
-    remote: Endpoint {
-        addr: 0xc633_6407,
-        port: 53,
-    },
-    opener: Opener::Inside,
-    seen: 0,
-    last: 0,
-};
-
-const FLOW: Flow = Flow {
-    proto: Proto::Udp,
-    inside: Endpoint {
-        addr: 0xc0a8_0102,
-        port: 5000,
-    },
-    remote: Endpoint {
-        addr: 0xc633_6407,
-        port: 53,
-    },
-};
-
-fn bounds(alloc: Global, wan: &str) -> Result<Bounds, AllocError> {
-    let lan = String::from_str(alloc, "lan")?;
-    let wan = String::from_str(alloc, wan)?;
-    let prefix = Prefix {
-        addr: 0xc0a8_0000,
-        len: 16,
-    };
-    let inside = vec![in alloc; prefix]?;
-    Bounds::new(lan, wan, inside, 0xcb00_7101).map_err(|_| AllocError)
-}
 
 // A load of the text, and the begin of the session.
 fn loaded(alloc: Global) -> Result<Group, AllocError> {
@@ -114,7 +50,7 @@ fn opened(alloc: Global, disk: Trial, bounds: &Bounds) -> Result<Found, Fail> {
 }
 
 /// How calls of a store came to their end.
-#[derive(Clone, Copy, Debug, PartialEq, Eq, Drop)]
+#[derive(Clone, Copy, PartialEq, Eq, Drop)]
 enum Came {
     /// Each passed.
     Through,
@@ -192,23 +128,22 @@ fn left(rt: &impl Abort, alloc: Global, found: Found, a: &[u8], b: &[u8]) -> Res
     Ok(disk)
 }
 
+fn assert_reached(rt: &impl Abort, found: &Found, expected: u8, at: (u64, u64)) {
+    assert!(rt; reached(found) == Some(expected));
+    assert!(rt; places(found) == at);
+}
+
 #[test]
 fn fresh(rt: HostRuntime) -> Result<(), Fail> {
     let found = started(rt.alloc(), b"")?;
-    assert!(rt; reached(&found) == Some(0));
-    assert!(rt; places(&found) == (0, 39));
+    assert_reached(&rt, &found, 0, (0, 39));
     let _ = left(&rt, rt.alloc(), found, &FRESH, b"")?;
     Ok(())
 }
 
 // The bytes of a file with a group in which the text is loaded and the session begins.
 fn with_group(alloc: Global) -> Result<Vec<u8>, AllocError> {
-    let mut file = Vec::from_slice(alloc, FRESH.split_at(39).0)?;
-    file.extend_from_slice(&LOAD)?;
-    file.extend_from_slice(MASQUERADE)?;
-    file.extend_from_slice(&BEGIN)?;
-    file.extend_from_slice(&[0])?;
-    Ok(file)
+    joined(alloc, &[&FRESH[..39], &LOAD, MASQUERADE, &BEGIN, &[0]])
 }
 
 #[test]
@@ -237,12 +172,10 @@ fn group(rt: HostRuntime) -> Result<(), Fail> {
 
 // The bytes of a file with the text and the session as its snapshot.
 fn with_snapshot(alloc: Global) -> Result<Vec<u8>, AllocError> {
-    let mut file = Vec::from_slice(alloc, &NEWER)?;
-    file.extend_from_slice(MASQUERADE)?;
-    file.extend_from_slice(&[0, 0, 0, 1])?;
-    file.extend_from_slice(BEGIN.split_at(1).1)?;
-    file.extend_from_slice(&[0])?;
-    Ok(file)
+    joined(
+        alloc,
+        &[&NEWER, MASQUERADE, &[0, 0, 0, 1], &BEGIN[1..], &[0]],
+    )
 }
 
 #[test]
@@ -264,8 +197,7 @@ fn compacted_disk(rt: &impl Abort, alloc: Global) -> Result<Trial, Fail> {
 // Opens the store again: the text is loaded, the session has begun, and these are the places.
 fn comes_back(rt: &impl Abort, alloc: Global, disk: Trial, at: (u64, u64)) -> Result<(), Fail> {
     let found = opened(alloc, disk, &bounds(alloc, "wan")?)?;
-    assert!(rt; reached(&found) == Some(1));
-    assert!(rt; places(&found) == at);
+    assert_reached(rt, &found, 1, at);
     Ok(())
 }
 
@@ -316,7 +248,7 @@ struct Script {
     ended: Group,
 }
 
-fn make_script(alloc: Global) -> Result<Box<Script>, AllocError> {
+fn make_script(alloc: Global) -> Result<Box<Script>, Fail> {
     let script = Script {
         bounds: bounds(alloc, "wan")?,
         loaded: loaded(alloc)?,
@@ -362,9 +294,9 @@ fn check(
 ) -> Result<(), Fail> {
     assert!(rt; !disk.has_strayed());
     let found = opened(alloc, disk, &script.bounds)?;
-    let Some(reached) = reached(&found) else {
-        return Err(Fail::new("another state"));
-    };
+    let reached = reached(&found);
+    drop(found);
+    let reached = reached.ok_or("another state")?;
     assert!(rt; acknowledged <= reached);
     assert!(rt; reached <= acknowledged.saturating_add(1));
     Ok(())
@@ -395,13 +327,17 @@ fn fail(rt: &impl Abort, alloc: Global, script: &Script, call: u64) -> Result<()
     check(rt, alloc, disk, script, acknowledged)
 }
 
+fn fail_each(rt: &impl Abort, alloc: Global, script: &Script) -> Result<(), Fail> {
+    for call in 0..CALLS {
+        fail(rt, alloc, script, call)?;
+    }
+    Ok(())
+}
+
 #[test]
 fn each_fault(rt: HostRuntime) -> Result<(), Fail> {
     let script = make_script(rt.alloc())?;
-    for call in 0..CALLS {
-        fail(&rt, rt.alloc(), &script, call)?;
-    }
-    Ok(())
+    fail_each(&rt, rt.alloc(), &script)
 }
 
 /// The script is stopped behind so many calls of the disk, and the opening after it too.
@@ -412,8 +348,16 @@ struct Stops {
     choice: u64,
 }
 
-// Opens the store, where it may be stopped.
-fn reopen(rt: &impl Abort, alloc: Global, disk: Trial, bounds: &Bounds) -> Trial {
+fn crashed(disk: Trial, choice: u64) -> Result<Trial, AllocError> {
+    let mut disk = disk;
+    disk.crash(choice)?;
+    Ok(disk)
+}
+
+// Opens the store, where it is stopped behind so many calls.
+fn reopen(rt: &impl Abort, alloc: Global, disk: Trial, bounds: &Bounds, calls: u64) -> Trial {
+    let mut disk = disk;
+    disk.fuse_after(calls);
     match open(alloc, disk, bounds) {
         Ok(opened) => opened.store.into_disk(),
         Err((disk, fault)) => {
@@ -427,30 +371,32 @@ fn reopen(rt: &impl Abort, alloc: Global, disk: Trial, bounds: &Bounds) -> Trial
 fn stop(rt: &impl Abort, alloc: Global, script: &Script, stops: Stops) -> Result<(), Fail> {
     let mut disk = Trial::of(alloc, b"", b"")?;
     disk.fuse_after(stops.first);
-    let (mut disk, came, acknowledged) = run(alloc, disk, script);
+    let (disk, came, acknowledged) = run(alloc, disk, script);
     assert!(rt; (came, acknowledged) == expected(stops.first), "{stops:?}");
-    disk.crash(stops.choice)?;
-    disk.fuse_after(stops.second);
-    let mut disk = reopen(rt, alloc, disk, &script.bounds);
-    disk.crash(stops.choice)?;
+    let disk = crashed(disk, stops.choice)?;
+    let disk = reopen(rt, alloc, disk, &script.bounds, stops.second);
+    let disk = crashed(disk, stops.choice)?;
     check(rt, alloc, disk, script, acknowledged)
 }
 
-#[test]
-fn each_stop(rt: HostRuntime) -> Result<(), Fail> {
-    let alloc = rt.alloc();
-    let script = make_script(alloc)?;
+fn stop_each(rt: &impl Abort, alloc: Global, script: &Script) -> Result<(), Fail> {
     for first in 0..=CALLS {
         for second in 0..=12 {
-            for choice in [0, 1, 2, 3, 5, 10] {
+            for choice in &[0, 1, 2, 3, 5, 10] {
                 let stops = Stops {
                     first,
                     second,
-                    choice,
+                    choice: *choice,
                 };
-                stop(&rt, alloc, &script, stops)?;
+                stop(rt, alloc, script, stops)?;
             }
         }
     }
     Ok(())
+}
+
+#[test]
+fn each_stop(rt: HostRuntime) -> Result<(), Fail> {
+    let script = make_script(rt.alloc())?;
+    stop_each(&rt, rt.alloc(), &script)
 }
