@@ -82,6 +82,7 @@ class Adapter:
         self.unanswered = 0
         self.told_moment = 0
         self.load_wanted = rules is not None
+        self.load_unanswered = False
         self.counts = collections.Counter()
         self.dropped = collections.Counter()
 
@@ -110,6 +111,9 @@ class Adapter:
         self.counts["unanswered"] += self.unanswered
         self.unsent.clear()
         self.unanswered = 0
+        # A load that has no answer may not have been taken: the next connection begins with it.
+        self.load_wanted = self.load_wanted or self.load_unanswered
+        self.load_unanswered = False
         say("natgw has closed the connection")
 
     # From the devices to natgw
@@ -142,6 +146,7 @@ class Adapter:
             say(f"{self.rules} has more than {frames.LONGEST_TEXT} bytes; the old rules stay")
             return
         self.ask(frames.load(self.clock.now(), text))
+        self.load_unanswered = True
 
     def send(self):
         """Writes as much as natgw takes now."""
@@ -168,8 +173,10 @@ class Adapter:
             elif kind == frames.DROPPED:
                 self.dropped[body[0]] += 1
             elif kind == frames.LOADED:
+                self.load_unanswered = False
                 say(f"{self.rules} is loaded")
             elif kind == frames.REFUSED:
+                self.load_unanswered = False
                 say(f"{self.rules} was refused, the old rules stay; natgw check says why")
 
     def put(self, side, data):

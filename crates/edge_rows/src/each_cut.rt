@@ -2,6 +2,7 @@
 use crate::shared::{Stream, TICK, TICKED, answered, four_requests, run_over};
 use socket_edge::EdgeFault;
 use std::alloc::Global;
+use std::process::Abort;
 use std::test::Fail;
 
 /// A load of 115 bytes, and a packet of 42.
@@ -25,13 +26,17 @@ fn cut_at(alloc: Global, stream: &Stream, cut: usize) -> Result<bool, Fail> {
     Ok(ended == end_of(cut) && frames == Some(written.as_slice()))
 }
 
+fn cut_at_each(rt: &impl Abort, alloc: Global, stream: &Stream) -> Result<(), Fail> {
+    for cut in 0..=TWO {
+        assert!(rt; cut_at(alloc, stream, cut)?, "{cut} bytes");
+    }
+    Ok(())
+}
+
 #[test]
 fn each_cut(rt: HostRuntime) -> Result<(), Fail> {
     let stream = four_requests(rt.alloc())?;
-    for cut in 0..=TWO {
-        assert!(rt; cut_at(rt.alloc(), &stream, cut)?, "{cut} bytes");
-    }
-    Ok(())
+    cut_at_each(&rt, rt.alloc(), &stream)
 }
 
 // What is written of a moment whose header has this byte, and how it ends. As a packet it would have no bytes, which is
@@ -84,15 +89,20 @@ fn end_of_length(alloc: Global, kind: u8, length: u32) -> Result<Result<u64, Edg
 }
 
 // Up to its limit a body is waited for.
+const LENGTHS: [(u8, u32, EdgeFault); 6] = [
+    (1, 65_535, EdgeFault::Truncated),
+    (1, 65_536, EdgeFault::TooLong),
+    (1, u32::MAX, EdgeFault::TooLong),
+    (2, 262_144, EdgeFault::Truncated),
+    (2, 262_145, EdgeFault::TooLong),
+    (2, u32::MAX, EdgeFault::TooLong),
+];
+
 #[test]
 fn lengths_at_and_past_the_limits(rt: HostRuntime) -> Result<(), Fail> {
-    for (kind, limit) in [(1, 65_535), (2, 262_144)] {
-        let within = end_of_length(rt.alloc(), kind, limit)?;
-        assert!(rt; within == Err(EdgeFault::Truncated));
-        for length in [limit + 1, u32::MAX] {
-            let past = end_of_length(rt.alloc(), kind, length)?;
-            assert!(rt; past == Err(EdgeFault::TooLong));
-        }
+    for (kind, length, fault) in &LENGTHS {
+        let ended = end_of_length(rt.alloc(), *kind, *length)?;
+        assert!(rt; ended == Err(*fault));
     }
     Ok(())
 }

@@ -28,7 +28,8 @@ struct Talk {
 
 /// The frame with this port at this place, which is the same in a request and in its answer. No sum of the header counts
 /// it.
-fn with_port(mut frame: [u8; 42], at: usize, port: u16) -> [u8; 42] {
+fn with_port(frame: &[u8; 42], at: usize, port: u16) -> [u8; 42] {
+    let mut frame = *frame;
     let [high, low] = port.to_be_bytes();
     if at < 41 {
         frame[at] = high;
@@ -50,14 +51,15 @@ fn put_answer(talk: &mut Talk, frame: &[u8]) -> Result<(), AllocError> {
 /// The host sends from this port.
 fn go_out(talk: &mut Talk, port: u16) -> Result<(), AllocError> {
     talk.requests
-        .extend_from_slice(&with_port(PACKET, 34, port))?;
-    put_answer(talk, &with_port(FORWARDED, 34, port))
+        .extend_from_slice(&with_port(&PACKET, 34, port))?;
+    put_answer(talk, &with_port(&FORWARDED, 34, port))
 }
 
 /// The host is sent a packet to this port.
 fn come_back(talk: &mut Talk, port: u16) -> Result<(), AllocError> {
-    talk.requests.extend_from_slice(&with_port(BACK, 36, port))?;
-    put_answer(talk, &with_port(CAME_BACK, 36, port))
+    talk.requests
+        .extend_from_slice(&with_port(&BACK, 36, port))?;
+    put_answer(talk, &with_port(&CAME_BACK, 36, port))
 }
 
 fn tick(talk: &mut Talk) -> Result<(), AllocError> {
@@ -93,7 +95,11 @@ fn talk_of_all(alloc: Global) -> Result<Talk, AllocError> {
 fn many_flows(rt: HostRuntime) -> Result<(), Fail> {
     let talk = talk_of_all(rt.alloc())?;
     let (ended, written) = run_over(rt.alloc(), talk.requests.as_slice())?;
-    assert!(rt; ended == Ok(talk.number));
-    assert!(rt; written.as_slice() == talk.answers.as_slice());
+    let is_end = ended == Ok(talk.number);
+    let is_answered = written.as_slice() == talk.answers.as_slice();
+    drop(talk);
+    drop(written);
+    assert!(rt; is_end);
+    assert!(rt; is_answered);
     Ok(())
 }

@@ -5,6 +5,7 @@ use socket_edge::EdgeFault;
 use socket_edge::sending::{send, send_all};
 use std::alloc::{AllocError, Global};
 use std::io::{self, Write};
+use std::process::Abort;
 use std::test::Fail;
 
 /// The frames of `answers`.
@@ -118,6 +119,12 @@ fn is_sent(
     Ok(is_whole && is_in_parts && is_got)
 }
 
+/// All frames have come in one call, or in this many.
+fn assert_calls(rt: &impl Abort, writer: &Taker, calls: usize) {
+    assert!(rt; writer.got.as_slice() == &FRAMES[..]);
+    assert!(rt; writer.calls == 1 || writer.calls == calls);
+}
+
 #[test]
 fn one_call_is_enough(rt: HostRuntime) -> Result<(), Fail> {
     let answers = answers(rt.alloc())?;
@@ -125,8 +132,7 @@ fn one_call_is_enough(rt: HostRuntime) -> Result<(), Fail> {
     let sent = send_whole(rt.alloc(), &mut writer, answers.as_slice());
     drop(answers);
     assert!(rt; sent == Ok(()));
-    assert!(rt; writer.got.as_slice() == &FRAMES[..]);
-    assert_eq!(rt; writer.calls, 1);
+    assert_calls(&rt, &writer, 1);
     Ok(())
 }
 
@@ -138,12 +144,30 @@ fn no_answer_is_no_call(rt: HostRuntime) -> Result<(), Fail> {
     Ok(())
 }
 
+fn send_in_pieces(rt: &impl Abort, alloc: Global, answers: &[(u64, Answer)]) -> Result<(), Fail> {
+    for most in &[1, 2, 13, 16, usize::MAX] {
+        let writer = (*most, usize::MAX, End::Fails);
+        assert!(rt; is_sent(alloc, answers, writer, &Ok(()), &FRAMES)?);
+    }
+    Ok(())
+}
+
 #[test]
 fn writes_in_any_pieces(rt: HostRuntime) -> Result<(), Fail> {
     let answers = answers(rt.alloc())?;
-    for most in [1, 2, 13, 16, usize::MAX] {
-        let writer = (most, usize::MAX, End::Fails);
-        assert!(rt; is_sent(rt.alloc(), answers.as_slice(), writer, &Ok(()), &FRAMES)?);
+    send_in_pieces(&rt, rt.alloc(), answers.as_slice())
+}
+
+fn end_at_each_call(
+    rt: &impl Abort,
+    alloc: Global,
+    answers: &[(u64, Answer)],
+    end: End,
+) -> Result<(), Fail> {
+    for taken in 0..FRAMES.len() {
+        let writer = (1, taken + 1, end);
+        let ended = Err(EdgeFault::Output);
+        assert!(rt; is_sent(alloc, answers, writer, &ended, &FRAMES[..taken])?);
     }
     Ok(())
 }
@@ -151,15 +175,8 @@ fn writes_in_any_pieces(rt: HostRuntime) -> Result<(), Fail> {
 #[test]
 fn ends_at_the_first_call_that_fails(rt: HostRuntime) -> Result<(), Fail> {
     let answers = answers(rt.alloc())?;
-    for end in [End::Fails, End::TakesNone] {
-        for taken in 0..FRAMES.len() {
-            let writer = (1, taken + 1, end);
-            let ended = Err(EdgeFault::Output);
-            let got = &FRAMES[..taken];
-            assert!(rt; is_sent(rt.alloc(), answers.as_slice(), writer, &ended, got)?);
-        }
-    }
-    Ok(())
+    end_at_each_call(&rt, rt.alloc(), answers.as_slice(), End::Fails)?;
+    end_at_each_call(&rt, rt.alloc(), answers.as_slice(), End::TakesNone)
 }
 
 /// Holds under `rt try --test --fail-alloc N` for each N: where memory for one piece is refused,
@@ -175,8 +192,7 @@ fn refused_memory(rt: HostRuntime) -> Result<(), Fail> {
     let sent = send_whole(rt.alloc(), &mut writer, answers.as_slice());
     drop(answers);
     assert!(rt; sent == Ok(()));
-    assert!(rt; writer.got.as_slice() == &FRAMES[..]);
     // A head for each of six answers, two parts of each of two bodies, and one of one.
-    assert!(rt; writer.calls == 1 || writer.calls == 11);
+    assert_calls(&rt, &writer, 11);
     Ok(())
 }

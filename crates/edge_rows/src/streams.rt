@@ -1,7 +1,7 @@
 //! Streams of a few frames: how they end, in what pieces they may come and go, and with each growth refused.
 use crate::pieces::{End, giving, taking};
 use crate::shared::{
-    FORWARDED, PACKET, TICK, TICKED, TICKED_AGAIN, gateway, opened, run, run_over,
+    FORWARDED, PACKET, TICK, TICKED, TICKED_AGAIN, Trials, gateway, opened, run, run_over,
 };
 use gateway::GatewayFault;
 use socket_edge::EdgeFault;
@@ -24,25 +24,31 @@ fn is_ticked(alloc: Global, behind: &[u8], end: Result<u64, EdgeFault>) -> Resul
     Ok(ended == end && written.as_slice() == &TICKED[..])
 }
 
+const BAD_KIND: [u8; 14] = [7, 0, 0, 0, 0, 0, 0, 0, 0, 0, 0, 0, 0, 0];
+
+const BAD_INTERFACE: &[u8] = &[3, 1, 0, 0, 0, 1, 0, 0, 0, 0, 0, 0, 0, 0];
+
+const TOO_LONG: &[u8] = &[3, 0, 0, 0, 0, 1, 0, 0, 0, 0, 0, 0, 0, 0];
+
+const CUT: &[u8] = &[1, 0, 0, 0, 0, 1, 0, 0, 0, 0, 0, 0, 0, 0];
+
+// How a run ends that has this behind a moment.
+const ENDS: [(&[u8], Result<u64, EdgeFault>); 5] = [
+    (b"", Ok(1)),
+    (CUT, Err(EdgeFault::Truncated)),
+    (&BAD_KIND, Err(EdgeFault::BadKind)),
+    (BAD_INTERFACE, Err(EdgeFault::BadInterface)),
+    (TOO_LONG, Err(EdgeFault::TooLong)),
+];
+
 #[test]
 fn answers_up_to_the_end_or_a_fault(rt: HostRuntime) -> Result<(), Fail> {
-    let bad_kind: &[u8] = &[7, 0, 0, 0, 0, 0, 0, 0, 0, 0, 0, 0, 0, 0];
-    let bad_interface: &[u8] = &[3, 1, 0, 0, 0, 1, 0, 0, 0, 0, 0, 0, 0, 0];
-    let too_long: &[u8] = &[3, 0, 0, 0, 0, 1, 0, 0, 0, 0, 0, 0, 0, 0];
-    for (behind, end) in [
-        (&[][..], Ok(1)),
-        (&TICK[..13], Err(EdgeFault::Truncated)),
-        (
-            &[1, 0, 0, 0, 0, 1, 0, 0, 0, 0, 0, 0, 0, 0],
-            Err(EdgeFault::Truncated),
-        ),
-        (&bad_kind[..13], Err(EdgeFault::Truncated)),
-        (bad_kind, Err(EdgeFault::BadKind)),
-        (bad_interface, Err(EdgeFault::BadInterface)),
-        (too_long, Err(EdgeFault::TooLong)),
-    ] {
-        assert!(rt; is_ticked(rt.alloc(), behind, end)?);
+    for (behind, end) in &ENDS {
+        assert!(rt; is_ticked(rt.alloc(), *behind, *end)?);
     }
+    let cut = Err(EdgeFault::Truncated);
+    assert!(rt; is_ticked(rt.alloc(), &TICK[..13], cut)?);
+    assert!(rt; is_ticked(rt.alloc(), &BAD_KIND[..13], cut)?);
     Ok(())
 }
 
@@ -71,12 +77,13 @@ fn is_read(
 
 #[test]
 fn reads_and_writes_one_byte_at_a_time(rt: HostRuntime) -> Result<(), Fail> {
-    let alloc = rt.alloc();
-    let mut bytes = Vec::from_slice(alloc, &TICK)?;
-    bytes.extend_from_slice(&TICK)?;
-    for (cut, end, frames) in [(usize::MAX, Ok(2), 2), (27, Err(EdgeFault::Input), 1)] {
-        assert!(rt; is_read(alloc, bytes.as_slice(), cut, end, frames)?);
-    }
+    let twice = TICK.repeat(rt.alloc(), 2)?;
+    let is_whole = is_read(rt.alloc(), twice.as_slice(), usize::MAX, Ok(2), 2)?;
+    let cut = Err(EdgeFault::Input);
+    let is_cut = is_read(rt.alloc(), twice.as_slice(), 27, cut, 1)?;
+    drop(twice);
+    assert!(rt; is_whole);
+    assert!(rt; is_cut);
     Ok(())
 }
 
@@ -92,24 +99,27 @@ fn is_cut_short(alloc: Global, end: End) -> Result<bool, Fail> {
 
 #[test]
 fn ends_where_a_write_fails_or_takes_nothing(rt: HostRuntime) -> Result<(), Fail> {
-    for end in [End::Fails, End::TakesNone] {
-        assert!(rt; is_cut_short(rt.alloc(), end)?);
-    }
+    assert!(rt; is_cut_short(rt.alloc(), End::Fails)?);
+    assert!(rt; is_cut_short(rt.alloc(), End::TakesNone)?);
     Ok(())
+}
+
+// Whether a run is whole, or was refused memory and has written nothing.
+fn is_whole_or_refused(alloc: Global, gateway: &mut Trials) -> bool {
+    let mut written = Vec::new(alloc);
+    let ended = run(alloc, &mut &PACKET[..], &mut written, gateway);
+    // The writer grows too.
+    let refused = ended == Err(EdgeFault::Gateway(GatewayFault::NoMemory))
+        || ended == Err(EdgeFault::Output);
+    let whole = ended == Ok(1) && written.as_slice() == &FORWARDED[..];
+    whole || refused && written.is_empty()
 }
 
 /// Holds under `rt try --test --fail-alloc N` for each N.
 #[test]
 fn each_growth(rt: HostRuntime) -> Result<(), Fail> {
-    let mut written = Vec::new(rt.alloc());
-    let Some(mut gateway) = gateway(rt.alloc()) else {
-        return Ok(());
-    };
-    let ended = run(rt.alloc(), &mut &PACKET[..], &mut written, &mut gateway);
-    let whole = ended == Ok(1) && written.as_slice() == &FORWARDED[..];
-    // The writer grows too.
-    let refused = ended == Err(EdgeFault::Gateway(GatewayFault::NoMemory))
-        || ended == Err(EdgeFault::Output);
-    assert!(rt; whole || refused && written.is_empty());
+    if let Some(mut gateway) = gateway(rt.alloc()) {
+        assert!(rt; is_whole_or_refused(rt.alloc(), &mut gateway));
+    }
     Ok(())
 }

@@ -3,7 +3,8 @@ use crate::shared::{Stream, Trials, answered, four_requests, hex, opened, put_he
 use std::alloc::Global;
 use std::cell::Cell;
 use std::io::{self, Read, Write};
-use std::test::*;
+use std::process::Abort;
+use std::test::Fail;
 
 /// A peer that asks on only once all is answered that it has asked for; otherwise its read fails.
 #[derive(Drop)]
@@ -70,14 +71,20 @@ fn ask(alloc: Global, stream: &Stream, sizes: &[usize]) -> Result<(), Fail> {
     Ok(())
 }
 
+// A request each; two at once; one in parts.
+const PIECES: [&[usize]; 3] = [&[115, 42, 14, 42], &[157, 56], &[1, 13, 101, 41, 1, 57]];
+
+fn ask_in_each(alloc: Global, stream: &Stream) -> Result<(), Fail> {
+    for sizes in &PIECES {
+        ask(alloc, stream, *sizes)?;
+    }
+    Ok(())
+}
+
 #[test]
 fn answers_before_it_reads_on(rt: HostRuntime) -> Result<(), Fail> {
     let stream = four_requests(rt.alloc())?;
-    // A request each; two at once; one in parts.
-    for sizes in [&[115, 42, 14, 42][..], &[157, 56], &[1, 13, 101, 41, 1, 57]] {
-        ask(rt.alloc(), &stream, sizes)?;
-    }
-    Ok(())
+    ask_in_each(rt.alloc(), &stream)
 }
 
 // A load of so many spaces.
@@ -98,22 +105,26 @@ fn is_grown(alloc: Global, gateway: &mut Trials, spaces: u32, grown: u64) -> Res
     Ok(ended == Ok(1) && gateway.grown() == grown)
 }
 
-// A group takes ten bytes more than its text. Four of these fill 1,048,576 bytes, and the next one is too many.
+// So many spaces, and how far the file has grown then. A group takes ten bytes more than its text. Four of these fill
+// 1,048,576 bytes, and the next one is too many.
+const GROWN: [(u32, u64); 6] = [
+    (262_134, 262_144),
+    (262_134, 524_288),
+    (262_134, 786_432),
+    (262_134, 1_048_576),
+    (0, 0),
+    (0, 10),
+];
+
+fn grow(rt: &impl Abort, alloc: Global, gateway: &mut Trials) -> Result<(), Fail> {
+    for (spaces, grown) in &GROWN {
+        assert!(rt; is_grown(alloc, gateway, *spaces, *grown)?, "{grown}");
+    }
+    Ok(())
+}
+
 #[test]
 fn compacts_above_a_mebibyte(rt: HostRuntime) -> Result<(), Fail> {
     let mut gateway = opened(rt.alloc())?;
-    for (spaces, grown) in [
-        (262_134, 262_144),
-        (262_134, 524_288),
-        (262_134, 786_432),
-        (262_134, 1_048_576),
-        (0, 0),
-        (0, 10),
-    ] {
-        assert!(rt;
-            is_grown(rt.alloc(), &mut gateway, spaces, grown)?,
-            "{grown}"
-        );
-    }
-    Ok(())
+    grow(&rt, rt.alloc(), &mut gateway)
 }

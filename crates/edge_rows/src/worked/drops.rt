@@ -446,7 +446,7 @@ lan 1000 4500001c00010000 40117d23 c0a80103 cb007101 00070007 00080223
 = drop 19";
 
 // Faults of a packet, other causes, rules, and clashes of mappings.
-const DROPS: [&[&str]; 24] = [
+static DROPS: [&[&str]; 24] = [
     &[MASQUERADE, SHORT, EMPTY],
     &[MASQUERADE, VERSION, EMPTY],
     &[MASQUERADE, HEADER_LENGTH, EMPTY],
@@ -478,7 +478,7 @@ fn each_drop(rt: HostRuntime) -> Result<(), Fail> {
     play_each(rt.alloc(), &DROPS)
 }
 
-const EARLIER: [&[&str]; 7] = [
+static EARLIER: [&[&str]; 7] = [
     &[DROPPING, FAULT_AND_NEXT, EMPTY],
     &[DROPPING, NO_SESSION_FIRST, EMPTY],
     &[DROPPING, SELF_BEFORE_RULE, EMPTY],

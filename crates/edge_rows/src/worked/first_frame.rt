@@ -38,7 +38,7 @@ const ASKED: &str = "lan 1000 4500001c00010000 40118eeb c0a80102 c6336407 ";
 
 const SENT: &str = "= wan 4500001c00010000 3f111594 cb007101 c6336407 ";
 
-const SCRIPTS: [&[&str]; 3] = [
+static SCRIPTS: [&[&str]; 3] = [
     &[MASQUERADE, FIRST],
     &[MASQUERADE, LAST_PORTS],
     &[MASQUERADE, DROPS],

@@ -233,7 +233,7 @@ wan 1243 4500002800010000 40067cc4 c0000209 cb007101 0fa09c42 00000001 00000000 
 = drop 13
 :";
 
-const LEGS: [&[&str]; 10] = [
+static LEGS: [&[&str]; 10] = [
     &[MASQUERADE, FIRST, UNMAPPED],
     &[MASQUERADE, FIRST, STRANGER_TO_INSIDE],
     &[MASQUERADE, FIRST, PEER_TO_INSIDE],
@@ -251,7 +251,7 @@ fn legs(rt: HostRuntime) -> Result<(), Fail> {
     play_each(rt.alloc(), &LEGS)
 }
 
-const OVER_TIME: [&[&str]; 7] = [
+static OVER_TIME: [&[&str]; 7] = [
     &[MASQUERADE, BOTH_WAYS, BOTH_END],
     &[MASQUERADE, BOTH_WAYS, BOTH_REFRESHED],
     &[MASQUERADE, BOTH_WAYS, BOTH_TOO_LATE],
@@ -266,7 +266,7 @@ fn hairpins_over_time(rt: HostRuntime) -> Result<(), Fail> {
     play_each(rt.alloc(), &OVER_TIME)
 }
 
-const ALL_REMOTES: [&[&str]; 3] = [
+static ALL_REMOTES: [&[&str]; 3] = [
     &[MASQUERADE, ONE_PORT, ONE_PORT_STAYS],
     &[MASQUERADE, ONE_PORT, ONE_PORT_ENDS],
     &[MASQUERADE, ONE_PORT_TCP],

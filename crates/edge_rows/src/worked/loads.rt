@@ -1,5 +1,5 @@
 //! Rulesets that load and that are refused, and streams that end early.
-use crate::worked::script::{expect_end, play, play_each};
+use crate::worked::script::{expect_end, play_each};
 use crate::worked::shared::{FIRST, MASQUERADE};
 use socket_edge::EdgeFault;
 use std::alloc::Global;
@@ -50,12 +50,13 @@ const TOO_LONG: &str = "\
 03 00 00000001 00000000000003e8";
 
 // Behind `LOOP` the old rules stay.
-const LOADS: [&[&str]; 5] = [
+static LOADS: [&[&str]; 6] = [
     &[MASQUERADE, FIRST, SECOND_HOST],
     &[MASQUERADE, NO_CHECKSUM],
     &[MASQUERADE, WRONG_CHECKSUM],
     &[MASQUERADE, ZERO_CHECKSUM],
     &[MASQUERADE, LOOP, FIRST],
+    &[EMPTY_TEXT],
 ];
 
 #[test]
@@ -64,21 +65,19 @@ fn loads(rt: HostRuntime) -> Result<(), Fail> {
     end_early(rt.alloc())
 }
 
+// How a stream ends, and the answers up to there.
+const ENDS: [(&str, Result<u64, EdgeFault>, &str); 6] = [
+    ("", Ok(0), ""),
+    (CUT, Err(EdgeFault::Truncated), "loaded"),
+    (CUT_HEADER, Err(EdgeFault::Truncated), ""),
+    (BAD_KIND, Err(EdgeFault::BadKind), ""),
+    (BAD_INTERFACE, Err(EdgeFault::BadInterface), ""),
+    (TOO_LONG, Err(EdgeFault::TooLong), ""),
+];
+
 fn end_early(alloc: Global) -> Result<(), Fail> {
-    for (stream, end, answers) in [
-        ("", Ok(0), ""),
-        (CUT, Err(EdgeFault::Truncated), "loaded"),
-        (CUT_HEADER, Err(EdgeFault::Truncated), ""),
-        (BAD_KIND, Err(EdgeFault::BadKind), ""),
-        (BAD_INTERFACE, Err(EdgeFault::BadInterface), ""),
-        (TOO_LONG, Err(EdgeFault::TooLong), ""),
-    ] {
-        expect_end(alloc, stream, end, answers)?;
+    for (stream, end, answers) in &ENDS {
+        expect_end(alloc, stream, *end, answers)?;
     }
     Ok(())
-}
-
-#[test]
-fn no_rules(rt: HostRuntime) -> Result<(), Fail> {
-    play(rt.alloc(), &[EMPTY_TEXT])
 }
