@@ -1,6 +1,7 @@
 //! Which of several faults is named, and what is answered where memory is refused.
 
-use crate::loading::{Row, bounds, check, repeated, row_of_chains};
+use crate::limits::{repeated, row_of_chains};
+use crate::loading::{Row, bounds, check};
 use packet::bounds::Bounds;
 use rulesyntax::fault::Kind;
 use ruletext::reading::read;

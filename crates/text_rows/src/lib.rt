@@ -5,11 +5,14 @@
 //!
 //! - `spelling`: which texts spell a ruleset, and what is wrong with the others;
 //! - `loading`: which of them load, and the line and the kind of fault of the others;
-//! - `faults`: two faults in one text, limits, and each call with too little memory.
+//! - `limits`: texts as great as they may be, and greater by one;
+//! - `faults`: two faults in one text, texts that are cut, and what is right to answer where memory is refused.
 #![tactic(auto)]
 
 #[cfg(test)]
 mod faults;
+#[cfg(test)]
+mod limits;
 #[cfg(test)]
 mod loading;
 #[cfg(test)]
