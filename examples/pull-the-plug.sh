@@ -11,7 +11,8 @@
 # where nothing was missing.
 #
 # Signal 9 takes all that the program had in memory. It leaves what the system holds of the files in its caches, which a
-# real loss of power takes as well; that natgw has synced before it answers is told in docs/crash-safety.md.
+# real loss of power takes as well; that natgw has synced before it answers is told in docs/crash-safety.md, and looked
+# at by tests/syncs.
 set -euo pipefail
 
 here=$(cd "$(dirname "${BASH_SOURCE[0]}")" && pwd)
