@@ -1,11 +1,11 @@
 //! The places, in buckets, and the overflow.
-ghost use Rattle.std.specs.Prelude.{◌≡◌, ◌≢◌, ◌⊎◌, ◌+◌, ◌*◌, ◌/◌, true, ◌<◌, ◌≤◌, ◌↔◌, ℕ, IsTrue, None, Some, OnOk, OnErr, IsOk, IsSome, IfSome, IfNone, length, slice_index_or};
+ghost use Rattle.std.specs.Prelude.{◌≡◌, ◌≢◌, ◌⊎◌, ◌+◌, ◌*◌, ◌/◌, true, ◌<◌, ◌≤◌, ℕ, None, Some, OnOk, OnErr, IsOk, IsSome, IfSome, IfNone, length, slice_index_or};
 ghost use Rattle.std.specs.Bool.{OnTrue, OnFalse};
 ghost use Rattle.std.specs.Option.{option_map};
-ghost use Rattle.rows.specs.Held.{at, value_at, Puts};
+ghost use Rattle.rows.specs.Held.{value_at, Puts};
 ghost use Rattle.std.specs.Prelude.{IfOk};
 ghost use Rattle.rows.specs.declared.Entry.{Entry as KeyValue};
-ghost use Rattle.buckets.specs.Places.{all_in, bucket_of, number, Stands, HasKey, HasNowhere, AreHome, AreInFront, AreApart, AreSound, IsFreeFor, IsNextFor, EndsSearch, IsLast, IsFull, IsFilled, ArePacked, ArePackedBut, IsClosed, IsCopied, IsMoved, HaveSame, IsSetTo};
+ghost use Rattle.buckets.specs.Places.{all_in, bucket_of, number, Stands, HasKey, HasNowhere, AreHome, AreInFront, AreApart, AreSound, IsFreeFor, IsNextFor, EndsSearch, IsFull, IsFilled, ArePacked, ArePackedBut, IsClosed, IsCopied, HaveSame, IsSetTo};
 
 use crate::overflow::{Overflow, number, spread};
 use crate::place::Place;

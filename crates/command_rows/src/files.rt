@@ -33,7 +33,7 @@ const OTHER_CONFIGURATION: &str =
     "fresh: the files were written with another configuration: start natgw with --wan wan, or name another directory";
 
 const DAMAGED: &str =
-    "fresh: natgw.a holds generation 1, no session; natgw.b is no file of natgw, or one of another version: put both back from one backup, or move natgw.b away to go on with what natgw.a holds";
+    "fresh: natgw.a holds generation 1, no session; natgw.b is no file of natgw, or one of another version: put both back from one backup, or move natgw.b away to go on with what natgw.a holds, which may be older";
 
 // While one gateway holds the directory no other one does.
 fn make(rt: &HostRuntime) -> Result<bool, Fail> {

@@ -1,5 +1,5 @@
 //! What two files are together.
-ghost use Rattle.std.specs.Prelude.{◌≡◌, ℕ, IfOk};
+ghost use Rattle.std.specs.Prelude.{IfOk};
 ghost use Rattle.durable.specs.Entering.{Durable};
 ghost use Rattle.durable.specs.Recovery.{Recovers, pair};
 ghost use Rattle.diagnosis.specs.Finding.{IsDamaged, IsFinding};

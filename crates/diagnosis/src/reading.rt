@@ -1,5 +1,5 @@
 //! What one file is by itself.
-ghost use Rattle.std.specs.Prelude.{◌≡◌, ◌↔◌, ℕ, IfOk, IsTrue};
+ghost use Rattle.std.specs.Prelude.{◌↔◌, ℕ, IfOk, IsTrue};
 ghost use Rattle.durable.specs.Coding.{Heading};
 ghost use Rattle.durable.specs.Entering.{Durable};
 ghost use Rattle.durable.specs.Recovery.{IsOpen, Holds};

@@ -102,7 +102,7 @@ fn say_one<W: fmt::Write>(
             }
             write!(
                 f,
-                ", or move {} away to go on with what {} holds",
+                ", or move {} away to go on with what {} holds, which may be older",
                 name_of(faulty),
                 name_of(other)
             )

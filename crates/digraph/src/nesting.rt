@@ -1,6 +1,6 @@
 //! How long paths are, and whether there is a loop.
 
-ghost use Rattle.std.specs.Prelude.{◌≡◌, ◌↔◌, ◌+◌, ◌<◌, ◌≤◌, ℕ, length, replicate, slice_index, slice_get, IfOk, IsTrue, All};
+ghost use Rattle.std.specs.Prelude.{◌≡◌, ◌↔◌, ◌+◌, ◌<◌, ◌≤◌, ℕ, length, replicate, slice_index, IfOk, IsTrue, All};
 ghost use Rattle.std.specs.List.{Contains};
 ghost use Rattle.digraph.specs.Paths.{HasPath, HasLoop, IsDeeper};
 ghost use Rattle.digraph.specs.Heights.{IsRaised, AreHeights};

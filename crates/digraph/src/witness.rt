@@ -1,6 +1,6 @@
 //! What shows that there is a loop, or that there is none.
 
-ghost use Rattle.std.specs.Prelude.{◌≡◌, ◌<◌, ◌≤◌, ℕ, IfOk, IfSome, IfNone, IsTrue, length, slice_index};
+ghost use Rattle.std.specs.Prelude.{◌≡◌, ◌<◌, ℕ, IfOk, IfSome, IfNone, IsTrue, length, slice_index};
 ghost use Rattle.std.specs.List.{Contains};
 ghost use Rattle.digraph.specs.Paths.{HasLoop, IsReachedFrom};
 ghost use Rattle.digraph.specs.Edges.{IsMarked, HasEdge, AreWithin};

@@ -1,5 +1,5 @@
 //! The meter of the disk in memory: how many calls there were and how many failed, and which one is to fail.
-ghost use Rattle.std.specs.Prelude.{◌≡◌, ◌+◌, ◌≤◌, ◌^◌, ℕ, Some, None};
+ghost use Rattle.std.specs.Prelude.{◌≡◌, ◌+◌, ◌≤◌, Some, None};
 ghost use Rattle.disk_model.specs.Disk.{Grew};
 ghost use Rattle.disk_model.specs.Metered.{Metered, ticked, failed, turn_of, turn_by, burnt, spent, is_due};
 ghost use Rattle.disk_model.specs.declared.meter.Turn.TheVariants.{Passes, Refused, Cut};

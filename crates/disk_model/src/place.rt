@@ -1,5 +1,5 @@
 //! Putting bytes into a file that is held in memory.
-ghost use Rattle.std.specs.Prelude.{◌≡◌, ◌+◌, ◌-◌, ◌≤◌, List, ℕ, [], ◌++◌, length, replicate, take, drop, OnOk, OnErr};
+ghost use Rattle.std.specs.Prelude.{◌≡◌, ◌+◌, ◌-◌, ◌≤◌, ◌++◌, length, replicate, OnOk, OnErr};
 ghost use Rattle.disk_model.specs.Disk.{put};
 ghost use Rattle.disk_model.specs.Choices.{placed};
 

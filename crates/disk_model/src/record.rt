@@ -1,7 +1,7 @@
 //! The record of the disk in memory: two files as they read now, as they were first, and the calls between.
-ghost use Rattle.std.specs.Prelude.{◌≡◌, ◌⊎◌, ◌+◌, ◌≤◌, List, ℕ, [], ◌∷◌, ◌++◌, length, map, OnOk, OnErr, IfOk};
+ghost use Rattle.std.specs.Prelude.{◌≡◌, ◌+◌, ◌≤◌, [], ◌∷◌, ◌++◌, length, map, OnOk, OnErr, IfOk};
 ghost use Rattle.disk_model.specs.Disk.{put};
-ghost use Rattle.disk_model.specs.Recorded.{History, Done, Wrote, Synced, did, reads};
+ghost use Rattle.disk_model.specs.Recorded.{History, Wrote, Synced, did, reads};
 ghost use Rattle.disk_model.specs.Choices.{restarted};
 ghost use Rattle.disk_model.specs.Calls.{done_of};
 
@@ -24,7 +24,7 @@ pub(crate) struct Record {
 }
 
 impl Model for Record {
-    ghost use Rattle.std.specs.Prelude.{◌≡◌, List, ℕ, map};
+    ghost use Rattle.std.specs.Prelude.{◌≡◌, map};
     ghost use Rattle.disk_model.specs.Recorded.{History, Kept};
 
     ghost Value = { History };

@@ -1,8 +1,8 @@
 //! What a crash of the disk in memory leaves of one file, found by going over the record once.
-ghost use Rattle.std.specs.Prelude.{◌≡◌, ◌+◌, ◌/◌, ◌%◌, ◌^◌, ◌<◌, ◌≤◌, Bool, nat_eq, List, ℕ, [], ◌∷◌, ◌++◌, length, get_or, map, replicate, OnOk, OnErr, IfOk};
+ghost use Rattle.std.specs.Prelude.{◌≡◌, ◌+◌, ◌%◌, ◌<◌, nat_eq, ℕ, [], length, get_or, map, replicate, OnOk, IfOk};
 ghost use Rattle.disk_model.specs.Disk.{put};
 ghost use Rattle.disk_model.specs.Recorded.{Since, heard, heard_all, is_same};
-ghost use Rattle.disk_model.specs.Choices.{is_closing, ones, comes, laid, chosen, placed};
+ghost use Rattle.disk_model.specs.Choices.{ones, comes, laid, chosen, placed};
 ghost use Rattle.disk_model.specs.Following.{Follows};
 ghost use Rattle.disk_model.specs.Calls.{done_of};
 

@@ -1,9 +1,9 @@
 //! `SimDisk`: a disk in memory that can be told to fail and to crash.
-ghost use Rattle.std.specs.Prelude.{◌≡◌, ◌↔◌, ◌⊎◌, ◌+◌, ◌≤◌, ◌<◌, List, ℕ, [], ◌∷◌, ◌++◌, length, take, drop, IfOk, OnOk, OnErr, IsOk, IsErr, ⊤, Some, None};
+ghost use Rattle.std.specs.Prelude.{◌≡◌, ◌↔◌, ◌⊎◌, ◌+◌, ◌≤◌, ◌<◌, [], length, take, drop, IfOk, OnOk, OnErr, IsOk, ⊤, Some, None};
 ghost use Rattle.disk_model.specs.Disk.{Synced as IsSynced, Put, Written, Goes, Same, Grew, Called, HasCause};
-ghost use Rattle.disk_model.specs.Recorded.{History, Wrote, Synced, did, reads, two, LeftSince};
+ghost use Rattle.disk_model.specs.Recorded.{Wrote, Synced, did, reads, two};
 ghost use Rattle.disk_model.specs.Choices.{crashed, restarted};
-ghost use Rattle.disk_model.specs.Metered.{Metered, ticked, failed, turn_of};
+ghost use Rattle.disk_model.specs.Metered.{failed, turn_of};
 ghost use Rattle.disk_model.specs.Simulated.{Simulated, seen_of, moment_of, left_of, IsRested, passed, failing, half, FailsToWrite};
 ghost use Rattle.disk_model.specs.declared.meter.Turn.TheVariants.{Passes, Refused, Cut};
 ghost use Rattle.disk_model.specs.Lawful.{reads_left, left_earlier};

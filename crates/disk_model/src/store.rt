@@ -1,6 +1,6 @@
 //! A write that is synced.
-ghost use Rattle.std.specs.Prelude.{◌≡◌, ◌+◌, ◌≤◌, ◌↔◌, List, ℕ, length, IfOk, OnOk};
-ghost use Rattle.disk_model.specs.Disk.{Files, FromEntry, Leaves, Written, Synced, Put, Called, HasCause};
+ghost use Rattle.std.specs.Prelude.{◌+◌, ◌≤◌, ◌↔◌, length, OnOk};
+ghost use Rattle.disk_model.specs.Disk.{FromEntry, Leaves, Written, Synced, Put, Called, HasCause};
 
 use crate::{Disk, DiskFault, FileId};
 

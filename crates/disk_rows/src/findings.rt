@@ -259,7 +259,7 @@ fn lines_beside(newer: &[u8]) -> [Line<'_>; 2] {
             a: b"\x01#!/bin/sh",
             b: newer,
             configured: HERE,
-            expected: "natgw.a is no file of natgw, or one of another version; natgw.b holds generation 2, one session: put both back from one backup, or move natgw.a away to go on with what natgw.b holds",
+            expected: "natgw.a is no file of natgw, or one of another version; natgw.b holds generation 2, one session: put both back from one backup, or move natgw.a away to go on with what natgw.b holds, which may be older",
         },
     ]
 }

@@ -38,6 +38,18 @@ pub coded-proto : Coded Any (λ p. proto_number p ∷ []) proto_at
 unfolding proto_at
 coded-proto = coded-chosen (λ b. b < 256) (λ b. b ∷ []) byte_at Any proto_of proto_number proto_there proto_back coded-byte
 
+pub proto_found : (n : ℕ) (p : Proto) → proto_number p ≡ n → proto_of n ≡ Some p
+proto_found n p is = subst (λ (k : ℕ). proto_of k ≡ Some p) is (proto_there p tt).0
+
+pub proto_none : (n : ℕ) → ((p : Proto) → proto_number p ≢ n) → proto_of n ≡ None
+proto_none n none = elim (cases_Bool (eqb n 6)) [
+  | inl h ↦ absurd (none Tcp (sym (eqb-true n 6 h)))
+  | inr h ↦ elim (cases_Bool (eqb n 17)) [
+    | inl g ↦ absurd (none Udp (sym (eqb-true n 17 g)))
+    | inr g ↦ rw (h, g) refl
+  ]
+]
+
 opener_there : (o : Opener) → Any o → (opener_of (opener_code o) ≡ Some o) × (opener_code o < 256)
 opener_there Inside is = (refl, omega arith)
 opener_there Remote is = (refl, omega arith)

@@ -1,6 +1,6 @@
 //! Whether a stored configuration is one.
 ghost use Rattle.std.specs.Prelude.{◌≡◌, IsTrue, IfOk, IsErrOf, string_bytes};
-ghost use Rattle.packet.specs.Config.{Config, is_config, is_name};
+ghost use Rattle.packet.specs.Config.{is_config, is_name};
 ghost use Rattle.durable.specs.Viewing.{config_view};
 
 use crate::DurableFault;

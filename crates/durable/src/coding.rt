@@ -1,5 +1,5 @@
 //! Sessions and entries at the front of bytes.
-ghost use Rattle.std.specs.Prelude.{◌≡◌, IfSome, IfNone};
+ghost use Rattle.std.specs.Prelude.{IfSome, IfNone};
 ghost use Rattle.durable.specs.Coding.{IsSession, session_bytes, Begins, NoneBegins, IsEntry, entry_bytes};
 ghost use Rattle.durable.specs.Reading.{Gives, flow_at, session_at, seen_at, restart_at, entry_at};
 ghost use Rattle.durable.specs.Viewing.{view};

@@ -1,5 +1,4 @@
 //! Numbers, texts and endpoints at the front of bytes.
-ghost use Rattle.std.specs.Prelude.{◌≡◌};
 ghost use Rattle.durable.specs.Reading.{Gives, byte_at, number_at, text_at, proto_at, opener_at, endpoint_at};
 
 use byteorder::{BigEndian, ByteOrder};
@@ -54,13 +53,8 @@ pub fn proto_of(bytes: &[u8]) -> Option<(Proto, &[u8])>
     ensures { Gives (λ x. (x.0, x.1.now)) result (proto_at bytes.now) }
 {
     let (number, rest) = byte_of(bytes)?;
-    if number == 6 {
-        return Some((Proto::Tcp, rest));
-    }
-    if number == 17 {
-        return Some((Proto::Udp, rest));
-    }
-    None
+    let proto = Proto::of_number(number)?;
+    Some((proto, rest))
 }
 
 #[tactic(auto, unfolding(crate::specs::Reading::opener_at))]

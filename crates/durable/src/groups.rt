@@ -1,5 +1,5 @@
 //! The leading open groups behind a heading change a state.
-ghost use Rattle.std.specs.Prelude.{◌≡◌, ◌≢◌, ◌∷◌, ◌<◌, ◌^◌, List, ℕ, length, get_or, IfOk, IfSome, IfNone, OnOk, IsErrOf};
+ghost use Rattle.std.specs.Prelude.{◌≡◌, ◌∷◌, ◌<◌, ◌^◌, List, ℕ, length, IfOk, IfSome, IfNone, IsErrOf};
 ghost use Rattle.durable.specs.Coding.{text_bytes, Begins, NoneBegins};
 ghost use Rattle.durable.specs.Entering.{Durable, durable};
 ghost use Rattle.sessions.specs.Listing.{listing};

@@ -1,6 +1,6 @@
 //! What stands behind an open file gate: mark, generation, configuration and snapshot.
-ghost use Rattle.std.specs.Prelude.{◌≡◌, IfOk, IsErrOf};
-ghost use Rattle.durable.specs.Coding.{Begins, NoneBegins, IsCodedConfig, config_bytes, IsKept, snapshot_bytes, IsHeading, heading_bytes};
+ghost use Rattle.std.specs.Prelude.{IfOk, IsErrOf};
+ghost use Rattle.durable.specs.Coding.{Begins, NoneBegins, IsHeading, heading_bytes};
 ghost use Rattle.durable.specs.Reading.{Gives, Yields, items_at, prefix_at, session_at, prefixes_at, sessions_at, config_at, snapshot_at, mark_at, heading_at};
 ghost use Rattle.durable.specs.Viewing.{config_view, kept_view, heading_view};
 

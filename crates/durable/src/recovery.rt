@@ -1,5 +1,5 @@
 //! What two files stand for.
-ghost use Rattle.std.specs.Prelude.{◌≡◌, ◌<◌, ◌↔◌, IsTrue, List, ℕ, Option, length, drop, IfOk, OnOk, IsErrOf};
+ghost use Rattle.std.specs.Prelude.{◌≡◌, ◌<◌, ◌↔◌, IsTrue, List, ℕ, Option, drop, IfOk, OnOk, IsErrOf};
 ghost use Rattle.std.specs.List.{All};
 ghost use Rattle.sessions.specs.Life.{IsSeen};
 ghost use Rattle.sessions.specs.Listing.{listing};

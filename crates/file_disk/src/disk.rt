@@ -1,5 +1,5 @@
 //! The disk over two files.
-ghost use Rattle.std.specs.Prelude.{◌≡◌, ℕ, []};
+ghost use Rattle.std.specs.Prelude.{◌≡◌, []};
 ghost use Rattle.disk_model.specs.Disk.{Called, HasCause};
 ghost use Rattle.file_disk.specs.Filed.{Filed, Asks};
 

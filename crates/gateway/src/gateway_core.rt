@@ -46,7 +46,6 @@ pub struct Gateway<D: Disk + Drop> {
 impl<D: Disk + Drop> Model for Gateway<D> {
     ghost use Rattle.std.specs.Prelude.{◌≡◌, ◌+◌, [], length, false};
     ghost use Rattle.durable.specs.Coding.{body_bytes};
-    ghost use Rattle.gateway.specs.Told.{Told};
     ghost use Rattle.gateway.specs.Kept.{Kept, IsStanding};
 
     ghost Value = { Kept D };

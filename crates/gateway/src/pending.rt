@@ -2,7 +2,6 @@
 ghost use Rattle.std.specs.Prelude.{◌≡◌, ◌≢◌, ◌↔◌, ◌+◌, ◌*◌, ◌<◌, ◌≤◌, ◌^◌, ◌++◌, ◌∷◌, [], length, IfOk, IfSome, IfNone, OnOk, IsTrue, vec_len, vec_capacity};
 ghost use Rattle.durable.specs.Coding.{IsEntry, AreEntries, entry_bytes, body_bytes};
 ghost use Rattle.durable.specs.Viewing.{view};
-ghost use Rattle.machine.specs.declared.event.Answer.{Answer as Answered};
 
 use durable::{Entry, begin_code, end_code, load_front, restart_code, seen_code};
 use journal::{Group, LIMIT};

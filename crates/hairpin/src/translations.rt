@@ -1,5 +1,5 @@
 //! The mappings, and the outside ports that they take, which change together.
-ghost use Rattle.std.specs.Prelude.{◌≡◌, ◌↔◌, ◌⊎◌, ◌+◌, ◌<◌, ◌≤◌, ℕ, Bool, Some, false, OnOk, IfOk, IfSome, IfNone};
+ghost use Rattle.std.specs.Prelude.{◌≡◌, ◌↔◌, ◌⊎◌, ◌+◌, ◌<◌, ◌≤◌, ℕ, Bool, Some, false, OnOk, IfOk, IsOk, IfSome, IfNone};
 ghost use Rattle.std.specs.List.{Contains};
 ghost use Rattle.std.specs.Option.{option_map};
 ghost use Rattle.packet.specs.Same.{same_endpoint};
@@ -62,9 +62,11 @@ impl Translations {
     ///
     /// # Errors
     ///
-    /// `AllocError` where memory is refused. No mapping and no room is lost then.
+    /// `AllocError` where memory is refused, and never where there is that room already. No mapping and no room is
+    /// lost then.
     pub fn reserve(&mut self) -> Result<(), AllocError>
         ensures ok { OnOk result (HasRoom 2 self.new) }
+        ensures succeeds { HasRoom 2 self.old → IsOk result }
         ensures same { SameTimes self.old.pairs self.new.pairs }
         ensures room { (n : ℕ) → HasRoom n self.old → HasRoom n self.new }
         ensures external { self.new.external ≡ self.old.external }

@@ -1,5 +1,5 @@
 //! Putting a group behind the others of a file.
-ghost use Rattle.std.specs.Prelude.{◌≡◌, ◌+◌, ◌<◌, ◌≤◌, ◌↔◌, List, ℕ, ◌∷◌, length, IfOk, OnOk, IsErrOf};
+ghost use Rattle.std.specs.Prelude.{◌≡◌, ◌+◌, ◌<◌, ◌≤◌, ◌↔◌, ◌∷◌, length, IfOk, OnOk, IsErrOf};
 ghost use Rattle.disk_model.specs.Disk.{FromEntry, Leaves, Put, Called, Grew};
 ghost use Rattle.journal.specs.Groups.{Resting, Appended, Stands, framed};
 

@@ -2,7 +2,7 @@
 ghost use Rattle.std.specs.Prelude.{◌≡◌, ◌+◌, ◌<◌, ◌≤◌, ◌↔◌, List, ℕ, length, get_or, IfOk, OnOk, IfSome, IsErrOf};
 ghost use Rattle.byteorder.specs.Endian.{big_bytes};
 ghost use Rattle.disk_model.specs.Disk.{Looks, Grew};
-ghost use Rattle.journal.specs.Groups.{Groups, GroupsOnce, GroupAt, IsRead, IsTornAt, bodies_of};
+ghost use Rattle.journal.specs.Groups.{Groups, GroupsOnce, IsRead, IsTornAt, bodies_of};
 
 use crate::JournalFault;
 use byteorder::{BigEndian, ByteOrder};

@@ -15,7 +15,7 @@ ghost use Rattle.sessions.specs.Sound.{AreSound};
 ghost use Rattle.hairpin.specs.declared.cause.Cause.{Cause as Reason};
 ghost use Rattle.machine.specs.Core.{IsTransition, AddsNoSession, state_of};
 ghost use Rattle.machine.specs.Judged.{Judged, IsJudged, IsNoLoad, bringer};
-ghost use Rattle.machine.specs.Machine.{AddsNone, EndsNone, act, aged, empty_at, later, leg, on_route, pass, sent, step};
+ghost use Rattle.machine.specs.Machine.{AddsNone, EndsNone, act, aged, empty_at, later, leg, pass, sent, step};
 ghost use Rattle.durable.specs.Coding.{Entry as Noted, Load};
 ghost use Rattle.durable.specs.Entering.{IsDurable, IsRuleset, durable};
 ghost use Rattle.machine.specs.Noted.{AreEntriesOf, AreOver, IsRestarted, ends, of_deed, of_fields, of_way};

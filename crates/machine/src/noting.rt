@@ -1,5 +1,5 @@
 //! The entries by which a change of a session is noted.
-ghost use Rattle.std.specs.Prelude.{◌≡◌, ◌≢◌, ◌↔◌, ◌+◌, ◌^◌, ◌<◌, ◌≤◌, ◌++◌, [], ℕ, List, IsTrue};
+ghost use Rattle.std.specs.Prelude.{◌≡◌, ◌≢◌, ◌↔◌, ◌+◌, ◌^◌, ◌<◌, ◌≤◌, ◌++◌, [], ℕ, IsTrue};
 ghost use Rattle.durable.specs.Coding.{AreEntries, IsEndpoint, IsFlow, IsSession};
 ghost use Rattle.durable.specs.Entering.{flow_of as flow_in};
 ghost use Rattle.hairpin.specs.Plans.{Gives};

@@ -1,9 +1,8 @@
 //! The pairs, each in a slot of its own, and the two maps that lead to it.
 ghost use Rattle.std.specs.Prelude.{◌≡◌, ◌⊎◌, ℕ, ◌+◌, ◌-◌, ◌*◌, ◌<◌, ◌≤◌, Some, None, OnOk, OnErr, IsOk, IfSome, IfNone, IsSomeAnd};
 ghost use Rattle.packet.specs.declared.endpoint.Endpoint.{Endpoint as Place};
-ghost use Rattle.slab.specs.Slab.{get, with_value, slab_len};
-ghost use Rattle.rows.specs.Held.{at, value_at, Puts};
-ghost use Rattle.mappings.specs.declared.map.Counted.{Counted as Entry};
+ghost use Rattle.slab.specs.Slab.{get, with_value};
+ghost use Rattle.rows.specs.Held.{at, Puts};
 ghost use Rattle.mappings.specs.Map.{times_in, pair, GainsIn};
 ghost use Rattle.mappings.specs.Indexed.{key, IsSmall, IsIndexed, KeepsOneToOneIn, held_in, room_in};
 

@@ -1,5 +1,5 @@
 //! The ports that are taken, and the nearest free one.
-ghost use Rattle.std.specs.Prelude.{◌≡◌, ◌↔◌, ◌+◌, ◌*◌, ◌^◌, ◌<◌, ◌≤◌, ◌==◌, ℕ, Bool, IsTrue, IsOk, IsSome, OnOk, OnErr, IfOk, IfSome, IfNone, length};
+ghost use Rattle.std.specs.Prelude.{◌≡◌, ◌↔◌, ◌+◌, ◌*◌, ◌<◌, ◌≤◌, ◌==◌, ℕ, Bool, IsTrue, IsOk, IsSome, OnOk, OnErr, IfOk, IfSome, IfNone, length};
 ghost use Rattle.std.specs.List.{Contains, position};
 ghost use Rattle.packet.specs.declared.endpoint.Proto.{Proto as Protocol};
 ghost use Rattle.portpick.specs.Taken.{IsTaken, Takes, SameTaken, start};

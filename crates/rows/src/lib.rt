@@ -14,7 +14,7 @@
 //! - `specs/Held`: the entries, as contracts see them
 #![tactic(auto)]
 
-ghost use Rattle.std.specs.Prelude.{◌≡◌, [], ◌+◌, ◌^◌, ◌<◌, ◌≤◌, ℕ, None, Some, IsOk, IfNone, OnOk, OnErr, OnSome, length};
+ghost use Rattle.std.specs.Prelude.{◌≡◌, [], ◌+◌, ◌<◌, ◌≤◌, ℕ, None, Some, IsOk, IfNone, OnOk, OnErr, OnSome, length};
 ghost use Rattle.rows.specs.Held.{at, entries_from, Puts, AreRising};
 ghost use Rattle.rows.specs.Walk.{rest};
 

@@ -1,5 +1,5 @@
 //! The runs in which the entries lie.
-ghost use Rattle.std.specs.Prelude.{◌≡◌, ◌+◌, ◌<◌, ◌≤◌, ◌++◌, ◌↔◌, [], ℕ, IsTrue, None, Some, OnOk, OnErr, OnSome, ◌^◌, IfSome, IfNone, length, vec_capacity, slice_index_or, slice_set, take, drop};
+ghost use Rattle.std.specs.Prelude.{◌≡◌, ◌+◌, ◌<◌, ◌≤◌, ◌++◌, ◌↔◌, [], ℕ, IsTrue, None, Some, OnOk, OnErr, OnSome, IfSome, IfNone, length, vec_capacity, slice_index_or, slice_set, take, drop};
 ghost use Rattle.std.specs.List.{AllWithin, insert};
 ghost use Rattle.rows.specs.Held.{value_at, entries_from, Puts};
 ghost use Rattle.rows.specs.Walk.{rest};

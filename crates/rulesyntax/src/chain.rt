@@ -1,9 +1,9 @@
 //! Reads chains: comments, a base with its policy, and then rules.
 
-ghost use Rattle.std.specs.Prelude.{◌≡◌, ◌+ℤ◌, ◌≤◌, ◌≤ℤ◌, ℤ, pos, neg_ℤ, Some, false, IfOk, IfErr, codes};
+ghost use Rattle.std.specs.Prelude.{◌≡◌, ◌≤◌, ◌≤ℤ◌, ℤ, pos, neg_ℤ, Some, false, IfOk, IfErr, codes};
 ghost use Rattle.rulesyntax.specs.Names.{priority_value};
 ghost use Rattle.rulesyntax.specs.Words.{hook_words};
-ghost use Rattle.rulesyntax.specs.Reading.{Gives, Fails, ◌>>=◌ as and_then, word_at, keyword_at, amount_at, less_behind, more_behind, named_priority, priority_at, base_behind, with_policy, rule_step, policy_behind, member_behind, chain_step, no_members, chain_behind};
+ghost use Rattle.rulesyntax.specs.Reading.{Gives, Fails, ◌>>=◌ as and_then, word_at, keyword_at, amount_at, less_behind, more_behind, named_priority, priority_at, base_behind, with_policy, rule_step, policy_behind, member_behind, chain_step, chain_behind};
 
 use crate::error::ReadError;
 use crate::keyword::{MemberWord, PriorityName};

@@ -3,7 +3,7 @@
 ghost use Rattle.std.specs.Prelude.{◌≡◌, ◌&&◌, not, false, true, length, suc, nat_le, Some, None, if◌then◌else◌, IfOk, IfErr};
 ghost use Rattle.ruletokens.specs.declared.token.Symbol.TheVariants.{Colon};
 ghost use Rattle.rulesyntax.specs.declared.keyword.HeadWord.TheVariants as head_word;
-ghost use Rattle.rulesyntax.specs.Reading.{Gives, Goes, Eats, Finds, seen, verdict_behind, verdict_at, pair_at, meta_head, ip_head, port_head, head_behind, head_at, symbol_at, ◌>>=◌ as and_then, is_state, operator_at, states_side, states_at, one_at, named_behind, several_behind, plain_at, side_at, match_at, amounts_behind, counter_behind, begins_head, begins_vmap, begins_word, begins_part, transport_word, IsSyntax, part_at, with_part, parts_from, no_parts, vmap_at, to_at, port_behind, port_at, dnat_behind, snat_behind, nat_behind, wrapped, verdict_end, vmap_end, end_at, comment_at, is_said, rule_at};
+ghost use Rattle.rulesyntax.specs.Reading.{Gives, Goes, Finds, seen, verdict_behind, verdict_at, pair_at, meta_head, ip_head, port_head, head_behind, head_at, symbol_at, ◌>>=◌ as and_then, is_state, operator_at, states_side, states_at, one_at, named_behind, several_behind, plain_at, side_at, match_at, amounts_behind, counter_behind, begins_head, begins_vmap, begins_word, begins_part, transport_word, IsSyntax, part_at, with_part, parts_from, no_parts, vmap_at, to_at, port_behind, port_at, dnat_behind, snat_behind, nat_behind, wrapped, verdict_end, vmap_end, end_at, comment_at, is_said, rule_at};
 
 use crate::element::{Entry, braced, element, entries, opened};
 use crate::error::ReadError;

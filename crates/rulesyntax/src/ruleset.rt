@@ -1,7 +1,6 @@
 //! From a text to the ruleset that it spells.
 
 ghost use Rattle.std.specs.Prelude.{◌≡◌, ◌↔◌, ◌<◌, ◌≤◌, ℕ, List, length, Err, IfOk, IfErr};
-ghost use Rattle.rulesyntax.specs.Reading.{Answers};
 ghost use Rattle.rulesyntax.specs.Grammar.{Spells};
 ghost use Rattle.rulesyntax.specs.Text.{greatest_length, IsSpelledBy, IsOkOrNoMemory, IsUnreadFor, IsUnspelled, IsUnread, IsOfSyntax, IsFault};
 ghost use Rattle.ruletokens.specs.declared.token.Token.{Token};

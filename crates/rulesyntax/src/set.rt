@@ -1,7 +1,7 @@
 //! Reads sets: lists of lines between braces.
 
-ghost use Rattle.std.specs.Prelude.{◌≡◌, Some, false, codes, IfOk, IfErr};
-ghost use Rattle.rulesyntax.specs.Reading.{Gives, Fails, type_behind, elements_behind, line_behind, set_step, no_lines, set_behind};
+ghost use Rattle.std.specs.Prelude.{◌≡◌, Some, false, IfOk, IfErr};
+ghost use Rattle.rulesyntax.specs.Reading.{Gives, Fails, type_behind, elements_behind, line_behind, set_step, set_behind};
 
 use crate::element::{braced, entries};
 use crate::error::ReadError;

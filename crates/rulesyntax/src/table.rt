@@ -1,10 +1,10 @@
 //! Reads tables, and texts, which are lists of them.
 
-ghost use Rattle.std.specs.Prelude.{◌≡◌, Some, false, codes, IfOk, IfErr};
+ghost use Rattle.std.specs.Prelude.{◌≡◌, Some, false, IfOk, IfErr};
 ghost use Rattle.rulesyntax.specs.declared.keyword.ItemWord.TheVariants as item_word;
 ghost use Rattle.rulesyntax.specs.declared.keyword.StatementWord.TheVariants as statement_word;
 ghost use Rattle.rulesyntax.specs.Names.{is_reserved};
-ghost use Rattle.rulesyntax.specs.Reading.{Gives, Fails, Answers, IsSyntax, item_behind, table_step, no_items, family_at, free_name_at, table_behind, flush_behind, statement_behind, text_step, text_at};
+ghost use Rattle.rulesyntax.specs.Reading.{Gives, Fails, Answers, IsSyntax, item_behind, table_step, family_at, free_name_at, table_behind, flush_behind, statement_behind, text_step, text_at};
 
 use crate::chain::chain;
 use crate::error::{ReadError, Spot};

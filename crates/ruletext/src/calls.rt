@@ -3,8 +3,7 @@
 ghost use Rattle.std.specs.Prelude.{◌≡◌, ◌↔◌, ◌⊎◌, ◌<◌, ℕ, IfOk, OnOk, length};
 ghost use Rattle.std.specs.Option.{option_map};
 ghost use Rattle.std.specs.List.{Contains};
-ghost use Rattle.ruletext.specs.Names.{AreApart};
-ghost use Rattle.ruletext.specs.Said.{target_of as target_name, verdicts_in, verdicts_of, chain_names};
+ghost use Rattle.ruletext.specs.Said.{target_of as target_name, verdicts_in, chain_names};
 ghost use Rattle.ruletext.specs.Calls.{OfSome, VerdictCalls, RuleCalls, ChainCalls, Calls};
 ghost use Rattle.digraph.specs.Edges.{HasEdge, AreWithin};
 

@@ -1,6 +1,6 @@
 //! How much a text has.
 
-ghost use Rattle.std.specs.Prelude.{◌≡◌, ◌+◌, min, length, sum_by, is_some, IfOk};
+ghost use Rattle.std.specs.Prelude.{◌≡◌, min, length, sum_by, is_some, IfOk};
 ghost use Rattle.ruletext.specs.Counts.{elements_of_side, pairs_of, elements_of_rule, elements_of_set, elements_of_table, rules_of_table, is_much};
 
 use crate::excess::line_of_excess;

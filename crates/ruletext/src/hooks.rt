@@ -1,12 +1,11 @@
 //! Chains and translations at hooks where they can't be.
 
-ghost use Rattle.std.specs.Prelude.{◌≡◌, ◌↔◌, ◌⊎◌, ◌||◌, ℕ, true, false, not, is_some, IfOk, IsTrue, IsSome, length};
+ghost use Rattle.std.specs.Prelude.{◌≡◌, ◌↔◌, ℕ, true, false, not, is_some, IfOk, IsSome, length};
 ghost use Rattle.std.specs.Option.{option_map_or};
 ghost use Rattle.std.specs.List.{list_any};
 ghost use Rattle.ruletext.specs.Said.{chain_names};
 ghost use Rattle.ruletext.specs.Duplicate.{has_twice};
 ghost use Rattle.digraph.specs.Edges.{IsMarked, HasEdge, AreWithin};
-ghost use Rattle.digraph.specs.Paths.{IsReachedFrom, IsDeeper};
 ghost use Rattle.ruletext.specs.Calls.{OfSome, Calls, IsDeep, AreDistinct, AreShallow};
 ghost use Rattle.ruletext.specs.Hooks.{is_nat, may_stand, may_translate, forbids, ends_in, translates, Forbids, Translates, ComesTo, ComesToSome, is_misplaced, HasWrongHook};
 

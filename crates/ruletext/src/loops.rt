@@ -1,7 +1,6 @@
 //! Chains that reach themselves, and long paths.
 
-ghost use Rattle.std.specs.Prelude.{◌≡◌, ◌↔◌, ◌<◌, ℕ, false, IfOk, IfSome, IsSome, IsTrue, length};
-ghost use Rattle.std.specs.List.{list_any};
+ghost use Rattle.std.specs.Prelude.{◌≡◌, ◌↔◌, ◌<◌, false, IfOk, IfSome, IsSome, IsTrue, length};
 ghost use Rattle.ruletext.specs.Said.{chain_names};
 ghost use Rattle.ruletext.specs.Duplicate.{has_twice};
 ghost use Rattle.ruletext.specs.Calls.{OfSome, IsLooped, IsDeep, AreDistinct};

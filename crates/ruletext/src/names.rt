@@ -53,13 +53,6 @@ impl Names {
         Ok(is_new)
     }
 
-    /// No name stands at two places.
-    pub fn are_apart(&self)
-        ensures { AreApart self.now }
-    {
-        let _names = &self.names;
-    }
-
     /// The place of a name, from 0.
     pub fn place_of(&self, name: &[u8]) -> Option<usize>
         ensures found { IfSome result (λ place. slice_get self.now place ≡ Some name.now) }

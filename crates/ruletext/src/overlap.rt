@@ -1,6 +1,6 @@
 //! Verdict maps with two keys for one value.
 
-ghost use Rattle.std.specs.Prelude.{◌≡◌, ◌↔◌, ◌<◌, ◌≤◌, IfOk, OnOk, IsSome, IsTrue, length};
+ghost use Rattle.std.specs.Prelude.{◌↔◌, ◌<◌, ◌≤◌, IfOk, OnOk, IsSome, IsTrue, length};
 ghost use Rattle.sets.specs.Members.{Overlaps, limit};
 ghost use Rattle.ruletext.specs.Classes.{class_of as class_of_head};
 ghost use Rattle.ruletext.specs.Calls.{OfSome};

@@ -1,6 +1,6 @@
 //! Elements of rules as parts of sets.
 
-ghost use Rattle.std.specs.Prelude.{◌≡◌, ◌≤◌, ℕ, List, is_some, IfOk};
+ghost use Rattle.std.specs.Prelude.{IfOk};
 ghost use Rattle.rulesyntax.specs.declared.tree.Value.TheVariants as values;
 ghost use Rattle.ruletext.specs.declared.class.Class.TheVariants as classes;
 ghost use Rattle.ruletext.specs.Parts.{IsPart};

@@ -1,7 +1,6 @@
 //! The least reason why rules can't run.
 
 ghost use Rattle.std.specs.Prelude.{IfOk};
-ghost use Rattle.packet.specs.Config.{Config};
 ghost use Rattle.ruletext.specs.Loads.{Holds, HoldsAmong, IsLeast, IsNoneBelow, kind_in};
 
 use crate::counts::excess;

@@ -1,13 +1,13 @@
 //! Values, sets and translations of a wrong type.
 
-ghost use Rattle.std.specs.Prelude.{◌≡◌, ◌↔◌, ◌⊎◌, ◌||◌, ◌&&◌, false, not, is_some, nat_lt, length, IfOk, IsSome};
+ghost use Rattle.std.specs.Prelude.{◌≡◌, ◌↔◌, ◌||◌, ◌&&◌, false, not, is_some, nat_lt, length, IfOk, IsSome};
 ghost use Rattle.std.specs.Option.{option_map_or};
 ghost use Rattle.std.specs.List.{list_any};
 ghost use Rattle.ruletext.specs.declared.class.Class.TheVariants.{States};
 ghost use Rattle.ruletext.specs.Said.{chain_names, set_names};
 ghost use Rattle.ruletext.specs.Duplicate.{has_twice};
 ghost use Rattle.ruletext.specs.Calls.{OfSome, IsDeep, AreDistinct, AreShallow, HaveDistinctSets};
-ghost use Rattle.ruletext.specs.Classes.{class_of as class_of_head, is_value as is_of_class};
+ghost use Rattle.ruletext.specs.Classes.{is_value as is_of_class};
 ghost use Rattle.ruletext.specs.Types.{same_class, class_in as class_in_types, has_stranger, is_wrong_set, has_other_class, is_wrong_match, is_wrong_end, is_wrong_rule, is_wrong_chain, HasWrongType};
 
 use crate::class::{Class, class_in, class_of, is_same, is_value};

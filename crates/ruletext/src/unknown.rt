@@ -2,7 +2,7 @@
 
 ghost use Rattle.std.specs.Prelude.{◌≡◌, ◌||◌, ◌∷◌, [], ℕ, List, is_some, IfOk, OnOk};
 ghost use Rattle.std.specs.List.{list_any};
-ghost use Rattle.ruletext.specs.Said.{verdicts_in, chain_names, set_names, is_among};
+ghost use Rattle.ruletext.specs.Said.{verdicts_in, chain_names, is_among};
 ghost use Rattle.ruletext.specs.Unknown.{plain_chains, leads_nowhere, rule_leads_nowhere, chain_leads_nowhere, has_unknown_chain_in, is_no_set, names_no_set, rule_names_no_set, chain_names_no_set, has_unknown_set_in};
 
 use crate::calls::target_of;

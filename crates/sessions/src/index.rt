@@ -2,9 +2,8 @@
 //!
 //! A session that isn't translated is called the same on both sides and stands in a row of its like. The
 //! translated ones are found by their mappings (`translated`).
-ghost use Rattle.std.specs.Prelude.{◌≡◌, ◌≢◌, ◌↔◌, ◌+◌, ◌<◌, ◌≤◌, ℕ, IsTrue, IsOk, true, None, Some, IfSome, IfNone, OnOk, slice_index_or};
+ghost use Rattle.std.specs.Prelude.{◌≡◌, ◌↔◌, ◌+◌, ◌<◌, ◌≤◌, ℕ, IsTrue, IsOk, true, None, Some, IfSome, IfNone, OnOk, slice_index_or};
 ghost use Rattle.rows.specs.Held.{at};
-ghost use Rattle.buckets.specs.Held.{KeepsAll};
 ghost use Rattle.sessions.specs.Index.{ClashesAt, IsAt, IsNowhere, LacksName, PutsName, flow_name, key_number};
 ghost use Rattle.sessions.specs.Indexed.{AddsTo, EndsIn, IsIndexed, KeepsIndex, room_of};
 ghost use Rattle.sessions.specs.Listing.{is_translated as translates};

@@ -1,5 +1,5 @@
 //! The numbers by which sessions are found.
-ghost use Rattle.std.specs.Prelude.{◌≡◌, ◌+◌, ◌*◌, ◌<◌, IsTrue, true};
+ghost use Rattle.std.specs.Prelude.{◌≡◌, ◌+◌, ◌*◌, ◌<◌};
 ghost use Rattle.sessions.specs.Index.{AreEndpoints, IsEndpoint, endpoint_number, flow_name, key_number, mapping_number};
 ghost use Rattle.sessions.specs.Listing.{is_translated as translates};
 

@@ -1,6 +1,6 @@
 //! What the packets of a session have shown, and how long it lives.
-ghost use Rattle.std.specs.Prelude.{◌≡◌, ◌↔◌, ◌≤◌, IsTrue, not};
-ghost use Rattle.sessions.specs.Life.{IsAlive, IsSeen, IsTimeout, ack_bit, awaits_reply as awaits_reply_of, bit_if, fin_bit, has as has_bit, is_acknowledged, is_closing, is_syn_alone as is_syn_alone_of, phase_of, reply_bit, reset_bit, restarts as restarts_of, same_side, shown as shown_of, shown_flags, timeout_in, timeout_of};
+ghost use Rattle.std.specs.Prelude.{◌≡◌, ◌↔◌, ◌≤◌, IsTrue};
+ghost use Rattle.sessions.specs.Life.{IsAlive, IsSeen, IsTimeout, ack_bit, awaits_reply as awaits_reply_of, bit_if, fin_bit, has as has_bit, is_acknowledged, is_closing, is_syn_alone as is_syn_alone_of, phase_of, restarts as restarts_of, shown as shown_of, shown_flags, timeout_of};
 
 use crate::{Opener, Session};
 use packet::endpoint::{Flags, Proto};

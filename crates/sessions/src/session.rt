@@ -1,5 +1,5 @@
 //! Sessions, and how two of them compare.
-ghost use Rattle.std.specs.Prelude.{◌≡◌, ◌≢◌, ◌⊎◌, ◌↔◌, IfSome, IfNone, IsTrue};
+ghost use Rattle.std.specs.Prelude.{◌≡◌, ◌≢◌, ◌↔◌, IfSome, IfNone, IsTrue};
 ghost use Rattle.sessions.specs.Life.{opener_code};
 ghost use Rattle.sessions.specs.Listing.{key, order};
 ghost use Rattle.sessions.specs.Sound.{IsPlaced};

@@ -44,7 +44,7 @@ pub struct Pair<V> {
 }
 
 impl Range {
-    ghost use Rattle.std.specs.Prelude.{◌≡◌, ◌↔◌, ◌^◌, IsTrue, ℕ};
+    ghost use Rattle.std.specs.Prelude.{◌≡◌, ◌↔◌, IsTrue, ℕ};
     ghost use Rattle.packet.specs.Config.{covers};
     ghost use Rattle.sets.specs.Members.{IsWithin};
 

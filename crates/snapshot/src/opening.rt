@@ -1,9 +1,8 @@
 //! What two files hold.
-ghost use Rattle.std.specs.Prelude.{◌≡◌, ◌≢◌, ◌+◌, ◌<◌, ◌≤◌, ◌↔◌, List, ℕ, [], length, IfOk, IfSome, OnOk, OnErr, IsErrOf};
-ghost use Rattle.packet.specs.Config.{Config};
+ghost use Rattle.std.specs.Prelude.{◌≡◌, ◌<◌, ◌≤◌, ◌↔◌, [], IfOk, IfSome, OnOk, OnErr, IsErrOf};
 ghost use Rattle.disk_model.specs.declared.disk.FileId.{FileId};
 ghost use Rattle.disk_model.specs.declared.disk.FileId.TheVariants.{A, B};
-ghost use Rattle.disk_model.specs.Disk.{Files, Same, Leaves, LeavesNow, LeavesOnly, Looks, Synced, Grew, HasCause};
+ghost use Rattle.disk_model.specs.Disk.{Same, Leaves, LeavesNow, LeavesOnly, Looks, Synced, Grew, HasCause};
 ghost use Rattle.durable.specs.Entering.{Durable, IsDurable, durable, empty};
 ghost use Rattle.durable.specs.Recovery.{Alike, IsConfigured, NoneOpen, Recovers, pair};
 ghost use Rattle.snapshot.specs.Opening.{IsReady, IsJudged, IsKept, state_of};

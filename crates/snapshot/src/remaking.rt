@@ -1,5 +1,5 @@
 //! A file is made anew.
-ghost use Rattle.std.specs.Prelude.{◌≡◌, ◌+◌, ◌≤◌, ◌↔◌, ◌∷◌, List, ℕ, length, take, OnOk};
+ghost use Rattle.std.specs.Prelude.{◌≡◌, ◌+◌, ◌↔◌, ◌∷◌, length, take, OnOk};
 ghost use Rattle.disk_model.specs.Disk.{Leaves, HasCause, Called, Synced, Elsewhere};
 ghost use Rattle.durable.specs.Recovery.{other};
 ghost use Rattle.snapshot.specs.Remaking.{Remade};

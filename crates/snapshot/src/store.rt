@@ -1,7 +1,7 @@
 //! The store: two files, of which one is active. It is opened (`open`), commits groups (`commit`), and is compacted
 //! (`compact`); once a call of its disk has failed it can only give that back (`into_disk`).
-ghost use Rattle.std.specs.Prelude.{◌≡◌, ◌+◌, ◌-◌, ◌^◌, ◌<◌, ◌≤◌, ◌↔◌, List, ℕ, length, MatchResult, IfOk, IfErr, OnOk, IsErrOf, true, false};
-ghost use Rattle.disk_model.specs.Disk.{Files, Leaves, LeavesNow, LeavesOnly, Looks, Called, Grew};
+ghost use Rattle.std.specs.Prelude.{◌≡◌, ◌+◌, ◌-◌, ◌^◌, ◌<◌, ◌≤◌, ◌↔◌, length, MatchResult, IfOk, IfErr, OnOk, IsErrOf, true, false};
+ghost use Rattle.disk_model.specs.Disk.{Leaves, LeavesNow, LeavesOnly, Looks, Called, Grew};
 ghost use Rattle.durable.specs.Coding.{heading_bytes};
 ghost use Rattle.durable.specs.Entering.{Durable, IsDurable, durable, BodyEnters};
 ghost use Rattle.durable.specs.Laws.{anew};

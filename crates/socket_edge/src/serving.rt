@@ -1,5 +1,5 @@
 //! Offering the whole frames at the front of the bytes.
-ghost use Rattle.std.specs.Prelude.{◌≡◌, ◌≢◌, ◌+◌, ◌∷◌, ◌++◌, [], ℕ, List, ◌<◌, ◌≤◌, false, length, true, IfErr, OnOk, vec_len, vec_capacity};
+ghost use Rattle.std.specs.Prelude.{◌≡◌, ◌+◌, ◌∷◌, ◌++◌, [], ℕ, List, ◌<◌, ◌≤◌, false, length, true, IfErr, OnOk, vec_len, vec_capacity};
 ghost use Rattle.gateway.specs.Kept.{Kept};
 ghost use Rattle.gateway.specs.Running.{Stands};
 ghost use Rattle.machine.specs.declared.event.Answer.{Answer};

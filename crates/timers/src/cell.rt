@@ -1,5 +1,5 @@
 //! A link as the row keeps it.
-ghost use Rattle.std.specs.Prelude.{◌≡◌, ◌+◌, ◌^◌, ◌<◌};
+ghost use Rattle.std.specs.Prelude.{◌≡◌, ◌^◌, ◌<◌};
 ghost use Rattle.timers.specs.Kept.{watch_of};
 ghost use Rattle.timers.specs.Links.{alone};
 

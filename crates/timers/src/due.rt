@@ -1,7 +1,7 @@
 //! The sessions that are watched, and those of them that have been idle for too long.
-ghost use Rattle.std.specs.Prelude.{◌≡◌, ◌≢◌, ◌⊎◌, ◌↔◌, ◌+◌, ◌-◌, ◌^◌, ◌<◌, ◌≤◌, ℕ, Some, None, IfOk, OnOk, OnErr, IsOk, IsSome, IsSomeAnd, IfSome, IfNone, IsTrue, length, slice_index_or, slice_set};
+ghost use Rattle.std.specs.Prelude.{◌≡◌, ◌-◌, ◌<◌, ◌≤◌, ℕ, Some, None, IfOk, OnOk, OnErr, IsOk, IsSome, length};
 ghost use Rattle.sessions.specs.Life.{IsTimeout};
-ghost use Rattle.timers.specs.Due.{at, Updates, IsLatest, IsNoneOver, IsOver, AreDue};
+ghost use Rattle.timers.specs.Due.{at, Updates, IsLatest, IsNoneOver, AreDue};
 ghost use Rattle.timers.specs.Links.{IsRow};
 
 use crate::ahead::count_joined;

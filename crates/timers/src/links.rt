@@ -1,7 +1,7 @@
 //! The row of links: three queues, each a ring of places from its head on and back to it.
-ghost use Rattle.std.specs.Prelude.{◌≡◌, ◌⊎◌, ◌↔◌, ◌+◌, ◌-◌, ◌<◌, ◌≤◌, ℕ, Some, None, OnOk, IsOk, IsSome, IsTrue, length, slice_set};
+ghost use Rattle.std.specs.Prelude.{◌≡◌, ◌+◌, ◌-◌, ◌<◌, ◌≤◌, ℕ, Some, None, OnOk, IsOk, IsSome, IsTrue, length, slice_set};
 ghost use Rattle.sessions.specs.Life.{IsTimeout};
-ghost use Rattle.timers.specs.Links.{head_of, timeout_in, most_places, link, next, previous, watch, tag, last as last_at, IsPut, IsRow, IsJoined, IsWatchPut, idle_in};
+ghost use Rattle.timers.specs.Links.{head_of, timeout_in, most_places, link, next, previous, watch, last as last_at, IsPut, IsRow, IsJoined, IsWatchPut, idle_in};
 
 use crate::Idle;
 use crate::cell::Cell;

@@ -1,7 +1,7 @@
 //! The walk through a queue from its front on, as far as its sessions are alive no longer.
-ghost use Rattle.std.specs.Prelude.{◌≡◌, ◌⊎◌, ◌↔◌, ◌+◌, ◌-◌, ◌<◌, ◌≤◌, ℕ, IfOk, OnOk, IsOk, IsSomeAnd, IfSome, IfNone, IsTrue, length};
+ghost use Rattle.std.specs.Prelude.{◌≡◌, ◌↔◌, ◌+◌, ◌-◌, ◌<◌, ℕ, IfOk, OnOk, IsOk, IsSomeAnd, IfSome, IfNone, IsTrue};
 ghost use Rattle.timers.specs.Due.{IsOver};
-ghost use Rattle.timers.specs.Links.{head_of, timeout_in, next, watch, tag, IsRow, idle_of, IsOverAt, IsFound, IsWalked};
+ghost use Rattle.timers.specs.Links.{head_of, next, watch, IsRow, idle_of, IsOverAt, IsFound};
 
 use crate::cell::Cell;
 use crate::links::{Queue, Watch, next};

@@ -1,8 +1,7 @@
 //! The sides of a table's matches as unions that packets are looked up in: each named set once, and what stands in a rule.
 
-ghost use Rattle.std.specs.Prelude.{◌≡◌, ◌↔◌, ◌≤◌, ℕ, true, false, [], Some, find, length, slice_get, sum_by, List, None, IfOk, OnOk, IfSome, IfNone};
+ghost use Rattle.std.specs.Prelude.{◌≡◌, ◌↔◌, ◌≤◌, ℕ, true, false, [], Some, length, slice_get, sum_by, List, None, IfOk, OnOk, IfSome, IfNone};
 ghost use Rattle.std.specs.List.{list_any};
-ghost use Rattle.std.specs.Str.{bytes_eq};
 ghost use Rattle.sets.specs.Members.{Fact, IsIn, IsMember, limit};
 ghost use Rattle.sets.specs.declared.element.Element.{Element as PartOf};
 ghost use Rattle.ruletext.specs.Classes.{is_value};
