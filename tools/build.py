@@ -7,10 +7,11 @@ A line tells of each crate as it is done. What is done stays done: after Ctrl-C,
 there, and where nothing is left to do a call takes half a minute. With CRATE, the name of a library, that one is built in
 the place of natgw.
 
-As many jobs run at once as there are processors, and fewer where memory is short. Each crate is proved as the gate proves
-it: over what the crates below state, without their proofs, which takes about half of the time that `rt lib` takes. It is
-rtlib.py of the kit that does it; others are kept out of all the crates until it has ended. The program itself is built by
-`rt run`.
+As many crates are proved at once as there are processors, and fewer where memory is short, each by several jobs: more than
+there are processors, since a part of each proof is one job's alone. A crate gives way to those with longer chains of crates
+above them. Each is proved as the gate proves it: over what the crates below state, without their proofs, which takes about
+half of the time that `rt lib` takes. It is rtlib.py of the kit that does it; others are kept out of all the crates until it
+has ended. The program itself is built by `rt run`.
 """
 import importlib.util
 import os
@@ -24,10 +25,12 @@ from concurrent.futures import FIRST_COMPLETED, ThreadPoolExecutor, wait
 
 TOP = os.path.dirname(os.path.dirname(os.path.realpath(__file__)))
 PROGRAM = "natgw"
-# What a job may take of memory, in bytes.
-MEMORY = 2_500_000_000
+# What a crate may take of memory with all its jobs, in bytes.
+MEMORY = 4_000_000_000
 # More jobs than these don't make the check of one crate faster.
 MOST = 4
+# So many steps of nice a crate stands behind each one that has a longer chain above it.
+STEP = 5
 
 
 def load_rtlib():
@@ -47,12 +50,18 @@ def say(text):
     print(text, flush=True)
 
 
-def most_jobs(rtlib):
-    """Returns how many jobs there are processors and memory for, at least one."""
-    jobs = 1
-    while rtlib.fits(*[MEMORY] * (jobs + 1)):
-        jobs += 1
-    return jobs
+def most_crates(rtlib):
+    """Returns how many crates there are processors and memory for at once, at least one."""
+    crates = 1
+    while rtlib.fits(*[MEMORY] * (crates + 1)):
+        crates += 1
+    return crates
+
+
+def jobs_of(rank):
+    """Returns the jobs of a crate that so many with longer chains above them are proved beside."""
+    most = min(len(os.sched_getaffinity(0)), MOST)
+    return most if rank < 2 else max(most // 2, 1)
 
 
 def lines_behind(crates):
@@ -64,57 +73,46 @@ def lines_behind(crates):
     return behind
 
 
-def prove(rtlib, crate, jobs):
+def prove(rtlib, crate, rank):
     """Proves a library and writes what it states, and beside it the sum of what that was made from. Returns the status."""
     stamp, made = crate.stamp(), os.path.dirname(crate.rlib)
     shutil.rmtree(made, ignore_errors=True)
     os.makedirs(made)
-    words = [*crate.words(["--jobs", str(jobs)], keeps=False), "--statements", "-o", crate.rlib]
-    status = crate.call(rtlib.RATTLE, "build", *words)
+    words = [*crate.words(["--jobs", str(jobs_of(rank))], keeps=False), "--statements", "-o", crate.rlib]
+    status = crate.call("nice", "-n", str(STEP * rank), rtlib.RATTLE, "build", *words)
     if status == 0 and stamp == crate.stamp():
         with open(f"{made}/stamp", "w", encoding="utf-8") as it:
             it.write(stamp)
     return status
 
 
-def build(rtlib, crate, jobs):
+def build(rtlib, crate, rank):
     """Builds a library. Returns whether it is proved, what was said, and the seconds that it took."""
     began = time.monotonic()
     with tempfile.TemporaryFile("w+", errors="replace") as crate.out:
         try:
-            status = prove(rtlib, crate, jobs)
+            status = prove(rtlib, crate, rank)
         except SystemExit:
             status = 2
         crate.out.seek(0)
         return status == 0, crate.out.read(), time.monotonic() - began
 
 
-def shares(idle, ready):
-    """Returns the jobs of each of the crates that begin now. The first one has the longest chain above, which is waited for
-    in the end, so it gets two where there are two."""
-    given = []
-    while idle > 0 and len(given) < ready:
-        share = max(idle // (ready - len(given)), 1 if given else 2)
-        given.append(min(share, idle, MOST))
-        idle -= given[-1]
-    return given
-
-
-def build_libraries(rtlib, left, jobs, tell):
-    """Builds libraries, each once those below it are there. Returns whether all are proved."""
+def build_libraries(rtlib, left, most, tell):
+    """Builds libraries, at most so many at once, each once those below it are there. Returns whether all are proved."""
     behind = lines_behind(left)
     left = sorted(left, key=lambda it: -behind[it])
     running, failed = {}, False
-    with ThreadPoolExecutor(jobs) as pool:
+    with ThreadPoolExecutor(most) as pool:
         while running or (left and not failed):
-            waited_for = {*left, *(crate for crate, _ in running.values())}
+            waited_for = {*left, *running.values()}
             ready = [it for it in left if waited_for.isdisjoint(it.below())]
-            idle = 0 if failed else jobs - sum(share for _, share in running.values())
-            for crate, share in zip(ready, shares(idle, len(ready))):
+            for crate in ready[: 0 if failed else most - len(running)]:
                 left.remove(crate)
-                running[pool.submit(build, rtlib, crate, share)] = crate, share
+                rank = sum(behind[it] > behind[crate] for it in running.values())
+                running[pool.submit(build, rtlib, crate, rank)] = crate
             for it in wait(running, return_when=FIRST_COMPLETED).done:
-                crate, _ = running.pop(it)
+                crate = running.pop(it)
                 is_proved, said, seconds = it.result()
                 tell(crate.name, is_proved, said, seconds)
                 failed = failed or not is_proved
@@ -159,9 +157,9 @@ def main(name=PROGRAM, *more):
 
     signal.signal(signal.SIGINT, stop)
     signal.signal(signal.SIGTERM, stop)
-    jobs = most_jobs(rtlib)
-    say(f"build: {done} of {most} crates are done; at most {jobs} at a time")
-    if not build_libraries(rtlib, left, jobs, tell):
+    at_once = most_crates(rtlib)
+    say(f"build: {done} of {most} crates are done; at most {at_once} at a time")
+    if not build_libraries(rtlib, left, at_once, tell):
         return 1
     for it in held:
         os.close(it)
