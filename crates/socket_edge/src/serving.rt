@@ -116,6 +116,10 @@ fn put_back(waiting: &mut Waiting, answers: &mut Vec<(u64, Answer)>, bodies: &mu
     ensures fewer { vec_len answers.new ≤ vec_len answers.old }
     ensures capacity { vec_capacity answers.new ≡ vec_capacity answers.old }
 {
+    // Behind most events that are held none was handed out.
+    if answers.is_empty() {
+        return;
+    }
     if waiting.put(answers.as_slice()) {
         keep_bodies(answers, bodies);
     }
