@@ -1,5 +1,5 @@
 -- What a change of one slot makes of the pairs, and of how often they are held.
-use Rattle.std.proofs.Common.{◌≡◌, ℕ, ◌+◌, ◌<◌, List, Some, None, IsSome, IsSomeAnd, refl, sym, ap, ◌∙◌, inl, inr, subst, arith}
+use Rattle.std.proofs.Common.{◌≡◌, ℕ, ◌+◌, ◌<◌, List, Option, Some, None, IsSome, IsSomeAnd, refl, sym, ap, ◌∙◌, inl, inr, subst, arith}
 use Rattle.std.proofs.lemmas.Bool.{cases_eq}
 use Rattle.std.proofs.lemmas.Option.{none-some, same_Some}
 use Rattle.rows.specs.declared.Entry.{Entry}
@@ -10,7 +10,7 @@ use Rattle.mappings.specs.declared.map.Pair.{Pair}
 use Rattle.mappings.specs.declared.map.Counted.{Counted}
 use Rattle.mappings.specs.Map.{times_at, GainsIn}
 use Rattle.mappings.specs.Indexed.{pairs_in, key_by, inside_of, outside_of, IsSmall, IsEntry, AreIndexed}
-use Rattle.mappings.proofs.Led.{IsRow-counts, IsRow-more, IsRow-less}
+use Rattle.mappings.proofs.Led.{IsRow-counts, IsRow-more, IsRow-less, IsRow-same}
 use Rattle.mappings.proofs.Slots.{times-update, weight}
 use Rattle.mappings.proofs.Times.{entry-more, entry-same}
 
@@ -20,6 +20,15 @@ pub Updates-write : (old new : Slab Counted) (slot : ℕ) (f : Counted → Count
 Updates-write old new slot f was before written =
     let is : new ≡ with_value old slot (f was) = subst (λ o. IsSomeAnd o (λ e. new ≡ with_value old slot (f e))) before written in
     subst (λ n. Updates old n slot (Some (f was))) (sym is) (Updates-with_value old slot (f was) (subst IsSome (sym before) refl))
+
+-- the pairs stay indexed where both rows keep their values
+pub AreIndexed-same : (slots : List (Option Counted)) (inside inside' outside outside' : List Entry) → ((k : ℕ) → value_at inside' k ≡ value_at inside k) → ((k : ℕ) → value_at outside' k ≡ value_at outside k)
+    → AreIndexed slots inside outside → AreIndexed slots inside' outside'
+AreIndexed-same slots inside inside' outside outside' near far indexed = record {
+  entries = indexed.entries;
+  by_inside = IsRow-same inside_of slots inside inside' near indexed.by_inside;
+  by_outside = IsRow-same outside_of slots outside outside' far indexed.by_outside;
+}
 
 module _ (old new : Slab Counted) (slot : ℕ) where
   -- the pair of the slot is held once more

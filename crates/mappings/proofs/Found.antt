@@ -1,5 +1,5 @@
 -- What is known of a pair that a row leads to, or to which it doesn't.
-use Rattle.std.proofs.Common.{◌≡◌, ℕ, ◌<◌, List, get_or, Option, Some, None, sym, ap, ◌∙◌, inl, inr, arith, refl}
+use Rattle.std.proofs.Common.{◌≡◌, ℕ, ◌<◌, List, get_or, Option, Some, None, IsSome, sym, ap, ◌∙◌, inl, inr, arith, refl, subst}
 use Rattle.std.proofs.lemmas.Bool.{cases_lt}
 use Rattle.std.proofs.lemmas.Option.{none-some, same_Some}
 use Rattle.packet.specs.declared.endpoint.Proto.{Proto}
@@ -34,6 +34,12 @@ module _ (side : Pair → Endpoint) (slots : List (Option Counted)) (row : List 
         absurd (none-some some.0 (sym free ∙ ap (λ q. value_at row (key_by side q)) some.3 ∙ led.each some.0 some.1 some.2))
     | inr none ↦ omega (arith, none)
   ]
+
+  -- it leads to a pair that is held
+  pub held_led : (p : Pair) → 0 < times_in (pairs_in slots) p → IsSome (value_at row (key_by side p))
+  held_led p lt =
+      let some = times-some p slots lt in
+      subst IsSome (sym (ap (λ q. value_at row (key_by side q)) some.3 ∙ led.each some.0 some.1 some.2)) refl
 
   -- two pairs that are held are one where the row can't tell them apart
   pub same_held : (p q : Pair) → 0 < times_in (pairs_in slots) p → 0 < times_in (pairs_in slots) q → p.proto ≡ q.proto → side p ≡ side q → p ≡ q

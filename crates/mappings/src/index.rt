@@ -1,8 +1,9 @@
 //! The pairs, each in a slot of its own, and the two maps that lead to it.
-ghost use Rattle.std.specs.Prelude.{◌≡◌, ◌⊎◌, ℕ, ◌+◌, ◌-◌, ◌*◌, ◌<◌, ◌≤◌, Some, None, OnOk, OnErr, IsOk, IfSome, IfNone, IsSomeAnd};
+ghost use Rattle.std.specs.Prelude.{◌≡◌, ◌⊎◌, ℕ, ◌+◌, ◌-◌, ◌*◌, ◌<◌, ◌≤◌, Some, None, OnOk, OnErr, IsOk, IsSome, IfOk, IfSome, IfNone, IsSomeAnd};
 ghost use Rattle.packet.specs.declared.endpoint.Endpoint.{Endpoint as Place};
-ghost use Rattle.slab.specs.Slab.{get, with_value};
+ghost use Rattle.slab.specs.Slab.{get, with_value, HasRoomFor};
 ghost use Rattle.rows.specs.Held.{at, Puts};
+ghost use Rattle.buckets.specs.Held.{KeepsAll};
 ghost use Rattle.mappings.specs.Map.{times_in, pair, GainsIn};
 ghost use Rattle.mappings.specs.Indexed.{key, IsSmall, IsIndexed, KeepsOneToOneIn, held_in, room_in};
 
@@ -74,63 +75,96 @@ pub fn add(index: &mut Index, pair: Pair) -> Result<(), AllocError>
         → room_in index.old ≤ room_in index.new }
     ensures room_err { OnErr result (room_in index.old ≤ room_in index.new) }
 {
-    match index.inside.get(key(pair.proto, pair.inside)) {
-        Some(slot) => {
-            count_up(&mut index.pairs, slot);
+    let near = key(pair.proto, pair.inside);
+    let far = key(pair.proto, pair.outside);
+    reserve_new(&mut index.pairs, &index.inside, near)?;
+    let slot = index.pairs.vacant_key();
+    match find_or_lead(&mut index.inside, &mut index.outside, near, far, slot)? {
+        Some(held) => {
+            count_up(&mut index.pairs, held);
             Ok(())
         }
-        None => add_new(index, pair),
+        None => {
+            index.pairs.insert_reserved(Counted { pair, count: 1 });
+            Ok(())
+        }
     }
 }
 
-// Takes a pair in to which no map leads.
-fn add_new(index: &mut Index, pair: Pair) -> Result<(), AllocError>
-    requires indexed { IsIndexed index.old }
-    requires one_to_one { KeepsOneToOneIn (held_in index.old) pair }
-    requires absent { at index.old.inside (key pair.proto pair.inside) ≡ None }
-    ensures indexed { IsIndexed index.new }
-    ensures ok { OnOk result (GainsIn (held_in index.old) (held_in index.new) pair) }
-    ensures err { OnErr result (held_in index.new ≡ held_in index.old) }
-    ensures succeeds { 0 < room_in index.old → IsOk result }
-    ensures room_ok { OnOk result (room_in index.old ≤ room_in index.new + 1) }
-    ensures room_err { OnErr result (room_in index.old ≤ room_in index.new) }
+// Makes room for the pair of this number, unless it has a slot already: one that is held is never refused.
+fn reserve_new(pairs: &mut Slab<Counted>, inside: &Buckets, near: u64) -> Result<(), AllocError>
+    ensures room { OnOk result (at inside.now near ≡ None → HasRoomFor pairs.new 1) }
+    ensures kept { pairs.new ≡ record pairs.old { capacity = pairs.new.capacity } }
+    ensures grows { pairs.old.capacity ≤ pairs.new.capacity }
+    ensures again { IsSome (at inside.now near) → IsOk result }
+    ensures succeeds { HasRoomFor pairs.old 1 → IsOk result }
 {
-    let near = key(pair.proto, pair.inside);
-    let far = key(pair.proto, pair.outside);
-    index.pairs.reserve(1)?;
-    let slot = index.pairs.vacant_key();
-    insert(&mut index.inside, &mut index.outside, near, far, slot)?;
-    index.pairs.insert_reserved(Counted { pair, count: 1 });
-    Ok(())
+    if pairs.len() < pairs.capacity() {
+        return Ok(());
+    }
+    if inside.get(near).is_some() {
+        return Ok(());
+    }
+    pairs.reserve(1)
 }
 
-// Lets the first map lead from one number to the slot, and the second from the other one, or neither.
-fn insert(
+// The slot to which the first map leads from its number. Where it leads from there to none, it leads to this slot then,
+// and the second map from the other number; or neither does.
+fn find_or_lead(
     inside: &mut Buckets,
     outside: &mut Buckets,
     near: u64,
     far: u64,
     slot: usize,
-) -> Result<(), AllocError>
-    requires inside { at inside.old near ≡ None }
-    requires outside { at outside.old far ≡ None }
-    ensures inside { OnOk result (Puts inside.old.held inside.new.held near (Some slot)) }
-    ensures outside { OnOk result (Puts outside.old.held outside.new.held far (Some slot)) }
-    ensures err_inside { OnErr result ((number : ℕ) → at inside.new number ≡ at inside.old number) }
-    ensures err_outside { OnErr result ((number : ℕ)
-        → at outside.new number ≡ at outside.old number) }
+) -> Result<Option<usize>, AllocError>
+    requires { at inside.old near ≡ None → at outside.old far ≡ None }
+    ensures found { IfOk result (λ found. found ≡ at inside.old near) }
+    ensures inside { IfOk result (λ found. found ≡ None
+        → Puts inside.old.held inside.new.held near (Some slot)) }
+    ensures outside { IfOk result (λ found. found ≡ None
+        → Puts outside.old.held outside.new.held far (Some slot)) }
+    ensures kept_inside { IfOk result (λ found. IsSome found → KeepsAll inside.old inside.new) }
+    ensures kept_outside { IfOk result (λ found. IsSome found → outside.new ≡ outside.old) }
+    ensures err_inside { OnErr result (KeepsAll inside.old inside.new) }
+    ensures err_outside { OnErr result (KeepsAll outside.old outside.new) }
+    ensures again { IsSome (at inside.old near) → IsOk result }
     ensures succeeds { 0 < inside.old.room → 0 < outside.old.room → IsOk result }
     ensures room_inside { inside.old.room ≤ inside.new.room + 1 }
     ensures room_outside { OnOk result (outside.old.room ≤ outside.new.room + 1) }
+    ensures room_kept { IfOk result (λ found. IsSome found → inside.old.room ≤ inside.new.room) }
     ensures room_err { OnErr result ((inside.old.room ≤ inside.new.room) ⊎ (outside.old.room ≡ 0)) }
     ensures room_err_outside { OnErr result (outside.old.room ≤ outside.new.room) }
 {
-    inside.insert(near, slot)?;
+    if let Some(held) = find_or_insert(inside, near, slot)? {
+        return Ok(Some(held));
+    }
     if outside.insert(far, slot).is_err() {
         inside.remove(near);
         return Err(AllocError);
     }
-    Ok(())
+    Ok(None)
+}
+
+// As `Buckets::get_or_insert`, and never refused where the key has a value.
+fn find_or_insert(map: &mut Buckets, key: u64, value: usize) -> Result<Option<usize>, AllocError>
+    ensures found { IfOk result (λ found. found ≡ at map.old key) }
+    ensures kept { IfOk result (λ found. IsSome found → KeepsAll map.old map.new) }
+    ensures put { IfOk result (λ found. found ≡ None
+        → Puts map.old.held map.new.held key (Some value)) }
+    ensures err { OnErr result (KeepsAll map.old map.new) }
+    ensures again { IsSome (at map.old key) → IsOk result }
+    ensures succeeds { 0 < map.old.room → IsOk result }
+    ensures room { map.old.room ≤ map.new.room + 1 }
+    ensures room_kept { IfOk result (λ found. IsSome found → map.old.room ≤ map.new.room) }
+    ensures room_err { OnErr result (map.old.room ≤ map.new.room) }
+{
+    if let Ok(found) = map.get_or_insert(key, value) {
+        return Ok(found);
+    }
+    match map.get(key) {
+        Some(held) => Ok(Some(held)),
+        None => Err(AllocError),
+    }
 }
 
 /// Makes room for two more pairs.

@@ -100,8 +100,8 @@ impl Map {
     }
 
     /// Holds the pair once more, but no more often than a table holds sessions. It may share neither
-    /// endpoint with another pair of its protocol that is held. It takes one look-up, and where the pair is
-    /// not held yet an insertion into each of two maps.
+    /// endpoint with another pair of its protocol that is held. It takes one look-up, which puts the pair in where
+    /// it is not held yet, and then an insertion into another map.
     ///
     /// # Errors
     ///
