@@ -123,6 +123,8 @@ impl Buckets {
     /// # Errors
     ///
     /// As of `insert`.
+    // Callers go on by what was found: compiled into them, the answer isn't put together and taken apart again.
+    #[inline(always)]
     pub fn get_or_insert(&mut self, key: u64, value: usize) -> Result<Option<usize>, AllocError>
         ensures found { IfOk result (λ found. found ≡ at self.old key) }
         ensures kept { IfOk result (λ found. IsSome found → self.new ≡ self.old) }

@@ -52,6 +52,7 @@ impl Model for Overflow {
     ghost invariant = { λ o. AreNumbered o.rows.held };
 }
 
+// Most keys have a place. So `get` and `remove` stay apart from their callers, whose own code is short without them.
 impl Overflow {
     /// An overflow with no entry. This takes no memory.
     pub fn new(alloc: Global) -> Overflow
@@ -63,6 +64,7 @@ impl Overflow {
     }
 
     /// The value of the key, if an entry has it.
+    #[inline(never)]
     pub fn get(&self, key: u64) -> Option<usize>
         ensures { result ≡ at self.now key }
     {
@@ -86,6 +88,7 @@ impl Overflow {
     }
 
     /// Takes the entry of the key out, if there is one, and returns its value.
+    #[inline(never)]
     pub fn remove(&mut self, key: u64) -> Option<usize>
         ensures value { result ≡ at self.old key }
         ensures gone { Puts self.old.held self.new.held key None }

@@ -188,6 +188,7 @@ fn has_at(places: &[Place], place: usize, key: u64) -> bool {
 }
 
 /// The value of the key, in a place or in the overflow.
+#[inline(always)]
 pub fn find(places: &[Place], overflow: &Overflow, are_packed: bool, key: u64) -> Option<usize>
     requires sound { AreSound places.now overflow.now.held }
     requires packed { OnTrue are_packed (ArePacked places.now overflow.now.held) }
@@ -234,6 +235,7 @@ pub fn add(
 }
 
 /// The value of the key, in a place or in the overflow; where it is in neither, an entry is put in with this value.
+#[inline(always)]
 pub fn find_or_add(
     places: &mut [Place],
     overflow: &mut Overflow,
@@ -410,7 +412,9 @@ fn close(places: &mut [Place], place: usize, last: usize) -> Option<usize>
 }
 
 // Moves an entry of the overflow into the only free place of its bucket, which is the bucket of this key, if there
-// is such an entry. Whether each entry of the overflow has a full bucket then.
+// is such an entry. Whether each entry of the overflow has a full bucket then. Few removals come here, and the others
+// need fewer registers where this isn't compiled into them.
+#[inline(never)]
 fn refill(
     places: &mut [Place],
     overflow: &mut Overflow,
