@@ -1,10 +1,10 @@
 -- A test holds where its match does.
-use Rattle.std.proofs.Common.{◌≡◌, ◌↔◌, ℕ, ◌+◌, ◌-◌, ◌<◌, ◌≤◌, Bool, true, false, not, ◌&&◌, List, ◌∷◌, Some, drop, slice_get, IsTrue, refl, sym, ap, ◌∙◌, subst, arith}
+use Rattle.std.proofs.Common.{◌≡◌, ◌↔◌, ℕ, zero, suc, ◌+◌, ◌-◌, ◌<◌, ◌≤◌, Bool, true, false, not, ◌&&◌, List, [], ◌∷◌, Some, drop, length, slice_get, slice_index_or, IsTrue, refl, sym, ap, ◌∙◌, subst, arith}
 use Rattle.std.specs.List.{list_all}
 use Rattle.std.proofs.lemmas.List.{drop_all}
 use Rattle.packet.specs.Config.{Config}
 use Rattle.sets.specs.declared.element.Element.{Element as Part}
-use Rattle.sets.specs.Members.{IsMember}
+use Rattle.sets.specs.Members.{Fact, IsIn, IsMember}
 use Rattle.rulesyntax.specs.declared.tree.Set.{Set}
 use Rattle.rulesyntax.specs.declared.tree.Match.{Match}
 use Rattle.ruletext.specs.Classes.{class_of}
@@ -20,6 +20,19 @@ same_truth : (a b : Bool) (P : Type 0) → IsTrue a ↔ P → P ↔ IsTrue b →
 same_truth true b P one other = sym (other.0 (one.0 refl))
 same_truth false true P one other = one.1 (other.1 refl)
 same_truth false false P one other = refl
+
+-- a pool of one element holds what lies in it
+pub alone_holds : (pool : List Part) (only : Part) (fact : Fact) → length pool ≡ 1 → only ≡ slice_index_or pool 0 only → IsIn fact only ↔ IsMember fact pool
+alone_holds [] only fact one at = absurd (omega (arith, one))
+alone_holds (x ∷ y ∷ xs) only fact one at = absurd (omega (arith, one))
+alone_holds (x ∷ []) only fact one at = (
+  λ is. (0, only, omega arith, sym at, is),
+  λ held. subst (IsIn fact) (sym (only_is held.0 held.1 held.2 held.3)) held.4,
+)
+  where
+    only_is : (i : ℕ) (y : Part) → i < 1 → slice_index_or (x ∷ []) i y ≡ y → only ≡ y
+    only_is zero y lt is = at ∙ is
+    only_is (suc i) y lt is = absurd (omega arith)
 
 module _ (config : Config) (facts : Facts) (sets : List Set) (pools : List (List Part)) (own : Match) (test : Test) (is : IsTest sets pools own test) where
   pub protocol_lacks : has_protocol test.head facts.proto ≡ false → false ≡ holds config sets facts own

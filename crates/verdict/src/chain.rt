@@ -42,6 +42,7 @@ fn place_led(map: &Map<usize>, fact: Fact<'_>) -> Option<usize>
 }
 
 /// The key of a map that holds the packet's fact, looked up in the map at this place.
+#[inline(never)]
 #[tactic(auto, unfolding(crate::specs::Evaluation::mapped))]
 pub(crate) fn key_for(
     bounds: &Bounds,

@@ -103,6 +103,7 @@ fn final_of(priority: i64, outcome: Outcome) -> Option<Final>
 }
 
 // What the chain at that place comes to where it is a base chain of the hook.
+#[inline(always)]
 fn final_at(
     bounds: &Bounds,
     facts: &Facts,
@@ -136,61 +137,88 @@ fn final_at(
     final_of(base.priority, settled(base.policy, outcome))
 }
 
-// What the base chains of a table come to at the hook, as far as nothing more is known than is said.
+// Takes in what the base chains of a table come to at the hook, as far as nothing more is known than is said.
+#[inline(always)]
 fn final_over(
     bounds: &Bounds,
     facts: &Facts,
     hook: Hook,
     table: &Table,
     laid: &Laid,
+    first: &mut Option<Final>,
     known: &mut [Option<Outcome>],
     steps: &mut Steps,
-) -> Option<Final>
+)
     requires laid { IsLaid table.now laid.now }
     requires ends { ¬ IsLooped table.now.chains }
     requires shallow { ¬ IsDeep table.now.chains }
     requires roomy { length table.now.chains ≤ length known.old }
     requires room { steps.old + unread table.now.chains known.old < 2 ^ 32 }
     requires known { AreKnown bounds.now facts.now table.now known.old }
-    ensures first { result ≡ first_final bounds.now facts.now
-        (bases_among hook table.now table.now.chains) }
+    ensures first { first.new ≡ preferred_of first.old (first_final bounds.now facts.now
+        (bases_among hook table.now table.now.chains)) }
     ensures spent { steps.new ≤ steps.old + unread table.now.chains known.old }
 {
-    let mut first = None;
     for place in 0..table.chains.len() {
         let other = final_at(bounds, facts, hook, table, laid, place, known, steps);
-        first = preferred(first, other);
+        *first = preferred(*first, other);
     }
-    first
 }
 
-// Most tables have few chains, and for them little memory is cleared; a table without base chains of the hook takes none.
+// The same of a table of any size, where nothing is known yet. Not compiled into its caller, which would clear as much
+// memory for a table of few chains.
+#[inline(never)]
+fn final_among_many(
+    bounds: &Bounds,
+    facts: &Facts,
+    hook: Hook,
+    table: &Table,
+    laid: &Laid,
+    first: &mut Option<Final>,
+    steps: &mut Steps,
+)
+    requires laid { IsLaid table.now laid.now }
+    requires ends { ¬ IsLooped table.now.chains }
+    requires shallow { ¬ IsDeep table.now.chains }
+    requires few { length table.now.chains ≤ 256 }
+    requires room { steps.old + rules_of_table table.now < 2 ^ 32 }
+    ensures first { first.new ≡ preferred_of first.old (first_final bounds.now facts.now
+        (bases_among hook table.now table.now.chains)) }
+    ensures spent { steps.new ≤ steps.old + rules_of_table table.now }
+{
+    if !any_stands_at(table.chains.as_slice(), hook) {
+        return;
+    }
+    let mut known = [None; CHAINS];
+    final_over(bounds, facts, hook, table, laid, first, &mut known, steps);
+}
+
+// Most tables have few chains, and for them little memory is cleared.
+#[inline(always)]
 fn final_among(
     bounds: &Bounds,
     facts: &Facts,
     hook: Hook,
     table: &Table,
     laid: &Laid,
+    first: &mut Option<Final>,
     steps: &mut Steps,
-) -> Option<Final>
+)
     requires laid { IsLaid table.now laid.now }
     requires ends { ¬ IsLooped table.now.chains }
     requires shallow { ¬ IsDeep table.now.chains }
     requires few { length table.now.chains ≤ 256 }
     requires room { steps.old + rules_of_table table.now < 2 ^ 32 }
-    ensures first { result ≡ first_final bounds.now facts.now
-        (bases_among hook table.now table.now.chains) }
+    ensures first { first.new ≡ preferred_of first.old (first_final bounds.now facts.now
+        (bases_among hook table.now table.now.chains)) }
     ensures spent { steps.new ≤ steps.old + rules_of_table table.now }
 {
-    if !any_stands_at(table.chains.as_slice(), hook) {
-        return None;
+    if table.chains.len() > FEW_CHAINS {
+        final_among_many(bounds, facts, hook, table, laid, first, steps);
+        return;
     }
-    if table.chains.len() <= FEW_CHAINS {
-        let mut known = [None; FEW_CHAINS];
-        return final_over(bounds, facts, hook, table, laid, &mut known, steps);
-    }
-    let mut known = [None; CHAINS];
-    final_over(bounds, facts, hook, table, laid, &mut known, steps)
+    let mut known = [None; FEW_CHAINS];
+    final_over(bounds, facts, hook, table, laid, first, &mut known, steps);
 }
 
 fn final_of_all(
@@ -210,8 +238,15 @@ fn final_of_all(
     let mut steps = Steps::none();
     let mut first = None;
     for (number, table) in tables.iter().enumerate() {
-        let other = final_among(bounds, facts, hook, table, &rows[number], &mut steps);
-        first = preferred(first, other);
+        final_among(
+            bounds,
+            facts,
+            hook,
+            table,
+            &rows[number],
+            &mut first,
+            &mut steps,
+        );
     }
     (first, steps)
 }

@@ -1,8 +1,8 @@
 //! Whether the tests of a rule hold of a packet.
 
-ghost use Rattle.std.specs.Prelude.{◌≡◌, ◌≤◌, List, length};
+ghost use Rattle.std.specs.Prelude.{◌≡◌, ◌↔◌, ◌≤◌, IsTrue, List, length};
 ghost use Rattle.std.specs.List.{list_all};
-ghost use Rattle.sets.specs.Members.{fact_of};
+ghost use Rattle.sets.specs.Members.{fact_of, IsIn, IsMember};
 ghost use Rattle.rulesyntax.specs.declared.tree.Match.{Match as MatchOf};
 ghost use Rattle.rulesyntax.specs.declared.tree.Set.{Set as SetOf};
 ghost use Rattle.verdict.specs.Tests.{IsTest, AreTests};
@@ -13,7 +13,7 @@ use crate::row::Span;
 use packet::bounds::Bounds;
 use packet::endpoint::{Iface, Proto};
 use rulesyntax::tree::{Head, Transport};
-use sets::{Set as Pool, Value as Fact};
+use sets::{Element, Set as Pool, Value as Fact};
 
 /// A match of a rule, whose side is one of the pools of its table.
 #[derive(Clone, Copy)]
@@ -91,6 +91,36 @@ pub fn has_protocol(head: Head, proto: Proto) -> bool
     }
 }
 
+// The same as `holds` of the element, but of two names no order is asked.
+#[tactic(auto, unfolding(sets::specs::Members::IsIn, sets::specs::Members::fact_of))]
+fn lies_in(element: &Element, fact: Fact<'_>) -> bool
+    ensures { IsTrue result ↔ IsIn (fact_of fact.entry) element.now }
+{
+    match (element, fact) {
+        (Element::Name(own), Fact::Name(name)) => own.as_slice() == name,
+        _ => element.holds(fact),
+    }
+}
+
+// Whether the fact lies in the pool, of however many elements. Not compiled into its caller, as it is seldom asked.
+#[inline(never)]
+fn lies_among(pool: &Pool, fact: Fact<'_>) -> bool
+    ensures { IsTrue result ↔ IsMember (fact_of fact.entry) pool.now }
+{
+    pool.contains(fact)
+}
+
+// The same, and most pools have one element alone.
+fn is_inside(pool: &Pool, fact: Fact<'_>) -> bool
+    ensures { IsTrue result ↔ IsMember (fact_of fact.entry) pool.now }
+{
+    let [only] = pool.intervals() else {
+        return lies_among(pool, fact);
+    };
+    lies_in(only, fact)
+}
+
+#[inline(always)]
 fn holds(bounds: &Bounds, facts: &Facts, pools: &[Pool], test: &Test) -> bool
     ensures { (sets : List SetOf) (own : MatchOf) → IsTest sets pools.now own test.now
         → result ≡ match_holds bounds.now sets facts.now own }
@@ -101,7 +131,7 @@ fn holds(bounds: &Bounds, facts: &Facts, pools: &[Pool], test: &Test) -> bool
     let Some(pool) = pools.get(test.pool) else {
         return false;
     };
-    let inside = pool.contains(asked(bounds, facts, test.head));
+    let inside = is_inside(pool, asked(bounds, facts, test.head));
     if test.negated {
         return !inside;
     }
@@ -109,6 +139,7 @@ fn holds(bounds: &Bounds, facts: &Facts, pools: &[Pool], test: &Test) -> bool
 }
 
 /// Whether the tests at these places all hold.
+#[inline(always)]
 pub(crate) fn all_hold(
     bounds: &Bounds,
     facts: &Facts,

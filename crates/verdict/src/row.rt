@@ -86,8 +86,8 @@ pub(crate) struct Laid {
 // The number that a packet of another protocol has for a port: no value stands for it.
 const NO_PORT: u64 = 4_294_967_296;
 
-// The place of no number: what asks for an interface name asks for none.
-const NO_NUMBER: u8 = 8;
+/// The place of no number: what asks for an interface name asks for none.
+pub(crate) const NO_NUMBER: u8 = 8;
 
 fn port_of(transport: Transport, facts: &Facts, port: u16) -> u64
     ensures { result ≡ port_of_facts transport facts.now port }

@@ -1,6 +1,6 @@
 //! What a base chain comes to, read without recursion.
 
-ghost use Rattle.std.specs.Prelude.{◌≡◌, ◌+◌, ◌-◌, ◌^◌, ◌<◌, ◌≤◌, ℕ, [], ◌∷◌, Some, false, IfSome, MatchOption, length, slice_get};
+ghost use Rattle.std.specs.Prelude.{◌≡◌, ◌+◌, ◌-◌, ◌^◌, ◌<◌, ◌≤◌, ℕ, List, [], ◌∷◌, Option, Some, None, true, false, IfSome, MatchOption, length, slice_get};
 ghost use Rattle.ruletext.specs.Said.{verdicts_in};
 ghost use Rattle.ruletext.specs.Calls.{IsLooped};
 ghost use Rattle.verdict.specs.Tests.{HasMap};
@@ -10,6 +10,7 @@ ghost use Rattle.verdict.specs.Lines.{numbers_of as numbers_of_facts, may_hold a
 ghost use Rattle.verdict.specs.Keyed.{AreKeys};
 ghost use Rattle.verdict.specs.Evaluation.{chain_outcome as outcome_of_chain};
 ghost use Rattle.packet.specs.Config.{Config};
+ghost use Rattle.verdict.specs.declared.chain.Outcome.{Outcome as OutcomeOf};
 ghost use Rattle.verdict.specs.declared.chain.Outcome.TheVariants as outcomes;
 ghost use Rattle.verdict.specs.Places.{move_by as move_by_verdict, move_led as move_led_by, move_at as move_at_end, move_of as move_of_rule, rules_at, whole, AreKnown, CameTo, IsResolved, Standing, Stepped, AreSkipped, Calling, told_of, Acts};
 ghost use Rattle.verdict.specs.Costs.{unread, read_at, IsNew, Reading, Spent};
@@ -18,7 +19,7 @@ use crate::chain::{Outcome, key_for, known_at, remember, translation, unless_end
 use crate::facts::Facts;
 use crate::keys::{NEAR, next_met, pass};
 use crate::matching::all_hold;
-use crate::row::{Laid, Line, Probe, Row, may_hold, numbers_of};
+use crate::row::{Laid, Line, NO_NUMBER, Probe, Row, may_hold, numbers_of};
 use crate::stack::{Place, Stack};
 use packet::bounds::Bounds;
 use packet::steps::Steps;
@@ -198,10 +199,12 @@ fn many_next(many: usize, is_passed: bool) -> usize
 }
 
 // The same, which reads no line that its key lets pass over. A step is then a rule that is looked at or passed over.
+// Not compiled into its caller, which most often has no need of the packet's numbers.
+#[inline(never)]
 fn candidate(
     lines: &[Line],
     keys: &[u64],
-    numbers: &[u64],
+    facts: &Facts,
     from: usize,
     end: usize,
     steps: &mut Steps,
@@ -210,41 +213,43 @@ fn candidate(
     requires within { end ≤ length lines.now }
     requires room { steps.old + end < 2 ^ 32 + from }
     requires keys { AreKeys lines.now keys.now }
-    requires numbers { length numbers.now ≡ 8 }
     ensures from { from ≤ result }
     ensures to { result ≤ end }
-    ensures skipped { (i : ℕ) (line : LineOf) → from ≤ i → i < result
-        → slice_get lines.now i ≡ Some line → line_may_hold numbers.now line.probe ≡ false }
+    ensures skipped { (i : ℕ) (line : LineOf) → from ≤ i → i < result → slice_get lines.now i ≡ Some line
+        → line_may_hold (numbers_of_facts facts.now) line.probe ≡ false }
     ensures found { result < end → steps.new + from ≡ steps.old + result + 1 }
     ensures none { result ≡ end → steps.new + from ≡ steps.old + end }
 {
+    let numbers = numbers_of(facts);
     let mut start = from;
     let mut many = NEAR;
     while start < end {
         let stop = start + many.min(end - start);
-        let found = near(lines, numbers, start, stop, steps);
+        let found = near(lines, &numbers, start, stop, steps);
         if found < stop {
             return found;
         }
-        start = next_met(keys, numbers, stop, end);
+        start = next_met(keys, &numbers, stop, end);
         many = many_next(many, start > stop);
         pass(steps, start - stop);
     }
     end
 }
 
+// Whether there is a line at that place, before the end, and it asks for none of a packet's numbers.
+#[inline(always)]
+fn asks_none(lines: &[Line], at: usize, end: usize) -> bool
+    requires { end ≤ length lines.now }
+    ensures { result ≡ true → at < end }
+{
+    at < end && lines[at].probe.asks == NO_NUMBER
+}
+
 // The number of the next rule of the chain that may match, or of all its rules where there is none.
-fn next_rule(
-    table: &Table,
-    laid: &Laid,
-    facts: &Facts,
-    numbers: &[u64],
-    here: Place,
-    steps: &mut Steps,
-) -> usize
+#[inline(always)]
+fn next_rule(table: &Table, laid: &Laid, facts: &Facts, here: Place, steps: &mut Steps) -> usize
     requires laid { AreChainsLaid table.now laid.now }
     requires keys { AreKeys laid.now.row.lines laid.now.keys }
-    requires numbers { numbers.now ≡ numbers_of_facts facts.now }
     requires chain { here.chain < length table.now.chains }
     requires at { here.at ≤ length (rules_at table.now.chains here.chain) }
     requires room { steps.old + length (rules_at table.now.chains here.chain) < 2 ^ 32 + here.at }
@@ -259,7 +264,11 @@ fn next_rule(
     let span = laid.spans.as_slice()[here.chain];
     let lines = laid.row.lines.as_slice();
     let from = span.start + here.at;
-    candidate(lines, laid.keys.as_slice(), numbers, from, span.end, steps) - span.start
+    if asks_none(lines, from, span.end) {
+        steps.tick();
+        return here.at;
+    }
+    candidate(lines, laid.keys.as_slice(), facts, from, span.end, steps) - span.start
 }
 
 // What the rule of that number makes of the walk. It is compiled into both its callers, as what it calls.
@@ -359,13 +368,11 @@ fn step(
     facts: &Facts,
     table: &Table,
     laid: &Laid,
-    numbers: &[u64],
     walk: &mut Walk,
     known: &mut [Option<Outcome>],
     steps: &mut Steps,
 ) -> Option<Outcome>
     requires laid { IsLaid table.now laid.now }
-    requires numbers { numbers.now ≡ numbers_of_facts facts.now }
     requires known { AreKnown bounds.now facts.now table.now known.old }
     requires standing { Standing bounds.now facts.now table.now (walk.old.here ∷ walk.old.stack) }
     requires ends { ¬ IsLooped table.now.chains }
@@ -379,7 +386,7 @@ fn step(
         walk.new.here walk.new.stack known.new steps.new result }
 {
     let chain = walk.here.chain;
-    let at = next_rule(table, laid, facts, numbers, walk.here, steps);
+    let at = next_rule(table, laid, facts, walk.here, steps);
     let rules = rules_of(table, chain);
     if at >= rules.len() {
         return back(walk, known);
@@ -389,20 +396,17 @@ fn step(
     act(told, at, rules.len(), walk, known)
 }
 
-// Reads on until the base chain ends. Few walks call a chain, so this is not compiled into its caller.
-#[inline(never)]
+// Reads on until the base chain ends.
 fn walked(
     bounds: &Bounds,
     facts: &Facts,
     table: &Table,
     laid: &Laid,
-    numbers: &[u64],
     walk: &mut Walk,
     known: &mut [Option<Outcome>],
     steps: &mut Steps,
 ) -> Outcome
     requires laid { IsLaid table.now laid.now }
-    requires numbers { numbers.now ≡ numbers_of_facts facts.now }
     requires known { AreKnown bounds.now facts.now table.now known.old }
     requires standing { Standing bounds.now facts.now table.now (walk.old.here ∷ walk.old.stack) }
     requires ends { ¬ IsLooped table.now.chains }
@@ -417,16 +421,68 @@ fn walked(
         + read_at (walk.old.here ∷ walk.old.stack) ≤ steps.old + unread table.now.chains known.old }
 {
     loop {
-        if let Some(outcome) = step(bounds, facts, table, laid, numbers, walk, known, steps) {
+        if let Some(outcome) = step(bounds, facts, table, laid, walk, known, steps) {
             return outcome;
         }
     }
 }
 
-fn calls(step: Move) -> bool
-    ensures { result ≡ false → Calling step ⊥ }
+// Reads on from the one place until the base chain ends, which calls that chain before the other place. Few base chains
+// call one, and only then are there places to return to: so this is not compiled into its caller.
+#[inline(never)]
+fn walked_from(
+    bounds: &Bounds,
+    facts: &Facts,
+    table: &Table,
+    laid: &Laid,
+    here: Place,
+    behind: Place,
+    known: &mut [Option<Outcome>],
+    steps: &mut Steps,
+) -> Outcome
+    requires laid { IsLaid table.now laid.now }
+    requires known { AreKnown bounds.now facts.now table.now known.old }
+    requires standing { Standing bounds.now facts.now table.now (here ∷ behind ∷ []) }
+    requires ends { ¬ IsLooped table.now.chains }
+    requires reading { Reading table.now.chains known.old here (behind ∷ []) }
+    requires room { steps.old + unread table.now.chains known.old
+        < 2 ^ 32 + read_at (here ∷ behind ∷ []) }
+    ensures outcome { result ≡ whole bounds.now facts.now table.now outcomes.Ends (here ∷ behind ∷ []) }
+    ensures still_known { AreKnown bounds.now facts.now table.now known.new }
+    ensures still_roomy { length table.now.chains ≤ length known.new }
+    ensures spent { steps.new + unread table.now.chains known.new + read_at (here ∷ behind ∷ [])
+        ≤ steps.old + unread table.now.chains known.old }
 {
-    matches!(step, Move::Jumps(_) | Move::Goes(_))
+    let mut stack = Stack::empty();
+    stack.push(behind);
+    let mut walk = Walk { here, stack };
+    walked(bounds, facts, table, laid, &mut walk, known, steps)
+}
+
+// Where a base chain is read on that calls a chain, and where behind it.
+fn called(step: Move, at: usize, count: usize, here: Place) -> Option<(Place, Place)>
+    requires { at < count }
+    ensures { MatchOption result (Calling step ⊥) (λ both. (known : List (Option OutcomeOf))
+        → Acts step at count here [] known both.0 (both.1 ∷ []) known None) }
+{
+    let chain = here.chain;
+    match step {
+        Move::Jumps(place) => Some((
+            Place {
+                chain: place,
+                at: 0,
+            },
+            Place { chain, at: at + 1 },
+        )),
+        Move::Goes(place) => Some((
+            Place {
+                chain: place,
+                at: 0,
+            },
+            Place { chain, at: count },
+        )),
+        Move::Next | Move::Gives(_) => None,
+    }
 }
 
 // Reads on from the rule of that number in a base chain that calls none there.
@@ -455,20 +511,18 @@ fn act_alone(
     None
 }
 
-// The same as `step` of a base chain that has called none yet, and all that is left where it calls one: only then are
-// there places to return to.
+// The same as `step` of a base chain that has called none yet, and all that is left where it calls one.
+#[inline(always)]
 fn step_alone(
     bounds: &Bounds,
     facts: &Facts,
     table: &Table,
     laid: &Laid,
-    numbers: &[u64],
     here: &mut Place,
     known: &mut [Option<Outcome>],
     steps: &mut Steps,
 ) -> Option<Outcome>
     requires laid { IsLaid table.now laid.now }
-    requires numbers { numbers.now ≡ numbers_of_facts facts.now }
     requires known { AreKnown bounds.now facts.now table.now known.old }
     requires standing { Standing bounds.now facts.now table.now (here.old ∷ []) }
     requires ends { ¬ IsLooped table.now.chains }
@@ -480,7 +534,7 @@ fn step_alone(
         steps.new result }
 {
     let chain = here.chain;
-    let at = next_rule(table, laid, facts, numbers, *here, steps);
+    let at = next_rule(table, laid, facts, *here, steps);
     let rules = rules_of(table, chain);
     if at >= rules.len() {
         remember(known, chain, Outcome::Ends);
@@ -488,17 +542,10 @@ fn step_alone(
     }
     let told = move_from(bounds, facts, table, laid, rules, Place { chain, at });
     let told = resolved(bounds, facts, table, known, told);
-    if !calls(told) {
+    let Some((inner, behind)) = called(told, at, rules.len(), *here) else {
         return act_alone(told, at, rules.len(), here, known);
-    }
-    let mut walk = Walk {
-        here: *here,
-        stack: Stack::empty(),
     };
-    if let Some(outcome) = act(told, at, rules.len(), &mut walk, known) {
-        return Some(outcome);
-    }
-    Some(walked(bounds, facts, table, laid, numbers, &mut walk, known, steps))
+    Some(walked_from(bounds, facts, table, laid, inner, behind, known, steps))
 }
 
 fn rules_of(table: &Table, chain: usize) -> &[Rule]
@@ -511,6 +558,7 @@ fn rules_of(table: &Table, chain: usize) -> &[Rule]
 /// What the rules of a base chain of the table come to, by its place. `known` says what chains of the table
 /// come to for this packet, by their places, as far as they were read: those are not read again. Takes no
 /// memory.
+#[inline(always)]
 pub(crate) fn chain_outcome(
     bounds: &Bounds,
     facts: &Facts,
@@ -538,12 +586,9 @@ pub(crate) fn chain_outcome(
     if let Some(outcome) = known_at(known, base) {
         return outcome;
     }
-    let numbers = numbers_of(facts);
     let mut here = Place { chain: base, at: 0 };
     loop {
-        if let Some(outcome) = step_alone(
-            bounds, facts, table, laid, &numbers, &mut here, known, steps,
-        ) {
+        if let Some(outcome) = step_alone(bounds, facts, table, laid, &mut here, known, steps) {
             return outcome;
         }
     }

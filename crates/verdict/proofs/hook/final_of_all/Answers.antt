@@ -1,7 +1,6 @@
-use Rattle.std.proofs.Common.{◌∙◌, refl, sym, ap, subst, arith}
+use Rattle.std.proofs.Common.{◌∙◌, refl, sym, subst, arith}
 use Rattle.verdict.specs.Hooks.{bases_of, bases_among}
 use Rattle.verdict.specs.Lines.{IsLaid}
-use Rattle.verdict.specs.Ranking.{preferred}
 use Rattle.std.proofs.lemmas.Option.{slice_get_read, slice_get_within, get_or_from_slice_get}
 use Rattle.ruletext.specs.Calls.{IsDeep, IsLooped}
 use Rattle.verdict.proofs.Steady.{some_at}
@@ -15,32 +14,32 @@ bounds-rows-number c =
     let laid = c.requires.laid c.loop-number.number c.index-tables-number.result at in
     slice_get_within c.args.rows.now c.loop-number.number laid.0 laid.1
 
-pub final_among-other-requires-clause-laid : goal.final_among-other-requires-clause-laid
-final_among-other-requires-clause-laid c =
+pub final_among-requires-clause-laid : goal.final_among-requires-clause-laid
+final_among-requires-clause-laid c =
     let at = slice_get_read c.args.tables.now _ c.loop-number.number c.index-tables-number.result refl (omega arith) c.index-tables-number.is in
     let laid = c.requires.laid c.loop-number.number c.index-tables-number.result at in
     let here = get_or_from_slice_get c.args.rows.now c.loop-number.number laid.0 c.index-rows-number.result laid.1 in
     subst (IsLaid c.index-tables-number.result) (sym (c.index-rows-number.is ∙ here)) laid.2
 
-pub final_among-other-requires-clause-shallow : goal.final_among-other-requires-clause-shallow
-final_among-other-requires-clause-shallow c deep =
+pub final_among-requires-clause-shallow : goal.final_among-requires-clause-shallow
+final_among-requires-clause-shallow c deep =
     let at = slice_get_read c.args.tables.now _ c.loop-number.number c.index-tables-number.result refl (omega arith) c.index-tables-number.is in
     c.requires.shallow (some_at (λ table. IsDeep table.chains) c.args.tables.now c.loop-number.number c.index-tables-number.result at deep)
 
-pub final_among-other-requires-clause-ends : goal.final_among-other-requires-clause-ends
-final_among-other-requires-clause-ends c looped =
+pub final_among-requires-clause-ends : goal.final_among-requires-clause-ends
+final_among-requires-clause-ends c looped =
     let at = slice_get_read c.args.tables.now _ c.loop-number.number c.index-tables-number.result refl (omega arith) c.index-tables-number.is in
     c.requires.ends (some_at (λ table. IsLooped table.chains) c.args.tables.now c.loop-number.number c.index-tables-number.result at looped)
 
-pub final_among-other-requires-clause-few : goal.final_among-other-requires-clause-few
-final_among-other-requires-clause-few c =
+pub final_among-requires-clause-few : goal.final_among-requires-clause-few
+final_among-requires-clause-few c =
     let at = slice_get_read c.args.tables.now _ c.loop-number.number c.index-tables-number.result refl (omega arith) c.index-tables-number.is in
     let own = chains_few c.args.tables.now c.loop-number.number c.index-tables-number.result at in
     let all = (few_of c.args.tables.now c.requires.few).0 in
     omega (arith, own, all)
 
-pub final_among-other-requires-clause-room : goal.final_among-other-requires-clause-room
-final_among-other-requires-clause-room c =
+pub final_among-requires-clause-room : goal.final_among-requires-clause-room
+final_among-requires-clause-room c =
     let split = rules_split c.args.tables.now c.loop-number.number c.index-tables-number.result (omega arith) c.index-tables-number.is in
     let all = (few_of c.args.tables.now c.requires.few).1 in
     omega (arith, split, all, c.loop-number.invariant.spent)
@@ -51,6 +50,6 @@ loop-number-preserved c =
     record {
       found = part_asked c.args.bounds.now c.args.facts.now (bases_of c.args.hook) c.args.tables.now c.loop-number.number c.index-tables-number.result
           (bases_among c.args.hook c.index-tables-number.result c.index-tables-number.result.chains) c.loop-number.first _ _ (omega arith) c.index-tables-number.is refl
-          (c.preferred-first.ensures ∙ ap (preferred c.loop-number.first) c.final_among-other.ensures.first) c.loop-number.invariant.found;
-      spent = omega (arith, split, c.final_among-other.ensures.spent, c.loop-number.invariant.spent);
+          c.final_among.ensures.first c.loop-number.invariant.found;
+      spent = omega (arith, split, c.final_among.ensures.spent, c.loop-number.invariant.spent);
     }

@@ -15,10 +15,10 @@ returns-in_default c sets own is =
 
 pub returns-then-test : goal.returns-then-test
 returns-then-test c sets own is =
-    negated_holds c.args.bounds.now c.args.facts.now sets c.args.pools.now own c.args.test.now is c.in-Some.pool.now c.contains-inside.result (got _ c.args.pools.now c.args.test.now.pool c.get.result c.in-Some.pool c.get.ensures.lookup c.in-Some.is) (sym c.has_protocol.ensures ∙ c.if-not-has_protocol.false)
-    (subst (λ fact. IsTrue c.contains-inside.result ↔ IsMember fact c.in-Some.pool.now) c.asked.ensures c.contains-inside.ensures) c.if-test.true
+    negated_holds c.args.bounds.now c.args.facts.now sets c.args.pools.now own c.args.test.now is c.in-Some.pool.now c.is_inside-inside.result (got _ c.args.pools.now c.args.test.now.pool c.get.result c.in-Some.pool c.get.ensures.lookup c.in-Some.is) (sym c.has_protocol.ensures ∙ c.if-not-has_protocol.false)
+    (subst (λ fact. IsTrue c.is_inside-inside.result ↔ IsMember fact c.in-Some.pool.now) c.asked.ensures c.is_inside-inside.ensures) c.if-test.true
 
 pub returns : goal.returns
 returns c sets own is =
-    plain_holds c.args.bounds.now c.args.facts.now sets c.args.pools.now own c.args.test.now is c.in-Some.pool.now c.contains-inside.result (got _ c.args.pools.now c.args.test.now.pool c.get.result c.in-Some.pool c.get.ensures.lookup c.in-Some.is) (sym c.has_protocol.ensures ∙ c.if-not-has_protocol.false)
-    (subst (λ fact. IsTrue c.contains-inside.result ↔ IsMember fact c.in-Some.pool.now) c.asked.ensures c.contains-inside.ensures) c.if-test.false
+    plain_holds c.args.bounds.now c.args.facts.now sets c.args.pools.now own c.args.test.now is c.in-Some.pool.now c.is_inside-inside.result (got _ c.args.pools.now c.args.test.now.pool c.get.result c.in-Some.pool c.get.ensures.lookup c.in-Some.is) (sym c.has_protocol.ensures ∙ c.if-not-has_protocol.false)
+    (subst (λ fact. IsTrue c.is_inside-inside.result ↔ IsMember fact c.in-Some.pool.now) c.asked.ensures c.is_inside-inside.ensures) c.if-test.false
