@@ -42,6 +42,7 @@ fn place_led(map: &Map<usize>, fact: Fact<'_>) -> Option<usize>
 }
 
 /// The key of a map that holds the packet's fact, looked up in the map at this place.
+// Few rules end in a verdict map, so this is not compiled into its caller.
 #[inline(never)]
 #[tactic(auto, unfolding(crate::specs::Evaluation::mapped))]
 pub(crate) fn key_for(

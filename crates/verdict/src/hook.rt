@@ -137,7 +137,8 @@ fn final_at(
     final_of(base.priority, settled(base.policy, outcome))
 }
 
-// Takes in what the base chains of a table come to at the hook, as far as nothing more is known than is said.
+// Takes into `first` what the base chains of a table come to at the hook. Of its chains no more is known than `known`
+// says.
 #[inline(always)]
 fn final_over(
     bounds: &Bounds,
@@ -165,8 +166,8 @@ fn final_over(
     }
 }
 
-// The same of a table of any size, where nothing is known yet. Not compiled into its caller, which would clear as much
-// memory for a table of few chains.
+// The same where nothing is known yet, of a table of more chains than most; for one without base chains of the hook no
+// memory is cleared. Few tables are such, so this is not compiled into its caller.
 #[inline(never)]
 fn final_among_many(
     bounds: &Bounds,
@@ -193,7 +194,7 @@ fn final_among_many(
     final_over(bounds, facts, hook, table, laid, first, &mut known, steps);
 }
 
-// Most tables have few chains, and for them little memory is cleared.
+// The same of any table. Most have few chains, and for them little memory is cleared.
 #[inline(always)]
 fn final_among(
     bounds: &Bounds,
@@ -221,6 +222,8 @@ fn final_among(
     final_over(bounds, facts, hook, table, laid, first, &mut known, steps);
 }
 
+// What the base chains of all tables come to at the hook. What a table of few chains takes is compiled into this, but
+// for what few packets need.
 fn final_of_all(
     bounds: &Bounds,
     facts: &Facts,

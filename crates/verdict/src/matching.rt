@@ -91,7 +91,7 @@ pub fn has_protocol(head: Head, proto: Proto) -> bool
     }
 }
 
-// The same as `holds` of the element, but of two names no order is asked.
+// As `Element::holds`, but names are compared for being the same, and not for their order.
 #[tactic(auto, unfolding(sets::specs::Members::IsIn, sets::specs::Members::fact_of))]
 fn lies_in(element: &Element, fact: Fact<'_>) -> bool
     ensures { IsTrue result ↔ IsIn (fact_of fact.entry) element.now }
@@ -102,7 +102,8 @@ fn lies_in(element: &Element, fact: Fact<'_>) -> bool
     }
 }
 
-// Whether the fact lies in the pool, of however many elements. Not compiled into its caller, as it is seldom asked.
+// Whether the fact lies in the pool, by halving. Few pools have more than one element, so this is not compiled into its
+// caller.
 #[inline(never)]
 fn lies_among(pool: &Pool, fact: Fact<'_>) -> bool
     ensures { IsTrue result ↔ IsMember (fact_of fact.entry) pool.now }
@@ -110,7 +111,7 @@ fn lies_among(pool: &Pool, fact: Fact<'_>) -> bool
     pool.contains(fact)
 }
 
-// The same, and most pools have one element alone.
+// Whether the fact lies in the pool. One element alone is asked without a search.
 fn is_inside(pool: &Pool, fact: Fact<'_>) -> bool
     ensures { IsTrue result ↔ IsMember (fact_of fact.entry) pool.now }
 {

@@ -199,7 +199,7 @@ fn many_next(many: usize, is_passed: bool) -> usize
 }
 
 // The same, which reads no line that its key lets pass over. A step is then a rule that is looked at or passed over.
-// Not compiled into its caller, which most often has no need of the packet's numbers.
+// Not compiled into its caller, which has no need of the packet's numbers where the next rule asks for none.
 #[inline(never)]
 fn candidate(
     lines: &[Line],
@@ -245,7 +245,8 @@ fn asks_none(lines: &[Line], at: usize, end: usize) -> bool
     at < end && lines[at].probe.asks == NO_NUMBER
 }
 
-// The number of the next rule of the chain that may match, or of all its rules where there is none.
+// The number of the next rule of the chain that may match, or of all its rules where there is none. One that asks for
+// none of the packet's numbers is met without a search, and is a step too.
 #[inline(always)]
 fn next_rule(table: &Table, laid: &Laid, facts: &Facts, here: Place, steps: &mut Steps) -> usize
     requires laid { AreChainsLaid table.now laid.now }
@@ -258,6 +259,8 @@ fn next_rule(table: &Table, laid: &Laid, facts: &Facts, here: Place, steps: &mut
     ensures skipped { (config : Config)
         → AreSkipped config facts.now table.now (rules_at table.now.chains here.chain)
         here.at result }
+    ensures counted { result < length (rules_at table.now.chains here.chain)
+        → steps.new + here.at ≡ steps.old + result + 1 }
     ensures looked { steps.new + here.at ≤ steps.old + result + 1 }
     ensures all { steps.new + here.at ≤ steps.old + length (rules_at table.now.chains here.chain) }
 {
@@ -271,7 +274,8 @@ fn next_rule(table: &Table, laid: &Laid, facts: &Facts, here: Place, steps: &mut
     candidate(lines, laid.keys.as_slice(), facts, from, span.end, steps) - span.start
 }
 
-// What the rule of that number makes of the walk. It is compiled into both its callers, as what it calls.
+// What the rule of that number makes of the walk. It is compiled into both its callers, with what it calls but the
+// look-up in a verdict map.
 #[inline(always)]
 fn move_from(
     bounds: &Bounds,
@@ -427,8 +431,9 @@ fn walked(
     }
 }
 
-// Reads on from the one place until the base chain ends, which calls that chain before the other place. Few base chains
-// call one, and only then are there places to return to: so this is not compiled into its caller.
+// Reads on from the first place, in a chain that the base chain calls, until the base chain ends, which goes on at the
+// second place. Few base chains call a chain, and only then are there places to return to, so this is not compiled into
+// its caller.
 #[inline(never)]
 fn walked_from(
     bounds: &Bounds,
@@ -459,30 +464,27 @@ fn walked_from(
     walked(bounds, facts, table, laid, &mut walk, known, steps)
 }
 
-// Where a base chain is read on that calls a chain, and where behind it.
-fn called(step: Move, at: usize, count: usize, here: Place) -> Option<(Place, Place)>
+// Where the walk goes on if the rule calls a chain, and the place to return to; none if it calls none.
+fn call_of(step: Move, at: usize, count: usize, here: Place) -> Option<(Place, Place)>
     requires { at < count }
     ensures { MatchOption result (Calling step ⊥) (λ both. (known : List (Option OutcomeOf))
         → Acts step at count here [] known both.0 (both.1 ∷ []) known None) }
 {
-    let chain = here.chain;
-    match step {
-        Move::Jumps(place) => Some((
-            Place {
-                chain: place,
-                at: 0,
-            },
-            Place { chain, at: at + 1 },
-        )),
-        Move::Goes(place) => Some((
-            Place {
-                chain: place,
-                at: 0,
-            },
-            Place { chain, at: count },
-        )),
-        Move::Next | Move::Gives(_) => None,
-    }
+    let (called, next) = match step {
+        Move::Jumps(place) => (place, at + 1),
+        Move::Goes(place) => (place, count),
+        Move::Next | Move::Gives(_) => return None,
+    };
+    Some((
+        Place {
+            chain: called,
+            at: 0,
+        },
+        Place {
+            chain: here.chain,
+            at: next,
+        },
+    ))
 }
 
 // Reads on from the rule of that number in a base chain that calls none there.
@@ -542,7 +544,7 @@ fn step_alone(
     }
     let told = move_from(bounds, facts, table, laid, rules, Place { chain, at });
     let told = resolved(bounds, facts, table, known, told);
-    let Some((inner, behind)) = called(told, at, rules.len(), *here) else {
+    let Some((inner, behind)) = call_of(told, at, rules.len(), *here) else {
         return act_alone(told, at, rules.len(), here, known);
     };
     Some(walked_from(bounds, facts, table, laid, inner, behind, known, steps))
