@@ -1,5 +1,5 @@
 //! The pairs, each in a slot of its own, and the two maps that lead to it.
-ghost use Rattle.std.specs.Prelude.{◌≡◌, ◌⊎◌, ℕ, ◌+◌, ◌-◌, ◌*◌, ◌<◌, ◌≤◌, Some, None, OnOk, OnErr, IsOk, IsSome, IfOk, IfSome, IfNone, IsSomeAnd};
+ghost use Rattle.std.specs.Prelude.{◌≡◌, ◌⊎◌, ◌+◌, ◌-◌, ◌<◌, ◌≤◌, Some, None, OnOk, OnErr, IsOk, IsSome, IfOk, IfSome, IfNone, IsSomeAnd};
 ghost use Rattle.packet.specs.declared.endpoint.Endpoint.{Endpoint as Place};
 ghost use Rattle.slab.specs.Slab.{get, with_value, HasRoomFor};
 ghost use Rattle.rows.specs.Held.{at, Puts};
@@ -91,11 +91,12 @@ pub fn add(index: &mut Index, pair: Pair) -> Result<(), AllocError>
     }
 }
 
-// Makes room for the pair of this number, unless it has a slot already: one that is held is never refused.
+// Makes room for one more pair where none is free, unless the pair of this number is held, which needs none.
 fn reserve_new(pairs: &mut Slab<Counted>, inside: &Buckets, near: u64) -> Result<(), AllocError>
     ensures room { OnOk result (at inside.now near ≡ None → HasRoomFor pairs.new 1) }
     ensures kept { pairs.new ≡ record pairs.old { capacity = pairs.new.capacity } }
     ensures grows { pairs.old.capacity ≤ pairs.new.capacity }
+    ensures held { IsSome (at inside.now near) → pairs.new ≡ pairs.old }
     ensures again { IsSome (at inside.now near) → IsOk result }
     ensures succeeds { HasRoomFor pairs.old 1 → IsOk result }
 {
@@ -108,8 +109,8 @@ fn reserve_new(pairs: &mut Slab<Counted>, inside: &Buckets, near: u64) -> Result
     pairs.reserve(1)
 }
 
-// The slot to which the first map leads from its number. Where it leads from there to none, it leads to this slot then,
-// and the second map from the other number; or neither does.
+// The slot to which `inside` leads from `near`. Where it leads to none, `inside` leads from `near` to the new slot
+// afterwards, and `outside` from `far`; or neither does, where memory is refused.
 fn find_or_lead(
     inside: &mut Buckets,
     outside: &mut Buckets,
@@ -145,7 +146,7 @@ fn find_or_lead(
     Ok(None)
 }
 
-// As `Buckets::get_or_insert`, and never refused where the key has a value.
+// As `Buckets::get_or_insert`, whose clauses don't say that it isn't refused where the key has a value.
 fn find_or_insert(map: &mut Buckets, key: u64, value: usize) -> Result<Option<usize>, AllocError>
     ensures found { IfOk result (λ found. found ≡ at map.old key) }
     ensures kept { IfOk result (λ found. IsSome found → KeepsAll map.old map.new) }

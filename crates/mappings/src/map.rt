@@ -100,8 +100,8 @@ impl Map {
     }
 
     /// Holds the pair once more, but no more often than a table holds sessions. It may share neither
-    /// endpoint with another pair of its protocol that is held. It takes one look-up, which puts the pair in where
-    /// it is not held yet, and then an insertion into another map.
+    /// endpoint with another pair of its protocol that is held. It takes one look-up, or two where no slot is free; a
+    /// pair that is not held yet is put into one map by the last of them, and into the other by an insertion.
     ///
     /// # Errors
     ///
