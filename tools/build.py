@@ -7,11 +7,12 @@ A line tells of each crate as it is done. What is done stays done: after Ctrl-C,
 there, and where nothing is left to do a call takes half a minute. With CRATE, the name of a library, that one is built in
 the place of natgw.
 
-As many crates are proved at once as there are processors, and fewer where memory is short, each by several jobs: more than
-there are processors, since a part of each proof is one job's alone. A crate gives way to those with longer chains of crates
-above them. Each is proved as the gate proves it: over what the crates below state, without their proofs, which takes about
-half of the time that `rt lib` takes. It is rtlib.py of the kit that does it; others are kept out of all the crates until it
-has ended. The program itself is built by `rt run`.
+As many crates are proved at once as there are processors, and fewer where memory is short: the one with the longest chain
+of crates above it by several jobs, the next by half as many, and so on, since jobs of one crate do some work twice. These
+are more jobs than there are processors, since a part of each proof is one job's alone. A crate gives way to those with
+longer chains above them. Each is proved as the gate proves it: over what the crates below state, without their proofs,
+which takes about half of the time that `rt lib` takes. It is rtlib.py of the kit that does it; others are kept out of all
+the crates until it has ended. The program itself is built by `rt run`.
 """
 import importlib.util
 import os
@@ -61,7 +62,7 @@ def most_crates(rtlib):
 def jobs_of(rank):
     """Returns the jobs of a crate that so many with longer chains above them are proved beside."""
     most = min(len(os.sched_getaffinity(0)), MOST)
-    return most if rank < 2 else max(most // 2, 1)
+    return max(most >> rank, 1)
 
 
 def lines_behind(crates):
