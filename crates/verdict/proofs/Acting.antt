@@ -1,5 +1,5 @@
 -- What a move makes of a walk that stands.
-use Rattle.std.proofs.Common.{◌≡◌, ◌⊎◌, ℕ, zero, suc, ◌+◌, ◌-◌, ◌<◌, ◌≤◌, List, [], ◌∷◌, Option, Some, None, IfSome, MatchOption, length, drop, slice_get, slice_index_or, slice_set, refl, sym, ap, ◌∙◌, subst, inl, inr, arith}
+use Rattle.std.proofs.Common.{◌≡◌, ◌⊎◌, ℕ, false, zero, suc, ◌+◌, ◌-◌, ◌<◌, ◌≤◌, List, [], ◌∷◌, Option, Some, None, IfSome, MatchOption, length, drop, slice_get, slice_index_or, slice_set, refl, sym, ap, ◌∙◌, subst, inl, inr, arith}
 use Rattle.std.specs.Option.{unwrap_or, option_map_or}
 use Rattle.std.proofs.lemmas.Bool.{cases_eq}
 use Rattle.std.proofs.lemmas.List.{drop_all, get_or-set_other}
@@ -20,8 +20,8 @@ use Rattle.verdict.specs.declared.walk.Move.{Move}
 use Rattle.verdict.specs.declared.walk.Move.TheVariants.{Next, Gives, Jumps, Goes}
 use Rattle.verdict.specs.Evaluation.{unless_ended, after}
 use Rattle.verdict.specs.Targets.{OfEach, TargetsHave, EndsWithin}
-use Rattle.verdict.specs.Lines.{place_among, IsLine, AreSpans}
-use Rattle.verdict.specs.Places.{move_of, ending_by, rules_at, rest_of, comes, comes_at, AreKnown, IsResolved, after_call, whole, Reads, Standing, GoesOn, Stepped, IsRead, AreRemembered, told_of, AreSkipped, Calling, GoesTo, EndsAll, Acts}
+use Rattle.verdict.specs.Lines.{place_among, numbers_of, may_hold, IsLine, AreLines, AreSpans}
+use Rattle.verdict.specs.Places.{move_of, ending_by, rules_at, rest_of, comes, comes_at, AreKnown, IsResolved, after_call, whole, Reads, Standing, GoesOn, Stepped, IsRead, AreRemembered, told_of, AreSkipped, StandsAt, Calling, GoesTo, EndsAll, Acts}
 use Rattle.verdict.proofs.Steady.{rules_weaken}
 use Rattle.verdict.proofs.Known.{short_within}
 use Rattle.verdict.proofs.Moves.{rule_moves}
@@ -291,15 +291,38 @@ returned config facts table here places standing at known known2 here2 places2 (
     let ended = ends_at config facts table here places standing at rise le skipped past in
     (ended_known config facts table here places standing ended known known2 are more, back.0 ∙ back_all config facts table here places standing ended back.1)
 
--- the line of a rule that is met
-pub line_at : (table : Table) (row : Row) (spans : List Span) (a i : ℕ) (rules : List Rule) (rule : Rule) (s : Span) (l : Line)
-    → AreSpans table row table.chains spans → a < length table.chains → rules ≡ rules_at table.chains a → slice_get rules i ≡ Some rule
-    → IsLine table row rule (slice_index_or row.lines ((slice_index_or spans a s).start + i) l)
-line_at table row spans a i rules rule s l are lt same at =
+-- of each chain it is known where its rules stand
+pub spans_reach : (table : Table) (row : Row) (spans : List Span) (a : ℕ) → AreSpans table row table.chains spans → a < length table.chains → a < length spans
+spans_reach table row spans a are lt =
     let chain = found_at table.chains a lt in
     let span = are a chain.0 chain.1 in
-    let here : slice_get chain.0.rules i ≡ Some rule = ap (λ (rs : List Rule). slice_get rs i) (sym (same ∙ ap (λ (c : Option Chain). option_map_or (λ (x : Chain). x.rules) c []) chain.1)) ∙ at in
-    let line = span.2.rules i rule here in
+    slice_get_within spans a span.0 span.1
+
+-- where the rules of a chain stand
+pub span_at : (table : Table) (row : Row) (spans : List Span) (a : ℕ) (s : Span) → AreSpans table row table.chains spans → a < length table.chains
+    → StandsAt table row a (slice_index_or spans a s)
+span_at table row spans a s are lt =
+    let chain = found_at table.chains a lt in
+    let span = are a chain.0 chain.1 in
+    let same : rules_at table.chains a ≡ chain.0.rules = ap (λ (c : Option Chain). option_map_or (λ (x : Chain). x.rules) c []) chain.1 in
     let there : slice_index_or spans a s ≡ span.0 = get_or_from_slice_get spans a span.0 s span.1 in
-    let read : slice_index_or row.lines (span.0.start + i) l ≡ line.0 = get_or_from_slice_get row.lines (span.0.start + i) line.0 l line.1 in
-    subst (IsLine table row rule) (sym (ap (λ (x : Span). slice_index_or row.lines (x.start + i) l) there ∙ read)) line.2
+    subst (StandsAt table row a) (sym there) (record {
+      ends = ap (λ (rules : List Rule). span.0.start + length rules) same ∙ span.2.ends;
+      within = span.2.within;
+      rules = subst (AreLines table row span.0.start) (sym same) span.2.rules;
+    })
+
+-- rules are skipped whose lines are
+pub rules_skipped : (facts : Facts) (table : Table) (row : Row) (a : ℕ) (span : Span) (from to : ℕ) → StandsAt table row a span
+    → ((i : ℕ) (line : Line) → span.start + from ≤ i → i < to → slice_get row.lines i ≡ Some line → may_hold (numbers_of facts) line.probe ≡ false)
+    → (config : Config) → AreSkipped config facts table (rules_at table.chains a) from (to - span.start)
+rules_skipped facts table row a span from to stands skipped config i rule le less is =
+    let line = stands.rules i rule is in
+    line.2.tells config facts (skipped (span.start + i) line.0 (omega (arith, le)) (omega (arith, less)) line.1)
+
+-- the line of a rule that is met
+pub line_at : (table : Table) (row : Row) (a i : ℕ) (span : Span) (rule : Rule) (l : Line) → StandsAt table row a span → slice_get (rules_at table.chains a) i ≡ Some rule
+    → IsLine table row rule (slice_index_or row.lines (span.start + i) l)
+line_at table row a i span rule l stands is =
+    let line = stands.rules i rule is in
+    subst (IsLine table row rule) (sym (get_or_from_slice_get row.lines (span.start + i) line.0 l line.1)) line.2

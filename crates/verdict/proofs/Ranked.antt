@@ -11,7 +11,7 @@ use Rattle.verdict.specs.Hooks.{BaseChain, put, in_order, base_outcome, handed_o
 use Rattle.verdict.specs.Ranking.{preferred, final_of, final_in, first_final, outcome_of}
 use Rattle.verdict.proofs.Priorities.{le_trans, le_total}
 
-preferred_none : (f : Option Final) → preferred f None ≡ f
+pub preferred_none : (f : Option Final) → preferred f None ≡ f
 preferred_none None = refl
 preferred_none (Some f) = refl
 

@@ -20,7 +20,9 @@ use Rattle.verdict.specs.declared.walk.Move.TheVariants.{Next, Gives, Jumps, Goe
 use Rattle.verdict.specs.Matching.{holds}
 use Rattle.verdict.specs.Evaluation.{mapped, translation, unless_ended, walk, called}
 use Rattle.verdict.specs.Targets.{OfEach, TargetsHave, EndsWithin}
-use Rattle.verdict.specs.Lines.{place_led}
+use Rattle.verdict.specs.declared.row.Row.{Row}
+use Rattle.verdict.specs.declared.row.Span.{Span}
+use Rattle.verdict.specs.Lines.{place_led, AreLines}
 
 -- so many places, the last first
 abbrev pub stacked : List Place → ℕ → List Place
@@ -187,6 +189,12 @@ abbrev pub AreSkipped : Config → Facts → Table → List Rule → ℕ → ℕ
 AreSkipped config facts table rules from to =
     (i : ℕ) (rule : Rule) → from ≤ i → i < to → slice_get rules i ≡ Some rule
     → list_all (holds config table.sets facts) rule.matches ≡ false
+
+-- the rules of the chain at this place stand in the row at this span
+pub record StandsAt (table : Table) (row : Row) (a : ℕ) (span : Span) : Type 0 where
+  pub ends : span.start + length (rules_at table.chains a) ≡ span.end
+  pub within : span.end ≤ length row.lines
+  pub rules : AreLines table row span.start (rules_at table.chains a)
 
 -- it holds of a move that calls a chain
 abbrev pub Calling : Move → Type 0 → Type 0

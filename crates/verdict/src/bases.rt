@@ -1,12 +1,12 @@
 //! At which hooks base chains stand, noted when a text has loaded.
 
-ghost use Rattle.std.specs.Prelude.{◌≡◌, [], false};
+ghost use Rattle.std.specs.Prelude.{◌≡◌, [], ◌∷◌, false, MatchOption};
 ghost use Rattle.std.specs.Option.{option_map_or};
 ghost use Rattle.rulesyntax.specs.declared.tree.Table.{Table as TableOf};
 ghost use Rattle.verdict.specs.Hooks.{same_hook as are_same_hooks, at_hook, bases_among, bases_of};
 ghost use Rattle.verdict.specs.Noted.{asks_at as asks_at_hook, AreNoted};
 
-use rulesyntax::tree::{Chain, Hook, Table};
+use rulesyntax::tree::{Base, Chain, Hook, Table};
 
 /// For each hook whether base chains may stand there.
 #[derive(Clone, Copy, Drop)]
@@ -18,20 +18,23 @@ pub(crate) struct Asking {
     pub(crate) postrouting: bool,
 }
 
-pub(crate) fn is_same_hook(one: Hook, other: Hook) -> bool
+fn is_same_hook(one: Hook, other: Hook) -> bool
     ensures { result ≡ are_same_hooks one other }
 {
     one == other
 }
 
-// Whether the chain is a base chain of the hook.
-fn stands_at(chain: &Chain, hook: Hook) -> bool
-    ensures { result ≡ false → (table : TableOf)
-        → option_map_or (at_hook hook table chain.now) chain.now.base [] ≡ [] }
+/// What stands at the head of the chain, if it is a base chain of the hook.
+#[inline(always)]
+pub(crate) fn base_at(chain: &Chain, hook: Hook) -> Option<&Base>
+    ensures { (table : TableOf) → MatchOption result
+        (option_map_or (at_hook hook table chain.now) chain.now.base [] ≡ [])
+        (λ base. option_map_or (at_hook hook table chain.now) chain.now.base []
+        ≡ record { table = table; chain = chain.now; base = base.now } ∷ []) }
 {
     match &chain.base {
-        None => false,
-        Some(base) => is_same_hook(base.hook, hook),
+        Some(base) if is_same_hook(base.hook, hook) => Some(base),
+        _ => None,
     }
 }
 
@@ -41,7 +44,7 @@ pub(crate) fn any_stands_at(chains: &[Chain], hook: Hook) -> bool
 {
     let mut rest = chains;
     while let [chain, tail @ ..] = rest {
-        if stands_at(chain, hook) {
+        if base_at(chain, hook).is_some() {
             return true;
         }
         rest = tail;

@@ -15,7 +15,7 @@ use rulesyntax::tree::{End, Vmap};
 use sets::{Value as Fact, Vmap as Map};
 
 /// What a chain comes to for a packet.
-#[derive(Clone, Copy, Debug, PartialEq, Eq, Drop)]
+#[derive(Clone, Copy, Drop)]
 pub enum Outcome {
     /// A rule accepts the packet, which ends the base chain too.
     Accepts,

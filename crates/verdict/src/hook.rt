@@ -10,7 +10,7 @@ ghost use Rattle.verdict.specs.Costs.{unread, rules_of_tables, rules_in_force};
 ghost use Rattle.verdict.specs.Hooks.{settled as settled_by, at_hook, bases_among, bases_of, hook_outcome as outcome_of_hook, forward_verdict, prerouting_verdict, postrouting_verdict};
 ghost use Rattle.verdict.specs.Ranking.{preferred as preferred_of, final_of as final_of_outcome, first_final, outcome_of as outcome_of_final};
 
-use crate::bases::{any_stands_at, is_same_hook};
+use crate::bases::{any_stands_at, base_at};
 use crate::chain::Outcome;
 use crate::facts::Facts;
 use crate::row::Laid;
@@ -19,7 +19,7 @@ use crate::walk::chain_outcome;
 use packet::bounds::Bounds;
 use packet::endpoint::Endpoint;
 use packet::steps::Steps;
-use rulesyntax::tree::{Hook, Policy, Table};
+use rulesyntax::tree::{Base, Hook, Policy, Table};
 
 /// What the forward chains decide about a packet.
 #[derive(Clone, Copy, Debug, PartialEq, Eq, Drop)]
@@ -61,7 +61,7 @@ const CHAINS: usize = 256;
 const FEW_CHAINS: usize = 8;
 
 // What a base chain that doesn't accept comes to, and its priority.
-#[derive(Clone, Copy, Debug, Drop)]
+#[derive(Clone, Copy, Drop)]
 struct Final {
     priority: i64,
     outcome: Outcome,
@@ -93,12 +93,17 @@ fn preferred(earlier: Option<Final>, later: Option<Final>) -> Option<Final>
     later
 }
 
-fn final_of(priority: i64, outcome: Outcome) -> Option<Final>
-    ensures { result ≡ final_of_outcome priority outcome }
+// What a base chain comes to whose rules come to this.
+#[inline(always)]
+fn final_of(base: &Base, outcome: Outcome) -> Option<Final>
+    ensures { result ≡ final_of_outcome base.now.priority (settled_by base.now.policy outcome) }
 {
-    match outcome {
+    match settled(base.policy, outcome) {
         Outcome::Accepts => None,
-        _ => Some(Final { priority, outcome }),
+        outcome => Some(Final {
+            priority: base.priority,
+            outcome,
+        }),
     }
 }
 
@@ -129,12 +134,11 @@ fn final_at(
         result ≡ first_final bounds.now facts.now
         (option_map_or (at_hook hook table.now chain) chain.base [])) }
 {
-    let base = table.chains.as_slice()[place].base.as_ref()?;
-    if !is_same_hook(base.hook, hook) {
+    let Some(base) = base_at(&table.chains.as_slice()[place], hook) else {
         return None;
-    }
+    };
     let outcome = chain_outcome(bounds, facts, table, laid, place, known, steps);
-    final_of(base.priority, settled(base.policy, outcome))
+    final_of(base, outcome)
 }
 
 // Takes into `first` what the base chains of a table come to at the hook. Of its chains no more is known than `known`

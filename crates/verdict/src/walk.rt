@@ -12,14 +12,14 @@ ghost use Rattle.verdict.specs.Evaluation.{chain_outcome as outcome_of_chain};
 ghost use Rattle.packet.specs.Config.{Config};
 ghost use Rattle.verdict.specs.declared.chain.Outcome.{Outcome as OutcomeOf};
 ghost use Rattle.verdict.specs.declared.chain.Outcome.TheVariants as outcomes;
-ghost use Rattle.verdict.specs.Places.{move_by as move_by_verdict, move_led as move_led_by, move_at as move_at_end, move_of as move_of_rule, rules_at, whole, AreKnown, CameTo, IsResolved, Standing, Stepped, AreSkipped, Calling, told_of, Acts};
+ghost use Rattle.verdict.specs.Places.{move_by as move_by_verdict, move_led as move_led_by, move_at as move_at_end, move_of as move_of_rule, rules_at, whole, AreKnown, CameTo, IsResolved, Standing, Stepped, AreSkipped, StandsAt, Calling, told_of, Acts};
 ghost use Rattle.verdict.specs.Costs.{unread, read_at, IsNew, Reading, Spent};
 
 use crate::chain::{Outcome, key_for, known_at, remember, translation, unless_ended};
 use crate::facts::Facts;
 use crate::keys::{NEAR, next_met, pass};
 use crate::matching::all_hold;
-use crate::row::{Laid, Line, NO_NUMBER, Probe, Row, may_hold, numbers_of};
+use crate::row::{Laid, Line, NO_NUMBER, Probe, Row, Span, may_hold, numbers_of};
 use crate::stack::{Place, Stack};
 use packet::bounds::Bounds;
 use packet::steps::Steps;
@@ -245,6 +245,16 @@ fn asks_none(lines: &[Line], at: usize, end: usize) -> bool
     at < end && lines[at].probe.asks == NO_NUMBER
 }
 
+// Where the rules of the chain at that place stand in the row.
+#[inline(always)]
+fn span_of(table: &Table, laid: &Laid, chain: usize) -> Span
+    requires laid { AreChainsLaid table.now laid.now }
+    requires chain { chain < length table.now.chains }
+    ensures { StandsAt table.now laid.now.row chain result }
+{
+    laid.spans.as_slice()[chain]
+}
+
 // The number of the next rule of the chain that may match, or of all its rules where there is none. One that asks for
 // none of the packet's numbers is met without a search, and is a step too.
 #[inline(always)]
@@ -264,7 +274,7 @@ fn next_rule(table: &Table, laid: &Laid, facts: &Facts, here: Place, steps: &mut
     ensures looked { steps.new + here.at ≤ steps.old + result + 1 }
     ensures all { steps.new + here.at ≤ steps.old + length (rules_at table.now.chains here.chain) }
 {
-    let span = laid.spans.as_slice()[here.chain];
+    let span = span_of(table, laid, here.chain);
     let lines = laid.row.lines.as_slice();
     let from = span.start + here.at;
     if asks_none(lines, from, span.end) {
@@ -292,7 +302,7 @@ fn move_from(
     ensures { IfSome (slice_get rules.now here.at) (λ rule. result
         ≡ move_of_rule bounds.now facts.now table.now rule) }
 {
-    let span = laid.spans.as_slice()[here.chain];
+    let span = span_of(table, laid, here.chain);
     let line = laid.row.lines.as_slice()[span.start + here.at];
     move_of(bounds, facts, table, &laid.row, &rules[here.at], line)
 }
