@@ -316,6 +316,10 @@ pub none-weaker : (P Q : Type 0) (o : Option ℕ) → (P → Q) → IfNone o P �
 none-weaker P Q None then h = then h
 none-weaker P Q (Some n) then h = tt
 
+pub where-some : (P : ℕ → Type 0) (o : Option ℕ) → ((slot : ℕ) → o ≡ Some slot → P slot) → IfSome o P
+where-some P (Some slot) on = on slot refl
+where-some P None on = tt
+
 pub where-none : (P : Type 0) (o : Option ℕ) → (o ≡ None → P) → IfNone o P
 where-none P None then = then refl
 where-none P (Some n) then = tt

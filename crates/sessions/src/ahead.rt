@@ -15,7 +15,7 @@ pub const MOST_AHEAD: usize = 16;
 const NO_SLOT: usize = usize::MAX;
 
 /// By what the session of a packet that comes is looked for.
-#[derive(Clone, Copy, Debug, PartialEq, Eq, Drop)]
+#[derive(Clone, Copy, PartialEq, Eq, Drop)]
 pub struct Coming {
     /// Its protocol.
     pub proto: Proto,

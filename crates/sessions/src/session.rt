@@ -81,7 +81,7 @@ impl Session {
 }
 
 /// What happens to a session.
-#[derive(Clone, Copy, Debug, PartialEq, Eq, Drop)]
+#[derive(Clone, Copy, PartialEq, Eq, Drop)]
 pub enum Change {
     /// It begins.
     Begin(Session),

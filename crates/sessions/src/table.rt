@@ -243,10 +243,23 @@ impl Table {
         if self.sessions.len() >= MOST_SESSIONS {
             return Err(AddFault::TableFull);
         }
-        if self.sessions.reserve(1).is_err() || self.index.reserve_one().is_err() {
+        if self.reserve_one().is_err() {
             return Err(AddFault::NoMemory);
         }
         Ok(self.add_reserved(session))
+    }
+
+    // Makes room for one more session.
+    fn reserve_one(&mut self) -> Result<(), AllocError>
+        ensures ok { OnOk result (0 < self.new.room) }
+        ensures succeeds { 0 < self.old.room → IsOk result }
+        ensures held { self.new.held ≡ self.old.held }
+        ensures room { self.old.room ≤ self.new.room }
+        ensures slots { self.old.slots ≤ self.new.slots }
+        ensures had_room { 0 < self.old.room → self.new.slots ≡ self.old.slots }
+    {
+        self.sessions.reserve(1)?;
+        self.index.reserve_one()
     }
 
     /// Takes a session that clashes with none into a slot that holds none, where there is room for it, fewer
