@@ -106,15 +106,15 @@ impl Buckets {
         ensures room_ok { OnOk result (self.old.room ≤ self.new.room + 1) }
         ensures room_err { OnErr result (self.old.room ≤ self.new.room) }
     {
-        add(
+        let put = add(
             &mut self.places,
             &mut self.overflow,
             &mut self.are_packed,
             key,
             value,
-        )?;
-        self.count = self.count.saturating_add(1);
-        Ok(())
+        );
+        count_put(&mut self.count, put.is_ok());
+        put
     }
 
     /// The value of the key, if an entry has it. If none has, an entry with this value is put in, as by `insert`. It
@@ -142,9 +142,7 @@ impl Buckets {
             key,
             value,
         )?;
-        if found.is_none() {
-            self.count = self.count.saturating_add(1);
-        }
+        count_put(&mut self.count, found.is_none());
         Ok(found)
     }
 
@@ -160,9 +158,9 @@ impl Buckets {
             &mut self.overflow,
             &mut self.are_packed,
             key,
-        )?;
-        self.count = self.count.saturating_sub(1);
-        Some(value)
+        );
+        count_out(&mut self.count, value.is_some());
+        value
     }
 
     /// Makes room for two more entries, so that the next two insertions take no memory, whatever is removed
@@ -222,5 +220,19 @@ impl Buckets {
             &mut self.overflow,
             self.are_packed,
         );
+    }
+}
+
+#[inline(always)]
+fn count_put(count: &mut usize, is_put: bool) {
+    if is_put {
+        *count = count.saturating_add(1);
+    }
+}
+
+#[inline(always)]
+fn count_out(count: &mut usize, is_out: bool) {
+    if is_out {
+        *count = count.saturating_sub(1);
     }
 }
