@@ -1,14 +1,14 @@
 -- A run that is cut in two, and one that goes.
-use Rattle.std.proofs.Common.{◌≡◌, ℕ, suc, ◌+◌, ◌-◌, ◌*◌, ◌<◌, List, [], ◌∷◌, ◌++◌, map, length, get_or, set, take, drop, sym, ap, ◌∙◌, subst, arith}
+use Rattle.std.proofs.Common.{◌≡◌, ℕ, suc, ◌+◌, ◌-◌, ◌*◌, ◌<◌, ◌≤◌, List, [], ◌∷◌, ◌++◌, map, length, get_or, set, take, drop, sym, ap, ◌∙◌, subst, arith}
 use Rattle.std.proofs.lemmas.List.{set_split, map-append, append_assoc, take_at, drop_at, length-append, length-take-le, get_or-append-add, set_at}
 use Rattle.std.proofs.lemmas.List.Edits.{get_or-remove_below, remove-append_right}
 use Rattle.std.proofs.Math.Seq.{drop-cons}
 use Rattle.std.proofs.lemmas.List.Concat.{flat_map-append}
-use Rattle.std.specs.List.{insert, remove, All}
+use Rattle.std.specs.List.{insert, remove, All, AllWithin}
 use Rattle.std.proofs.lemmas.List.Elements.{All-append, All-cons, All-take, All-drop}
 use Rattle.rows.specs.declared.Entry.{Entry}
 use Rattle.rows.specs.declared.runs.Run.{Run}
-use Rattle.rows.specs.Order.{Below, Rising, odd, even, numbers, numbers_in, held_in, AreOrdered, IsCut, most}
+use Rattle.rows.specs.Order.{Below, Rising, odd, even, numbers, numbers_in, held_in, AreOrdered, IsCut, IsRunFor, most}
 use Rattle.rows.proofs.Numbers.{above-weaker, below-right, below-weaker, rising-right, rising-below, rising-above, rising-cut, rising-uncut, rising-end, rising-remove}
 use Rattle.rows.proofs.Pieces.{split_at}
 
@@ -172,3 +172,13 @@ module _ (runs : List Run) (number : ℕ) (inside : number + 1 < length runs) (r
     lower_few = omega (arith, few);
     higher_few = omega (arith, few);
   }
+
+-- of runs in order, the last whose bound is no higher than the key is the run for it
+pub run_up_to : (runs : List Run) (key count : ℕ) → count ≤ length runs → AllWithin (λ (r : Run). r.low ≤ key) runs 0 count → AllWithin (λ (r : Run). key < r.low) runs count (length runs) → 0 < count → IsRunFor runs key (count - 1)
+run_up_to runs key count inside before after some = record {
+  in_range = omega (arith, inside, some);
+  low = λ d. before (count - 1) d (omega arith) (omega (arith, some));
+  next = λ d lt.
+      let e : count ≡ count - 1 + 1 = omega (arith, some) in
+      subst (λ k. key < (get_or runs k d).low) e (after count d (omega arith) (subst (λ k. k < length runs) (sym e) lt));
+}

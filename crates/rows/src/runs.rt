@@ -149,12 +149,29 @@ fn run_with_room(runs: &mut Vec<Run>, spare: &mut Vec<Vec<Cell>>, key: u128) -> 
     if runs[number].entries.len() < MOST {
         return number;
     }
+    cut_for(runs, spare, number, key)
+}
+
+// Cuts a full run in two. The number of the half that is the run for the key.
+#[inline(always)]
+fn cut_for(runs: &mut Vec<Run>, spare: &mut Vec<Vec<Cell>>, number: usize, key: u128) -> usize
+    requires sound { AreSound runs.old spare.old }
+    requires spare { 0 < length spare.old.items }
+    requires run { IsRunFor runs.old.items key number }
+    requires full { (d : Span)
+        → most ≤ length (slice_index_or runs.old.items number d).entries.items }
+    ensures sound { AreSound runs.new spare.new }
+    ensures held { held_in runs.new.items ≡ held_in runs.old.items }
+    ensures run { IsRunFor runs.new.items key result }
+    ensures few { (d : Span)
+        → length (slice_index_or runs.new.items result d).entries.items < most }
+    ensures room { length spare.old.items ≤ length spare.new.items + 1 }
+{
     cut(runs, spare, number);
-    if runs[count].low <= key {
-        count
-    } else {
-        number
+    if runs[number + 1].low <= key {
+        return number + 1;
     }
+    number
 }
 
 // Whether a run may begin at the key: so many runs have a bound no higher, and the last of them is full of
