@@ -3,7 +3,7 @@
 use packet::endpoint::{Endpoint, Iface, Proto};
 
 /// The state of a packet's connection, which `ct state` asks for. No packet has another one than these.
-#[derive(Clone, Copy, Debug, PartialEq, Eq, Drop)]
+#[derive(Clone, Copy, PartialEq, Eq, Drop)]
 pub enum State {
     /// The packet has no session, begins one anew, or comes from the opener of one without a reply.
     New,
@@ -12,7 +12,7 @@ pub enum State {
 }
 
 /// What rules may ask about a packet, at one hook.
-#[derive(Clone, Copy, Debug, PartialEq, Eq, Drop)]
+#[derive(Clone, Copy, PartialEq, Eq, Drop)]
 pub struct Facts {
     /// The interface that the packet came in by.
     pub iif: Iface,

@@ -31,7 +31,7 @@ pub enum Forwarding {
 }
 
 /// What the prerouting chains decide about a packet's destination.
-#[derive(Clone, Copy, Debug, PartialEq, Eq, Drop)]
+#[derive(Clone, Copy, PartialEq, Eq, Drop)]
 pub enum Destination {
     /// It stays.
     None,
@@ -43,7 +43,7 @@ pub enum Destination {
 
 /// What the postrouting chains decide about a packet's source address. Its port is chosen elsewhere (crate
 /// `portpick`).
-#[derive(Clone, Copy, Debug, PartialEq, Eq, Drop)]
+#[derive(Clone, Copy, PartialEq, Eq, Drop)]
 pub enum Source {
     /// It stays.
     None,
