@@ -281,14 +281,8 @@ impl<D: Disk + Drop> Gateway<D> {
             → (judged : Judged) → IsJudged self.old.told.config event judged
             → ¬ HasEntry self.old.told.config self.old.told.state judged → IsOk result }
     {
-        if self.store.has_fallen() {
-            return Err((event, GatewayFault::Reopen));
-        }
-        if self.last == u64::MAX {
-            return Err((event, GatewayFault::NumbersOut));
-        }
-        if self.pending.len() >= MOST_HELD {
-            return Err((event, GatewayFault::HeldFull));
+        if let Some(fault) = self.why_none() {
+            return Err((event, fault));
         }
         self.core.facts();
         events_are_judged_once();
@@ -297,9 +291,34 @@ impl<D: Disk + Drop> Gateway<D> {
                 self.last += 1;
                 Ok(give(&mut self.pending, self.last, answer))
             }
-            Err((event, StepFault::Full)) => Err((event, GatewayFault::Full)),
-            Err((event, StepFault::NoMemory)) => Err((event, GatewayFault::NoMemory)),
+            Err((event, fault)) => Err((event, why_refused(fault))),
         }
+    }
+
+    // Why no event can be taken, whatever it is.
+    #[inline]
+    fn why_none(&self) -> Option<GatewayFault>
+        ensures reopen { IfSome result (λ e. (e ≡ GatewayFault.Reopen) ↔ (self.now.fallen ≡ true)) }
+        ensures numbers_out { IfSome result (λ e. (e ≡ GatewayFault.NumbersOut)
+            ↔ ((self.now.fallen ≡ false) × (self.now.told.last ≡ 2 ^ 64 - 1))) }
+        ensures held_full { IfSome result (λ e. (e ≡ GatewayFault.HeldFull)
+            ↔ ((self.now.fallen ≡ false) × (self.now.told.last < 2 ^ 64 - 1)
+            × (length self.now.told.held ≡ 64))) }
+        ensures causes { IfSome result (λ e. (e ≡ GatewayFault.Reopen)
+            ⊎ (e ≡ GatewayFault.NumbersOut) ⊎ (e ≡ GatewayFault.HeldFull)) }
+        ensures none { IfNone result ((self.now.fallen ≡ false)
+            × (self.now.told.last < 2 ^ 64 - 1) × (length self.now.told.held < 64)) }
+    {
+        if self.store.has_fallen() {
+            return Some(GatewayFault::Reopen);
+        }
+        if self.last == u64::MAX {
+            return Some(GatewayFault::NumbersOut);
+        }
+        if self.pending.len() >= MOST_HELD {
+            return Some(GatewayFault::HeldFull);
+        }
+        None
     }
 
     /// Takes a packet whose session goes on, where nothing is held: an event that is answered at once, and whose packet
@@ -475,9 +494,7 @@ impl<D: Disk + Drop> Gateway<D> {
                 let _ = self.pending.release(self.store.end());
                 Ok(())
             }
-            Err(CompactFault::NoMemory) => Err(GatewayFault::NoMemory),
-            Err(CompactFault::Device) => Err(GatewayFault::Device),
-            Err(CompactFault::Generations) => Err(GatewayFault::Generations),
+            Err(fault) => Err(why_not_compacted(fault)),
         }
     }
 
@@ -575,6 +592,34 @@ fn begin(
     match Core::resume(alloc, bounds, text, sessions, moment) {
         Ok(core) => Ok((core, pending)),
         Err(fault) => Err(fault),
+    }
+}
+
+// Why the step of an event was refused.
+#[inline]
+fn why_refused(fault: StepFault) -> GatewayFault
+    ensures full { (result ≡ GatewayFault.Full) ↔ (fault ≡ StepFault.Full) }
+    ensures no_memory { (result ≡ GatewayFault.NoMemory) ↔ (fault ≡ StepFault.NoMemory) }
+    ensures either { (result ≡ GatewayFault.Full) ⊎ (result ≡ GatewayFault.NoMemory) }
+{
+    match fault {
+        StepFault::Full => GatewayFault::Full,
+        StepFault::NoMemory => GatewayFault::NoMemory,
+    }
+}
+
+// Why a gateway was not compacted, as its store says it.
+fn why_not_compacted(fault: CompactFault) -> GatewayFault
+    ensures device { (result ≡ GatewayFault.Device) ↔ (fault ≡ CompactFault.Device) }
+    ensures generations { (result ≡ GatewayFault.Generations) ↔ (fault ≡ CompactFault.Generations) }
+    ensures no_memory { (result ≡ GatewayFault.NoMemory) ↔ (fault ≡ CompactFault.NoMemory) }
+    ensures causes { (result ≡ GatewayFault.NoMemory) ⊎ (result ≡ GatewayFault.Device)
+        ⊎ (result ≡ GatewayFault.Generations) }
+{
+    match fault {
+        CompactFault::NoMemory => GatewayFault::NoMemory,
+        CompactFault::Device => GatewayFault::Device,
+        CompactFault::Generations => GatewayFault::Generations,
     }
 }
 

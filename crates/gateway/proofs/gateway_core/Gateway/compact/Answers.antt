@@ -44,20 +44,6 @@ returns-in-Ok-compact-clause-any_moment g c =
     subst (λ (d : Durable). LeavesOnly g.D.Disk.moment g.D.Disk.left c.self.inside.store.disk c.compact.new.self.disk (λ files. Recovers files d))
     (lasting_is c.self.inside.core.state c.rules.result.now c.as_slice.result.now c.rules.ensures still) (c.compact.ensures.any_moment honest))
 
-pub returns-in-Err-NoMemory-clause-any_moment : goal.returns-in-Err-NoMemory-clause-any_moment
-returns-in-Err-NoMemory-clause-any_moment g c =
-    let still : c.as_slice.result.now ≡ map stilled c.self.inside.core.state.sessions = c.as_slice.ensures.value ∙ c.in-Ok.ensures in
-    rw (← c.self.view_is) (λ stands honest.
-    subst (λ (d : Durable). LeavesOnly g.D.Disk.moment g.D.Disk.left c.self.inside.store.disk c.compact.new.self.disk (λ files. Recovers files d))
-    (lasting_is c.self.inside.core.state c.rules.result.now c.as_slice.result.now c.rules.ensures still) (c.compact.ensures.any_moment honest))
-
-pub returns-in-Err-Device-clause-any_moment : goal.returns-in-Err-Device-clause-any_moment
-returns-in-Err-Device-clause-any_moment g c =
-    let still : c.as_slice.result.now ≡ map stilled c.self.inside.core.state.sessions = c.as_slice.ensures.value ∙ c.in-Ok.ensures in
-    rw (← c.self.view_is) (λ stands honest.
-    subst (λ (d : Durable). LeavesOnly g.D.Disk.moment g.D.Disk.left c.self.inside.store.disk c.compact.new.self.disk (λ files. Recovers files d))
-    (lasting_is c.self.inside.core.state c.rules.result.now c.as_slice.result.now c.rules.ensures still) (c.compact.ensures.any_moment honest))
-
 pub returns-clause-any_moment : goal.returns-clause-any_moment
 returns-clause-any_moment g c =
     let still : c.as_slice.result.now ≡ map stilled c.self.inside.core.state.sessions = c.as_slice.ensures.value ∙ c.in-Ok.ensures in

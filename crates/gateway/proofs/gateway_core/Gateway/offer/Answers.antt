@@ -52,18 +52,13 @@ returns-in-Ok-clause-filled g c = rw (← c.self.view_is) (
           (c.give.ensures.place ∙ ap (λ (b : Besides). b.place) c.step_noted.ensures.beside) (c.give.ensures.entries ∙ noted.2),
     ))
 
-pub returns-in-Err-default-Full-clause-roomy : goal.returns-in-Err-default-Full-clause-roomy
-returns-in-Err-default-Full-clause-roomy g c = rw (← c.self.view_is) (λ roomy told.
-    let full = c.in-Err-default-Full.ensures.full c.in-Err-default-Full.field-0-1-is in
+pub returns-in-Err-clause-roomy : goal.returns-in-Err-clause-roomy
+returns-in-Err-clause-roomy g c = rw (← c.self.view_is) (λ roomy told.
+    let full = c.in-Err.ensures.full (c.why_refused.ensures.full.0 told) in
     roomy_enough c.self.inside.core.config c.self.inside.core.state (later c.self.inside.core.state.clock c.args.event.moment) _ full.2 full.0.deed
     c.facts.ensures.sound full.3 full.1.right roomy full.4)
 
-pub returns-in-Err-default-Full-clause-quiet : goal.returns-in-Err-default-Full-clause-quiet
-returns-in-Err-default-Full-clause-quiet g c = rw (← c.self.view_is) (λ stands last none no_load judged is_judged needless.
-    c.in-Err-default-Full.ensures.quiet no_load judged is_judged
-    (none_of c.self.inside.core.config c.self.inside.core.state c.args.event judged c.facts.ensures.config c.facts.ensures.sound is_judged needless))
-
-pub returns-in-Err-default-NoMemory-clause-quiet : goal.returns-in-Err-default-NoMemory-clause-quiet
-returns-in-Err-default-NoMemory-clause-quiet g c = rw (← c.self.view_is) (λ stands last none no_load judged is_judged needless.
-    c.in-Err-default-NoMemory.ensures.quiet no_load judged is_judged
+pub returns-in-Err-clause-quiet : goal.returns-in-Err-clause-quiet
+returns-in-Err-clause-quiet g c = rw (← c.self.view_is) (λ stands last none no_load judged is_judged needless.
+    c.in-Err.ensures.quiet no_load judged is_judged
     (none_of c.self.inside.core.config c.self.inside.core.state c.args.event judged c.facts.ensures.config c.facts.ensures.sound is_judged needless))
