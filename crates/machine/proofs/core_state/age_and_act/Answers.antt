@@ -1,7 +1,13 @@
-use Rattle.std.proofs.Common.{◌≡◌, ◌+◌, ◌*◌, [], sym, ap, subst, ◌∙◌, arith}
+use Rattle.std.proofs.Common.{◌≡◌, ◌+◌, ◌*◌, ◌++◌, [], List, inl, inr, length, sym, ap, subst, ◌∙◌, append_assoc, arith}
 use Rattle.std.specs.List.{filter}
+use Rattle.std.proofs.lemmas.Bool.{cases_Bool}
+use Rattle.std.proofs.lemmas.Result.{on_ok_weaker}
 use Rattle.sessions.specs.Life.{alive}
 use Rattle.sessions.specs.Listing.{listing}
+use Rattle.sessions.specs.declared.session.Session.{Session}
+use Rattle.machine.specs.Core.{state_of}
+use Rattle.machine.specs.Machine.{act}
+use Rattle.machine.specs.Noted.{ends, of_deed}
 use Rattle.machine.specs.Notes.{most_bytes}
 use Rattle.machine.specs.declared.notes.StepFault.TheVariants.{Full}
 use Rattle.machine.proofs.Stepping.{if_err_unready, none-ended}
@@ -30,3 +36,29 @@ returns-in-Ok-clause-full g c =
 
 pub returns-in-Err-clause-quiet : goal.returns-in-Err-clause-quiet
 returns-in-Err-clause-quiet g c = λ none no_entry. c.in-Err.ensures.succeeds (none_due c.args.flows.now.table.held c.args.now none)
+
+pub returns-in-Ok-clause-ok : goal.returns-in-Ok-clause-ok
+returns-in-Ok-clause-ok g c = rw (← c.in-Ok.ensures.ok) c.act_on.ensures.ok
+
+pub returns-in-Ok-clause-quiet : goal.returns-in-Ok-clause-quiet
+returns-in-Ok-clause-quiet g c = rw (← c.in-Ok.ensures.ok) (λ none. c.act_on.ensures.quiet)
+
+pub returns-in-Ok-clause-noted : goal.returns-in-Ok-clause-noted
+returns-in-Ok-clause-noted g c =
+    let entries = of_deed c.args.bounds.now (state_of c.args.in_force.now.text c.args.in_force.now.rules c.expire_since.new.self.table.held c.args.now) c.args.deed in
+    rw (← c.in-Ok.ensures.ok) (on_ok_weaker c.act_on.result (λ said keeps.
+    let gone = c.in-Ok.ensures.noted keeps in (
+      gone.0,
+      gone.1,
+      said (c.expire_since.ensures.keeps.0 keeps) ∙ ap (λ es. es ++ entries) gone.2 ∙ append_assoc (g.N.Notes.noted c.args.notes.now) (ends gone.0) entries,
+    )) c.act_on.ensures.noted)
+
+pub returns-in-Ok-clause-succeeds : goal.returns-in-Ok-clause-succeeds
+returns-in-Ok-clause-succeeds g c = λ none few granted.
+    let held = c.expire_since.new.self.table.held in
+    elim (cases_Bool c.in-Ok.ready) [
+      | inl ready ↦ c.act_on.ensures.ready ready
+      | inr unready ↦ c.act_on.ensures.adds_none (
+          subst (λ (ss : List Session). length (act c.args.bounds.now (record { text = c.args.in_force.now.text; rules = c.args.in_force.now.rules; sessions = ss; clock = c.args.now }) c.args.deed).0.sessions ≡ length (listing held))
+          (sym c.in-Ok.ensures.ok) (few ∙ sym (ap (λ h. length (listing h)) (c.in-Ok.ensures.none unready)))) (subst (λ n. g.N.Notes.grants n) (sym (c.in-Ok.ensures.unchanged unready)) granted)
+    ]
