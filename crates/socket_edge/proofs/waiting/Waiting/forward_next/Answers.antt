@@ -56,3 +56,30 @@ returns-clause-left g c = λ yes.
           subst (λ (p : List ℕ). CarriesOn g.D.Disk.honest g.D.Disk.moment g.D.Disk.left g.D.Disk.failed c.args.gateway.now c.forward_frame.new.gateway (record { moment = it.moment; what = Packet it.iface p } ∷ []) before
           (before ++ left.0 ∷ [])) packet (left.2 before),
     )
+
+pub slice_bounds-forward_frame-end : goal.slice_bounds-forward_frame-end
+slice_bounds-forward_frame-end g c =
+    let self = c.self.inside in
+    let i = c.self.invariant in
+    let it = c.in-Frame-Packet-default-default in
+    let xs = c.as_mut_slice-bytes.result.now in
+    let same = c.as_mut_slice-bytes.ensures.value in
+    let ends : self.start + (14 + it.len) ≤ self.end =
+    ends_within self.start self.end (14 + it.len) self.bytes.items c.pending-2.result.now i.1 i.2 (c.pending-2.ensures ∙ sym (ap (λ (x : Exchange). x.pending) c.self.view_is)) c.if-pending-len.false in
+    omega (arith, ends, i.2, ap length same)
+
+pub move_down-requires-clause-within : goal.move_down-requires-clause-within
+move_down-requires-clause-within g c =
+    let self = c.self.inside in
+    let i = c.self.invariant in
+    let it = c.in-Frame-Packet-default-default in
+    let xs = c.as_mut_slice-bytes.result.now in
+    let same = c.as_mut_slice-bytes.ensures.value in
+    let ends : self.start + (14 + it.len) ≤ self.end =
+    ends_within self.start self.end (14 + it.len) self.bytes.items c.pending-2.result.now i.1 i.2 (c.pending-2.ensures ∙ sym (ap (λ (x : Exchange). x.pending) c.self.view_is)) c.if-pending-len.false in
+    let size : length c.forward_frame.new.bytes ≡ 14 + it.len = c.if-not-forward_frame.ensures.size ∙ part_size self.start (self.start + (14 + it.len)) xs (omega arith) (omega (arith, ends, i.2, ap length same)) ∙ (omega arith) in
+    let between = between_size self.start (self.start + (14 + it.len)) xs c.forward_frame.new.bytes (omega arith) (omega (arith, ends, i.2, ap length same)) (size ∙ (omega arith)) in
+    omega (arith, ends, i.2, ap length same, between)
+
+pub move_down-requires-clause-down : goal.move_down-requires-clause-down
+move_down-requires-clause-down g c = c.self.invariant.0
