@@ -1,5 +1,16 @@
-use Rattle.journal.proofs.Looking.{looks_twice}
+use Rattle.disk_model.proofs.Moments.{not_yet}
+use Rattle.journal.proofs.Looking.{look_on, looks_twice}
 use Rattle.snapshot.proofs.opening.contents.Goals as goal
+
+pub returns-in_err-len-clause-looks : goal.returns-in_err-len-clause-looks
+returns-in_err-len-clause-looks g c =
+    look_on g.D.Disk.honest g.D.Disk.seen g.D.Disk.moment g.D.Disk.left g.met.D.Disk.earlier _ _ _ (λ h. not_yet g.D.Disk.moment g.D.Disk.left g.D.Disk.seen _) (λ h. h)
+    (record { honest_on = c.len.ensures.honest; stays = c.len.ensures.seen; goes = c.len.ensures.crash })
+
+pub returns-in_err-bytes-clause-looks : goal.returns-in_err-bytes-clause-looks
+returns-in_err-bytes-clause-looks g c =
+    look_on g.D.Disk.honest g.D.Disk.seen g.D.Disk.moment g.D.Disk.left g.met.D.Disk.earlier _ _ _ (λ h. not_yet g.D.Disk.moment g.D.Disk.left g.D.Disk.seen _) (λ h. h)
+    (record { honest_on = c.len.ensures.honest; stays = c.len.ensures.seen; goes = c.len.ensures.crash })
 
 pub returns-in_err-read_at-clause-looks : goal.returns-in_err-read_at-clause-looks
 returns-in_err-read_at-clause-looks g c =
