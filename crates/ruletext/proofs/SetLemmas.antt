@@ -52,14 +52,14 @@ module _ (sets : List Set) (class : Class) (name : List ℕ) where
   pub other_none : is_among (set_names sets) name ≡ false → false ≡ has_other_class sets class name
   other_none none = sym (ap (λ found. option_map_or (λ (s : Set). not (option_map_or (same_class class) (class_in s.types) false)) found false) (found_none sets name none))
 
--- one of three tests holds where the last stands for a fact
-pub some_of_three : (whole a b c : Bool) (C : Type 0) → whole ≡ (a || (b || c)) → (c ≡ true) ↔ C → (whole ≡ true) ↔ ((a ≡ true) ⊎ ((b ≡ true) ⊎ C))
-some_of_three whole true b c C is same = (λ _. inl refl, λ _. is)
-some_of_three whole false true c C is same = (λ _. inr (inl refl), λ _. is)
-some_of_three whole false false c C is same = (
-  λ e. inr (inr (same.0 (sym is ∙ e))),
-  λ h. elim h [
-    | inl never ↦ absurd (false≢true never)
-    | inr rest ↦ elim rest [ inl never ↦ absurd (false≢true never) | inr holds ↦ is ∙ same.1 holds ]
-  ],
+-- one of two tests holds, each of which stands for a fact
+pub one_of_two : (whole a b : Bool) (A B : Type 0) → whole ≡ (a || b) → (a ≡ true) ↔ A → (b ≡ true) ↔ B → (whole ≡ true) ↔ (A ⊎ B)
+one_of_two whole true b A B is first second = (λ _. inl (first.0 refl), λ _. is)
+one_of_two whole false b A B is first second = (
+  λ e. inr (second.0 (sym is ∙ e)),
+  λ h. elim h [ inl one ↦ absurd (false≢true (first.1 one)) | inr other ↦ is ∙ second.1 other ],
 )
+
+-- one of three
+pub one_of_three : (whole a b c : Bool) (A B C : Type 0) → whole ≡ (a || (b || c)) → (a ≡ true) ↔ A → (b ≡ true) ↔ B → (c ≡ true) ↔ C → (whole ≡ true) ↔ (A ⊎ (B ⊎ C))
+one_of_three whole a b c A B C is first second third = one_of_two whole a (b || c) A (B ⊎ C) is first (one_of_two (b || c) b c B C refl second third)

@@ -1,13 +1,15 @@
 -- Names that are put in one by one, until one stands there already.
-use Rattle.std.proofs.Common.{◌≡◌, ◌+◌, ℕ, Bool, true, false, cond, not, ◌||◌, ◌&&◌, List, [], ◌∷◌, ◌++◌, append_assoc, map, drop, slice_get, Some, length, ◌≤◌, refl, sym, ap, ◌∙◌}
+use Rattle.std.proofs.Common.{◌≡◌, ◌+◌, ℕ, Bool, true, false, cond, not, ◌||◌, ◌&&◌, List, [], ◌∷◌, ◌++◌, append_assoc, map, drop, slice_get, Some, length, ◌≤◌, is_none, refl, sym, ap, ◌∙◌}
 use Rattle.std.proofs.lemmas.Bool.{or_parts}
 use Rattle.std.proofs.lemmas.List.{drop_all}
 use Rattle.std.specs.List.{list_any, filter}
 use Rattle.std.specs.Str.{bytes_eq}
 use Rattle.std.proofs.lemmas.Slice.Eq.{bytes_eq-Decides}
+use Rattle.rulesyntax.specs.declared.tree.Chain.{Chain}
 use Rattle.rulesyntax.specs.declared.tree.Family.{Family}
 use Rattle.rulesyntax.specs.declared.tree.Table.{Table}
-use Rattle.ruletext.specs.Said.{is_among}
+use Rattle.ruletext.specs.Said.{chain_names, is_among}
+use Rattle.ruletext.specs.Unknown.{plain_chains}
 use Rattle.ruletext.specs.Duplicate.{has_twice, is_of, names_in}
 use Rattle.ruletext.proofs.Edges.{drop_at}
 use Rattle.ruletext.proofs.NameLemmas.{or-false}
@@ -126,3 +128,29 @@ module _ {X : Type 0} (f : X → List ℕ) (xs : List X) (old new : List (List �
     append_none : (ys : List (List ℕ)) → ys ++ [] ≡ ys
     append_none [] = refl
     append_none (y ∷ ys) = ap (λ rest. y ∷ rest) (append_none ys)
+
+-- the same of the names of chains without a hook
+module _ (chains : List Chain) (old new : List (List ℕ)) (name : List ℕ) (whole : Bool) where
+  abbrev pub plain : List Chain → Bool
+  plain cs = is_among (chain_names (plain_chains cs)) name
+
+  plain_head : (c : Chain) (cs : List Chain) → (plain (c ∷ []) || plain cs) ≡ plain (c ∷ cs)
+  plain_head c cs =
+      let others = filter (λ (chain : Chain). is_none chain.base) cs in
+      elim (is_none c.base) as (λ b. (is_among (chain_names (cond b (c ∷ []) [])) name || plain cs) ≡ is_among (chain_names (cond b (c ∷ others) others)) name) [
+        | true ↦ ap (λ b. b || plain cs) (or-false (bytes_eq name c.name))
+        | false ↦ refl
+      ]
+
+  pub plain_on : (i : ℕ) (c : Chain) → slice_get chains i ≡ Some c → is_among new name ≡ (is_among old name || plain (c ∷ []))
+      → (is_among old name || plain (drop i chains)) ≡ whole → (is_among new name || plain (drop (i + 1) chains)) ≡ whole
+  plain_on i c at among before =
+      let rest = drop (i + 1) chains in
+      ap (λ b. b || plain rest) among ∙ or_assoc (is_among old name) (plain (c ∷ [])) (plain rest) ∙ ap (λ b. is_among old name || b) (plain_head c rest)
+      ∙ ap (λ cs. is_among old name || plain cs) (sym (drop_at chains i c at)) ∙ before where
+        or_assoc : (a b c : Bool) → ((a || b) || c) ≡ (a || (b || c))
+        or_assoc true b c = refl
+        or_assoc false b c = refl
+
+  pub plain_done : (i : ℕ) → length chains ≤ i → (is_among old name || plain (drop i chains)) ≡ whole → is_among old name ≡ whole
+  plain_done i past before = sym (or-false (is_among old name)) ∙ ap (λ cs. is_among old name || plain cs) (sym (drop_all i chains past)) ∙ before

@@ -2,54 +2,37 @@
 
 ghost use Rattle.std.specs.Prelude.{◌≡◌, ◌||◌, ◌&&◌, ◌∷◌, [], ℕ, List, is_some, nat_lt, length, map, IfOk, OnOk};
 ghost use Rattle.std.specs.List.{list_any};
-ghost use Rattle.ruletext.specs.Said.{chain_names, set_names, is_among};
+ghost use Rattle.ruletext.specs.Said.{is_among};
 ghost use Rattle.ruletext.specs.Duplicate.{has_twice, is_of, names_in, has_line_twice, has_twice_within, has_duplicate_in};
 
 use crate::earlier::earlier;
 use crate::named::Named;
 use crate::names::Names;
 use rulesyntax::line::Line;
-use rulesyntax::tree::{Chain, Family, Set, SetElements, SetType, Table};
+use rulesyntax::tree::{Family, Set, SetElements, SetType, Table};
 use std::alloc::{AllocError, Global};
 
 // The first thing whose name stands before it, by names of which none is known yet.
-fn second_in<'a, T: Named>(names: &mut Names, things: &'a [T]) -> Result<Option<&'a T>, AllocError>
+fn second_in<T: Named>(names: &mut Names, things: &[T]) -> Result<Option<Line>, AllocError>
     requires { names.now ≡ [] }
-    ensures { IfOk result (λ found. is_some found ≡ has_twice (map T.name_of things.now)) }
+    ensures { IfOk result (λ line. is_some line ≡ has_twice (map T.name_of things.now)) }
 {
     for thing in things {
         if !names.insert(thing.name())? {
-            return Ok(Some(thing));
+            return Ok(Some(thing.line()));
         }
     }
     Ok(None)
 }
 
-fn second<'a, T: Named>(alloc: Global, things: &'a [T]) -> Result<Option<&'a T>, AllocError>
-    ensures { IfOk result (λ found. is_some found ≡ has_twice (map T.name_of things.now)) }
+// The second chain or set of a name.
+fn second<T: Named>(alloc: Global, things: &[T]) -> Result<Option<Line>, AllocError>
+    ensures { IfOk result (λ line. is_some line ≡ has_twice (map T.name_of things.now)) }
 {
     let mut names = Names::new(alloc);
-    second_in(&mut names, things)
-}
-
-// The second chain of a name.
-fn twice_chain(alloc: Global, chains: &[Chain]) -> Result<Option<Line>, AllocError>
-    ensures { IfOk result (λ line. is_some line ≡ has_twice (chain_names chains.now)) }
-{
-    match second(alloc, chains)? {
-        Some(chain) => Ok(Some(chain.line.copied())),
-        None => Ok(None),
-    }
-}
-
-// The second set of a name.
-fn twice_set(alloc: Global, sets: &[Set]) -> Result<Option<Line>, AllocError>
-    ensures { IfOk result (λ line. is_some line ≡ has_twice (set_names sets.now)) }
-{
-    match second(alloc, sets)? {
-        Some(set) => Ok(Some(set.line.copied())),
-        None => Ok(None),
-    }
+    let line = second_in(&mut names, things);
+    drop(names);
+    line
 }
 
 fn second_type(types: &[SetType]) -> Option<Line>
@@ -94,8 +77,8 @@ fn twice_lines(sets: &[Set]) -> Option<Line>
 fn within(alloc: Global, table: &Table) -> Result<Option<Line>, AllocError>
     ensures { IfOk result (λ line. is_some line ≡ has_twice_within table.now) }
 {
-    let chain = twice_chain(alloc, table.chains.as_slice())?;
-    let set = twice_set(alloc, table.sets.as_slice())?;
+    let chain = second(alloc, table.chains.as_slice())?;
+    let set = second(alloc, table.sets.as_slice())?;
     let line = twice_lines(table.sets.as_slice());
     Ok(earlier(chain, earlier(set, line)))
 }
@@ -154,7 +137,9 @@ fn twice_table(alloc: Global, family: Family, tables: &[Table]) -> Result<Option
     ensures { IfOk result (λ line. is_some line ≡ has_twice (names_in family tables.now)) }
 {
     let mut names = Names::new(alloc);
-    twice_table_in(&mut names, family, tables)
+    let line = twice_table_in(&mut names, family, tables);
+    drop(names);
+    line
 }
 
 /// The line of the first in the text that is one too many: a second table of one family and name, or in a

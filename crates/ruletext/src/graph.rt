@@ -20,5 +20,7 @@ pub fn graph_of(alloc: Global, chains: &[Chain]) -> Result<Items<Items<usize>>, 
     ensures edges { IfOk result (λ rows. (a b : ℕ) → HasEdge rows a b ↔ Calls chains.now a b) }
 {
     let names = names_of(alloc, chains)?;
-    rows_of(alloc, &names, chains)
+    let rows = rows_of(alloc, &names, chains);
+    drop(names);
+    rows
 }

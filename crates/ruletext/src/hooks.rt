@@ -18,7 +18,7 @@ use sqlite_items::Items;
 use std::alloc::{AllocError, Global};
 
 /// What a statement of a nat chain changes.
-#[derive(Clone, Copy, PartialEq, Eq)]
+#[derive(Clone, Copy)]
 pub enum Translation {
     /// `dnat`: the address, and perhaps the port, that a packet goes to.
     Destination,
@@ -29,7 +29,7 @@ pub enum Translation {
 }
 
 /// Why a base chain may not come to a translation: its hook, or its type.
-#[derive(Clone, Copy, PartialEq, Eq)]
+#[derive(Clone, Copy)]
 pub enum Wrong {
     /// A nat chain at a hook where the translation can't be.
     Hook,

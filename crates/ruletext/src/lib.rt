@@ -1,7 +1,8 @@
 //! Rulesets that may run: which texts load under a gateway's bounds, and why the others don't.
 //!
 //! `read` answers the rules of a text, or the least kind of fault that holds of it and the line. Where a
-//! function answers an `AllocError`, a growth was refused, and nothing else is wrong.
+//! function answers an `AllocError`, a growth was refused, and nothing else is wrong. `fault_of` and
+//! `spelling_fault_of` tell the fault alone, and let the rules go.
 //!
 //! - `reading`, `load`, `ruleset`: from a text, and from what it spells, to rules that may run.
 //! - `refusal`: the kinds in the order in which they count. Which of them hold is told by `unknown`,
@@ -35,6 +36,6 @@ pub mod ruleset;
 mod types;
 mod unknown;
 
-pub use reading::read;
+pub use reading::{fault_of, read, spelling_fault_of};
 pub use refusal::refusal_of;
 pub use ruleset::Ruleset;

@@ -92,7 +92,9 @@ fn first_in(names: &Names, wanted: &Wanted, chains: &[Chain]) -> Line {
 
 fn first_of(alloc: Global, wanted: &Wanted, chains: &[Chain]) -> Result<Line, AllocError> {
     let names = names_of(alloc, chains)?;
-    Ok(first_in(&names, wanted, chains))
+    let line = first_in(&names, wanted, chains);
+    drop(names);
+    Ok(line)
 }
 
 fn wanted_on_loops(alloc: Global, chains: &[Chain]) -> Result<Wanted, AllocError>

@@ -1,6 +1,6 @@
 //! Chains that reach themselves, and long paths.
 
-ghost use Rattle.std.specs.Prelude.{◌≡◌, ◌↔◌, ◌<◌, false, IfOk, IfSome, IsSome, IsTrue, length};
+ghost use Rattle.std.specs.Prelude.{◌≡◌, ◌↔◌, false, IfOk, IsSome, IsTrue};
 ghost use Rattle.ruletext.specs.Said.{chain_names};
 ghost use Rattle.ruletext.specs.Duplicate.{has_twice};
 ghost use Rattle.ruletext.specs.Calls.{OfSome, IsLooped, IsDeep, AreDistinct};
@@ -30,34 +30,28 @@ pub fn has_long_path(alloc: Global, chains: &[Chain]) -> Result<bool, AllocError
     is_deeper(alloc, rows.as_slice(), 16)
 }
 
-/// The first table with a chain that reaches itself.
-fn looped_table(alloc: Global, tables: &[Table]) -> Result<Option<usize>, AllocError>
-    requires { AreDistinct tables.now }
-    ensures found { IfOk result (λ place. IsSome place
-        ↔ OfSome (λ table. IsLooped table.chains) tables.now) }
-    ensures within { IfOk result (λ place. IfSome place (λ p. p < length tables.now)) }
+// The line of the first jump or goto of a table that stands on a loop of chains.
+fn looped_in(alloc: Global, chains: &[Chain]) -> Result<Option<Line>, AllocError>
+    requires { has_twice (chain_names chains.now) ≡ false }
+    ensures { IfOk result (λ line. IsSome line ↔ IsLooped chains.now) }
 {
-    for (place, table) in tables.iter().enumerate() {
-        if is_looped(alloc, table.chains.as_slice())? {
-            return Ok(Some(place));
-        }
+    if !is_looped(alloc, chains)? {
+        return Ok(None);
     }
-    Ok(None)
+    let line = line_of_loop(alloc, chains)?;
+    Ok(Some(line))
 }
 
-/// The first table with a path of more than 16 jumps and gotos.
-fn deep_table(alloc: Global, tables: &[Table]) -> Result<Option<usize>, AllocError>
-    requires { AreDistinct tables.now }
-    ensures found { IfOk result (λ place. IsSome place
-        ↔ OfSome (λ table. IsDeep table.chains) tables.now) }
-    ensures within { IfOk result (λ place. IfSome place (λ p. p < length tables.now)) }
+// The line of the first jump or goto of a table on a path of more than 16.
+fn deep_in(alloc: Global, chains: &[Chain]) -> Result<Option<Line>, AllocError>
+    requires { has_twice (chain_names chains.now) ≡ false }
+    ensures { IfOk result (λ line. IsSome line ↔ IsDeep chains.now) }
 {
-    for (place, table) in tables.iter().enumerate() {
-        if has_long_path(alloc, table.chains.as_slice())? {
-            return Ok(Some(place));
-        }
+    if !has_long_path(alloc, chains)? {
+        return Ok(None);
     }
-    Ok(None)
+    let line = line_of_depth(alloc, chains)?;
+    Ok(Some(line))
 }
 
 /// The line of the first jump or goto that stands on a loop of chains, in the first table that has one.
@@ -66,11 +60,12 @@ pub fn looped(alloc: Global, tables: &[Table]) -> Result<Option<Line>, AllocErro
     ensures { IfOk result (λ line. IsSome line
         ↔ OfSome (λ table. IsLooped table.chains) tables.now) }
 {
-    let Some(place) = looped_table(alloc, tables)? else {
-        return Ok(None);
-    };
-    let line = line_of_loop(alloc, tables[place].chains.as_slice())?;
-    Ok(Some(line))
+    for table in tables {
+        if let Some(line) = looped_in(alloc, table.chains.as_slice())? {
+            return Ok(Some(line));
+        }
+    }
+    Ok(None)
 }
 
 /// The line of the first jump or goto on a path of more than 16, in the first table that has one.
@@ -78,9 +73,10 @@ pub fn deep(alloc: Global, tables: &[Table]) -> Result<Option<Line>, AllocError>
     requires { AreDistinct tables.now }
     ensures { IfOk result (λ line. IsSome line ↔ OfSome (λ table. IsDeep table.chains) tables.now) }
 {
-    let Some(place) = deep_table(alloc, tables)? else {
-        return Ok(None);
-    };
-    let line = line_of_depth(alloc, tables[place].chains.as_slice())?;
-    Ok(Some(line))
+    for table in tables {
+        if let Some(line) = deep_in(alloc, table.chains.as_slice())? {
+            return Ok(Some(line));
+        }
+    }
+    Ok(None)
 }

@@ -5,6 +5,7 @@ ghost use Rattle.ruletext.specs.Said.{is_among};
 ghost use Rattle.ruletext.specs.Duplicate.{has_twice};
 
 use crate::names::Names;
+use rulesyntax::line::Line;
 use rulesyntax::tree::{Chain, Set};
 use std::alloc::{AllocError, Global};
 
@@ -16,6 +17,9 @@ pub trait Named {
     /// Its name.
     fn name(&self) -> &[u8]
         ensures { result.now ≡ name_of self.now };
+
+    /// The line that gives it the name.
+    fn line(&self) -> Line;
 }
 
 impl Named for Chain {
@@ -24,6 +28,10 @@ impl Named for Chain {
     fn name(&self) -> &[u8] {
         self.name.as_slice()
     }
+
+    fn line(&self) -> Line {
+        self.line.copied()
+    }
 }
 
 impl Named for Set {
@@ -31,6 +39,10 @@ impl Named for Set {
 
     fn name(&self) -> &[u8] {
         self.name.as_slice()
+    }
+
+    fn line(&self) -> Line {
+        self.line.copied()
     }
 }
 

@@ -1,8 +1,8 @@
 //! From a text to rules that may run.
 
-ghost use Rattle.std.specs.Prelude.{IfOk, IfErr};
+ghost use Rattle.std.specs.Prelude.{IfErr, IfNone, IfOk, IfSome};
 ghost use Rattle.rulesyntax.specs.declared.tree.Spelled.{Spelled};
-ghost use Rattle.rulesyntax.specs.Text.{IsOkOrNoMemory};
+ghost use Rattle.rulesyntax.specs.Text.{IsOkOrNoMemory, IsSpelledBy, IsUnreadFor};
 ghost use Rattle.ruletext.specs.Texts.{Loads, IsRefused};
 
 use crate::load::load;
@@ -28,5 +28,27 @@ pub fn read(alloc: Global, text: &[u8], bounds: &Bounds) -> Result<Ruleset, Load
     match parse(alloc, text) {
         Ok(spelled) => load(alloc, spelled, bounds),
         Err(fault) => Err(fault),
+    }
+}
+
+/// Why a text doesn't load under these bounds: the fault that `read` tells, or nothing where it loads.
+pub fn fault_of(alloc: Global, text: &[u8], bounds: &Bounds) -> Option<LoadFault>
+    ensures loads { IfNone result ((rules : Spelled) × Loads bounds.now text.now rules) }
+    ensures refused { IfSome result (λ fault. IsRefused bounds.now text.now fault.kind) }
+{
+    match read(alloc, text, bounds) {
+        Ok(_rules) => None,
+        Err(fault) => Some(fault),
+    }
+}
+
+/// Why a text spells no ruleset: the fault that `rulesyntax::parse` tells, or nothing where it spells one.
+pub fn spelling_fault_of(alloc: Global, text: &[u8]) -> Option<LoadFault>
+    ensures spells { IfNone result ((rules : Spelled) × IsSpelledBy rules text.now) }
+    ensures refused { IfSome result (λ fault. IsUnreadFor text.now fault.kind) }
+{
+    match parse(alloc, text) {
+        Ok(_rules) => None,
+        Err(fault) => Some(fault),
     }
 }

@@ -217,15 +217,24 @@ fn wrong_chains(names: &Names, sets: &[Set], chains: &[Chain]) -> Option<Line>
     None
 }
 
+fn wrong_value(alloc: Global, sets: &[Set], chains: &[Chain]) -> Result<Option<Line>, AllocError>
+    requires { has_twice (set_names sets.now) ≡ false }
+    ensures { IfOk result (λ line. is_some line ≡ list_any (is_wrong_chain sets.now) chains.now) }
+{
+    let names = names_of(alloc, sets)?;
+    let line = wrong_chains(&names, sets, chains);
+    drop(names);
+    Ok(line)
+}
+
 fn wrong_in(alloc: Global, sets: &[Set], chains: &[Chain]) -> Result<Option<Line>, AllocError>
     requires sets { has_twice (set_names sets.now) ≡ false }
     requires chains { has_twice (chain_names chains.now) ≡ false }
     requires flat { ¬ IsDeep chains.now }
     ensures { IfOk result (λ line. IsSome line ↔ HasWrongType sets.now chains.now) }
 {
-    let names = names_of(alloc, sets)?;
     let translation = forbidden_translation(alloc, Wrong::Type, chains)?;
-    let value = wrong_chains(&names, sets, chains);
+    let value = wrong_value(alloc, sets, chains)?;
     Ok(earlier(wrong_sets(sets), earlier(value, translation)))
 }
 

@@ -103,7 +103,9 @@ fn in_table(alloc: Global, table: &Table) -> Result<Option<Line>, AllocError>
     ensures { IfOk result (λ line. is_some line ≡ has_unknown_chain_in table.now) }
 {
     let names = plain_names(alloc, table.chains.as_slice())?;
-    Ok(lost_chains(&names, table.chains.as_slice()))
+    let line = lost_chains(&names, table.chains.as_slice());
+    drop(names);
+    Ok(line)
 }
 
 /// The line of the first jump or goto that names no chain without a hook of its own table.
@@ -167,7 +169,9 @@ fn sets_in_table(alloc: Global, table: &Table) -> Result<Option<Line>, AllocErro
     ensures { IfOk result (λ line. is_some line ≡ has_unknown_set_in table.now) }
 {
     let names = names_of(alloc, table.sets.as_slice())?;
-    Ok(setless_chains(&names, table.chains.as_slice()))
+    let line = setless_chains(&names, table.chains.as_slice());
+    drop(names);
+    Ok(line)
 }
 
 /// The line of the first `@` that names no set of its own table.

@@ -9,6 +9,6 @@ use Rattle.ruletext.proofs.unknown.in_table.Goals as goal
 pub returns : goal.returns
 returns c =
     let known = subst (λ (chains : List Chain). (name : List ℕ) → is_among c.in_ok-names.names name ≡ is_among (chain_names (plain_chains chains)) name) c.as_slice.ensures c.in_ok-names.ensures in
-    c.lost_chains.ensures
+    c.lost_chains-line.ensures
     ∙ ap (λ (chains : List Chain). list_any (chain_leads_nowhere (is_among c.in_ok-names.names)) chains) c.as_slice-2.ensures
     ∙ ap (λ (test : List ℕ → Bool). list_any (chain_leads_nowhere test) c.args.table.now.chains) (fun_ext known)

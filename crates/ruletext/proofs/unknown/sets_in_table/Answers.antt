@@ -10,6 +10,6 @@ use Rattle.ruletext.proofs.unknown.sets_in_table.Goals as goal
 pub returns : goal.returns
 returns c =
     let known = subst (λ (sets : List Set). (name : List ℕ) → is_among c.in_ok-names.names name ≡ is_among (set_names sets) name) c.as_slice.ensures c.in_ok-names.ensures.among in
-    c.setless_chains.ensures
+    c.setless_chains-line.ensures
     ∙ ap (λ (chains : List Chain). list_any (chain_names_no_set (is_among c.in_ok-names.names)) chains) c.as_slice-2.ensures
     ∙ ap (λ (test : List ℕ → Bool). list_any (chain_names_no_set test) c.args.table.now.chains) (fun_ext known)
