@@ -28,22 +28,54 @@ fn unopened(alloc: Global, directory: &str, error: &OpenError) -> Stop
     }
 }
 
+// What is the matter with the files of a disk, to a gateway with these bounds.
+fn unsound_to(
+    alloc: Global,
+    disk: &mut FileDisk,
+    bounds: &Bounds,
+    directory: &str,
+    refusal: Refusal,
+) -> Stop
+    ensures { result.refusal ≡ refusal }
+{
+    match diagnose(alloc, disk, bounds) {
+        Ok(finding) => Stop::with(refusal, format!(in alloc; "{directory}: {finding}")),
+        Err(_) => Stop::from(refusal),
+    }
+}
+
 // What is the matter with the files of a disk, looked at once more.
 fn unsound(
     alloc: Global,
-    mut disk: FileDisk,
+    disk: &mut FileDisk,
     sides: &Sides<'_>,
     directory: &str,
     refusal: Refusal,
 ) -> Stop
     ensures { result.refusal ≡ refusal }
 {
-    let Ok(bounds) = bounds(alloc, sides) else {
-        return Stop::from(refusal);
-    };
-    match diagnose(alloc, &mut disk, &bounds) {
-        Ok(finding) => Stop::with(refusal, format!(in alloc; "{directory}: {finding}")),
+    match bounds(alloc, sides) {
+        Ok(bounds) => unsound_to(alloc, disk, &bounds, directory, refusal),
         Err(_) => Stop::from(refusal),
+    }
+}
+
+// Why no gateway opens over a disk.
+fn unsuitable(
+    alloc: Global,
+    disk: &mut FileDisk,
+    sides: &Sides<'_>,
+    directory: &str,
+    fault: OpenFault,
+) -> Stop
+    ensures { IsOfFiles result.refusal }
+{
+    let refusal = of_opening(fault);
+    match fault {
+        OpenFault::Damaged | OpenFault::ConfigDiffers => {
+            unsound(alloc, disk, sides, directory, refusal)
+        }
+        OpenFault::Device | OpenFault::NoMemory => Stop::from(refusal),
     }
 }
 
@@ -68,14 +100,8 @@ pub fn open(
     };
     match Gateway::open(alloc, disk, bounds, opening.moment) {
         Ok(gateway) => Ok(gateway),
-        Err((disk, fault)) => {
-            let refusal = of_opening(fault);
-            match fault {
-                OpenFault::Damaged | OpenFault::ConfigDiffers => {
-                    Err(unsound(alloc, disk, sides, opening.directory, refusal))
-                }
-                OpenFault::Device | OpenFault::NoMemory => Err(Stop::from(refusal)),
-            }
+        Err((mut disk, fault)) => {
+            Err(unsuitable(alloc, &mut disk, sides, opening.directory, fault))
         }
     }
 }

@@ -83,7 +83,8 @@ fn run_opened(
 ) -> Result<(), Stop> {
     let mut gateway = open(rt, sides, bounds, opening)?;
     let worked = work_on(rt, opening.directory, work, requests, &mut gateway);
-    drop(gateway);
+    // Its own crate takes the gateway apart: what is let go here are its files.
+    drop(gateway.into_disk());
     worked
 }
 
@@ -97,15 +98,14 @@ fn work_on<D: Disk + Drop>(
 ) -> Result<(), Stop> {
     let alloc = rt.alloc();
     match work {
-        Work::Replay => replay(alloc, &mut rt.stdin(), &mut rt.stdout(), gateway)?,
+        Work::Replay => Ok(replay(alloc, &mut rt.stdin(), &mut rt.stdout(), gateway)?),
         Work::Serve {
             socket,
             connections,
-        } => serve_at(rt, socket, connections, gateway)?,
-        Work::Loop { path: _ } => loop_in(rt, directory, requests, gateway)?,
-        Work::Show => show(alloc, gateway, &mut rt.stdout())?,
+        } => serve_at(rt, socket, connections, gateway),
+        Work::Loop { path: _ } => loop_in(rt, directory, requests, gateway),
+        Work::Show => Ok(show(alloc, gateway, &mut rt.stdout())?),
     }
-    Ok(())
 }
 
 // Serves so many connections of a socket, which is there for as long.
@@ -126,8 +126,7 @@ fn serve_at<D: Disk + Drop>(
         gateway,
     );
     let removed = remove(rt, alloc, socket);
-    served?;
-    removed
+    served.and(removed)
 }
 
 // Sends requests through a socket in a directory, which is there for as long.
@@ -151,8 +150,7 @@ fn loop_in<D: Disk + Drop>(
         gateway,
     );
     let removed = remove(rt, alloc, socket.as_str());
-    looped?;
-    removed
+    looped.and(removed)
 }
 
 // The requests that lie in a file, of all works but `loop` none.
