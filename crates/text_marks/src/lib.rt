@@ -8,6 +8,7 @@
 //! - `search`: the place of a fault, of which the reader of rulesets tells the line alone;
 //! - `wanted`: what could stand at a place where a text goes wrong;
 //! - `sentence`: what is wrong, and what would be right, for each kind of fault;
+//! - `texts`: texts put together;
 //! - `laws`: what holds of every report.
 #![tactic(auto)]
 
@@ -18,6 +19,7 @@ mod piece;
 mod report;
 mod search;
 mod sentence;
+mod texts;
 mod wanted;
 
 pub use laws::{marks_are_short, the_line_holds_the_place};

@@ -6,6 +6,7 @@ use crate::mark::put_marked;
 use crate::piece::put_named;
 use crate::search::place_of;
 use crate::sentence::{right, wrong};
+use crate::texts::put_all;
 use crate::wanted::what_fits;
 use packet::bounds::Bounds;
 use rulesyntax::fault::{Kind, LoadFault};
@@ -38,9 +39,11 @@ fn put_found(out: &mut Vec<u8>, behind: &[u8]) -> Result<(), AllocError>
 
 // What is wrong with what stands behind a text, and what would be right.
 fn remarks(alloc: Global, before: &[u8], kind: Kind) -> Result<Vec<u8>, AllocError> {
-    let mut shown = Vec::from_slice(alloc, b", ")?;
-    shown.extend_from_slice(wrong(kind).as_bytes())?;
-    shown.extend_from_slice(b"\nexpected: ")?;
+    let mut shown = Vec::new(alloc);
+    put_all(
+        &mut shown,
+        &[b", ", wrong(kind).as_bytes(), b"\nexpected: "],
+    )?;
     put_right(alloc, &mut shown, before, kind)?;
     shown.push(b'\n')?;
     Ok(shown)

@@ -6,10 +6,11 @@
 ghost use Rattle.std.specs.Prelude.{◌≤◌, ◌<◌, IfOk, length};
 
 use crate::piece::token_length;
+use crate::texts::put_all;
 use packet::bounds::Bounds;
 use rulesyntax::GREATEST_LENGTH;
 use rulesyntax::fault::{Kind, LoadFault};
-use ruletext::read;
+use ruletext::fault_of;
 use std::alloc::{AllocError, Global};
 
 /// A token of a text.
@@ -126,17 +127,16 @@ fn moves(
     requires { here ≤ length text.now }
 {
     let (before, behind) = text.split_at(here);
-    let mut parted = Vec::from_slice(alloc, before)?;
-    parted.extend_from_slice(JOINT)?;
-    parted.extend_from_slice(behind)?;
-    match read(alloc, parted.as_slice(), bounds) {
-        Ok(_rules) => Ok(false),
-        Err(fault) => {
+    let mut parted = Vec::new(alloc);
+    put_all(&mut parted, &[before, JOINT, behind])?;
+    match fault_of(alloc, parted.as_slice(), bounds) {
+        Some(fault) => {
             if fault.kind == Kind::NoMemory {
                 return Err(AllocError);
             }
             Ok(fault.line.number() > line)
         }
+        None => Ok(false),
     }
 }
 

@@ -3,8 +3,10 @@
 //! The parser itself is asked: where the text up to the place is followed by a word that can stand there, the text
 //! goes wrong behind that word, at its end, or it is whole.
 use crate::line::newlines;
+use crate::texts::put_all;
+use rulesyntax::GREATEST_LENGTH;
 use rulesyntax::fault::{Kind, LoadFault};
-use rulesyntax::{GREATEST_LENGTH, parse};
+use ruletext::spelling_fault_of;
 use std::alloc::{AllocError, Global};
 
 /// A kind of token, and texts of it.
@@ -104,7 +106,7 @@ const SIGNS: [&str; 13] = [
 
 // The fault of a text, if it has one.
 fn fault_of(alloc: Global, text: &[u8]) -> Result<Option<LoadFault>, AllocError> {
-    match parse(alloc, text).err() {
+    match spelling_fault_of(alloc, text) {
         Some(fault) => {
             if fault.kind == Kind::NoMemory {
                 return Err(AllocError);
@@ -122,13 +124,19 @@ fn continued(
     word: &str,
     behind: &str,
 ) -> Result<Vec<u8>, AllocError> {
-    let mut text = Vec::from_slice(alloc, before)?;
-    text.extend_from_slice(b" ")?;
-    text.extend_from_slice(word.as_bytes())?;
-    text.extend_from_slice(b" ")?;
-    text.extend_from_slice(behind.as_bytes())?;
-    // Here the line goes on behind its end, so that the end of the text has a line of its own.
-    text.extend_from_slice(b"\\\n")?;
+    let mut text = Vec::new(alloc);
+    // Behind the last of them the line goes on behind its end, so that the end of the text has a line of its own.
+    put_all(
+        &mut text,
+        &[
+            before,
+            b" ",
+            word.as_bytes(),
+            b" ",
+            behind.as_bytes(),
+            b"\\\n",
+        ],
+    )?;
     Ok(text)
 }
 
@@ -173,12 +181,8 @@ impl<'a> Probe<'a> {
     }
 
     fn add(&mut self, quote: &[u8], name: &str) -> Result<(), AllocError> {
-        if !self.shown.is_empty() {
-            self.shown.extend_from_slice(b", ")?;
-        }
-        self.shown.extend_from_slice(quote)?;
-        self.shown.extend_from_slice(name.as_bytes())?;
-        self.shown.extend_from_slice(quote)
+        let comma: &[u8] = if self.shown.is_empty() { b"" } else { b", " };
+        put_all(&mut self.shown, &[comma, quote, name.as_bytes(), quote])
     }
 
     // Numbers, addresses and texts in quotes.
