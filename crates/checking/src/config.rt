@@ -1,5 +1,6 @@
 //! Addresses and prefixes as they are spelled, and the configuration made of them.
-ghost use Rattle.std.specs.Prelude.{◌≡◌, ◌⊎◌, IfOk, IfErr, IfSome, IfNone, OnErr, ℕ, List};
+ghost use Rattle.std.specs.Prelude.{◌≡◌, ◌⊎◌, IfOk, IfErr, IfSome, IfNone, IsFalse, OnErr, ℕ, List};
+ghost use Rattle.packet.specs.Config.{config_of, is_config};
 ghost use Rattle.packet.specs.declared.endpoint.Prefix.{Prefix};
 ghost use Rattle.refusals.specs.declared.refusal.Refusal.TheVariants.{Config, NoMemory};
 ghost use Rattle.checking.specs.Spelling.{IsNoConfig, SpellsAddress, SpellsNumber, SpellsPrefix, SpellsPrefixes};
@@ -112,6 +113,31 @@ fn options_of(fault: ConfigFault) -> &'static str {
     }
 }
 
+// The configuration of the names that the options give, these prefixes and this address.
+fn bounds_of(
+    alloc: Global,
+    sides: &Sides<'_>,
+    inside: Vec<Prefix>,
+    external: u32,
+) -> Result<Bounds, Stop>
+    ensures ok { IfOk result (λ bounds. bounds
+        ≡ config_of sides.now.lan.now sides.now.wan.now inside.items external) }
+    ensures config { IfErr result (λ stop. stop.refusal ≡ Config
+        → IsFalse (is_config (config_of sides.now.lan.now sides.now.wan.now inside.items
+        external))) }
+    ensures causes { IfErr result (λ stop. (stop.refusal ≡ Config) ⊎ (stop.refusal ≡ NoMemory)) }
+{
+    let lan = String::from_str(alloc, sides.lan)?;
+    let wan = String::from_str(alloc, sides.wan)?;
+    match Bounds::new(lan, wan, inside, external) {
+        Ok(bounds) => Ok(bounds),
+        Err(fault) => Err(Stop::with(
+            Refusal::Config,
+            format!(in alloc; "{fault}: set {} right", options_of(fault)),
+        )),
+    }
+}
+
 /// The configuration that the options spell.
 ///
 /// # Errors
@@ -132,13 +158,5 @@ pub fn bounds(alloc: Global, sides: &Sides<'_>) -> Result<Bounds, Stop>
 {
     let inside = prefixes(alloc, sides.inside)?;
     let external = external_of(alloc, sides.external)?;
-    let lan = String::from_str(alloc, sides.lan)?;
-    let wan = String::from_str(alloc, sides.wan)?;
-    match Bounds::new(lan, wan, inside, external) {
-        Ok(bounds) => Ok(bounds),
-        Err(fault) => Err(Stop::with(
-            Refusal::Config,
-            format!(in alloc; "{fault}: set {} right", options_of(fault)),
-        )),
-    }
+    bounds_of(alloc, sides, inside, external)
 }

@@ -4,11 +4,13 @@ ghost use Rattle.std.specs.Io.KnownBytes.{Appends};
 ghost use Rattle.refusals.specs.declared.refusal.Refusal.TheVariants.{NoMemory};
 ghost use Rattle.checking.specs.Verdicts.{IsShown, IsVerdict, TellsOf};
 ghost use Rattle.refusals.specs.Words.{IsOfPrinting};
+ghost use Rattle.ruletext.specs.Texts.{IsRefused};
+ghost use Rattle.text_marks.specs.Reports.{IsReport};
 
 use packet::bounds::Bounds;
 use refusals::Refusal;
 use rulesyntax::fault::{Kind, LoadFault};
-use ruletext::reading::read;
+use ruletext::fault_of;
 use std::alloc::{AllocError, Global};
 use std::io::Write;
 
@@ -37,6 +39,50 @@ fn line_of(alloc: Global, fault: &LoadFault) -> Result<Vec<u8>, AllocError>
     Ok(line)
 }
 
+// The marks of a fault, where they are asked for.
+fn marks_of(
+    alloc: Global,
+    text: &[u8],
+    bounds: &Bounds,
+    explains: bool,
+    fault: &LoadFault,
+) -> Result<Vec<u8>, AllocError>
+    ensures none { IfOk result (λ marks. explains ≡ false → marks.items ≡ []) }
+    ensures shown { IfOk result (λ marks. explains ≡ true → IsReport text.now marks.items) }
+{
+    if explains {
+        return text_marks::explain(alloc, text, bounds, fault);
+    }
+    Ok(Vec::new(alloc))
+}
+
+// What is found of a text that has this fault.
+fn refused(
+    alloc: Global,
+    text: &[u8],
+    bounds: &Bounds,
+    explains: bool,
+    fault: &LoadFault,
+) -> Result<Finding, Refusal>
+    requires { IsRefused bounds.now text.now fault.now.kind }
+    ensures ok { IfOk result (λ found. IsVerdict bounds.now text.now found.loads found.line.items) }
+    ensures marks { IfOk result (λ found. explains ≡ false → found.marks.items ≡ []) }
+    ensures shown { IfOk result (λ found. explains ≡ true
+        → IsShown text.now found.loads found.marks.items) }
+    ensures causes { IfErr result (λ refusal. refusal ≡ NoMemory) }
+{
+    if fault.kind == Kind::NoMemory {
+        return Err(Refusal::NoMemory);
+    }
+    let marks = marks_of(alloc, text, bounds, explains, fault)?;
+    let line = line_of(alloc, fault)?;
+    Ok(Finding {
+        loads: false,
+        line,
+        marks,
+    })
+}
+
 /// Says whether a text would load under the configuration, and where `explains` is set shows the place of its fault. A
 /// text that is too long may be cut behind the first byte that is too many.
 ///
@@ -55,29 +101,17 @@ pub fn report(
         → IsShown text.now found.loads found.marks.items) }
     ensures causes { IfErr result (λ refusal. refusal ≡ NoMemory) }
 {
-    let fault = match read(alloc, text, bounds) {
-        Ok(_rules) => {
-            return Ok(Finding {
+    match fault_of(alloc, text, bounds) {
+        Some(fault) => refused(alloc, text, bounds, explains, &fault),
+        None => {
+            let line = Vec::from_slice(alloc, b"ok\n")?;
+            Ok(Finding {
                 loads: true,
-                line: Vec::from_slice(alloc, b"ok\n")?,
+                line,
                 marks: Vec::new(alloc),
-            });
+            })
         }
-        Err(fault) => fault,
-    };
-    if fault.kind == Kind::NoMemory {
-        return Err(Refusal::NoMemory);
     }
-    let marks = if explains {
-        text_marks::explain(alloc, text, bounds, &fault)?
-    } else {
-        Vec::new(alloc)
-    };
-    Ok(Finding {
-        loads: false,
-        line: line_of(alloc, &fault)?,
-        marks,
-    })
 }
 
 /// Prints what is found of a text, and where `explains` is set shows on `errors` where its fault is. The answer is
