@@ -9,6 +9,7 @@ use packet::bounds::Bounds;
 use packet::endpoint::Prefix;
 use std::fmt;
 use std::fmt::{Display, Formatter};
+use std::net::Ipv4Addr;
 
 const FIELDS: [Field; 4] = [Field::Lan, Field::Wan, Field::Inside, Field::External];
 
@@ -44,8 +45,8 @@ impl Display for Reading {
         match self {
             Reading::Empty => f.write_str("is empty"),
             Reading::Closed => f.write_str("is not in use"),
-            Reading::Faulty(fault) => write!(f, "{fault}"),
-            Reading::Whole(held) => write!(f, "{held}"),
+            Reading::Faulty(fault) => Display::fmt(fault, f),
+            Reading::Whole(held) => Display::fmt(held, f),
         }
     }
 }
@@ -133,32 +134,30 @@ impl Display for Finding<'_> {
     fn fmt<W: fmt::Write>(&self, f: &mut Formatter<W>) -> fmt::Result {
         match self {
             Finding::Sound => f.write_str("the files are sound"),
-            Finding::Damaged(damage) => write!(f, "{damage}"),
-            Finding::Differs(differing) => write!(f, "{differing}"),
+            Finding::Damaged(damage) => Display::fmt(damage, f),
+            Finding::Differs(differing) => Display::fmt(differing, f),
         }
+    }
+}
+
+fn option_of(field: Field) -> &'static str {
+    match field {
+        Field::Lan => " --lan ",
+        Field::Wan => " --wan ",
+        Field::Inside => " --inside ",
+        Field::External => " --external ",
     }
 }
 
 // A part of a configuration, as an option of the command line.
 fn say_field<W: fmt::Write>(f: &mut Formatter<W>, field: Field, bounds: &Bounds) -> fmt::Result {
+    f.write_str(option_of(field))?;
     bounds.facts();
     match field {
-        Field::Lan => {
-            f.write_str(" --lan ")?;
-            say_name(f, bounds.lan())
-        }
-        Field::Wan => {
-            f.write_str(" --wan ")?;
-            say_name(f, bounds.wan())
-        }
-        Field::Inside => {
-            f.write_str(" --inside ")?;
-            say_prefixes(f, bounds.inside())
-        }
-        Field::External => {
-            f.write_str(" --external ")?;
-            say_address(f, bounds.external())
-        }
+        Field::Lan => say_name(f, bounds.lan()),
+        Field::Wan => say_name(f, bounds.wan()),
+        Field::Inside => say_prefixes(f, bounds.inside()),
+        Field::External => say_address(f, bounds.external()),
     }
 }
 
@@ -172,8 +171,7 @@ fn say_name<W: fmt::Write>(f: &mut Formatter<W>, name: &[u8]) -> fmt::Result
 }
 
 fn say_address<W: fmt::Write>(f: &mut Formatter<W>, addr: u32) -> fmt::Result {
-    let [a, b, c, d] = addr.to_be_bytes();
-    write!(f, "{a}.{b}.{c}.{d}")
+    write!(f, "{}", Ipv4Addr::from_bits(addr))
 }
 
 fn say_prefixes<W: fmt::Write>(f: &mut Formatter<W>, prefixes: &[Prefix]) -> fmt::Result {
