@@ -215,38 +215,26 @@ fn member<'a>(
     }
 }
 
-#[tactic(auto, unfolding(crate::specs::Reading::chain_step))]
-fn step<'a>(
-    body: &mut ChainBody,
-    source: &Source,
-    tokens: &'a [Token],
-) -> Result<(bool, &'a [Token]), ReadError>
-    ensures ok { IfOk result (λ x. chain_step body.old tokens.now
-        ≡ Some ((body.new, x.0), x.1.now)) }
-    ensures err { IfErr result (λ e. Fails e (chain_step body.old tokens.now)) }
-{
-    match body.stage {
-        Stage::Start => match choice::<MemberWord>(false, tokens) {
-            Some((word, rest)) => member(body, word, source.line(tokens), rest),
-            None => rule_step(body, source, tokens),
-        },
-        Stage::Policy => match eat(tokens, b"policy") {
-            Some(rest) => policy_step(body, rest),
-            None => rule_step(body, source, tokens),
-        },
-        Stage::Rules => rule_step(body, source, tokens),
-    }
-}
-
 impl Body for ChainBody {
     ghost steps = { chain_step };
 
+    #[tactic(auto, unfolding(crate::specs::Reading::chain_step))]
     fn step<'a>(
         &mut self,
         source: &Source,
         tokens: &'a [Token],
     ) -> Result<(bool, &'a [Token]), ReadError> {
-        step(self, source, tokens)
+        match self.stage {
+            Stage::Start => match choice::<MemberWord>(false, tokens) {
+                Some((word, rest)) => member(self, word, source.line(tokens), rest),
+                None => rule_step(self, source, tokens),
+            },
+            Stage::Policy => match eat(tokens, b"policy") {
+                Some(rest) => policy_step(self, rest),
+                None => rule_step(self, source, tokens),
+            },
+            Stage::Rules => rule_step(self, source, tokens),
+        }
     }
 }
 

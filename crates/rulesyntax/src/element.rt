@@ -96,20 +96,6 @@ fn value<'a>(
     }
 }
 
-/// The element that must come next.
-#[tactic(auto, unfolding(crate::specs::Reading::element_at))]
-pub fn element<'a>(
-    source: &Source,
-    braces: bool,
-    tokens: &'a [Token],
-) -> Result<(Element, &'a [Token]), ReadError>
-    ensures { Gives braces result (element_at (seen braces tokens.now)) }
-{
-    let line = line(source, braces, tokens);
-    let (value, rest) = value(source, braces, tokens)?;
-    Ok((Element { line, value }, rest))
-}
-
 /// What stands in a list with commas between.
 pub trait Entry: Sized {
     ghost reads: { Reader Self };
@@ -126,12 +112,15 @@ pub trait Entry: Sized {
 impl Entry for Element {
     ghost reads = { element_at };
 
+    #[tactic(auto, unfolding(crate::specs::Reading::element_at))]
     fn read<'a>(
         source: &Source,
         braces: bool,
         tokens: &'a [Token],
     ) -> Result<(Element, &'a [Token]), ReadError> {
-        element(source, braces, tokens)
+        let line = line(source, braces, tokens);
+        let (value, rest) = value(source, braces, tokens)?;
+        Ok((Element { line, value }, rest))
     }
 }
 

@@ -2,7 +2,7 @@
 
 ghost use Rattle.std.specs.Prelude.{◌≡◌, ℕ, List};
 ghost use Rattle.std.specs.Str.{bytes_eq};
-ghost use Rattle.rulesyntax.specs.Words.{lookup, flag_words, verdict_words, nat_words, head_words, meta_words, ip_words, port_words, family_words, type_words, hook_words, policy_words, priority_words, statement_words, item_words, line_words, member_words};
+ghost use Rattle.rulesyntax.specs.Words.{spelled, lookup, flag_words, verdict_words, nat_words, head_words, meta_words, ip_words, port_words, family_words, type_words, hook_words, policy_words, priority_words, statement_words, item_words, line_words, member_words};
 
 use crate::tree::{ChainType, Family, Hook, Policy};
 
@@ -14,12 +14,26 @@ pub fn is(word: &[u8], expected: &[u8]) -> bool
 }
 
 /// One of the words that have a meaning at some place.
-pub trait Keyword: Copy {
+pub trait Keyword: Copy + 'static {
     ghost words: { List (List ℕ × Self) };
 
-    /// What the word means here.
-    fn meaning(word: &[u8]) -> Option<Self>
-        ensures { result ≡ lookup words word.now };
+    /// The words, each with what it means here.
+    fn table() -> &'static [(&'static [u8], Self)]
+        ensures { spelled result.now ≡ words };
+}
+
+/// What the word means, if it is one of `K`.
+pub fn meaning<K: Keyword>(word: &[u8]) -> Option<K>
+    ensures { result ≡ lookup K.words word.now }
+{
+    let mut rest = K::table();
+    while let [(expected, meaning), tail @ ..] = rest {
+        if is(word, expected) {
+            return Some(*meaning);
+        }
+        rest = tail;
+    }
+    None
 }
 
 /// A flag of a set.
@@ -133,277 +147,187 @@ pub enum MemberWord {
 impl Keyword for Flag {
     ghost words = { flag_words };
 
-    fn meaning(word: &[u8]) -> Option<Flag> {
-        if is(word, b"interval") {
-            Some(Flag::Interval)
-        } else if is(word, b"constant") {
-            Some(Flag::Constant)
-        } else {
-            None
-        }
+    fn table() -> &'static [(&'static [u8], Flag)] {
+        &[(b"interval", Flag::Interval), (b"constant", Flag::Constant)]
     }
 }
 
 impl Keyword for VerdictWord {
     ghost words = { verdict_words };
 
-    fn meaning(word: &[u8]) -> Option<VerdictWord> {
-        if is(word, b"accept") {
-            Some(VerdictWord::Accept)
-        } else if is(word, b"drop") {
-            Some(VerdictWord::Drop)
-        } else if is(word, b"return") {
-            Some(VerdictWord::Return)
-        } else if is(word, b"continue") {
-            Some(VerdictWord::Continue)
-        } else if is(word, b"jump") {
-            Some(VerdictWord::Jump)
-        } else if is(word, b"goto") {
-            Some(VerdictWord::Goto)
-        } else {
-            None
-        }
+    fn table() -> &'static [(&'static [u8], VerdictWord)] {
+        &[
+            (b"accept", VerdictWord::Accept),
+            (b"drop", VerdictWord::Drop),
+            (b"return", VerdictWord::Return),
+            (b"continue", VerdictWord::Continue),
+            (b"jump", VerdictWord::Jump),
+            (b"goto", VerdictWord::Goto),
+        ]
     }
 }
 
 impl Keyword for NatWord {
     ghost words = { nat_words };
 
-    fn meaning(word: &[u8]) -> Option<NatWord> {
-        if is(word, b"dnat") {
-            Some(NatWord::Dnat)
-        } else if is(word, b"snat") {
-            Some(NatWord::Snat)
-        } else if is(word, b"masquerade") {
-            Some(NatWord::Masquerade)
-        } else {
-            None
-        }
+    fn table() -> &'static [(&'static [u8], NatWord)] {
+        &[
+            (b"dnat", NatWord::Dnat),
+            (b"snat", NatWord::Snat),
+            (b"masquerade", NatWord::Masquerade),
+        ]
     }
 }
 
 impl Keyword for HeadWord {
     ghost words = { head_words };
 
-    fn meaning(word: &[u8]) -> Option<HeadWord> {
-        if is(word, b"meta") {
-            Some(HeadWord::Meta)
-        } else if is(word, b"ip") {
-            Some(HeadWord::Ip)
-        } else if is(word, b"tcp") {
-            Some(HeadWord::Tcp)
-        } else if is(word, b"udp") {
-            Some(HeadWord::Udp)
-        } else if is(word, b"ct") {
-            Some(HeadWord::Ct)
-        } else if is(word, b"iifname") {
-            Some(HeadWord::Iifname)
-        } else if is(word, b"iif") {
-            Some(HeadWord::Iif)
-        } else if is(word, b"oifname") {
-            Some(HeadWord::Oifname)
-        } else if is(word, b"oif") {
-            Some(HeadWord::Oif)
-        } else {
-            None
-        }
+    fn table() -> &'static [(&'static [u8], HeadWord)] {
+        &[
+            (b"meta", HeadWord::Meta),
+            (b"ip", HeadWord::Ip),
+            (b"tcp", HeadWord::Tcp),
+            (b"udp", HeadWord::Udp),
+            (b"ct", HeadWord::Ct),
+            (b"iifname", HeadWord::Iifname),
+            (b"iif", HeadWord::Iif),
+            (b"oifname", HeadWord::Oifname),
+            (b"oif", HeadWord::Oif),
+        ]
     }
 }
 
 impl Keyword for MetaWord {
     ghost words = { meta_words };
 
-    fn meaning(word: &[u8]) -> Option<MetaWord> {
-        if is(word, b"iifname") {
-            Some(MetaWord::Iifname)
-        } else if is(word, b"iif") {
-            Some(MetaWord::Iif)
-        } else if is(word, b"oifname") {
-            Some(MetaWord::Oifname)
-        } else if is(word, b"oif") {
-            Some(MetaWord::Oif)
-        } else if is(word, b"l4proto") {
-            Some(MetaWord::L4proto)
-        } else {
-            None
-        }
+    fn table() -> &'static [(&'static [u8], MetaWord)] {
+        &[
+            (b"iifname", MetaWord::Iifname),
+            (b"iif", MetaWord::Iif),
+            (b"oifname", MetaWord::Oifname),
+            (b"oif", MetaWord::Oif),
+            (b"l4proto", MetaWord::L4proto),
+        ]
     }
 }
 
 impl Keyword for IpWord {
     ghost words = { ip_words };
 
-    fn meaning(word: &[u8]) -> Option<IpWord> {
-        if is(word, b"saddr") {
-            Some(IpWord::Saddr)
-        } else if is(word, b"daddr") {
-            Some(IpWord::Daddr)
-        } else if is(word, b"protocol") {
-            Some(IpWord::Protocol)
-        } else {
-            None
-        }
+    fn table() -> &'static [(&'static [u8], IpWord)] {
+        &[
+            (b"saddr", IpWord::Saddr),
+            (b"daddr", IpWord::Daddr),
+            (b"protocol", IpWord::Protocol),
+        ]
     }
 }
 
 impl Keyword for PortWord {
     ghost words = { port_words };
 
-    fn meaning(word: &[u8]) -> Option<PortWord> {
-        if is(word, b"sport") {
-            Some(PortWord::Sport)
-        } else if is(word, b"dport") {
-            Some(PortWord::Dport)
-        } else {
-            None
-        }
+    fn table() -> &'static [(&'static [u8], PortWord)] {
+        &[(b"sport", PortWord::Sport), (b"dport", PortWord::Dport)]
     }
 }
 
 impl Keyword for Family {
     ghost words = { family_words };
 
-    fn meaning(word: &[u8]) -> Option<Family> {
-        if is(word, b"ip") {
-            Some(Family::Ip)
-        } else if is(word, b"inet") {
-            Some(Family::Inet)
-        } else {
-            None
-        }
+    fn table() -> &'static [(&'static [u8], Family)] {
+        &[(b"ip", Family::Ip), (b"inet", Family::Inet)]
     }
 }
 
 impl Keyword for ChainType {
     ghost words = { type_words };
 
-    fn meaning(word: &[u8]) -> Option<ChainType> {
-        if is(word, b"filter") {
-            Some(ChainType::Filter)
-        } else if is(word, b"nat") {
-            Some(ChainType::Nat)
-        } else {
-            None
-        }
+    fn table() -> &'static [(&'static [u8], ChainType)] {
+        &[(b"filter", ChainType::Filter), (b"nat", ChainType::Nat)]
     }
 }
 
 impl Keyword for Hook {
     ghost words = { hook_words };
 
-    fn meaning(word: &[u8]) -> Option<Hook> {
-        if is(word, b"prerouting") {
-            Some(Hook::Prerouting)
-        } else if is(word, b"input") {
-            Some(Hook::Input)
-        } else if is(word, b"forward") {
-            Some(Hook::Forward)
-        } else if is(word, b"output") {
-            Some(Hook::Output)
-        } else if is(word, b"postrouting") {
-            Some(Hook::Postrouting)
-        } else {
-            None
-        }
+    fn table() -> &'static [(&'static [u8], Hook)] {
+        &[
+            (b"prerouting", Hook::Prerouting),
+            (b"input", Hook::Input),
+            (b"forward", Hook::Forward),
+            (b"output", Hook::Output),
+            (b"postrouting", Hook::Postrouting),
+        ]
     }
 }
 
 impl Keyword for Policy {
     ghost words = { policy_words };
 
-    fn meaning(word: &[u8]) -> Option<Policy> {
-        if is(word, b"accept") {
-            Some(Policy::Accept)
-        } else if is(word, b"drop") {
-            Some(Policy::Drop)
-        } else {
-            None
-        }
+    fn table() -> &'static [(&'static [u8], Policy)] {
+        &[(b"accept", Policy::Accept), (b"drop", Policy::Drop)]
     }
 }
 
 impl Keyword for PriorityName {
     ghost words = { priority_words };
 
-    fn meaning(word: &[u8]) -> Option<PriorityName> {
-        if is(word, b"raw") {
-            Some(PriorityName::Raw)
-        } else if is(word, b"mangle") {
-            Some(PriorityName::Mangle)
-        } else if is(word, b"dstnat") {
-            Some(PriorityName::Dstnat)
-        } else if is(word, b"filter") {
-            Some(PriorityName::Filter)
-        } else if is(word, b"security") {
-            Some(PriorityName::Security)
-        } else if is(word, b"srcnat") {
-            Some(PriorityName::Srcnat)
-        } else {
-            None
-        }
+    fn table() -> &'static [(&'static [u8], PriorityName)] {
+        &[
+            (b"raw", PriorityName::Raw),
+            (b"mangle", PriorityName::Mangle),
+            (b"dstnat", PriorityName::Dstnat),
+            (b"filter", PriorityName::Filter),
+            (b"security", PriorityName::Security),
+            (b"srcnat", PriorityName::Srcnat),
+        ]
     }
 }
 
 impl Keyword for StatementWord {
     ghost words = { statement_words };
 
-    fn meaning(word: &[u8]) -> Option<StatementWord> {
-        if is(word, b"flush") {
-            Some(StatementWord::Flush)
-        } else if is(word, b"table") {
-            Some(StatementWord::Table)
-        } else {
-            None
-        }
+    fn table() -> &'static [(&'static [u8], StatementWord)] {
+        &[
+            (b"flush", StatementWord::Flush),
+            (b"table", StatementWord::Table),
+        ]
     }
 }
 
 impl Keyword for ItemWord {
     ghost words = { item_words };
 
-    fn meaning(word: &[u8]) -> Option<ItemWord> {
-        if is(word, b"comment") {
-            Some(ItemWord::Comment)
-        } else if is(word, b"set") {
-            Some(ItemWord::Set)
-        } else if is(word, b"chain") {
-            Some(ItemWord::Chain)
-        } else {
-            None
-        }
+    fn table() -> &'static [(&'static [u8], ItemWord)] {
+        &[
+            (b"comment", ItemWord::Comment),
+            (b"set", ItemWord::Set),
+            (b"chain", ItemWord::Chain),
+        ]
     }
 }
 
 impl Keyword for LineWord {
     ghost words = { line_words };
 
-    fn meaning(word: &[u8]) -> Option<LineWord> {
-        if is(word, b"type") {
-            Some(LineWord::Type)
-        } else if is(word, b"flags") {
-            Some(LineWord::Flags)
-        } else if is(word, b"auto-merge") {
-            Some(LineWord::AutoMerge)
-        } else if is(word, b"elements") {
-            Some(LineWord::Elements)
-        } else if is(word, b"comment") {
-            Some(LineWord::Comment)
-        } else {
-            None
-        }
+    fn table() -> &'static [(&'static [u8], LineWord)] {
+        &[
+            (b"type", LineWord::Type),
+            (b"flags", LineWord::Flags),
+            (b"auto-merge", LineWord::AutoMerge),
+            (b"elements", LineWord::Elements),
+            (b"comment", LineWord::Comment),
+        ]
     }
 }
 
 impl Keyword for MemberWord {
     ghost words = { member_words };
 
-    fn meaning(word: &[u8]) -> Option<MemberWord> {
-        if is(word, b"comment") {
-            Some(MemberWord::Comment)
-        } else if is(word, b"type") {
-            Some(MemberWord::Type)
-        } else {
-            None
-        }
+    fn table() -> &'static [(&'static [u8], MemberWord)] {
+        &[
+            (b"comment", MemberWord::Comment),
+            (b"type", MemberWord::Type),
+        ]
     }
 }

@@ -5,7 +5,7 @@ ghost use Rattle.std.specs.Prelude.{◌≡◌, ◌==◌, false, Some};
 ghost use Rattle.rulesyntax.specs.Reading.{Gives, ◌>>=◌ as and_then, Goes, Finds, Eats, Nexts, IsSyntax, seen, skip, next_at, number_at, address_at, name_at, quoted_at, word_at, symbol_at, keyword_at, close_at, is_close, rank};
 
 use crate::error::ReadError;
-use crate::keyword::Keyword;
+use crate::keyword::{Keyword, meaning};
 use ruletokens::line::Line;
 use ruletokens::source::Source;
 use ruletokens::token::{Symbol, Token};
@@ -175,7 +175,7 @@ pub fn choice<K: Keyword>(braces: bool, tokens: &[Token]) -> Option<(K, &[Token]
     ensures { Finds braces result (keyword_at K.words (seen braces tokens.now)) }
 {
     match next(braces, tokens) {
-        Some((Token::Name(name), rest)) => match K::meaning(name.as_slice()) {
+        Some((Token::Name(name), rest)) => match meaning::<K>(name.as_slice()) {
             Some(meaning) => Some((meaning, rest)),
             None => None,
         },

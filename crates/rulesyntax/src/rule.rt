@@ -3,9 +3,9 @@
 ghost use Rattle.std.specs.Prelude.{◌≡◌, ◌&&◌, not, false, true, length, suc, nat_le, Some, None, if◌then◌else◌, IfOk, IfErr};
 ghost use Rattle.ruletokens.specs.declared.token.Symbol.TheVariants.{Colon};
 ghost use Rattle.rulesyntax.specs.declared.keyword.HeadWord.TheVariants as head_word;
-ghost use Rattle.rulesyntax.specs.Reading.{Gives, Goes, Finds, seen, verdict_behind, verdict_at, pair_at, meta_head, ip_head, port_head, head_behind, head_at, symbol_at, ◌>>=◌ as and_then, is_state, operator_at, states_side, states_at, one_at, named_behind, several_behind, plain_at, side_at, match_at, amounts_behind, counter_behind, begins_head, begins_vmap, begins_word, begins_part, transport_word, IsSyntax, part_at, with_part, parts_from, no_parts, vmap_at, to_at, port_behind, port_at, dnat_behind, snat_behind, nat_behind, wrapped, verdict_end, vmap_end, end_at, comment_at, is_said, rule_at};
+ghost use Rattle.rulesyntax.specs.Reading.{Gives, Goes, Finds, seen, verdict_behind, verdict_at, pair_at, meta_head, ip_head, port_head, head_behind, head_at, symbol_at, ◌>>=◌ as and_then, is_state, operator_at, states_side, states_at, one_at, named_behind, several_behind, plain_at, side_at, match_at, amounts_behind, counter_behind, begins_head, begins_vmap, begins_word, begins_part, transport_word, IsSyntax, part_at, with_part, parts_from, no_parts, to_at, port_behind, port_at, dnat_behind, snat_behind, nat_behind, wrapped, verdict_end, vmap_end, end_at, comment_at, is_said, rule_at};
 
-use crate::element::{Entry, braced, element, entries, opened};
+use crate::element::{Entry, braced, entries, opened};
 use crate::error::ReadError;
 use crate::keyword::{HeadWord, IpWord, MetaWord, NatWord, PortWord, VerdictWord};
 use crate::next::{
@@ -71,28 +71,18 @@ fn colon_verdict<'a>(
     verdict(source, braces, rest)
 }
 
-#[tactic(auto, using(crate::proofs::Bind::in_turn), unfolding(crate::specs::Reading::pair_at))]
-fn pair<'a>(
-    source: &Source,
-    braces: bool,
-    tokens: &'a [Token],
-) -> Result<(Pair, &'a [Token]), ReadError>
-    ensures { Gives braces result (pair_at (seen braces tokens.now)) }
-{
-    let (key, rest) = element(source, braces, tokens)?;
-    let (verdict, rest) = colon_verdict(source, braces, rest)?;
-    Ok((Pair { key, verdict }, rest))
-}
-
 impl Entry for Pair {
     ghost reads = { pair_at };
 
+    #[tactic(auto, using(crate::proofs::Bind::in_turn), unfolding(crate::specs::Reading::pair_at))]
     fn read<'a>(
         source: &Source,
         braces: bool,
         tokens: &'a [Token],
     ) -> Result<(Pair, &'a [Token]), ReadError> {
-        pair(source, braces, tokens)
+        let (key, rest) = Element::read(source, braces, tokens)?;
+        let (verdict, rest) = colon_verdict(source, braces, rest)?;
+        Ok((Pair { key, verdict }, rest))
     }
 }
 
@@ -261,7 +251,7 @@ fn states<'a>(source: &Source, tokens: &'a [Token]) -> Result<(Side, &'a [Token]
 fn one<'a>(source: &Source, tokens: &'a [Token]) -> Result<(Side, &'a [Token]), ReadError>
     ensures { Gives false result (one_at tokens.now) }
 {
-    let (element, rest) = element(source, false, tokens)?;
+    let (element, rest) = Element::read(source, false, tokens)?;
     Ok((Side::One(element), rest))
 }
 
@@ -462,15 +452,15 @@ fn read_parts<'a>(source: &Source, tokens: &'a [Token]) -> Result<(Parts, &'a [T
     Err(stop(false, rest))
 }
 
-#[tactic(auto, using(crate::proofs::Bind::in_turn), unfolding(crate::specs::Reading::vmap_at))]
-fn vmap<'a>(source: &Source, tokens: &'a [Token]) -> Result<(Vmap, &'a [Token]), ReadError>
-    ensures { Gives false result (vmap_at tokens.now) }
+#[tactic(auto, using(crate::proofs::Bind::in_turn), unfolding(crate::specs::Reading::vmap_at, crate::specs::Reading::vmap_end, crate::specs::Reading::wrapped))]
+fn vmap<'a>(source: &Source, tokens: &'a [Token]) -> Result<(Option<End>, &'a [Token]), ReadError>
+    ensures { Gives false result (wrapped (vmap_end tokens.now)) }
 {
     let line = line(source, false, tokens);
     let (head, rest) = head(tokens)?;
     let rest = word(rest, b"vmap")?;
     let (pairs, rest) = braced::<Pair>(source, rest)?;
-    Ok((Vmap { line, head, pairs }, rest))
+    Ok((Some(End::Vmap(Vmap { line, head, pairs })), rest))
 }
 
 #[tactic(auto, unfolding(crate::specs::Reading::to_at))]
@@ -511,63 +501,63 @@ fn port(tokens: &[Token]) -> Result<(Option<u16>, &[Token]), ReadError>
     }
 }
 
-#[tactic(auto, unfolding(crate::specs::Reading::dnat_behind))]
+#[tactic(auto, unfolding(crate::specs::Reading::dnat_behind, crate::specs::Reading::wrapped))]
 fn dnat<'a>(
     source: &Source,
     line: Line,
     tokens: &'a [Token],
-) -> Result<(End, &'a [Token]), ReadError>
-    ensures { Gives false result (dnat_behind tokens.now) }
+) -> Result<(Option<End>, &'a [Token]), ReadError>
+    ensures { Gives false result (wrapped (dnat_behind tokens.now)) }
 {
     let rest = to(tokens)?;
     let address_line = source.line(rest);
     let (address, rest) = address(false, rest)?;
     let (port, rest) = port(rest)?;
     Ok((
-        End::Dnat(Dnat {
+        Some(End::Dnat(Dnat {
             line,
             address_line,
             address,
             port,
-        }),
+        })),
         rest,
     ))
 }
 
-#[tactic(auto, unfolding(crate::specs::Reading::snat_behind))]
+#[tactic(auto, unfolding(crate::specs::Reading::snat_behind, crate::specs::Reading::wrapped))]
 fn snat<'a>(
     source: &Source,
     line: Line,
     tokens: &'a [Token],
-) -> Result<(End, &'a [Token]), ReadError>
-    ensures { Gives false result (snat_behind tokens.now) }
+) -> Result<(Option<End>, &'a [Token]), ReadError>
+    ensures { Gives false result (wrapped (snat_behind tokens.now)) }
 {
     let rest = to(tokens)?;
     let address_line = source.line(rest);
     let (address, rest) = address(false, rest)?;
     Ok((
-        End::Snat(Snat {
+        Some(End::Snat(Snat {
             line,
             address_line,
             address,
-        }),
+        })),
         rest,
     ))
 }
 
-#[tactic(auto, unfolding(crate::specs::Reading::nat_behind))]
+#[tactic(auto, unfolding(crate::specs::Reading::nat_behind, crate::specs::Reading::wrapped))]
 fn nat<'a>(
     source: &Source,
     word: NatWord,
     line: Line,
     tokens: &'a [Token],
-) -> Result<(End, &'a [Token]), ReadError>
-    ensures { Gives false result (nat_behind word tokens.now) }
+) -> Result<(Option<End>, &'a [Token]), ReadError>
+    ensures { Gives false result (wrapped (nat_behind word tokens.now)) }
 {
     match word {
         NatWord::Dnat => dnat(source, line, tokens),
         NatWord::Snat => snat(source, line, tokens),
-        NatWord::Masquerade => Ok((End::Masquerade(line), tokens)),
+        NatWord::Masquerade => Ok((Some(End::Masquerade(line)), tokens)),
     }
 }
 
@@ -584,30 +574,6 @@ fn verdict_end<'a>(
     Ok((Some(End::Verdict(verdict)), rest))
 }
 
-#[tactic(auto, unfolding(crate::specs::Reading::wrapped))]
-fn nat_end<'a>(
-    source: &Source,
-    word: NatWord,
-    line: Line,
-    tokens: &'a [Token],
-) -> Result<(Option<End>, &'a [Token]), ReadError>
-    ensures { Gives false result (wrapped (nat_behind word tokens.now)) }
-{
-    let (end, rest) = nat(source, word, line, tokens)?;
-    Ok((Some(end), rest))
-}
-
-#[tactic(auto, unfolding(crate::specs::Reading::vmap_end, crate::specs::Reading::wrapped))]
-fn vmap_end<'a>(
-    source: &Source,
-    tokens: &'a [Token],
-) -> Result<(Option<End>, &'a [Token]), ReadError>
-    ensures { Gives false result (wrapped (vmap_end tokens.now)) }
-{
-    let (vmap, rest) = vmap(source, tokens)?;
-    Ok((Some(End::Vmap(vmap)), rest))
-}
-
 #[tactic(auto, unfolding(crate::specs::Reading::end_at))]
 fn end<'a>(source: &Source, tokens: &'a [Token]) -> Result<(Option<End>, &'a [Token]), ReadError>
     ensures { Gives false result (end_at tokens.now) }
@@ -616,10 +582,10 @@ fn end<'a>(source: &Source, tokens: &'a [Token]) -> Result<(Option<End>, &'a [To
         return verdict_end(source, word, source.line(tokens), rest);
     }
     if let Some((word, rest)) = choice::<NatWord>(false, tokens) {
-        return nat_end(source, word, source.line(tokens), rest);
+        return nat(source, word, source.line(tokens), rest);
     }
     if begins_head(tokens) {
-        return vmap_end(source, tokens);
+        return vmap(source, tokens);
     }
     Ok((None, tokens))
 }
