@@ -6,7 +6,7 @@ use Rattle.rulesyntax.specs.declared.error.ReadError.TheVariants as errors
 use Rattle.rulesyntax.specs.declared.rule.Parts.{Parts}
 use Rattle.rulesyntax.specs.declared.rule.Part.{Part}
 use Rattle.rulesyntax.specs.Grammar.{Tokens}
-use Rattle.rulesyntax.specs.Reading.{◌>>=◌, Reader, Step, Fails, ends, closes, fill_at, list_from, comma_at, entries_from, begins_part, part_at, with_part, parts_from}
+use Rattle.rulesyntax.specs.Reading.{◌>>=◌, Reader, Step, IsSyntax, Fails, ends, closes, fill_at, list_from, comma_at, entries_from, begins_part, part_at, with_part, parts_from}
 
 abbrev pub with_front : {A : Type 0} → List A → Option (List A × Tokens) → Option (List A × Tokens)
 with_front front read = read >>= λ x. Some (front ++ x.0, x.1)
@@ -15,9 +15,10 @@ regroup : {A : Type 0} (front : List A) (x : A) (read : Option (List A × Tokens
 regroup front x (Some xs) = ap (λ ys. Some (ys, xs.1)) (simp append_assoc)
 regroup front x None = refl
 
-pub front_nil : {A : Type 0} (r : Option (List A × Tokens)) → with_front [] r ≡ r
-front_nil (Some x) = refl
-front_nil None = refl
+-- an error of syntax tells that nothing is read
+pub stopped : {Y : Type 0} (error : ReadError) (read : Option Y) → IsSyntax error → read ≡ None → Fails error read
+stopped errors.Memory read is none = absurd is
+stopped (errors.Syntax spot) read is none = none
 
 -- ---- items
 
@@ -113,23 +114,6 @@ parts_on end i ps ts x after total lt b h so_far =
     let k : end - i ≡ suc (end - (i + 1)) = omega arith in
     let one : parts_from (end - i) ps ts ≡ parts_from (end - (i + 1)) (with_part ps x) after = rw (k, ← b, h) refl in
     sym one ∙ so_far
-
-pub parts_done : (end i : ℕ) (ps : Parts) (ts : Tokens) (total : Option (Parts × Tokens)) → i < end → false ≡ begins_part ts
-    → parts_from (end - i) ps ts ≡ total → total ≡ Some (ps, ts)
-unfolding parts_from
-parts_done end i ps ts total lt b so_far =
-    let k : end - i ≡ suc (end - (i + 1)) = omega arith in
-    let one : parts_from (end - i) ps ts ≡ Some (ps, ts) = rw (k, ← b) refl in
-    sym so_far ∙ one
-
-pub parts_refused : (error : ReadError) (end i : ℕ) (ps : Parts) (ts : Tokens) (total : Option (Parts × Tokens)) → i < end → true ≡ begins_part ts → Fails error (part_at ts)
-    → parts_from (end - i) ps ts ≡ total → Fails error total
-unfolding parts_from
-parts_refused errors.Memory end i ps ts total lt b h so_far = tt
-parts_refused (errors.Syntax spot) end i ps ts total lt b h so_far =
-    let k : end - i ≡ suc (end - (i + 1)) = omega arith in
-    let one : parts_from (end - i) ps ts ≡ None = rw (k, ← b, h) refl in
-    sym so_far ∙ one
 
 pub parts_no_turn : (end i : ℕ) (ps : Parts) (ts : Tokens) (total : Option (Parts × Tokens)) → end ≤ i → parts_from (end - i) ps ts ≡ total → total ≡ None
 unfolding parts_from

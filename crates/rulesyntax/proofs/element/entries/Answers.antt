@@ -1,7 +1,7 @@
 use Rattle.std.proofs.Common.{refl, length, suc}
 use Rattle.std.proofs.lemmas.Result.{err_from_is_err_and}
 use Rattle.rulesyntax.specs.Reading.{seen, entries_from}
-use Rattle.rulesyntax.proofs.Loop.{entries_on, entries_done, entries_refused}
+use Rattle.rulesyntax.proofs.Loop.{stopped, entries_on, entries_done, entries_refused, entries_no_turn}
 use Rattle.rulesyntax.proofs.element.entries.Goals as goal
 
 pub returns-in_err-entry : goal.returns-in_err-entry
@@ -23,3 +23,6 @@ loop-preserved g c =
       end = refl;
       told = rw c.in_ok-push.ensures.ok (entries_on g.E.Entry.reads b c.loop.entries _ c.loop.counter (seen b c.loop.rest.now) (seen b c.comma-goes_on.result.1.now) c.in_ok-entry.entry (seen b c.in_ok-entry.after.now) _ c.loop-test.true c.in_ok-entry.ensures behind c.loop.invariant.told);
     }
+
+pub returns : goal.returns
+returns g c = stopped c.stop.result _ c.stop.ensures (entries_no_turn g.E.Entry.reads c.args.braces c.loop.entries _ c.loop.counter (seen c.args.braces c.loop.rest.now) _ c.loop-test.false c.loop.invariant.told)
