@@ -48,7 +48,7 @@ pub fn spelling_fault_of(alloc: Global, text: &[u8]) -> Option<LoadFault>
     ensures refused { IfSome result (λ fault. IsUnreadFor text.now fault.kind) }
 {
     match parse(alloc, text) {
-        Ok(_rules) => None,
-        Err(fault) => Some(fault),
+        Ok(_spelled) => None,
+        Err(unread) => Some(unread),
     }
 }
