@@ -196,6 +196,7 @@ fn read_options<'a>(name: &str, matches: &ArgMatches<'a>) -> Option<Options<'a>>
 pub fn parse<'a>(alloc: Global, words: &'a [String]) -> Result<Parsed<'a>, AllocError> {
     match command_line(alloc)?.try_get_matches_from(words) {
         Ok(matches) => {
+            // A command line without a command is an error of clap's, so this doesn't come.
             let Some((name, inner)) = matches.subcommand() else {
                 return Err(AllocError);
             };

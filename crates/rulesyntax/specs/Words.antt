@@ -1,7 +1,6 @@
 -- The words that the reader looks up.
 use Rattle.std.specs.Prelude.{ℕ, codes, List, [], ◌∷◌, Option, Some, None, if◌then◌else◌}
 use Rattle.std.specs.Str.{bytes_eq}
-use denote.Bor.{Bor}
 use Rattle.rulesyntax.specs.declared.keyword.Flag.{Flag}
 use Rattle.rulesyntax.specs.declared.keyword.Flag.TheVariants as flag
 use Rattle.rulesyntax.specs.declared.keyword.VerdictWord.{VerdictWord}
@@ -34,11 +33,6 @@ use Rattle.rulesyntax.specs.declared.keyword.LineWord.{LineWord}
 use Rattle.rulesyntax.specs.declared.keyword.LineWord.TheVariants as line_word
 use Rattle.rulesyntax.specs.declared.keyword.MemberWord.{MemberWord}
 use Rattle.rulesyntax.specs.declared.keyword.MemberWord.TheVariants as member_word
-
--- the words of a table
-abbrev pub spelled : {K : Type 0} → List (Bor (List ℕ) × K) → List (List ℕ × K)
-spelled [] = []
-spelled (x ∷ more) = (x.0.now, x.1) ∷ spelled more
 
 -- what a word means
 abbrev pub lookup : {K : Type 0} → List (List ℕ × K) → List ℕ → Option K

@@ -1,8 +1,8 @@
 //! The words that have a meaning where they stand.
 
-ghost use Rattle.std.specs.Prelude.{◌≡◌, ℕ, List};
+ghost use Rattle.std.specs.Prelude.{◌≡◌, ℕ, List, map};
 ghost use Rattle.std.specs.Str.{bytes_eq};
-ghost use Rattle.rulesyntax.specs.Words.{spelled, lookup, flag_words, verdict_words, nat_words, head_words, meta_words, ip_words, port_words, family_words, type_words, hook_words, policy_words, priority_words, statement_words, item_words, line_words, member_words};
+ghost use Rattle.rulesyntax.specs.Words.{lookup, flag_words, verdict_words, nat_words, head_words, meta_words, ip_words, port_words, family_words, type_words, hook_words, policy_words, priority_words, statement_words, item_words, line_words, member_words};
 
 use crate::tree::{ChainType, Family, Hook, Policy};
 
@@ -19,7 +19,7 @@ pub trait Keyword: Copy + 'static {
 
     /// The words, each with what it means here.
     fn table() -> &'static [(&'static [u8], Self)]
-        ensures { spelled result.now ≡ words };
+        ensures { map (λ entry. (entry.0.now, entry.1)) result.now ≡ words };
 }
 
 /// What the word means, if it is one of `K`.

@@ -208,21 +208,11 @@ fn last_octet(bytes: &[u8]) -> Option<u64>
 fn address(bytes: &[u8]) -> Option<u32>
     ensures { result ≡ address bytes.now }
 {
-    match octet(bytes) {
-        Some((first, rest)) => match octet(rest) {
-            Some((second, rest)) => match octet(rest) {
-                Some((third, rest)) => match last_octet(rest) {
-                    Some(fourth) => {
-                        Some((((first * 256 + second) * 256 + third) * 256 + fourth) as u32)
-                    }
-                    None => None,
-                },
-                None => None,
-            },
-            None => None,
-        },
-        None => None,
-    }
+    let (first, rest) = octet(bytes)?;
+    let (second, rest) = octet(rest)?;
+    let (third, rest) = octet(rest)?;
+    let fourth = last_octet(rest)?;
+    Some((((first * 256 + second) * 256 + third) * 256 + fourth) as u32)
 }
 
 fn numeral(word: &[u8]) -> Token

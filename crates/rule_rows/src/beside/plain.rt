@@ -59,19 +59,20 @@ fn called(ruleset: &Ruleset, packet: Packet) -> Option<bool> {
 // Whether a base chain passes the packet.
 fn base(ruleset: &Ruleset, rules: &[Rule], packet: Packet) -> bool {
     for rule in rules {
-        if is_met(*rule, ruleset.set, packet) {
-            match rule.verdict {
-                Verdict::Accept => return true,
-                Verdict::Drop => return false,
-                Verdict::Return => return !ruleset.drops,
-                Verdict::Continue => {}
-                Verdict::Jump => {
-                    if let Some(passes) = called(ruleset, packet) {
-                        return passes;
-                    }
+        if !is_met(*rule, ruleset.set, packet) {
+            continue;
+        }
+        match rule.verdict {
+            Verdict::Accept => return true,
+            Verdict::Drop => return false,
+            Verdict::Return => return !ruleset.drops,
+            Verdict::Continue => {}
+            Verdict::Jump => {
+                if let Some(passes) = called(ruleset, packet) {
+                    return passes;
                 }
-                Verdict::Goto => return called(ruleset, packet).unwrap_or(!ruleset.drops),
             }
+            Verdict::Goto => return called(ruleset, packet).unwrap_or(!ruleset.drops),
         }
     }
     !ruleset.drops
