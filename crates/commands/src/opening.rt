@@ -44,7 +44,7 @@ fn unsound_to(
     }
 }
 
-// What is the matter with the files of a disk, looked at once more.
+// What is the matter with the files of a disk, looked at once more. The bounds are made again: the opening took them.
 fn unsound(
     alloc: Global,
     disk: &mut FileDisk,
@@ -91,7 +91,7 @@ pub fn open(
     bounds: Bounds,
     opening: Opening<'_>,
 ) -> Result<Gateway<FileDisk>, Stop>
-    ensures { IfErr result (λ stop. IsOfFiles stop.refusal) }
+    ensures causes { IfErr result (λ stop. IsOfFiles stop.refusal) }
 {
     let alloc = rt.alloc();
     let disk = match FileDisk::open(rt, opening.directory) {

@@ -83,7 +83,7 @@ fn run_opened(
 ) -> Result<(), Stop> {
     let mut gateway = open(rt, sides, bounds, opening)?;
     let worked = work_on(rt, opening.directory, work, requests, &mut gateway);
-    // Its own crate takes the gateway apart: what is let go here are its files.
+    // Its own crate lets its parts go, so that this is not proved here once more. What is let go here are the files.
     drop(gateway.into_disk());
     worked
 }

@@ -1,7 +1,7 @@
 //! A run of events over a gateway's own calls, for those who read the events as they come. What a call comes to is
 //! said of any run that stood before it: how far that run is, and what a crash may leave of it.
 //!
-//! - `begin`: a run of no event
+//! - `stands`: a run of no event
 //! - `take`: one more event; `take_all`: several, and a flush behind them
 //! - `forward`: one more, if it is a packet whose session goes on, which is translated where it lies
 //! - `hand_out`: what is held is synced and handed out
@@ -21,8 +21,8 @@ use crate::{GatewayFault, Given};
 use disk_model::Disk;
 use machine::{Answer, Event, Iface};
 
-/// A run begins: no event is taken, and nothing is handed out. It does nothing but carry this fact.
-pub fn begin<D: Disk + Drop>(gateway: &Gateway<D>)
+/// A gateway that hasn't fallen stands: a run of no event goes from it to itself. It does nothing but carry this fact.
+pub fn stands<D: Disk + Drop>(gateway: &Gateway<D>)
     requires { gateway.now.fallen ≡ false }
     ensures { Stands D.honest D.moment D.left D.failed gateway.now gateway.now [] [] }
 {
@@ -81,7 +81,7 @@ pub fn take<D: Disk + Drop>(
         return Ok(());
     };
     if is_full(fault) {
-        return make_room(gateway, event, answers);
+        return take_behind_compaction(gateway, event, answers);
     }
     Err(fault)
 }
@@ -112,7 +112,7 @@ pub fn forward<D: Disk + Drop>(
 }
 
 // Flushes and compacts; then there is room for the event, and it is taken.
-fn make_room<D: Disk + Drop>(
+fn take_behind_compaction<D: Disk + Drop>(
     gateway: &mut Gateway<D>,
     event: Event,
     answers: &mut Vec<(u64, Answer)>,

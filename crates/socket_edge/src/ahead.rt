@@ -2,7 +2,7 @@
 //! they are taken, for several of them at once. Nothing rests on it but time.
 ghost use Rattle.std.specs.Prelude.{◌≡◌, length};
 
-use crate::request::{Head, Kind, read_head};
+use crate::request::{HEAD_LEN, Head, Kind, read_head};
 use byteorder::{BigEndian, ByteOrder};
 use disk_model::Disk;
 use gateway::{Coming, Gateway, Iface, MOST_AHEAD};
@@ -11,7 +11,7 @@ use packet::endpoint::{Endpoint, Proto};
 /// Where fewer of the packets at the front than this come from another flow than the one before, their sessions are near.
 const FEW_APART: usize = 8;
 
-/// For so many frames behind the next one it isn't looked ahead then.
+/// Where the sessions are near, it isn't looked ahead for so many frames behind the next one.
 const NEAR_FRAMES: usize = 128;
 
 /// The bytes of a packet up to its ports and with them, where it has no options.
@@ -103,12 +103,12 @@ fn next_packet(bytes: &[u8]) -> Option<(Iface, &[u8], &[u8])> {
     let Head::Frame(Kind::Packet(iface), _, len) = read_head(bytes) else {
         return None;
     };
-    let len = 14 + len as usize;
+    let len = HEAD_LEN + len as usize;
     if bytes.len() < len {
         return None;
     }
     let (frame, behind) = bytes.split_at(len);
-    Some((iface, &frame[14..], behind))
+    Some((iface, &frame[HEAD_LEN..], behind))
 }
 
 // By what the session of a packet is looked for, if it has no options (RFC 791, section 3.1).

@@ -10,7 +10,7 @@ use crate::sending::send_behind;
 use crate::serving::{close, empty_for, offer_all, tidy};
 use crate::waiting::{Unread, Waiting};
 use disk_model::Disk;
-use gateway::running::begin;
+use gateway::running::stands;
 use gateway::{Answer, Gateway, GatewayFault};
 use std::alloc::Global;
 use std::io::{Read, Write};
@@ -51,7 +51,7 @@ fn answer_front<W: Write, D: Disk + Drop>(
     ensures sent { OnOk result (waiting.new.answered ≡ []) }
     ensures room { vec_len answers.new + length gateway.new.told.held ≤ vec_capacity answers.new }
 {
-    begin(gateway);
+    stands(gateway);
     let (count, halt) = offer_all(alloc, waiting, answers, bodies, gateway);
     let closed = close(halt, waiting, answers, bodies, gateway);
     send_behind(writer, waiting.answered(), answers.as_slice())?;
@@ -81,7 +81,7 @@ fn serve<W: Write, D: Disk + Drop>(
     ensures passed { OnOk result (D.failed gateway.new.disk ≡ D.failed gateway.old.disk) }
     ensures grown { OnOk result (gateway.new.grown ≤ 1048576) }
 {
-    begin(gateway);
+    stands(gateway);
     if empty_for(&mut room.answers, &mut room.bodies, gateway.held()).is_err() {
         return Err(EdgeFault::Gateway(GatewayFault::NoMemory));
     }
@@ -127,7 +127,7 @@ fn read_once<R: Read, W: Write, D: Disk + Drop>(
     ensures grown { IfOk result (λ turn. (turn ≢ Turn.End) → gateway.new.grown ≤ 1048576) }
     ensures stays { IfOk result (λ turn. turn ≡ Turn.End → gateway.new ≡ gateway.old) }
 {
-    begin(gateway);
+    stands(gateway);
     let n = match waiting.read(reader) {
         Ok(n) => n,
         Err(Unread::NoMemory) => return Err(EdgeFault::Gateway(GatewayFault::NoMemory)),
@@ -204,7 +204,7 @@ pub fn run<R: Read, W: Write, D: Disk + Drop>(
     if gateway.has_fallen() {
         return Err(EdgeFault::Gateway(GatewayFault::Reopen));
     }
-    begin(gateway);
+    stands(gateway);
     let mut waiting = Waiting::new(alloc);
     let mut room = Room {
         answers: Vec::new(alloc),
@@ -221,6 +221,6 @@ pub fn run<R: Read, W: Write, D: Disk + Drop>(
             Err(fault) => return Err(fault),
         }
     }
-    begin(gateway);
+    stands(gateway);
     Err(EdgeFault::Input)
 }

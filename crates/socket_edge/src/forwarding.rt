@@ -6,6 +6,7 @@ ghost use Rattle.machine.specs.declared.event.What.TheVariants.{Packet};
 ghost use Rattle.socket_edge.specs.Answering.{frame};
 
 use crate::answer::forward_front;
+use crate::request::HEAD_LEN;
 use disk_model::Disk;
 use gateway::running::forward;
 use gateway::{Gateway, Iface};
@@ -31,7 +32,7 @@ pub fn forward_frame<D: Disk + Drop>(
     ensures stands { gateway.new.fallen ≡ false }
     ensures size { length bytes.new ≡ length bytes.old }
 {
-    let (head, packet) = bytes.split_at_mut(14);
+    let (head, packet) = bytes.split_at_mut(HEAD_LEN);
     let Some((number, out)) = forward(gateway, moment, iface, packet) else {
         return false;
     };

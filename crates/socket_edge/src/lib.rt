@@ -4,7 +4,7 @@
 //! (`std::io::Write`). `natgw` hands it standard input and output, or both sides of a Unix socket.
 //!
 //! `run` reads request frames, offers each whole one to the gateway, and writes the frames of the
-//! answers, in whatever pieces the bytes come and go. The rooms:
+//! answers, in whatever pieces the bytes come and go. The modules:
 //! - `edge`: the run, one read after the other;
 //! - `waiting`: the bytes that were read and aren't answered yet, and the answers in front of them;
 //! - `forwarding`: a packet that leaves in the bytes of its request;

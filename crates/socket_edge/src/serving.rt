@@ -12,7 +12,7 @@ use crate::fault::{EdgeFault, HeaderFault};
 use crate::request::{Taken, take_frame};
 use crate::waiting::Waiting;
 use disk_model::Disk;
-use gateway::running::{begin, compact, hand_out, take};
+use gateway::running::{compact, hand_out, stands, take};
 use gateway::{Answer, Event, Gateway, GatewayFault};
 use machine::laws::events_are_judged_once;
 use std::alloc::{AllocError, Global};
@@ -140,7 +140,7 @@ fn offer_event<D: Disk + Drop>(
     ensures stands { OnOk result (gateway.new.fallen ≡ false) }
     ensures room { vec_len answers.new + length gateway.new.told.held ≤ vec_capacity answers.new }
 {
-    begin(gateway);
+    stands(gateway);
     events_are_judged_once();
     let more = gateway.held() + 1;
     if make_slots(answers, more).is_err() {
@@ -291,7 +291,7 @@ fn give_held<D: Disk + Drop>(
     ensures generation { gateway.new.generation ≡ gateway.old.generation }
     ensures room { vec_len answers.new + length gateway.new.told.held ≤ vec_capacity answers.new }
 {
-    begin(gateway);
+    stands(gateway);
     events_are_judged_once();
     hand_out(gateway, answers)
 }
@@ -344,7 +344,7 @@ pub fn tidy<D: Disk + Drop>(
     ensures answers { answers.new.items ≡ answers.old.items }
     ensures grown { OnOk result (gateway.new.grown ≤ 1048576) }
 {
-    begin(gateway);
+    stands(gateway);
     events_are_judged_once();
     if gateway.grown() <= MOST_GROWN {
         return Ok(());

@@ -10,7 +10,7 @@ ghost use Rattle.socket_edge.specs.Requests.{next, Whole};
 
 use crate::answer::fill_frames;
 use crate::forwarding::{forward_frame, move_down};
-use crate::request::{Head, Kind, read_head};
+use crate::request::{HEAD_LEN, Head, Kind, read_head};
 use disk_model::Disk;
 use gateway::{Answer, Gateway};
 use std::alloc::{AllocError, Global};
@@ -130,7 +130,7 @@ impl Waiting {
         let Head::Frame(Kind::Packet(iface), moment, len) = read_head(self.pending()) else {
             return false;
         };
-        let len = 14 + len as usize;
+        let len = HEAD_LEN + len as usize;
         if self.pending().len() < len {
             return false;
         }

@@ -18,16 +18,16 @@ returns-in_default-clause-ok g c =
 pub returns-then-is_full-clause-ok : goal.returns-then-is_full-clause-ok
 returns-then-is_full-clause-ok g c =
     let same = c.in-Err.ensures.err in
-    on_ok_weaker c.make_room.result (λ ok.
-    carries-then g.D.Disk.honest g.D.Disk.moment g.D.Disk.left g.D.Disk.failed c.args.gateway.now c.hold_fewer.new.gateway c.make_room.new.gateway [] (c.args.event ∷ [])
-    c.args.answers.now.items c.hold_fewer.new.answers.items c.make_room.new.answers.items c.in_ok-hold_fewer.ensures.ok (rw (← same.0, ← same.1, ← same.2) ok)) c.make_room.ensures.ok
+    on_ok_weaker c.take_behind_compaction.result (λ ok.
+    carries-then g.D.Disk.honest g.D.Disk.moment g.D.Disk.left g.D.Disk.failed c.args.gateway.now c.hold_fewer.new.gateway c.take_behind_compaction.new.gateway [] (c.args.event ∷ [])
+    c.args.answers.now.items c.hold_fewer.new.answers.items c.take_behind_compaction.new.answers.items c.in_ok-hold_fewer.ensures.ok (rw (← same.0, ← same.1, ← same.2) ok)) c.take_behind_compaction.ensures.ok
 
 pub returns-then-is_full-clause-err : goal.returns-then-is_full-clause-err
 returns-then-is_full-clause-err g c =
     let same = c.in-Err.ensures.err in
-    IfErr-weaker c.make_room.result _ _ (λ why off.
-    breaks-then g.D.Disk.honest g.D.Disk.moment g.D.Disk.left g.D.Disk.failed c.args.gateway.now c.hold_fewer.new.gateway c.make_room.new.gateway [] (c.args.event ∷ [])
-    c.args.answers.now.items c.hold_fewer.new.answers.items c.make_room.new.answers.items why c.in_ok-hold_fewer.ensures.ok (rw (← same.0, ← same.1, ← same.2) off)) c.make_room.ensures.err
+    IfErr-weaker c.take_behind_compaction.result _ _ (λ why off.
+    breaks-then g.D.Disk.honest g.D.Disk.moment g.D.Disk.left g.D.Disk.failed c.args.gateway.now c.hold_fewer.new.gateway c.take_behind_compaction.new.gateway [] (c.args.event ∷ [])
+    c.args.answers.now.items c.hold_fewer.new.answers.items c.take_behind_compaction.new.answers.items why c.in_ok-hold_fewer.ensures.ok (rw (← same.0, ← same.1, ← same.2) off)) c.take_behind_compaction.ensures.err
 
 pub returns-clause-err : goal.returns-clause-err
 returns-clause-err g c =

@@ -28,7 +28,7 @@ returns-in_err-send_behind-clause-came g c =
     let o = c.offer_all-count.ensures.offered in
     let k = c.close-closed.ensures.closed in
     let offered = rw c.requires.none at o.2 in
-    let closed = k.2 c.args.gateway.now bytes rest c.offer_all-count.result.0 o.0 c.begin.ensures offered in
+    let closed = k.2 c.args.gateway.now bytes rest c.offer_all-count.result.0 o.0 c.stands.ensures offered in
     let whole = all_frames c.args.waiting.now.answered c.offer_all-count.new.waiting.answered c.answered.result.now o.0 k.0 items c.requires.sent o.1 (c.answered.ensures ∙ ap (λ (x : Exchange). x.answered) k.1) in
     let front = rw c.as_slice.ensures.value at e.1 in (
       [],
@@ -47,7 +47,7 @@ returns-in_err-closed-clause-came g c =
     let o = c.offer_all-count.ensures.offered in
     let k = c.in_err-closed.ensures.closed in
     let offered = rw c.requires.none at o.2 in
-    let closed = k.2 c.args.gateway.now bytes rest c.offer_all-count.result.0 o.0 c.begin.ensures offered in
+    let closed = k.2 c.args.gateway.now bytes rest c.offer_all-count.result.0 o.0 c.stands.ensures offered in
     let whole = all_frames c.args.waiting.now.answered c.offer_all-count.new.waiting.answered c.answered.result.now o.0 k.0 items c.requires.sent o.1 (c.answered.ensures ∙ ap (λ (x : Exchange). x.answered) k.1) in
     let sent = rw c.as_slice.ensures.value at c.in_ok-send_behind.ensures.ok in (
       [],
@@ -65,7 +65,7 @@ returns-clause-came g c =
     let o = c.offer_all-count.ensures.offered in
     let k = c.in_ok-closed.ensures.closed in
     let offered = rw c.requires.none at o.2 in
-    let closed = k.2 c.args.gateway.now bytes rest c.offer_all-count.result.0 o.0 c.begin.ensures offered in
+    let closed = k.2 c.args.gateway.now bytes rest c.offer_all-count.result.0 o.0 c.stands.ensures offered in
     let whole = all_frames c.args.waiting.now.answered c.offer_all-count.new.waiting.answered c.answered.result.now o.0 k.0 items c.requires.sent o.1 (c.answered.ensures ∙ ap (λ (x : Exchange). x.answered) k.1) in
     let sent = rw c.as_slice.ensures.value at c.in_ok-send_behind.ensures.ok in
     let left : c.forget_answered.new.self.pending ≡ rest = ap (λ (x : Exchange). x.pending) c.forget_answered.ensures ∙ ap (λ (x : Exchange). x.pending) k.1 in

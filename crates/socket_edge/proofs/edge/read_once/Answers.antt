@@ -25,7 +25,7 @@ returns-in-Err-NoMemory-clause-turned g c = (
   c.in-Err-NoMemory.ensures.err.0,
   Appends-nil (g.W.Write.contents c.args.writer.now),
   AnsweredFirst-nothing c.args.gateway.now.told (events_in (c.args.waiting.now.pending ++ [])),
-  idle-fares g.D.Disk.honest g.D.Disk.moment g.D.Disk.left g.D.Disk.seen g.D.Disk.failed g.met.D.Disk.reads g.met.D.Disk.earlier c.args.gateway.now c.begin.ensures (events_in (c.args.waiting.now.pending ++ [])),
+  idle-fares g.D.Disk.honest g.D.Disk.moment g.D.Disk.left g.D.Disk.seen g.D.Disk.failed g.met.D.Disk.reads g.met.D.Disk.earlier c.args.gateway.now c.stands.ensures (events_in (c.args.waiting.now.pending ++ [])),
 )
 
 pub returns-in-Err-Failed-clause-turned : goal.returns-in-Err-Failed-clause-turned
@@ -35,7 +35,7 @@ returns-in-Err-Failed-clause-turned g c = (
   c.in-Err-Failed.ensures.err.0,
   Appends-nil (g.W.Write.contents c.args.writer.now),
   nothing c.args.gateway.now.told c.args.waiting.now.pending c.requires.cut,
-  idle-fares g.D.Disk.honest g.D.Disk.moment g.D.Disk.left g.D.Disk.seen g.D.Disk.failed g.met.D.Disk.reads g.met.D.Disk.earlier c.args.gateway.now c.begin.ensures (events_in (c.args.waiting.now.pending ++ [])),
+  idle-fares g.D.Disk.honest g.D.Disk.moment g.D.Disk.left g.D.Disk.seen g.D.Disk.failed g.met.D.Disk.reads g.met.D.Disk.earlier c.args.gateway.now c.stands.ensures (events_in (c.args.waiting.now.pending ++ [])),
 )
 
 pub returns-then-is_empty-clause-turned : goal.returns-then-is_empty-clause-turned
@@ -56,7 +56,7 @@ returns-then-is_empty-clause-turned g c =
         count_is = nothing_counts c.args.waiting.now.pending c.requires.cut;
         ended = c.in-Ok.ensures.end c.if-n-eq0.true;
       },
-      idle-fares g.D.Disk.honest g.D.Disk.moment g.D.Disk.left g.D.Disk.seen g.D.Disk.failed g.met.D.Disk.reads g.met.D.Disk.earlier c.args.gateway.now c.begin.ensures (events_in (c.args.waiting.now.pending ++ [])),
+      idle-fares g.D.Disk.honest g.D.Disk.moment g.D.Disk.left g.D.Disk.seen g.D.Disk.failed g.met.D.Disk.reads g.met.D.Disk.earlier c.args.gateway.now c.stands.ensures (events_in (c.args.waiting.now.pending ++ [])),
     )
 
 pub returns-then-n-eq0-clause-turned : goal.returns-then-n-eq0-clause-turned
@@ -72,5 +72,5 @@ returns-then-n-eq0-clause-turned g c =
       none_read (g.R.Read.remaining c.args.reader.now) (g.R.Read.remaining c.read.new.reader) c.in-Ok.n b.0 c.if-n-eq0.true b.3 b.1,
       Appends-nil (g.W.Write.contents c.args.writer.now),
       (c.args.waiting.now.pending, nothing_stops c.args.waiting.now.pending c.requires.cut, some, nothing c.args.gateway.now.told c.args.waiting.now.pending c.requires.cut, c.in-Ok.ensures.end c.if-n-eq0.true),
-      idle-fares g.D.Disk.honest g.D.Disk.moment g.D.Disk.left g.D.Disk.seen g.D.Disk.failed g.met.D.Disk.reads g.met.D.Disk.earlier c.args.gateway.now c.begin.ensures (events_in (c.args.waiting.now.pending ++ [])),
+      idle-fares g.D.Disk.honest g.D.Disk.moment g.D.Disk.left g.D.Disk.seen g.D.Disk.failed g.met.D.Disk.reads g.met.D.Disk.earlier c.args.gateway.now c.stands.ensures (events_in (c.args.waiting.now.pending ++ [])),
     )

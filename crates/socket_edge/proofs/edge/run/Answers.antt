@@ -28,7 +28,7 @@ loop-init g c = (
   [],
   Consumes-nil (g.R.Read.remaining c.args.reader.now),
   Appends-nil (g.W.Write.contents c.args.writer.now),
-  rw c.new-waiting.ensures (going-first g.D.Disk.honest g.D.Disk.moment g.D.Disk.left g.D.Disk.failed g.met.D.Disk.earlier c.args.gateway.now c.begin.ensures),
+  rw c.new-waiting.ensures (going-first g.D.Disk.honest g.D.Disk.moment g.D.Disk.left g.D.Disk.failed g.met.D.Disk.earlier c.args.gateway.now c.stands.ensures),
   ap (λ (x : Exchange). x.answered) c.new-waiting.ensures,
 )
 
@@ -80,5 +80,5 @@ returns-clause-ran g c =
       i.2,
       i.3,
       Served-answered c.args.gateway.now.told c.loop.gateway.told i.0 c.loop.waiting.pending i.1 c.loop.count i.4.served,
-      going-stops g.D.Disk.honest g.D.Disk.moment g.D.Disk.left g.D.Disk.failed g.met.D.Disk.earlier c.args.gateway.now c.loop.gateway i.0 c.loop.waiting.pending i.1 c.loop.count i.4 (idle-fares g.D.Disk.honest g.D.Disk.moment g.D.Disk.left g.D.Disk.seen g.D.Disk.failed g.met.D.Disk.reads g.met.D.Disk.earlier c.loop.gateway c.begin-2.ensures),
+      going-stops g.D.Disk.honest g.D.Disk.moment g.D.Disk.left g.D.Disk.failed g.met.D.Disk.earlier c.args.gateway.now c.loop.gateway i.0 c.loop.waiting.pending i.1 c.loop.count i.4 (idle-fares g.D.Disk.honest g.D.Disk.moment g.D.Disk.left g.D.Disk.seen g.D.Disk.failed g.met.D.Disk.reads g.met.D.Disk.earlier c.loop.gateway c.stands-2.ensures),
     )

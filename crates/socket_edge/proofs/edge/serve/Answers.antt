@@ -11,7 +11,7 @@ returns-then-is_err-clause-served g c = (
   [],
   Appends-nil (g.W.Write.contents c.args.writer.now),
   AnsweredFirst-nothing c.args.gateway.now.told (events_in c.args.waiting.now.pending),
-  idle-fares g.D.Disk.honest g.D.Disk.moment g.D.Disk.left g.D.Disk.seen g.D.Disk.failed g.met.D.Disk.reads g.met.D.Disk.earlier c.args.gateway.now c.begin.ensures (events_in c.args.waiting.now.pending),
+  idle-fares g.D.Disk.honest g.D.Disk.moment g.D.Disk.left g.D.Disk.seen g.D.Disk.failed g.met.D.Disk.reads g.met.D.Disk.earlier c.args.gateway.now c.stands.ensures (events_in c.args.waiting.now.pending),
 )
 
 pub returns-in-Ok-clause-served : goal.returns-in-Ok-clause-served

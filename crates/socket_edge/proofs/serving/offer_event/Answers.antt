@@ -13,7 +13,7 @@ returns-then-is_err-clause-err g c = λ handed.
 pub returns-clause-ok : goal.returns-clause-ok
 returns-clause-ok g c =
     on_ok_weaker c.take.result
-    (λ ok. carries-behind g.D.Disk.honest g.D.Disk.moment g.D.Disk.left g.D.Disk.failed g.met.D.Disk.earlier c.events_are_judged_once.ensures c.args.gateway.now c.take.new.gateway c.begin.ensures (c.args.event ∷ [])
+    (λ ok. carries-behind g.D.Disk.honest g.D.Disk.moment g.D.Disk.left g.D.Disk.failed g.met.D.Disk.earlier c.events_are_judged_once.ensures c.args.gateway.now c.take.new.gateway c.stands.ensures (c.args.event ∷ [])
     c.args.answers.now.items c.take.new.answers.items (rw (← c.make_slots.ensures.items) ok))
     c.take.ensures.ok
 
@@ -23,6 +23,6 @@ returns-clause-err g c =
     (BreaksOff g.D.Disk.honest g.D.Disk.moment g.D.Disk.left g.D.Disk.failed c.args.gateway.now c.take.new.gateway (c.args.event ∷ []) c.make_slots.new.answers.items c.take.new.answers.items)
     (λ why. (handed : _) → BreaksOff g.D.Disk.honest g.D.Disk.moment g.D.Disk.left g.D.Disk.failed c.args.gateway.now c.take.new.gateway (c.args.event ∷ []) (handed ++ c.args.answers.now.items)
     (handed ++ c.take.new.answers.items) why)
-    (λ why off. breaks-behind g.D.Disk.honest g.D.Disk.moment g.D.Disk.left g.D.Disk.failed g.met.D.Disk.earlier c.events_are_judged_once.ensures c.args.gateway.now c.take.new.gateway c.begin.ensures (c.args.event ∷ [])
+    (λ why off. breaks-behind g.D.Disk.honest g.D.Disk.moment g.D.Disk.left g.D.Disk.failed g.met.D.Disk.earlier c.events_are_judged_once.ensures c.args.gateway.now c.take.new.gateway c.stands.ensures (c.args.event ∷ [])
     c.args.answers.now.items c.take.new.answers.items why (rw (← c.make_slots.ensures.items) off))
     c.take.ensures.err

@@ -12,7 +12,7 @@ returns-then-grown-le-MOST_GROWN-clause-ok g c = λ handed.
 pub returns-clause-ok : goal.returns-clause-ok
 returns-clause-ok g c =
     on_ok_weaker c.compact.result
-    (carries-behind g.D.Disk.honest g.D.Disk.moment g.D.Disk.left g.D.Disk.failed g.met.D.Disk.earlier c.events_are_judged_once.ensures c.args.gateway.now c.compact.new.gateway c.begin.ensures []
+    (carries-behind g.D.Disk.honest g.D.Disk.moment g.D.Disk.left g.D.Disk.failed g.met.D.Disk.earlier c.events_are_judged_once.ensures c.args.gateway.now c.compact.new.gateway c.stands.ensures []
     c.args.answers.now.items c.compact.new.answers.items)
     c.compact.ensures.ok
 
@@ -21,6 +21,6 @@ returns-clause-err g c =
     IfErr-weaker c.compact.result
     (BreaksOff g.D.Disk.honest g.D.Disk.moment g.D.Disk.left g.D.Disk.failed c.args.gateway.now c.compact.new.gateway [] c.args.answers.now.items c.compact.new.answers.items)
     (λ why. (handed : _) → BreaksOff g.D.Disk.honest g.D.Disk.moment g.D.Disk.left g.D.Disk.failed c.args.gateway.now c.compact.new.gateway [] (handed ++ c.args.answers.now.items) (handed ++ c.compact.new.answers.items) why)
-    (breaks-behind g.D.Disk.honest g.D.Disk.moment g.D.Disk.left g.D.Disk.failed g.met.D.Disk.earlier c.events_are_judged_once.ensures c.args.gateway.now c.compact.new.gateway c.begin.ensures []
+    (breaks-behind g.D.Disk.honest g.D.Disk.moment g.D.Disk.left g.D.Disk.failed g.met.D.Disk.earlier c.events_are_judged_once.ensures c.args.gateway.now c.compact.new.gateway c.stands.ensures []
     c.args.answers.now.items c.compact.new.answers.items)
     c.compact.ensures.err

@@ -1,7 +1,7 @@
 use Rattle.std.proofs.Common.{◌∷◌, []}
 use Rattle.std.proofs.lemmas.Result.{err_from_is_err_and}
 use Rattle.gateway.proofs.Runs.{breaks-before, breaks-then, carries-then}
-use Rattle.gateway.proofs.running.make_room.Goals as goal
+use Rattle.gateway.proofs.running.take_behind_compaction.Goals as goal
 
 pub returns-in_err-compact-clause-err : goal.returns-in_err-compact-clause-err
 returns-in_err-compact-clause-err g c =

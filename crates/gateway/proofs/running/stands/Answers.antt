@@ -1,6 +1,6 @@
 use Rattle.std.proofs.Common.{◌∙◌}
 use Rattle.gateway.proofs.Runs.{begun}
-use Rattle.gateway.proofs.running.begin.Goals as goal
+use Rattle.gateway.proofs.running.stands.Goals as goal
 
 pub returns : goal.returns
 returns g c =
