@@ -2,8 +2,8 @@
 ghost use Rattle.std.specs.Prelude.{◌≡◌, ◌↔◌, IsTrue};
 ghost use Rattle.diagnosis.specs.Fields.{Agrees};
 
+use durable::same_prefixes;
 use packet::bounds::Bounds;
-use packet::endpoint::Prefix;
 
 /// A part of a configuration.
 #[derive(Clone, Copy, PartialEq, Eq, Drop)]
@@ -16,21 +16,6 @@ pub enum Field {
     Inside,
     /// The external address.
     External,
-}
-
-fn same_prefixes(a: &[Prefix], b: &[Prefix]) -> bool
-    ensures is { IsTrue result → a.now ≡ b.now }
-    ensures differs { a.now ≡ b.now → IsTrue result }
-{
-    if a.len() != b.len() {
-        return false;
-    }
-    for number in 0..a.len() {
-        if a[number] != b[number] {
-            return false;
-        }
-    }
-    true
 }
 
 /// Whether the two configurations have different values in this part.

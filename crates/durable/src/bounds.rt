@@ -40,7 +40,8 @@ pub fn bounds_of(alloc: Global, config: StoredConfig<'_>) -> Result<Bounds, Dura
     }
 }
 
-fn same_prefixes(a: &[Prefix], b: &[Prefix]) -> bool
+/// Whether the two are one list of prefixes.
+pub fn same_prefixes(a: &[Prefix], b: &[Prefix]) -> bool
     ensures is { IsTrue result → a.now ≡ b.now }
     ensures differs { a.now ≡ b.now → IsTrue result }
 {

@@ -127,16 +127,6 @@ fn read_entry(bytes: &[u8]) -> Option<(Entry<'_>, &[u8])>
     None
 }
 
-/// The session whose code is the front of the bytes, and what stands behind it.
-///
-/// There is none exactly where no session's code is a front of the bytes.
-pub fn session_of(bytes: &[u8]) -> Option<(Session, &[u8])>
-    ensures ok { IfSome result (λ x. Begins IsSession session_bytes bytes.now x.0 x.1.now) }
-    ensures none { IfNone result (NoneBegins IsSession session_bytes bytes.now) }
-{
-    read_session(bytes)
-}
-
 /// The entry whose code is the front of the bytes, and what stands behind it.
 ///
 /// There is none exactly where no entry's code is a front of the bytes.

@@ -24,6 +24,7 @@ mod recovery;
 mod texts;
 mod writing;
 
+pub use bounds::same_prefixes;
 pub use coding::{Entry, Flow};
 pub use fault::DurableFault;
 pub use laws::{
@@ -32,5 +33,6 @@ pub use laws::{
 };
 pub use recovery::{Recovered, recover};
 pub use writing::{
-    begin_code, end_code, heading_fits, load_front, put_heading, restart_code, seen_code,
+    begin_code, end_code, endpoint_fits, heading_fits, load_front, put_heading, restart_code,
+    seen_code,
 };

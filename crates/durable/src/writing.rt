@@ -22,7 +22,8 @@ fn port_fits(port: u16)
     ensures { port < 2 ^ 16 }
 {}
 
-fn endpoint_fits(endpoint: Endpoint)
+/// Every endpoint has a code. It does nothing but carry this fact.
+pub fn endpoint_fits(endpoint: Endpoint)
     ensures { IsEndpoint endpoint }
 {
     address_fits(endpoint.addr);

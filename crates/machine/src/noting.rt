@@ -1,6 +1,6 @@
 //! The entries by which a change of a session is noted.
-ghost use Rattle.std.specs.Prelude.{◌≡◌, ◌≢◌, ◌↔◌, ◌+◌, ◌^◌, ◌<◌, ◌≤◌, ◌++◌, [], ℕ, IsTrue};
-ghost use Rattle.durable.specs.Coding.{AreEntries, IsEndpoint, IsFlow, IsSession};
+ghost use Rattle.std.specs.Prelude.{◌≡◌, ◌≢◌, ◌↔◌, ◌+◌, ◌<◌, ◌≤◌, ◌++◌, [], ℕ, IsTrue};
+ghost use Rattle.durable.specs.Coding.{AreEntries, IsFlow, IsSession};
 ghost use Rattle.durable.specs.Entering.{flow_of as flow_in};
 ghost use Rattle.hairpin.specs.Plans.{Gives};
 ghost use Rattle.machine.specs.Noted.{between as entries_between, noted};
@@ -12,25 +12,8 @@ ghost use Rattle.sessions.specs.Stilled.{stilled as without_moment};
 ghost use Rattle.sessions.specs.Table.{restarted, seen as seen_with};
 
 use crate::notes::Notes;
-use durable::{Entry, Flow};
-use packet::endpoint::Endpoint;
+use durable::{Entry, Flow, endpoint_fits};
 use sessions::{Change, Opener, Session, Table};
-
-fn address_fits(address: u32)
-    ensures { address < 2 ^ 32 }
-{}
-
-fn port_fits(port: u16)
-    ensures { port < 2 ^ 16 }
-{}
-
-// Every endpoint has a code.
-fn endpoint_fits(endpoint: Endpoint)
-    ensures { IsEndpoint endpoint }
-{
-    address_fits(endpoint.addr);
-    port_fits(endpoint.port);
-}
 
 /// The flow of a session.
 pub fn flow_of(session: &Session) -> Flow

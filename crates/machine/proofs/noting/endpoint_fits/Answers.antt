@@ -1,6 +1,0 @@
-use Rattle.durable.specs.Coding.{IsEndpoint}
-use Rattle.machine.proofs.noting.endpoint_fits.Goals as goal
-
-pub returns : goal.returns
-unfolding IsEndpoint
-returns c = (c.address_fits.ensures, c.port_fits.ensures)
