@@ -28,7 +28,8 @@ pub fn check_text(alloc: Global, bounds: &Bounds, text: &[u8]) -> Result<(), Dur
 }
 
 fn refusal(kind: Kind) -> DurableFault
-    ensures { result ≡ DurableFault.Damaged → kind ≢ Kind.NoMemory }
+    ensures damaged { result ≡ DurableFault.Damaged → kind ≢ Kind.NoMemory }
+    ensures no_memory { result ≡ DurableFault.NoMemory → kind ≡ Kind.NoMemory }
 {
     match kind {
         Kind::NoMemory => DurableFault::NoMemory,

@@ -5,7 +5,7 @@ ghost use Rattle.packet.specs.Config.{is_config};
 ghost use Rattle.disk_model.specs.Disk.{Leaves, LeavesNow, LeavesOnly, Looks, Called, Grew};
 ghost use Rattle.durable.specs.Coding.{Entry, body_bytes};
 ghost use Rattle.durable.specs.Entering.{Durable, IsDurable, durable};
-ghost use Rattle.durable.specs.Recovery.{Alike, IsConfigured, Recovers};
+ghost use Rattle.durable.specs.Recovery.{Alike, IsConfigured, NoneOpen, Recovers};
 ghost use Rattle.snapshot.specs.Store.{RecoversEither};
 ghost use Rattle.machine.specs.Judged.{Judged, IsJudged, IsNoLoad};
 ghost use Rattle.machine.specs.Noted.{AreEntriesOf, HasEntry, IsRestarted, lasting};
@@ -110,6 +110,10 @@ impl<D: Disk + Drop> Gateway<D> {
             × IsRestarted bounds d moment g.told.state
             × LeavesNow D.moment D.left g.disk (λ files. Recovers files d)) }
         ensures taken { D.honest disk → OnOk result (IsConfigured bounds (D.seen disk)) }
+
+        // Where a file is open neither is written.
+        ensures only_looks { D.honest disk → ¬ NoneOpen (D.seen disk)
+            → IfOk result (λ g. Looks D.moment D.left D.seen disk g.disk) }
         ensures config { IfOk result (λ g. g.told.config ≡ bounds) }
         ensures last { IfOk result (λ g. g.told.last ≡ 0) }
         ensures none { IfOk result (λ g. g.told.held ≡ []) }
@@ -122,6 +126,9 @@ impl<D: Disk + Drop> Gateway<D> {
             ⊎ (e.1 ≡ OpenFault.ConfigDiffers) → Looks D.moment D.left D.seen disk e.0) }
         ensures device { IfErr result (λ e. e.1 ≡ OpenFault.Device
             → Grew (D.failed disk) (D.failed e.0)) }
+        ensures only_device { IfErr result (λ e. e.1 ≢ OpenFault.Device
+            → D.failed e.0 ≡ D.failed disk) }
+        ensures no_failure { IfOk result (λ g. D.failed g.disk ≡ D.failed disk) }
     {
         match Store::open(alloc, disk, &bounds) {
             Ok(
@@ -543,6 +550,8 @@ impl<D: Disk + Drop> Gateway<D> {
             ↔ (self.old.fallen ≡ true)) }
         ensures reopen_stays { self.old.fallen ≡ true → self.new ≡ self.old }
         ensures stood { OnOk result (self.old.fallen ≡ false) }
+        ensures stands { OnOk result (self.new.fallen ≡ false) }
+        ensures no_failure { OnOk result (D.failed self.new.disk ≡ D.failed self.old.disk) }
         ensures causes { IfErr result (λ e. (e.1 ≢ GatewayFault.HeldFull)
             × (e.1 ≢ GatewayFault.Full)) }
         ensures numbers_out { IfErr result (λ e. e.1 ≡ GatewayFault.NumbersOut

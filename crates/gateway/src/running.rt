@@ -45,6 +45,7 @@ pub(crate) fn take_all<D: Disk + Drop>(
     ensures err { IfErr result (StopsWithin D.honest D.moment D.left D.failed gateway.old
         gateway.new events.items answers.new.items) }
     ensures stands { OnOk result (gateway.new.fallen ≡ false) }
+    ensures passed { OnOk result (D.failed gateway.new.disk ≡ D.failed gateway.old.disk) }
 {
     for event in events {
         take(gateway, event, answers)?;
@@ -72,6 +73,8 @@ pub fn take<D: Disk + Drop>(
     ensures err { IfErr result (BreaksOff D.honest D.moment D.left D.failed
         gateway.old gateway.new (event ∷ []) answers.old.items answers.new.items) }
     ensures stands { OnOk result (gateway.new.fallen ≡ false) }
+    ensures not_taken { OnErr result ((gateway.new.told.state ≡ gateway.old.told.state)
+        × (gateway.new.told.last ≡ gateway.old.told.last)) }
     ensures room { vec_len answers.new + length gateway.new.told.held
         ≤ vec_len answers.old + length gateway.old.told.held + 1 }
     ensures capacity { vec_capacity answers.old ≤ vec_capacity answers.new }
@@ -125,6 +128,8 @@ fn take_behind_compaction<D: Disk + Drop>(
     ensures err { IfErr result (BreaksOff D.honest D.moment D.left D.failed
         gateway.old gateway.new (event ∷ []) answers.old.items answers.new.items) }
     ensures stands { OnOk result (gateway.new.fallen ≡ false) }
+    ensures not_taken { OnErr result ((gateway.new.told.state ≡ gateway.old.told.state)
+        × (gateway.new.told.last ≡ gateway.old.told.last)) }
     ensures room { vec_len answers.new + length gateway.new.told.held
         ≤ vec_len answers.old + length gateway.old.told.held + 1 }
     ensures capacity { vec_capacity answers.old ≤ vec_capacity answers.new }
@@ -153,6 +158,8 @@ pub fn compact<D: Disk + Drop>(
     ensures err { IfErr result (BreaksOff D.honest D.moment D.left D.failed
         gateway.old gateway.new [] answers.old.items answers.new.items) }
     ensures stands { OnOk result (gateway.new.fallen ≡ false) }
+    ensures state { gateway.new.told.state ≡ gateway.old.told.state }
+    ensures last { gateway.new.told.last ≡ gateway.old.told.last }
     ensures none { OnOk result (gateway.new.told.held ≡ []) }
     ensures roomy { OnOk result (IsRoomy gateway.new.filled) }
     ensures grown { OnOk result (gateway.new.grown ≡ 0) }
@@ -179,6 +186,8 @@ fn hold_fewer<D: Disk + Drop>(
     ensures err { IfErr result (BreaksOff D.honest D.moment D.left D.failed
         gateway.old gateway.new [] answers.old.items answers.new.items) }
     ensures stands { OnOk result (gateway.new.fallen ≡ false) }
+    ensures state { gateway.new.told.state ≡ gateway.old.told.state }
+    ensures last { gateway.new.told.last ≡ gateway.old.told.last }
     ensures few { OnOk result (length gateway.new.told.held < 64) }
     ensures room { vec_len answers.new + length gateway.new.told.held
         ≡ vec_len answers.old + length gateway.old.told.held }
@@ -206,6 +215,8 @@ pub fn hand_out<D: Disk + Drop>(
     ensures err { IfErr result (BreaksOff D.honest D.moment D.left D.failed
         gateway.old gateway.new [] answers.old.items answers.new.items) }
     ensures stands { OnOk result (gateway.new.fallen ≡ false) }
+    ensures state { gateway.new.told.state ≡ gateway.old.told.state }
+    ensures last { gateway.new.told.last ≡ gateway.old.told.last }
     ensures none { OnOk result (gateway.new.told.held ≡ []) }
     ensures items { OnOk result (answers.new.items ≡ answers.old.items ++ gateway.old.told.held) }
     ensures no_items { OnErr result (answers.new.items ≡ answers.old.items) }

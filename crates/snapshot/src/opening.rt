@@ -54,6 +54,8 @@ fn contents<D: Disk>(alloc: Global, disk: &mut D, file: FileId) -> Result<Vec<u8
     ensures looks { D.honest disk.old → Looks D.moment D.left D.seen disk.old disk.new }
     ensures failures { D.failed disk.old ≤ D.failed disk.new }
     ensures no_failure { OnOk result (D.failed disk.new ≡ D.failed disk.old) }
+    ensures only_device { ¬ IsErrOf result OpenFault.Device
+        → D.failed disk.new ≡ D.failed disk.old }
     ensures device { IsErrOf result OpenFault.Device
         → Grew (D.failed disk.old) (D.failed disk.new) }
     ensures damaged { IsErrOf result OpenFault.Damaged → ⊥ }
@@ -77,6 +79,8 @@ fn look<D: Disk>(alloc: Global, disk: &mut D) -> Result<(Vec<u8>, Vec<u8>), Open
         → Looks D.moment D.left D.seen disk.old disk.new }
     ensures failures { D.failed disk.old ≤ D.failed disk.new }
     ensures no_failure { OnOk result (D.failed disk.new ≡ D.failed disk.old) }
+    ensures only_device { ¬ IsErrOf result OpenFault.Device
+        → D.failed disk.new ≡ D.failed disk.old }
     ensures device { IsErrOf result OpenFault.Device
         → Grew (D.failed disk.old) (D.failed disk.new) }
     ensures damaged { IsErrOf result OpenFault.Damaged → ⊥ }
@@ -153,6 +157,8 @@ fn begin<D: Disk>(alloc: Global, disk: &mut D, bounds: &Bounds) -> Result<Ready,
     ensures stays { ¬ IsErrOf result OpenFault.Device → OnErr result (disk.new ≡ disk.old) }
     ensures failures { D.failed disk.old ≤ D.failed disk.new }
     ensures no_failure { OnOk result (D.failed disk.new ≡ D.failed disk.old) }
+    ensures only_device { ¬ IsErrOf result OpenFault.Device
+        → D.failed disk.new ≡ D.failed disk.old }
     ensures device { IsErrOf result OpenFault.Device
         → Grew (D.failed disk.old) (D.failed disk.new) }
     ensures damaged { IsErrOf result OpenFault.Damaged → ⊥ }
@@ -215,6 +221,8 @@ pub(crate) fn make_ready<D: Disk>(
         → OnErr result (Looks D.moment D.left D.seen disk.old disk.new) }
     ensures failures { D.failed disk.old ≤ D.failed disk.new }
     ensures no_failure { OnOk result (D.failed disk.new ≡ D.failed disk.old) }
+    ensures only_device { ¬ IsErrOf result OpenFault.Device
+        → D.failed disk.new ≡ D.failed disk.old }
     ensures device { IsErrOf result OpenFault.Device
         → Grew (D.failed disk.old) (D.failed disk.new) }
 {

@@ -128,6 +128,8 @@ impl<D: Disk + Drop> Store<D> {
             → Looks D.moment D.left D.seen disk e.0) }
         ensures failures { MatchResult result (λ o. D.failed o.store.disk ≡ D.failed disk)
             (λ e. D.failed disk ≤ D.failed e.0) }
+        ensures only_device { IfErr result (λ e. ¬ (e.1 ≡ OpenFault.Device)
+            → D.failed e.0 ≡ D.failed disk) }
         ensures device { IfErr result (λ e. e.1 ≡ OpenFault.Device
             → Grew (D.failed disk) (D.failed e.0)) }
     {

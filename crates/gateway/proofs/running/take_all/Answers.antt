@@ -58,3 +58,8 @@ returns-clause-err g c =
       stops = off.3;
     })
     c.hand_out.ensures.err
+
+pub returns-clause-passed : goal.returns-clause-passed
+returns-clause-passed g c =
+    let i = c.loop-event.invariant in
+    on_ok_weaker c.hand_out.result (λ ok. (ok c.args.gateway.now c.loop-event.yielded i.stands).passed) c.hand_out.ensures.ok
