@@ -1,5 +1,5 @@
 //! Two frames that are cut at each byte, and headers with one byte set to each value.
-use crate::shared::{Stream, TICK, TICKED, answered, four_requests, run_over};
+use crate::shared::{Stream, TICK, TICKED, answered, comes_to, four_requests};
 use socket_edge::EdgeFault;
 use std::alloc::Global;
 use std::process::Abort;
@@ -18,74 +18,72 @@ fn end_of(cut: usize) -> Result<u64, EdgeFault> {
     }
 }
 
-// The frames that came whole are answered.
-fn cut_at(alloc: Global, stream: &Stream, cut: usize) -> Result<bool, Fail> {
-    let given = stream.requests.get(..cut).ok_or("a longer stream")?;
-    let (ended, written) = run_over(alloc, given)?;
+// Whether the frames that came whole are answered.
+fn is_cut_at(alloc: Global, stream: &Stream, cut: usize) -> bool {
+    let given = stream.requests.get(..cut);
     let frames = stream.answers.get(..answered(cut));
-    Ok(ended == end_of(cut) && frames == Some(written.as_slice()))
+    match (given, frames) {
+        (Some(given), Some(frames)) => comes_to(alloc, given, end_of(cut), frames),
+        _ => false,
+    }
 }
 
-fn cut_at_each(rt: &impl Abort, alloc: Global, stream: &Stream) -> Result<(), Fail> {
+fn cut_at_each(rt: &impl Abort, alloc: Global, stream: &Stream) {
     for cut in 0..=TWO {
-        assert!(rt; cut_at(alloc, stream, cut)?, "{cut} bytes");
+        assert!(rt; is_cut_at(alloc, stream, cut), "{cut} bytes");
     }
-    Ok(())
 }
 
 #[test]
 fn each_cut(rt: HostRuntime) -> Result<(), Fail> {
     let stream = four_requests(rt.alloc())?;
-    cut_at_each(&rt, rt.alloc(), &stream)
-}
-
-// What is written of a moment whose header has this byte, and how it ends. As a packet it would have no bytes, which is
-// dropped with the number 1; as a load it has none either, and that text loads.
-fn end_of_byte(at: usize, byte: u8) -> Result<&'static [u8], EdgeFault> {
-    match (at, byte) {
-        (0, 1) => Ok(&[2, 0, 0, 0, 0, 0, 0, 0, 1, 0, 0, 0, 1, 1]),
-        (0, 2) => Ok(&[3, 0, 0, 0, 0, 0, 0, 0, 1, 0, 0, 0, 0]),
-        (0, 3) | (1..6, 0) | (6.., _) => Ok(&TICKED),
-        (0, _) => Err(EdgeFault::BadKind),
-        (1, _) => Err(EdgeFault::BadInterface),
-        _ => Err(EdgeFault::TooLong),
-    }
-}
-
-fn is_end_of_byte(at: usize, byte: u8, ended: Result<u64, EdgeFault>, written: &[u8]) -> bool {
-    match end_of_byte(at, byte) {
-        Ok(frames) => ended == Ok(1) && written == frames,
-        Err(fault) => ended == Err(fault) && written.is_empty(),
-    }
-}
-
-fn is_told(alloc: Global, at: usize, byte: u8) -> Result<bool, Fail> {
-    let mut frame = TICK;
-    if at >= frame.len() {
-        return Ok(false);
-    }
-    frame[at] = byte;
-    let (ended, written) = run_over(alloc, &frame)?;
-    Ok(is_end_of_byte(at, byte, ended, written.as_slice()))
-}
-
-#[test]
-fn each_byte_of_the_header(rt: HostRuntime) -> Result<(), Fail> {
-    for at in 0..TICK.len() {
-        for byte in 0..=255u8 {
-            assert!(rt; is_told(rt.alloc(), at, byte)?, "byte {at}: {byte}");
-        }
-    }
+    cut_at_each(&rt, rt.alloc(), &stream);
     Ok(())
 }
 
-// How a header alone ends, of this kind and with this length of a body.
-fn end_of_length(alloc: Global, kind: u8, length: u32) -> Result<Result<u64, EdgeFault>, Fail> {
+// How a moment ends whose header has this byte, and what is written of it. As a packet it would have no bytes, which is
+// dropped with the number 1; as a load it has none either, and that text loads.
+fn end_of_byte(at: usize, byte: u8) -> (Result<u64, EdgeFault>, &'static [u8]) {
+    match (at, byte) {
+        (0, 1) => (Ok(1), &[2, 0, 0, 0, 0, 0, 0, 0, 1, 0, 0, 0, 1, 1]),
+        (0, 2) => (Ok(1), &[3, 0, 0, 0, 0, 0, 0, 0, 1, 0, 0, 0, 0]),
+        (0, 3) | (1..6, 0) | (6.., _) => (Ok(1), &TICKED),
+        (0, _) => (Err(EdgeFault::BadKind), &[]),
+        (1, _) => (Err(EdgeFault::BadInterface), &[]),
+        _ => (Err(EdgeFault::TooLong), &[]),
+    }
+}
+
+fn is_told(alloc: Global, at: usize, byte: u8) -> bool {
+    let mut frame = TICK;
+    if at >= frame.len() {
+        return false;
+    }
+    frame[at] = byte;
+    let (end, answers) = end_of_byte(at, byte);
+    comes_to(alloc, &frame, end, answers)
+}
+
+fn assert_told(rt: &impl Abort, alloc: Global, at: usize) {
+    for byte in 0..=255u8 {
+        assert!(rt; is_told(alloc, at, byte), "byte {at}: {byte}");
+    }
+}
+
+#[test]
+fn each_byte_of_the_header(rt: HostRuntime) {
+    for at in 0..TICK.len() {
+        assert_told(&rt, rt.alloc(), at);
+    }
+}
+
+// Whether a header alone ends so, of this kind and with this length of a body, and nothing is written.
+fn is_cut_short(alloc: Global, kind: u8, length: u32, fault: EdgeFault) -> bool {
     let [first, second, third, fourth] = length.to_be_bytes();
     let header = [
         kind, 0, first, second, third, fourth, 0, 0, 0, 0, 0, 0, 3, 0xe8,
     ];
-    Ok(run_over(alloc, &header)?.0)
+    comes_to(alloc, &header, Err(fault), &[])
 }
 
 // Up to its limit a body is waited for.
@@ -99,10 +97,8 @@ const LENGTHS: [(u8, u32, EdgeFault); 6] = [
 ];
 
 #[test]
-fn lengths_at_and_past_the_limits(rt: HostRuntime) -> Result<(), Fail> {
+fn lengths_at_and_past_the_limits(rt: HostRuntime) {
     for (kind, length, fault) in &LENGTHS {
-        let ended = end_of_length(rt.alloc(), *kind, *length)?;
-        assert!(rt; ended == Err(*fault));
+        assert!(rt; is_cut_short(rt.alloc(), *kind, *length, *fault));
     }
-    Ok(())
 }

@@ -119,28 +119,35 @@ fn is_sent(
     Ok(is_whole && is_in_parts && is_got)
 }
 
-/// All frames have come in one call, or in this many.
-fn assert_calls(rt: &impl Abort, writer: &Taker, calls: usize) {
-    assert!(rt; writer.got.as_slice() == &FRAMES[..]);
-    assert!(rt; writer.calls == 1 || writer.calls == calls);
+/// Whether all frames have come in one call, or in this many.
+fn is_whole_in(writer: &Taker, calls: usize) -> bool {
+    writer.got.as_slice() == &FRAMES[..] && (writer.calls == 1 || writer.calls == calls)
+}
+
+/// Whether all is sent, in one call or in this many.
+fn is_sent_in(alloc: Global, writer: &mut Taker, answers: &[(u64, Answer)], calls: usize) -> bool {
+    send_whole(alloc, writer, answers) == Ok(()) && is_whole_in(writer, calls)
+}
+
+/// Whether no call is made where there is no answer.
+fn is_quiet(alloc: Global, writer: &mut Taker) -> bool {
+    send_whole(alloc, writer, &[]) == Ok(()) && writer.calls == 0
 }
 
 #[test]
 fn one_call_is_enough(rt: HostRuntime) -> Result<(), Fail> {
     let answers = answers(rt.alloc())?;
     let mut writer = taking(rt.alloc(), usize::MAX, usize::MAX, End::Fails)?;
-    let sent = send_whole(rt.alloc(), &mut writer, answers.as_slice());
+    let is_sent = is_sent_in(rt.alloc(), &mut writer, answers.as_slice(), 1);
     drop(answers);
-    assert!(rt; sent == Ok(()));
-    assert_calls(&rt, &writer, 1);
+    assert!(rt; is_sent);
     Ok(())
 }
 
 #[test]
 fn no_answer_is_no_call(rt: HostRuntime) -> Result<(), Fail> {
     let mut writer = taking(rt.alloc(), usize::MAX, 0, End::Fails)?;
-    assert!(rt; send_whole(rt.alloc(), &mut writer, &[]) == Ok(()));
-    assert_eq!(rt; writer.calls, 0);
+    assert!(rt; is_quiet(rt.alloc(), &mut writer));
     Ok(())
 }
 
@@ -189,10 +196,9 @@ fn refused_memory(rt: HostRuntime) -> Result<(), Fail> {
     let Ok(mut writer) = taking(rt.alloc(), usize::MAX, usize::MAX, End::Fails) else {
         return Ok(());
     };
-    let sent = send_whole(rt.alloc(), &mut writer, answers.as_slice());
-    drop(answers);
-    assert!(rt; sent == Ok(()));
     // A head for each of six answers, two parts of each of two bodies, and one of one.
-    assert_calls(&rt, &writer, 11);
+    let is_sent = is_sent_in(rt.alloc(), &mut writer, answers.as_slice(), 11);
+    drop(answers);
+    assert!(rt; is_sent);
     Ok(())
 }

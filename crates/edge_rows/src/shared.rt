@@ -1,19 +1,17 @@
 //! Streams that several tests begin with, and gateways over a disk in memory.
-use gateway::Gateway;
+use gateway::{Gateway, GatewayFault};
 use packet::bounds::Bounds;
 use packet::endpoint::Prefix;
 use socket_edge::EdgeFault;
-use std::alloc::Global;
+use std::alloc::{AllocError, AllocFailed, Global};
 use std::io::{Read, Write};
 use std::test::Fail;
 use trial_disk::Trial;
 
-/// A moment of 1000, and what answers it as the first event and as the second.
+/// A moment of 1000, and what answers it as the first event.
 pub const TICK: [u8; 14] = [3, 0, 0, 0, 0, 0, 0, 0, 0, 0, 0, 0, 3, 0xe8];
 
 pub const TICKED: [u8; 13] = [5, 0, 0, 0, 0, 0, 0, 0, 1, 0, 0, 0, 0];
-
-pub const TICKED_AGAIN: [u8; 13] = [5, 0, 0, 0, 0, 0, 0, 0, 2, 0, 0, 0, 0];
 
 /// A packet of UDP from 192.168.1.2:5000 to 198.51.100.7:53, from lan.
 pub const PACKET: [u8; 42] = [
@@ -63,11 +61,19 @@ pub struct Stream {
 ///
 /// A `Fail` where memory is refused.
 pub fn four_requests(alloc: Global) -> Result<Stream, Fail> {
-    let answers = hex(alloc, ANSWERS)?;
-    let mut requests = hex(alloc, LOAD_HEAD)?;
-    requests.extend_from_slice(MASQUERADE.as_bytes())?;
-    put_hex(&mut requests, LATER)?;
-    Ok(Stream { requests, answers })
+    let mut stream = Stream {
+        requests: Vec::new(alloc),
+        answers: Vec::new(alloc),
+    };
+    fill(&mut stream)?;
+    Ok(stream)
+}
+
+fn fill(stream: &mut Stream) -> Result<(), Fail> {
+    put_hex(&mut stream.requests, LOAD_HEAD)?;
+    stream.requests.extend_from_slice(MASQUERADE.as_bytes())?;
+    put_hex(&mut stream.requests, LATER)?;
+    put_hex(&mut stream.answers, ANSWERS)
 }
 
 /// How many bytes the answers have to the requests that lie whole in so many bytes of the stream.
@@ -81,19 +87,33 @@ pub fn answered(given: usize) -> usize {
     }
 }
 
-fn digit(byte: u8) -> Result<u8, Fail> {
+fn digit(byte: u8) -> Option<u8> {
     match byte {
-        b'0'..=b'9' => Ok(byte - b'0'),
-        b'a'..=b'f' => Ok(byte - b'a' + 10),
-        _ => Err(Fail::new("not a hexadecimal digit")),
+        b'0'..=b'9' => Some(byte - b'0'),
+        b'a'..=b'f' => Some(byte - b'a' + 10),
+        _ => None,
+    }
+}
+
+fn byte_of(pair: &[u8]) -> Option<u8> {
+    match pair {
+        [high, low] => Some(digit(*high)? << 4 | digit(*low)?),
+        _ => None,
     }
 }
 
 fn put_pair(out: &mut Vec<u8>, pair: &[u8]) -> Result<(), Fail> {
-    match pair {
-        [high, low] => Ok(out.push(digit(*high)? << 4 | digit(*low)?)?),
-        _ => Err(Fail::new("an odd digit")),
+    match byte_of(pair) {
+        Some(byte) => Ok(out.push(byte)?),
+        None => Err(Fail::new("not two hexadecimal digits")),
     }
+}
+
+fn put_word(out: &mut Vec<u8>, word: &[u8]) -> Result<(), Fail> {
+    for pair in word.chunks(2) {
+        put_pair(out, pair)?;
+    }
+    Ok(())
 }
 
 /// Puts the bytes that a text has in hexadecimal, with spaces for the eye.
@@ -103,9 +123,7 @@ fn put_pair(out: &mut Vec<u8>, pair: &[u8]) -> Result<(), Fail> {
 /// A `Fail` where the text has something else, or memory is refused.
 pub fn put_hex(out: &mut Vec<u8>, text: &str) -> Result<(), Fail> {
     for word in text.split_whitespace() {
-        for pair in word.as_bytes().chunks(2) {
-            put_pair(out, pair)?;
-        }
+        put_word(out, word.as_bytes())?;
     }
     Ok(())
 }
@@ -119,6 +137,40 @@ pub fn hex(alloc: Global, text: &str) -> Result<Vec<u8>, Fail> {
     let mut out = Vec::new(alloc);
     put_hex(&mut out, text)?;
     Ok(out)
+}
+
+/// These bytes, one part behind the other.
+///
+/// # Errors
+///
+/// `AllocError` where memory is refused.
+pub fn joined(alloc: Global, parts: &[&[u8]]) -> Result<Vec<u8>, AllocError> {
+    let mut frame = Vec::new(alloc);
+    for part in parts {
+        frame.extend_from_slice(part)?;
+    }
+    Ok(frame)
+}
+
+/// A request's frame.
+///
+/// # Errors
+///
+/// `AllocError` where memory is refused.
+pub fn request(
+    alloc: Global,
+    kind: u8,
+    iface: u8,
+    moment: u64,
+    body: &[u8],
+) -> Result<Vec<u8>, AllocError> {
+    let moment = moment.to_be_bytes();
+    joined(alloc, &[&[kind, iface], &length_of(body), &moment, body])
+}
+
+/// The length of a body, as the head of its frame has it.
+pub fn length_of(body: &[u8]) -> [u8; 4] {
+    u32::try_from(body.len()).unwrap_or(u32::MAX).to_be_bytes()
 }
 
 /// Inside 192.168.0.0/16, outside 203.0.113.1; none where memory is refused.
@@ -137,8 +189,31 @@ fn bounds(alloc: Global) -> Option<Bounds> {
 pub type Trials = Box<Gateway<Trial>>;
 
 fn open(alloc: Global, disk: Trial) -> Option<Trials> {
-    let gateway = Gateway::open(alloc, disk, bounds(alloc)?, 0).ok()?;
-    Box::new(alloc, gateway).ok()
+    let bounds = bounds(alloc)?;
+    match Gateway::open(alloc, disk, bounds, 0) {
+        Ok(gateway) => boxed(alloc, gateway),
+        Err(_) => None,
+    }
+}
+
+fn boxed(alloc: Global, gateway: Gateway<Trial>) -> Option<Trials> {
+    match Box::new(alloc, gateway) {
+        Ok(gateway) => Some(gateway),
+        Err(AllocFailed { value }) => {
+            drop(value.into_disk());
+            None
+        }
+    }
+}
+
+// What is left of a gateway. The rest is let go by its own crate.
+fn disk_of(gateway: Trials) -> Trial {
+    Box::into_inner(gateway).into_disk()
+}
+
+/// Lets a gateway go.
+pub fn close(gateway: Trials) {
+    drop(disk_of(gateway));
 }
 
 /// A gateway over empty files; none where memory is refused.
@@ -165,9 +240,9 @@ pub fn opened(alloc: Global) -> Result<Trials, Fail> {
 ///
 /// A `Fail` where memory is refused.
 pub fn troubled(alloc: Global, call: u64) -> Result<Trials, Fail> {
-    let disk = Box::into_inner(opened(alloc)?).into_disk();
+    let disk = disk_of(opened(alloc)?);
     let made = disk.calls();
-    let mut disk = Box::into_inner(reopened(alloc, disk)?).into_disk();
+    let mut disk = disk_of(reopened(alloc, disk)?);
     let opening = disk.calls().saturating_sub(made);
     disk.fail_once(call.saturating_add(opening));
     reopened(alloc, disk)
@@ -187,16 +262,34 @@ pub fn run<R: Read, W: Write>(
     socket_edge::run(alloc, reader, writer, gateway)
 }
 
-/// How a run over a stream ends at a gateway over empty files, and what it writes.
+/// The run at a gateway over empty files.
 ///
 /// # Errors
 ///
-/// A `Fail` where memory is refused.
-pub fn run_over(alloc: Global, stream: &[u8]) -> Result<(Result<u64, EdgeFault>, Vec<u8>), Fail> {
-    let mut gateway = opened(alloc)?;
+/// Those of the run, and `NoMemory` where there is no memory for a gateway.
+pub fn run_anew<R: Read, W: Write>(
+    alloc: Global,
+    reader: &mut R,
+    writer: &mut W,
+) -> Result<u64, EdgeFault> {
+    let Some(mut gateway) = gateway(alloc) else {
+        return Err(EdgeFault::Gateway(GatewayFault::NoMemory));
+    };
+    let ended = run(alloc, reader, writer, &mut gateway);
+    close(gateway);
+    ended
+}
+
+/// How a run over a stream ends at a gateway over empty files, and what it writes.
+pub fn run_over(alloc: Global, stream: &[u8]) -> (Result<u64, EdgeFault>, Vec<u8>) {
     let mut reader = stream;
     let mut written = Vec::new(alloc);
-    let ended = run(alloc, &mut reader, &mut written, &mut gateway);
-    drop(gateway);
-    Ok((ended, written))
+    let ended = run_anew(alloc, &mut reader, &mut written);
+    (ended, written)
+}
+
+/// Whether a run over a stream ends so at a gateway over empty files, and writes this.
+pub fn comes_to(alloc: Global, stream: &[u8], end: Result<u64, EdgeFault>, answers: &[u8]) -> bool {
+    let (ended, written) = run_over(alloc, stream);
+    ended == end && written.as_slice() == answers
 }

@@ -1,6 +1,8 @@
 //! What was asked is answered before more is read, and a file that has grown is made anew.
-use crate::shared::{Stream, Trials, answered, four_requests, hex, opened, put_hex, run};
-use std::alloc::Global;
+use crate::shared::{
+    Stream, Trials, answered, close, four_requests, opened, request, run, run_anew,
+};
+use std::alloc::{AllocError, Global};
 use std::cell::Cell;
 use std::io::{self, Read, Write};
 use std::process::Abort;
@@ -49,9 +51,8 @@ impl Write for Hears<'_> {
     }
 }
 
-// The peer asks in pieces of these sizes.
-fn ask(alloc: Global, stream: &Stream, sizes: &[usize]) -> Result<(), Fail> {
-    let mut gateway = opened(alloc)?;
+// Whether all is answered to a peer that asks in pieces of these sizes.
+fn is_answered(alloc: Global, stream: &Stream, sizes: &[usize]) -> bool {
     let got = Cell::new(0);
     let mut reader = Asks {
         left: stream.requests.as_slice(),
@@ -63,41 +64,43 @@ fn ask(alloc: Global, stream: &Stream, sizes: &[usize]) -> Result<(), Fail> {
         written: Vec::new(alloc),
         got: &got,
     };
-    let ended = run(alloc, &mut reader, &mut writer, &mut gateway);
-    drop(gateway);
-    if ended != Ok(4) || writer.written.as_slice() != stream.answers.as_slice() {
-        return Err(Fail::new(format_args!("{ended:?}")));
-    }
-    Ok(())
+    let ended = run_anew(alloc, &mut reader, &mut writer);
+    ended == Ok(4) && writer.written.as_slice() == stream.answers.as_slice()
 }
 
 // A request each; two at once; one in parts.
 const PIECES: [&[usize]; 3] = [&[115, 42, 14, 42], &[157, 56], &[1, 13, 101, 41, 1, 57]];
 
-fn ask_in_each(alloc: Global, stream: &Stream) -> Result<(), Fail> {
+fn ask_in_each(rt: &impl Abort, alloc: Global, stream: &Stream) {
     for sizes in &PIECES {
-        ask(alloc, stream, *sizes)?;
+        assert!(rt;
+            is_answered(alloc, stream, *sizes),
+            "{} pieces",
+            sizes.len()
+        );
     }
-    Ok(())
 }
 
 #[test]
 fn answers_before_it_reads_on(rt: HostRuntime) -> Result<(), Fail> {
     let stream = four_requests(rt.alloc())?;
-    ask_in_each(rt.alloc(), &stream)
+    ask_in_each(&rt, rt.alloc(), &stream);
+    Ok(())
 }
 
 // A load of so many spaces.
-fn load(alloc: Global, spaces: u32) -> Result<Vec<u8>, Fail> {
-    let mut frame = hex(alloc, "02 00")?;
-    frame.extend_from_slice(&spaces.to_be_bytes())?;
-    put_hex(&mut frame, "00000000000003e8")?;
-    frame.extend_from_slice(vec![in alloc; b' '; spaces as usize]?.as_slice())?;
-    Ok(frame)
+fn load(alloc: Global, spaces: u32) -> Result<Vec<u8>, AllocError> {
+    let text = vec![in alloc; b' '; spaces as usize]?;
+    request(alloc, 2, 0, 1000, text.as_slice())
 }
 
 // Whether such a load is answered, and leaves a file that has grown so far.
-fn is_grown(alloc: Global, gateway: &mut Trials, spaces: u32, grown: u64) -> Result<bool, Fail> {
+fn is_grown(
+    alloc: Global,
+    gateway: &mut Trials,
+    spaces: u32,
+    grown: u64,
+) -> Result<bool, AllocError> {
     let frame = load(alloc, spaces)?;
     let mut reader = frame.as_slice();
     let mut written = Vec::new(alloc);
@@ -126,5 +129,7 @@ fn grow(rt: &impl Abort, alloc: Global, gateway: &mut Trials) -> Result<(), Fail
 #[test]
 fn compacts_above_a_mebibyte(rt: HostRuntime) -> Result<(), Fail> {
     let mut gateway = opened(rt.alloc())?;
-    grow(&rt, rt.alloc(), &mut gateway)
+    let grown = grow(&rt, rt.alloc(), &mut gateway);
+    close(gateway);
+    grown
 }

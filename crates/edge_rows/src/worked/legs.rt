@@ -1,6 +1,7 @@
 //! Packets that come in, and packets from inside to the external address.
-use crate::worked::script::play_each;
+use crate::worked::script::{play, play_behind, play_each};
 use crate::worked::shared::{FIRST, MASQUERADE};
+use std::alloc::Global;
 use std::test::Fail;
 
 const UNMAPPED: &str = "\
@@ -233,46 +234,71 @@ wan 1243 4500002800010000 40067cc4 c0000209 cb007101 0fa09c42 00000001 00000000 
 = drop 13
 :";
 
-static LEGS: [&[&str]; 10] = [
-    &[MASQUERADE, FIRST, UNMAPPED],
-    &[MASQUERADE, FIRST, STRANGER_TO_INSIDE],
-    &[MASQUERADE, FIRST, PEER_TO_INSIDE],
-    &[MASQUERADE, FIRST, SPOOFED],
-    &[MASQUERADE, FIRST, STRANGER],
-    &[MASQUERADE, FIRST, HAIRPIN],
-    &[MASQUERADE, FIRST, SELF],
+static BEHIND_FIRST: [&[&str]; 7] = [
+    &[UNMAPPED],
+    &[STRANGER_TO_INSIDE],
+    &[PEER_TO_INSIDE],
+    &[SPOOFED],
+    &[STRANGER],
+    &[HAIRPIN],
+    &[SELF],
+];
+
+static LEGS: [&[&str]; 3] = [
     &[MASQUERADE_AND_FILTER, FIRST, STRANGER_FILTERED],
     &[MASQUERADE_AND_DNAT, DNAT],
     &[MASQUERADE_AND_DNAT, DNAT_TAKEN],
 ];
 
-#[test]
-fn legs(rt: HostRuntime) -> Result<(), Fail> {
-    play_each(rt.alloc(), &LEGS)
+fn play_behind_first(alloc: Global) -> Result<(), Fail> {
+    play_behind(alloc, &[MASQUERADE, FIRST], &BEHIND_FIRST)
 }
 
-static OVER_TIME: [&[&str]; 7] = [
-    &[MASQUERADE, BOTH_WAYS, BOTH_END],
-    &[MASQUERADE, BOTH_WAYS, BOTH_REFRESHED],
-    &[MASQUERADE, BOTH_WAYS, BOTH_TOO_LATE],
-    &[MASQUERADE, UNANSWERED],
-    &[MASQUERADE, TCP_BOTH_WAYS, TCP_ENDS],
-    &[MASQUERADE, TCP_BOTH_WAYS, TCP_CLOSES],
-    &[MASQUERADE, TCP_BOTH_WAYS, TCP_RESET],
-];
+fn play_others(alloc: Global) -> Result<(), Fail> {
+    play_each(alloc, &LEGS)
+}
+
+#[test]
+fn legs(rt: HostRuntime) -> Result<(), Fail> {
+    play_behind_first(rt.alloc())?;
+    play_others(rt.alloc())
+}
+
+static BEHIND_BOTH_WAYS: [&[&str]; 3] = [&[BOTH_END], &[BOTH_REFRESHED], &[BOTH_TOO_LATE]];
+
+static BEHIND_TCP: [&[&str]; 3] = [&[TCP_ENDS], &[TCP_CLOSES], &[TCP_RESET]];
+
+fn play_both_ways(alloc: Global) -> Result<(), Fail> {
+    play_behind(alloc, &[MASQUERADE, BOTH_WAYS], &BEHIND_BOTH_WAYS)
+}
+
+fn play_tcp(alloc: Global) -> Result<(), Fail> {
+    play_behind(alloc, &[MASQUERADE, TCP_BOTH_WAYS], &BEHIND_TCP)
+}
+
+fn play_unanswered(alloc: Global) -> Result<(), Fail> {
+    play(alloc, &[MASQUERADE, UNANSWERED])
+}
 
 #[test]
 fn hairpins_over_time(rt: HostRuntime) -> Result<(), Fail> {
-    play_each(rt.alloc(), &OVER_TIME)
+    play_both_ways(rt.alloc())?;
+    play_tcp(rt.alloc())?;
+    play_unanswered(rt.alloc())
 }
 
-static ALL_REMOTES: [&[&str]; 3] = [
-    &[MASQUERADE, ONE_PORT, ONE_PORT_STAYS],
-    &[MASQUERADE, ONE_PORT, ONE_PORT_ENDS],
-    &[MASQUERADE, ONE_PORT_TCP],
-];
+static BEHIND_ONE_PORT: [&[&str]; 2] = [&[ONE_PORT_STAYS], &[ONE_PORT_ENDS]];
+
+fn play_one_port(alloc: Global) -> Result<(), Fail> {
+    play_behind(alloc, &[MASQUERADE, ONE_PORT], &BEHIND_ONE_PORT)
+}
+
+fn play_one_port_of_tcp(alloc: Global) -> Result<(), Fail> {
+    play(alloc, &[MASQUERADE, ONE_PORT_TCP])
+}
 
 #[test]
 fn one_port_for_all_remotes(rt: HostRuntime) -> Result<(), Fail> {
-    play_each(rt.alloc(), &ALL_REMOTES)
+    play_one_port(rt.alloc())?;
+    play_one_port_of_tcp(rt.alloc())
 }

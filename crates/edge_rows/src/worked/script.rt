@@ -8,12 +8,14 @@
 //!   `= refused`; `= ticked`;
 //! - `: udp 192.168.1.2:5000 203.0.113.1:5000 198.51.100.7:53 - inside 0 at 1000`: the sessions, joined
 //!   by commas: inside, outside, remote, phase, opener, the bits seen, the moment of the last packet.
-use crate::shared::{Trials, hex, opened, put_hex, run, run_over};
+use crate::shared::{
+    Trials, close, hex, joined, length_of, opened, put_hex, request, run, run_over,
+};
 use gateway::Session;
 use packet::endpoint::{Endpoint, Proto};
 use sessions::{Opener, Phase};
 use socket_edge::EdgeFault;
-use std::alloc::Global;
+use std::alloc::{AllocError, Global};
 use std::net::Ipv4Addr;
 use std::test::Fail;
 
@@ -32,37 +34,27 @@ fn put_byte(alloc: Global, text: &mut String, byte: u8) -> Result<(), Fail> {
     Ok(())
 }
 
-fn joined(alloc: Global, parts: &[&[u8]]) -> Result<Vec<u8>, Fail> {
-    let mut frame = Vec::new(alloc);
-    for part in parts {
-        frame.extend_from_slice(part)?;
-    }
-    Ok(frame)
-}
-
-/// A request's frame.
-fn request(alloc: Global, kind: u8, iface: u8, moment: u64, body: &[u8]) -> Result<Vec<u8>, Fail> {
-    let length = u32::try_from(body.len())?.to_be_bytes();
-    let moment = moment.to_be_bytes();
-    joined(alloc, &[&[kind, iface], &length, &moment, body])
-}
-
 fn packet(alloc: Global, iface: u8, moment: u64, text: &str) -> Result<Vec<u8>, Fail> {
     let body = hex(alloc, text)?;
-    request(alloc, 1, iface, moment, body.as_slice())
+    Ok(request(alloc, 1, iface, moment, body.as_slice())?)
+}
+
+fn plain(alloc: Global, kind: u8, moment: u64, text: &str) -> Result<Vec<u8>, Fail> {
+    Ok(request(alloc, kind, 0, moment, text.as_bytes())?)
 }
 
 /// An answer's frame.
-fn answer(alloc: Global, kind: u8, number: u64, body: &[u8]) -> Result<Vec<u8>, Fail> {
-    let length = u32::try_from(body.len())?.to_be_bytes();
-    let number = number.to_be_bytes();
-    joined(alloc, &[&[kind], &number, &length, body])
+fn answer(alloc: Global, kind: u8, number: u64, body: &[u8]) -> Result<Vec<u8>, AllocError> {
+    joined(
+        alloc,
+        &[&[kind], &number.to_be_bytes(), &length_of(body), body],
+    )
 }
 
 fn forward(alloc: Global, number: u64, iface: u8, packet: &str) -> Result<Vec<u8>, Fail> {
     let mut body = vec![in alloc; iface]?;
     put_hex(&mut body, packet)?;
-    answer(alloc, 1, number, body.as_slice())
+    Ok(answer(alloc, 1, number, body.as_slice())?)
 }
 
 /// The frame that a line behind `=` stands for.
@@ -71,12 +63,24 @@ fn expected(alloc: Global, number: u64, line: &str) -> Result<Vec<u8>, Fail> {
     match word {
         "lan" => forward(alloc, number, 0, rest),
         "wan" => forward(alloc, number, 1, rest),
-        "drop" => answer(alloc, 2, number, &[rest.parse::<u8>()?]),
-        "loaded" => answer(alloc, 3, number, &[]),
-        "refused" => answer(alloc, 4, number, &[]),
-        "ticked" => answer(alloc, 5, number, &[]),
-        _ => Err(Fail::new(format_args!("no answer: {line}"))),
+        "drop" => dropped(alloc, number, rest),
+        _ => without_body(alloc, number, line),
     }
+}
+
+fn dropped(alloc: Global, number: u64, cause: &str) -> Result<Vec<u8>, Fail> {
+    let cause = cause.parse::<u8>()?;
+    Ok(answer(alloc, 2, number, &[cause])?)
+}
+
+fn without_body(alloc: Global, number: u64, line: &str) -> Result<Vec<u8>, Fail> {
+    let kind = match line {
+        "loaded" => 3,
+        "refused" => 4,
+        "ticked" => 5,
+        _ => return Err(Fail::new(format_args!("no answer: {line}"))),
+    };
+    Ok(answer(alloc, kind, number, &[])?)
 }
 
 /// The frame of an event's line: its first word, and what stands behind it.
@@ -86,8 +90,8 @@ fn asked(alloc: Global, word: &str, rest: &str) -> Result<Vec<u8>, Fail> {
     match word {
         "lan" => packet(alloc, 0, moment, body),
         "wan" => packet(alloc, 1, moment, body),
-        "load" => request(alloc, 2, 0, moment, body.as_bytes()),
-        "at" => request(alloc, 3, 0, moment, &[]),
+        "load" => plain(alloc, 2, moment, body),
+        "at" => plain(alloc, 3, moment, ""),
         _ => Err(Fail::new(format_args!("no event: {word} {rest}"))),
     }
 }
@@ -115,37 +119,38 @@ fn opener(session: &Session) -> &'static str {
     }
 }
 
-fn endpoint(alloc: Global, endpoint: Endpoint) -> Result<String, Fail> {
+fn endpoint(alloc: Global, endpoint: Endpoint) -> Result<String, AllocError> {
     let addr = Ipv4Addr::from_bits(endpoint.addr);
-    Ok(format!(in alloc; "{addr}:{}", endpoint.port)?)
+    format!(in alloc; "{addr}:{}", endpoint.port)
 }
 
-fn endpoints(alloc: Global, session: &Session) -> Result<String, Fail> {
+fn endpoints(alloc: Global, session: &Session) -> Result<String, AllocError> {
     let inside = endpoint(alloc, session.inside)?;
     let outside = endpoint(alloc, session.outside)?;
     let remote = endpoint(alloc, session.remote)?;
-    Ok(format!(in alloc; "{inside} {outside} {remote}")?)
+    format!(in alloc; "{inside} {outside} {remote}")
 }
 
-fn spelled(alloc: Global, session: &Session) -> Result<String, Fail> {
+fn last_use(alloc: Global, session: &Session) -> Result<String, AllocError> {
+    format!(in alloc; "{} at {}", session.seen, session.last)
+}
+
+fn spelled(alloc: Global, session: &Session) -> Result<String, AllocError> {
     let endpoints = endpoints(alloc, session)?;
-    let proto = proto(session);
-    let phase = phase(session);
-    let opener = opener(session);
-    let (seen, last) = (session.seen, session.last);
-    Ok(format!(in alloc; "{proto} {endpoints} {phase} {opener} {seen} at {last}")?)
+    let last_use = last_use(alloc, session)?;
+    let (proto, phase, opener) = (proto(session), phase(session), opener(session));
+    format!(in alloc; "{proto} {endpoints} {phase} {opener} {last_use}")
 }
 
-fn put_session(alloc: Global, all: &mut String, session: &Session) -> Result<(), Fail> {
+fn put_session(alloc: Global, all: &mut String, session: &Session) -> Result<(), AllocError> {
     if !all.is_empty() {
         all.push_str(", ")?;
     }
     let session = spelled(alloc, session)?;
-    all.push_str(session.as_str())?;
-    Ok(())
+    all.push_str(session.as_str())
 }
 
-fn put_sessions(alloc: Global, all: &mut String, sessions: &[Session]) -> Result<(), Fail> {
+fn put_sessions(alloc: Global, all: &mut String, sessions: &[Session]) -> Result<(), AllocError> {
     for session in sessions {
         put_session(alloc, all, session)?;
     }
@@ -164,92 +169,107 @@ fn listed(alloc: Global, gateway: &Trials) -> Result<String, Fail> {
 #[derive(Drop)]
 struct Stage {
     alloc: Global,
-    gateway: Trials,
     number: u64,
     written: Vec<u8>,
     all_asked: Vec<u8>,
     all_answers: Vec<u8>,
 }
 
-impl Stage {
-    fn new(alloc: Global) -> Result<Stage, Fail> {
-        Ok(Stage {
-            alloc,
-            gateway: opened(alloc)?,
-            number: 0,
-            written: Vec::new(alloc),
-            all_asked: Vec::new(alloc),
-            all_answers: Vec::new(alloc),
-        })
-    }
+// Something else was found than the line has.
+fn differs(number: u64, line: &str, found: &str) -> Result<(), Fail> {
+    Err(Fail::new(format_args!("{number}: {line}: {found}")))
+}
 
-    fn ask(&mut self, word: &str, rest: &str) -> Result<(), Fail> {
+fn expect_sessions(stage: &Stage, gateway: &Trials, line: &str) -> Result<(), Fail> {
+    let sessions = listed(stage.alloc, gateway)?;
+    if sessions.as_str() == line {
+        return Ok(());
+    }
+    differs(stage.number, line, sessions.as_str())
+}
+
+impl Stage {
+    // The frame of the next event.
+    fn next(&mut self, word: &str, rest: &str) -> Result<Vec<u8>, Fail> {
         let frame = asked(self.alloc, word, rest)?;
         self.number = self.number.saturating_add(1);
-        self.written.clear();
         self.all_asked.extend_from_slice(frame.as_slice())?;
-        let mut reader = frame.as_slice();
-        run(
-            self.alloc,
-            &mut reader,
-            &mut self.written,
-            &mut self.gateway,
-        )?;
-        Ok(())
+        Ok(frame)
     }
 
     fn expect_answer(&mut self, line: &str) -> Result<(), Fail> {
         let frame = expected(self.alloc, self.number, line)?;
-        if self.written.as_slice() != frame.as_slice() {
+        self.expect_frame(line, frame.as_slice())
+    }
+
+    fn expect_frame(&mut self, line: &str, frame: &[u8]) -> Result<(), Fail> {
+        if self.written.as_slice() != frame {
             return self.tell_answer(line);
         }
-        self.all_answers.extend_from_slice(frame.as_slice())?;
+        self.all_answers.extend_from_slice(frame)?;
         Ok(())
     }
 
     // The last answer is not the one of this line.
     fn tell_answer(&self, line: &str) -> Result<(), Fail> {
-        let number = self.number;
         let written = shown(self.alloc, self.written.as_slice())?;
-        Err(Fail::new(format_args!("{number}: {line}: {written}")))
-    }
-
-    fn expect_sessions(&self, line: &str) -> Result<(), Fail> {
-        let sessions = listed(self.alloc, &self.gateway)?;
-        if sessions.as_str() != line {
-            let number = self.number;
-            return Err(Fail::new(format_args!("{number}: {line}: {sessions}")));
-        }
-        Ok(())
-    }
-
-    fn line(&mut self, line: &str) -> Result<(), Fail> {
-        let (word, rest) = line.split_once(' ').unwrap_or((line, ""));
-        match word {
-            "=" => self.expect_answer(rest),
-            ":" => self.expect_sessions(rest),
-            _ => self.ask(word, rest),
-        }
-    }
-
-    fn lines(&mut self, part: &str) -> Result<(), Fail> {
-        for line in part.lines() {
-            self.line(line)?;
-        }
-        Ok(())
+        differs(self.number, line, written.as_str())
     }
 }
 
-// Each event alone, and then all of them in one stream.
-fn play_on(stage: &mut Stage, parts: &[&str]) -> Result<(), Fail> {
-    for part in parts {
-        stage.lines(part)?;
+fn ask(stage: &mut Stage, gateway: &mut Trials, word: &str, rest: &str) -> Result<(), Fail> {
+    let frame = stage.next(word, rest)?;
+    let mut reader = frame.as_slice();
+    stage.written.clear();
+    run(stage.alloc, &mut reader, &mut stage.written, gateway)?;
+    Ok(())
+}
+
+fn play_line(stage: &mut Stage, gateway: &mut Trials, line: &str) -> Result<(), Fail> {
+    let (word, rest) = line.split_once(' ').unwrap_or((line, ""));
+    match word {
+        "=" => stage.expect_answer(rest),
+        ":" => expect_sessions(stage, gateway, rest),
+        _ => ask(stage, gateway, word, rest),
     }
-    let (ended, written) = run_over(stage.alloc, stage.all_asked.as_slice())?;
-    if ended != Ok(stage.number) || written.as_slice() != stage.all_answers.as_slice() {
-        return Err(Fail::new(format_args!("in one stream: {ended:?}")));
+}
+
+fn play_lines(stage: &mut Stage, gateway: &mut Trials, part: &str) -> Result<(), Fail> {
+    for line in part.lines() {
+        play_line(stage, gateway, line)?;
     }
     Ok(())
+}
+
+fn play_parts(stage: &mut Stage, gateway: &mut Trials, parts: &[&str]) -> Result<(), Fail> {
+    for part in parts {
+        play_lines(stage, gateway, part)?;
+    }
+    Ok(())
+}
+
+fn play_both(
+    stage: &mut Stage,
+    gateway: &mut Trials,
+    front: &[&str],
+    parts: &[&str],
+) -> Result<(), Fail> {
+    play_parts(stage, gateway, front)?;
+    play_parts(stage, gateway, parts)
+}
+
+fn play_anew(stage: &mut Stage, front: &[&str], parts: &[&str]) -> Result<(), Fail> {
+    let mut gateway = opened(stage.alloc)?;
+    let played = play_both(stage, &mut gateway, front, parts);
+    close(gateway);
+    played
+}
+
+// Each event alone, and then all of them in one stream.
+fn play_on(stage: &mut Stage, front: &[&str], parts: &[&str]) -> Result<(), Fail> {
+    play_anew(stage, front, parts)?;
+    let (asked, answers) = (stage.all_asked.as_slice(), stage.all_answers.as_slice());
+    expect_run(stage.alloc, asked, Ok(stage.number), answers)
 }
 
 /// Plays the parts one behind the other: each event alone, and then all of them in one stream.
@@ -258,16 +278,20 @@ fn play_on(stage: &mut Stage, parts: &[&str]) -> Result<(), Fail> {
 ///
 /// A `Fail` with the number of the event, the line and what came instead; or where a line can't be read.
 pub fn play(alloc: Global, parts: &[&str]) -> Result<(), Fail> {
-    let mut stage = Stage::new(alloc)?;
-    let played = play_on(&mut stage, parts);
-    drop(stage);
-    played
+    play_one(alloc, &[], parts)
 }
 
-fn put_expected(alloc: Global, out: &mut Vec<u8>, number: u64, line: &str) -> Result<(), Fail> {
-    let frame = expected(alloc, number, line)?;
-    out.extend_from_slice(frame.as_slice())?;
-    Ok(())
+fn play_one(alloc: Global, front: &[&str], parts: &[&str]) -> Result<(), Fail> {
+    let mut stage = Stage {
+        alloc,
+        number: 0,
+        written: Vec::new(alloc),
+        all_asked: Vec::new(alloc),
+        all_answers: Vec::new(alloc),
+    };
+    let played = play_on(&mut stage, front, parts);
+    drop(stage);
+    played
 }
 
 /// Plays each of these scripts, the parts of one behind the other.
@@ -276,9 +300,24 @@ fn put_expected(alloc: Global, out: &mut Vec<u8>, number: u64, line: &str) -> Re
 ///
 /// Those of the first one that fails.
 pub fn play_each(alloc: Global, scripts: &[&[&str]]) -> Result<(), Fail> {
+    play_behind(alloc, &[], scripts)
+}
+
+/// Plays each of these scripts behind the parts that all of them begin with.
+///
+/// # Errors
+///
+/// Those of the first one that fails.
+pub fn play_behind(alloc: Global, front: &[&str], scripts: &[&[&str]]) -> Result<(), Fail> {
     for parts in scripts {
-        play(alloc, parts)?;
+        play_one(alloc, front, parts)?;
     }
+    Ok(())
+}
+
+fn put_expected(alloc: Global, out: &mut Vec<u8>, number: u64, line: &str) -> Result<(), Fail> {
+    let frame = expected(alloc, number, line)?;
+    out.extend_from_slice(frame.as_slice())?;
     Ok(())
 }
 
@@ -306,11 +345,20 @@ pub fn expect_end(
 ) -> Result<(), Fail> {
     let answers = frames(alloc, answers)?;
     let stream = hex(alloc, stream)?;
-    let (ended, written) = run_over(alloc, stream.as_slice())?;
-    if ended != end || written.as_slice() != answers.as_slice() {
-        return tell_end(alloc, ended, written.as_slice());
+    expect_run(alloc, stream.as_slice(), end, answers.as_slice())
+}
+
+fn expect_run(
+    alloc: Global,
+    stream: &[u8],
+    end: Result<u64, EdgeFault>,
+    answers: &[u8],
+) -> Result<(), Fail> {
+    let (ended, written) = run_over(alloc, stream);
+    if ended == end && written.as_slice() == answers {
+        return Ok(());
     }
-    Ok(())
+    tell_end(alloc, ended, written.as_slice())
 }
 
 // A stream ended otherwise, or was answered otherwise.
