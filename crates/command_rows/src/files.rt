@@ -1,8 +1,12 @@
 //! What stands in the files, and the sessions that come back.
-use crate::shared::{ANSWERS, LINE, REQUESTS, SIDES, answered, fresh, opened};
+use crate::shared::{
+    ANSWERS, LINE, OverFiles, REQUESTS, SIDES, answered, close, fresh, is_file, opened,
+};
 use commands::show;
+use gateway::Session;
 use options::Sides;
 use refusals::Refusal;
+use std::alloc::Global;
 use std::fs;
 use std::test::Fail;
 
@@ -22,7 +26,10 @@ fn is_refused(
     line: &str,
 ) -> bool {
     match opened(rt, sides, directory, 0) {
-        Ok(_) => false,
+        Ok(gateway) => {
+            close(gateway);
+            false
+        }
         Err(stop) => stop.refusal == refusal && stop.second_line() == line,
     }
 }
@@ -35,19 +42,32 @@ const OTHER_CONFIGURATION: &str =
 const DAMAGED: &str =
     "fresh: natgw.a holds generation 1, no session; natgw.b is no file of natgw, or one of another version: put both back from one backup, or move natgw.b away to go on with what natgw.a holds, which may be older";
 
+const RENAMED: Sides<'static> = Sides {
+    wan: "wan0",
+    ..SIDES
+};
+
+fn is_of_another(rt: &HostRuntime) -> bool {
+    let refusal = Refusal::ConfigDiffers;
+    is_refused(rt, &RENAMED, "fresh", refusal, OTHER_CONFIGURATION)
+}
+
 // While one gateway holds the directory no other one does.
 fn make(rt: &HostRuntime) -> Result<bool, Fail> {
     fresh(rt, "fresh")?;
     let gateway = opened(rt, &SIDES, "fresh", 0)?;
     let is_busy = is_refused(rt, &SIDES, "fresh", Refusal::File, BUSY);
-    drop(gateway);
+    close(gateway);
     Ok(is_busy)
 }
 
 // What is in a directory that isn't there is no file.
 fn is_missing(rt: &HostRuntime, directory: &str) -> bool {
     match opened(rt, &SIDES, directory, 0) {
-        Ok(_) => false,
+        Ok(gateway) => {
+            close(gateway);
+            false
+        }
         Err(stop) => stop.refusal == Refusal::File,
     }
 }
@@ -55,40 +75,53 @@ fn is_missing(rt: &HostRuntime, directory: &str) -> bool {
 #[test]
 fn files(rt: HostRuntime) -> Result<(), Fail> {
     assert!(rt; make(&rt)?);
-    assert!(rt; fs::read(&rt, "fresh/natgw.a")?.as_slice() == FRESH.as_slice());
-    assert!(rt; fs::read(&rt, "fresh/natgw.b")?.is_empty());
-    let renamed = Sides {
-        wan: "wan0",
-        ..SIDES
-    };
-    let refusal = Refusal::ConfigDiffers;
-    assert!(rt; is_refused(&rt, &renamed, "fresh", refusal, OTHER_CONFIGURATION));
+    assert!(rt; is_file(&rt, "fresh/natgw.a", &FRESH)? && is_file(&rt, "fresh/natgw.b", b"")?);
+    assert!(rt; is_of_another(&rt));
     fs::write(&rt, "fresh/natgw.b", b"\x01".as_slice())?;
     assert!(rt; is_refused(&rt, &SIDES, "fresh", Refusal::Damaged, DAMAGED));
     assert!(rt; is_missing(&rt, "fresh/none"));
     Ok(())
 }
 
-// The lines of the sessions that a directory keeps, and the moment that all of them were used at.
-fn kept(rt: &HostRuntime, directory: &str, moment: u64) -> Result<Vec<u8>, Fail> {
-    let gateway = opened(rt, &SIDES, directory, moment)?;
-    for session in gateway.sessions()?.as_slice() {
+// Whether all sessions were used at this moment.
+fn are_of(sessions: &[Session], moment: u64) -> bool {
+    for session in sessions {
         if session.last != moment {
-            return Err(Fail::from("another moment"));
+            return false;
         }
     }
-    let mut lines = Vec::new(rt.alloc());
-    show(rt.alloc(), &gateway, &mut lines)?;
-    Ok(lines)
+    true
+}
+
+// Whether these are the lines of the sessions, and all of them were used at this moment.
+fn are_shown(
+    alloc: Global,
+    gateway: &OverFiles,
+    moment: u64,
+    expected: &[u8],
+) -> Result<bool, Fail> {
+    let mut lines = Vec::new(alloc);
+    show(alloc, gateway, &mut lines)?;
+    let sessions = gateway.sessions()?;
+    Ok(lines.as_slice() == expected && are_of(sessions.as_slice(), moment))
+}
+
+// Whether a directory keeps the session, used at this moment.
+fn is_kept(rt: &HostRuntime, directory: &str, moment: u64) -> Result<bool, Fail> {
+    let gateway = opened(rt, &SIDES, directory, moment)?;
+    let is_shown = are_shown(rt.alloc(), &gateway, moment, LINE);
+    close(gateway);
+    is_shown
 }
 
 #[test]
 fn restart(rt: HostRuntime) -> Result<(), Fail> {
     fresh(&rt, "restart")?;
     let mut gateway = opened(&rt, &SIDES, "restart", 1_000)?;
-    assert!(rt; answered(&rt, &mut gateway, REQUESTS)?.as_slice() == ANSWERS);
-    drop(gateway);
-    assert!(rt; kept(&rt, "restart", 1_000)?.as_slice() == LINE);
-    assert!(rt; kept(&rt, "restart", 1_250)?.as_slice() == LINE);
+    let answers = answered(&rt, &mut gateway, REQUESTS);
+    close(gateway);
+    assert!(rt; answers?.as_slice() == ANSWERS);
+    assert!(rt; is_kept(&rt, "restart", 1_000)?);
+    assert!(rt; is_kept(&rt, "restart", 1_250)?);
     Ok(())
 }

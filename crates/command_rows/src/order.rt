@@ -1,6 +1,6 @@
 //! The order in which faults are found: the configuration, the file that a command names, the two files, the socket. And
 //! what is left where a command gives up.
-use crate::shared::{SIDES, fresh};
+use crate::shared::{SIDES, fresh, is_file};
 use commands::run;
 use options::{Opening, Options, Sides, Task, Work};
 use refusals::{Refusal, Stop};
@@ -144,17 +144,23 @@ fn fill(rt: &HostRuntime) -> Result<(), Fail> {
     write_zeros(rt, "order/fits", 2_048)
 }
 
+// The line of the first row that isn't refused so.
+fn unrefused(rt: &HostRuntime, rows: &[Row]) -> Option<&'static str> {
+    for row in rows {
+        if !is_refused(rt, row) {
+            return Some(row.line);
+        }
+    }
+    None
+}
+
 #[test]
 fn first_faults(rt: HostRuntime) -> Result<(), Fail> {
     fill(&rt)?;
-    for row in &OVER_DAMAGED_FILES {
-        assert!(rt; is_refused(&rt, row), "{}", row.line);
-    }
+    assert_eq!(rt; unrefused(&rt, &OVER_DAMAGED_FILES), None);
     fs::remove_file(&rt, "order/natgw.a")?;
-    for row in &OVER_NO_FILES {
-        assert!(rt; is_refused(&rt, row), "{}", row.line);
-    }
-    assert!(rt; fs::read(&rt, "order/natgw.sock")?.as_slice() == b"kept".as_slice());
+    assert_eq!(rt; unrefused(&rt, &OVER_NO_FILES), None);
+    assert!(rt; is_file(&rt, "order/natgw.sock", b"kept")?);
     Ok(())
 }
 
@@ -167,25 +173,28 @@ fn ends_well(rt: &HostRuntime, work: Work<'_>, socket: &str) -> bool {
     is_well && fs::read(rt, socket).is_err()
 }
 
+const NO_CLIENT: Work<'static> = Work::Serve {
+    socket: "socket/sock",
+    connections: 0,
+};
+
+const NO_REQUEST: Work<'static> = Work::Loop {
+    path: "socket/empty",
+};
+
+const ENDING_WELL: [(Work<'static>, &str); 3] = [
+    (NO_CLIENT, "socket/sock"),
+    (Work::Show, "socket/sock"),
+    (NO_REQUEST, "socket/natgw.sock"),
+];
+
 // A socket that was made goes at the end.
 #[test]
 fn sockets_go(rt: HostRuntime) -> Result<(), Fail> {
     fresh(&rt, "socket")?;
     fs::write(&rt, "socket/empty", b"".as_slice())?;
-    let none = Work::Serve {
-        socket: "socket/sock",
-        connections: 0,
-    };
-    let empty = Work::Loop {
-        path: "socket/empty",
-    };
-    let rows = [
-        (none, "socket/sock"),
-        (Work::Show, "socket/sock"),
-        (empty, "socket/natgw.sock"),
-    ];
-    for (work, socket) in rows {
-        assert!(rt; ends_well(&rt, work, socket), "{socket}");
+    for (work, socket) in &ENDING_WELL {
+        assert!(rt; ends_well(&rt, *work, socket), "{socket}");
     }
     Ok(())
 }

@@ -1,5 +1,5 @@
 //! Requests through sockets.
-use crate::shared::{ANSWERS, OverFiles, REQUESTS, SIDES, fresh, opened};
+use crate::shared::{ANSWERS, OverFiles, REQUESTS, SIDES, close, fresh, opened};
 use commands::{bind, loop_back, serve_clients, settle};
 use gateway::GatewayFault;
 use refusals::{Refusal, Stop};
@@ -8,16 +8,26 @@ use std::alloc::Global;
 use std::fs;
 use std::io::{Read, Write};
 use std::net::Shutdown;
-use std::os::unix::net::UnixStream;
+use std::os::unix::net::{UnixListener, UnixStream};
 use std::test::Fail;
+
+/// A socket that is bound to this path, of which a test knows no clause.
+pub fn bound(rt: &HostRuntime, path: &str) -> Result<UnixListener, Stop> {
+    bind(rt, rt.alloc(), path)
+}
+
+// Whether a path is refused with this second line before anything is bound to it.
+fn is_no_path(rt: &HostRuntime, path: &str, line: &str) -> bool {
+    match bound(rt, path) {
+        Ok(_) => false,
+        Err(stop) => stop.refusal == Refusal::File && stop.second_line() == line,
+    }
+}
 
 // Whether a socket that is there is refused.
 fn is_bound_once(rt: &HostRuntime, path: &str, line: &str) -> Result<bool, Stop> {
-    let _listener = bind(rt, rt.alloc(), path)?;
-    match bind(rt, rt.alloc(), path) {
-        Ok(_) => Ok(false),
-        Err(stop) => Ok(stop.refusal == Refusal::File && stop.second_line() == line),
-    }
+    let _listener = bound(rt, path)?;
+    Ok(is_no_path(rt, path, line))
 }
 
 #[test]
@@ -27,14 +37,6 @@ fn a_socket_that_is_there(rt: HostRuntime) -> Result<(), Fail> {
         "loop/natgw.sock exists: if no natgw listens there any more, remove it, otherwise name another path";
     assert!(rt; is_bound_once(&rt, "loop/natgw.sock", line)?);
     Ok(())
-}
-
-// Whether a path is refused with this second line before anything is bound to it.
-fn is_no_path(rt: &HostRuntime, path: &str, line: &str) -> bool {
-    match bind(rt, rt.alloc(), path) {
-        Ok(_) => false,
-        Err(stop) => stop.refusal == Refusal::File && stop.second_line() == line,
-    }
 }
 
 #[test]
@@ -51,14 +53,10 @@ fn a_socket_without_a_path(rt: HostRuntime) -> Result<(), Fail> {
     Ok(())
 }
 
-// What a loop writes to standard output and standard error.
-fn looped(
-    rt: &HostRuntime,
-    gateway: &mut OverFiles,
-    path: &str,
-) -> Result<(Vec<u8>, Vec<u8>), Stop> {
+// Whether a loop writes the answers to standard output, and nothing to standard error.
+fn is_looped(rt: &HostRuntime, gateway: &mut OverFiles, path: &str) -> Result<bool, Stop> {
     let alloc = rt.alloc();
-    let listener = bind(rt, alloc, path)?;
+    let listener = bound(rt, path)?;
     let mut output = Vec::new(alloc);
     let mut errors = Vec::new(alloc);
     loop_back(
@@ -71,16 +69,16 @@ fn looped(
         &mut errors,
         gateway,
     )?;
-    Ok((output, errors))
+    Ok(output.as_slice() == ANSWERS && errors.is_empty())
 }
 
 #[test]
 fn through_a_loop(rt: HostRuntime) -> Result<(), Fail> {
     fresh(&rt, "through")?;
     let mut gateway = opened(&rt, &SIDES, "through", 1_000)?;
-    let (output, errors) = looped(&rt, &mut gateway, "through/natgw.sock")?;
-    assert!(rt; output.as_slice() == ANSWERS);
-    assert!(rt; errors.is_empty());
+    let is_looped = is_looped(&rt, &mut gateway, "through/natgw.sock");
+    close(gateway);
+    assert!(rt; is_looped?);
     Ok(())
 }
 
@@ -100,30 +98,42 @@ struct Served {
     errors: Vec<u8>,
 }
 
-fn rest_of(alloc: Global, stream: &mut UnixStream) -> Result<Vec<u8>, Fail> {
-    let mut rest = Vec::new(alloc);
-    stream.read_to_end(&mut rest)?;
-    Ok(rest)
-}
-
-fn serve_both(
+fn serve_into(
     rt: &HostRuntime,
     gateway: &mut OverFiles,
     path: &str,
-    requests: [&[u8]; 2],
-) -> Result<Served, Fail> {
-    let alloc = rt.alloc();
-    let listener = bind(rt, alloc, path)?;
-    let [first, second] = requests;
+    (first, second): (&[u8], &[u8]),
+    served: &mut Served,
+) -> Result<(), Fail> {
+    let listener = bound(rt, path)?;
     let mut first = client(rt, path, first)?;
     let mut second = client(rt, path, second)?;
-    let mut errors = Vec::new(alloc);
-    serve_clients(alloc, &listener, path, 2, &mut errors, gateway)?;
-    Ok(Served {
-        first: rest_of(alloc, &mut first)?,
-        second: rest_of(alloc, &mut second)?,
-        errors,
-    })
+    serve_clients(rt.alloc(), &listener, path, 2, &mut served.errors, gateway)?;
+    first.read_to_end(&mut served.first)?;
+    second.read_to_end(&mut served.second)?;
+    Ok(())
+}
+
+// Whether a load of the first one and a packet of the second one are answered, and a request is told to be cut.
+fn are_served(
+    rt: &HostRuntime,
+    gateway: &mut OverFiles,
+    path: &str,
+    requests: (&[u8], &[u8]),
+) -> Result<bool, Fail> {
+    let mut served = Served {
+        first: Vec::new(rt.alloc()),
+        second: Vec::new(rt.alloc()),
+        errors: Vec::new(rt.alloc()),
+    };
+    serve_into(rt, gateway, path, requests, &mut served)?;
+    Ok(is_load_and_packet(&served))
+}
+
+fn is_load_and_packet(served: &Served) -> bool {
+    let is_told = served.errors.as_slice() == b"natgw: truncated\n".as_slice();
+    let (first, second) = ANSWERS.split_at(13);
+    is_told && served.first.as_slice() == first && served.second.as_slice() == second
 }
 
 // The first one ends within a request, and the second one is served all the same.
@@ -131,24 +141,37 @@ fn serve_both(
 fn clients_that_wait(rt: HostRuntime) -> Result<(), Fail> {
     fresh(&rt, "serve")?;
     let mut gateway = opened(&rt, &SIDES, "serve", 1_000)?;
-    let packet = REQUESTS.split_at(115).1;
-    let requests = [&REQUESTS[..128], packet];
-    let served = serve_both(&rt, &mut gateway, "serve/sock", requests)?;
-    assert!(rt; served.first.as_slice() == &ANSWERS[..13]);
-    assert!(rt; served.second.as_slice() == &ANSWERS[13..]);
-    assert!(rt; served.errors.as_slice() == b"natgw: truncated\n".as_slice());
+    let requests = (&REQUESTS[..128], &REQUESTS[115..]);
+    let are_served = are_served(&rt, &mut gateway, "serve/sock", requests);
+    close(gateway);
+    assert!(rt; are_served?);
     fs::remove_file(&rt, "serve/sock")?;
     Ok(())
 }
 
+const DEVICE: EdgeFault = EdgeFault::Gateway(GatewayFault::Device);
+
+// How a stream ended, what that means, and what stands on standard error.
+const SETTLED: [(Result<u64, EdgeFault>, Result<(), Refusal>, &[u8]); 3] = [
+    (Ok(3), Ok(()), b""),
+    (Err(DEVICE), Err(Refusal::Device), b""),
+    (Err(EdgeFault::BadKind), Ok(()), b"natgw: bad-kind\n"),
+];
+
+// Whether an end means this, and so much is told of it.
+fn is_settled(
+    alloc: Global,
+    ended: Result<u64, EdgeFault>,
+    expected: Result<(), Refusal>,
+    told: &[u8],
+) -> bool {
+    let mut errors = Vec::new(alloc);
+    settle(ended, &mut errors) == expected && errors.as_slice() == told
+}
+
 #[test]
-fn ends_of_streams(rt: HostRuntime) -> Result<(), Fail> {
-    let mut errors = Vec::new(rt.alloc());
-    assert_eq!(rt; settle(Ok(3), &mut errors), Ok(()));
-    let device = EdgeFault::Gateway(GatewayFault::Device);
-    assert_eq!(rt; settle(Err(device), &mut errors), Err(Refusal::Device));
-    assert!(rt; errors.is_empty());
-    assert_eq!(rt; settle(Err(EdgeFault::BadKind), &mut errors), Ok(()));
-    assert!(rt; errors.as_slice() == b"natgw: bad-kind\n".as_slice());
-    Ok(())
+fn ends_of_streams(rt: HostRuntime) {
+    for (ended, expected, told) in &SETTLED {
+        assert!(rt; is_settled(rt.alloc(), *ended, *expected, *told));
+    }
 }

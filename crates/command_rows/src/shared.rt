@@ -4,7 +4,8 @@ use commands::{open, replay};
 use file_disk::FileDisk;
 use gateway::Gateway;
 use options::{Opening, Sides};
-use refusals::Stop;
+use refusals::{Refusal, Stop};
+use std::alloc::{AllocFailed, Global};
 use std::fs;
 use std::test::Fail;
 
@@ -36,6 +37,12 @@ pub fn fresh(rt: &HostRuntime, directory: &str) -> Result<(), Fail> {
     Ok(())
 }
 
+/// Whether a file has these bytes.
+pub fn is_file(rt: &HostRuntime, path: &str, expected: &[u8]) -> Result<bool, Fail> {
+    let bytes = fs::read(rt, path)?;
+    Ok(bytes.as_slice() == expected)
+}
+
 /// A gateway over files. It lies behind a box, so that a function which lets it go does so by one call.
 pub type OverFiles = Box<Gateway<FileDisk>>;
 
@@ -47,8 +54,25 @@ pub fn opened(
     moment: u64,
 ) -> Result<OverFiles, Stop> {
     let bounds = bounds(rt.alloc(), sides)?;
-    let gateway = open(rt, sides, bounds, Opening { directory, moment })?;
-    Ok(Box::new(rt.alloc(), gateway)?)
+    match open(rt, sides, bounds, Opening { directory, moment }) {
+        Ok(gateway) => boxed(rt.alloc(), gateway),
+        Err(stop) => Err(stop),
+    }
+}
+
+fn boxed(alloc: Global, gateway: Gateway<FileDisk>) -> Result<OverFiles, Stop> {
+    match Box::new(alloc, gateway) {
+        Ok(gateway) => Ok(gateway),
+        Err(AllocFailed { value }) => {
+            drop(value.into_disk());
+            Err(Stop::from(Refusal::NoMemory))
+        }
+    }
+}
+
+/// Lets a gateway go. All of it but the disk goes in its own crate.
+pub fn close(gateway: OverFiles) {
+    drop(Box::into_inner(gateway).into_disk());
 }
 
 /// The answers to a stream of requests.

@@ -6,23 +6,24 @@ use refusals::Refusal;
 use std::alloc::Global;
 use std::test::*;
 
+const ADDRESSES: [(&str, Option<u32>); 4] = [
+    ("203.0.113.1", Some(0xcb00_7101)),
+    ("203.0.113.01", None),
+    ("203.0.113", None),
+    ("203.0.113.256", None),
+];
+
 #[test]
 fn addresses(rt: HostRuntime) {
-    let rows = [
-        ("203.0.113.1", Some(0xcb00_7101)),
-        ("203.0.113.01", None),
-        ("203.0.113", None),
-        ("203.0.113.256", None),
-    ];
-    for (text, expected) in rows {
-        assert!(rt; address(text) == expected, "{text}");
+    for (text, expected) in &ADDRESSES {
+        assert!(rt; address(text) == *expected, "{text}");
     }
 }
 
 #[test]
 fn numbers(rt: HostRuntime) {
-    for (text, expected) in [("0", Some(0)), ("+8", None), ("08", None)] {
-        assert!(rt; number(text) == expected, "{text}");
+    for (text, expected) in &[("0", Some(0)), ("+8", None), ("08", None)] {
+        assert!(rt; number(text) == *expected, "{text}");
     }
 }
 
@@ -33,8 +34,8 @@ const INSIDE: Prefix = Prefix {
 
 #[test]
 fn prefixes(rt: HostRuntime) {
-    for (text, expected) in [("192.168.0.0/16", Some(INSIDE)), ("192.168.0.0", None)] {
-        assert!(rt; prefix(text) == expected, "{text}");
+    for (text, expected) in &[("192.168.0.0/16", Some(INSIDE)), ("192.168.0.0", None)] {
+        assert!(rt; prefix(text) == *expected, "{text}");
     }
 }
 
@@ -60,46 +61,56 @@ fn is_told(alloc: Global, sides: &Sides<'_>, end: &str) -> bool {
     }
 }
 
-// Each fault of a configuration names the options that it lies in.
-#[test]
-fn options_of_faults(rt: HostRuntime) {
-    let rows = [
-        ("", "wan", "10.0.0.0/8", "set --lan and --wan right"),
-        ("wan", "wan", "10.0.0.0/8", "set --lan and --wan right"),
-        ("lan", "wan", "10.0.0.1/8", "set --inside right"),
-        (
-            "lan",
-            "wan",
-            "1.2.3.4/32",
-            "set --inside and --external right",
-        ),
-        ("lan", "wan", "10.0.0.0", "write it like 192.168.0.0/16"),
-    ];
-    for (lan, wan, inside, end) in rows {
-        let sides = Sides {
-            lan,
-            wan,
-            inside,
-            external: "1.2.3.4",
-        };
-        assert!(rt; is_told(rt.alloc(), &sides, end), "{inside}");
+// The names of both sides and the prefix inside, and how the second line ends.
+const FAULTS: [(&str, &str, &str, &str); 5] = [
+    ("", "wan", "10.0.0.0/8", "set --lan and --wan right"),
+    ("wan", "wan", "10.0.0.0/8", "set --lan and --wan right"),
+    ("lan", "wan", "10.0.0.1/8", "set --inside right"),
+    (
+        "lan",
+        "wan",
+        "1.2.3.4/32",
+        "set --inside and --external right",
+    ),
+    ("lan", "wan", "10.0.0.0", "write it like 192.168.0.0/16"),
+];
+
+fn sides_of<'a>(lan: &'a str, wan: &'a str, inside: &'a str) -> Sides<'a> {
+    Sides {
+        lan,
+        wan,
+        inside,
+        external: "1.2.3.4",
     }
 }
 
+// Each fault of a configuration names the options that it lies in.
+#[test]
+fn options_of_faults(rt: HostRuntime) {
+    for (lan, wan, inside, end) in &FAULTS {
+        assert!(rt;
+            is_told(rt.alloc(), &sides_of(lan, wan, inside), end),
+            "{inside}"
+        );
+    }
+}
+
+const REFUSED: Option<Refusal> = Some(Refusal::Config);
+
+const CONFIGURATIONS: [(&str, &str, Option<Refusal>); 6] = [
+    ("10.0.0.0/8,192.168.0.0/16", "1.2.3.4", None),
+    ("10.0.0.0/8", "10.2.3.4", REFUSED),
+    ("10.0.0.0/8", "1.2.3.04", REFUSED),
+    ("10.0.0.0/08", "1.2.3.4", REFUSED),
+    ("10.0.0.0/8,", "1.2.3.4", REFUSED),
+    ("10.0.0.1/8", "1.2.3.4", REFUSED),
+];
+
 #[test]
 fn configurations(rt: HostRuntime) {
-    let refused = Some(Refusal::Config);
-    let rows = [
-        ("10.0.0.0/8,192.168.0.0/16", "1.2.3.4", None),
-        ("10.0.0.0/8", "10.2.3.4", refused),
-        ("10.0.0.0/8", "1.2.3.04", refused),
-        ("10.0.0.0/08", "1.2.3.4", refused),
-        ("10.0.0.0/8,", "1.2.3.4", refused),
-        ("10.0.0.1/8", "1.2.3.4", refused),
-    ];
-    for (inside, external, expected) in rows {
+    for (inside, external, expected) in &CONFIGURATIONS {
         assert!(rt;
-            refusal_of(rt.alloc(), inside, external) == expected,
+            refusal_of(rt.alloc(), inside, external) == *expected,
             "{inside}"
         );
     }

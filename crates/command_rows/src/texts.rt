@@ -58,8 +58,8 @@ fn is_found(alloc: Global, text: &[u8], line: &[u8]) -> Result<bool, Stop> {
 
 #[test]
 fn findings(rt: HostRuntime) -> Result<(), Fail> {
-    for (text, line) in FINDINGS {
-        assert!(rt; is_found(rt.alloc(), text, line)?);
+    for (text, line) in &FINDINGS {
+        assert!(rt; is_found(rt.alloc(), *text, *line)?);
     }
     Ok(())
 }
@@ -100,17 +100,22 @@ fn is_told(
     Ok(is_line && errors.as_slice().starts_with(mark) && lines_of(errors.as_slice()) == lines)
 }
 
+const LOOP: &[u8] = b"table ip t { chain c { jump c; }; }";
+
+const MARKS: &[u8] =
+    b"line 1: table ip t { chain c { jump c; }; }\n                               ^\n";
+
+// A text, whether it is explained, the line on standard output, and how those on standard error begin.
+const EXPLANATIONS: [(&[u8], bool, &[u8], &[u8]); 3] = [
+    (LOOP, false, b"line 1: loop\n", b""),
+    (LOOP, true, b"line 1: loop\n", MARKS),
+    (b"", true, b"ok\n", b""),
+];
+
 #[test]
 fn explanations(rt: HostRuntime) -> Result<(), Fail> {
-    let text = b"table ip t { chain c { jump c; }; }".as_slice();
-    let marks = b"line 1: table ip t { chain c { jump c; }; }\n                               ^\n";
-    let rows: [(&[u8], bool, &[u8], &[u8]); 3] = [
-        (text, false, b"line 1: loop\n", b""),
-        (text, true, b"line 1: loop\n", marks),
-        (b"", true, b"ok\n", b""),
-    ];
-    for (text, explains, line, mark) in rows {
-        assert!(rt; is_told(rt.alloc(), text, explains, line, mark)?);
+    for (text, explains, line, mark) in &EXPLANATIONS {
+        assert!(rt; is_told(rt.alloc(), *text, *explains, *line, *mark)?);
     }
     Ok(())
 }
