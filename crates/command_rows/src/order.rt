@@ -154,12 +154,20 @@ fn unrefused(rt: &HostRuntime, rows: &[Row]) -> Option<&'static str> {
     None
 }
 
+fn unrefused_over_damaged_files(rt: &HostRuntime) -> Option<&'static str> {
+    unrefused(rt, &OVER_DAMAGED_FILES)
+}
+
+fn unrefused_over_no_files(rt: &HostRuntime) -> Option<&'static str> {
+    unrefused(rt, &OVER_NO_FILES)
+}
+
 #[test]
 fn first_faults(rt: HostRuntime) -> Result<(), Fail> {
     fill(&rt)?;
-    assert_eq!(rt; unrefused(&rt, &OVER_DAMAGED_FILES), None);
+    assert_eq!(rt; unrefused_over_damaged_files(&rt), None);
     fs::remove_file(&rt, "order/natgw.a")?;
-    assert_eq!(rt; unrefused(&rt, &OVER_NO_FILES), None);
+    assert_eq!(rt; unrefused_over_no_files(&rt), None);
     assert!(rt; is_file(&rt, "order/natgw.sock", b"kept")?);
     Ok(())
 }

@@ -109,6 +109,14 @@ fn serve_into(
     let mut first = client(rt, path, first)?;
     let mut second = client(rt, path, second)?;
     serve_clients(rt.alloc(), &listener, path, 2, &mut served.errors, gateway)?;
+    read_both(&mut first, &mut second, served)
+}
+
+fn read_both(
+    first: &mut UnixStream,
+    second: &mut UnixStream,
+    served: &mut Served,
+) -> Result<(), Fail> {
     first.read_to_end(&mut served.first)?;
     second.read_to_end(&mut served.second)?;
     Ok(())
