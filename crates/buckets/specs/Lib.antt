@@ -1,2 +1,3 @@
+pub mod ByPort
 pub mod Held
 pub mod Places

@@ -14,6 +14,7 @@
 //! search. Once a value has come that is too great for a place, this can't be told, and each key that isn't in its
 //! bucket is searched in the overflow, until there are more places.
 //!
+//! - `by_port`: a map in which a key has one place, with buckets behind it
 //! - `place`: a place, which is empty or has an entry
 //! - `places`: the places and the overflow, and what is done to them
 //! - `overflow`: the entries for which there was no place
@@ -24,6 +25,7 @@ ghost use Rattle.std.specs.Prelude.{◌≡◌, ◌+◌, ◌<◌, ◌≤◌, ℕ,
 ghost use Rattle.rows.specs.Held.{at, Puts};
 ghost use Rattle.buckets.specs.Held.{KeepsAll};
 
+pub mod by_port;
 mod overflow;
 mod place;
 mod places;

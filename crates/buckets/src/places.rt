@@ -483,8 +483,8 @@ fn moved(alloc: Global, places: &[Place]) -> Option<Vec<Place>>
     Some(fresh)
 }
 
-// So many free places.
-fn free_places(alloc: Global, count: usize) -> Result<Vec<Place>, AllocError>
+/// So many free places.
+pub fn free_places(alloc: Global, count: usize) -> Result<Vec<Place>, AllocError>
     ensures { IfOk result (λ places. (k : ℕ) → slice_index_or places.items k None ≡ None) }
 {
     let mut places = Vec::with_capacity(alloc, count)?;

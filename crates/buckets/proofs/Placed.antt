@@ -1,0 +1,153 @@
+-- Entries of which each key has one place: what a look-up gives, and what a change of one place makes of it.
+use Rattle.std.proofs.Common.{Bool, true, false, ◌≡◌, ◌≢◌, ℕ, ◌<◌, ◌≤◌, List, cond, length, get_or, Option, Some, None, refl, sym, ap, ◌∙◌, subst, inl, inr, ◌⊎◌, arith}
+use Rattle.std.proofs.lemmas.Bool.{cases_eq, eq-eqb, ne_eqb}
+use Rattle.std.proofs.lemmas.List.{get_or_default}
+use Rattle.std.proofs.lemmas.Option.{none-some, same_Some}
+use Rattle.std.specs.Bool.{OnFalse}
+use Rattle.std.specs.Prelude.{IsSomeAnd}
+use Rattle.std.specs.Option.{option_map}
+use Rattle.rows.specs.declared.Entry.{Entry}
+use Rattle.rows.specs.Held.{value_at, Puts}
+use Rattle.buckets.specs.Places.{all_in, Stands, HasNowhere, AreApart, IsSetTo}
+use Rattle.buckets.specs.ByPort.{AreAtHome, AreFree, ArePlaced, place_of}
+use Rattle.buckets.proofs.Values.{vals, either, nowhere-none, some-stands, stands-some, stands-inside, same-vals, all-both, all-some, all-none, all-nowhere, nowhere-all}
+
+-- each key stands once
+pub home-apart : (ps : List (Option Entry)) → AreAtHome ps → AreApart ps
+home-apart ps home i j e f is_e is_f same = home i e is_e ∙ ap place_of same ∙ sym (home j f is_f)
+
+-- where another key or none stands at the place of a key, no place has it
+pub home-nowhere : (ps : List (Option Entry)) (key : ℕ) → AreAtHome ps → ((e : Entry) → Stands ps (place_of key) e → e.key ≢ key) → HasNowhere ps key
+home-nowhere ps key home other i e is same = other e (ap (λ k. get_or ps k None) (sym (home i e is ∙ ap place_of same)) ∙ is) same
+
+pub home-none : (ps : List (Option Entry)) (key : ℕ) → AreAtHome ps → get_or ps (place_of key) None ≡ None → HasNowhere ps key
+home-none ps key home none = home-nowhere ps key home (λ e is. absurd (none-some e (sym none ∙ is)))
+
+-- what stands there is what a look-up gives
+pub home-some : (ps : List (Option Entry)) (key : ℕ) (e : Entry) → AreAtHome ps → Stands ps (place_of key) e → e.key ≡ key → vals ps key ≡ Some e.value
+home-some ps key e home is same = ap (vals ps) (sym same) ∙ stands-some ps (home-apart ps home) (place_of key) e is
+
+-- the value that the place of a key tells, whatever stands there
+pub home-value : (ps : List (Option Entry)) (key : ℕ) (o : Option Entry) → AreAtHome ps → get_or ps (place_of key) None ≡ o → IsSomeAnd o (λ e. e.key ≡ key) → option_map (λ (e : Entry). e.value) o ≡ vals ps key
+home-value ps key None home is has = absurd has
+home-value ps key (Some e) home is has = sym (home-some ps key e home is has)
+
+pub home-lacks : (ps : List (Option Entry)) (key : ℕ) (o : Option Entry) → AreAtHome ps → get_or ps (place_of key) None ≡ o → ¬ IsSomeAnd o (λ e. e.key ≡ key) → None ≡ vals ps key
+home-lacks ps key o home is lacks = sym (nowhere-none ps key (home-nowhere ps key home (λ e there same. lacks (subst (λ p. IsSomeAnd p (λ f. f.key ≡ key)) (sym there ∙ is) same))))
+
+pub home-outside : (ps : List (Option Entry)) (key at : ℕ) → AreAtHome ps → at ≡ place_of key → length ps ≤ at → None ≡ vals ps key
+home-outside ps key at home same past = sym (nowhere-none ps key (home-nowhere ps key home (λ e there. let inside = stands-inside ps (place_of key) e there in absurd (omega (arith, inside, past, same)))))
+
+-- what was read is what the place has
+pub home-read : (ps : List (Option Entry)) (key at : ℕ) (o : Option Entry) → at ≡ place_of key → at < length ps → o ≡ get_or ps at o → get_or ps (place_of key) None ≡ o
+home-read ps key at o same inside is = sym (is ∙ get_or_default ps at o None inside ∙ ap (λ k. get_or ps k None) same)
+
+pub home-slot : (ps : List (Option Entry)) (key at : ℕ) (o : Option Entry) → at ≡ place_of key → at < length ps → get_or ps (place_of key) None ≡ get_or ps at o
+home-slot ps key at o same inside = sym (get_or_default ps at o None inside ∙ ap (λ k. get_or ps k None) same)
+
+-- and where it is read twice
+pub home-again : (ps : List (Option Entry)) (key : ℕ) (a b : Option Entry) → AreAtHome ps → get_or ps (place_of key) None ≡ a → get_or ps (place_of key) None ≡ b → IsSomeAnd a (λ e. e.key ≡ key) → option_map (λ (e : Entry). e.value) b ≡ vals ps key
+home-again ps key a b home is_a is_b has = home-value ps key b home is_b (subst (λ o. IsSomeAnd o (λ e. e.key ≡ key)) (sym is_a ∙ is_b) has)
+
+-- ---- an entry more
+
+module _ (old new : List (Option Entry)) (e : Entry) (over : List Entry) (to : IsSetTo old new (place_of e.key) (Some e)) (home : AreAtHome old) (once : (i : ℕ) (f : Entry) → Stands old i f → value_at over f.key ≡ None) (free : get_or old (place_of e.key) None ≡ None) (absent : value_at (all_in old over) e.key ≡ None) where
+  put-stands : (i : ℕ) (f : Entry) → Stands new i f → (Stands old i f) ⊎ ((i ≡ place_of e.key) × (e ≡ f))
+  put-stands i f is = elim (cases_eq i (place_of e.key)) [
+    | inl here ↦ inr (here, same_Some e f (sym to.there ∙ ap (λ k. get_or new k None) (sym here) ∙ is))
+    | inr away ↦ inl (sym (to.others i away) ∙ is)
+  ]
+
+  put-keeps : (i : ℕ) (f : Entry) → Stands old i f → Stands new i f
+  put-keeps i f is = to.others i (λ here. none-some f (sym free ∙ ap (λ k. get_or old k None) (sym here) ∙ is)) ∙ is
+
+  pub put-home : AreAtHome new
+  put-home i f is = elim (put-stands i f is) [
+    | inl was ↦ home i f was
+    | inr here ↦ here.0 ∙ ap (λ (x : Entry). place_of x.key) here.1
+  ]
+
+  pub put-once : (i : ℕ) (f : Entry) → Stands new i f → value_at over f.key ≡ None
+  put-once i f is = elim (put-stands i f is) [
+    | inl was ↦ once i f was
+    | inr here ↦ ap (λ (x : Entry). value_at over x.key) (sym here.1) ∙ sym (all-none old over e.key (all-nowhere old over e.key absent)) ∙ absent
+  ]
+
+  pub put-puts : Puts (all_in old over) (all_in new over) e.key (Some e.value)
+  put-puts other = elim (cases_eq other e.key) [
+    | inl same ↦ rw (eq-eqb other e.key same) (all-some new over other e.value (ap (vals new) same ∙ stands-some new (home-apart new put-home) (place_of e.key) e to.there))
+    | inr away ↦ rw (ne_eqb other e.key away) (all-both new over other ∙ ap (λ o. either o (value_at over other)) (same-vals old new other (home-apart new put-home) (λ i f key is. put-keeps i f is) (λ i f key is. elim (put-stands i f is) [
+      | inl was ↦ was
+      | inr here ↦ absurd (away (sym key ∙ ap (λ (x : Entry). x.key) (sym here.1)))
+    ])) ∙ sym (all-both old over other))
+  ]
+
+  pub put-placed : (has_others : Bool) → OnFalse has_others ((key : ℕ) → value_at over key ≡ None) → ArePlaced new over has_others
+  put-placed has_others none = record { home = put-home; once = put-once; none = none }
+
+-- ---- an entry less
+
+module _ (old new : List (Option Entry)) (key v : ℕ) (over : List Entry) (to : IsSetTo old new (place_of key) None) (home : AreAtHome old) (found : vals old key ≡ Some v) (once : (i : ℕ) (f : Entry) → Stands old i f → value_at over f.key ≡ None) where
+  taken-stands : (i : ℕ) (f : Entry) → Stands new i f → (i ≢ place_of key) × Stands old i f
+  taken-stands i f is =
+      let away : i ≢ place_of key = λ here. none-some f (sym to.there ∙ ap (λ k. get_or new k None) (sym here) ∙ is) in
+      (away, sym (to.others i away) ∙ is)
+
+  -- what stood at the place had the key
+  was-own : (i : ℕ) (f : Entry) → i ≡ place_of key → Stands old i f → f.key ≡ key
+  was-own i f here is =
+      let there = some-stands old key v found in
+      let at : there.0 ≡ place_of key = home there.0 there.1 there.2 ∙ ap place_of there.3 in
+      ap (λ (x : Entry). x.key) (same_Some f there.1 (sym is ∙ ap (λ k. get_or old k None) (here ∙ sym at) ∙ there.2)) ∙ there.3
+
+  taken-home : AreAtHome new
+  taken-home i f is = home i f (taken-stands i f is).1
+
+  pub taken-placed : (has_others : Bool) → OnFalse has_others ((other : ℕ) → value_at over other ≡ None) → ArePlaced new over has_others
+  taken-placed has_others none = record { home = taken-home; once = λ i f is. once i f (taken-stands i f is).1; none = none }
+
+  pub taken-puts : Puts (all_in old over) (all_in new over) key None
+  taken-puts other = elim (cases_eq other key) [
+    | inl same ↦
+        let there = some-stands old key v found in
+        rw (eq-eqb other key same) (ap (value_at (all_in new over)) same ∙ nowhere-all new over key (home-none new key taken-home to.there) ∙ sym (ap (value_at over) there.3) ∙ once there.0 there.1 there.2)
+    | inr away ↦ rw (ne_eqb other key away) (all-both new over other ∙ ap (λ o. either o (value_at over other)) (same-vals old new other (home-apart new taken-home)
+        (λ i f at is. to.others i (λ here. away (sym at ∙ was-own i f here is)) ∙ is)
+        (λ i f at is. (taken-stands i f is).1)) ∙ sym (all-both old over other))
+  ]
+
+-- ---- a change of the others
+
+pub others-placed : (ps : List (Option Entry)) (old new : List Entry) (key : ℕ) (value : Option ℕ) → HasNowhere ps key → Puts old new key value → AreAtHome ps → ((i : ℕ) (f : Entry) → Stands ps i f → value_at old f.key ≡ None) → ArePlaced ps new true
+others-placed ps old new key value nowhere puts home once = record {
+  home = home;
+  once = λ i e is. puts e.key ∙ ap (λ b. cond b value (value_at old e.key)) (ne_eqb e.key key (nowhere i e is)) ∙ once i e is;
+  none = tt;
+}
+
+pub kept-placed : (ps : List (Option Entry)) (old new : List Entry) → ((key : ℕ) → value_at new key ≡ value_at old key) → AreAtHome ps → ((i : ℕ) (f : Entry) → Stands ps i f → value_at old f.key ≡ None) → ArePlaced ps new true
+kept-placed ps old new same home once = record { home = home; once = λ i e is. same e.key ∙ once i e is; none = tt }
+
+pub others-same : (ps qs : List (Option Entry)) (old new : List Entry) (key : ℕ) → qs ≡ ps → value_at new key ≡ value_at old key → value_at (all_in qs new) key ≡ value_at (all_in ps old) key
+others-same ps qs old new key places same = ap (λ p. value_at (all_in p new) key) places ∙ all-both ps new key ∙ ap (either (vals ps key)) same ∙ sym (all-both ps old key)
+
+-- what nothing has can be taken out
+pub none-gone : (ps : List (Option Entry)) (over : List Entry) (key : ℕ) → value_at (all_in ps over) key ≡ None → Puts (all_in ps over) (all_in ps over) key None
+none-gone ps over key none other = elim (cases_eq other key) [
+  | inl same ↦ rw (eq-eqb other key same) (ap (value_at (all_in ps over)) same ∙ none)
+  | inr away ↦ rw (ne_eqb other key away) refl
+]
+
+-- ---- places that are made
+
+pub free-all : (ps : List (Option Entry)) (over : List Entry) (key : ℕ) → AreFree ps → value_at (all_in ps over) key ≡ value_at over key
+free-all ps over key free = nowhere-all ps over key (λ i e is. absurd (none-some e (sym (free i) ∙ is)))
+
+pub empty-all : (ps : List (Option Entry)) (over : List Entry) (key : ℕ) → length ps ≡ 0 → value_at (all_in ps over) key ≡ value_at over key
+empty-all ps over key empty = nowhere-all ps over key (λ i e is. let inside = stands-inside ps i e is in absurd (omega (arith, inside, empty)))
+
+pub made-same : (ps qs : List (Option Entry)) (old new : List Entry) (key : ℕ) → (qs ≡ ps) ⊎ ((length ps ≡ 0) × AreFree qs) → value_at new key ≡ value_at old key → value_at (all_in qs new) key ≡ value_at (all_in ps old) key
+made-same ps qs old new key made same = elim made [
+  | inl kept ↦ others-same ps qs old new key kept same
+  | inr fresh ↦ free-all qs new key fresh.1 ∙ same ∙ sym (empty-all ps old key fresh.0)
+]
