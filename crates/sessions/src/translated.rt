@@ -16,6 +16,7 @@ ghost use Rattle.sessions.specs.Translated.{Finishes, HasNoHeir, IsHeir, IsNowhe
 use crate::Session;
 use crate::keys::{has_endpoints, key, mapping_key};
 use buckets::Buckets;
+use buckets::by_port::ByPort;
 use packet::endpoint::{Endpoint, Proto};
 use rows::Rows;
 use slab::Slab;
@@ -29,7 +30,7 @@ pub struct Translated {
     /// The mapping, by protocol and inside endpoint.
     pub insides: Buckets,
     /// The mapping, by protocol and outside endpoint.
-    pub outsides: Buckets,
+    pub outsides: ByPort,
     /// The sessions that aren't the first of their mapping, by protocol, inside and remote endpoint.
     pub others: Rows,
 }
@@ -44,7 +45,7 @@ impl Translated {
         Translated {
             firsts: Slab::new(alloc),
             insides: Buckets::new(alloc),
-            outsides: Buckets::new(alloc),
+            outsides: ByPort::new(alloc),
             others: Rows::new(alloc),
         }
     }
@@ -277,7 +278,7 @@ impl Translated {
 }
 
 // Lets a key lead to a mapping, which led nowhere.
-fn lead(map: &mut Buckets, key: u64, mapping: usize)
+fn lead(map: &mut ByPort, key: u64, mapping: usize)
     requires absent { at map.old key ≡ None }
     requires room { 0 < map.old.room }
     ensures puts { Puts map.old.held map.new.held key (Some mapping) }
