@@ -1,5 +1,5 @@
 -- What a change of one slot makes of the pairs, and of how often they are held.
-use Rattle.std.proofs.Common.{◌≡◌, ℕ, ◌+◌, ◌<◌, List, Option, Some, None, IsSome, IsSomeAnd, refl, sym, ap, ◌∙◌, inl, inr, subst, arith}
+use Rattle.std.proofs.Common.{◌≡◌, ◌≢◌, ℕ, ◌+◌, ◌<◌, List, Option, Some, None, IsSome, IsSomeAnd, refl, sym, ap, ◌∙◌, inl, inr, subst, arith}
 use Rattle.std.proofs.lemmas.Bool.{cases_eq}
 use Rattle.std.proofs.lemmas.Option.{none-some, same_Some}
 use Rattle.rows.specs.declared.Entry.{Entry}
@@ -9,8 +9,8 @@ use Rattle.slab.proofs.SlabLemmas.{Updates-with_value}
 use Rattle.mappings.specs.declared.map.Pair.{Pair}
 use Rattle.mappings.specs.declared.map.Counted.{Counted}
 use Rattle.mappings.specs.Map.{times_at, GainsIn}
-use Rattle.mappings.specs.Indexed.{pairs_in, key_by, inside_of, outside_of, IsSmall, IsEntry, AreIndexed}
-use Rattle.mappings.proofs.Led.{IsRow-counts, IsRow-more, IsRow-less, IsRow-same}
+use Rattle.mappings.specs.Indexed.{pairs_in, number_of, IsSmall, IsEntry, AreIndexed}
+use Rattle.mappings.proofs.Led.{IsRow-counts, IsRow-more, IsRow-less, IsRow-same, AreApart-counts, AreApart-more, AreApart-less}
 use Rattle.mappings.proofs.Slots.{times-update, weight}
 use Rattle.mappings.proofs.Times.{entry-more, entry-same}
 
@@ -21,13 +21,12 @@ Updates-write old new slot f was before written =
     let is : new ≡ with_value old slot (f was) = subst (λ o. IsSomeAnd o (λ e. new ≡ with_value old slot (f e))) before written in
     subst (λ n. Updates old n slot (Some (f was))) (sym is) (Updates-with_value old slot (f was) (subst IsSome (sym before) refl))
 
--- the pairs stay indexed where both rows keep their values
-pub AreIndexed-same : (slots : List (Option Counted)) (inside inside' outside outside' : List Entry) → ((k : ℕ) → value_at inside' k ≡ value_at inside k) → ((k : ℕ) → value_at outside' k ≡ value_at outside k)
-    → AreIndexed slots inside outside → AreIndexed slots inside' outside'
-AreIndexed-same slots inside inside' outside outside' near far indexed = record {
+-- the pairs stay indexed where the row keeps its values
+pub AreIndexed-same : (slots : List (Option Counted)) (outside outside' : List Entry) → ((k : ℕ) → value_at outside' k ≡ value_at outside k) → AreIndexed slots outside → AreIndexed slots outside'
+AreIndexed-same slots outside outside' far indexed = record {
   entries = indexed.entries;
-  by_inside = IsRow-same inside_of slots inside inside' near indexed.by_inside;
-  by_outside = IsRow-same outside_of slots outside outside' far indexed.by_outside;
+  by_outside = IsRow-same slots outside outside' far indexed.by_outside;
+  apart = indexed.apart;
 }
 
 module _ (old new : Slab Counted) (slot : ℕ) where
@@ -59,43 +58,40 @@ module _ (old new : Slab Counted) (slot : ℕ) where
       let w : weight p (get old slot) ≡ times_at p was = ap (weight p) before in
       omega (arith, total, w, entry-same p was.pair 1 was refl one)
 
-  module _ (inside outside : List Entry) (indexed : AreIndexed old.slots inside outside) where
-    pub AreIndexed-counts : (was is : Counted) → Updates old new slot (Some is) → get old slot ≡ Some was → is.pair ≡ was.pair → 0 < is.count → AreIndexed new.slots inside outside
+  module _ (outside : List Entry) (indexed : AreIndexed old.slots outside) where
+    pub AreIndexed-counts : (was is : Counted) → Updates old new slot (Some is) → get old slot ≡ Some was → is.pair ≡ was.pair → 0 < is.count → AreIndexed new.slots outside
     AreIndexed-counts was is updates before same held = record {
       entries = λ k entry there. elim (cases_eq k slot) [
         | inl here ↦
             let one : is ≡ entry = same_Some is entry (sym updates.changed ∙ ap (get new) (sym here) ∙ there) in
-            let old_one = indexed.entries slot was before in
             subst IsEntry one (record {
               held = held;
-              inside = subst (λ (q : Pair). IsSmall q.inside) (sym same) old_one.inside;
-              outside = subst (λ (q : Pair). IsSmall q.outside) (sym same) old_one.outside;
+              outside = subst (λ (q : Pair). IsSmall q.outside) (sym same) (indexed.entries slot was before).outside;
             })
         | inr away ↦ indexed.entries k entry (sym (updates.others k away) ∙ there)
       ];
-      by_inside = IsRow-counts inside_of old.slots new.slots slot updates.others inside was is before updates.changed same indexed.by_inside;
-      by_outside = IsRow-counts outside_of old.slots new.slots slot updates.others outside was is before updates.changed same indexed.by_outside;
+      by_outside = IsRow-counts old.slots new.slots slot updates.others outside was is before updates.changed same indexed.by_outside;
+      apart = AreApart-counts old.slots new.slots slot updates.others was is before updates.changed same indexed.apart;
     }
 
-    module _ (inside' outside' : List Entry) (e : Counted) where
-      pub AreIndexed-more : Updates old new slot (Some e) → get old slot ≡ None → value_at inside (key_by inside_of e.pair) ≡ None → value_at outside (key_by outside_of e.pair) ≡ None
-          → Puts inside inside' (key_by inside_of e.pair) (Some slot) → Puts outside outside' (key_by outside_of e.pair) (Some slot) → IsEntry e → AreIndexed new.slots inside' outside'
-      AreIndexed-more updates empty free_in free_out puts_in puts_out good = record {
+    module _ (outside' : List Entry) (e : Counted) where
+      pub AreIndexed-more : Updates old new slot (Some e) → get old slot ≡ None → value_at outside (number_of e.pair) ≡ None
+          → ((k : ℕ) (f : Counted) → get old k ≡ Some f → f.pair.proto ≡ e.pair.proto → f.pair.inside ≢ e.pair.inside) → Puts outside outside' (number_of e.pair) (Some slot) → IsEntry e → AreIndexed new.slots outside'
+      AreIndexed-more updates empty free free_in puts good = record {
         entries = λ k entry there. elim (cases_eq k slot) [
           | inl here ↦ subst IsEntry (same_Some e entry (sym updates.changed ∙ ap (get new) (sym here) ∙ there)) good
           | inr away ↦ indexed.entries k entry (sym (updates.others k away) ∙ there)
         ];
-        by_inside = IsRow-more inside_of old.slots new.slots slot updates.others inside inside' e empty updates.changed free_in puts_in indexed.by_inside;
-        by_outside = IsRow-more outside_of old.slots new.slots slot updates.others outside outside' e empty updates.changed free_out puts_out indexed.by_outside;
+        by_outside = IsRow-more old.slots new.slots slot updates.others outside outside' e empty updates.changed free puts indexed.by_outside;
+        apart = AreApart-more old.slots new.slots slot updates.others e updates.changed free_in indexed.apart;
       }
 
-      pub AreIndexed-less : Updates old new slot None → get old slot ≡ Some e → Puts inside inside' (key_by inside_of e.pair) None → Puts outside outside' (key_by outside_of e.pair) None
-          → AreIndexed new.slots inside' outside'
-      AreIndexed-less updates there puts_in puts_out = record {
+      pub AreIndexed-less : Updates old new slot None → get old slot ≡ Some e → Puts outside outside' (number_of e.pair) None → AreIndexed new.slots outside'
+      AreIndexed-less updates there puts = record {
         entries = λ k entry is. elim (cases_eq k slot) [
           | inl here ↦ absurd (none-some entry (sym updates.changed ∙ ap (get new) (sym here) ∙ is))
           | inr away ↦ indexed.entries k entry (sym (updates.others k away) ∙ is)
         ];
-        by_inside = IsRow-less inside_of old.slots new.slots slot updates.others inside inside' e there updates.changed puts_in indexed.by_inside;
-        by_outside = IsRow-less outside_of old.slots new.slots slot updates.others outside outside' e there updates.changed puts_out indexed.by_outside;
+        by_outside = IsRow-less old.slots new.slots slot updates.others outside outside' e there updates.changed puts indexed.by_outside;
+        apart = AreApart-less old.slots new.slots slot updates.others updates.changed indexed.apart;
       }

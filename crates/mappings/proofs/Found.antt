@@ -1,5 +1,5 @@
--- What is known of a pair that a row leads to, or to which it doesn't.
-use Rattle.std.proofs.Common.{◌≡◌, ℕ, ◌<◌, List, get_or, Option, Some, None, IsSome, sym, ap, ◌∙◌, inl, inr, arith, refl, subst}
+-- What is known of a pair that the row leads to, or to which it doesn't.
+use Rattle.std.proofs.Common.{◌≡◌, ◌≢◌, ℕ, ◌<◌, List, get_or, Option, Some, None, IsSome, sym, ap, ◌∙◌, inl, inr, arith, refl, subst}
 use Rattle.std.proofs.lemmas.Bool.{cases_lt}
 use Rattle.std.proofs.lemmas.Option.{none-some, same_Some}
 use Rattle.packet.specs.declared.endpoint.Proto.{Proto}
@@ -9,82 +9,87 @@ use Rattle.rows.specs.Held.{value_at}
 use Rattle.mappings.specs.declared.map.Pair.{Pair}
 use Rattle.mappings.specs.declared.map.Counted.{Counted}
 use Rattle.mappings.specs.Map.{pair, times_in, AreOneToOne}
-use Rattle.mappings.specs.Indexed.{pairs_in, key, key_by, inside_of, outside_of, IsSmall, IsRow, AreIndexed, KeepsOneToOneIn}
+use Rattle.mappings.specs.Indexed.{pairs_in, key, number_of, IsSmall, IsRow, AreApart, AreIndexed, KeepsOneToOneIn}
 use Rattle.mappings.proofs.Keys.{key-once}
 use Rattle.mappings.proofs.Slots.{times-slot, times-some}
 use Rattle.mappings.proofs.Times.{same_parts}
 
-key-same : (side : Pair → Endpoint) (p q : Pair) → p.proto ≡ q.proto → side p ≡ side q → key_by side p ≡ key_by side q
-key-same side p q proto near = ap (λ v. key v (side p)) proto ∙ ap (λ v. key q.proto v) near
+number-same : (p q : Pair) → p.proto ≡ q.proto → p.outside ≡ q.outside → number_of p ≡ number_of q
+number-same p q proto far = ap (λ v. key v p.outside) proto ∙ ap (λ v. key q.proto v) far
 
-module _ (side : Pair → Endpoint) (slots : List (Option Counted)) (row : List Entry) (led : IsRow side slots row) where
+-- a pair that no slot has is not held
+pub none_held : (slots : List (Option Counted)) (p : Pair) → ((slot : ℕ) (entry : Counted) → get_or slots slot None ≡ Some entry → entry.pair ≢ p) → times_in (pairs_in slots) p ≡ 0
+none_held slots p none = elim (cases_lt 0 (times_in (pairs_in slots) p)) [
+  | inl lt ↦
+      let some = times-some p slots lt in
+      absurd (none some.0 some.1 some.2 (sym some.3))
+  | inr zero ↦ omega (arith, zero)
+]
+
+-- two pairs that are held are one where they share an inside endpoint
+same_inside : (slots : List (Option Counted)) → AreApart slots → (p q : Pair) → 0 < times_in (pairs_in slots) p → 0 < times_in (pairs_in slots) q → p.proto ≡ q.proto → p.inside ≡ q.inside → p ≡ q
+same_inside slots apart p q held_p held_q proto near =
+    let one = times-some p slots held_p in
+    let other = times-some q slots held_q in
+    let proto_is : one.1.pair.proto ≡ other.1.pair.proto = ap (λ (r : Pair). r.proto) (sym one.3) ∙ proto ∙ ap (λ (r : Pair). r.proto) other.3 in
+    let near_is : one.1.pair.inside ≡ other.1.pair.inside = ap (λ (r : Pair). r.inside) (sym one.3) ∙ near ∙ ap (λ (r : Pair). r.inside) other.3 in
+    let slot : one.0 ≡ other.0 = apart one.0 other.0 one.1 other.1 one.2 other.2 proto_is near_is in
+    let entry : one.1 ≡ other.1 = same_Some one.1 other.1 (sym one.2 ∙ ap (λ k. get_or slots k None) slot ∙ other.2) in
+    one.3 ∙ ap (λ (e : Counted). e.pair) entry ∙ sym other.3
+
+module _ (slots : List (Option Counted)) (row : List Entry) (led : IsRow slots row) where
   -- a pair that is held is the one to which the row leads
-  pub held_is : (p : Pair) (slot : ℕ) → 0 < times_in (pairs_in slots) p → value_at row (key_by side p) ≡ Some slot → (entry : Counted) × (get_or slots slot None ≡ Some entry) × (entry.pair ≡ p)
+  pub held_is : (p : Pair) (slot : ℕ) → 0 < times_in (pairs_in slots) p → value_at row (number_of p) ≡ Some slot → (entry : Counted) × (get_or slots slot None ≡ Some entry) × (entry.pair ≡ p)
   held_is p slot lt found =
       let some = times-some p slots lt in
-      let leads : value_at row (key_by side p) ≡ Some some.0 = ap (λ q. value_at row (key_by side q)) some.3 ∙ led.each some.0 some.1 some.2 in
+      let leads : value_at row (number_of p) ≡ Some some.0 = ap (λ q. value_at row (number_of q)) some.3 ∙ led.each some.0 some.1 some.2 in
       let one : slot ≡ some.0 = same_Some slot some.0 (sym found ∙ leads) in
       (some.1, ap (λ k. get_or slots k None) one ∙ some.2, sym some.3)
 
   -- a pair to which it doesn't lead is not held
-  pub not_held : (p : Pair) → value_at row (key_by side p) ≡ None → times_in (pairs_in slots) p ≡ 0
-  not_held p free = elim (cases_lt 0 (times_in (pairs_in slots) p)) [
-    | inl lt ↦
-        let some = times-some p slots lt in
-        absurd (none-some some.0 (sym free ∙ ap (λ q. value_at row (key_by side q)) some.3 ∙ led.each some.0 some.1 some.2))
-    | inr none ↦ omega (arith, none)
-  ]
+  pub not_held : (p : Pair) → value_at row (number_of p) ≡ None → times_in (pairs_in slots) p ≡ 0
+  not_held p free = none_held slots p (λ slot entry is same. none-some slot (sym free ∙ ap (λ q. value_at row (number_of q)) (sym same) ∙ led.each slot entry is))
 
   -- it leads to a pair that is held
-  pub held_led : (p : Pair) → 0 < times_in (pairs_in slots) p → IsSome (value_at row (key_by side p))
+  pub held_led : (p : Pair) → 0 < times_in (pairs_in slots) p → IsSome (value_at row (number_of p))
   held_led p lt =
       let some = times-some p slots lt in
-      subst IsSome (sym (ap (λ q. value_at row (key_by side q)) some.3 ∙ led.each some.0 some.1 some.2)) refl
+      subst IsSome (sym (ap (λ q. value_at row (number_of q)) some.3 ∙ led.each some.0 some.1 some.2)) refl
 
-  -- two pairs that are held are one where the row can't tell them apart
-  pub same_held : (p q : Pair) → 0 < times_in (pairs_in slots) p → 0 < times_in (pairs_in slots) q → p.proto ≡ q.proto → side p ≡ side q → p ≡ q
-  same_held p q held_p held_q proto near =
+  -- two pairs that are held are one where they share an outside endpoint
+  same_outside : (p q : Pair) → 0 < times_in (pairs_in slots) p → 0 < times_in (pairs_in slots) q → p.proto ≡ q.proto → p.outside ≡ q.outside → p ≡ q
+  same_outside p q held_p held_q proto far =
       let some = times-some q slots held_q in
-      let leads : value_at row (key_by side q) ≡ Some some.0 = ap (λ r. value_at row (key_by side r)) some.3 ∙ led.each some.0 some.1 some.2 in
-      let found = held_is p some.0 held_p (ap (value_at row) (key-same side p q proto near) ∙ leads) in
+      let leads : value_at row (number_of q) ≡ Some some.0 = ap (λ r. value_at row (number_of r)) some.3 ∙ led.each some.0 some.1 some.2 in
+      let found = held_is p some.0 held_p (ap (value_at row) (number-same p q proto far) ∙ leads) in
       let one : found.0 ≡ some.1 = same_Some found.0 some.1 (sym found.1 ∙ some.2) in
       sym found.2 ∙ ap (λ (e : Counted). e.pair) one ∙ sym some.3
 
-  -- the pair to which it leads has this protocol and endpoint
-  pub found_has : ((slot : ℕ) (entry : Counted) → get_or slots slot None ≡ Some entry → IsSmall (side entry.pair)) → (proto : Proto) (near : Endpoint) (slot : ℕ) → IsSmall near
-      → value_at row (key proto near) ≡ Some slot → (entry : Counted) × (get_or slots slot None ≡ Some entry) × ((entry.pair.proto ≡ proto) × (side entry.pair ≡ near))
-  found_has small proto near slot small_near found =
-      let there = led.back (key proto near) slot found in
-      (there.0, there.1, key-once there.0.pair.proto proto (side there.0.pair) near (small slot there.0 there.1) small_near there.2)
-
-module _ (slots : List (Option Counted)) (inside outside : List Entry) (indexed : AreIndexed slots inside outside) where
+module _ (slots : List (Option Counted)) (outside : List Entry) (indexed : AreIndexed slots outside) where
   pub one_to_one : AreOneToOne (times_in (pairs_in slots))
   one_to_one = record {
-    by_outside = same_held outside_of slots outside indexed.by_outside;
-    by_inside = same_held inside_of slots inside indexed.by_inside;
+    by_outside = same_outside slots outside indexed.by_outside;
+    by_inside = same_inside slots indexed.apart;
   }
 
-  pub entry-held : (slot : ℕ) (entry : Counted) → get_or slots slot None ≡ Some entry → 0 < times_in (pairs_in slots) entry.pair
+  entry-held : (slot : ℕ) (entry : Counted) → get_or slots slot None ≡ Some entry → 0 < times_in (pairs_in slots) entry.pair
   entry-held slot entry is = omega (arith, times-slot slots slot entry is, (indexed.entries slot entry is).held)
 
-  pub found_inside : (proto : Proto) (near : Endpoint) (slot : ℕ) → IsSmall near
-      → value_at inside (key proto near) ≡ Some slot → (entry : Counted) × (get_or slots slot None ≡ Some entry) × ((entry.pair.proto ≡ proto) × (entry.pair.inside ≡ near))
-  found_inside = found_has inside_of slots inside indexed.by_inside (λ k e is. (indexed.entries k e is).inside)
-
-  pub found_outside : (proto : Proto) (far : Endpoint) (slot : ℕ) → IsSmall far
-      → value_at outside (key proto far) ≡ Some slot → (entry : Counted) × (get_or slots slot None ≡ Some entry) × ((entry.pair.proto ≡ proto) × (entry.pair.outside ≡ far))
-  found_outside = found_has outside_of slots outside indexed.by_outside (λ k e is. (indexed.entries k e is).outside)
-
-  -- the pair of an endpoint to which a row leads is held
-  pub inside_held : (proto : Proto) (near : Endpoint) (slot : ℕ) (entry : Counted) → IsSmall near → value_at inside (key proto near) ≡ Some slot → get_or slots slot None ≡ Some entry
+  -- the pair of a slot is held
+  pub inside_held : (proto : Proto) (near : Endpoint) (slot : ℕ) (entry : Counted) → get_or slots slot None ≡ Some entry → entry.pair.proto ≡ proto → entry.pair.inside ≡ near
       → 0 < times_in (pairs_in slots) (pair proto near entry.pair.outside)
-  inside_held proto near slot entry small found is =
-      let there = found_inside proto near slot small found in
-      let one : there.0 ≡ entry = same_Some there.0 entry (sym there.1 ∙ is) in
-      let same : entry.pair ≡ pair proto near entry.pair.outside = same_parts entry.pair (pair proto near entry.pair.outside)
-      (ap (λ (e : Counted). e.pair.proto) (sym one) ∙ there.2.0) (ap (λ (e : Counted). e.pair.inside) (sym one) ∙ there.2.1) refl in
+  inside_held proto near slot entry is proto_is near_is =
+      let same : entry.pair ≡ pair proto near entry.pair.outside = same_parts entry.pair (pair proto near entry.pair.outside) proto_is near_is refl in
       omega (arith, entry-held slot entry is, ap (times_in (pairs_in slots)) same)
 
+  -- the pair to which the row leads has this protocol and endpoint
+  found_outside : (proto : Proto) (far : Endpoint) (slot : ℕ) → IsSmall far
+      → value_at outside (key proto far) ≡ Some slot → (entry : Counted) × (get_or slots slot None ≡ Some entry) × ((entry.pair.proto ≡ proto) × (entry.pair.outside ≡ far))
+  found_outside proto far slot small found =
+      let there = indexed.by_outside.back (key proto far) slot found in
+      (there.0, there.1, key-once there.0.pair.proto proto there.0.pair.outside far (indexed.entries slot there.0 there.1).outside small there.2)
+
+  -- and it is held
   pub outside_held : (proto : Proto) (far : Endpoint) (slot : ℕ) (entry : Counted) → IsSmall far → value_at outside (key proto far) ≡ Some slot → get_or slots slot None ≡ Some entry
       → 0 < times_in (pairs_in slots) (pair proto entry.pair.inside far)
   outside_held proto far slot entry small found is =
@@ -96,20 +101,14 @@ module _ (slots : List (Option Counted)) (inside outside : List Entry) (indexed 
 
   -- a pair that keeps the pairs one-to-one
   module _ (p : Pair) (keeps : KeepsOneToOneIn (pairs_in slots) p) where
-    pub found_is : (slot : ℕ) → IsSmall p.inside → value_at inside (key p.proto p.inside) ≡ Some slot → (entry : Counted) × (get_or slots slot None ≡ Some entry) × (entry.pair ≡ p)
+    pub found_is : (slot : ℕ) → IsSmall p.outside → value_at outside (number_of p) ≡ Some slot → (entry : Counted) × (get_or slots slot None ≡ Some entry) × (entry.pair ≡ p)
     found_is slot small found =
-        let there = found_inside p.proto p.inside slot small found in
-        let far : there.0.pair.outside ≡ p.outside = (keeps there.0.pair (entry-held slot there.0 there.1) there.2.0).0 there.2.1 in
-        (there.0, there.1, same_parts there.0.pair p there.2.0 there.2.1 far)
-
-    outside_by : (o : Option ℕ) → value_at outside (key p.proto p.outside) ≡ o → IsSmall p.outside → value_at inside (key p.proto p.inside) ≡ None → o ≡ None
-    outside_by None is small free = refl
-    outside_by (Some slot) is small free =
-        let there = found_outside p.proto p.outside slot small is in
+        let there = found_outside p.proto p.outside slot small found in
         let near : there.0.pair.inside ≡ p.inside = (keeps there.0.pair (entry-held slot there.0 there.1) there.2.0).1 there.2.1 in
-        let same : there.0.pair ≡ p = same_parts there.0.pair p there.2.0 near there.2.1 in
-        absurd (none-some slot (sym free ∙ ap (λ q. value_at inside (key_by inside_of q)) (sym same) ∙ indexed.by_inside.each slot there.0 there.1))
+        (there.0, there.1, same_parts there.0.pair p there.2.0 near there.2.1)
 
-    -- where its inside endpoint is free, so is its outside endpoint
-    pub outside_free : IsSmall p.outside → value_at inside (key p.proto p.inside) ≡ None → value_at outside (key p.proto p.outside) ≡ None
-    outside_free small free = outside_by (value_at outside (key p.proto p.outside)) refl small free
+    -- where its outside endpoint is free, so is its inside endpoint
+    pub inside_free : value_at outside (number_of p) ≡ None → (slot : ℕ) (entry : Counted) → get_or slots slot None ≡ Some entry → entry.pair.proto ≡ p.proto → entry.pair.inside ≢ p.inside
+    inside_free free slot entry is proto near =
+        let far : entry.pair.outside ≡ p.outside = (keeps entry.pair (entry-held slot entry is) proto).0 near in
+        none-some slot (sym free ∙ ap (value_at outside) (sym (number-same entry.pair p proto far)) ∙ indexed.by_outside.each slot entry is)

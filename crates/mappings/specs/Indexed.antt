@@ -1,5 +1,5 @@
--- How the pairs are kept: each in a slot, and two maps that lead to it, of each of which a row is the list of
--- its entries. No public clause cites this module.
+-- How the pairs are kept: each in a slot, and a map that leads to it from the outside endpoint. A row is the
+-- list of the map's entries. No public clause cites this module.
 use Rattle.std.specs.Prelude.{◌≡◌, ◌↔◌, ℕ, ◌+◌, ◌-◌, ◌*◌, ◌<◌, List, [], ◌∷◌, Option, Some, None, min, slice_index_or}
 use Rattle.slab.specs.Slab.{slab_len}
 use Rattle.packet.specs.Numbers.{proto_number}
@@ -27,41 +27,38 @@ pub record IsSmall (endpoint : Endpoint) : Type 0 where
   pub addr : endpoint.addr < 4294967296
   pub port : endpoint.port < 65536
 
--- the two endpoints of a pair by which rows go
-abbrev pub inside_of : Pair → Endpoint
-inside_of pair = pair.inside
+-- the number by which the row leads to the pair
+abbrev pub number_of : Pair → ℕ
+number_of pair = key pair.proto pair.outside
 
-abbrev pub outside_of : Pair → Endpoint
-outside_of pair = pair.outside
-
--- the number that a pair has in the row of these endpoints
-abbrev pub key_by : (Pair → Endpoint) → Pair → ℕ
-key_by side pair = key pair.proto (side pair)
-
--- the row leads from the endpoint of each pair to its slot, and from no other
-pub record IsRow (side : Pair → Endpoint) (slots : List (Option Counted))
-    (row : List Entry) : Type 0 where
+-- the row leads from the outside endpoint of each pair to its slot, and from no other
+pub record IsRow (slots : List (Option Counted)) (row : List Entry) : Type 0 where
   pub each : (slot : ℕ) (entry : Counted) → slice_index_or slots slot None ≡ Some entry
-      → value_at row (key_by side entry.pair) ≡ Some slot
+      → value_at row (number_of entry.pair) ≡ Some slot
   pub back : (number slot : ℕ) → value_at row number ≡ Some slot
       → (entry : Counted) × (slice_index_or slots slot None ≡ Some entry)
-      × (key_by side entry.pair ≡ number)
+      × (number_of entry.pair ≡ number)
+
+-- no two slots have pairs of one protocol and one inside endpoint
+abbrev pub AreApart : List (Option Counted) → Type 0
+AreApart slots = (i j : ℕ) (e f : Counted) → slice_index_or slots i None ≡ Some e
+    → slice_index_or slots j None ≡ Some f → e.pair.proto ≡ f.pair.proto
+    → e.pair.inside ≡ f.pair.inside → i ≡ j
 
 -- what holds of each pair in a slot
 pub record IsEntry (entry : Counted) : Type 0 where
   pub held : 0 < entry.count
-  pub inside : IsSmall entry.pair.inside
   pub outside : IsSmall entry.pair.outside
 
--- both rows lead to the pairs
-pub record AreIndexed (slots : List (Option Counted)) (inside outside : List Entry) : Type 0 where
+-- the row leads to the pairs, of which no two of a protocol share an inside endpoint
+pub record AreIndexed (slots : List (Option Counted)) (outside : List Entry) : Type 0 where
   pub entries : (slot : ℕ) (entry : Counted) → slice_index_or slots slot None ≡ Some entry
       → IsEntry entry
-  pub by_inside : IsRow inside_of slots inside
-  pub by_outside : IsRow outside_of slots outside
+  pub by_outside : IsRow slots outside
+  pub apart : AreApart slots
 
 abbrev pub IsIndexed : Index → Type 0
-IsIndexed index = AreIndexed index.pairs.slots index.inside.held index.outside.held
+IsIndexed index = AreIndexed index.pairs.slots index.outside.held
 
 -- the pairs of an index
 abbrev pub held_in : Index → List Counted
@@ -74,5 +71,4 @@ KeepsOneToOneIn entries new = (p : Pair) → 0 < times_in entries p → p.proto 
 
 -- how many pairs surely go in with no memory
 abbrev pub room_in : Index → ℕ
-room_in index =
-    min (index.pairs.capacity - slab_len index.pairs) (min index.inside.room index.outside.room)
+room_in index = min (index.pairs.capacity - slab_len index.pairs) index.outside.room

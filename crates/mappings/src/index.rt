@@ -1,5 +1,5 @@
-//! The pairs, each in a slot of its own, and the two maps that lead to it.
-ghost use Rattle.std.specs.Prelude.{◌≡◌, ◌⊎◌, ◌+◌, ◌-◌, ◌<◌, ◌≤◌, Some, None, OnOk, OnErr, IsOk, IsSome, IfOk, IfSome, IfNone, IsSomeAnd};
+//! The pairs, each in a slot of its own, and the map that leads to it.
+ghost use Rattle.std.specs.Prelude.{◌≡◌, ◌↔◌, ◌+◌, ◌-◌, ◌<◌, ◌≤◌, Some, None, IsTrue, OnOk, OnErr, IsOk, IsSome, IfOk, IfSome, IfNone, IsSomeAnd};
 ghost use Rattle.packet.specs.declared.endpoint.Endpoint.{Endpoint as Place};
 ghost use Rattle.slab.specs.Slab.{get, with_value, HasRoomFor};
 ghost use Rattle.rows.specs.Held.{at, Puts};
@@ -13,10 +13,9 @@ use packet::endpoint::{Endpoint, Proto};
 use slab::Slab;
 use std::alloc::AllocError;
 
-/// The pairs that are held. From the protocol and either endpoint a map leads to the slot of the pair.
+/// The pairs that are held. From the protocol and the outside endpoint a map leads to the slot of the pair.
 #[derive(Drop)]
 pub struct Index {
-    pub inside: Buckets,
     pub outside: Buckets,
     pub pairs: Slab<Counted>,
 }
@@ -30,13 +29,12 @@ fn key(proto: Proto, endpoint: Endpoint) -> u64
     u64::from(proto.number()) * 0x1_0000_0000_0000 + addr + u64::from(endpoint.port)
 }
 
-/// Whether a first look into each map tells that it leads from the pair's endpoint. Both are asked in any case.
+/// Whether a first look into the map tells that it leads from the pair's outside endpoint.
 pub fn seems_held(index: &Index, pair: Pair) -> bool {
-    index.inside.seems_held(key(pair.proto, pair.inside))
-        & index.outside.seems_held(key(pair.proto, pair.outside))
+    index.outside.seems_held(key(pair.proto, pair.outside))
 }
 
-/// The outside endpoint of the pair with this inside endpoint.
+/// The outside endpoint of the pair with this inside endpoint. This walks over all pairs.
 pub fn find_outside(index: &Index, proto: Proto, inside: Endpoint) -> Option<Endpoint>
     requires { IsIndexed index.now }
     ensures found { IfSome result (λ outside.
@@ -44,8 +42,19 @@ pub fn find_outside(index: &Index, proto: Proto, inside: Endpoint) -> Option<End
     ensures absent { IfNone result ((outside : Place)
         → times_in (held_in index.now) (pair proto inside outside) ≡ 0) }
 {
-    let slot = index.inside.get(key(proto, inside))?;
-    Some(index.pairs[slot].pair.outside)
+    for (_, held) in &index.pairs {
+        if has_inside(&held.pair, proto, inside) {
+            return Some(held.pair.outside);
+        }
+    }
+    None
+}
+
+// Whether it is a pair of this protocol and inside endpoint.
+fn has_inside(pair: &Pair, proto: Proto, inside: Endpoint) -> bool
+    ensures { IsTrue result ↔ ((pair.now.proto ≡ proto) × (pair.now.inside ≡ inside)) }
+{
+    pair.proto == proto && pair.inside == inside
 }
 
 /// The inside endpoint of the pair with this outside endpoint.
@@ -75,11 +84,10 @@ pub fn add(index: &mut Index, pair: Pair) -> Result<(), AllocError>
         → room_in index.old ≤ room_in index.new }
     ensures room_err { OnErr result (room_in index.old ≤ room_in index.new) }
 {
-    let near = key(pair.proto, pair.inside);
-    let far = key(pair.proto, pair.outside);
-    reserve_new(&mut index.pairs, &index.inside, near)?;
+    let number = key(pair.proto, pair.outside);
+    reserve_new(&mut index.pairs, &index.outside, number)?;
     let slot = index.pairs.vacant_key();
-    match find_or_lead(&mut index.inside, &mut index.outside, near, far, slot)? {
+    match find_or_insert(&mut index.outside, number, slot)? {
         Some(held) => {
             count_up(&mut index.pairs, held);
             Ok(())
@@ -92,58 +100,21 @@ pub fn add(index: &mut Index, pair: Pair) -> Result<(), AllocError>
 }
 
 // Makes room for one more pair where none is free, unless the pair of this number is held, which needs none.
-fn reserve_new(pairs: &mut Slab<Counted>, inside: &Buckets, near: u64) -> Result<(), AllocError>
-    ensures room { OnOk result (at inside.now near ≡ None → HasRoomFor pairs.new 1) }
+fn reserve_new(pairs: &mut Slab<Counted>, outside: &Buckets, number: u64) -> Result<(), AllocError>
+    ensures room { OnOk result (at outside.now number ≡ None → HasRoomFor pairs.new 1) }
     ensures kept { pairs.new ≡ record pairs.old { capacity = pairs.new.capacity } }
     ensures grows { pairs.old.capacity ≤ pairs.new.capacity }
-    ensures held { IsSome (at inside.now near) → pairs.new ≡ pairs.old }
-    ensures again { IsSome (at inside.now near) → IsOk result }
+    ensures held { IsSome (at outside.now number) → pairs.new ≡ pairs.old }
+    ensures again { IsSome (at outside.now number) → IsOk result }
     ensures succeeds { HasRoomFor pairs.old 1 → IsOk result }
 {
     if pairs.len() < pairs.capacity() {
         return Ok(());
     }
-    if inside.get(near).is_some() {
+    if outside.get(number).is_some() {
         return Ok(());
     }
     pairs.reserve(1)
-}
-
-// The slot to which `inside` leads from `near`. Where it leads to none, `inside` leads from `near` to the new slot
-// afterwards, and `outside` from `far`; or neither does, where memory is refused.
-fn find_or_lead(
-    inside: &mut Buckets,
-    outside: &mut Buckets,
-    near: u64,
-    far: u64,
-    slot: usize,
-) -> Result<Option<usize>, AllocError>
-    requires { at inside.old near ≡ None → at outside.old far ≡ None }
-    ensures found { IfOk result (λ found. found ≡ at inside.old near) }
-    ensures inside { IfOk result (λ found. found ≡ None
-        → Puts inside.old.held inside.new.held near (Some slot)) }
-    ensures outside { IfOk result (λ found. found ≡ None
-        → Puts outside.old.held outside.new.held far (Some slot)) }
-    ensures kept_inside { IfOk result (λ found. IsSome found → KeepsAll inside.old inside.new) }
-    ensures kept_outside { IfOk result (λ found. IsSome found → outside.new ≡ outside.old) }
-    ensures err_inside { OnErr result (KeepsAll inside.old inside.new) }
-    ensures err_outside { OnErr result (KeepsAll outside.old outside.new) }
-    ensures again { IsSome (at inside.old near) → IsOk result }
-    ensures succeeds { 0 < inside.old.room → 0 < outside.old.room → IsOk result }
-    ensures room_inside { inside.old.room ≤ inside.new.room + 1 }
-    ensures room_outside { OnOk result (outside.old.room ≤ outside.new.room + 1) }
-    ensures room_kept { IfOk result (λ found. IsSome found → inside.old.room ≤ inside.new.room) }
-    ensures room_err { OnErr result ((inside.old.room ≤ inside.new.room) ⊎ (outside.old.room ≡ 0)) }
-    ensures room_err_outside { OnErr result (outside.old.room ≤ outside.new.room) }
-{
-    if let Some(held) = find_or_insert(inside, near, slot)? {
-        return Ok(Some(held));
-    }
-    if outside.insert(far, slot).is_err() {
-        inside.remove(near);
-        return Err(AllocError);
-    }
-    Ok(None)
 }
 
 // As `Buckets::get_or_insert`, whose clauses don't say that it isn't refused where the key has a value.
@@ -178,7 +149,6 @@ pub fn reserve(index: &mut Index) -> Result<(), AllocError>
     ensures room { room_in index.old ≤ room_in index.new }
 {
     index.pairs.reserve(2)?;
-    index.inside.reserve()?;
     index.outside.reserve()
 }
 
@@ -200,7 +170,7 @@ fn count_down(pairs: &mut Slab<Counted>, slot: usize)
     pairs[slot].count -= 1;
 }
 
-/// The pair is held once less, and with its last hold it is gone from both maps.
+/// The pair is held once less, and with its last hold it is gone from the map.
 pub fn take_one(index: &mut Index, pair: Pair)
     requires indexed { IsIndexed index.old }
     requires some { 0 < times_in (held_in index.old) pair }
@@ -208,7 +178,7 @@ pub fn take_one(index: &mut Index, pair: Pair)
     ensures loses { GainsIn (held_in index.new) (held_in index.old) pair }
     ensures room { room_in index.old ≤ room_in index.new }
 {
-    let Some(slot) = index.inside.get(key(pair.proto, pair.inside)) else {
+    let Some(slot) = index.outside.get(key(pair.proto, pair.outside)) else {
         return;
     };
     if index.pairs[slot].count == 1 {
@@ -227,6 +197,5 @@ fn take_out(index: &mut Index, slot: usize, pair: Pair)
     ensures room { room_in index.old ≤ room_in index.new }
 {
     index.pairs.remove(slot);
-    index.inside.remove(key(pair.proto, pair.inside));
     index.outside.remove(key(pair.proto, pair.outside));
 }

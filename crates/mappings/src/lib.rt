@@ -5,12 +5,13 @@
 //! the mappings are one-to-one: an inside endpoint has one outside endpoint, whatever the remote
 //! (RFC 4787, REQ-1), and an outside endpoint stands for one inside endpoint.
 //!
-//! Each pair has a slot, with its count. Two maps lead to it, one from the protocol and the inside endpoint, the
-//! other from the protocol and the outside endpoint; so a look-up reads one bucket, and the overflow where that is
-//! full, and no call walks over all pairs but one that makes more places. Nothing asks for the pairs in order.
+//! Each pair has a slot, with its count. A map leads to it from the protocol and the outside endpoint, so that a
+//! look-up by these reads one bucket, and the overflow where that is full. Of what packets ask no call walks over all
+//! pairs but one that makes more places. Nothing asks for the pairs in order, and no packet for the outside endpoint of
+//! an inside one: `outside_of` walks over all pairs.
 //!
 //! - `map`: the pairs that are held, and the look-ups by either endpoint
-//! - `index`: the slots, and the two maps
+//! - `index`: the slots, and the map that leads to them
 //! - `specs/Map`: how often a pair is held, as contracts see it
 #![tactic(auto)]
 

@@ -34,8 +34,8 @@ const _: () = prove!(size_of::<Counted>() == 24);
 
 /// The pairs that are held.
 ///
-/// A look-up reads one bucket and one slot, and searches the overflow where the bucket is full. A pair takes 32 bytes in its slot, and
-/// between 16 and 32 in each of two maps, 12 for each place of theirs.
+/// A look-up by an outside endpoint reads one bucket and one slot, and searches the overflow where the bucket is full.
+/// A pair takes 32 bytes in its slot, and between 16 and 32 in the one map, 12 for each place of it.
 #[derive(Drop)]
 pub struct Map {
     index: Index,
@@ -62,15 +62,14 @@ impl Map {
     {
         Map {
             index: Index {
-                inside: Buckets::new(alloc),
                 outside: Buckets::new(alloc),
                 pairs: Slab::new(alloc),
             },
         }
     }
 
-    /// The outside endpoint that stands for this inside endpoint, where a pair of it is held. It takes one
-    /// look-up in a map.
+    /// The outside endpoint that stands for this inside endpoint, where a pair of it is held. It walks over all
+    /// pairs; no packet asks for it.
     pub fn outside_of(&self, proto: Proto, inside: Endpoint) -> Option<Endpoint>
         ensures found { IfSome result (λ outside. 0 < times self.now (pair proto inside outside)) }
         ensures only { IfSome result (λ outside. (other : Place)
@@ -82,7 +81,7 @@ impl Map {
     }
 
     /// The inside endpoint that this outside endpoint stands for, where a pair of it is held. It takes one
-    /// look-up in a map.
+    /// look-up in the map.
     pub fn inside_of(&self, proto: Proto, outside: Endpoint) -> Option<Endpoint>
         ensures found { IfSome result (λ inside. 0 < times self.now (pair proto inside outside)) }
         ensures only { IfSome result (λ inside. (other : Place)
@@ -93,15 +92,15 @@ impl Map {
         find_inside(&self.index, proto, outside)
     }
 
-    /// Whether a first look tells that pairs of both endpoints are held. It says nothing of what is: whoever asks of
-    /// several pairs in turn waits once for the memory that it takes to hold and to release them.
+    /// Whether a first look tells that a pair of its outside endpoint is held. It says nothing of what is: whoever
+    /// asks of several pairs in turn waits once for the memory that it takes to hold and to release them.
     pub fn seems_held(&self, pair: Pair) -> bool {
         seems_held(&self.index, pair)
     }
 
     /// Holds the pair once more, but no more often than a table holds sessions. It may share neither
-    /// endpoint with another pair of its protocol that is held. It takes one look-up, or two where no slot is free; a
-    /// pair that is not held yet is put into one map by the last of them, and into the other by an insertion.
+    /// endpoint with another pair of its protocol that is held. It takes one look-up in the map, or two where no slot
+    /// is free; a pair that is not held yet is put into the map by the last of them.
     ///
     /// # Errors
     ///
@@ -122,7 +121,7 @@ impl Map {
     }
 
     /// Gives one hold of a held pair back; with its last hold the pair is gone. This takes no memory, and
-    /// loses no room. It takes one look-up, and with the last hold a removal from each of two maps.
+    /// loses no room. It takes one look-up in the map, and with the last hold a removal from it.
     pub fn release(&mut self, pair: Pair)
         requires { 0 < times self.old pair }
         ensures loses { Gains self.new self.old pair }

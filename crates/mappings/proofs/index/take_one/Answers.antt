@@ -3,7 +3,7 @@ use Rattle.std.proofs.lemmas.Option.{same_Some}
 use Rattle.rows.specs.Held.{value_at}
 use Rattle.mappings.specs.declared.map.Counted.{Counted}
 use Rattle.mappings.specs.declared.map.Pair.{Pair}
-use Rattle.mappings.specs.Indexed.{key, inside_of}
+use Rattle.mappings.specs.Indexed.{key}
 use Rattle.mappings.proofs.Changed.{Updates-write, Gains-down, AreIndexed-counts}
 use Rattle.mappings.proofs.Found.{not_held, held_is}
 use Rattle.mappings.proofs.index.take_one.Goals as goal
@@ -17,15 +17,15 @@ counted pair count = record { pair = pair; count = count }
 pub returns-in_default-clause-loses : goal.returns-in_default-clause-loses
 returns-in_default-clause-loses c = λ p.
     let index = c.args.index.now in
-    let free : value_at index.inside.held (key c.args.pair.proto c.args.pair.inside) ≡ None = ap (value_at index.inside.held) (sym c.key.ensures.key) ∙ sym c.get.ensures ∙ c.in_default.is in
-    absurd (omega (arith, c.requires.some, not_held inside_of index.pairs.slots index.inside.held c.requires.indexed.by_inside c.args.pair free))
+    let free : value_at index.outside.held (key c.args.pair.proto c.args.pair.outside) ≡ None = ap (value_at index.outside.held) (sym c.key.ensures.key) ∙ sym c.get.ensures ∙ c.in_default.is in
+    absurd (omega (arith, c.requires.some, not_held index.pairs.slots index.outside.held c.requires.indexed.by_outside c.args.pair free))
 
 pub take_out-requires-clause-held : goal.take_out-requires-clause-held
 unfolding counted
 take_out-requires-clause-held c =
     let index = c.args.index.now in
-    let found : value_at index.inside.held (key c.args.pair.proto c.args.pair.inside) ≡ Some c.in-Some.slot = ap (value_at index.inside.held) (sym c.key.ensures.key) ∙ sym c.get.ensures ∙ c.in-Some.is in
-    let there = held_is inside_of index.pairs.slots index.inside.held c.requires.indexed.by_inside c.args.pair c.in-Some.slot c.requires.some found in
+    let found : value_at index.outside.held (key c.args.pair.proto c.args.pair.outside) ≡ Some c.in-Some.slot = ap (value_at index.outside.held) (sym c.key.ensures.key) ∙ sym c.get.ensures ∙ c.in-Some.is in
+    let there = held_is index.pairs.slots index.outside.held c.requires.indexed.by_outside c.args.pair c.in-Some.slot c.requires.some found in
     let entry = c.index.result.now in
     let same : entry.pair ≡ c.args.pair = ap (λ (e : Counted). e.pair) (same_Some entry there.0 (sym c.index.ensures ∙ there.1)) ∙ there.2 in
     let whole : entry ≡ counted c.args.pair 1 = ap (λ q. counted q entry.count) same ∙ ap (counted c.args.pair) c.if-index-eq1.true in
@@ -37,15 +37,15 @@ returns-else-index-eq1-clause-indexed c =
     let index = c.args.index.now in
     let entry = c.index.result.now in
     let written = Updates-write index.pairs c.count_down.new.pairs c.in-Some.slot one_less entry c.index.ensures c.count_down.ensures in
-    AreIndexed-counts index.pairs c.count_down.new.pairs c.in-Some.slot _ _ c.requires.indexed entry (one_less entry) written c.index.ensures refl
+    AreIndexed-counts index.pairs c.count_down.new.pairs c.in-Some.slot _ c.requires.indexed entry (one_less entry) written c.index.ensures refl
     (omega (arith, (c.requires.indexed.entries c.in-Some.slot entry c.index.ensures).held, c.if-index-eq1.false))
 
 pub returns-else-index-eq1-clause-loses : goal.returns-else-index-eq1-clause-loses
 unfolding one_less
 returns-else-index-eq1-clause-loses c =
     let index = c.args.index.now in
-    let found : value_at index.inside.held (key c.args.pair.proto c.args.pair.inside) ≡ Some c.in-Some.slot = ap (value_at index.inside.held) (sym c.key.ensures.key) ∙ sym c.get.ensures ∙ c.in-Some.is in
-    let there = held_is inside_of index.pairs.slots index.inside.held c.requires.indexed.by_inside c.args.pair c.in-Some.slot c.requires.some found in
+    let found : value_at index.outside.held (key c.args.pair.proto c.args.pair.outside) ≡ Some c.in-Some.slot = ap (value_at index.outside.held) (sym c.key.ensures.key) ∙ sym c.get.ensures ∙ c.in-Some.is in
+    let there = held_is index.pairs.slots index.outside.held c.requires.indexed.by_outside c.args.pair c.in-Some.slot c.requires.some found in
     let entry = c.index.result.now in
     let same : entry.pair ≡ c.args.pair = ap (λ (e : Counted). e.pair) (same_Some entry there.0 (sym c.index.ensures ∙ there.1)) ∙ there.2 in
     let written = Updates-write index.pairs c.count_down.new.pairs c.in-Some.slot one_less entry c.index.ensures c.count_down.ensures in

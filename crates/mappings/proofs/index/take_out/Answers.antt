@@ -6,10 +6,8 @@ use Rattle.mappings.proofs.index.take_out.Goals as goal
 pub returns-clause-indexed : goal.returns-clause-indexed
 returns-clause-indexed c =
     let index = c.args.index.now in
-    let near = subst (λ n. Puts index.inside.held c.remove-2.new.self.held n None) c.key.ensures.key c.remove-2.ensures.gone in
-    let far = subst (λ n. Puts index.outside.held c.remove-3.new.self.held n None) c.key-2.ensures.key c.remove-3.ensures.gone in
-    AreIndexed-less index.pairs c.remove.new.self c.args.slot index.inside.held index.outside.held c.requires.indexed c.remove-2.new.self.held c.remove-3.new.self.held
-    (record { pair = c.args.pair; count = 1 }) c.remove.ensures.updates c.requires.held near far
+    let gone = subst (λ n. Puts index.outside.held c.remove-2.new.self.held n None) c.key.ensures.key c.remove-2.ensures.gone in
+    AreIndexed-less index.pairs c.remove.new.self c.args.slot index.outside.held c.requires.indexed c.remove-2.new.self.held (record { pair = c.args.pair; count = 1 }) c.remove.ensures.updates c.requires.held gone
 
 pub returns-clause-loses : goal.returns-clause-loses
 returns-clause-loses c = Gains-gone c.args.index.now.pairs c.remove.new.self c.args.slot (record { pair = c.args.pair; count = 1 }) c.remove.ensures.updates c.requires.held refl

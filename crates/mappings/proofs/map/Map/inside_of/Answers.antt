@@ -8,4 +8,4 @@ use Rattle.mappings.proofs.map.Map.inside_of.Goals as goal
 pub returns-clause-only : goal.returns-clause-only
 returns-clause-only c =
     rw (← c.self.view_is) (IfSome_then c.find_inside.result c.find_inside.ensures.found (λ q found other held. ap (λ (p : Pair). p.inside)
-    ((one_to_one _ _ _ c.self.invariant).by_outside (pair c.args.proto other c.args.outside) (pair c.args.proto q c.args.outside) held found refl refl)))
+    ((one_to_one _ _ c.self.invariant).by_outside (pair c.args.proto other c.args.outside) (pair c.args.proto q c.args.outside) held found refl refl)))

@@ -8,4 +8,4 @@ use Rattle.mappings.proofs.map.Map.outside_of.Goals as goal
 pub returns-clause-only : goal.returns-clause-only
 returns-clause-only c =
     rw (← c.self.view_is) (IfSome_then c.find_outside.result c.find_outside.ensures.found (λ q found other held. ap (λ (p : Pair). p.outside)
-    ((one_to_one _ _ _ c.self.invariant).by_inside (pair c.args.proto c.args.inside other) (pair c.args.proto c.args.inside q) held found refl refl)))
+    ((one_to_one _ _ c.self.invariant).by_inside (pair c.args.proto c.args.inside other) (pair c.args.proto c.args.inside q) held found refl refl)))
