@@ -1,9 +1,10 @@
--- What the mappings tell of the sessions that are held.
+-- What sessions tell of their mappings, and the mappings of the sessions that are held.
 use Rattle.std.proofs.Common.{◌≡◌, ◌≢◌, ℕ, ◌<◌, List, Option, Some, None, true, get_or, refl, sym, ap, ◌∙◌, subst, arith}
 use Rattle.packet.specs.Config.{Config, is_config}
 use Rattle.packet.specs.declared.endpoint.Endpoint.{Endpoint}
 use Rattle.packet.specs.declared.endpoint.Proto.{Proto}
 use Rattle.portpick.specs.Choice.{IsTestOf}
+use Rattle.sessions.specs.Laws.{IsMapping}
 use Rattle.sessions.specs.Listing.{find, listing}
 use Rattle.sessions.specs.declared.session.Session.{Session}
 use Rattle.sessions.proofs.Clashing.{apart-from, differ}
@@ -18,6 +19,23 @@ use Rattle.hairpin.specs.Tallies.{tally, pair_of}
 use Rattle.hairpin.specs.Translations.{IsOutside, endpoint}
 use Rattle.hairpin.proofs.Apart.{agree, maps-from, maps-parts, maps_outside-from, maps_outside-parts, taken-by, taken-from, translated_at}
 use Rattle.hairpin.proofs.Tally.{tally-at, tally-some, weighs, weight-translated}
+
+-- what the sessions tell of the mapping of an inside endpoint
+module _ (config : Config) (sessions : List Session) (sound : AreSound config sessions) (proto : Proto) (inside : Endpoint) where
+  -- it is that of the first session that has it
+  pub mapped : (outside : Endpoint) → IsMapping sessions proto inside outside → (t : Session) × (find (maps_inside proto inside) sessions ≡ Some t) × (t.outside ≡ outside)
+  mapped outside m =
+      let u = m.session in
+      let found = find-some (maps_inside proto inside) sessions u m.is_held (maps-from proto inside u m.translated m.proto m.inside) in
+      let t = found.0 in
+      let parts = maps-parts proto inside t found.3 in
+      let same = agree sessions sound.apart t u found.2 m.is_held parts.0 m.translated (parts.1 ∙ sym m.proto) in
+      (t, found.1, same.0 (parts.2 ∙ sym m.inside) ∙ m.outside)
+
+  pub not_mapped : ((outside : Endpoint) → ¬ IsMapping sessions proto inside outside) → find (maps_inside proto inside) sessions ≡ None
+  not_mapped none = find-none (maps_inside proto inside) sessions (λ t in_t passes.
+      let parts = maps-parts proto inside t passes in
+      none t.outside (record { session = t; is_held = in_t; translated = parts.0; proto = parts.1; inside = parts.2; outside = refl }))
 
 -- what is held of a session's pair
 pair-is : (s : Session) (proto : Proto) (inside outside : Endpoint) → s.proto ≡ proto → s.inside ≡ inside → s.outside ≡ outside → pair_of s ≡ pair proto inside outside
@@ -34,30 +52,6 @@ module _ (held : List (Option Session)) (m : Pairs) (counts : (p : Pair) → tim
       subst (λ x. 0 < times m x) (pair-is s proto inside outside p i o) some
 
   -- the mapping that is found is that of the first session that has it
-  pub mapped : (inside outside : Endpoint) → 0 < times m (pair proto inside outside)
-      → (t : Session) × (find (maps_inside proto inside) (listing held) ≡ Some t) × (t.outside ≡ outside)
-  mapped inside outside lt =
-      let p = pair proto inside outside in
-      let some = tally-some p held (omega (arith, lt, counts p)) in
-      let u = some.1 in
-      let is = weighs p u some.3 in
-      let u_proto : u.proto ≡ proto = sym (ap (λ (q : Pair). q.proto) is.1) in
-      let u_inside : u.inside ≡ inside = sym (ap (λ (q : Pair). q.inside) is.1) in
-      let u_outside : u.outside ≡ outside = sym (ap (λ (q : Pair). q.outside) is.1) in
-      let in_u = listing-In held u some.0 some.2 in
-      let found = find-some (maps_inside proto inside) (listing held) u in_u (maps-from proto inside u (apart-from _ _ is.0) u_proto u_inside) in
-      let t = found.0 in
-      let parts = maps-parts proto inside t found.3 in
-      let same = agree (listing held) sound.apart t u found.2 in_u parts.0 (apart-from _ _ is.0) (parts.1 ∙ sym u_proto) in
-      let outside_is : t.outside ≡ outside = same.0 (parts.2 ∙ sym u_inside) ∙ u_outside in
-      (t, found.1, outside_is)
-
-  pub not_mapped : (inside : Endpoint) → ((outside : Endpoint) → times m (pair proto inside outside) ≡ 0) → find (maps_inside proto inside) (listing held) ≡ None
-  not_mapped inside none = find-none (maps_inside proto inside) (listing held) (λ t in_t passes.
-      let parts = maps-parts proto inside t passes in
-      let at = In-listing held t in_t in
-      absurd (omega (arith, none t.outside, pair_held t inside t.outside at.0 at.1 parts.0 parts.1 parts.2 refl)))
-
   pub mapped_in : (inside outside : Endpoint) → 0 < times m (pair proto inside outside)
       → (t : Session) × (find (maps_outside proto outside) (listing held) ≡ Some t) × (t.inside ≡ inside)
   mapped_in inside outside lt =

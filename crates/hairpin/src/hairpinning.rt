@@ -136,7 +136,7 @@ fn outside_near(
         (find (maps_inside view.now.proto view.now.src) sessions) }
 {
     bounds.facts();
-    match translations.outside_of(view.proto, view.src) {
+    match table.outside_of(view.proto, view.src) {
         Some(mapped) => Ok(mapped),
         None => match translations.choose(view.proto, view.src.port) {
             Some(outside) => Ok(outside),

@@ -141,8 +141,7 @@ fn outside_of(
         result ≡ outside_for bounds.now rules.now sessions now view.now
         (find (maps_inside view.now.proto view.now.src) sessions) }
 {
-    bounds.facts();
-    match translations.outside_of(view.proto, view.src) {
+    match table.outside_of(view.proto, view.src) {
         Some(mapped) => Ok(mapped),
         None => outside_by_rules(bounds, rules, table, translations, view),
     }

@@ -10,12 +10,14 @@ use Rattle.rows.proofs.Lookups.{value_at-same, value_at-other}
 use Rattle.sessions.specs.declared.session.Session.{Session}
 use Rattle.sessions.specs.declared.translated.Translated.{Translated}
 use Rattle.sessions.specs.Table.{BreakMapping, Clash, HasInside, HasOutside, IsSound}
-use Rattle.sessions.specs.Listing.{is_translated}
+use Rattle.sessions.specs.Laws.{IsMapping}
+use Rattle.sessions.specs.Listing.{is_translated, listing}
 use Rattle.sessions.specs.Index.{AreEndpoints, ClashesAt, ClashesAtHeld, IsAt, IsEndpoint, endpoint_number, first_value, flow_number, inside_number, key_number, mapping_number, outside_number}
 use Rattle.sessions.specs.Translated.{HasPlace, IsHeir, IsNowhereTranslated, IsTold, first_of}
 use Rattle.sessions.proofs.Clashing.{apart-from, differ}
 use Rattle.sessions.proofs.KeyNumbers.{key-between, key-from, key-least, key-parts, mapping-from, mapping-parts}
 use Rattle.sessions.proofs.OneToOne.{one_endpoint}
+use Rattle.sessions.proofs.Sets.{In-listing, listing-In}
 
 -- ---- entries that rise
 
@@ -236,6 +238,36 @@ module _ (held : List (Option Session)) (t : Translated) (told : IsTold held t) 
           | inr other ↦ none-some slot (sym not_so.1 ∙ ap (value_at t.others.held) (key-from proto s.proto u.inside s.inside remote s.remote (sym has.0, near, sym has.2)) ∙ other)
         ]
 
+  -- ---- the mapping of an inside endpoint
+
+  module _ (proto : Proto) (inside : Endpoint) (o : Option ℕ) (told_first : o ≡ first_of firsts (value_at t.insides.held (mapping_number proto inside))) where
+    -- the first session tells it
+    pub mapping-found : IsEndpoint inside → (first : ℕ) (u : Session) → o ≡ Some first → get_or held first None ≡ Some u → IsMapping (listing held) proto inside u.outside
+    mapping-found fits first u e at_u =
+        let m = first-inside proto inside fits first (sym told_first ∙ e) in
+        let same : m.0 ≡ u = one-at first first m.0 u refl m.1 at_u in
+        record {
+          session = m.0;
+          is_held = listing-In held m.0 first m.1;
+          translated = translated-apart m.0 m.2;
+          proto = m.3;
+          inside = m.4;
+          outside = ap (λ (v : Session). v.outside) same;
+        }
+
+    -- there is none where no first session is held
+    pub mapping-absent : ((first : ℕ) → o ≡ Some first → get_or held first None ≡ None) → (outside : Endpoint) → ¬ IsMapping (listing held) proto inside outside
+    mapping-absent none outside m =
+        let s = m.session in
+        let at = In-listing held s m.is_held in
+        let so = translated-from s m.translated in
+        let p = told.found.each at.0 s at.1 so in
+        let number : mapping_number proto inside ≡ inside_number s = mapping-from proto s.proto inside s.inside (sym m.proto) (sym m.inside) in
+        let e : o ≡ Some p.first = told_first ∙ ap (λ n. first_of firsts (value_at t.insides.held n)) number ∙ by-inside at.0 s at.1 so in
+        let fits = subst IsEndpoint m.inside ((told.endpoints at.0 s at.1).0) in
+        let first = first-inside proto inside fits p.first (sym told_first ∙ e) in
+        none-some first.0 (sym (none p.first e) ∙ first.1)
+
   -- ---- mappings that break
 
   clash-with : (o : Option ℕ) (first : ℕ) (u s : Session) → o ≡ Some first → get_or held first None ≡ Some u → Clash s u → ClashesAt held o s
@@ -320,9 +352,9 @@ pub where-some : (P : ℕ → Type 0) (o : Option ℕ) → ((slot : ℕ) → o �
 where-some P (Some slot) on = on slot refl
 where-some P None on = tt
 
-pub where-none : (P : Type 0) (o : Option ℕ) → (o ≡ None → P) → IfNone o P
+pub where-none : {A : Type 0} (P : Type 0) (o : Option A) → (o ≡ None → P) → IfNone o P
 where-none P None then = then refl
-where-none P (Some n) then = tt
+where-none P (Some x) then = tt
 
 pub at-weaker : (P Q : Session → Type 0) (o : Option Session) → ((u : Session) → o ≡ Some u → P u → Q u) → IsSomeAnd o P → IsSomeAnd o Q
 at-weaker P Q None then h = h

@@ -3,10 +3,12 @@
 //! A session that isn't translated is called the same on both sides and stands in a row of its like. The
 //! translated ones are found by their mappings (`translated`).
 ghost use Rattle.std.specs.Prelude.{◌≡◌, ◌↔◌, ◌+◌, ◌<◌, ◌≤◌, ℕ, IsTrue, IsOk, true, None, Some, IfSome, IfNone, OnOk, slice_index_or};
+ghost use Rattle.packet.specs.declared.endpoint.Endpoint.{Endpoint as Place};
 ghost use Rattle.rows.specs.Held.{at};
 ghost use Rattle.sessions.specs.Index.{ClashesAt, IsAt, IsNowhere, LacksName, PutsName, flow_name, key_number};
 ghost use Rattle.sessions.specs.Indexed.{AddsTo, EndsIn, IsIndexed, KeepsIndex, room_of};
-ghost use Rattle.sessions.specs.Listing.{is_translated as translates};
+ghost use Rattle.sessions.specs.Laws.{IsMapping};
+ghost use Rattle.sessions.specs.Listing.{is_translated as translates, listing};
 ghost use Rattle.sessions.specs.Table.{AnyClash, BreakMapping, HasInside, HasOutside};
 ghost use Rattle.sessions.specs.Translated.{IsTold, LacksMapping, first_by_inside, first_by_outside, room_in};
 
@@ -275,6 +277,24 @@ fn find_flow(row: &Rows, proto: Proto, near: Endpoint, remote: Endpoint) -> Opti
         return None;
     }
     row.get(key(proto, near, remote))
+}
+
+/// The outside endpoint that the translated sessions of this protocol and inside endpoint have: the first of them
+/// tells it.
+pub fn mapped_outside(
+    sessions: &Slab<Session>,
+    index: &Index,
+    proto: Proto,
+    inside: Endpoint,
+) -> Option<Endpoint>
+    requires { IsIndexed sessions.now.slots index.now }
+    ensures found { IfSome result (IsMapping (listing sessions.now.slots) proto inside) }
+    ensures absent { IfNone result ((outside : Place)
+        → ¬ IsMapping (listing sessions.now.slots) proto inside outside) }
+{
+    let first = index.translated.first_inside(proto, inside)?;
+    let session = sessions.get(first)?;
+    Some(session.outside)
 }
 
 /// Whether some session clashes with this one. The first sessions of its endpoints serve all that is asked.

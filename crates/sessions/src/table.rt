@@ -1,14 +1,18 @@
 //! The table of the sessions that live.
 ghost use Rattle.std.specs.Prelude.{◌≡◌, ◌↔◌, ◌+◌, ◌<◌, ◌≤◌, ℕ, IsTrue, Some, None, Err, IfOk, OnOk, OnErr, IsOk, IfSome, IfNone, IsSome, IsSomeAnd};
 ghost use Rattle.std.specs.Option.{option_map};
+ghost use Rattle.packet.specs.declared.endpoint.Endpoint.{Endpoint as Place};
 ghost use Rattle.slab.specs.Slab.{HasRoomFor};
+ghost use Rattle.sessions.specs.Laws.{IsMapping};
 ghost use Rattle.sessions.specs.Life.{IsSeen};
 ghost use Rattle.sessions.specs.Listing.{listing};
 ghost use Rattle.sessions.specs.Table.{at, count, most_sessions, Updates, HasInside, HasOutside, Clash, ClashesWith, IsSound, amended, seen as seen_with, restarted};
 
 use crate::ahead::{Coming, MOST_AHEAD, guess_all};
 use crate::hints::Hints;
-use crate::index::{Index, clashes, find_inside, find_outside, guess_inside, guess_outside};
+use crate::index::{
+    Index, clashes, find_inside, find_outside, guess_inside, guess_outside, mapped_outside,
+};
 use crate::keys::has_endpoints;
 use crate::listing::sorted;
 use crate::{Opener, Session};
@@ -165,6 +169,16 @@ impl Table {
     {
         let slot = find_outside(&self.sessions, &self.index, proto, outside, remote)?;
         Some(Slot(slot))
+    }
+
+    /// The outside endpoint of the translated sessions of this protocol and inside endpoint, where one is held: they
+    /// have one for all remote endpoints (RFC 4787, REQ-1). It takes one look-up in a map.
+    pub fn outside_of(&self, proto: Proto, inside: Endpoint) -> Option<Endpoint>
+        ensures found { IfSome result (IsMapping (listing self.now.held) proto inside) }
+        ensures absent { IfNone result ((outside : Place)
+            → ¬ IsMapping (listing self.now.held) proto inside outside) }
+    {
+        mapped_outside(&self.sessions, &self.index, proto, inside)
     }
 
     /// The slot of the session of this protocol, inside and remote endpoint, where the first look tells it. `None`

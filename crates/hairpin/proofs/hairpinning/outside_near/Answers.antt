@@ -9,7 +9,7 @@ pub returns-in-Some : goal.returns-in-Some
 returns-in-Some c = λ rules now.
     let view = c.args.view.now in
     let held = c.args.table.now.held in
-    let m = mapped held c.args.translations.now.pairs c.requires.translations.counts c.args.bounds.now c.facts.ensures.valid c.requires.translations.sound view.proto view.src c.in-Some.mapped c.in-Some.ensures.found in
+    let m = mapped c.args.bounds.now (listing held) c.requires.translations.sound view.proto view.src c.in-Some.mapped c.in-Some.ensures.found in
     sym (ap (outside_near c.args.bounds.now rules (listing held) now view) m.1 ∙ ap (λ e. Ok e) m.2)
 
 pub returns-in-Some-choose : goal.returns-in-Some-choose

@@ -8,12 +8,12 @@ pub returns-in-Some : goal.returns-in-Some
 returns-in-Some c = λ now.
     let held = c.args.table.now.held in
     let view = c.args.view.now in
-    let m = mapped held c.args.translations.now.pairs c.requires.translations.counts c.args.bounds.now c.facts.ensures.valid c.requires.translations.sound view.proto view.src c.in-Some.mapped c.in-Some.ensures.found in
+    let m = mapped c.args.bounds.now (listing held) c.requires.translations.sound view.proto view.src c.in-Some.mapped c.in-Some.ensures.found in
     sym (ap (outside_for c.args.bounds.now c.args.rules.now (listing held) now view) m.1 ∙ ap Ok m.2)
 
 pub returns-in-None : goal.returns-in-None
 returns-in-None c = λ now.
     let held = c.args.table.now.held in
     let view = c.args.view.now in
-    let none = not_mapped held c.args.translations.now.pairs c.requires.translations.counts c.args.bounds.now c.facts.ensures.valid c.requires.translations.sound view.proto view.src c.in-None.ensures.absent in
+    let none = not_mapped c.args.bounds.now (listing held) c.requires.translations.sound view.proto view.src c.in-None.ensures.absent in
     c.outside_by_rules.ensures now ∙ sym (ap (outside_for c.args.bounds.now c.args.rules.now (listing held) now view) none)
