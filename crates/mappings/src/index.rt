@@ -2,13 +2,12 @@
 ghost use Rattle.std.specs.Prelude.{◌≡◌, ◌↔◌, ◌+◌, ◌-◌, ◌<◌, ◌≤◌, Some, None, IsTrue, OnOk, OnErr, IsOk, IsSome, IfOk, IfSome, IfNone, IsSomeAnd};
 ghost use Rattle.packet.specs.declared.endpoint.Endpoint.{Endpoint as Place};
 ghost use Rattle.slab.specs.Slab.{get, with_value, HasRoomFor};
-ghost use Rattle.rows.specs.Held.{at, Puts};
-ghost use Rattle.buckets.specs.Held.{KeepsAll};
+ghost use Rattle.rows.specs.Held.{at};
 ghost use Rattle.mappings.specs.Map.{times_in, pair, GainsIn};
 ghost use Rattle.mappings.specs.Indexed.{key, IsSmall, IsIndexed, KeepsOneToOneIn, held_in, room_in};
 
 use crate::map::{Counted, Pair};
-use buckets::Buckets;
+use buckets::by_port::ByPort;
 use packet::endpoint::{Endpoint, Proto};
 use slab::Slab;
 use std::alloc::AllocError;
@@ -16,7 +15,7 @@ use std::alloc::AllocError;
 /// The pairs that are held. From the protocol and the outside endpoint a map leads to the slot of the pair.
 #[derive(Drop)]
 pub struct Index {
-    pub outside: Buckets,
+    pub outside: ByPort,
     pub pairs: Slab<Counted>,
 }
 
@@ -87,7 +86,7 @@ pub fn add(index: &mut Index, pair: Pair) -> Result<(), AllocError>
     let number = key(pair.proto, pair.outside);
     reserve_new(&mut index.pairs, &index.outside, number)?;
     let slot = index.pairs.vacant_key();
-    match find_or_insert(&mut index.outside, number, slot)? {
+    match index.outside.get_or_insert(number, slot)? {
         Some(held) => {
             count_up(&mut index.pairs, held);
             Ok(())
@@ -100,7 +99,7 @@ pub fn add(index: &mut Index, pair: Pair) -> Result<(), AllocError>
 }
 
 // Makes room for one more pair where none is free, unless the pair of this number is held, which needs none.
-fn reserve_new(pairs: &mut Slab<Counted>, outside: &Buckets, number: u64) -> Result<(), AllocError>
+fn reserve_new(pairs: &mut Slab<Counted>, outside: &ByPort, number: u64) -> Result<(), AllocError>
     ensures room { OnOk result (at outside.now number ≡ None → HasRoomFor pairs.new 1) }
     ensures kept { pairs.new ≡ record pairs.old { capacity = pairs.new.capacity } }
     ensures grows { pairs.old.capacity ≤ pairs.new.capacity }
@@ -115,28 +114,6 @@ fn reserve_new(pairs: &mut Slab<Counted>, outside: &Buckets, number: u64) -> Res
         return Ok(());
     }
     pairs.reserve(1)
-}
-
-// As `Buckets::get_or_insert`, whose clauses don't say that it isn't refused where the key has a value.
-fn find_or_insert(map: &mut Buckets, key: u64, value: usize) -> Result<Option<usize>, AllocError>
-    ensures found { IfOk result (λ found. found ≡ at map.old key) }
-    ensures kept { IfOk result (λ found. IsSome found → KeepsAll map.old map.new) }
-    ensures put { IfOk result (λ found. found ≡ None
-        → Puts map.old.held map.new.held key (Some value)) }
-    ensures err { OnErr result (KeepsAll map.old map.new) }
-    ensures again { IsSome (at map.old key) → IsOk result }
-    ensures succeeds { 0 < map.old.room → IsOk result }
-    ensures room { map.old.room ≤ map.new.room + 1 }
-    ensures room_kept { IfOk result (λ found. IsSome found → map.old.room ≤ map.new.room) }
-    ensures room_err { OnErr result (map.old.room ≤ map.new.room) }
-{
-    if let Ok(found) = map.get_or_insert(key, value) {
-        return Ok(found);
-    }
-    match map.get(key) {
-        Some(held) => Ok(Some(held)),
-        None => Err(AllocError),
-    }
 }
 
 /// Makes room for two more pairs.

@@ -5,10 +5,10 @@
 //! the mappings are one-to-one: an inside endpoint has one outside endpoint, whatever the remote
 //! (RFC 4787, REQ-1), and an outside endpoint stands for one inside endpoint.
 //!
-//! Each pair has a slot, with its count. A map leads to it from the protocol and the outside endpoint, so that a
-//! look-up by these reads one bucket, and the overflow where that is full. Of what packets ask no call walks over all
-//! pairs but one that makes more places. Nothing asks for the pairs in order, and no packet for the outside endpoint of
-//! an inside one: `outside_of` walks over all pairs.
+//! Each pair has a slot, with its count. A map leads to it from the protocol and the outside endpoint, in which each
+//! port of an address has a place of its own: so a look-up by these reads one place, and nothing that a packet asks for
+//! walks over pairs. No packet asks for the outside endpoint of an inside one, since the table of sessions tells it:
+//! `outside_of` walks over all pairs. Nothing asks for the pairs in order.
 //!
 //! - `map`: the pairs that are held, and the look-ups by either endpoint
 //! - `index`: the slots, and the map that leads to them

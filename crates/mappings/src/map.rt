@@ -5,7 +5,7 @@ ghost use Rattle.mappings.specs.declared.map.Pair.{Pair as Mapping};
 ghost use Rattle.mappings.specs.Map.{times, pair, KeepsOneToOne, IsOneToOne, Gains, SameTimes};
 
 use crate::index::{Index, add, find_inside, find_outside, reserve, seems_held, take_one};
-use buckets::Buckets;
+use buckets::by_port::ByPort;
 use packet::endpoint::{Endpoint, Proto};
 use slab::Slab;
 use std::alloc::{AllocError, Global};
@@ -34,8 +34,8 @@ const _: () = prove!(size_of::<Counted>() == 24);
 
 /// The pairs that are held.
 ///
-/// A look-up by an outside endpoint reads one bucket and one slot, and searches the overflow where the bucket is full.
-/// A pair takes 32 bytes in its slot, and between 16 and 32 in the one map, 12 for each place of it.
+/// A look-up by an outside endpoint reads one place, which its protocol and port say, and one slot. A pair takes 32 bytes
+/// in its slot, and the places take 1.5 MiB (`ByPort`), however many pairs there are.
 #[derive(Drop)]
 pub struct Map {
     index: Index,
@@ -62,7 +62,7 @@ impl Map {
     {
         Map {
             index: Index {
-                outside: Buckets::new(alloc),
+                outside: ByPort::new(alloc),
                 pairs: Slab::new(alloc),
             },
         }

@@ -1,6 +1,6 @@
 use Rattle.std.proofs.Common.{◌≡◌, ◌+◌, ◌<◌, Some, None, IsSome, IsSomeAnd, refl, sym, ap, ◌∙◌, subst, arith}
 use Rattle.std.proofs.lemmas.Bool.{false≢true}
-use Rattle.rows.specs.Held.{Puts, value_at}
+use Rattle.rows.specs.Held.{Entries, Puts, value_at}
 use Rattle.slab.specs.Slab.{Slab, get}
 use Rattle.mappings.specs.declared.map.Counted.{Counted}
 use Rattle.mappings.specs.Indexed.{number_of, pairs_in, AreIndexed, KeepsOneToOneIn}
@@ -45,8 +45,8 @@ returns-in-Some-clause-indexed c =
     let there = found_is _ _ c.requires.indexed c.args.pair c.requires.one_to_one slot c.key-number.ensures.small found in
     let kept : pairs.slots ≡ index.pairs.slots = ap (λ (s : Slab Counted). s.slots) c.reserve_new.ensures.kept in
     let before : get pairs slot ≡ Some there.0 = ap (λ (s : Slab Counted). get s slot) c.reserve_new.ensures.kept ∙ there.1 in
-    let same = AreIndexed-same index.pairs.slots index.outside.held c.find_or_insert.new.map.held (c.in_ok-held.ensures.kept (subst IsSome (sym c.in-Some.is) refl)) c.requires.indexed in
-    let indexed = subst (λ slots. AreIndexed slots c.find_or_insert.new.map.held) (sym kept) same in
+    let same = AreIndexed-same index.pairs.slots index.outside.held c.get_or_insert.new.self.held (λ number. ap (λ (m : Entries). value_at m.held number) (c.in_ok-held.ensures.kept (subst IsSome (sym c.in-Some.is) refl))) c.requires.indexed in
+    let indexed = subst (λ slots. AreIndexed slots c.get_or_insert.new.self.held) (sym kept) same in
     let written = Updates-write pairs c.count_up.new.pairs slot one_more there.0 before c.count_up.ensures in
     AreIndexed-counts pairs c.count_up.new.pairs slot _ indexed there.0 (one_more there.0) written before refl (omega arith)
 
@@ -68,7 +68,7 @@ pub returns-in-None-clause-indexed : goal.returns-in-None-clause-indexed
 returns-in-None-clause-indexed c =
     let index = c.args.index.now in
     let p = c.args.pair in
-    let map = c.find_or_insert.new.map in
+    let map = c.get_or_insert.new.self in
     let told = c.in_ok-held.ensures in
     let kept : c.reserve_new.new.pairs.slots ≡ index.pairs.slots = ap (λ (s : Slab Counted). s.slots) c.reserve_new.ensures.kept in
     let indexed = subst (λ slots. AreIndexed slots index.outside.held) (sym kept) c.requires.indexed in
