@@ -8,9 +8,9 @@ use Rattle.std.specs.Prelude.{IsSomeAnd}
 use Rattle.std.specs.Option.{option_map}
 use Rattle.rows.specs.declared.Entry.{Entry}
 use Rattle.rows.specs.Held.{value_at, Puts}
-use Rattle.buckets.specs.Places.{all_in, Stands, HasNowhere, AreApart, IsSetTo}
+use Rattle.buckets.specs.Places.{all_in, Stands, HasKey, HasNowhere, AreApart, IsSetTo}
 use Rattle.buckets.specs.ByPort.{AreAtHome, AreFree, ArePlaced, place_of}
-use Rattle.buckets.proofs.Values.{vals, either, nowhere-none, some-stands, stands-some, stands-inside, same-vals, all-both, all-some, all-none, all-nowhere, nowhere-all}
+use Rattle.buckets.proofs.Values.{vals, either, nowhere-none, some-stands, has-stands, stands-some, stands-inside, same-vals, all-both, all-some, all-none, all-nowhere, nowhere-all}
 
 -- each key stands once
 pub home-apart : (ps : List (Option Entry)) → AreAtHome ps → AreApart ps
@@ -23,31 +23,22 @@ home-nowhere ps key home other i e is same = other e (ap (λ k. get_or ps k None
 pub home-none : (ps : List (Option Entry)) (key : ℕ) → AreAtHome ps → get_or ps (place_of key) None ≡ None → HasNowhere ps key
 home-none ps key home none = home-nowhere ps key home (λ e is. absurd (none-some e (sym none ∙ is)))
 
--- what stands there is what a look-up gives
-pub home-some : (ps : List (Option Entry)) (key : ℕ) (e : Entry) → AreAtHome ps → Stands ps (place_of key) e → e.key ≡ key → vals ps key ≡ Some e.value
-home-some ps key e home is same = ap (vals ps) (sym same) ∙ stands-some ps (home-apart ps home) (place_of key) e is
+-- where the place of a key hasn't it, or isn't there, no place has it
+pub home-lacks : (ps : List (Option Entry)) (key : ℕ) → AreAtHome ps → ¬ HasKey ps key (place_of key) → HasNowhere ps key
+home-lacks ps key home lacks = home-nowhere ps key home (λ e there same. lacks (subst (λ o. IsSomeAnd o (λ (f : Entry). f.key ≡ key)) (sym there) same))
 
--- the value that the place of a key tells, whatever stands there
-pub home-value : (ps : List (Option Entry)) (key : ℕ) (o : Option Entry) → AreAtHome ps → get_or ps (place_of key) None ≡ o → IsSomeAnd o (λ e. e.key ≡ key) → option_map (λ (e : Entry). e.value) o ≡ vals ps key
-home-value ps key None home is has = absurd has
-home-value ps key (Some e) home is has = sym (home-some ps key e home is has)
-
-pub home-lacks : (ps : List (Option Entry)) (key : ℕ) (o : Option Entry) → AreAtHome ps → get_or ps (place_of key) None ≡ o → ¬ IsSomeAnd o (λ e. e.key ≡ key) → None ≡ vals ps key
-home-lacks ps key o home is lacks = sym (nowhere-none ps key (home-nowhere ps key home (λ e there same. lacks (subst (λ p. IsSomeAnd p (λ f. f.key ≡ key)) (sym there ∙ is) same))))
-
-pub home-outside : (ps : List (Option Entry)) (key at : ℕ) → AreAtHome ps → at ≡ place_of key → length ps ≤ at → None ≡ vals ps key
-home-outside ps key at home same past = sym (nowhere-none ps key (home-nowhere ps key home (λ e there. let inside = stands-inside ps (place_of key) e there in absurd (omega (arith, inside, past, same)))))
+pub home-outside : (ps : List (Option Entry)) (key at : ℕ) → AreAtHome ps → at ≡ place_of key → length ps ≤ at → HasNowhere ps key
+home-outside ps key at home same past = home-nowhere ps key home (λ e there. let inside = stands-inside ps (place_of key) e there in absurd (omega (arith, inside, past, same)))
 
 -- what was read is what the place has
 pub home-read : (ps : List (Option Entry)) (key at : ℕ) (o : Option Entry) → at ≡ place_of key → at < length ps → o ≡ get_or ps at o → get_or ps (place_of key) None ≡ o
 home-read ps key at o same inside is = sym (is ∙ get_or_default ps at o None inside ∙ ap (λ k. get_or ps k None) same)
 
-pub home-slot : (ps : List (Option Entry)) (key at : ℕ) (o : Option Entry) → at ≡ place_of key → at < length ps → get_or ps (place_of key) None ≡ get_or ps at o
-home-slot ps key at o same inside = sym (get_or_default ps at o None inside ∙ ap (λ k. get_or ps k None) same)
-
--- and where it is read twice
-pub home-again : (ps : List (Option Entry)) (key : ℕ) (a b : Option Entry) → AreAtHome ps → get_or ps (place_of key) None ≡ a → get_or ps (place_of key) None ≡ b → IsSomeAnd a (λ e. e.key ≡ key) → option_map (λ (e : Entry). e.value) b ≡ vals ps key
-home-again ps key a b home is_a is_b has = home-value ps key b home is_b (subst (λ o. IsSomeAnd o (λ e. e.key ≡ key)) (sym is_a ∙ is_b) has)
+-- what is read at a place that has the key is what a look-up gives
+pub has-value : (ps : List (Option Entry)) (key at : ℕ) (o : Option Entry) → AreAtHome ps → HasKey ps key at → option_map (λ (e : Entry). e.value) (get_or ps at o) ≡ vals ps key
+has-value ps key at o home has =
+    let there = has-stands ps key at has in
+    ap (option_map (λ (e : Entry). e.value)) (get_or_default ps at o None (stands-inside ps at there.0 there.1) ∙ there.1) ∙ sym (ap (vals ps) (sym there.2) ∙ stands-some ps (home-apart ps home) at there.0 there.1)
 
 -- ---- an entry more
 

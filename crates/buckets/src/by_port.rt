@@ -5,7 +5,7 @@ ghost use Rattle.std.specs.Bool.{OnTrue, OnFalse};
 ghost use Rattle.rows.specs.Held.{at, value_at, Puts};
 ghost use Rattle.buckets.specs.ByPort.{AreAtHome, AreFree, ArePlaced, place_of};
 ghost use Rattle.buckets.specs.Held.{KeepsAll};
-ghost use Rattle.buckets.specs.Places.{all_in, entries_in, IsSetTo};
+ghost use Rattle.buckets.specs.Places.{all_in, entries_in, HasKey, HasNowhere, IsSetTo};
 
 use crate::Buckets;
 use crate::place::Place;
@@ -210,17 +210,30 @@ fn find(places: &[Place], others: &Buckets, has_others: bool, key: u64) -> Optio
     }
 }
 
+// The place of the key, where that has it.
+#[inline(always)]
+fn home_with(places: &[Place], key: u64) -> Option<usize>
+    requires { AreAtHome places.now }
+    ensures home { IfSome result (λ home. home ≡ place_of key) }
+    ensures within { IfSome result (λ home. home < length places.now) }
+    ensures found { IfSome result (HasKey places.now key) }
+    ensures absent { IfNone result (HasNowhere places.now key) }
+{
+    let home = place_of(key);
+    if home < places.len() && places[home].has(key) {
+        return Some(home);
+    }
+    None
+}
+
 // The value of the key, where its place has it.
 #[inline(always)]
 fn find_at_home(places: &[Place], key: u64) -> Option<usize>
     requires { AreAtHome places.now }
     ensures { result ≡ value_at (entries_in places.now) key }
 {
-    let at = place_of(key);
-    if at >= places.len() || !places[at].has(key) {
-        return None;
-    }
-    places[at].value()
+    let home = home_with(places, key)?;
+    places[home].value()
 }
 
 // The value of the key among the others, if there are any.
@@ -270,14 +283,14 @@ fn put_at_home(places: &mut [Place], key: u64, value: usize) -> bool
         (Some (record { key = key; value = value }))) }
     ensures kept { OnFalse result (places.new ≡ places.old) }
 {
-    let at = place_of(key);
-    if at >= places.len() || !places[at].is_empty() {
+    let home = place_of(key);
+    if home >= places.len() || !places[home].is_empty() {
         return false;
     }
     let Some(filled) = Place::of(key, value) else {
         return false;
     };
-    places[at] = filled;
+    places[home] = filled;
     true
 }
 
@@ -313,11 +326,8 @@ fn take_from_home(places: &mut [Place], key: u64) -> Option<usize>
     ensures gone { IfSome result (λ _. IsSetTo places.old places.new (place_of key) None) }
     ensures kept { IfNone result (places.new ≡ places.old) }
 {
-    let at = place_of(key);
-    if at >= places.len() || !places[at].has(key) {
-        return None;
-    }
-    let value = places[at].value();
-    places[at] = Place::empty();
+    let home = home_with(places, key)?;
+    let value = places[home].value();
+    places[home] = Place::empty();
     value
 }

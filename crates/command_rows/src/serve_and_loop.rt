@@ -16,7 +16,7 @@ pub fn bound(rt: &HostRuntime, path: &str) -> Result<UnixListener, Stop> {
     bind(rt, rt.alloc(), path)
 }
 
-// Whether a path is refused with this second line before anything is bound to it.
+// Whether a path is refused with this second line.
 fn is_no_path(rt: &HostRuntime, path: &str, line: &str) -> bool {
     match bound(rt, path) {
         Ok(_) => false,

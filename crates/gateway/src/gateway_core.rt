@@ -111,7 +111,7 @@ impl<D: Disk + Drop> Gateway<D> {
             × LeavesNow D.moment D.left g.disk (λ files. Recovers files d)) }
         ensures taken { D.honest disk → OnOk result (IsConfigured bounds (D.seen disk)) }
 
-        // Where a file is open neither is written.
+        // Where a file is open both files are only looked at.
         ensures only_looks { D.honest disk → ¬ NoneOpen (D.seen disk)
             → IfOk result (λ g. Looks D.moment D.left D.seen disk g.disk) }
         ensures config { IfOk result (λ g. g.told.config ≡ bounds) }

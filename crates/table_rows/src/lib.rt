@@ -4,6 +4,7 @@
 //!
 //! - `ordered`: entries that rise by their keys (`rows`);
 //! - `unordered`: entries in no order (`buckets`);
+//! - `by_port`: entries of which each has a place of its own (`buckets`);
 //! - `members`: sets of values and maps to verdicts (`sets`);
 //! - `living`: the table of sessions (`sessions`);
 //! - `many`: as many sessions as a table holds, in turned orders;
@@ -13,6 +14,8 @@
 //! - `lines`: sessions as lines of text (`session_lines`).
 #![tactic(auto)]
 
+#[cfg(test)]
+mod by_port;
 #[cfg(test)]
 mod idle;
 #[cfg(test)]
