@@ -80,7 +80,7 @@ module _ (config : Config) (facts : Facts) (table : Table) where
       let out = skipped 0 rule (omega arith) (omega arith) refl in
       rw out (front_skipped rules to (omega arith) (λ i r from lt at. skipped (suc i) r (omega arith) (omega arith) at))
 
-  skipped_over : (rules : List Rule) (from to : ℕ) → from ≤ to → to ≤ length rules → AreSkipped config facts table rules from to → W (drop from rules) ≡ W (drop to rules)
+  pub skipped_over : (rules : List Rule) (from to : ℕ) → from ≤ to → to ≤ length rules → AreSkipped config facts table rules from to → W (drop from rules) ≡ W (drop to rules)
   skipped_over rules zero to rise le skipped = front_skipped rules to le skipped
   skipped_over rules (suc from) zero rise le skipped = absurd (omega arith)
   skipped_over [] (suc from) (suc to) rise le skipped = absurd (omega arith)

@@ -16,6 +16,7 @@ pub mod Led
 pub mod Moves
 pub mod Stepping
 pub mod Acting
+pub mod Alone
 pub mod Probed
 pub mod Spending
 pub mod Pooled

@@ -232,3 +232,10 @@ Acts (Jumps place) at count here places known here2 places2 known2 result =
 Acts (Goes place) at count here places known here2 places2 known2 result =
     (result ≡ None) × GoesTo (record { chain = place; at = 0 })
     (record { chain = here.chain; at = count } ∷ places) known here2 places2 known2
+
+-- the rules are read on from the one number to the other, and what comes before changes nothing
+pub record IsReadOn (config : Config) (facts : Facts) (table : Table) (rules : List Rule)
+    (from to : ℕ) : Type 0 where
+  pub rises : from < to
+  pub within : to ≤ length rules
+  pub same : comes config facts table (drop from rules) ≡ comes config facts table (drop to rules)

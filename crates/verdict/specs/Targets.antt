@@ -20,6 +20,10 @@ TargetHas P verdict = (name : List ℕ) → target_of verdict ≡ Some name → 
 abbrev pub TargetsHave : (List ℕ → Type 0) → Rule → Type 0
 TargetsHave P rule = OfEach (TargetHas P) (verdicts_of rule.end)
 
+-- the rule jumps or goes to no chain
+abbrev pub CallsNone : Rule → Type 0
+CallsNone rule = TargetsHave (λ name. ⊥) rule
+
 -- no path of so many jumps and gotos begins at a chain of this name
 abbrev pub EndsWithin : List Chain → ℕ → List ℕ → Type 0
 EndsWithin chains n name = (a : ℕ) → slice_get (chain_names chains) a ≡ Some name

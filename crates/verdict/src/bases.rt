@@ -1,21 +1,40 @@
-//! At which hooks base chains stand, noted when a text has loaded.
+//! Which base chains stand at which hooks, noted when a text has loaded.
 
-ghost use Rattle.std.specs.Prelude.{◌≡◌, [], ◌∷◌, false, MatchOption};
+ghost use Rattle.std.specs.Prelude.{◌≡◌, ◌<◌, [], ◌∷◌, false, IfSome, MatchOption, drop, length};
 ghost use Rattle.std.specs.Option.{option_map_or};
 ghost use Rattle.rulesyntax.specs.declared.tree.Table.{Table as TableOf};
 ghost use Rattle.verdict.specs.Hooks.{same_hook as are_same_hooks, at_hook, bases_among, bases_of};
-ghost use Rattle.verdict.specs.Noted.{asks_at as asks_at_hook, AreNoted};
+ghost use Rattle.verdict.specs.Noted.{noted_at, IsNoted, AreNoted, IsLoneIn, IsLone};
 
+use crate::calls::any_calls;
 use rulesyntax::tree::{Base, Chain, Hook, Table};
 
-/// For each hook whether base chains may stand there.
+/// Where a chain stands: the number of its table and its place there.
+#[derive(Clone, Copy, Drop)]
+pub(crate) struct Spot {
+    pub(crate) table: usize,
+    pub(crate) place: usize,
+}
+
+/// What a packet at a hook is asked about.
+#[derive(Clone, Copy, Drop)]
+pub(crate) enum Asked {
+    /// No base chain stands there.
+    Nothing,
+    /// Only this one does, and it calls no chain.
+    Lone(Spot),
+    /// The chains of all tables.
+    All,
+}
+
+/// For each hook what is asked there.
 #[derive(Clone, Copy, Drop)]
 pub(crate) struct Asking {
-    pub(crate) prerouting: bool,
-    pub(crate) input: bool,
-    pub(crate) forward: bool,
-    pub(crate) output: bool,
-    pub(crate) postrouting: bool,
+    pub(crate) prerouting: Asked,
+    pub(crate) input: Asked,
+    pub(crate) forward: Asked,
+    pub(crate) output: Asked,
+    pub(crate) postrouting: Asked,
 }
 
 fn is_same_hook(one: Hook, other: Hook) -> bool
@@ -66,22 +85,92 @@ fn any_asks_at(tables: &[Table], hook: Hook) -> bool
     false
 }
 
-/// At which hooks base chains of the tables stand.
+// The place of the first base chain of the hook, if the chains have no other one and it calls none.
+fn lone_in(chains: &[Chain], hook: Hook) -> Option<usize>
+    ensures { IfSome result (λ place. IsLoneIn hook chains.now place) }
+{
+    for place in 0..chains.len() {
+        if base_at(&chains[place], hook).is_some() {
+            return lone_at(chains, hook, place);
+        }
+    }
+    None
+}
+
+// The place, if the chains behind it have no base chain of the hook, and the one there calls none.
+fn lone_at(chains: &[Chain], hook: Hook, place: usize) -> Option<usize>
+    requires within { place < length chains.now }
+    requires first { (table : TableOf) → bases_among hook table chains.now
+        ≡ bases_among hook table (drop place chains.now) }
+    ensures { IfSome result (λ place. IsLoneIn hook chains.now place) }
+{
+    let (_, behind) = chains.split_at(place + 1);
+    if any_stands_at(behind, hook) {
+        return None;
+    }
+    if any_calls(chains[place].rules.as_slice()) {
+        return None;
+    }
+    Some(place)
+}
+
+// Where the only base chain of the hook stands, if it has just one and that calls no chain.
+fn lone_of(tables: &[Table], hook: Hook) -> Option<Spot>
+    ensures { IfSome result (λ spot. IsLone hook tables.now spot) }
+{
+    for number in 0..tables.len() {
+        if any_stands_at(tables[number].chains.as_slice(), hook) {
+            return lone_from(tables, hook, number);
+        }
+    }
+    None
+}
+
+// The same, if it is in that table.
+fn lone_from(tables: &[Table], hook: Hook, number: usize) -> Option<Spot>
+    requires within { number < length tables.now }
+    requires first { bases_of hook tables.now ≡ bases_of hook (drop number tables.now) }
+    ensures { IfSome result (λ spot. IsLone hook tables.now spot) }
+{
+    let (_, behind) = tables.split_at(number + 1);
+    if any_asks_at(behind, hook) {
+        return None;
+    }
+    let place = lone_in(tables[number].chains.as_slice(), hook)?;
+    Some(Spot {
+        table: number,
+        place,
+    })
+}
+
+fn asked_of(tables: &[Table], hook: Hook) -> Asked
+    ensures { IsNoted hook tables.now result }
+{
+    if !any_asks_at(tables, hook) {
+        return Asked::Nothing;
+    }
+    match lone_of(tables, hook) {
+        None => Asked::All,
+        Some(spot) => Asked::Lone(spot),
+    }
+}
+
+/// What is asked at each hook.
 pub(crate) fn asking_of(tables: &[Table]) -> Asking
     ensures { AreNoted tables.now result }
 {
     Asking {
-        prerouting: any_asks_at(tables, Hook::Prerouting),
-        input: any_asks_at(tables, Hook::Input),
-        forward: any_asks_at(tables, Hook::Forward),
-        output: any_asks_at(tables, Hook::Output),
-        postrouting: any_asks_at(tables, Hook::Postrouting),
+        prerouting: asked_of(tables, Hook::Prerouting),
+        input: asked_of(tables, Hook::Input),
+        forward: asked_of(tables, Hook::Forward),
+        output: asked_of(tables, Hook::Output),
+        postrouting: asked_of(tables, Hook::Postrouting),
     }
 }
 
-/// Whether it is noted that base chains may stand at the hook.
-pub(crate) fn asks_at(asking: Asking, hook: Hook) -> bool
-    ensures { result ≡ asks_at_hook asking hook }
+/// What is noted of the hook.
+pub(crate) fn asked_at(asking: Asking, hook: Hook) -> Asked
+    ensures { result ≡ noted_at asking hook }
 {
     match hook {
         Hook::Prerouting => asking.prerouting,

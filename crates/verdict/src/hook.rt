@@ -6,16 +6,17 @@ ghost use Rattle.ruletext.specs.Calls.{OfSome, IsLooped, IsDeep};
 ghost use Rattle.ruletext.specs.Counts.{rules_of_table, is_much};
 ghost use Rattle.verdict.specs.Lines.{IsLaid, AreLaid};
 ghost use Rattle.verdict.specs.Places.{AreKnown};
+ghost use Rattle.verdict.specs.Noted.{IsLoneIn, IsLone};
 ghost use Rattle.verdict.specs.Costs.{unread, rules_of_tables, rules_in_force};
-ghost use Rattle.verdict.specs.Hooks.{settled as settled_by, at_hook, bases_among, bases_of, hook_outcome as outcome_of_hook, forward_verdict, prerouting_verdict, postrouting_verdict};
+ghost use Rattle.verdict.specs.Hooks.{settled as settled_by, at_hook, bases_among, bases_of, in_order, asked_in_turn, hook_outcome as outcome_of_hook, forward_verdict, prerouting_verdict, postrouting_verdict};
 ghost use Rattle.verdict.specs.Ranking.{preferred as preferred_of, final_of as final_of_outcome, first_final, outcome_of as outcome_of_final};
 
-use crate::bases::{any_stands_at, base_at};
+use crate::bases::{Asked, Spot, any_stands_at, base_at};
 use crate::chain::Outcome;
 use crate::facts::Facts;
 use crate::row::Laid;
 use crate::rules::Rules;
-use crate::walk::chain_outcome;
+use crate::walk::{chain_outcome, outcome_alone};
 use packet::bounds::Bounds;
 use packet::endpoint::Endpoint;
 use packet::steps::Steps;
@@ -286,15 +287,62 @@ fn asked_outcome(rules: &Rules, bounds: &Bounds, facts: &Facts, hook: Hook) -> (
     (outcome_of(first), steps)
 }
 
+// What the base chains of a table come to at the hook where only the one at that place stands there, and calls no
+// chain. No other chain is asked, and nothing is remembered.
+#[inline(always)]
+fn lone_in_table(
+    bounds: &Bounds,
+    facts: &Facts,
+    hook: Hook,
+    table: &Table,
+    laid: &Laid,
+    place: usize,
+) -> (Outcome, Steps)
+    requires laid { IsLaid table.now laid.now }
+    requires lone { IsLoneIn hook table.now.chains place }
+    requires room { rules_of_table table.now < 2 ^ 32 }
+    ensures outcome { result.0 ≡ asked_in_turn bounds.now facts.now (in_order (bases_among hook
+        table.now table.now.chains)) }
+    ensures steps { result.1 ≤ rules_of_table table.now }
+{
+    let mut steps = Steps::none();
+    let Some(base) = base_at(&table.chains.as_slice()[place], hook) else {
+        return (Outcome::Accepts, steps);
+    };
+    let outcome = outcome_alone(bounds, facts, table, laid, place, &mut steps);
+    (settled(base.policy, outcome), steps)
+}
+
+// The same of all tables, where the table of that number has the only base chain of the hook. Not compiled into its
+// caller.
+#[inline(never)]
+fn lone_outcome(
+    rules: &Rules,
+    bounds: &Bounds,
+    facts: &Facts,
+    hook: Hook,
+    spot: Spot,
+) -> (Outcome, Steps)
+    requires lone { IsLone hook rules.now.tables spot }
+    ensures outcome { result.0 ≡ outcome_of_hook bounds.now facts.now hook rules.now }
+    ensures steps { result.1 ≤ rules_in_force rules.now }
+{
+    rules.is_runnable();
+    let table = &rules.text().tables.as_slice()[spot.table];
+    let laid = &rules.rows()[spot.table];
+    lone_in_table(bounds, facts, hook, table, laid, spot.place)
+}
+
 #[tactic(auto, unfolding(crate::specs::Hooks::hook_outcome))]
 fn hook_outcome(rules: &Rules, bounds: &Bounds, facts: &Facts, hook: Hook) -> (Outcome, Steps)
     ensures outcome { result.0 ≡ outcome_of_hook bounds.now facts.now hook rules.now }
     ensures steps { result.1 ≤ rules_in_force rules.now }
 {
-    if !rules.asks_at(hook) {
-        return (Outcome::Accepts, Steps::none());
+    match rules.asked_at(hook) {
+        Asked::Nothing => (Outcome::Accepts, Steps::none()),
+        Asked::Lone(spot) => lone_outcome(rules, bounds, facts, hook, spot),
+        Asked::All => asked_outcome(rules, bounds, facts, hook),
     }
-    asked_outcome(rules, bounds, facts, hook)
 }
 
 /// Whether a packet passes: where every base chain at forward accepts, or there is none. Takes no memory.

@@ -10,8 +10,11 @@
 //!   lead to, as numbers.
 //! - `keys`: keys in order, by which the walk passes over rules that ask for other numbers than a packet has.
 //! - `chain`: what a chain of rules comes to, and the ends of rules.
-//! - `stack`, `walk`: the walk over a row, with at most 16 places to return to and without recursion.
-//! - `bases`: at which hooks base chains stand, so that elsewhere nothing is asked.
+//! - `stack`, `walk`: the walk over a row, with at most 16 places to return to and without recursion; and the one over a
+//!   chain that calls none, with no place.
+//! - `calls`: whether rules call chains.
+//! - `bases`: which base chains stand at which hooks, so that elsewhere nothing is asked, and only the one that stands
+//!   alone where it calls no chain.
 //! - `hook`: `forward`, `prerouting` and `postrouting`, what the base chains of a hook decide, of which the
 //!   one of the least priority counts first; and the same with the steps counted.
 //! - `laws`: what follows from these definitions, in functions that do nothing.
@@ -24,6 +27,7 @@
 #![tactic(auto)]
 
 mod bases;
+mod calls;
 mod chain;
 pub mod facts;
 pub mod hook;

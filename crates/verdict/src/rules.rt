@@ -1,11 +1,11 @@
 //! The rules of a loaded text, as packets meet them.
 
-ghost use Rattle.std.specs.Prelude.{◌≡◌, [], false, IfOk};
+ghost use Rattle.std.specs.Prelude.{◌≡◌, [], IfOk};
 ghost use Rattle.ruletext.specs.Runnable.{IsRunnable};
-ghost use Rattle.verdict.specs.Hooks.{bases_of};
 ghost use Rattle.verdict.specs.Lines.{AreLaid};
+ghost use Rattle.verdict.specs.Noted.{IsNoted};
 
-use crate::bases::{Asking, asking_of, asks_at};
+use crate::bases::{Asked, Asking, asked_at, asking_of};
 use crate::row::{Laid, lay_all};
 use rulesyntax::tree::{Hook, Spelled};
 use ruletext::ruleset::Ruleset;
@@ -87,10 +87,10 @@ impl Rules {
         self.rows.as_slice()
     }
 
-    /// Whether base chains may stand at the hook.
-    pub(crate) fn asks_at(&self, hook: Hook) -> bool
-        ensures { result ≡ false → bases_of hook self.now.tables ≡ [] }
+    /// What is asked at the hook.
+    pub(crate) fn asked_at(&self, hook: Hook) -> Asked
+        ensures { IsNoted hook self.now.tables result }
     {
-        asks_at(self.asking, hook)
+        asked_at(self.asking, hook)
     }
 }

@@ -1,18 +1,18 @@
 //! What a base chain comes to, read without recursion.
 
-ghost use Rattle.std.specs.Prelude.{◌≡◌, ◌+◌, ◌-◌, ◌^◌, ◌<◌, ◌≤◌, ℕ, List, [], ◌∷◌, Option, Some, None, true, false, IfSome, MatchOption, length, slice_get};
+ghost use Rattle.std.specs.Prelude.{◌≡◌, ◌+◌, ◌-◌, ◌^◌, ◌<◌, ◌≤◌, ℕ, List, [], ◌∷◌, Option, Some, None, true, false, IfSome, MatchOption, drop, length, slice_get};
 ghost use Rattle.ruletext.specs.Said.{verdicts_in};
 ghost use Rattle.ruletext.specs.Calls.{IsLooped};
 ghost use Rattle.verdict.specs.Tests.{HasMap};
 ghost use Rattle.verdict.specs.declared.row.Line.{Line as LineOf};
-ghost use Rattle.verdict.specs.Targets.{OfEach, TargetsHave, EndsWithin};
+ghost use Rattle.verdict.specs.Targets.{OfEach, TargetsHave, EndsWithin, CallsNone};
 ghost use Rattle.verdict.specs.Lines.{numbers_of as numbers_of_facts, may_hold as line_may_hold, IsLine, AreChainsLaid, IsLaid, LeadsFrom, place_led};
 ghost use Rattle.verdict.specs.Keyed.{AreKeys};
 ghost use Rattle.verdict.specs.Evaluation.{chain_outcome as outcome_of_chain};
 ghost use Rattle.packet.specs.Config.{Config};
 ghost use Rattle.verdict.specs.declared.chain.Outcome.{Outcome as OutcomeOf};
 ghost use Rattle.verdict.specs.declared.chain.Outcome.TheVariants as outcomes;
-ghost use Rattle.verdict.specs.Places.{move_by as move_by_verdict, move_led as move_led_by, move_at as move_at_end, move_of as move_of_rule, rules_at, whole, AreKnown, CameTo, IsResolved, Standing, Stepped, AreSkipped, StandsAt, Calling, told_of, Acts};
+ghost use Rattle.verdict.specs.Places.{comes, IsReadOn, move_by as move_by_verdict, move_led as move_led_by, move_at as move_at_end, move_of as move_of_rule, rules_at, whole, AreKnown, CameTo, IsResolved, Standing, Stepped, AreSkipped, StandsAt, Calling, told_of, Acts};
 ghost use Rattle.verdict.specs.Costs.{unread, read_at, IsNew, Reading, Spent};
 
 use crate::chain::{Outcome, key_for, known_at, remember, translation, unless_ended};
@@ -601,6 +601,69 @@ pub(crate) fn chain_outcome(
     let mut here = Place { chain: base, at: 0 };
     loop {
         if let Some(outcome) = step_alone(bounds, facts, table, laid, &mut here, known, steps) {
+            return outcome;
+        }
+    }
+}
+
+// Reads the next rule that may match, in a base chain that calls none, from the rule of that number on.
+#[inline(always)]
+fn step_on(
+    bounds: &Bounds,
+    facts: &Facts,
+    table: &Table,
+    laid: &Laid,
+    chain: usize,
+    at: &mut usize,
+    steps: &mut Steps,
+) -> Option<Outcome>
+    requires laid { IsLaid table.now laid.now }
+    requires within { chain < length table.now.chains }
+    requires none_called { OfEach CallsNone (rules_at table.now.chains chain) }
+    requires at { at.old ≤ length (rules_at table.now.chains chain) }
+    requires room { steps.old + length (rules_at table.now.chains chain) < 2 ^ 32 + at.old }
+    ensures outcome { MatchOption result
+        (IsReadOn bounds.now facts.now table.now (rules_at table.now.chains chain) at.old at.new)
+        (λ outcome. comes bounds.now facts.now table.now
+        (drop at.old (rules_at table.now.chains chain)) ≡ outcome) }
+    ensures spent { steps.new + at.old ≤ steps.old + length (rules_at table.now.chains chain) }
+    ensures spent_on { result ≡ None → steps.new + at.old ≤ steps.old + at.new }
+{
+    let here = Place { chain, at: *at };
+    let next = next_rule(table, laid, facts, here, steps);
+    let rules = rules_of(table, chain);
+    if next >= rules.len() {
+        return Some(Outcome::Ends);
+    }
+    match move_from(bounds, facts, table, laid, rules, Place { chain, at: next }) {
+        Move::Gives(outcome) => return Some(outcome),
+        Move::Next => *at = next + 1,
+        Move::Jumps(_) | Move::Goes(_) => unreachable!(),
+    }
+    None
+}
+
+/// What the rules of a base chain of the table come to, by its place, if it calls no chain. Takes no memory.
+#[inline(always)]
+pub(crate) fn outcome_alone(
+    bounds: &Bounds,
+    facts: &Facts,
+    table: &Table,
+    laid: &Laid,
+    base: usize,
+    steps: &mut Steps,
+) -> Outcome
+    requires laid { IsLaid table.now laid.now }
+    requires within { base < length table.now.chains }
+    requires none_called { OfEach CallsNone (rules_at table.now.chains base) }
+    requires room { steps.old + length (rules_at table.now.chains base) < 2 ^ 32 }
+    ensures outcome { result ≡ outcome_of_chain bounds.now facts.now table.now
+        (rules_at table.now.chains base) }
+    ensures spent { steps.new ≤ steps.old + length (rules_at table.now.chains base) }
+{
+    let mut at = 0;
+    loop {
+        if let Some(outcome) = step_on(bounds, facts, table, laid, base, &mut at, steps) {
             return outcome;
         }
     }
