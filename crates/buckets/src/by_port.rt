@@ -296,12 +296,7 @@ fn put_at_home(places: &mut [Place], key: u64, value: usize) -> bool
 
 // Takes the entry of the key out, if there is one, and returns its value.
 #[inline(always)]
-fn take_out(
-    places: &mut [Place],
-    others: &mut Buckets,
-    has_others: bool,
-    key: u64,
-) -> Option<usize>
+fn take_out(places: &mut [Place], others: &mut Buckets, has_others: bool, key: u64) -> Option<usize>
     requires placed { ArePlaced places.old others.old.held has_others }
     ensures placed { ArePlaced places.new others.new.held has_others }
     ensures value { result ≡ value_at (all_in places.old others.old.held) key }

@@ -21,8 +21,11 @@ fn key(proto: u64, addr: u64, port: u64) -> u64 {
 }
 
 const EXTERNAL: u64 = 0xcb00_7101;
+
 const ANOTHER: u64 = 0xcb00_7102;
+
 const TCP: u64 = 6;
+
 const UDP: u64 = 17;
 
 // Endpoints that have places of their own; one whose place is taken by the first; a key that is no endpoint's; and a
