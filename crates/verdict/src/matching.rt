@@ -93,6 +93,7 @@ pub fn has_protocol(head: Head, proto: Proto) -> bool
 
 // As `Element::holds`, but names are compared for being the same, and not for their order.
 #[tactic(auto, unfolding(sets::specs::Members::IsIn, sets::specs::Members::fact_of))]
+#[inline(always)]
 fn lies_in(element: &Element, fact: Fact<'_>) -> bool
     ensures { IsTrue result ↔ IsIn (fact_of fact.entry) element.now }
 {
@@ -112,6 +113,7 @@ fn lies_among(pool: &Pool, fact: Fact<'_>) -> bool
 }
 
 // Whether the fact lies in the pool. One element alone is asked without a search.
+#[inline(always)]
 fn is_inside(pool: &Pool, fact: Fact<'_>) -> bool
     ensures { IsTrue result ↔ IsMember (fact_of fact.entry) pool.now }
 {
@@ -119,6 +121,28 @@ fn is_inside(pool: &Pool, fact: Fact<'_>) -> bool
         return lies_among(pool, fact);
     };
     lies_in(only, fact)
+}
+
+// Whether what the head asks the packet for lies in the pool. Not compiled into its caller, which asks for names itself
+// and would keep what only numbers need.
+#[inline(never)]
+fn asked_inside(bounds: &Bounds, facts: &Facts, pool: &Pool, head: Head) -> bool
+    ensures { IsTrue result ↔ IsMember (asked_fact bounds.now facts.now head) pool.now }
+{
+    is_inside(pool, asked(bounds, facts, head))
+}
+
+// The same, where names are compared as names at once.
+#[tactic(auto, unfolding(crate::specs::Matching::asked, sets::specs::Members::fact_of))]
+#[inline(always)]
+fn met_inside(bounds: &Bounds, facts: &Facts, pool: &Pool, head: Head) -> bool
+    ensures { IsTrue result ↔ IsMember (asked_fact bounds.now facts.now head) pool.now }
+{
+    match head {
+        Head::Iifname => is_inside(pool, Fact::Name(name_of(bounds, facts.iif))),
+        Head::Oifname => is_inside(pool, Fact::Name(name_out(bounds, facts.oif))),
+        _ => asked_inside(bounds, facts, pool, head),
+    }
 }
 
 #[inline(always)]
@@ -132,7 +156,7 @@ fn holds(bounds: &Bounds, facts: &Facts, pools: &[Pool], test: &Test) -> bool
     let Some(pool) = pools.get(test.pool) else {
         return false;
     };
-    let inside = is_inside(pool, asked(bounds, facts, test.head));
+    let inside = met_inside(bounds, facts, pool, test.head);
     if test.negated {
         return !inside;
     }

@@ -284,7 +284,7 @@ fn next_rule(table: &Table, laid: &Laid, facts: &Facts, here: Place, steps: &mut
     candidate(lines, laid.keys.as_slice(), facts, from, span.end, steps) - span.start
 }
 
-// What the rule of that number makes of the walk. It is compiled into both its callers, with what it calls but the
+// What the rule of that number makes of the walk. It is compiled into each of its callers, with what it calls but the
 // look-up in a verdict map.
 #[inline(always)]
 fn move_from(
