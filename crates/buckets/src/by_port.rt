@@ -1,5 +1,5 @@
-//! A map in which a key has one place, said by its lowest bits: for endpoints of one address, of which each has a port
-//! of its own.
+//! A map in which a key has one place, said by its port and protocol: for endpoints of one address, of which each has a
+//! port of its own.
 ghost use Rattle.std.specs.Prelude.{◌≡◌, ◌⊎◌, ◌+◌, ◌<◌, ◌≤◌, ℕ, None, Some, IsOk, IsSome, IfOk, IfSome, IfNone, OnOk, OnErr, length, slice_index_or};
 ghost use Rattle.std.specs.Bool.{OnTrue, OnFalse};
 ghost use Rattle.rows.specs.Held.{at, value_at, Puts};
@@ -17,10 +17,10 @@ use std::marker::Model;
 const PLACES: usize = 131_072;
 
 /// Entries, each key at most once, in no order. A key's place is said by its lowest 16 bits, the port of an endpoint,
-/// and by bit 48, in which the numbers of TCP and UDP differ. An entry whose place has another one lies in `Buckets`:
-/// so nothing rests on how keys differ but time.
+/// and by bit 48, in which the numbers of TCP and UDP differ. An entry that finds no free place there, or whose value is
+/// too great for one, lies in `Buckets`, and stays: so nothing rests on how keys differ but time.
 ///
-/// A place takes 12 bytes, and there are 131,072 of them from the first `reserve` on, if memory is granted.
+/// A place takes 12 bytes, and there are 131,072 of them from the first `reserve` on, if memory is granted then.
 #[derive(Drop)]
 pub struct ByPort {
     alloc: Global,
@@ -28,6 +28,8 @@ pub struct ByPort {
     others: Buckets,
     // Whether an entry has ever come to the others.
     has_others: bool,
+    // Whether memory for the places was asked for. It is once: a refusal costs no later call anything.
+    has_asked: bool,
 }
 
 impl Model for ByPort {
@@ -55,6 +57,7 @@ impl ByPort {
             places: Vec::new(alloc),
             others: Buckets::new(alloc),
             has_others: false,
+            has_asked: false,
         }
     }
 
@@ -149,7 +152,7 @@ impl ByPort {
         ensures room { self.old.room ≤ self.new.room }
     {
         self.others.reserve()?;
-        make_places(self.alloc, &mut self.places);
+        make_places(self.alloc, &mut self.places, &mut self.has_asked);
         Ok(())
     }
 
@@ -165,17 +168,18 @@ impl ByPort {
         ensures room { self.old.room ≤ self.new.room }
     {
         self.others.reserve_one()?;
-        make_places(self.alloc, &mut self.places);
+        make_places(self.alloc, &mut self.places, &mut self.has_asked);
         Ok(())
     }
 }
 
-// Makes the places, if there are none.
-fn make_places(alloc: Global, places: &mut Vec<Place>)
+// Makes the places, if there are none, and they weren't asked for before.
+fn make_places(alloc: Global, places: &mut Vec<Place>, has_asked: &mut bool)
     ensures { (places.new.items ≡ places.old.items)
         ⊎ ((length places.old.items ≡ 0) × AreFree places.new.items) }
 {
-    if places.is_empty() {
+    if places.is_empty() && !*has_asked {
+        *has_asked = true;
         put_places(alloc, places);
     }
 }

@@ -1,4 +1,5 @@
-//! Buckets: an exact map from keys of 64 bits to slots, in no order, for great tables.
+//! Two exact maps from keys of 64 bits to slots, in no order, for great tables: `ByPort`, in which a key has one place, and
+//! which has a page of its own, and `Buckets`, of which this page tells.
 //!
 //! A key is spread over a vector of places, of which eight that lie side by side are a bucket: a look-up reads the
 //! places of one bucket, 96 bytes. An entry whose bucket is full, or whose value is too great for a place, lies
@@ -19,6 +20,7 @@
 //! - `places`: the places and the overflow, and what is done to them
 //! - `overflow`: the entries for which there was no place
 //! - `specs/Held`: the entries, as contracts see them; `Rows` of crate `rows` has the words for them
+//! - `specs/Places` and `specs/ByPort`: how they lie in either map
 #![tactic(auto)]
 
 ghost use Rattle.std.specs.Prelude.{◌≡◌, ◌+◌, ◌<◌, ◌≤◌, ℕ, None, Some, IsOk, IsSome, IfOk, OnOk, OnErr};

@@ -387,8 +387,8 @@ impl<D: Disk + Drop> Gateway<D> {
     }
 
     /// Writes the entries of all held events as one group, syncs it, and hands out the held answers, in order, each with
-    /// its number. Where nothing is held it hands out none, and no call of the disk is made; otherwise four are. It
-    /// takes no memory.
+    /// its number. Where nothing is held it hands out none, and no call of the disk is made; where it ends well
+    /// otherwise, four are. It takes no memory.
     ///
     /// # Errors
     ///

@@ -75,7 +75,8 @@ impl Translations {
         self.ports.reserve()
     }
 
-    /// The outside endpoint that stands for this inside endpoint, if it has a mapping.
+    /// The outside endpoint that stands for this inside endpoint, if it has a mapping. It walks over all mappings: the
+    /// legs ask the table of sessions.
     pub fn outside_of(&self, proto: Proto, inside: Endpoint) -> Option<Endpoint>
         ensures found { IfSome result (λ outside.
             0 < times self.now.pairs (pair_with proto inside outside)) }
@@ -105,7 +106,7 @@ impl Translations {
         }
     }
 
-    /// Whether a first look tells that mappings of both endpoints are held. It says nothing of what is: whoever asks of
+    /// Whether a first look tells that a mapping of the outside endpoint is held. It says nothing of what is: whoever asks of
     /// several in turn waits once for the memory that it takes to hold and to release them.
     pub fn seems_mapped(&self, proto: Proto, inside: Endpoint, outside: Endpoint) -> bool {
         self.map.seems_held(Pair {

@@ -67,7 +67,7 @@ fn has_mapping(table: &Table, translations: &Translations, session: &Session) ->
     )
 }
 
-// Whether sessions and mappings of both endpoints seem to be held. All maps are asked in any case.
+// Whether sessions of both endpoints, and a mapping of the outside one, seem to be held. All maps are asked in any case.
 fn are_mapped(
     table: &Table,
     translations: &Translations,

@@ -26,7 +26,7 @@ const MOST_KEPT: usize = 1_024;
 /// The most bytes of memory that a kept body has.
 const LONGEST_KEPT: usize = 2_048;
 
-/// Behind so many events in turn whose answer isn't a packet that left at once, none is hoped to be one.
+/// Behind so many events in turn with which no packet was handed out last, none is hoped to leave at once.
 const MOST_MISSES: usize = 4;
 
 /// Why no more frames are offered.
@@ -227,7 +227,7 @@ fn offer_next<D: Disk + Drop>(
     offer_copy(alloc, waiting, answers, bodies, gateway)
 }
 
-/// How many events in turn have another answer than a packet that left at once, behind one event more.
+/// With how many events in turn no packet was handed out last, behind one event more.
 fn misses_behind(misses: usize, forwarded: bool) -> usize {
     if forwarded {
         0

@@ -16,7 +16,7 @@ pub(crate) struct Spot {
     pub(crate) place: usize,
 }
 
-/// What a packet at a hook is asked about.
+/// Which base chains are asked about a packet at a hook.
 #[derive(Clone, Copy, Drop)]
 pub(crate) enum Asked {
     /// No base chain stands there.

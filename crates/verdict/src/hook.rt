@@ -313,8 +313,8 @@ fn lone_in_table(
     (settled(base.policy, outcome), steps)
 }
 
-// The same of all tables, where the table of that number has the only base chain of the hook. Not compiled into its
-// caller.
+// What the base chains of all tables come to at the hook, where the only one stands at that spot, and calls no chain. Not
+// compiled into its caller.
 #[inline(never)]
 fn lone_outcome(
     rules: &Rules,

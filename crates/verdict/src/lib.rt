@@ -22,7 +22,7 @@
 //! The definitions stand in `specs/`: `Matching` says when a match holds, `Evaluation` what a chain
 //! comes to, and `Hooks` what a hook decides. Only `Rules::of` takes memory, no call for a packet does. For
 //! one packet at one hook the rules of each chain are read at most once: what each chain came to is
-//! remembered for the packet, the hook and the table. So at most as many rules are looked at or passed over as there
+//! remembered for the packet, the hook and the table, unless one base chain that calls none is asked by itself. So at most as many rules are looked at or passed over as there
 //! are (`Costs`), whatever jumps and base chains there are.
 #![tactic(auto)]
 
