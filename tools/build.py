@@ -32,6 +32,8 @@ MEMORY = 4_000_000_000
 MOST = 4
 # So many steps of nice a crate stands behind each one that has a longer chain above it.
 STEP = 5
+# What a crate takes beside its own lines, in lines: this one makes a library's macros into code.
+BESIDE = {"command_line": 2_000}
 
 
 def load_rtlib():
@@ -70,7 +72,7 @@ def lines_behind(crates):
     behind = {}
     for crate in reversed(crates):
         above = [behind[it] for it in behind if crate in it.below()]
-        behind[crate] = crate.count(rb"\n") + max(above, default=0)
+        behind[crate] = crate.count(rb"\n") + BESIDE.get(crate.name, 0) + max(above, default=0)
     return behind
 
 
