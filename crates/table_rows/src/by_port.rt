@@ -16,17 +16,18 @@ fn assert_gives(rt: &impl Abort, map: &mut ByPort, key: u64, expected: Option<us
 }
 
 // Protocol number, address and port of an endpoint, one behind another.
-fn key(proto: u64, addr: u64, port: u64) -> u64 {
-    proto * 0x1_0000_0000_0000 + addr * 0x1_0000 + port
+fn key(proto: u8, addr: u32, port: u16) -> u64 {
+    let front = u64::from(proto) * 0x1_0000_0000_0000 + u64::from(addr) * 0x1_0000;
+    front + u64::from(port)
 }
 
-const EXTERNAL: u64 = 0xcb00_7101;
+const EXTERNAL: u32 = 0xcb00_7101;
 
-const ANOTHER: u64 = 0xcb00_7102;
+const ANOTHER: u32 = 0xcb00_7102;
 
-const TCP: u64 = 6;
+const TCP: u8 = 6;
 
-const UDP: u64 = 17;
+const UDP: u8 = 17;
 
 // Endpoints that have places of their own; one whose place is taken by the first; a key that is no endpoint's; and a
 // value that is too great for a place.
