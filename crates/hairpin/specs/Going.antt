@@ -23,9 +23,8 @@ planned (Err cause) = Err cause
 abbrev pub IsQuiet : Sessions → Going → Type 0
 IsQuiet table g = (s : Session) → at table g.slot ≡ Some s → bit_or s.seen g.bits ≡ s.seen
 
--- a packet from this side doesn't begin the session anew, and shows these bits of it, which were seen before
-pub record ShowsNone (s : Session) (sender : Opener) (flags : Flags) (bits : ℕ) : Type 0 where
+-- a packet from this side doesn't begin the session anew, and shows these bits of it
+pub record Shows (s : Session) (sender : Opener) (flags : Flags) (bits : ℕ) : Type 0 where
   pub goes_on : restarts s flags ≡ false
   pub are : bits ≡ shown s.proto s.opener sender flags
   pub known : IsSeen s.proto bits
-  pub seen : bit_or s.seen bits ≡ s.seen

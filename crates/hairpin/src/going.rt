@@ -1,9 +1,10 @@
-//! A packet whose session goes on, and that shows nothing that wasn't seen before: the short way, which nearly all go.
+//! A packet whose session goes on, and is told by a first look: the short way, which nearly all go. By `goes_out` and
+//! `comes_in` it shows nothing of its session that wasn't seen before, by the other two perhaps something.
 ghost use Rattle.std.specs.Prelude.{◌≡◌, ℕ, List, Option as Maybe, IfOk, IfSome, Some, None, bit_or, slice_index_or};
 ghost use Rattle.sessions.specs.Listing.{find, has_inside, has_outside, listing};
 ghost use Rattle.sessions.specs.Table.{at};
 ghost use Rattle.sessions.specs.declared.session.Session.{Session as Flow};
-ghost use Rattle.hairpin.specs.Going.{IsQuiet, ShowsNone, planned};
+ghost use Rattle.hairpin.specs.Going.{IsQuiet, Shows, planned};
 ghost use Rattle.hairpin.specs.Legs.{in_by, in_leg as in_way, out_by, out_leg as out_way};
 ghost use Rattle.hairpin.specs.Plans.{Plans};
 
@@ -50,7 +51,10 @@ pub fn goes_out(
     let Some(found) = glanced_out(table, view) else {
         return None;
     };
-    on_out(bounds, rules, &found, view)
+    let Some(bits) = shown_again(&found.session, Opener::Inside, view.flags) else {
+        return None;
+    };
+    Some(on_out(bounds, rules, &found, bits, view))
 }
 
 /// How a packet comes in whose session goes on, as `in_leg` says. `None` says nothing: the first look doesn't tell its
@@ -73,10 +77,64 @@ pub fn comes_in(
     let Some(found) = glanced_in(table, view) else {
         return None;
     };
-    on_in(bounds, rules, &found, view)
+    let Some(bits) = shown_again(&found.session, Opener::Remote, view.flags) else {
+        return None;
+    };
+    Some(on_in(bounds, rules, &found, bits, view))
+}
+
+/// As `goes_out`, of a packet that may show something new of its session. `None` says nothing: the first look doesn't tell
+/// its session, or the packet begins it anew.
+///
+/// # Errors
+///
+/// `Rule` of forward.
+pub fn goes_out_showing(
+    bounds: &Bounds,
+    rules: &Rules,
+    table: &Table,
+    view: &View,
+) -> Option<Result<Going, Cause>>
+    ensures { (external now : ℕ)
+        → IfSome result (λ going. Plans external table.now.held now (planned going)
+        (out_way bounds.now rules.now (listing table.now.held) now view.now)) }
+{
+    let Some(found) = glanced_out(table, view) else {
+        return None;
+    };
+    let Some(bits) = shown(&found.session, Opener::Inside, view.flags) else {
+        return None;
+    };
+    Some(on_out(bounds, rules, &found, bits, view))
+}
+
+/// As `comes_in`, of a packet that may show something new of its session. `None` says nothing: the first look doesn't tell
+/// its session, or the packet begins it anew.
+///
+/// # Errors
+///
+/// `Rule` of forward.
+pub fn comes_in_showing(
+    bounds: &Bounds,
+    rules: &Rules,
+    table: &Table,
+    view: &View,
+) -> Option<Result<Going, Cause>>
+    ensures { (external now : ℕ)
+        → IfSome result (λ going. Plans external table.now.held now (planned going)
+        (in_way bounds.now rules.now (listing table.now.held) now view.now)) }
+{
+    let Some(found) = glanced_in(table, view) else {
+        return None;
+    };
+    let Some(bits) = shown(&found.session, Opener::Remote, view.flags) else {
+        return None;
+    };
+    Some(on_in(bounds, rules, &found, bits, view))
 }
 
 // The session of a packet from inside, where the first look tells it.
+#[inline(always)]
 fn glanced_out(table: &Table, view: &View) -> Option<Held>
     ensures session { IfSome result (λ h. find (has_inside view.now.proto view.now.src view.now.dst)
         (listing table.now.held) ≡ Some h.session) }
@@ -93,6 +151,7 @@ fn glanced_out(table: &Table, view: &View) -> Option<Held>
 }
 
 // The session of a packet from outside, where the first look tells it.
+#[inline(always)]
 fn glanced_in(table: &Table, view: &View) -> Option<Held>
     ensures session { IfSome result
         (λ h. find (has_outside view.now.proto view.now.dst view.now.src)
@@ -109,70 +168,90 @@ fn glanced_in(table: &Table, view: &View) -> Option<Held>
     }
 }
 
-// What a packet from this side shows of a session that it doesn't begin anew, where all of that was seen before.
-fn nothing_new(session: &Session, sender: Opener, flags: Flags) -> Option<u8>
-    ensures { IfSome result (λ bits. ShowsNone session.now sender flags bits) }
+// What a packet from this side shows of a session that it doesn't begin anew.
+fn shown(session: &Session, sender: Opener, flags: Flags) -> Option<u8>
+    ensures { IfSome result (Shows session.now sender flags) }
 {
     if session.restarts(flags) {
         return None;
     }
-    let bits = session.shown(sender, flags);
+    Some(session.shown(sender, flags))
+}
+
+// What a packet from this side shows of a session that it doesn't begin anew, where all of that was seen before.
+fn shown_again(session: &Session, sender: Opener, flags: Flags) -> Option<u8>
+    ensures shows { IfSome result (Shows session.now sender flags) }
+    ensures seen { IfSome result (λ bits. bit_or session.now.seen bits ≡ session.now.seen) }
+{
+    let Some(bits) = shown(session, sender, flags) else {
+        return None;
+    };
     if session.seen | bits != session.seen {
         return None;
     }
     Some(bits)
 }
 
-// How a packet goes out by the session that was found, if that goes on.
-fn on_out(bounds: &Bounds, rules: &Rules, found: &Held, view: &View) -> Option<Result<Going, Cause>>
+// How a packet goes out by the session that was found, of which it shows these bits.
+#[inline(always)]
+fn on_out(
+    bounds: &Bounds,
+    rules: &Rules,
+    found: &Held,
+    bits: u8,
+    view: &View,
+) -> Result<Going, Cause>
+    requires { Shows found.now.session Opener.Inside view.now.flags bits }
     ensures way { (external : ℕ) (held : List (Maybe Flow)) (now : ℕ)
         → slice_index_or held found.now.slot None ≡ Some found.now.session
-        → IfSome result (λ going. Plans external held now (planned going)
-        (out_by bounds.now rules.now (listing held) now view.now (Some found.now.session))) }
-    ensures quiet { IfSome result (λ going. IfOk going (λ g. (g.slot ≡ found.now.slot)
-        × (bit_or found.now.session.seen g.bits ≡ found.now.session.seen))) }
+        → Plans external held now (planned result)
+        (out_by bounds.now rules.now (listing held) now view.now (Some found.now.session)) }
+    ensures slot { IfOk result (λ g. g.slot ≡ found.now.slot) }
+    ensures bits { IfOk result (λ g. g.bits ≡ bits) }
 {
     let session = &found.session;
-    let Some(bits) = nothing_new(session, Opener::Inside, view.flags) else {
-        return None;
-    };
     let state = state_of(session, Opener::Inside, view.flags);
     let facts = facts_of(view, Iface::Lan, Some(Iface::Wan), view.dst, state);
     match forward(rules, bounds, &facts) {
-        Forwarding::Drop => Some(Err(Cause::Rule)),
-        Forwarding::Pass => Some(Ok(Going {
+        Forwarding::Drop => Err(Cause::Rule),
+        Forwarding::Pass => Ok(Going {
             slot: found.slot,
             bits,
             iface: Iface::Wan,
             src: session.outside,
             dst: session.remote,
-        })),
+        }),
     }
 }
 
-// How a packet comes in by the session that was found, if that goes on.
-fn on_in(bounds: &Bounds, rules: &Rules, found: &Held, view: &View) -> Option<Result<Going, Cause>>
+// How a packet comes in by the session that was found, of which it shows these bits.
+#[inline(always)]
+fn on_in(
+    bounds: &Bounds,
+    rules: &Rules,
+    found: &Held,
+    bits: u8,
+    view: &View,
+) -> Result<Going, Cause>
+    requires { Shows found.now.session Opener.Remote view.now.flags bits }
     ensures way { (external : ℕ) (held : List (Maybe Flow)) (now : ℕ)
         → slice_index_or held found.now.slot None ≡ Some found.now.session
-        → IfSome result (λ going. Plans external held now (planned going)
-        (in_by bounds.now rules.now (listing held) now view.now (Some found.now.session))) }
-    ensures quiet { IfSome result (λ going. IfOk going (λ g. (g.slot ≡ found.now.slot)
-        × (bit_or found.now.session.seen g.bits ≡ found.now.session.seen))) }
+        → Plans external held now (planned result)
+        (in_by bounds.now rules.now (listing held) now view.now (Some found.now.session)) }
+    ensures slot { IfOk result (λ g. g.slot ≡ found.now.slot) }
+    ensures bits { IfOk result (λ g. g.bits ≡ bits) }
 {
     let session = &found.session;
-    let Some(bits) = nothing_new(session, Opener::Remote, view.flags) else {
-        return None;
-    };
     let state = state_of(session, Opener::Remote, view.flags);
     let facts = facts_of(view, Iface::Wan, Some(Iface::Lan), session.inside, state);
     match forward(rules, bounds, &facts) {
-        Forwarding::Drop => Some(Err(Cause::Rule)),
-        Forwarding::Pass => Some(Ok(Going {
+        Forwarding::Drop => Err(Cause::Rule),
+        Forwarding::Pass => Ok(Going {
             slot: found.slot,
             bits,
             iface: Iface::Lan,
             src: session.remote,
             dst: session.inside,
-        })),
+        }),
     }
 }

@@ -2,8 +2,8 @@
 //!
 //! A leg says by which sessions a packet passes and how it leaves (a `Plan`), or why it is dropped (a
 //! `Cause`). `specs/Legs` says what each comes to, over the sessions as a plain list, and `out_leg`, `in_leg`
-//! and `both` are proved to be it. So are `goes_out` and `comes_in`, the short way of a packet whose session
-//! goes on. These five change nothing and take no memory: the crate `machine` does what a plan says
+//! and `both` are proved to be it. So is what `going` has, the short way of a packet whose session goes on.
+//! These change nothing and take no memory: the crate `machine` does what a plan says
 //! (`Flows::carry_out`). It changes `Translations` by that, of which `new` and `reserve` alone take memory.
 //!
 //! An endpoint is an address with a port. An outside endpoint is what an inside one is called towards its
@@ -16,7 +16,8 @@
 //! - `inward`: `in_leg`, from a remote endpoint to an outside one.
 //! - `hairpinning`: `both`, from an inside endpoint to an outside endpoint of the gateway itself: first out,
 //!   then in.
-//! - `going`: `goes_out` and `comes_in`, for a packet whose session goes on, and that shows nothing new of it.
+//! - `going`: `goes_out` and `comes_in`, for a packet whose session goes on, and that shows nothing new of it;
+//!   `goes_out_showing` and `comes_in_showing` where it may show something.
 #![tactic(auto)]
 
 mod cause;
@@ -29,7 +30,7 @@ mod plan;
 pub mod translations;
 
 pub use cause::Cause;
-pub use going::{Going, comes_in, goes_out};
+pub use going::{Going, comes_in, comes_in_showing, goes_out, goes_out_showing};
 pub use hairpinning::both;
 pub use inward::in_leg;
 pub use outward::out_leg;

@@ -1,4 +1,4 @@
--- What notes have beside the entries.
+-- What notes have beside the entries: what `gateway` holds beside them, which no step changes.
 use Rattle.std.specs.Prelude.{ℕ, List}
 use Rattle.machine.specs.declared.event.Answer.{Answer}
 

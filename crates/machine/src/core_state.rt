@@ -16,7 +16,7 @@ ghost use Rattle.hairpin.specs.declared.cause.Cause.{Cause as Reason};
 ghost use Rattle.machine.specs.Core.{IsTransition, AddsNoSession, state_of};
 ghost use Rattle.machine.specs.Judged.{Judged, IsJudged, IsNoLoad, bringer};
 ghost use Rattle.machine.specs.Machine.{AddsNone, EndsNone, act, aged, empty_at, later, leg, pass, sent, step};
-ghost use Rattle.durable.specs.Coding.{Entry as Noted, Load};
+ghost use Rattle.durable.specs.Coding.{Entry as Recorded, Load};
 ghost use Rattle.durable.specs.Entering.{IsDurable, IsRuleset, durable};
 ghost use Rattle.machine.specs.Noted.{AreEntriesOf, AreOver, IsRestarted, ends, of_deed, of_fields, of_way};
 ghost use Rattle.machine.specs.Notes.{most_bytes};
@@ -33,7 +33,10 @@ use crate::event::{Answer, Event, NoMemory, What};
 use crate::flows::Flows;
 use crate::notes::{Notes, StepFault, Unkept};
 use durable::Entry;
-use hairpin::{Cause, Going, Plan, both, comes_in, goes_out, in_leg, out_leg};
+use hairpin::{
+    Cause, Going, Plan, both, comes_in, comes_in_showing, goes_out, goes_out_showing, in_leg,
+    out_leg,
+};
 use packet::bounds::Bounds;
 use packet::endpoint::{Endpoint, Iface};
 use packet::rewriting::rewrite;
@@ -97,7 +100,7 @@ fn translate(bytes: Bytes, src: Endpoint, dst: Endpoint) -> Bytes
 }
 
 // What a plan comes to; `ready` says that there is room already.
-fn put_through<N: Notes>(
+fn answer_planned<N: Notes>(
     flows: &mut Flows,
     ready: bool,
     plan: &Result<Plan, Cause>,
@@ -199,9 +202,30 @@ fn glance(
     }
 }
 
+// As `glance`, of a packet that may show something new of its session.
+#[inline(always)]
+fn glance_showing(
+    flows: &Flows,
+    rules: &Rules,
+    bounds: &Bounds,
+    route: Route,
+    view: &View,
+) -> Option<Result<Going, Cause>>
+    ensures { (text : List ℕ) (now : ℕ)
+        → IfSome result (λ going. Plans flows.now.translations.external flows.now.table.held now
+        (planned going)
+        (leg bounds.now (state_of text rules.now flows.now.table.held now) view.now route)) }
+{
+    match route {
+        Route::Out => goes_out_showing(bounds, rules, flows.table(), view),
+        Route::In => comes_in_showing(bounds, rules, flows.table(), view),
+        Route::Hairpin => None,
+    }
+}
+
 // Sends a packet on, in place, by its session, which goes on.
 #[inline(always)]
-fn send_on(flows: &mut Flows, going: &Going, packet: &mut [u8], now: u64)
+fn send_in_place(flows: &mut Flows, going: &Going, packet: &mut [u8], now: u64)
     requires read { IsOkAnd (fields packet.old) (λ view. 2 ≤ view.ttl) }
     requires latest { IsLatest flows.old.table.held now }
     requires planned { (way : Outcome Passage Reason)
@@ -220,38 +244,56 @@ fn send_on(flows: &mut Flows, going: &Going, packet: &mut [u8], now: u64)
         → of_way (listing flows.old.table.held) way ≡ [] }
 {
     flows.table().is_sound();
-    flows.go_on(going, now);
+    flows.see_going(going, now);
     rewrite(packet, going.src, going.dst);
 }
 
-// What a packet comes to whose session goes on.
-fn go_through(flows: &mut Flows, going: &Result<Going, Cause>, bytes: Bytes, now: u64) -> Answer
+// What a packet comes to whose session goes on; `ready` says that there is room already.
+fn answer_going<N: Notes>(
+    flows: &mut Flows,
+    ready: bool,
+    going: &Result<Going, Cause>,
+    bytes: Bytes,
+    now: u64,
+    notes: &mut N,
+) -> Result<Answer, (Bytes, StepFault)>
     requires read { IsOkAnd (fields bytes) (λ view. 2 ≤ view.ttl) }
     requires latest { IsLatest flows.old.table.held now }
+    requires room { IsTrue ready → N.keeps notes.old → 44 ≤ N.room notes.old }
     requires planned { (way : Outcome Passage Reason)
         × Plans flows.old.translations.external flows.old.table.held now (planned going.now) way }
-    requires quiet { IfOk going.now (IsQuiet flows.old.table) }
-    ensures leads { (way : Outcome Passage Reason)
+    ensures ok { IfOk result (λ answer. (way : Outcome Passage Reason)
         → Plans flows.old.translations.external flows.old.table.held now (planned going.now) way
         → IsTransition (λ s. sent s bytes way) flows.old.table.held flows.new.table.held
-        now result }
+        now answer) }
+    ensures err { IfErr result (λ e. (e.0 ≡ bytes)
+        × (flows.new.table.held ≡ flows.old.table.held)) }
     ensures external { flows.new.translations.external ≡ flows.old.translations.external }
-    ensures none { (way : Outcome Passage Reason)
+    ensures ready { IsTrue ready → IsOk result }
+    ensures grants { N.grants notes.old → IsOk result }
+    ensures keeps { N.keeps notes.old ↔ N.keeps notes.new }
+    ensures beside { N.beside notes.new ≡ N.beside notes.old }
+    ensures noted { OnOk result ((way : Outcome Passage Reason)
         → Plans flows.old.translations.external flows.old.table.held now (planned going.now) way
-        → of_way (listing flows.old.table.held) way ≡ [] }
+        → N.keeps notes.old → N.noted notes.new ≡ N.noted notes.old
+        ++ of_way (listing flows.old.table.held) way) }
+    ensures err_noted { OnErr result (N.noted notes.new ≡ N.noted notes.old) }
+    ensures full { IfErr result (λ e. e.1 ≡ StepFault.Full → N.too_many notes.old 44) }
+    ensures quiet { (way : Outcome Passage Reason)
+        → Plans flows.old.translations.external flows.old.table.held now (planned going.now) way
+        → of_way (listing flows.old.table.held) way ≡ [] → IsOk result }
 {
     match going {
-        Err(cause) => drop_for(*cause),
-        Ok(going) => {
-            let mut frame = bytes.into_vec();
-            send_on(flows, going, &mut frame, now);
-            Answer::Forward(going.iface, Bytes::of(frame))
-        }
+        Err(cause) => Ok(drop_for(*cause)),
+        Ok(going) => match flows.carry_out_going(ready, going, now, notes) {
+            Ok(()) => Ok(Answer::Forward(going.iface, translate(bytes, going.src, going.dst))),
+            Err(fault) => Err((bytes, fault)),
+        },
     }
 }
 
 // What a packet comes to, at sessions that are alive.
-fn pass_on<N: Notes>(
+fn answer_packet<N: Notes>(
     flows: &mut Flows,
     in_force: &InForce,
     bounds: &Bounds,
@@ -295,11 +337,11 @@ fn pass_on<N: Notes>(
         Err(fault) => Ok(drop_for(Cause::Packet(fault))),
         Ok(view) => match bounds.route(iface, &view) {
             Err(fault) => Ok(drop_for(Cause::Route(fault))),
-            Ok(route) => match glance(flows, &in_force.rules, bounds, route, &view) {
-                Some(going) => Ok(go_through(flows, &going, bytes, now)),
+            Ok(route) => match glance_showing(flows, &in_force.rules, bounds, route, &view) {
+                Some(going) => answer_going(flows, ready, &going, bytes, now, notes),
                 None => {
                     let plan = plan_for(flows, &in_force.rules, bounds, route, &view, now);
-                    put_through(flows, ready, &plan, bytes, now, notes)
+                    answer_planned(flows, ready, &plan, bytes, now, notes)
                 }
             },
         },
@@ -307,7 +349,7 @@ fn pass_on<N: Notes>(
 }
 
 // By which interface a packet leaves, translated in place, whose session goes on, at sessions that are alive.
-fn pass_in_place(
+fn forward_in_place(
     flows: &mut Flows,
     rules: &Rules,
     bounds: &Bounds,
@@ -335,7 +377,7 @@ fn pass_in_place(
     let Some(Ok(going)) = glance(flows, rules, bounds, route, &view) else {
         return None;
     };
-    send_on(flows, &going, packet, now);
+    send_in_place(flows, &going, packet, now);
     Some(going.iface)
 }
 
@@ -360,7 +402,7 @@ fn note_load<N: Notes>(ready: bool, text: &Bytes, notes: &mut N) -> Result<(), S
 }
 
 // What is done at sessions that are alive.
-fn act_on<N: Notes>(
+fn answer_deed<N: Notes>(
     flows: &mut Flows,
     in_force: &mut InForce,
     bounds: &Bounds,
@@ -410,7 +452,7 @@ fn act_on<N: Notes>(
         Deed::Refuse(_) => Ok(Answer::Refused),
         Deed::Moment => Ok(Answer::Ticked),
         Deed::Packet(iface, bytes) => {
-            match pass_on(flows, in_force, bounds, ready, iface, bytes, now, notes) {
+            match answer_packet(flows, in_force, bounds, ready, iface, bytes, now, notes) {
                 Ok(answer) => Ok(answer),
                 Err((bytes, e)) => Err((What::Packet(iface, bytes), e)),
             }
@@ -419,7 +461,7 @@ fn act_on<N: Notes>(
 }
 
 // What is done, once the sessions that are alive no longer have ended.
-fn age_and_act<N: Notes>(
+fn age_and_answer<N: Notes>(
     flows: &mut Flows,
     in_force: &mut InForce,
     alloc: Global,
@@ -463,7 +505,7 @@ fn age_and_act<N: Notes>(
         EndsNone now s → of_deed bounds.now (aged now s) deed ≡ [] → IsOk result }
 {
     match flows.expire_since(alloc, clock, now, deed.most_bytes(), notes) {
-        Ok(ready) => act_on(flows, in_force, bounds, ready, deed, now, notes),
+        Ok(ready) => answer_deed(flows, in_force, bounds, ready, deed, now, notes),
         Err(fault) => Err((deed.into_what(), fault)),
     }
 }
@@ -614,7 +656,7 @@ impl Core {
         ensures ok { IfOk result (λ answer. (judged : Judged)
             × IsJudged self.old.config event judged
             × (step self.old.config self.old.state judged ≡ (self.new.state, answer))
-            × (N.keeps notes.old → (entries : List Noted)
+            × (N.keeps notes.old → (entries : List Recorded)
             × AreEntriesOf self.old.config self.old.state judged entries
             × (N.noted notes.new ≡ N.noted notes.old ++ entries))) }
         ensures config { self.new.config ≡ self.old.config }
@@ -643,7 +685,7 @@ impl Core {
             Ok(deed) => deed,
             Err((what, _)) => return Err((Event { moment, what }, StepFault::NoMemory)),
         };
-        match age_and_act(
+        match age_and_answer(
             &mut self.flows,
             &mut self.in_force,
             self.alloc,
@@ -693,7 +735,7 @@ impl Core {
         if !self.flows.keeps_all_since(self.alloc, self.clock, clock) {
             return None;
         }
-        let Some(out) = pass_in_place(
+        let Some(out) = forward_in_place(
             &mut self.flows,
             &self.in_force.rules,
             &self.bounds,

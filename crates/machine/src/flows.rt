@@ -21,7 +21,7 @@ ghost use Rattle.machine.specs.Flows.{IsDue, IsLatest, IsReady, MayJoin, adds as
 
 use crate::ahead::{count_ending, count_mapped};
 use crate::notes::{Notes, StepFault};
-use crate::noting::{entry_of, flow_of, makes_entry, note};
+use crate::noting::{entry_of, flow_of, make_room_to_note, makes_entry, note};
 use durable::Entry;
 use hairpin::translations::Translations;
 use hairpin::{Going, Plan};
@@ -331,7 +331,7 @@ impl Flows {
             self.apply(change, now);
             return;
         }
-        let entry = entry_of(&self.table, change, now);
+        let entry = entry_of(&self.table, change);
         self.apply(change, now);
         note(notes, entry);
     }
@@ -466,8 +466,59 @@ impl Flows {
         }
     }
 
-    /// A packet passed whose session goes on, at the second `now`.
-    pub fn go_on(&mut self, going: &Going, now: u64)
+    /// Does what a packet does whose session goes on, at the second `now`, and notes it; `ready` says that there is room
+    /// for its entry already.
+    ///
+    /// # Errors
+    ///
+    /// `NoMemory` where something is noted, there is no room for it, and memory is refused; `Full` only where 44 bytes
+    /// of entries don't fit. The sessions stay as they are, and what is noted too.
+    pub fn carry_out_going<N: Notes>(
+        &mut self,
+        ready: bool,
+        going: &Going,
+        now: u64,
+        notes: &mut N,
+    ) -> Result<(), StepFault>
+        requires latest { IsLatest self.old.table.held now }
+        requires give { (ts : List Flow)
+            × GiveAll self.old.translations.external self.old.table.held now
+            (plan_of going.now).first (plan_of going.now).second ts }
+        requires room { IsTrue ready → N.keeps notes.old → 44 ≤ N.room notes.old }
+        ensures ok { OnOk result ((ts : List Flow)
+            → GiveAll self.old.translations.external self.old.table.held now
+            (plan_of going.now).first (plan_of going.now).second ts
+            → listing self.new.table.held ≡ put_all ts (listing self.old.table.held)) }
+        ensures err { OnErr result (self.new.table.held ≡ self.old.table.held) }
+        ensures external { self.new.translations.external ≡ self.old.translations.external }
+        ensures keeps { N.keeps notes.old ↔ N.keeps notes.new }
+        ensures beside { N.beside notes.new ≡ N.beside notes.old }
+        ensures noted { OnOk result ((ts : List Flow)
+            → GiveAll self.old.translations.external self.old.table.held now
+            (plan_of going.now).first (plan_of going.now).second ts
+            → N.keeps notes.old → N.noted notes.new ≡ N.noted notes.old
+            ++ noted_all ts (listing self.old.table.held)) }
+        ensures err_noted { OnErr result (N.noted notes.new ≡ N.noted notes.old) }
+        ensures full { IsErrOf result StepFault.Full → N.too_many notes.old 44 }
+        ensures succeeds { IsTrue ready → IsOk result }
+        ensures grants { N.grants notes.old → IsOk result }
+        ensures quiet { (ts : List Flow)
+            → GiveAll self.old.translations.external self.old.table.held now
+            (plan_of going.now).first (plan_of going.now).second ts
+            → noted_all ts (listing self.old.table.held) ≡ [] → IsOk result }
+    {
+        let change = Change::Seen(going.slot, going.bits);
+        match make_room_to_note(&self.table, ready, &change, notes) {
+            Ok(()) => {
+                self.apply_noted(&change, now, notes);
+                Ok(())
+            }
+            Err(fault) => Err(fault),
+        }
+    }
+
+    /// A packet passed whose session goes on, at the second `now`, and that shows nothing new of it.
+    pub fn see_going(&mut self, going: &Going, now: u64)
         requires latest { IsLatest self.old.table.held now }
         requires give { (ts : List Flow)
             × GiveAll self.old.translations.external self.old.table.held now
@@ -544,7 +595,8 @@ impl Flows {
     }
 
     /// Ends the sessions that are alive no longer at the second `now`, notes them, and says whether there were any;
-    /// then there is room for two more, and for so many bytes of other entries.
+    /// then there is room for two more, and for so many bytes of other entries: an event whose first entries are noted
+    /// can't be refused any more.
     ///
     /// # Errors
     ///
@@ -637,7 +689,8 @@ impl Flows {
     }
 }
 
-// Whether the plan makes an entry.
+// Whether the plan makes an entry. A session that it adds makes one: of a second change the table, which is that before
+// the first, tells it only where that adds none.
 fn is_noted(table: &Table, plan: &Plan) -> bool
     requires { (external now : ℕ) × (ts : List Flow)
         × GiveAll external table.now.held now plan.now.first plan.now.second ts }

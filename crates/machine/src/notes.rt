@@ -1,6 +1,6 @@
 //! Where a step notes what it changes of what must survive.
 ghost use Rattle.std.specs.Prelude.{◌≡◌, ◌↔◌, ◌+◌, ◌*◌, ◌≤◌, ◌++◌, ◌∷◌, [], ℕ, List, length, OnOk, IsOk, IsErrOf};
-ghost use Rattle.durable.specs.Coding.{Entry as Noted, IsEntry, entry_bytes};
+ghost use Rattle.durable.specs.Coding.{Entry as Recorded, IsEntry, entry_bytes};
 ghost use Rattle.durable.specs.Viewing.{view};
 ghost use Rattle.machine.specs.Besides.{Besides};
 ghost use Rattle.machine.specs.declared.notes.StepFault.{StepFault};
@@ -27,7 +27,7 @@ pub trait Notes {
     ghost keeps: { Self → Type 0 };
 
     /// The entries that were noted, in order.
-    ghost noted: { Self → List Noted };
+    ghost noted: { Self → List Recorded };
 
     /// What they have beside the entries. It stays.
     ghost beside: { Self → Besides };
@@ -35,7 +35,7 @@ pub trait Notes {
     /// How many more bytes of entries find room.
     ghost room: { Self → ℕ };
 
-    /// There will be room for anything.
+    /// There will be room for anything. Only `Unkept` says so, for `Core::step`, which keeps nothing.
     ghost grants: { Self → Type 0 };
 
     /// So many bytes more would not fit, however much memory there is.

@@ -1,5 +1,5 @@
 //! The entries by which a change of a session is noted.
-ghost use Rattle.std.specs.Prelude.{◌≡◌, ◌≢◌, ◌↔◌, ◌+◌, ◌<◌, ◌≤◌, ◌++◌, [], ℕ, IsTrue};
+ghost use Rattle.std.specs.Prelude.{◌≡◌, ◌≢◌, ◌↔◌, ◌+◌, ◌<◌, ◌≤◌, ◌++◌, [], ℕ, IsErrOf, IsOk, IsTrue, OnOk};
 ghost use Rattle.durable.specs.Coding.{AreEntries, IsFlow, IsSession};
 ghost use Rattle.durable.specs.Entering.{flow_of as flow_in};
 ghost use Rattle.hairpin.specs.Plans.{Gives};
@@ -11,7 +11,7 @@ ghost use Rattle.sessions.specs.declared.session.Session.{Session as Flowing};
 ghost use Rattle.sessions.specs.Stilled.{stilled as without_moment};
 ghost use Rattle.sessions.specs.Table.{restarted, seen as seen_with};
 
-use crate::notes::Notes;
+use crate::notes::{Notes, StepFault};
 use durable::{Entry, Flow, endpoint_fits};
 use sessions::{Change, Opener, Session, Table};
 
@@ -96,10 +96,48 @@ pub fn makes_entry(table: &Table, change: &Change) -> bool
     }
 }
 
+/// Makes room for the entry of a change, if it makes one; the table is that before the change. `ready` says that there
+/// is room already.
+///
+/// # Errors
+///
+/// `NoMemory` where memory is refused; `Full` only where 44 bytes of entries don't fit. What is noted stays.
+pub fn make_room_to_note<N: Notes>(
+    table: &Table,
+    ready: bool,
+    change: &Change,
+    notes: &mut N,
+) -> Result<(), StepFault>
+    requires gives { (external now : ℕ) × (t : Flowing)
+        × Gives external table.now.held now change.now t }
+    requires room { IsTrue ready → N.keeps notes.old → 44 ≤ N.room notes.old }
+    ensures room { OnOk result ((external now : ℕ) (t : Flowing)
+        → Gives external table.now.held now change.now t
+        → N.keeps notes.old → bytes_of (noted (listing table.now.held) t) ≤ N.room notes.new) }
+    ensures keeps { N.keeps notes.old ↔ N.keeps notes.new }
+    ensures beside { N.beside notes.new ≡ N.beside notes.old }
+    ensures noted { N.noted notes.new ≡ N.noted notes.old }
+    ensures full { IsErrOf result StepFault.Full → N.too_many notes.old 44 }
+    ensures succeeds { IsTrue ready → IsOk result }
+    ensures grants { N.grants notes.old → IsOk result }
+    ensures quiet { (external now : ℕ) (t : Flowing)
+        → Gives external table.now.held now change.now t
+        → noted (listing table.now.held) t ≡ [] → IsOk result }
+{
+    if ready {
+        return Ok(());
+    }
+    if !makes_entry(table, change) {
+        return Ok(());
+    }
+    notes.reserve(0, 44)
+}
+
 /// The entry that a change of a session makes, if it makes one; the table is that before the change.
-pub fn entry_of(table: &Table, change: &Change, now: u64) -> Option<Entry<'static>>
-    requires { (external : ℕ) × (t : Flowing) × Gives external table.now.held now change.now t }
-    ensures entry { (external : ℕ) (t : Flowing) → Gives external table.now.held now change.now t
+pub fn entry_of(table: &Table, change: &Change) -> Option<Entry<'static>>
+    requires { (external now : ℕ) × (t : Flowing) × Gives external table.now.held now change.now t }
+    ensures entry { (external now : ℕ) (t : Flowing)
+        → Gives external table.now.held now change.now t
         → listed result ≡ noted (listing table.now.held) t }
     ensures coded { AreEntries (listed result) }
 {
@@ -109,14 +147,7 @@ pub fn entry_of(table: &Table, change: &Change, now: u64) -> Option<Entry<'stati
         Change::Seen(slot, bits) => {
             let session = table.get(*slot)?;
             let seen = session.seen | *bits;
-            between(
-                &session,
-                &Session {
-                    seen,
-                    last: now,
-                    ..session
-                },
-            )
+            between(&session, &Session { seen, ..session })
         }
         Change::Restart(slot, opener) => {
             let session = table.get(*slot)?;
@@ -126,7 +157,6 @@ pub fn entry_of(table: &Table, change: &Change, now: u64) -> Option<Entry<'stati
                 &Session {
                     opener,
                     seen: 0,
-                    last: now,
                     ..session
                 },
             )

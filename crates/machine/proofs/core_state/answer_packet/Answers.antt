@@ -4,7 +4,7 @@ use Rattle.packet.specs.declared.view.View.{View}
 use Rattle.packet.proofs.Routes.{routed_is_on_route}
 use Rattle.machine.proofs.Reading.{ports_are_some}
 use Rattle.machine.proofs.Soundness.{bounded}
-use Rattle.machine.proofs.core_state.pass_on.Goals as goal
+use Rattle.machine.proofs.core_state.answer_packet.Goals as goal
 
 pub plan_for-plan-requires-clause-bounded : goal.plan_for-plan-requires-clause-bounded
 plan_for-plan-requires-clause-bounded g c = bounded c.args.bounds.now c.args.in_force.now.text c.args.in_force.now.rules c.requires.in_force
@@ -12,18 +12,18 @@ plan_for-plan-requires-clause-bounded g c = bounded c.args.bounds.now c.args.in_
 pub plan_for-plan-requires-clause-ports : goal.plan_for-plan-requires-clause-ports
 plan_for-plan-requires-clause-ports g c = ports_are_some c.as_slice.result.now c.in-Ok.view (sym c.read.ensures ∙ c.in-Ok.is)
 
-pub put_through-requires-clause-read : goal.put_through-requires-clause-read
-put_through-requires-clause-read g c =
+pub answer_planned-requires-clause-read : goal.answer_planned-requires-clause-read
+answer_planned-requires-clause-read g c =
     let is = rw c.as_slice.ensures.value at (sym c.read.ensures ∙ c.in-Ok.is) in
     subst (λ (r : Result View Fault). IsOkAnd r (λ (v : View). 2 ≤ v.ttl)) (sym is) (routed_is_on_route c.args.bounds.now c.args.iface c.in-Ok.view c.in-Ok-route.route (sym c.route.ensures ∙ c.in-Ok-route.is)).0
 
-pub put_through-requires-clause-planned : goal.put_through-requires-clause-planned
-put_through-requires-clause-planned g c = (_, c.plan_for-plan.ensures c.args.in_force.now.text)
+pub answer_planned-requires-clause-planned : goal.answer_planned-requires-clause-planned
+answer_planned-requires-clause-planned g c = (_, c.plan_for-plan.ensures c.args.in_force.now.text)
 
-pub go_through-requires-clause-read : goal.go_through-requires-clause-read
-go_through-requires-clause-read g c =
+pub answer_going-requires-clause-read : goal.answer_going-requires-clause-read
+answer_going-requires-clause-read g c =
     let is = rw c.as_slice.ensures.value at (sym c.read.ensures ∙ c.in-Ok.is) in
     subst (λ (r : Result View Fault). IsOkAnd r (λ (v : View). 2 ≤ v.ttl)) (sym is) (routed_is_on_route c.args.bounds.now c.args.iface c.in-Ok.view c.in-Ok-route.route (sym c.route.ensures ∙ c.in-Ok-route.is)).0
 
-pub go_through-requires-clause-planned : goal.go_through-requires-clause-planned
-go_through-requires-clause-planned g c = (_, c.in-Some.ensures.way c.args.in_force.now.text c.args.now)
+pub answer_going-requires-clause-planned : goal.answer_going-requires-clause-planned
+answer_going-requires-clause-planned g c = (_, c.in-Some.ensures c.args.in_force.now.text c.args.now)

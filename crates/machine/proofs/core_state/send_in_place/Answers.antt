@@ -1,9 +1,9 @@
 use Rattle.machine.proofs.Quiet.{quiet-way, way-gives}
 use Rattle.hairpin.specs.Going.{plan_of}
-use Rattle.machine.proofs.core_state.send_on.Goals as goal
+use Rattle.machine.proofs.core_state.send_in_place.Goals as goal
 
-pub go_on-requires-clause-give : goal.go_on-requires-clause-give
-go_on-requires-clause-give c =
+pub see_going-requires-clause-give : goal.see_going-requires-clause-give
+see_going-requires-clause-give c =
     way-gives c.args.flows.now.translations.external c.args.flows.now.table.held c.args.now (plan_of c.args.going.now) c.requires.planned.0 c.requires.planned.1
 
 pub returns-clause-none : goal.returns-clause-none

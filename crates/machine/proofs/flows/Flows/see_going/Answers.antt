@@ -2,7 +2,7 @@ use Rattle.std.proofs.Common.{sym, ap, ◌∙◌}
 use Rattle.sessions.specs.Listing.{listing}
 use Rattle.hairpin.specs.Legs.{put_all}
 use Rattle.machine.proofs.Changed.{seen_became}
-use Rattle.machine.proofs.flows.Flows.go_on.Goals as goal
+use Rattle.machine.proofs.flows.Flows.see_going.Goals as goal
 
 pub returns-clause-listing : goal.returns-clause-listing
 returns-clause-listing c = λ ts all.
