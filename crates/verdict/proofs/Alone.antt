@@ -1,6 +1,7 @@
 -- The only base chain of a hook, and chains that call none.
-use Rattle.std.proofs.Common.{◌≡◌, ℕ, zero, suc, ◌+◌, ◌<◌, ◌≤◌, List, [], ◌∷◌, ◌++◌, Some, length, drop, slice_get, sum_by, refl, sym, ap, ◌∙◌, subst, arith}
-use Rattle.std.specs.Option.{unwrap_or, option_map_or}
+use Rattle.std.proofs.Common.{◌≡◌, ℕ, zero, suc, ◌+◌, ◌<◌, ◌≤◌, List, [], ◌∷◌, ◌++◌, Option, Some, None, MatchOption, false, length, drop, slice_get, sum_by, refl, sym, ap, ◌∙◌, subst, arith}
+use Rattle.std.specs.Option.{is_some, unwrap_or, option_map_or}
+use Rattle.std.proofs.lemmas.Bool.{false≢true}
 use Rattle.std.proofs.lemmas.List.{append-nil, drop_all}
 use Rattle.std.proofs.lemmas.List.Sums.{sum_by-cons}
 use Rattle.packet.specs.Config.{Config}
@@ -24,6 +25,11 @@ use Rattle.verdict.proofs.Steady.{rules_weaken}
 use Rattle.verdict.proofs.Moves.{rule_moves}
 use Rattle.verdict.proofs.Stepping.{each_at, Led, rule_leads}
 use Rattle.verdict.proofs.Acting.{skipped_over}
+
+-- where no place was found, it is as said of none
+pub none_found : (P : Type 0) (Q : ℕ → Type 0) (found : Option ℕ) → MatchOption found P Q → false ≡ is_some found → P
+none_found P Q None told none = told
+none_found P Q (Some place) told none = absurd (false≢true none)
 
 -- where no base chain stands behind the chain, there is none but it
 pub lone_among : (hook : Hook) (table : Table) (chains : List Chain) (place : ℕ) (chain : Chain) → slice_get chains place ≡ Some chain
