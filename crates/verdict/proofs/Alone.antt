@@ -70,8 +70,8 @@ handed_alone Ends = refl
 
 module _ (config : Config) (facts : Facts) (table : Table) (rules : List Rule) (from at : ℕ) (rise : from ≤ at) (skipped : AreSkipped config facts table rules from at) where
   -- no rule is left
-  pub ends_alone : at ≤ length rules → length rules ≤ at → comes config facts table (drop from rules) ≡ Ends
-  ends_alone le past = skipped_over config facts table rules from at rise le skipped ∙ ap (comes config facts table) (drop_all at rules past)
+  pub callless_ends : at ≤ length rules → length rules ≤ at → comes config facts table (drop from rules) ≡ Ends
+  callless_ends le past = skipped_over config facts table rules from at rise le skipped ∙ ap (comes config facts table) (drop_all at rules past)
 
   module _ (rule : Rule) (is_at : slice_get rules at ≡ Some rule) (le : at < length rules) (none : OfEach CallsNone rules) where
     own : CallsNone rule
@@ -81,19 +81,19 @@ module _ (config : Config) (facts : Facts) (table : Table) (rules : List Rule) (
     short = (rules_weaken (λ name. ⊥) (EndsWithin table.chains 16) (λ name no. absurd no) (rule ∷ []) (own, tt)).0
 
     -- what the rule that is met makes of the chain
-    met_alone : (move : Move) → move ≡ move_of config facts table rule
+    callless_met : (move : Move) → move ≡ move_of config facts table rule
         → comes config facts table (drop from rules) ≡ unwrap_or (ending_by (comes_at config facts table) move) (comes config facts table (drop (at + 1) rules))
-    met_alone move is =
+    callless_met move is =
         let less : at ≤ length rules = omega (arith, le) in
         skipped_over config facts table rules from at rise less skipped
         ∙ ap (comes config facts table) (drop_at rules at rule is_at)
         ∙ ap (λ e. unwrap_or e (comes config facts table (drop (at + 1) rules))) (rule_moves config facts table rule short ∙ ap (ending_by (comes_at config facts table)) (sym is))
 
-    pub given_alone : (outcome : Outcome) → Gives outcome ≡ move_of config facts table rule → comes config facts table (drop from rules) ≡ outcome
-    given_alone outcome is = met_alone (Gives outcome) is
+    pub callless_gives : (outcome : Outcome) → Gives outcome ≡ move_of config facts table rule → comes config facts table (drop from rules) ≡ outcome
+    callless_gives outcome is = callless_met (Gives outcome) is
 
-    pub next_alone : Next ≡ move_of config facts table rule → IsReadOn config facts table rules from (at + 1)
-    next_alone is = record { rises = omega (arith, rise); within = omega (arith, le); same = met_alone Next is }
+    pub callless_next : Next ≡ move_of config facts table rule → IsReadOn config facts table rules from (at + 1)
+    callless_next is = record { rises = omega (arith, rise); within = omega (arith, le); same = callless_met Next is }
 
     led : Led table.chains (λ name. ⊥) (move_of config facts table rule)
     led = rule_leads config facts table (λ name. ⊥) rule own

@@ -27,6 +27,7 @@
 #![tactic(auto)]
 
 mod bases;
+mod callless;
 mod calls;
 mod chain;
 pub mod facts;
