@@ -1,4 +1,13 @@
 //! What the rules decide at each hook.
+//!
+//! `forward`, `prerouting` and `postrouting` stand at the end. Each asks `hook_outcome`, which goes by what was noted
+//! of the hook when the text loaded (`bases`):
+//! - Where no base chain stands, nothing is asked.
+//! - Where only one stands, and calls no chain, it is asked by itself: `lone_outcome`, `lone_in_table`, and
+//!   `callless_outcome` of the module `callless`.
+//! - Elsewhere all tables are asked: `asked_outcome`, `final_of_all` table by table, `final_among` and `final_over` in
+//!   one, `final_at` of one chain, and `chain_outcome` of the module `walk`. Of what the base chains come to the one
+//!   that counts first is kept (`preferred`).
 
 ghost use Rattle.std.specs.Prelude.{◌≡◌, ◌+◌, ◌^◌, ◌<◌, ◌≤◌, [], IfSome, false, length, slice_get};
 ghost use Rattle.std.specs.Option.{option_map_or};

@@ -1,4 +1,12 @@
 //! What a base chain comes to, read without recursion.
+//!
+//! The functions stand before those that call them:
+//! - `move_of`: what a rule makes of the walk, a `Move`. A call of a chain that was read before is none (`resolved`).
+//! - `next_rule`: the next rule of a chain that may match, and `move_from`: what it makes of the walk.
+//! - `step`, `walked`: the walk where chains are called, over a stack of places to return to. A rule that is met is
+//!   acted on (`act`), and a chain that has none left returns (`back`).
+//! - `chain_outcome`: reads a base chain by `step_at_base`, without a stack, until a rule calls a chain; then the walk
+//!   reads all that is left (`walked_from`).
 
 ghost use Rattle.std.specs.Prelude.{◌≡◌, ◌+◌, ◌-◌, ◌^◌, ◌<◌, ◌≤◌, ℕ, List, [], ◌∷◌, Option, Some, None, true, false, IfSome, MatchOption, length, slice_get};
 ghost use Rattle.ruletext.specs.Said.{verdicts_in};
