@@ -1,6 +1,7 @@
 -- The only base chain of a hook, and chains that call none.
-use Rattle.std.proofs.Common.{◌≡◌, ℕ, zero, suc, ◌+◌, ◌<◌, ◌≤◌, List, [], ◌∷◌, ◌++◌, Some, length, drop, slice_get, sum_by, refl, sym, ap, ◌∙◌, subst, arith}
-use Rattle.std.specs.Option.{unwrap_or, option_map_or}
+use Rattle.std.proofs.Common.{◌≡◌, ℕ, zero, suc, ◌+◌, ◌<◌, ◌≤◌, List, [], ◌∷◌, ◌++◌, Option, Some, None, MatchOption, false, length, drop, slice_get, sum_by, refl, sym, ap, ◌∙◌, subst, arith}
+use Rattle.std.specs.Option.{is_some, unwrap_or, option_map_or}
+use Rattle.std.proofs.lemmas.Bool.{false≢true}
 use Rattle.std.proofs.lemmas.List.{append-nil, drop_all}
 use Rattle.std.proofs.lemmas.List.Sums.{sum_by-cons}
 use Rattle.packet.specs.Config.{Config}
@@ -24,6 +25,11 @@ use Rattle.verdict.proofs.Steady.{rules_weaken}
 use Rattle.verdict.proofs.Moves.{rule_moves}
 use Rattle.verdict.proofs.Stepping.{each_at, Led, rule_leads}
 use Rattle.verdict.proofs.Acting.{skipped_over}
+
+-- where no place was found, it is as said of none
+pub none_found : (P : Type 0) (Q : ℕ → Type 0) (found : Option ℕ) → MatchOption found P Q → false ≡ is_some found → P
+none_found P Q None told none = told
+none_found P Q (Some place) told none = absurd (false≢true none)
 
 -- where no base chain stands behind the chain, there is none but it
 pub lone_among : (hook : Hook) (table : Table) (chains : List Chain) (place : ℕ) (chain : Chain) → slice_get chains place ≡ Some chain
@@ -64,8 +70,8 @@ handed_alone Ends = refl
 
 module _ (config : Config) (facts : Facts) (table : Table) (rules : List Rule) (from at : ℕ) (rise : from ≤ at) (skipped : AreSkipped config facts table rules from at) where
   -- no rule is left
-  pub ends_alone : at ≤ length rules → length rules ≤ at → comes config facts table (drop from rules) ≡ Ends
-  ends_alone le past = skipped_over config facts table rules from at rise le skipped ∙ ap (comes config facts table) (drop_all at rules past)
+  pub callless_ends : at ≤ length rules → length rules ≤ at → comes config facts table (drop from rules) ≡ Ends
+  callless_ends le past = skipped_over config facts table rules from at rise le skipped ∙ ap (comes config facts table) (drop_all at rules past)
 
   module _ (rule : Rule) (is_at : slice_get rules at ≡ Some rule) (le : at < length rules) (none : OfEach CallsNone rules) where
     own : CallsNone rule
@@ -75,19 +81,19 @@ module _ (config : Config) (facts : Facts) (table : Table) (rules : List Rule) (
     short = (rules_weaken (λ name. ⊥) (EndsWithin table.chains 16) (λ name no. absurd no) (rule ∷ []) (own, tt)).0
 
     -- what the rule that is met makes of the chain
-    met_alone : (move : Move) → move ≡ move_of config facts table rule
+    callless_met : (move : Move) → move ≡ move_of config facts table rule
         → comes config facts table (drop from rules) ≡ unwrap_or (ending_by (comes_at config facts table) move) (comes config facts table (drop (at + 1) rules))
-    met_alone move is =
+    callless_met move is =
         let less : at ≤ length rules = omega (arith, le) in
         skipped_over config facts table rules from at rise less skipped
         ∙ ap (comes config facts table) (drop_at rules at rule is_at)
         ∙ ap (λ e. unwrap_or e (comes config facts table (drop (at + 1) rules))) (rule_moves config facts table rule short ∙ ap (ending_by (comes_at config facts table)) (sym is))
 
-    pub given_alone : (outcome : Outcome) → Gives outcome ≡ move_of config facts table rule → comes config facts table (drop from rules) ≡ outcome
-    given_alone outcome is = met_alone (Gives outcome) is
+    pub callless_gives : (outcome : Outcome) → Gives outcome ≡ move_of config facts table rule → comes config facts table (drop from rules) ≡ outcome
+    callless_gives outcome is = callless_met (Gives outcome) is
 
-    pub next_alone : Next ≡ move_of config facts table rule → IsReadOn config facts table rules from (at + 1)
-    next_alone is = record { rises = omega (arith, rise); within = omega (arith, le); same = met_alone Next is }
+    pub callless_next : Next ≡ move_of config facts table rule → IsReadOn config facts table rules from (at + 1)
+    callless_next is = record { rises = omega (arith, rise); within = omega (arith, le); same = callless_met Next is }
 
     led : Led table.chains (λ name. ⊥) (move_of config facts table rule)
     led = rule_leads config facts table (λ name. ⊥) rule own

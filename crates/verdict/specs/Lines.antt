@@ -18,7 +18,7 @@ use Rattle.rulesyntax.specs.declared.tree.Table.{Table}
 use Rattle.rulesyntax.specs.declared.tree.Spelled.{Spelled}
 use Rattle.ruletext.specs.Runnable.{IsRunnable}
 use Rattle.ruletext.specs.Said.{verdicts_of, target_of}
-use Rattle.verdict.specs.declared.bases.Asking.{Asking}
+use Rattle.verdict.specs.declared.bases.AskedByHook.{AskedByHook}
 use Rattle.verdict.specs.declared.facts.Facts.{Facts}
 use Rattle.verdict.specs.declared.row.Probe.{Probe}
 use Rattle.verdict.specs.declared.row.Line.{Line}
@@ -154,7 +154,7 @@ AreLaid tables rows =
     → (laid : Laid) × (slice_get rows t ≡ Some laid) × IsLaid table laid
 
 -- rules of a loaded text, each table of which lies in a row of its own, with what is noted of the hooks
-pub record IsFlat (text : Spelled) (rows : List Laid) (asking : Asking) : Type 0 where
+pub record IsFlat (text : Spelled) (rows : List Laid) (asked : AskedByHook) : Type 0 where
   pub runnable : IsRunnable text
   pub laid : AreLaid text.tables rows
-  pub noted : AreNoted text.tables asking
+  pub noted : AreNoted text.tables asked

@@ -8,7 +8,7 @@ use Rattle.rulesyntax.specs.declared.tree.Table.{Table}
 use Rattle.verdict.specs.declared.bases.Spot.{Spot}
 use Rattle.verdict.specs.declared.bases.Asked.{Asked}
 use Rattle.verdict.specs.declared.bases.Asked.TheVariants.{Nothing, Lone, All}
-use Rattle.verdict.specs.declared.bases.Asking.{Asking}
+use Rattle.verdict.specs.declared.bases.AskedByHook.{AskedByHook}
 use Rattle.verdict.specs.Hooks.{at_hook, bases_among, bases_of}
 use Rattle.verdict.specs.Targets.{OfEach, CallsNone}
 
@@ -33,12 +33,12 @@ IsNoted hook tables (Lone spot) = IsLone hook tables spot
 IsNoted hook tables All = Unit {0}
 
 -- what is asked at the hook
-abbrev pub noted_at : Asking → Hook → Asked
-noted_at asking Prerouting = asking.prerouting
-noted_at asking Input = asking.input
-noted_at asking Forward = asking.forward
-noted_at asking Output = asking.output
-noted_at asking Postrouting = asking.postrouting
+abbrev pub noted_at : AskedByHook → Hook → Asked
+noted_at asked Prerouting = asked.prerouting
+noted_at asked Input = asked.input
+noted_at asked Forward = asked.forward
+noted_at asked Output = asked.output
+noted_at asked Postrouting = asked.postrouting
 
-abbrev pub AreNoted : List Table → Asking → Type 0
-AreNoted tables asking = (hook : Hook) → IsNoted hook tables (noted_at asking hook)
+abbrev pub AreNoted : List Table → AskedByHook → Type 0
+AreNoted tables asked = (hook : Hook) → IsNoted hook tables (noted_at asked hook)

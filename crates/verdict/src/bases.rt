@@ -27,9 +27,9 @@ pub(crate) enum Asked {
     All,
 }
 
-/// For each hook what is asked there.
+/// Which base chains are asked about a packet, for each hook.
 #[derive(Clone, Copy, Drop)]
-pub(crate) struct Asking {
+pub(crate) struct AskedByHook {
     pub(crate) prerouting: Asked,
     pub(crate) input: Asked,
     pub(crate) forward: Asked,
@@ -71,18 +71,18 @@ pub(crate) fn any_stands_at(chains: &[Chain], hook: Hook) -> bool
     false
 }
 
-// Whether one of the tables has a base chain of the hook.
-fn any_asks_at(tables: &[Table], hook: Hook) -> bool
-    ensures { result ≡ false → bases_of hook tables.now ≡ [] }
+// The number of the first table that has a base chain of the hook.
+fn first_table_at(tables: &[Table], hook: Hook) -> Option<usize>
+    ensures { MatchOption result (bases_of hook tables.now ≡ [])
+        (λ number. (number < length tables.now)
+        × (bases_of hook tables.now ≡ bases_of hook (drop number tables.now))) }
 {
-    let mut rest = tables;
-    while let [table, tail @ ..] = rest {
-        if any_stands_at(table.chains.as_slice(), hook) {
-            return true;
+    for number in 0..tables.len() {
+        if any_stands_at(tables[number].chains.as_slice(), hook) {
+            return Some(number);
         }
-        rest = tail;
     }
-    false
+    None
 }
 
 // The place of the first base chain of the hook, if the chains have no other one and it calls none.
@@ -114,26 +114,15 @@ fn lone_at(chains: &[Chain], hook: Hook, place: usize) -> Option<usize>
     Some(place)
 }
 
-// Where the only base chain of the hook stands, if it has just one and that calls no chain.
-fn lone_of(tables: &[Table], hook: Hook) -> Option<Spot>
-    ensures { IfSome result (λ spot. IsLone hook tables.now spot) }
-{
-    for number in 0..tables.len() {
-        if any_stands_at(tables[number].chains.as_slice(), hook) {
-            return lone_from(tables, hook, number);
-        }
-    }
-    None
-}
-
-// The same, if it is in that table.
+// Where the only base chain of the hook stands, if it has just one and that calls no chain. The table of that number is
+// the first that has one.
 fn lone_from(tables: &[Table], hook: Hook, number: usize) -> Option<Spot>
     requires within { number < length tables.now }
     requires first { bases_of hook tables.now ≡ bases_of hook (drop number tables.now) }
     ensures { IfSome result (λ spot. IsLone hook tables.now spot) }
 {
     let (_, behind) = tables.split_at(number + 1);
-    if any_asks_at(behind, hook) {
+    if first_table_at(behind, hook).is_some() {
         return None;
     }
     let place = lone_in(tables[number].chains.as_slice(), hook)?;
@@ -143,23 +132,24 @@ fn lone_from(tables: &[Table], hook: Hook, number: usize) -> Option<Spot>
     })
 }
 
+// Which base chains are asked about a packet at the hook, as the tables tell.
 fn asked_of(tables: &[Table], hook: Hook) -> Asked
     ensures { IsNoted hook tables.now result }
 {
-    if !any_asks_at(tables, hook) {
+    let Some(number) = first_table_at(tables, hook) else {
         return Asked::Nothing;
-    }
-    match lone_of(tables, hook) {
+    };
+    match lone_from(tables, hook, number) {
         None => Asked::All,
         Some(spot) => Asked::Lone(spot),
     }
 }
 
-/// What is asked at each hook.
-pub(crate) fn asking_of(tables: &[Table]) -> Asking
+/// Which base chains are asked about a packet at each hook, as the tables tell.
+pub(crate) fn asked_by_hook(tables: &[Table]) -> AskedByHook
     ensures { AreNoted tables.now result }
 {
-    Asking {
+    AskedByHook {
         prerouting: asked_of(tables, Hook::Prerouting),
         input: asked_of(tables, Hook::Input),
         forward: asked_of(tables, Hook::Forward),
@@ -169,14 +159,14 @@ pub(crate) fn asking_of(tables: &[Table]) -> Asking
 }
 
 /// What is noted of the hook.
-pub(crate) fn asked_at(asking: Asking, hook: Hook) -> Asked
-    ensures { result ≡ noted_at asking hook }
+pub(crate) fn asked_at(asked: AskedByHook, hook: Hook) -> Asked
+    ensures { result ≡ noted_at asked hook }
 {
     match hook {
-        Hook::Prerouting => asking.prerouting,
-        Hook::Input => asking.input,
-        Hook::Forward => asking.forward,
-        Hook::Output => asking.output,
-        Hook::Postrouting => asking.postrouting,
+        Hook::Prerouting => asked.prerouting,
+        Hook::Input => asked.input,
+        Hook::Forward => asked.forward,
+        Hook::Output => asked.output,
+        Hook::Postrouting => asked.postrouting,
     }
 }

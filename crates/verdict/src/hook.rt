@@ -1,4 +1,13 @@
 //! What the rules decide at each hook.
+//!
+//! `forward`, `prerouting` and `postrouting` stand at the end. Each asks `hook_outcome`, which goes by what was noted
+//! of the hook when the text loaded (`bases`):
+//! - Where no base chain stands, nothing is asked.
+//! - Where only one stands, and calls no chain, it is asked by itself: `lone_outcome`, `lone_in_table`, and
+//!   `callless_outcome` of the module `callless`.
+//! - Elsewhere all tables are asked: `asked_outcome`, `final_of_all` table by table, `final_among` and `final_over` in
+//!   one, `final_at` of one chain, and `chain_outcome` of the module `walk`. Of what the base chains come to the one
+//!   that counts first is kept (`preferred`).
 
 ghost use Rattle.std.specs.Prelude.{◌≡◌, ◌+◌, ◌^◌, ◌<◌, ◌≤◌, [], IfSome, false, length, slice_get};
 ghost use Rattle.std.specs.Option.{option_map_or};
@@ -12,11 +21,12 @@ ghost use Rattle.verdict.specs.Hooks.{settled as settled_by, at_hook, bases_amon
 ghost use Rattle.verdict.specs.Ranking.{preferred as preferred_of, final_of as final_of_outcome, first_final, outcome_of as outcome_of_final};
 
 use crate::bases::{Asked, Spot, any_stands_at, base_at};
+use crate::callless::callless_outcome;
 use crate::chain::Outcome;
 use crate::facts::Facts;
 use crate::row::Laid;
 use crate::rules::Rules;
-use crate::walk::{chain_outcome, outcome_alone};
+use crate::walk::chain_outcome;
 use packet::bounds::Bounds;
 use packet::endpoint::Endpoint;
 use packet::steps::Steps;
@@ -171,8 +181,9 @@ fn final_over(
     }
 }
 
-// The same where nothing is known yet, of a table of more chains than most; for one without base chains of the hook no
-// memory is cleared. Few tables are such, so this is not compiled into its caller.
+// Takes into `first` what the base chains of a table come to at the hook, where it has more chains than most and
+// nothing is known of them yet. If none of them is a base chain of the hook no memory is cleared. Few tables are such,
+// so this is not compiled into its caller.
 #[inline(never)]
 fn final_among_many(
     bounds: &Bounds,
@@ -199,7 +210,8 @@ fn final_among_many(
     final_over(bounds, facts, hook, table, laid, first, &mut known, steps);
 }
 
-// The same of any table. Most have few chains, and for them little memory is cleared.
+// Takes into `first` what the base chains of a table come to at the hook, where nothing is known of its chains yet.
+// Most tables have few chains, and for them little memory is cleared.
 #[inline(always)]
 fn final_among(
     bounds: &Bounds,
@@ -309,12 +321,12 @@ fn lone_in_table(
     let Some(base) = base_at(&table.chains.as_slice()[place], hook) else {
         return (Outcome::Accepts, steps);
     };
-    let outcome = outcome_alone(bounds, facts, table, laid, place, &mut steps);
+    let outcome = callless_outcome(bounds, facts, table, laid, place, &mut steps);
     (settled(base.policy, outcome), steps)
 }
 
-// What the base chains of all tables come to at the hook, where the only one stands at that spot, and calls no chain. Not
-// compiled into its caller.
+// What the base chains of all tables come to at the hook, where the only one stands at that spot, and calls no chain.
+// Not compiled into its caller.
 #[inline(never)]
 fn lone_outcome(
     rules: &Rules,
@@ -333,6 +345,7 @@ fn lone_outcome(
     lone_in_table(bounds, facts, hook, table, laid, spot.place)
 }
 
+// What the base chains of a hook come to. Which of them are asked was noted when the text loaded.
 #[tactic(auto, unfolding(crate::specs::Hooks::hook_outcome))]
 fn hook_outcome(rules: &Rules, bounds: &Bounds, facts: &Facts, hook: Hook) -> (Outcome, Steps)
     ensures outcome { result.0 ≡ outcome_of_hook bounds.now facts.now hook rules.now }

@@ -10,23 +10,29 @@
 //!   lead to, as numbers.
 //! - `keys`: keys in order, by which the walk passes over rules that ask for other numbers than a packet has.
 //! - `chain`: what a chain of rules comes to, and the ends of rules.
-//! - `stack`, `walk`: the walk over a row, with at most 16 places to return to and without recursion; and the one over a
-//!   chain that calls none, with no place.
+//! - `stack`, `walk`: the walk over a row, with at most 16 places to return to and without recursion.
+//! - `callless`: the same over a base chain that calls none, with no place.
 //! - `calls`: whether rules call chains.
-//! - `bases`: which base chains stand at which hooks, so that elsewhere nothing is asked, and only the one that stands
-//!   alone where it calls no chain.
+//! - `bases`: which base chains stand at which hooks. Elsewhere nothing is asked, and where only one stands and calls
+//!   no chain, it is asked by itself.
 //! - `hook`: `forward`, `prerouting` and `postrouting`, what the base chains of a hook decide, of which the
 //!   one of the least priority counts first; and the same with the steps counted.
 //! - `laws`: what follows from these definitions, in functions that do nothing.
 //!
+//! When a text loads, `Rules::of` has its tables laid in rows (`row`) and notes what is asked at each hook (`bases`). A
+//! packet comes in by `hook`, which has the chains read that are asked there (`callless`, `walk`). Of a chain the next
+//! rule that may match is found by its line (`keys`), its matches are tried (`matching`), and its end says what the
+//! chain comes to or where the walk goes on (`chain`).
+//!
 //! The definitions stand in `specs/`: `Matching` says when a match holds, `Evaluation` what a chain
 //! comes to, and `Hooks` what a hook decides. Only `Rules::of` takes memory, no call for a packet does. For
 //! one packet at one hook the rules of each chain are read at most once: what each chain came to is
-//! remembered for the packet, the hook and the table, unless one base chain that calls none is asked by itself. So at most as many rules are looked at or passed over as there
-//! are (`Costs`), whatever jumps and base chains there are.
+//! remembered for the packet, the hook and the table, unless one base chain that calls none is asked by itself. So at
+//! most as many rules are looked at or passed over as there are (`Costs`), whatever jumps and base chains there are.
 #![tactic(auto)]
 
 mod bases;
+mod callless;
 mod calls;
 mod chain;
 pub mod facts;

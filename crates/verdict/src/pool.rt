@@ -1,4 +1,5 @@
-//! The sides of a table's matches as unions that packets are looked up in: each named set once, and what stands in a rule.
+//! The sides of a table's matches as unions that packets are looked up in: each named set once, and what stands in a
+//! rule.
 
 ghost use Rattle.std.specs.Prelude.{◌≡◌, ◌↔◌, ◌≤◌, ℕ, true, false, [], Some, length, slice_get, sum_by, List, None, IfOk, OnOk, IfSome, IfNone};
 ghost use Rattle.std.specs.List.{list_any};

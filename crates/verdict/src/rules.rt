@@ -5,7 +5,7 @@ ghost use Rattle.ruletext.specs.Runnable.{IsRunnable};
 ghost use Rattle.verdict.specs.Lines.{AreLaid};
 ghost use Rattle.verdict.specs.Noted.{IsNoted};
 
-use crate::bases::{Asked, Asking, asked_at, asking_of};
+use crate::bases::{Asked, AskedByHook, asked_at, asked_by_hook};
 use crate::row::{Laid, lay_all};
 use rulesyntax::tree::{Hook, Spelled};
 use ruletext::ruleset::Ruleset;
@@ -18,7 +18,7 @@ use std::marker::Model;
 pub struct Rules {
     text: Spelled,
     rows: Items<Laid>,
-    asking: Asking,
+    asked: AskedByHook,
 }
 
 impl Model for Rules {
@@ -29,7 +29,7 @@ impl Model for Rules {
 
     ghost view = { λ r. r.text };
 
-    ghost invariant = { λ r. IsFlat r.text r.rows r.asking };
+    ghost invariant = { λ r. IsFlat r.text r.rows r.asked };
 }
 
 impl Rules {
@@ -43,7 +43,7 @@ impl Rules {
                 tables: Items::new(alloc),
             },
             rows: Items::new(alloc),
-            asking: asking_of(&[]),
+            asked: asked_by_hook(&[]),
         }
     }
 
@@ -57,11 +57,11 @@ impl Rules {
     {
         loaded.is_runnable();
         let rows = lay_all(alloc, loaded.text().tables.as_slice())?;
-        let asking = asking_of(loaded.text().tables.as_slice());
+        let asked = asked_by_hook(loaded.text().tables.as_slice());
         Ok(Rules {
             text: loaded.into_text(),
             rows,
-            asking,
+            asked,
         })
     }
 
@@ -91,6 +91,6 @@ impl Rules {
     pub(crate) fn asked_at(&self, hook: Hook) -> Asked
         ensures { IsNoted hook self.now.tables result }
     {
-        asked_at(self.asking, hook)
+        asked_at(self.asked, hook)
     }
 }

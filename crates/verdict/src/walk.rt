@@ -1,18 +1,26 @@
 //! What a base chain comes to, read without recursion.
+//!
+//! The functions stand before those that call them:
+//! - `move_of`: what a rule makes of the walk, a `Move`. A call of a chain that was read before is none (`resolved`).
+//! - `next_rule`: the next rule of a chain that may match, and `move_from`: what it makes of the walk.
+//! - `step`, `walked`: the walk where chains are called, over a stack of places to return to. A rule that is met is
+//!   acted on (`act`), and a chain that has none left returns (`back`).
+//! - `chain_outcome`: reads a base chain by `step_at_base`, without a stack, until a rule calls a chain; then the walk
+//!   reads all that is left (`walked_from`).
 
-ghost use Rattle.std.specs.Prelude.{◌≡◌, ◌+◌, ◌-◌, ◌^◌, ◌<◌, ◌≤◌, ℕ, List, [], ◌∷◌, Option, Some, None, true, false, IfSome, MatchOption, drop, length, slice_get};
+ghost use Rattle.std.specs.Prelude.{◌≡◌, ◌+◌, ◌-◌, ◌^◌, ◌<◌, ◌≤◌, ℕ, List, [], ◌∷◌, Option, Some, None, true, false, IfSome, MatchOption, length, slice_get};
 ghost use Rattle.ruletext.specs.Said.{verdicts_in};
 ghost use Rattle.ruletext.specs.Calls.{IsLooped};
 ghost use Rattle.verdict.specs.Tests.{HasMap};
 ghost use Rattle.verdict.specs.declared.row.Line.{Line as LineOf};
-ghost use Rattle.verdict.specs.Targets.{OfEach, TargetsHave, EndsWithin, CallsNone};
+ghost use Rattle.verdict.specs.Targets.{OfEach, TargetsHave, EndsWithin};
 ghost use Rattle.verdict.specs.Lines.{numbers_of as numbers_of_facts, may_hold as line_may_hold, IsLine, AreChainsLaid, IsLaid, LeadsFrom, place_led};
 ghost use Rattle.verdict.specs.Keyed.{AreKeys};
 ghost use Rattle.verdict.specs.Evaluation.{chain_outcome as outcome_of_chain};
 ghost use Rattle.packet.specs.Config.{Config};
 ghost use Rattle.verdict.specs.declared.chain.Outcome.{Outcome as OutcomeOf};
 ghost use Rattle.verdict.specs.declared.chain.Outcome.TheVariants as outcomes;
-ghost use Rattle.verdict.specs.Places.{comes, IsReadOn, move_by as move_by_verdict, move_led as move_led_by, move_at as move_at_end, move_of as move_of_rule, rules_at, whole, AreKnown, CameTo, IsResolved, Standing, Stepped, AreSkipped, StandsAt, Calling, told_of, Acts};
+ghost use Rattle.verdict.specs.Places.{move_by as move_by_verdict, move_led as move_led_by, move_at as move_at_end, move_of as move_of_rule, rules_at, whole, AreKnown, CameTo, IsResolved, Standing, Stepped, AreSkipped, StandsAt, Calling, told_of, Acts};
 ghost use Rattle.verdict.specs.Costs.{unread, read_at, IsNew, Reading, Spent};
 
 use crate::chain::{Outcome, key_for, known_at, remember, translation, unless_ended};
@@ -165,7 +173,7 @@ fn look(numbers: &[u64], probe: Probe, steps: &mut Steps) -> bool
     may_hold(numbers, probe)
 }
 
-// The first line from the one up to the other whose rule may match, or the other one.
+// The first line from the one up to the other whose rule may match, or the other one. Each line between is looked at.
 fn near(lines: &[Line], numbers: &[u64], from: usize, end: usize, steps: &mut Steps) -> usize
     requires rises { from ≤ end }
     requires within { end ≤ length lines.now }
@@ -198,8 +206,9 @@ fn many_next(many: usize, is_passed: bool) -> usize
     many.saturating_mul(2)
 }
 
-// The same, which reads no line that its key lets pass over. A step is then a rule that is looked at or passed over.
-// Not compiled into its caller, which has no need of the packet's numbers where the next rule asks for none.
+// The first line from the one up to the other whose rule may match, or the other one. By the keys lines are passed
+// over that ask for other numbers than the packet has. A step is one rule that is looked at or passed over. Not
+// compiled into its caller, which has no need of the packet's numbers where the next rule asks for none.
 #[inline(never)]
 fn candidate(
     lines: &[Line],
@@ -255,10 +264,24 @@ fn span_of(table: &Table, laid: &Laid, chain: usize) -> Span
     laid.spans.as_slice()[chain]
 }
 
-// The number of the next rule of the chain that may match, or of all its rules where there is none. One that asks for
-// none of the packet's numbers is met without a search, and is a step too.
+/// The rules of the chain at that place.
+pub(crate) fn rules_of(table: &Table, chain: usize) -> &[Rule]
+    requires { chain < length table.now.chains }
+    ensures { result.now ≡ rules_at table.now.chains chain }
+{
+    table.chains.as_slice()[chain].rules.as_slice()
+}
+
+/// The number of the next rule of the chain that may match, or of all its rules where there is none. One that asks for
+/// none of the packet's numbers is met without a search, and is a step too.
 #[inline(always)]
-fn next_rule(table: &Table, laid: &Laid, facts: &Facts, here: Place, steps: &mut Steps) -> usize
+pub(crate) fn next_rule(
+    table: &Table,
+    laid: &Laid,
+    facts: &Facts,
+    here: Place,
+    steps: &mut Steps,
+) -> usize
     requires laid { AreChainsLaid table.now laid.now }
     requires keys { AreKeys laid.now.row.lines laid.now.keys }
     requires chain { here.chain < length table.now.chains }
@@ -284,10 +307,10 @@ fn next_rule(table: &Table, laid: &Laid, facts: &Facts, here: Place, steps: &mut
     candidate(lines, laid.keys.as_slice(), facts, from, span.end, steps) - span.start
 }
 
-// What the rule of that number makes of the walk. It is compiled into each of its callers, with what it calls but the
-// look-up in a verdict map.
+/// What the rule of that number makes of the walk. It is compiled into each of its callers, with what it calls but the
+/// look-up in a verdict map.
 #[inline(always)]
-fn move_from(
+pub(crate) fn move_from(
     bounds: &Bounds,
     facts: &Facts,
     table: &Table,
@@ -497,8 +520,8 @@ fn call_of(step: Move, at: usize, count: usize, here: Place) -> Option<(Place, P
     ))
 }
 
-// Reads on from the rule of that number in a base chain that calls none there.
-fn act_alone(
+// Reads on from the rule of that number, which calls no chain, in a base chain that has called none yet.
+fn act_at_base(
     step: Move,
     at: usize,
     count: usize,
@@ -506,7 +529,7 @@ fn act_alone(
     known: &mut [Option<Outcome>],
 ) -> Option<Outcome>
     requires within { at < count }
-    requires alone { Calling step ⊥ }
+    requires calls_none { Calling step ⊥ }
     ensures { Acts step at count here.old [] known.old here.new [] known.new result }
 {
     match step {
@@ -523,9 +546,10 @@ fn act_alone(
     None
 }
 
-// The same as `step` of a base chain that has called none yet, and all that is left where it calls one.
+// Reads the next rule that may match in a base chain that has called none yet, or ends it. Where the rule calls a
+// chain, all that is left of the base chain is read.
 #[inline(always)]
-fn step_alone(
+fn step_at_base(
     bounds: &Bounds,
     facts: &Facts,
     table: &Table,
@@ -555,16 +579,9 @@ fn step_alone(
     let told = move_from(bounds, facts, table, laid, rules, Place { chain, at });
     let told = resolved(bounds, facts, table, known, told);
     let Some((inner, behind)) = call_of(told, at, rules.len(), *here) else {
-        return act_alone(told, at, rules.len(), here, known);
+        return act_at_base(told, at, rules.len(), here, known);
     };
     Some(walked_from(bounds, facts, table, laid, inner, behind, known, steps))
-}
-
-fn rules_of(table: &Table, chain: usize) -> &[Rule]
-    requires { chain < length table.now.chains }
-    ensures { result.now ≡ rules_at table.now.chains chain }
-{
-    table.chains.as_slice()[chain].rules.as_slice()
 }
 
 /// What the rules of a base chain of the table come to, by its place. `known` says what chains of the table
@@ -600,70 +617,7 @@ pub(crate) fn chain_outcome(
     }
     let mut here = Place { chain: base, at: 0 };
     loop {
-        if let Some(outcome) = step_alone(bounds, facts, table, laid, &mut here, known, steps) {
-            return outcome;
-        }
-    }
-}
-
-// Reads the next rule that may match, in a base chain that calls none, from the rule of that number on.
-#[inline(always)]
-fn step_on(
-    bounds: &Bounds,
-    facts: &Facts,
-    table: &Table,
-    laid: &Laid,
-    chain: usize,
-    at: &mut usize,
-    steps: &mut Steps,
-) -> Option<Outcome>
-    requires laid { IsLaid table.now laid.now }
-    requires within { chain < length table.now.chains }
-    requires none_called { OfEach CallsNone (rules_at table.now.chains chain) }
-    requires at { at.old ≤ length (rules_at table.now.chains chain) }
-    requires room { steps.old + length (rules_at table.now.chains chain) < 2 ^ 32 + at.old }
-    ensures outcome { MatchOption result
-        (IsReadOn bounds.now facts.now table.now (rules_at table.now.chains chain) at.old at.new)
-        (λ outcome. comes bounds.now facts.now table.now
-        (drop at.old (rules_at table.now.chains chain)) ≡ outcome) }
-    ensures spent { steps.new + at.old ≤ steps.old + length (rules_at table.now.chains chain) }
-    ensures spent_on { result ≡ None → steps.new + at.old ≤ steps.old + at.new }
-{
-    let here = Place { chain, at: *at };
-    let next = next_rule(table, laid, facts, here, steps);
-    let rules = rules_of(table, chain);
-    if next >= rules.len() {
-        return Some(Outcome::Ends);
-    }
-    match move_from(bounds, facts, table, laid, rules, Place { chain, at: next }) {
-        Move::Gives(outcome) => return Some(outcome),
-        Move::Next => *at = next + 1,
-        Move::Jumps(_) | Move::Goes(_) => unreachable!(),
-    }
-    None
-}
-
-/// What the rules of a base chain of the table come to, by its place, if it calls no chain. Takes no memory.
-#[inline(always)]
-pub(crate) fn outcome_alone(
-    bounds: &Bounds,
-    facts: &Facts,
-    table: &Table,
-    laid: &Laid,
-    base: usize,
-    steps: &mut Steps,
-) -> Outcome
-    requires laid { IsLaid table.now laid.now }
-    requires within { base < length table.now.chains }
-    requires none_called { OfEach CallsNone (rules_at table.now.chains base) }
-    requires room { steps.old + length (rules_at table.now.chains base) < 2 ^ 32 }
-    ensures outcome { result ≡ outcome_of_chain bounds.now facts.now table.now
-        (rules_at table.now.chains base) }
-    ensures spent { steps.new ≤ steps.old + length (rules_at table.now.chains base) }
-{
-    let mut at = 0;
-    loop {
-        if let Some(outcome) = step_on(bounds, facts, table, laid, base, &mut at, steps) {
+        if let Some(outcome) = step_at_base(bounds, facts, table, laid, &mut here, known, steps) {
             return outcome;
         }
     }

@@ -19,15 +19,15 @@ returns-in_default-clause-outcome c =
     sym (ap (λ bases. asked_in_turn c.args.bounds.now c.args.facts.now (in_order bases)) (c.requires.lone.alone c.args.table.now
     ∙ ap (λ chain. option_map_or (at_hook c.args.hook c.args.table.now chain) chain.base []) (sym same) ∙ c.in_default.ensures c.args.table.now))
 
-pub outcome_alone-outcome-requires-clause-within : goal.outcome_alone-outcome-requires-clause-within
-outcome_alone-outcome-requires-clause-within c = slice_get_within c.args.table.now.chains c.args.place c.requires.lone.chain c.requires.lone.at
+pub callless_outcome-outcome-requires-clause-within : goal.callless_outcome-outcome-requires-clause-within
+callless_outcome-outcome-requires-clause-within c = slice_get_within c.args.table.now.chains c.args.place c.requires.lone.chain c.requires.lone.at
 
-pub outcome_alone-outcome-requires-clause-none_called : goal.outcome_alone-outcome-requires-clause-none_called
-outcome_alone-outcome-requires-clause-none_called c =
+pub callless_outcome-outcome-requires-clause-none_called : goal.callless_outcome-outcome-requires-clause-none_called
+callless_outcome-outcome-requires-clause-none_called c =
     subst (OfEach CallsNone) (sym (ap (λ found. option_map_or (λ chain. chain.rules) found []) c.requires.lone.at)) c.requires.lone.none_called
 
-pub outcome_alone-outcome-requires-clause-room : goal.outcome_alone-outcome-requires-clause-room
-outcome_alone-outcome-requires-clause-room c =
+pub callless_outcome-outcome-requires-clause-room : goal.callless_outcome-outcome-requires-clause-room
+callless_outcome-outcome-requires-clause-room c =
     let few = own_rules c.args.table.now.chains c.args.place in
     omega (arith, few, c.requires.room, c.none-steps.ensures)
 
@@ -36,8 +36,8 @@ returns-clause-outcome c =
     let there = ap (λ chains. slice_get chains c.args.place) c.as_slice.ensures ∙ c.requires.lone.at in
     let same = c.index-as_slice-place.is ∙ get_or_from_slice_get c.as_slice.result.now c.args.place c.requires.lone.chain _ there in
     let rules = ap (λ found. option_map_or (λ chain. chain.rules) found []) c.requires.lone.at ∙ ap (λ chain. chain.rules) (sym same) in
-    let outcome : c.outcome_alone-outcome.result ≡ chain_outcome c.args.bounds.now c.args.facts.now c.args.table.now c.index-as_slice-place.result.rules =
-    c.outcome_alone-outcome.ensures.outcome ∙ ap (chain_outcome c.args.bounds.now c.args.facts.now c.args.table.now) rules in
+    let outcome : c.callless_outcome-outcome.result ≡ chain_outcome c.args.bounds.now c.args.facts.now c.args.table.now c.index-as_slice-place.result.rules =
+    c.callless_outcome-outcome.ensures.outcome ∙ ap (chain_outcome c.args.bounds.now c.args.facts.now c.args.table.now) rules in
     c.settled.ensures ∙ ap (settled c.in-Some.base.now.policy) outcome ∙ sym (handed_alone _)
     ∙ sym (ap (λ bases. asked_in_turn c.args.bounds.now c.args.facts.now (in_order bases)) (c.requires.lone.alone c.args.table.now
     ∙ ap (λ chain. option_map_or (at_hook c.args.hook c.args.table.now chain) chain.base []) (sym same) ∙ c.in-Some.ensures c.args.table.now))
@@ -45,4 +45,4 @@ returns-clause-outcome c =
 pub returns-clause-steps : goal.returns-clause-steps
 returns-clause-steps c =
     let few = own_rules c.args.table.now.chains c.args.place in
-    omega (arith, few, c.outcome_alone-outcome.ensures.spent, c.none-steps.ensures)
+    omega (arith, few, c.callless_outcome-outcome.ensures.spent, c.none-steps.ensures)
