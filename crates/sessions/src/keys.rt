@@ -37,7 +37,7 @@ pub fn untranslated_key(session: &Session) -> Option<u128>
     Some(key(session.proto, session.inside, session.remote))
 }
 
-/// Protocol and an endpoint behind one another, as a number of 56 bits.
+/// Protocol and an endpoint behind one another, as a number of 56 bits, the same as `index::mapping_key` of `mappings`.
 pub fn mapping_key(proto: Proto, near: Endpoint) -> u64
     ensures value { result ≡ mapping_number proto near }
     ensures near { IsEndpoint near }
