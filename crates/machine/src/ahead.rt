@@ -75,5 +75,5 @@ fn are_mapped(
     inside: Endpoint,
     outside: Endpoint,
 ) -> bool {
-    table.seems_mapped(proto, inside, outside) & translations.seems_mapped(proto, inside, outside)
+    table.seems_mapped(proto, inside, outside) & translations.seems_mapped(proto, outside)
 }

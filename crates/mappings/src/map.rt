@@ -92,10 +92,10 @@ impl Map {
         find_inside(&self.index, proto, outside)
     }
 
-    /// Whether a first look tells that a pair of its outside endpoint is held. It says nothing of what is: whoever
+    /// Whether a first look tells that a pair of this outside endpoint is held. It says nothing of what is: whoever
     /// asks of several pairs in turn waits once for the memory that it takes to hold and to release them.
-    pub fn seems_held(&self, pair: Pair) -> bool {
-        seems_held(&self.index, pair)
+    pub fn seems_held(&self, proto: Proto, outside: Endpoint) -> bool {
+        seems_held(&self.index, proto, outside)
     }
 
     /// Holds the pair once more, but no more often than a table holds sessions. It may share neither
