@@ -380,8 +380,8 @@ impl<D: Disk + Drop> Gateway<D> {
         self.core.is_wide()
     }
 
-    /// How many of these packets seem to be of sessions that are held, or of mappings. It says nothing of what is: whoever
-    /// asks before the packets are offered waits once for the memory that they are going to need.
+    /// How many of these packets seem to be of sessions that are held, or of an inside endpoint that has a mapping. It
+    /// says nothing of what is: whoever asks before they are offered waits once for the memory that they will need.
     pub fn look_ahead(&self, coming: &[Coming; MOST_AHEAD]) -> usize {
         self.core.look_ahead(coming)
     }

@@ -45,7 +45,7 @@ fn known_in(bounds: &Bounds, rules: &Rules, found: &Held, view: &View) -> Result
 }
 
 // The inside endpoint of a packet that has no session.
-fn inside_of(
+fn inside_of_new(
     bounds: &Bounds,
     rules: &Rules,
     translations: &Translations,
@@ -143,7 +143,7 @@ pub fn in_leg(
             if needs_session(view) {
                 return Err(Cause::NoSession);
             }
-            let inside = inside_of(bounds, rules, translations, view)?;
+            let inside = inside_of_new(bounds, rules, translations, view)?;
             begins(bounds, rules, table, view, inside, now)
         }
     }

@@ -114,7 +114,7 @@ fn begun_out(
         (begun_way bounds.now rules.now (listing table.now.held) now view.now) }
 {
     bounds.facts();
-    match outside_of(bounds, rules, table, translations, view) {
+    match outside_of_new(bounds, rules, table, translations, view) {
         Err(cause) => Err(cause),
         Ok(outside) => {
             if table.count() == MOST_SESSIONS {
@@ -127,7 +127,7 @@ fn begun_out(
 }
 
 // The outside endpoint of a new session: that of the mapping, or what the rules decide.
-fn outside_of(
+fn outside_of_new(
     bounds: &Bounds,
     rules: &Rules,
     table: &Table,

@@ -7,7 +7,6 @@ ghost use Rattle.packet.specs.declared.endpoint.Endpoint.{Endpoint as Place};
 ghost use Rattle.packet.specs.declared.endpoint.Proto.{Proto as Protocol};
 ghost use Rattle.portpick.specs.Choice.{IsTestOf, port_choice};
 ghost use Rattle.portpick.specs.Taken.{IsTaken};
-ghost use Rattle.sessions.specs.Listing.{is_translated};
 ghost use Rattle.mappings.specs.Map.{times, pair as pair_with, Gains, KeepsOneToOne, SameTimes};
 ghost use Rattle.mappings.specs.declared.map.Pair.{Pair as Mapping};
 ghost use Rattle.hairpin.specs.Tallies.{pair_of, weight};
@@ -106,14 +105,10 @@ impl Translations {
         }
     }
 
-    /// Whether a first look tells that a mapping of the outside endpoint is held. It says nothing of what is: whoever asks of
-    /// several in turn waits once for the memory that it takes to hold and to release them.
-    pub fn seems_mapped(&self, proto: Proto, inside: Endpoint, outside: Endpoint) -> bool {
-        self.map.seems_held(Pair {
-            proto,
-            inside,
-            outside,
-        })
+    /// Whether a first look tells that a mapping of the outside endpoint is held. It says nothing of what is: whoever
+    /// asks of several in turn waits once for the memory that it takes to hold and to release them.
+    pub fn seems_mapped(&self, proto: Proto, outside: Endpoint) -> bool {
+        self.map.seems_held(proto, outside)
     }
 
     /// The first free endpoint of the external address for a port of 1 to 65,535, counted from the port on
@@ -147,7 +142,7 @@ impl Translations {
         ensures room { (n : ℕ) → HasRoom (n + 1) self.old → HasRoom n self.new }
         ensures external { self.new.external ≡ self.old.external }
     {
-        if is_translated(session) {
+        if session.is_translated() {
             self.hold_pair(pair_of(session));
         }
     }
@@ -160,7 +155,7 @@ impl Translations {
         ensures room { (n : ℕ) → HasRoom n self.old → HasRoom n self.new }
         ensures external { self.new.external ≡ self.old.external }
     {
-        if is_translated(session) {
+        if session.is_translated() {
             self.release_pair(pair_of(session));
         }
     }
@@ -204,12 +199,6 @@ fn pair_of(session: &Session) -> Pair
         inside: session.inside,
         outside: session.outside,
     }
-}
-
-fn is_translated(session: &Session) -> bool
-    ensures { result ≡ is_translated session.now }
-{
-    session.inside != session.outside
 }
 
 // The pair's port is taken, if it isn't yet.

@@ -15,8 +15,8 @@ pub fn is_wide(table: &Table) -> bool {
     table.slots() >= WIDE
 }
 
-/// How many of these packets seem to be of a mapping that is held, of those whose session's slot isn't told: such a
-/// packet may begin a session.
+/// How many of these packets seem to be of an inside endpoint that has a mapping, of those whose session's slot isn't
+/// told: such a packet may begin a session. One that comes to an outside endpoint is counted by no mapping.
 pub fn count_mapped(
     table: &Table,
     translations: &Translations,
@@ -75,5 +75,5 @@ fn are_mapped(
     inside: Endpoint,
     outside: Endpoint,
 ) -> bool {
-    table.seems_mapped(proto, inside, outside) & translations.seems_mapped(proto, inside, outside)
+    table.seems_mapped(proto, inside, outside) & translations.seems_mapped(proto, outside)
 }

@@ -708,8 +708,8 @@ impl Core {
         is_wide(self.flows.table())
     }
 
-    /// How many of these packets seem to be of sessions that are held, or of mappings. It says nothing of what is: whoever
-    /// asks before the packets come waits once for the memory that their steps are going to read.
+    /// How many of these packets seem to be of sessions that are held, or of an inside endpoint that has a mapping. It
+    /// says nothing of what is: whoever asks before they come waits once for the memory that their steps will read.
     pub fn look_ahead(&self, coming: &[Coming; MOST_AHEAD]) -> usize {
         self.flows.look_ahead(coming)
     }

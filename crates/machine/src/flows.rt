@@ -142,7 +142,8 @@ impl Flows {
         self.table.list(alloc)
     }
 
-    /// How many of these packets seem to be of sessions that are held, or of mappings. It says nothing of what is.
+    /// How many of these packets seem to be of sessions that are held, or of an inside endpoint that has a mapping. It
+    /// says nothing of what is.
     pub fn look_ahead(&self, coming: &[Coming; MOST_AHEAD]) -> usize {
         let slots = self.table.look_ahead(coming);
         let mapped = count_mapped(&self.table, &self.translations, coming, &slots);

@@ -10,7 +10,7 @@ use Rattle.mappings.specs.declared.map.Pair.{Pair}
 use Rattle.mappings.specs.declared.map.Counted.{Counted}
 use Rattle.mappings.specs.Map.{times_at, GainsIn}
 use Rattle.mappings.specs.Indexed.{pairs_in, number_of, IsSmall, IsEntry, AreIndexed}
-use Rattle.mappings.proofs.Led.{IsRow-counts, IsRow-more, IsRow-less, IsRow-same, AreApart-counts, AreApart-more, AreApart-less}
+use Rattle.mappings.proofs.Led.{LeadToPairs-counts, LeadToPairs-more, LeadToPairs-less, LeadToPairs-same, AreApart-counts, AreApart-more, AreApart-less}
 use Rattle.mappings.proofs.Slots.{times-update, weight}
 use Rattle.mappings.proofs.Times.{entry-more, entry-same}
 
@@ -21,11 +21,11 @@ Updates-write old new slot f was before written =
     let is : new ≡ with_value old slot (f was) = subst (λ o. IsSomeAnd o (λ e. new ≡ with_value old slot (f e))) before written in
     subst (λ n. Updates old n slot (Some (f was))) (sym is) (Updates-with_value old slot (f was) (subst IsSome (sym before) refl))
 
--- the pairs stay indexed where the row keeps its values
+-- the pairs stay indexed where the map keeps its values
 pub AreIndexed-same : (slots : List (Option Counted)) (outside outside' : List Entry) → ((k : ℕ) → value_at outside' k ≡ value_at outside k) → AreIndexed slots outside → AreIndexed slots outside'
 AreIndexed-same slots outside outside' far indexed = record {
   entries = indexed.entries;
-  by_outside = IsRow-same slots outside outside' far indexed.by_outside;
+  by_outside = LeadToPairs-same slots outside outside' far indexed.by_outside;
   apart = indexed.apart;
 }
 
@@ -70,7 +70,7 @@ module _ (old new : Slab Counted) (slot : ℕ) where
             })
         | inr away ↦ indexed.entries k entry (sym (updates.others k away) ∙ there)
       ];
-      by_outside = IsRow-counts old.slots new.slots slot updates.others outside was is before updates.changed same indexed.by_outside;
+      by_outside = LeadToPairs-counts old.slots new.slots slot updates.others outside was is before updates.changed same indexed.by_outside;
       apart = AreApart-counts old.slots new.slots slot updates.others was is before updates.changed same indexed.apart;
     }
 
@@ -82,7 +82,7 @@ module _ (old new : Slab Counted) (slot : ℕ) where
           | inl here ↦ subst IsEntry (same_Some e entry (sym updates.changed ∙ ap (get new) (sym here) ∙ there)) good
           | inr away ↦ indexed.entries k entry (sym (updates.others k away) ∙ there)
         ];
-        by_outside = IsRow-more old.slots new.slots slot updates.others outside outside' e empty updates.changed free puts indexed.by_outside;
+        by_outside = LeadToPairs-more old.slots new.slots slot updates.others outside outside' e empty updates.changed free puts indexed.by_outside;
         apart = AreApart-more old.slots new.slots slot updates.others e updates.changed free_in indexed.apart;
       }
 
@@ -92,6 +92,6 @@ module _ (old new : Slab Counted) (slot : ℕ) where
           | inl here ↦ absurd (none-some entry (sym updates.changed ∙ ap (get new) (sym here) ∙ is))
           | inr away ↦ indexed.entries k entry (sym (updates.others k away) ∙ is)
         ];
-        by_outside = IsRow-less old.slots new.slots slot updates.others outside outside' e there updates.changed puts indexed.by_outside;
+        by_outside = LeadToPairs-less old.slots new.slots slot updates.others outside outside' e there updates.changed puts indexed.by_outside;
         apart = AreApart-less old.slots new.slots slot updates.others updates.changed indexed.apart;
       }

@@ -1,4 +1,4 @@
--- What is known of a pair that the row leads to, or to which it doesn't.
+-- What is known of a pair that the map leads to, or to which it doesn't.
 use Rattle.std.proofs.Common.{◌≡◌, ◌≢◌, ℕ, ◌<◌, List, get_or, Option, Some, None, IsSome, sym, ap, ◌∙◌, inl, inr, arith, refl, subst}
 use Rattle.std.proofs.lemmas.Bool.{cases_lt}
 use Rattle.std.proofs.lemmas.Option.{none-some, same_Some}
@@ -9,13 +9,13 @@ use Rattle.rows.specs.Held.{value_at}
 use Rattle.mappings.specs.declared.map.Pair.{Pair}
 use Rattle.mappings.specs.declared.map.Counted.{Counted}
 use Rattle.mappings.specs.Map.{pair, times_in, AreOneToOne}
-use Rattle.mappings.specs.Indexed.{pairs_in, key, number_of, IsSmall, IsRow, AreApart, AreIndexed, KeepsOneToOneIn}
-use Rattle.mappings.proofs.Keys.{key-once}
+use Rattle.mappings.specs.Indexed.{pairs_in, mapping_number, number_of, IsSmall, LeadToPairs, AreApart, AreIndexed, KeepsOneToOneIn}
+use Rattle.mappings.proofs.Keys.{mapping_number-once}
 use Rattle.mappings.proofs.Slots.{times-slot, times-some}
 use Rattle.mappings.proofs.Times.{same_parts}
 
 number-same : (p q : Pair) → p.proto ≡ q.proto → p.outside ≡ q.outside → number_of p ≡ number_of q
-number-same p q proto far = ap (λ v. key v p.outside) proto ∙ ap (λ v. key q.proto v) far
+number-same p q proto far = ap (λ v. mapping_number v p.outside) proto ∙ ap (λ v. mapping_number q.proto v) far
 
 -- a pair that no slot has is not held
 pub none_held : (slots : List (Option Counted)) (p : Pair) → ((slot : ℕ) (entry : Counted) → get_or slots slot None ≡ Some entry → entry.pair ≢ p) → times_in (pairs_in slots) p ≡ 0
@@ -37,31 +37,31 @@ same_inside slots apart p q held_p held_q proto near =
     let entry : one.1 ≡ other.1 = same_Some one.1 other.1 (sym one.2 ∙ ap (λ k. get_or slots k None) slot ∙ other.2) in
     one.3 ∙ ap (λ (e : Counted). e.pair) entry ∙ sym other.3
 
-module _ (slots : List (Option Counted)) (row : List Entry) (led : IsRow slots row) where
-  -- a pair that is held is the one to which the row leads
-  pub held_is : (p : Pair) (slot : ℕ) → 0 < times_in (pairs_in slots) p → value_at row (number_of p) ≡ Some slot → (entry : Counted) × (get_or slots slot None ≡ Some entry) × (entry.pair ≡ p)
+module _ (slots : List (Option Counted)) (entries : List Entry) (led : LeadToPairs slots entries) where
+  -- a pair that is held is the one to which the map leads
+  pub held_is : (p : Pair) (slot : ℕ) → 0 < times_in (pairs_in slots) p → value_at entries (number_of p) ≡ Some slot → (entry : Counted) × (get_or slots slot None ≡ Some entry) × (entry.pair ≡ p)
   held_is p slot lt found =
       let some = times-some p slots lt in
-      let leads : value_at row (number_of p) ≡ Some some.0 = ap (λ q. value_at row (number_of q)) some.3 ∙ led.each some.0 some.1 some.2 in
+      let leads : value_at entries (number_of p) ≡ Some some.0 = ap (λ q. value_at entries (number_of q)) some.3 ∙ led.each some.0 some.1 some.2 in
       let one : slot ≡ some.0 = same_Some slot some.0 (sym found ∙ leads) in
       (some.1, ap (λ k. get_or slots k None) one ∙ some.2, sym some.3)
 
   -- a pair to which it doesn't lead is not held
-  pub not_held : (p : Pair) → value_at row (number_of p) ≡ None → times_in (pairs_in slots) p ≡ 0
-  not_held p free = none_held slots p (λ slot entry is same. none-some slot (sym free ∙ ap (λ q. value_at row (number_of q)) (sym same) ∙ led.each slot entry is))
+  pub not_held : (p : Pair) → value_at entries (number_of p) ≡ None → times_in (pairs_in slots) p ≡ 0
+  not_held p free = none_held slots p (λ slot entry is same. none-some slot (sym free ∙ ap (λ q. value_at entries (number_of q)) (sym same) ∙ led.each slot entry is))
 
   -- it leads to a pair that is held
-  pub held_led : (p : Pair) → 0 < times_in (pairs_in slots) p → IsSome (value_at row (number_of p))
+  pub held_led : (p : Pair) → 0 < times_in (pairs_in slots) p → IsSome (value_at entries (number_of p))
   held_led p lt =
       let some = times-some p slots lt in
-      subst IsSome (sym (ap (λ q. value_at row (number_of q)) some.3 ∙ led.each some.0 some.1 some.2)) refl
+      subst IsSome (sym (ap (λ q. value_at entries (number_of q)) some.3 ∙ led.each some.0 some.1 some.2)) refl
 
   -- two pairs that are held are one where they share an outside endpoint
   same_outside : (p q : Pair) → 0 < times_in (pairs_in slots) p → 0 < times_in (pairs_in slots) q → p.proto ≡ q.proto → p.outside ≡ q.outside → p ≡ q
   same_outside p q held_p held_q proto far =
       let some = times-some q slots held_q in
-      let leads : value_at row (number_of q) ≡ Some some.0 = ap (λ r. value_at row (number_of r)) some.3 ∙ led.each some.0 some.1 some.2 in
-      let found = held_is p some.0 held_p (ap (value_at row) (number-same p q proto far) ∙ leads) in
+      let leads : value_at entries (number_of q) ≡ Some some.0 = ap (λ r. value_at entries (number_of r)) some.3 ∙ led.each some.0 some.1 some.2 in
+      let found = held_is p some.0 held_p (ap (value_at entries) (number-same p q proto far) ∙ leads) in
       let one : found.0 ≡ some.1 = same_Some found.0 some.1 (sym found.1 ∙ some.2) in
       sym found.2 ∙ ap (λ (e : Counted). e.pair) one ∙ sym some.3
 
@@ -82,15 +82,15 @@ module _ (slots : List (Option Counted)) (outside : List Entry) (indexed : AreIn
       let same : entry.pair ≡ pair proto near entry.pair.outside = same_parts entry.pair (pair proto near entry.pair.outside) proto_is near_is refl in
       omega (arith, entry-held slot entry is, ap (times_in (pairs_in slots)) same)
 
-  -- the pair to which the row leads has this protocol and endpoint
+  -- the pair to which the map leads has this protocol and endpoint
   found_outside : (proto : Proto) (far : Endpoint) (slot : ℕ) → IsSmall far
-      → value_at outside (key proto far) ≡ Some slot → (entry : Counted) × (get_or slots slot None ≡ Some entry) × ((entry.pair.proto ≡ proto) × (entry.pair.outside ≡ far))
+      → value_at outside (mapping_number proto far) ≡ Some slot → (entry : Counted) × (get_or slots slot None ≡ Some entry) × ((entry.pair.proto ≡ proto) × (entry.pair.outside ≡ far))
   found_outside proto far slot small found =
-      let there = indexed.by_outside.back (key proto far) slot found in
-      (there.0, there.1, key-once there.0.pair.proto proto there.0.pair.outside far (indexed.entries slot there.0 there.1).outside small there.2)
+      let there = indexed.by_outside.back (mapping_number proto far) slot found in
+      (there.0, there.1, mapping_number-once there.0.pair.proto proto there.0.pair.outside far (indexed.entries slot there.0 there.1).outside small there.2)
 
   -- and it is held
-  pub outside_held : (proto : Proto) (far : Endpoint) (slot : ℕ) (entry : Counted) → IsSmall far → value_at outside (key proto far) ≡ Some slot → get_or slots slot None ≡ Some entry
+  pub outside_held : (proto : Proto) (far : Endpoint) (slot : ℕ) (entry : Counted) → IsSmall far → value_at outside (mapping_number proto far) ≡ Some slot → get_or slots slot None ≡ Some entry
       → 0 < times_in (pairs_in slots) (pair proto entry.pair.inside far)
   outside_held proto far slot entry small found is =
       let there = found_outside proto far slot small found in

@@ -3,7 +3,7 @@ use Rattle.std.proofs.Common.{◌≡◌, ℕ, ◌+◌, ◌*◌, refl, ap, ◌∙
 use Rattle.packet.specs.declared.endpoint.Proto.{Proto}
 use Rattle.packet.specs.declared.endpoint.Proto.TheVariants.{Tcp, Udp}
 use Rattle.packet.specs.declared.endpoint.Endpoint.{Endpoint}
-use Rattle.mappings.specs.Indexed.{key, IsSmall}
+use Rattle.mappings.specs.Indexed.{mapping_number, IsSmall}
 
 endpoint : ℕ → ℕ → Endpoint
 endpoint addr port = record { addr = addr; port = port }
@@ -17,8 +17,8 @@ same_endpoint n e f small_e small_f same =
     let addr : e.addr ≡ f.addr = omega (arith, small_e.port, small_f.port, same) in
     same_parts e f addr (omega (arith, addr, same))
 
-pub key-once : (a b : Proto) (e f : Endpoint) → IsSmall e → IsSmall f → key a e ≡ key b f → (a ≡ b) × (e ≡ f)
-key-once Tcp Tcp e f small_e small_f same = (refl, same_endpoint 1688849860263936 e f small_e small_f same)
-key-once Udp Udp e f small_e small_f same = (refl, same_endpoint 4785074604081152 e f small_e small_f same)
-key-once Tcp Udp e f small_e small_f same = absurd (omega (arith, small_e.addr, small_e.port, small_f.addr, small_f.port, same))
-key-once Udp Tcp e f small_e small_f same = absurd (omega (arith, small_e.addr, small_e.port, small_f.addr, small_f.port, same))
+pub mapping_number-once : (a b : Proto) (e f : Endpoint) → IsSmall e → IsSmall f → mapping_number a e ≡ mapping_number b f → (a ≡ b) × (e ≡ f)
+mapping_number-once Tcp Tcp e f small_e small_f same = (refl, same_endpoint 1688849860263936 e f small_e small_f same)
+mapping_number-once Udp Udp e f small_e small_f same = (refl, same_endpoint 4785074604081152 e f small_e small_f same)
+mapping_number-once Tcp Udp e f small_e small_f same = absurd (omega (arith, small_e.addr, small_e.port, small_f.addr, small_f.port, same))
+mapping_number-once Udp Tcp e f small_e small_f same = absurd (omega (arith, small_e.addr, small_e.port, small_f.addr, small_f.port, same))

@@ -1,4 +1,4 @@
--- What a row still leads to when slots and row change together, and which slots stay apart.
+-- What a map still leads to when slots and map change together, and which slots stay apart.
 use Rattle.std.proofs.Common.{◌≡◌, ◌≢◌, ℕ, List, cond, get_or, Option, Some, None, refl, sym, ap, ◌∙◌, inl, inr}
 use Rattle.std.proofs.lemmas.Bool.{cases_eq, eq-eqb, ne_eqb}
 use Rattle.std.proofs.lemmas.Option.{none-some, same_Some}
@@ -6,7 +6,7 @@ use Rattle.rows.specs.declared.Entry.{Entry}
 use Rattle.rows.specs.Held.{value_at, Puts}
 use Rattle.mappings.specs.declared.map.Pair.{Pair}
 use Rattle.mappings.specs.declared.map.Counted.{Counted}
-use Rattle.mappings.specs.Indexed.{number_of, IsRow, AreApart}
+use Rattle.mappings.specs.Indexed.{number_of, LeadToPairs, AreApart}
 
 module _ (old new : List Entry) (number : ℕ) (value : Option ℕ) (puts : Puts old new number value) where
   puts-here : (k : ℕ) → k ≡ number → value_at new k ≡ value
@@ -25,13 +25,13 @@ AreApart-kept old new kept apart = λ i j e f is_e is_f proto near.
 
 module _ (old new : List (Option Counted)) (slot : ℕ) (others : (k : ℕ) → k ≢ slot → get_or new k None ≡ get_or old k None) where
   -- the slot holds the same pair, with another count
-  pub IsRow-counts : (row : List Entry) (was is : Counted) → get_or old slot None ≡ Some was → get_or new slot None ≡ Some is → is.pair ≡ was.pair → IsRow old row → IsRow new row
-  IsRow-counts row was is before after same led = record {
+  pub LeadToPairs-counts : (entries : List Entry) (was is : Counted) → get_or old slot None ≡ Some was → get_or new slot None ≡ Some is → is.pair ≡ was.pair → LeadToPairs old entries → LeadToPairs new entries
+  LeadToPairs-counts entries was is before after same led = record {
     each = λ k entry held. elim (cases_eq k slot) [
       | inl here ↦
           let one : is ≡ entry = same_Some is entry (sym after ∙ ap (λ j. get_or new j None) (sym here) ∙ held) in
           let key : number_of entry.pair ≡ number_of was.pair = ap (λ (e : Counted). number_of e.pair) (sym one) ∙ ap number_of same in
-          ap (value_at row) key ∙ led.each slot was before ∙ ap Some (sym here)
+          ap (value_at entries) key ∙ led.each slot was before ∙ ap Some (sym here)
       | inr away ↦ led.each k entry (sym (others k away) ∙ held)
     ];
     back = λ number k leads.
@@ -44,10 +44,10 @@ module _ (old new : List (Option Counted)) (slot : ℕ) (others : (k : ℕ) → 
         ];
   }
 
-  -- a pair stands in a slot that was empty, and the row leads to it
-  pub IsRow-more : (before after : List Entry) (entry : Counted) → get_or old slot None ≡ None → get_or new slot None ≡ Some entry → value_at before (number_of entry.pair) ≡ None
-      → Puts before after (number_of entry.pair) (Some slot) → IsRow old before → IsRow new after
-  IsRow-more before after entry empty held free puts led = record {
+  -- a pair stands in a slot that was empty, and the map leads to it
+  pub LeadToPairs-more : (before after : List Entry) (entry : Counted) → get_or old slot None ≡ None → get_or new slot None ≡ Some entry → value_at before (number_of entry.pair) ≡ None
+      → Puts before after (number_of entry.pair) (Some slot) → LeadToPairs old before → LeadToPairs new after
+  LeadToPairs-more before after entry empty held free puts led = record {
     each = λ k e is. elim (cases_eq k slot) [
       | inl here ↦
           let one : entry ≡ e = same_Some entry e (sym held ∙ ap (λ j. get_or new j None) (sym here) ∙ is) in
@@ -68,10 +68,10 @@ module _ (old new : List (Option Counted)) (slot : ℕ) (others : (k : ℕ) → 
     ];
   }
 
-  -- the slot is empty now, and the row leads there no longer
-  pub IsRow-less : (before after : List Entry) (entry : Counted) → get_or old slot None ≡ Some entry → get_or new slot None ≡ None
-      → Puts before after (number_of entry.pair) None → IsRow old before → IsRow new after
-  IsRow-less before after entry held empty puts led = record {
+  -- the slot is empty now, and the map leads there no longer
+  pub LeadToPairs-less : (before after : List Entry) (entry : Counted) → get_or old slot None ≡ Some entry → get_or new slot None ≡ None
+      → Puts before after (number_of entry.pair) None → LeadToPairs old before → LeadToPairs new after
+  LeadToPairs-less before after entry held empty puts led = record {
     each = λ k e is. elim (cases_eq k slot) [
       | inl here ↦ absurd (none-some e (sym empty ∙ ap (λ j. get_or new j None) (sym here) ∙ is))
       | inr away ↦
@@ -124,9 +124,9 @@ module _ (old new : List (Option Counted)) (slot : ℕ) (others : (k : ℕ) → 
     | inr away ↦ (e, sym (others k away) ∙ there, refl)
   ])
 
--- the slots change nowhere that a row would see, so it leads as before
-pub IsRow-same : (slots : List (Option Counted)) (before after : List Entry) → ((number : ℕ) → value_at after number ≡ value_at before number) → IsRow slots before → IsRow slots after
-IsRow-same slots before after same led = record {
+-- the slots change nowhere that the map would see, so it leads as before
+pub LeadToPairs-same : (slots : List (Option Counted)) (before after : List Entry) → ((number : ℕ) → value_at after number ≡ value_at before number) → LeadToPairs slots before → LeadToPairs slots after
+LeadToPairs-same slots before after same led = record {
   each = λ k e is. same (number_of e.pair) ∙ led.each k e is;
   back = λ number k leads. led.back number k (sym (same number) ∙ leads);
 }

@@ -1,5 +1,5 @@
--- How the pairs are kept: each in a slot, and a map that leads to it from the outside endpoint. A row is the
--- list of the map's entries. No public clause cites this module.
+-- How the pairs are kept: each in a slot, and a map, seen as the list of its entries, that leads to it from the outside
+-- endpoint. No public clause cites this module.
 use Rattle.std.specs.Prelude.{◌≡◌, ◌↔◌, ℕ, ◌+◌, ◌-◌, ◌*◌, ◌<◌, List, [], ◌∷◌, Option, Some, None, min, slice_index_or}
 use Rattle.slab.specs.Slab.{slab_len}
 use Rattle.packet.specs.Numbers.{proto_number}
@@ -19,23 +19,24 @@ pairs_in (None ∷ slots) = pairs_in slots
 pairs_in (Some entry ∷ slots) = entry ∷ pairs_in slots
 
 -- protocol, address and port as one number
-abbrev pub key : Proto → Endpoint → ℕ
-key proto endpoint = proto_number proto * 281474976710656 + endpoint.addr * 65536 + endpoint.port
+abbrev pub mapping_number : Proto → Endpoint → ℕ
+mapping_number proto endpoint =
+    proto_number proto * 281474976710656 + endpoint.addr * 65536 + endpoint.port
 
 -- the address has 32 bits, and the port 16
 pub record IsSmall (endpoint : Endpoint) : Type 0 where
   pub addr : endpoint.addr < 4294967296
   pub port : endpoint.port < 65536
 
--- the number by which the row leads to the pair
+-- the number by which the map leads to the pair
 abbrev pub number_of : Pair → ℕ
-number_of pair = key pair.proto pair.outside
+number_of pair = mapping_number pair.proto pair.outside
 
--- the row leads from the outside endpoint of each pair to its slot, and from no other
-pub record IsRow (slots : List (Option Counted)) (row : List Entry) : Type 0 where
+-- the entries lead from the outside endpoint of each pair to its slot, and from no other
+pub record LeadToPairs (slots : List (Option Counted)) (entries : List Entry) : Type 0 where
   pub each : (slot : ℕ) (entry : Counted) → slice_index_or slots slot None ≡ Some entry
-      → value_at row (number_of entry.pair) ≡ Some slot
-  pub back : (number slot : ℕ) → value_at row number ≡ Some slot
+      → value_at entries (number_of entry.pair) ≡ Some slot
+  pub back : (number slot : ℕ) → value_at entries number ≡ Some slot
       → (entry : Counted) × (slice_index_or slots slot None ≡ Some entry)
       × (number_of entry.pair ≡ number)
 
@@ -50,11 +51,11 @@ pub record IsEntry (entry : Counted) : Type 0 where
   pub held : 0 < entry.count
   pub outside : IsSmall entry.pair.outside
 
--- the row leads to the pairs, of which no two of a protocol share an inside endpoint
+-- the map leads to the pairs, of which no two of a protocol share an inside endpoint
 pub record AreIndexed (slots : List (Option Counted)) (outside : List Entry) : Type 0 where
   pub entries : (slot : ℕ) (entry : Counted) → slice_index_or slots slot None ≡ Some entry
       → IsEntry entry
-  pub by_outside : IsRow slots outside
+  pub by_outside : LeadToPairs slots outside
   pub apart : AreApart slots
 
 abbrev pub IsIndexed : Index → Type 0

@@ -4,7 +4,7 @@ ghost use Rattle.packet.specs.declared.endpoint.Endpoint.{Endpoint as Place};
 ghost use Rattle.slab.specs.Slab.{get, with_value, HasRoomFor};
 ghost use Rattle.rows.specs.Held.{at};
 ghost use Rattle.mappings.specs.Map.{times_in, pair, GainsIn};
-ghost use Rattle.mappings.specs.Indexed.{key, IsSmall, IsIndexed, KeepsOneToOneIn, held_in, room_in};
+ghost use Rattle.mappings.specs.Indexed.{mapping_number, IsSmall, IsIndexed, KeepsOneToOneIn, held_in, room_in};
 
 use crate::map::{Counted, Pair};
 use buckets::by_port::ByPort;
@@ -19,18 +19,18 @@ pub struct Index {
     pub pairs: Slab<Counted>,
 }
 
-// Protocol, address and port, one behind another: a number of 56 bits.
-fn key(proto: Proto, endpoint: Endpoint) -> u64
-    ensures key { result ≡ key proto endpoint }
+// Protocol, address and port, one behind another: a number of 56 bits, the same as `keys::mapping_key` of `sessions`.
+fn mapping_key(proto: Proto, endpoint: Endpoint) -> u64
+    ensures key { result ≡ mapping_number proto endpoint }
     ensures small { IsSmall endpoint }
 {
     let addr = u64::from(endpoint.addr) * 0x1_0000;
     u64::from(proto.number()) * 0x1_0000_0000_0000 + addr + u64::from(endpoint.port)
 }
 
-/// Whether a first look into the map tells that it leads from the pair's outside endpoint.
-pub fn seems_held(index: &Index, pair: Pair) -> bool {
-    index.outside.seems_held(key(pair.proto, pair.outside))
+/// Whether a first look into the map tells that it leads from this outside endpoint.
+pub fn seems_held(index: &Index, proto: Proto, outside: Endpoint) -> bool {
+    index.outside.seems_held(mapping_key(proto, outside))
 }
 
 /// The outside endpoint of the pair with this inside endpoint. This walks over all pairs.
@@ -64,7 +64,7 @@ pub fn find_inside(index: &Index, proto: Proto, outside: Endpoint) -> Option<End
     ensures absent { IfNone result ((inside : Place)
         → times_in (held_in index.now) (pair proto inside outside) ≡ 0) }
 {
-    let slot = index.outside.get(key(proto, outside))?;
+    let slot = index.outside.get(mapping_key(proto, outside))?;
     Some(index.pairs[slot].pair.inside)
 }
 
@@ -83,7 +83,7 @@ pub fn add(index: &mut Index, pair: Pair) -> Result<(), AllocError>
         → room_in index.old ≤ room_in index.new }
     ensures room_err { OnErr result (room_in index.old ≤ room_in index.new) }
 {
-    let number = key(pair.proto, pair.outside);
+    let number = mapping_key(pair.proto, pair.outside);
     reserve_new(&mut index.pairs, &index.outside, number)?;
     let slot = index.pairs.vacant_key();
     match index.outside.get_or_insert(number, slot)? {
@@ -155,7 +155,7 @@ pub fn take_one(index: &mut Index, pair: Pair)
     ensures loses { GainsIn (held_in index.new) (held_in index.old) pair }
     ensures room { room_in index.old ≤ room_in index.new }
 {
-    let Some(slot) = index.outside.get(key(pair.proto, pair.outside)) else {
+    let Some(slot) = index.outside.get(mapping_key(pair.proto, pair.outside)) else {
         return;
     };
     if index.pairs[slot].count == 1 {
@@ -174,5 +174,5 @@ fn take_out(index: &mut Index, slot: usize, pair: Pair)
     ensures room { room_in index.old ≤ room_in index.new }
 {
     index.pairs.remove(slot);
-    index.outside.remove(key(pair.proto, pair.outside));
+    index.outside.remove(mapping_key(pair.proto, pair.outside));
 }

@@ -81,7 +81,7 @@ impl Map {
     }
 
     /// The inside endpoint that this outside endpoint stands for, where a pair of it is held. It takes one
-    /// look-up in the map.
+    /// look-up in the map from outside endpoints.
     pub fn inside_of(&self, proto: Proto, outside: Endpoint) -> Option<Endpoint>
         ensures found { IfSome result (λ inside. 0 < times self.now (pair proto inside outside)) }
         ensures only { IfSome result (λ inside. (other : Place)
@@ -92,15 +92,15 @@ impl Map {
         find_inside(&self.index, proto, outside)
     }
 
-    /// Whether a first look tells that a pair of its outside endpoint is held. It says nothing of what is: whoever
+    /// Whether a first look tells that a pair of this outside endpoint is held. It says nothing of what is: whoever
     /// asks of several pairs in turn waits once for the memory that it takes to hold and to release them.
-    pub fn seems_held(&self, pair: Pair) -> bool {
-        seems_held(&self.index, pair)
+    pub fn seems_held(&self, proto: Proto, outside: Endpoint) -> bool {
+        seems_held(&self.index, proto, outside)
     }
 
     /// Holds the pair once more, but no more often than a table holds sessions. It may share neither
-    /// endpoint with another pair of its protocol that is held. It takes one look-up in the map, or two where no slot
-    /// is free; a pair that is not held yet is put into the map by the last of them.
+    /// endpoint with another pair of its protocol that is held. It takes one look-up in the map from outside
+    /// endpoints, or two where no slot is free; a pair that is not held yet is put in there by the last of them.
     ///
     /// # Errors
     ///
@@ -121,7 +121,7 @@ impl Map {
     }
 
     /// Gives one hold of a held pair back; with its last hold the pair is gone. This takes no memory, and
-    /// loses no room. It takes one look-up in the map, and with the last hold a removal from it.
+    /// loses no room. It takes one look-up in the map from outside endpoints, and with the last hold a removal from it.
     pub fn release(&mut self, pair: Pair)
         requires { 0 < times self.old pair }
         ensures loses { Gains self.new self.old pair }

@@ -41,8 +41,8 @@ abbrev pub flow_number : Session → ℕ
 flow_number s = key_number s.proto s.inside s.remote
 
 -- the key by which a session that isn't translated is found from both sides
-abbrev pub flow_name : Session → Option ℕ
-flow_name s = cond (is_translated s) None (Some (flow_number s))
+abbrev pub untranslated_name : Session → Option ℕ
+untranslated_name s = cond (is_translated s) None (Some (flow_number s))
 
 -- the entries have the slot of each session that has a name, under that name, and nothing else
 pub record Finds (name : Session → Option ℕ) (held : List (Option Session))

@@ -4,22 +4,22 @@ use Rattle.buckets.specs.Held.{KeepsAll}
 use Rattle.sessions.specs.declared.translated.Translated.{Translated}
 use Rattle.sessions.specs.declared.session.Session.{Session}
 use Rattle.sessions.specs.declared.index.Index.{Index}
-use Rattle.sessions.specs.Index.{Finds, flow_name}
+use Rattle.sessions.specs.Index.{Finds, untranslated_name}
 use Rattle.sessions.specs.Listing.{is_translated}
 use Rattle.sessions.specs.Translated.{IsTold, Once, TakesIn, room_in}
 
 -- the sessions are sound, and each is found by its kind
 pub record IsIndexed (held : List (Option Session)) (index : Index) : Type 0 where
-  pub flows : Finds flow_name held index.flows.held
+  pub untranslated : Finds untranslated_name held index.untranslated.held
   pub translated : IsTold held index.translated
 
 -- so many sessions more surely go in with no memory
 abbrev pub room_of : Index → ℕ
-room_of index = min index.flows.room (room_in index.translated)
+room_of index = min index.untranslated.room (room_in index.translated)
 
 -- the same entries, and the same room or more
 pub record KeepsIndex (old new : Index) : Type 0 where
-  pub flows : new.flows.held ≡ old.flows.held
+  pub untranslated : new.untranslated.held ≡ old.untranslated.held
   pub firsts : new.translated.firsts.slots ≡ old.translated.firsts.slots
   pub insides : KeepsAll old.translated.insides new.translated.insides
   pub outsides : KeepsAll old.translated.outsides new.translated.outsides

@@ -5,7 +5,7 @@
 ghost use Rattle.std.specs.Prelude.{◌≡◌, ◌↔◌, ◌+◌, ◌<◌, ◌≤◌, ℕ, IsTrue, IsOk, true, None, Some, IfSome, IfNone, OnOk, slice_index_or};
 ghost use Rattle.packet.specs.declared.endpoint.Endpoint.{Endpoint as Place};
 ghost use Rattle.rows.specs.Held.{at};
-ghost use Rattle.sessions.specs.Index.{ClashesAt, IsAt, IsNowhere, LacksName, PutsName, flow_name, key_number};
+ghost use Rattle.sessions.specs.Index.{ClashesAt, IsAt, IsNowhere, LacksName, PutsName, key_number, untranslated_name};
 ghost use Rattle.sessions.specs.Indexed.{AddsTo, EndsIn, IsIndexed, KeepsIndex, room_of};
 ghost use Rattle.sessions.specs.Laws.{IsMapping};
 ghost use Rattle.sessions.specs.Listing.{is_translated as translates, listing};
@@ -14,7 +14,7 @@ ghost use Rattle.sessions.specs.Translated.{IsTold, LacksMapping, first_by_insid
 
 use crate::Session;
 use crate::hints::Hints;
-use crate::keys::{flow_key, has_endpoints, is_translated, key};
+use crate::keys::{has_endpoints, key, untranslated_key};
 use crate::session::clash;
 use crate::translated::{Translated, is_empty, is_inside, is_outside};
 use packet::endpoint::{Endpoint, Proto};
@@ -26,7 +26,7 @@ use std::alloc::{AllocError, Global};
 #[derive(Drop)]
 pub struct Index {
     /// Those that aren't translated, by protocol, their own and remote endpoint: keys of 104 bits.
-    pub flows: Rows,
+    pub untranslated: Rows,
     /// The translated ones.
     pub translated: Translated,
     /// Guesses of slots, by protocol, port on either side and remote endpoint.
@@ -36,13 +36,13 @@ pub struct Index {
 impl Index {
     /// The index of no session. This takes no memory.
     pub fn new(alloc: Global) -> Index
-        ensures flows { (key : ℕ) → at result.flows key ≡ None }
+        ensures untranslated { (key : ℕ) → at result.untranslated key ≡ None }
         ensures insides { (key : ℕ) → at result.translated.insides key ≡ None }
         ensures outsides { (key : ℕ) → at result.translated.outsides key ≡ None }
         ensures others { (key : ℕ) → at result.translated.others key ≡ None }
     {
         Index {
-            flows: Rows::new(alloc),
+            untranslated: Rows::new(alloc),
             translated: Translated::new(alloc),
             hints: Hints::new(alloc),
         }
@@ -55,7 +55,7 @@ impl Index {
         ensures keeps { KeepsIndex self.old self.new }
         ensures room { room_of self.old ≤ room_of self.new }
     {
-        self.flows.reserve_one()?;
+        self.untranslated.reserve_one()?;
         self.translated.reserve_one()
     }
 
@@ -66,22 +66,23 @@ impl Index {
         ensures keeps { KeepsIndex self.old self.new }
         ensures room { room_of self.old ≤ room_of self.new }
     {
-        self.flows.reserve()?;
+        self.untranslated.reserve()?;
         self.translated.reserve()
     }
 
     /// Puts a session in, which isn't in, and for which there is room.
     pub fn insert(&mut self, session: &Session, slot: usize)
-        requires flow { LacksName self.old.flows.held (flow_name session.now) }
+        requires untranslated { LacksName self.old.untranslated.held
+            (untranslated_name session.now) }
         requires mapping { translates session.now ≡ true
             → LacksMapping self.old.translated session.now }
         requires room { 0 < room_of self.old }
-        ensures flow { PutsName self.old.flows.held self.new.flows.held (flow_name session.now)
-            (Some slot) }
+        ensures untranslated { PutsName self.old.untranslated.held self.new.untranslated.held
+            (untranslated_name session.now) (Some slot) }
         ensures taken { AddsTo self.old.translated self.new.translated session.now slot }
         ensures room { room_of self.old ≤ room_of self.new + 1 }
     {
-        put(&mut self.flows, flow_key(session), slot);
+        put(&mut self.untranslated, untranslated_key(session), slot);
         add_translated(&mut self.translated, session, slot);
         self.hints.put_both(session, slot);
     }
@@ -90,13 +91,13 @@ impl Index {
     pub fn remove(&mut self, sessions: &Slab<Session>, session: &Session, slot: usize)
         requires indexed { IsIndexed sessions.now.slots self.old }
         requires held { slice_index_or sessions.now.slots slot None ≡ Some session.now }
-        ensures flow { PutsName self.old.flows.held self.new.flows.held
-            (flow_name session.now) None }
+        ensures untranslated { PutsName self.old.untranslated.held self.new.untranslated.held
+            (untranslated_name session.now) None }
         ensures gone { EndsIn sessions.now.slots self.old.translated self.new.translated
             session.now slot }
         ensures room { room_of self.old ≤ room_of self.new }
     {
-        take(&mut self.flows, flow_key(session));
+        take(&mut self.untranslated, untranslated_key(session));
         end_translated(&mut self.translated, sessions, session, slot);
     }
 }
@@ -108,7 +109,7 @@ fn add_translated(translated: &mut Translated, session: &Session, slot: usize)
     ensures taken { AddsTo translated.old translated.new session.now slot }
     ensures room { room_in translated.old ≤ room_in translated.new + 1 }
 {
-    if is_translated(session) {
+    if session.is_translated() {
         translated.insert(session, slot);
     }
 }
@@ -125,7 +126,7 @@ fn end_translated(
     ensures gone { EndsIn sessions.now.slots translated.old translated.new session.now slot }
     ensures room { room_in translated.old ≤ room_in translated.new }
 {
-    if is_translated(session) {
+    if session.is_translated() {
         translated.remove(sessions, session, slot);
     }
 }
@@ -206,7 +207,7 @@ fn seek_inside(
     {
         return Some(slot);
     }
-    find_flow(&index.flows, proto, inside, remote)
+    find_untranslated(&index.untranslated, proto, inside, remote)
 }
 
 /// The slot of the session of this protocol, outside and remote endpoint, if it is the one that is guessed.
@@ -265,12 +266,12 @@ fn seek_outside(
         return Some(slot);
     }
     // One that isn't translated is called the same on both sides.
-    find_flow(&index.flows, proto, outside, remote)
+    find_untranslated(&index.untranslated, proto, outside, remote)
 }
 
 // The slot of the session that isn't translated and has these endpoints. Where all are translated, as behind most
 // gateways, no key is made.
-fn find_flow(row: &Rows, proto: Proto, near: Endpoint, remote: Endpoint) -> Option<usize>
+fn find_untranslated(row: &Rows, proto: Proto, near: Endpoint, remote: Endpoint) -> Option<usize>
     ensures { result ≡ at row.now (key_number proto near remote) }
 {
     if is_empty(row) {

@@ -1,7 +1,6 @@
 //! The numbers by which sessions are found.
 ghost use Rattle.std.specs.Prelude.{◌≡◌, ◌+◌, ◌*◌, ◌<◌};
-ghost use Rattle.sessions.specs.Index.{AreEndpoints, IsEndpoint, endpoint_number, flow_name, key_number, mapping_number};
-ghost use Rattle.sessions.specs.Listing.{is_translated as translates};
+ghost use Rattle.sessions.specs.Index.{AreEndpoints, IsEndpoint, endpoint_number, key_number, mapping_number, untranslated_name};
 
 use crate::Session;
 use packet::endpoint::{Endpoint, Proto};
@@ -29,29 +28,22 @@ fn number_of(endpoint: Endpoint) -> u128
 }
 
 /// The key by which a session that isn't translated is found from both sides.
-pub fn flow_key(session: &Session) -> Option<u128>
-    ensures { result ≡ flow_name session.now }
+pub fn untranslated_key(session: &Session) -> Option<u128>
+    ensures { result ≡ untranslated_name session.now }
 {
-    if is_translated(session) {
+    if session.is_translated() {
         return None;
     }
     Some(key(session.proto, session.inside, session.remote))
 }
 
-/// Protocol and an endpoint behind one another, as a number of 56 bits.
+/// Protocol and an endpoint behind one another, as a number of 56 bits, the same as `index::mapping_key` of `mappings`.
 pub fn mapping_key(proto: Proto, near: Endpoint) -> u64
     ensures value { result ≡ mapping_number proto near }
     ensures near { IsEndpoint near }
 {
     let addr = u64::from(near.addr) * 0x1_0000;
     u64::from(proto.number()) * 0x1_0000_0000_0000 + addr + u64::from(near.port)
-}
-
-/// Whether the session is called something else outside.
-pub fn is_translated(session: &Session) -> bool
-    ensures { result ≡ translates session.now }
-{
-    session.inside != session.outside
 }
 
 /// The addresses and ports of a session are numbers of 32 and of 16 bits.

@@ -1,7 +1,7 @@
 //! Sessions, and how two of them compare.
 ghost use Rattle.std.specs.Prelude.{◌≡◌, ◌≢◌, ◌↔◌, IfSome, IfNone, IsTrue};
 ghost use Rattle.sessions.specs.Life.{opener_code};
-ghost use Rattle.sessions.specs.Listing.{key, order};
+ghost use Rattle.sessions.specs.Listing.{is_translated, key, order};
 ghost use Rattle.sessions.specs.Sound.{IsPlaced};
 ghost use Rattle.sessions.specs.Table.{Clash};
 
@@ -67,6 +67,13 @@ pub struct Session {
 }
 
 impl Session {
+    /// Whether it is called something else outside.
+    pub fn is_translated(&self) -> bool
+        ensures { result ≡ is_translated self.now }
+    {
+        self.inside != self.outside
+    }
+
     /// Whether a gateway between these bounds may hold the session: its inside endpoint is inside, its
     /// outside endpoint the same or at the external address, and no port is 0.
     pub fn is_placed(&self, bounds: &Bounds) -> bool
@@ -106,12 +113,12 @@ pub fn clash(new: &Session, held: &Session) -> bool
     if new.remote == held.remote && (same_inside || same_outside) {
         return true;
     }
-    let both_translated = new.inside != new.outside && held.inside != held.outside;
+    let both_translated = new.is_translated() && held.is_translated();
     both_translated && same_inside != same_outside
 }
 
 // What the order of sessions goes by, in turn.
-fn flow_key(session: &Session) -> [u32; 5]
+fn order_key(session: &Session) -> [u32; 5]
     ensures { result ≡ key session.now }
 {
     [
@@ -127,5 +134,5 @@ fn flow_key(session: &Session) -> [u32; 5]
 pub fn order(a: &Session, b: &Session) -> Ordering
     ensures { result ≡ order a.now b.now }
 {
-    flow_key(a).cmp(&flow_key(b))
+    order_key(a).cmp(&order_key(b))
 }

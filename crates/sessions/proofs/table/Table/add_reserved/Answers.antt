@@ -1,11 +1,11 @@
 use Rattle.std.proofs.Common.{arith}
-use Rattle.sessions.proofs.Indexed.{IsIndexed-add, lacks-flow, lacks-mapping}
+use Rattle.sessions.proofs.Indexed.{IsIndexed-add, lacks-untranslated, lacks-mapping}
 use Rattle.sessions.proofs.table.Table.add_reserved.Goals as goal
 
-pub insert-requires-clause-flow : goal.insert-requires-clause-flow
-insert-requires-clause-flow c =
+pub insert-requires-clause-untranslated : goal.insert-requires-clause-untranslated
+insert-requires-clause-untranslated c =
     let apart = rw (← c.self.view_is) at c.requires.apart in
-    lacks-flow c.self.inside.sessions.slots _ c.args.session c.self.invariant c.has_endpoints.ensures apart
+    lacks-untranslated c.self.inside.sessions.slots _ c.args.session c.self.invariant c.has_endpoints.ensures apart
 
 pub insert-requires-clause-mapping : goal.insert-requires-clause-mapping
 insert-requires-clause-mapping c =
@@ -18,4 +18,4 @@ invariant_of-self c =
     let few = rw (← c.self.view_is) at c.requires.few in
     IsIndexed-add _ _ _ _ c.insert_reserved-slot.result c.args.session c.insert_reserved-slot.ensures.updates.others
     c.self.invariant c.insert_reserved-slot.ensures.was_vacant c.insert_reserved-slot.ensures.updates.changed c.has_endpoints.ensures
-    apart (omega (arith, few, c.insert_reserved-slot.ensures.len)) c.requires.seen c.insert.ensures.flow c.insert.ensures.taken
+    apart (omega (arith, few, c.insert_reserved-slot.ensures.len)) c.requires.seen c.insert.ensures.untranslated c.insert.ensures.taken

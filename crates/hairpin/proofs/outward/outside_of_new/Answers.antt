@@ -2,7 +2,7 @@ use Rattle.std.proofs.Common.{Ok, sym, ap, ◌∙◌}
 use Rattle.sessions.specs.Listing.{listing}
 use Rattle.hairpin.specs.Legs.{outside_for}
 use Rattle.hairpin.proofs.Mapped.{mapped, not_mapped}
-use Rattle.hairpin.proofs.outward.outside_of.Goals as goal
+use Rattle.hairpin.proofs.outward.outside_of_new.Goals as goal
 
 pub returns-in-Some : goal.returns-in-Some
 returns-in-Some c = λ now.

@@ -3,7 +3,7 @@ use Rattle.sessions.specs.Listing.{listing}
 use Rattle.verdict.specs.Hooks.{prerouting_verdict}
 use Rattle.hairpin.proofs.Incoming.{inside-mapped}
 use Rattle.hairpin.proofs.Mapped.{mapped_in, not_mapped_in}
-use Rattle.hairpin.proofs.inward.inside_of.Goals as goal
+use Rattle.hairpin.proofs.inward.inside_of_new.Goals as goal
 
 pub returns-in-Some : goal.returns-in-Some
 returns-in-Some c = λ held now counts sound.
