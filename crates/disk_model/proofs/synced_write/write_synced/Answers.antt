@@ -1,7 +1,7 @@
 use Rattle.disk_model.specs.Disk.{Written, Same}
 use Rattle.disk_model.proofs.Moments.{called, follows, written_nothing, written_same}
 use Rattle.std.proofs.Common.{refl}
-use Rattle.disk_model.proofs.store.write_synced.Goals as goal
+use Rattle.disk_model.proofs.synced_write.write_synced.Goals as goal
 
 pub returns-clause-any_moment : goal.returns-clause-any_moment
 returns-clause-any_moment g c =
