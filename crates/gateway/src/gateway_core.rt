@@ -591,7 +591,7 @@ fn begin(
       held = [];
       entries = [];
       place = place;
-      granted = 0;
+      room = 0;
     }) }
 {
     // The core comes last, so that no way out of here lets one go.
