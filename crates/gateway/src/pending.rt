@@ -1,4 +1,8 @@
 //! The answers that are held, and the entries of their events.
+//!
+//! A step of the core asks for room (`reserve`) and then notes its entries (`note`), which `put` makes into the bytes of
+//! a group. `Gateway::offer` has the answer held behind them (`hold`), and a flush writes the `group` and lets all of it
+//! go (`release`).
 ghost use Rattle.std.specs.Prelude.{◌≡◌, ◌≢◌, ◌↔◌, ◌+◌, ◌*◌, ◌<◌, ◌≤◌, ◌^◌, ◌++◌, ◌∷◌, [], length, IfOk, IfSome, IfNone, OnOk, IsTrue, vec_len, vec_capacity};
 ghost use Rattle.durable.specs.Coding.{IsEntry, AreEntries, entry_bytes, body_bytes};
 ghost use Rattle.durable.specs.Viewing.{view};
