@@ -1,7 +1,7 @@
 //! Two files on a device that may stop at any moment: what a read gives, and what a crash may leave.
 //!
 //! - `disk`: the trait `Disk`, whose clauses and laws are the disk model.
-//! - `store`: a write that is synced.
+//! - `synced_write`: a write that is synced (`write_synced`).
 //! - `laws`: what follows for every disk.
 //! - `sim`: `SimDisk`, two files in memory that behave as the model says. It keeps a record of all its writes and syncs
 //!   (`record`, `call`), from which follows what a crash may leave, and fails where it is told to (`meter`).
@@ -19,8 +19,8 @@ mod place;
 mod record;
 mod replay;
 mod sim;
-mod store;
+mod synced_write;
 
 pub use disk::{Disk, DiskFault, FileId};
 pub use sim::SimDisk;
-pub use store::write_synced;
+pub use synced_write::write_synced;

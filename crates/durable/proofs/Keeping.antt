@@ -12,7 +12,7 @@ use Rattle.sessions.specs.declared.session.Opener.{Opener}
 use Rattle.sessions.specs.declared.session.Session.{Session}
 use Rattle.sessions.proofs.Sets.{In-filter, Rises-filter, below-keys}
 use Rattle.sessions.proofs.Puts.{has_inside-true}
-use Rattle.durable.specs.declared.coding.Flow.{Flow}
+use Rattle.durable.specs.declared.entry.Flow.{Flow}
 use Rattle.durable.specs.Coding.{Entry, Load, Begin, Seen, Restart, End, IsEntry, AreEntries}
 use Rattle.durable.specs.Entering.{Durable, IsDurable, is_of, changed, ended, seen_so, begun_anew, entered, Admits, Enters, Changed}
 use Rattle.durable.specs.Laws.{KeepsDurable}

@@ -10,7 +10,7 @@ use Rattle.sessions.specs.Table.{Sessions, Updates, HasInside, ClashesWith, IsSo
 use Rattle.sessions.specs.declared.session.Session.{Session}
 use Rattle.sessions.proofs.Sets.{Apart-sound, In-filter, In-insert, In-listing, Rises-filter, Rises-insert, Rises-listing, below-itself, filter-In, insert-In, listing-In, listing-is}
 use Rattle.sessions.proofs.Puts.{has_inside-true, has_inside-from, keys-from, length-insert, length-listing}
-use Rattle.durable.specs.declared.coding.Flow.{Flow}
+use Rattle.durable.specs.declared.entry.Flow.{Flow}
 use Rattle.durable.specs.Entering.{is_of, IsNamed, changed, ended}
 use Rattle.durable.specs.Recovery.{arranged_on}
 use Rattle.durable.proofs.Keeping.{Amends, In-map, map-In, Rises-map, amends-key, amends-one, changes}

@@ -10,7 +10,7 @@ use Rattle.sessions.specs.declared.session.Session.{Session}
 use Rattle.sessions.specs.declared.session.Opener.{Opener}
 use Rattle.sessions.specs.declared.session.Opener.TheVariants.{Inside, Remote}
 use Rattle.sessions.specs.Life.{most_seen, opener_code}
-use Rattle.durable.specs.declared.coding.Flow.{Flow}
+use Rattle.durable.specs.declared.entry.Flow.{Flow}
 use Rattle.durable.specs.Coding.{Entry, Load, Begin, Seen, Restart, End, endpoint_bytes, session_bytes, flow_bytes, entry_bytes, text_bytes, IsEndpoint, IsSession, IsFlow, IsEntry, Begins}
 use Rattle.durable.specs.Reading.{Reader, both, chosen, byte_at, number_at, text_at, proto_of, opener_of, proto_at, opener_at, endpoint_from, endpoint_at, SessionParts, session_from, session_at, flow_from, flow_at, seen_from, restart_from, seen_at, restart_at, tagged_at, entry_at}
 use Rattle.durable.proofs.Coded.{IsBytes, Coded, some_is, guard_some, coded-both, coded-chosen, coded-into}

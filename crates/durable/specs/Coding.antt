@@ -9,7 +9,7 @@ use Rattle.packet.specs.Numbers.{proto_number}
 use Rattle.sessions.specs.declared.session.Session.{Session}
 use Rattle.sessions.specs.declared.session.Opener.{Opener}
 use Rattle.sessions.specs.Life.{most_seen, opener_code}
-use Rattle.durable.specs.declared.coding.Flow.{Flow}
+use Rattle.durable.specs.declared.entry.Flow.{Flow}
 
 -- a text behind its length, a number of so many bytes
 abbrev pub text_bytes : ℕ → List ℕ → List ℕ

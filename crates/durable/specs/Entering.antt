@@ -8,7 +8,7 @@ use Rattle.sessions.specs.Listing.{In, has_inside, insert}
 use Rattle.sessions.specs.Sound.{AreSound}
 use Rattle.sessions.specs.declared.session.Session.{Session}
 use Rattle.sessions.specs.declared.session.Opener.{Opener}
-use Rattle.durable.specs.declared.coding.Flow.{Flow}
+use Rattle.durable.specs.declared.entry.Flow.{Flow}
 use Rattle.durable.specs.Coding.{Entry, Load, Begin, Seen, Restart, End, AreEntries, body_bytes}
 
 -- the text that was loaded last, and the sessions as a rising list, without when their last packets passed

@@ -10,7 +10,7 @@ use Rattle.sessions.specs.declared.session.Session.{Session}
 use Rattle.sessions.specs.declared.session.Opener.{Opener}
 use Rattle.sessions.specs.declared.session.Opener.TheVariants.{Inside, Remote}
 use Rattle.sessions.specs.Life.{most_seen}
-use Rattle.durable.specs.declared.coding.Flow.{Flow}
+use Rattle.durable.specs.declared.entry.Flow.{Flow}
 use Rattle.durable.specs.declared.fault.DurableFault.{DurableFault}
 use Rattle.durable.specs.declared.fault.DurableFault.TheVariants.{Damaged, NoMemory}
 use Rattle.durable.specs.Coding.{Entry, Load, Begin, Seen, Restart, End, Kept, Heading}

@@ -1,7 +1,7 @@
 -- Values without where their texts lie in memory.
 use Rattle.packet.specs.Config.{Config}
-use Rattle.durable.specs.declared.coding.Entry as declared
-use Rattle.durable.specs.declared.coding.Entry.TheVariants as variants
+use Rattle.durable.specs.declared.entry.Entry as declared
+use Rattle.durable.specs.declared.entry.Entry.TheVariants as variants
 use Rattle.durable.specs.declared.heading.StoredConfig as stored_config
 use Rattle.durable.specs.declared.heading.StoredSnapshot as stored_snapshot
 use Rattle.durable.specs.declared.heading.Stored as stored

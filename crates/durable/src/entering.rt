@@ -8,7 +8,8 @@ ghost use Rattle.durable.specs.Entering.{Durable, durable, IsNamed, changed, end
 ghost use Rattle.durable.specs.Viewing.{view};
 
 use crate::DurableFault;
-use crate::coding::{Entry, Flow, entry_of};
+use crate::decoding::entry_of;
+use crate::entry::{Entry, Flow};
 use crate::texts::check_text;
 use packet::bounds::Bounds;
 use sessions::{AddFault, Opener, Session, Table};

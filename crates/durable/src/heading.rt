@@ -5,7 +5,7 @@ ghost use Rattle.durable.specs.Reading.{Gives, Yields, items_at, prefix_at, sess
 ghost use Rattle.durable.specs.Viewing.{config_view, kept_view, heading_view};
 
 use crate::DurableFault;
-use crate::coding::read_session;
+use crate::decoding::read_session;
 use crate::fields::{byte_of, name_of, text_of, u8_of, u32_of, u64_of};
 use packet::endpoint::Prefix;
 use sessions::Session;

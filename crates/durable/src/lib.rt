@@ -1,8 +1,9 @@
 //! The durable state: the text that was loaded last, and the sessions without when their last packets passed. What
 //! changes it, how all of it stands in bytes, and what two files stand for.
 //!
-//! - `coding`: the entries that change the state; sessions and entries read from bytes.
-//! - `writing`: entries and headings of files put into bytes.
+//! - `entry`: the entries that change the state.
+//! - `encoding`: entries and headings of files put into bytes.
+//! - `decoding`: sessions and entries read from bytes.
 //! - `recovery`: the state that two files stand for, or why they stand for none.
 //! - `heading`: what stands in front of a file: generation, configuration and snapshot.
 //! - `bounds`, `texts`: whether a stored configuration is one, and whether a stored text loads under it.
@@ -13,8 +14,10 @@
 #![tactic(auto)]
 
 mod bounds;
-mod coding;
+mod decoding;
+mod encoding;
 mod entering;
+mod entry;
 mod fault;
 mod fields;
 mod groups;
@@ -22,17 +25,16 @@ mod heading;
 mod laws;
 mod recovery;
 mod texts;
-mod writing;
 
 pub use bounds::same_prefixes;
-pub use coding::{Entry, Flow};
+pub use encoding::{
+    BEGIN_LEN, END_LEN, LOAD_FRONT_LEN, RESTART_LEN, SEEN_LEN, begin_code, end_code, endpoint_fits,
+    heading_fits, load_front, put_heading, restart_code, seen_code,
+};
+pub use entry::{Entry, Flow};
 pub use fault::DurableFault;
 pub use laws::{
     coded_once, entering_laws, growing_laws, heading_once, recovers_once, recovers_sound,
     renewing_laws,
 };
 pub use recovery::{Recovered, recover};
-pub use writing::{
-    begin_code, end_code, endpoint_fits, heading_fits, load_front, put_heading, restart_code,
-    seen_code,
-};

@@ -23,7 +23,7 @@ use Rattle.hairpin.proofs.Soundness.{Joins, JoinEach, filter-all}
 use Rattle.machine.specs.Noted.{goes_on, is_same, noted, noted_all, noted_by}
 use Rattle.durable.specs.Coding.{Entry, Begin, Seen, Restart}
 use Rattle.durable.specs.Entering.{durable, Enters, is_of, flow_of, changed, seen_so, begun_anew}
-use Rattle.durable.specs.declared.coding.Flow.{Flow}
+use Rattle.durable.specs.declared.entry.Flow.{Flow}
 use Rattle.entries.proofs.Stilled.{join, named-stilled, stilled-of}
 
 -- ---- what makes one session

@@ -7,7 +7,7 @@ use Rattle.sessions.specs.Stilled.{stilled}
 use Rattle.sessions.proofs.Stilled.{filter-moved, map-In}
 use Rattle.durable.specs.Coding.{Entry}
 use Rattle.durable.specs.Entering.{Durable, Enters, entered, IsNamed, is_of, ended}
-use Rattle.durable.specs.declared.coding.Flow.{Flow}
+use Rattle.durable.specs.declared.entry.Flow.{Flow}
 
 pub stilled-of : (f : Flow) (s : Session) → is_of f (stilled s) ≡ is_of f s
 unfolding has_inside

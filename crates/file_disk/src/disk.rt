@@ -82,42 +82,42 @@ impl<F: DiskFile + Drop> Disk for FileDisk<F> {
     }
 
     fn len(&mut self, file: FileId) -> Result<u64, DiskFault>
-        ensures asked { Asks (λ old new. F.measures old new result) file self.old.files
+        ensures asked { Asks (λ old new. F.answers_length old new result) file self.old.files
             self.new.files }
         ensures called { Called 1 self.old.calls self.new.calls }
         ensures cause { HasCause self.old.failures self.new.failures result }
     {
-        let answer = self.files.length(file);
+        let answer = self.files.length_of(file);
         self.count(answer)
     }
 
     fn read_at(&mut self, file: FileId, at: u64, bytes: &mut [u8]) -> Result<(), DiskFault>
-        ensures asked { Asks (λ old new. F.reads old new at bytes.old bytes.new result) file
+        ensures asked { Asks (λ old new. F.answers_read old new at bytes.old bytes.new result) file
             self.old.files self.new.files }
         ensures called { Called 1 self.old.calls self.new.calls }
         ensures cause { HasCause self.old.failures self.new.failures result }
     {
-        let answer = self.files.fill(file, at, bytes);
+        let answer = self.files.read_from(file, at, bytes);
         self.count(answer)
     }
 
     fn write_at(&mut self, file: FileId, at: u64, bytes: &[u8]) -> Result<(), DiskFault>
-        ensures asked { Asks (λ old new. F.writes old new at bytes.now result) file self.old.files
+        ensures asked { Asks (λ old new. F.answers_write old new at bytes.now result) file self.old.files
             self.new.files }
         ensures called { Called 1 self.old.calls self.new.calls }
         ensures cause { HasCause self.old.failures self.new.failures result }
     {
-        let answer = self.files.put(file, at, bytes);
+        let answer = self.files.write_into(file, at, bytes);
         self.count(answer)
     }
 
     fn sync(&mut self, file: FileId) -> Result<(), DiskFault>
-        ensures asked { Asks (λ old new. F.syncs old new result) file self.old.files
+        ensures asked { Asks (λ old new. F.answers_sync old new result) file self.old.files
             self.new.files }
         ensures called { Called 1 self.old.calls self.new.calls }
         ensures cause { HasCause self.old.failures self.new.failures result }
     {
-        let answer = self.files.keep(file);
+        let answer = self.files.sync_one(file);
         self.count(answer)
     }
 }

@@ -15,16 +15,16 @@ use std::os::unix::fs::FileExt;
 /// was made.
 pub trait DiskFile {
     /// The length was asked for and answered so.
-    ghost measures: { Self → Self → Result ℕ Fault → Type 0 };
+    ghost answers_length: { Self → Self → Result ℕ Fault → Type 0 };
 
     /// A read at this place into these bytes left those, and was answered so.
-    ghost reads: { Self → Self → ℕ → List ℕ → List ℕ → Result (Unit {0}) Fault → Type 0 };
+    ghost answers_read: { Self → Self → ℕ → List ℕ → List ℕ → Result (Unit {0}) Fault → Type 0 };
 
     /// A write of these bytes at this place was answered so.
-    ghost writes: { Self → Self → ℕ → List ℕ → Result (Unit {0}) Fault → Type 0 };
+    ghost answers_write: { Self → Self → ℕ → List ℕ → Result (Unit {0}) Fault → Type 0 };
 
     /// A sync was answered so.
-    ghost syncs: { Self → Self → Result (Unit {0}) Fault → Type 0 };
+    ghost answers_sync: { Self → Self → Result (Unit {0}) Fault → Type 0 };
 
     /// The length.
     ///
@@ -32,31 +32,31 @@ pub trait DiskFile {
     ///
     /// `DiskFault` where the call fails.
     fn length(&mut self) -> Result<u64, DiskFault>
-        ensures { measures self.old self.new result };
+        ensures { answers_length self.old self.new result };
 
     /// Fills `bytes` from a place.
     ///
     /// # Errors
     ///
     /// `DiskFault` where the call fails, or the file ends before they are full. They may hold anything then.
-    fn fill(&mut self, at: u64, bytes: &mut [u8]) -> Result<(), DiskFault>
-        ensures { reads self.old self.new at bytes.old bytes.new result };
+    fn read_fully(&mut self, at: u64, bytes: &mut [u8]) -> Result<(), DiskFault>
+        ensures { answers_read self.old self.new at bytes.old bytes.new result };
 
     /// Puts all of the bytes at a place.
     ///
     /// # Errors
     ///
     /// `DiskFault` where the call fails. Some of the bytes may have been put.
-    fn put(&mut self, at: u64, bytes: &[u8]) -> Result<(), DiskFault>
-        ensures { writes self.old self.new at bytes.now result };
+    fn write_fully(&mut self, at: u64, bytes: &[u8]) -> Result<(), DiskFault>
+        ensures { answers_write self.old self.new at bytes.now result };
 
     /// Has the device keep the bytes and the length.
     ///
     /// # Errors
     ///
     /// `DiskFault` where the call fails.
-    fn keep(&mut self) -> Result<(), DiskFault>
-        ensures { syncs self.old self.new result };
+    fn sync_file(&mut self) -> Result<(), DiskFault>
+        ensures { answers_sync self.old self.new result };
 }
 
 fn told<T: Drop>(answer: io::Result<T>) -> Result<T, DiskFault>
@@ -72,27 +72,27 @@ fn told<T: Drop>(answer: io::Result<T>) -> Result<T, DiskFault>
 // fdatasync: by POSIX it has the device keep the bytes and what is needed to read them back, so a new length too, and
 // leaves out the times of the file, which would cost a second write.
 impl DiskFile for File {
-    ghost measures = { λ _ _ _. Unit {0} };
+    ghost answers_length = { λ _ _ _. Unit {0} };
 
-    ghost reads = { λ _ _ _ _ _ _. Unit {0} };
+    ghost answers_read = { λ _ _ _ _ _ _. Unit {0} };
 
-    ghost writes = { λ _ _ _ _ _. Unit {0} };
+    ghost answers_write = { λ _ _ _ _ _. Unit {0} };
 
-    ghost syncs = { λ _ _ _. Unit {0} };
+    ghost answers_sync = { λ _ _ _. Unit {0} };
 
     fn length(&mut self) -> Result<u64, DiskFault> {
         told(self.metadata().map(|data| data.len()))
     }
 
-    fn fill(&mut self, at: u64, bytes: &mut [u8]) -> Result<(), DiskFault> {
+    fn read_fully(&mut self, at: u64, bytes: &mut [u8]) -> Result<(), DiskFault> {
         told(self.read_exact_at(bytes, at))
     }
 
-    fn put(&mut self, at: u64, bytes: &[u8]) -> Result<(), DiskFault> {
+    fn write_fully(&mut self, at: u64, bytes: &[u8]) -> Result<(), DiskFault> {
         told(self.write_all_at(bytes, at))
     }
 
-    fn keep(&mut self) -> Result<(), DiskFault> {
+    fn sync_file(&mut self) -> Result<(), DiskFault> {
         told(self.sync_data())
     }
 }

@@ -5,6 +5,11 @@
 //! - `disk`: `FileDisk`, which counts the calls and those of them that fail.
 //! - `opening`: a directory's files are opened, made where they are missing, and locked.
 //!
+//! A call of the disk has a name in each of the first three: `FileDisk` counts a `write_at`, `Pair` does it as
+//! `write_into` one of the files, and `DiskFile` as `write_fully`, all of the bytes or a failure; so too `read_at`,
+//! `read_from` and `read_fully`, and `sync`, `sync_one` and `sync_file`. In clauses `answers_write` says that this very
+//! call of the file was made and answered so.
+//!
 //! Nothing is promised of what the system's files keep: the honest disk of the model is a claim that no proof about a
 //! system's calls can make. What is proved is that each call asks the right file, once, for what the caller asked, and
 //! gives what the file answered.

@@ -30,8 +30,8 @@ impl<F: DiskFile + Drop> Pair<F> {
     }
 
     /// The length of one.
-    pub(crate) fn length(&mut self, file: FileId) -> Result<u64, DiskFault>
-        ensures { Asks (λ old new. F.measures old new result) file self.old self.new }
+    pub(crate) fn length_of(&mut self, file: FileId) -> Result<u64, DiskFault>
+        ensures { Asks (λ old new. F.answers_length old new result) file self.old self.new }
     {
         match file {
             FileId::A => self.a.length(),
@@ -40,33 +40,43 @@ impl<F: DiskFile + Drop> Pair<F> {
     }
 
     /// Fills `bytes` from one.
-    pub(crate) fn fill(&mut self, file: FileId, at: u64, bytes: &mut [u8]) -> Result<(), DiskFault>
-        ensures { Asks (λ old new. F.reads old new at bytes.old bytes.new result) file
+    pub(crate) fn read_from(
+        &mut self,
+        file: FileId,
+        at: u64,
+        bytes: &mut [u8],
+    ) -> Result<(), DiskFault>
+        ensures { Asks (λ old new. F.answers_read old new at bytes.old bytes.new result) file
             self.old self.new }
     {
         match file {
-            FileId::A => self.a.fill(at, bytes),
-            FileId::B => self.b.fill(at, bytes),
+            FileId::A => self.a.read_fully(at, bytes),
+            FileId::B => self.b.read_fully(at, bytes),
         }
     }
 
     /// Puts bytes into one.
-    pub(crate) fn put(&mut self, file: FileId, at: u64, bytes: &[u8]) -> Result<(), DiskFault>
-        ensures { Asks (λ old new. F.writes old new at bytes.now result) file self.old self.new }
+    pub(crate) fn write_into(
+        &mut self,
+        file: FileId,
+        at: u64,
+        bytes: &[u8],
+    ) -> Result<(), DiskFault>
+        ensures { Asks (λ old new. F.answers_write old new at bytes.now result) file self.old self.new }
     {
         match file {
-            FileId::A => self.a.put(at, bytes),
-            FileId::B => self.b.put(at, bytes),
+            FileId::A => self.a.write_fully(at, bytes),
+            FileId::B => self.b.write_fully(at, bytes),
         }
     }
 
     /// Syncs one.
-    pub(crate) fn keep(&mut self, file: FileId) -> Result<(), DiskFault>
-        ensures { Asks (λ old new. F.syncs old new result) file self.old self.new }
+    pub(crate) fn sync_one(&mut self, file: FileId) -> Result<(), DiskFault>
+        ensures { Asks (λ old new. F.answers_sync old new result) file self.old self.new }
     {
         match file {
-            FileId::A => self.a.keep(),
-            FileId::B => self.b.keep(),
+            FileId::A => self.a.sync_file(),
+            FileId::B => self.b.sync_file(),
         }
     }
 }

@@ -7,7 +7,7 @@ use Rattle.durable.specs.Reading.{entry_at}
 use Rattle.durable.proofs.Values.{coded-entry}
 use Rattle.durable.proofs.Bodies.{length-entry}
 use Rattle.machine.specs.declared.event.Answer.{Answer}
-use Rattle.gateway.specs.Waiting.{entries_at, entries_in, behind_it, IsPending}
+use Rattle.gateway.specs.HeldAnswers.{entries_at, entries_in, behind_it, IsPending}
 
 pub length-entries : (es : List Entry) → length es ≤ length (body_bytes es)
 length-entries [] = omega arith
@@ -53,27 +53,27 @@ pub more_coded : (es : List Entry) (e : Entry) → AreEntries es → IsEntry e �
 more_coded [] e are is = (is, tt)
 more_coded (f ∷ es) e are is = (are.0, more_coded es e are.1 is)
 
--- one entry more stands behind the others, in the room that was granted
-pub one_more : (body new : List ℕ) (room new_room capacity : ℕ) (held : List (ℕ × Answer)) (place granted left : ℕ) (e : Entry) → IsPending body room capacity held place granted
-    → IsEntry e → length (entry_bytes e) ≤ granted → new ≡ body ++ entry_bytes e → room ≤ new_room + length (entry_bytes e) → left + length new ≡ granted + length body
-    → IsPending new new_room capacity held place left
-one_more body new room new_room capacity held place granted left e was is le put less rest =
+-- one entry more stands behind the others, in the room that there is for entries
+pub one_more : (body new : List ℕ) (spare new_spare capacity : ℕ) (held : List (ℕ × Answer)) (place room left : ℕ) (e : Entry) → IsPending body spare capacity held place room
+    → IsEntry e → length (entry_bytes e) ≤ room → new ≡ body ++ entry_bytes e → spare ≤ new_spare + length (entry_bytes e) → left + length new ≡ room + length body
+    → IsPending new new_spare capacity held place left
+one_more body new spare new_spare capacity held place room left e was is le put less rest =
     let more = length-entry e in
     let long = ap length put ∙ length-append body (entry_bytes e) in
     record {
       entries = was.entries ++ e ∷ [];
       coded = more_coded was.entries e was.coded is;
       are = put ∙ ap (λ (l : List ℕ). l ++ entry_bytes e) was.are ∙ sym (more_bytes was.entries e);
-      has_room = let room_was = was.has_room in omega (arith, room_was, less, rest, long);
+      has_room = let spare_was = was.has_room in omega (arith, spare_was, less, rest, long);
       has_slots = λ used. was.has_slots (inl (omega (arith, le, more)));
       fits = λ some. let fit = was.fits (omega (arith, le, more)) in omega (arith, fit, rest);
       few = was.few;
       needed = λ _ none. let is_none = ap length none in omega (arith, is_none, long, more);
     }
 
-pub one_more_noted : (body new : List ℕ) (room capacity : ℕ) (held : List (ℕ × Answer)) (place granted : ℕ) (e : Entry) → IsPending body room capacity held place granted → IsEntry e
+pub one_more_noted : (body new : List ℕ) (spare capacity : ℕ) (held : List (ℕ × Answer)) (place room : ℕ) (e : Entry) → IsPending body spare capacity held place room → IsEntry e
     → new ≡ body ++ entry_bytes e → entries_in new ≡ entries_in body ++ e ∷ []
-one_more_noted body new room capacity held place granted e was is put =
+one_more_noted body new spare capacity held place room e was is put =
     entries_of new (was.entries ++ e ∷ []) (more_coded was.entries e was.coded is) (put ∙ ap (λ (l : List ℕ). l ++ entry_bytes e) was.are ∙ sym (more_bytes was.entries e))
     ∙ ap (λ (l : List Entry). l ++ e ∷ []) (sym (entries_of body was.entries was.coded was.are))
 

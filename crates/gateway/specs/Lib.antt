@@ -1,7 +1,7 @@
 -- What an event that is taken does, and many in turn.
 pub mod Told
--- The answers that wait, and their entries.
-pub mod Waiting
+-- The answers that are held, and the entries of their events.
+pub mod HeldAnswers
 -- What contracts see of a gateway.
 pub mod Kept
 -- What the two files stand for between calls.

@@ -1,5 +1,12 @@
 //! `Gateway`: a `Core`, which has all the state and does the steps (crate `machine`), a `Store`, which keeps in two
-//! files what must survive of it (crate `snapshot`), and the answers that are held between them.
+//! files what must survive of it (crate `snapshot`), and the answers that are held between them (`Pending`).
+//!
+//! - `open`: `Store::open` reads the files, and `begin` has a core begin again from what they stood for.
+//! - `offer`: `Core::step_noted` does the step and has `Pending` note its entries; `give` answers at once, or holds.
+//! - `forward`: `Core::forward` translates a packet where it lies, if nothing has to be held or noted.
+//! - `flush`: `Store::commit` syncs the group of `Pending`, and `Pending::release` hands out what was held.
+//! - `compact`: `Store::compact` makes a file of what must survive (`lasting_sessions`), with no groups.
+//! - `run`: `running::take_all` does these calls for a list of events.
 ghost use Rattle.std.specs.Prelude.{◌≡◌, ◌≢◌, ◌↔◌, ◌⊎◌, ◌+◌, ◌-◌, ◌^◌, ◌<◌, ◌≤◌, ◌++◌, ◌∷◌, [], ℕ, List, IfOk, IfErr, IfNone, IfSome, OnOk, OnErr, OnSome, IsOk, IsErrOf, MatchResult, IsTrue, length, map, true, false};
 ghost use Rattle.packet.specs.Config.{is_config};
 ghost use Rattle.disk_model.specs.Disk.{Leaves, LeavesNow, LeavesOnly, Looks, Called, Grew};
@@ -591,7 +598,7 @@ fn begin(
       held = [];
       entries = [];
       place = place;
-      granted = 0;
+      room = 0;
     }) }
 {
     // The core comes last, so that no way out of here lets one go.

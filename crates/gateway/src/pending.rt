@@ -1,9 +1,13 @@
 //! The answers that are held, and the entries of their events.
+//!
+//! A step of the core asks for room (`reserve`) and then notes its entries (`note`), which `put` makes into the bytes of
+//! a group. `Gateway::offer` has the answer held behind them (`hold`), and a flush writes the `group` and lets all of it
+//! go (`release`).
 ghost use Rattle.std.specs.Prelude.{◌≡◌, ◌≢◌, ◌↔◌, ◌+◌, ◌*◌, ◌<◌, ◌≤◌, ◌^◌, ◌++◌, ◌∷◌, [], length, IfOk, IfSome, IfNone, OnOk, IsTrue, vec_len, vec_capacity};
 ghost use Rattle.durable.specs.Coding.{IsEntry, AreEntries, entry_bytes, body_bytes};
 ghost use Rattle.durable.specs.Viewing.{view};
 
-use durable::{Entry, begin_code, end_code, load_front, restart_code, seen_code};
+use durable::{END_LEN, Entry, begin_code, end_code, load_front, restart_code, seen_code};
 use journal::{Group, LIMIT};
 use machine::{Answer, Notes, StepFault};
 use std::alloc::{AllocError, Global};
@@ -12,6 +16,9 @@ use std::marker::Model;
 /// The most answers that are held.
 pub(crate) const MOST_HELD: usize = 64;
 
+/// The bytes around the entries of a group: its gate and its length before them, and a closed gate behind.
+const AROUND: u64 = 6;
+
 /// The answers that are held, and a group with the entries of their events, which will stand at a place of a file.
 #[derive(Drop)]
 pub(crate) struct Pending {
@@ -19,24 +26,25 @@ pub(crate) struct Pending {
     held: Vec<(u64, Answer)>,
     group: Group,
     place: u64,
-    granted: u64,
+    /// How many more bytes of entries find room.
+    room: u64,
 }
 
 impl Model for Pending {
     ghost use Rattle.std.specs.Prelude.{vec_capacity};
-    ghost use Rattle.gateway.specs.Waiting.{Waiting, IsPending, entries_in};
+    ghost use Rattle.gateway.specs.HeldAnswers.{HeldAnswers, IsPending, entries_in};
 
-    ghost Value = { Waiting };
+    ghost Value = { HeldAnswers };
 
     ghost view = { λ p. record {
       held = p.held.items;
       entries = entries_in p.group.body;
       place = p.place;
-      granted = p.granted;
+      room = p.room;
     } };
 
     ghost invariant = { λ p. IsPending p.group.body p.group.room (vec_capacity p.held) p.held.items
-        p.place p.granted };
+        p.place p.room };
 }
 
 impl Pending {
@@ -50,7 +58,7 @@ impl Pending {
           held = [];
           entries = [];
           place = place;
-          granted = 0;
+          room = 0;
         }) }
     {
         let group = Group::new(alloc)?;
@@ -59,7 +67,7 @@ impl Pending {
             held: Vec::new(alloc),
             group,
             place,
-            granted: 0,
+            room: 0,
         })
     }
 
@@ -103,9 +111,9 @@ impl Pending {
     /// Gives the answers, and lets the entries go; the next group will stand at the place. It takes no memory.
     pub(crate) fn release(&mut self, place: u64) -> Vec<(u64, Answer)>
         ensures answers { result.items ≡ self.old.held }
-        ensures none { self.new ≡ record { held = []; entries = []; place = place; granted = 0 } }
+        ensures none { self.new ≡ record { held = []; entries = []; place = place; room = 0 } }
     {
-        self.granted = 0;
+        self.room = 0;
         self.place = place;
         self.group.clear();
         std::mem::replace(&mut self.held, Vec::new(self.alloc))
@@ -122,7 +130,7 @@ impl Notes for Pending {
 
     ghost beside = { λ p. record { place = p.place; held = p.held } };
 
-    ghost room = { λ p. p.granted };
+    ghost room = { λ p. p.room };
 
     ghost grants = { λ _. ⊥ };
 
@@ -135,14 +143,14 @@ impl Notes for Pending {
         if make_slots(&mut self.held).is_err() || self.group.reserve(bytes as usize).is_err() {
             return Err(StepFault::NoMemory);
         }
-        self.granted = bytes;
+        self.room = bytes;
         Ok(())
     }
 
     fn note(&mut self, entry: Entry<'_>) {
         let before = self.group.len();
         put(&mut self.group, entry);
-        self.granted -= (self.group.len() - before) as u64;
+        self.room -= (self.group.len() - before) as u64;
     }
 }
 
@@ -156,8 +164,8 @@ fn room_for(place: u64, waiting: u64, ends: u64, others: u64) -> Option<u64>
     if place > LIMIT || waiting > LIMIT || ends > LIMIT || others > LIMIT {
         return None;
     }
-    let bytes = 14 * ends + others;
-    if place + waiting + bytes + 6 > LIMIT {
+    let bytes = END_LEN as u64 * ends + others;
+    if place + waiting + bytes + AROUND > LIMIT {
         return None;
     }
     Some(bytes)

@@ -2,10 +2,12 @@
 //! said of any run that stood before it: how far that run is, and what a crash may leave of it.
 //!
 //! - `stands`: a run of no event
-//! - `take`: one more event; `take_all`: several, and a flush behind them
-//! - `forward`: one more, if it is a packet whose session goes on, which is translated where it lies
-//! - `hand_out`: what is held is synced and handed out
-//! - `compact`: what is held is handed out, and the files are made short
+//! - `take`: one more event. Where 64 answers are held `hold_fewer` hands them out first; then `offer` calls
+//!   `Gateway::offer`, and where that refuses the event as Full, `take_behind_compaction` compacts and offers it again
+//! - `take_all`: several, and a flush behind them (`hand_out`)
+//! - `forward`: one more, if it is a packet whose session goes on, which `Gateway::forward` translates where it lies
+//! - `hand_out`: what is held is synced and handed out (`Gateway::flush`)
+//! - `compact`: what is held is handed out, and the files are made short (`Gateway::compact`)
 ghost use Rattle.std.specs.Prelude.{◌≡◌, ◌≢◌, ◌↔◌, ◌+◌, ◌<◌, ◌≤◌, ◌++◌, ◌∷◌, [], ℕ, List, false, length};
 ghost use Rattle.std.specs.Prelude.{IfErr, IfNone, IfSome, IsTrue, OnErr, OnOk, vec_capacity, vec_len};
 ghost use Rattle.machine.specs.declared.event.Answer.{Answer as Answered};

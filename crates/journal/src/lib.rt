@@ -1,9 +1,10 @@
 //! Groups of entries in a file, each whole on the disk before it counts.
 //!
-//! A file has groups one behind the other. A group is its gate (one byte, open at 01 and closed at any other value),
-//! the length of its body (4 bytes, big-endian) and its body; behind the last open group stands a closed gate. A group
-//! is written behind the closed gate and synced before its gate is opened, so that a crash leaves it whole or not at
-//! all.
+//! A file is one of the two of a disk (`disk_model`): bytes that mean nothing here, and from some place on groups, one
+//! right behind the other. A group is the entries that a crash keeps or loses together, as its gate (one byte, open at
+//! 01 and closed at any other value), the length of its body (4 bytes, big-endian) and its body, the bytes of these
+//! entries; behind the last open group stands a closed gate. A group is written behind the closed gate and synced
+//! before its gate is opened, so that a crash leaves it whole or not at all.
 //!
 //! - `group`: the buffer in which a group's body grows.
 //! - `appending`: a group is put behind the others.

@@ -6,7 +6,7 @@ use Rattle.sessions.specs.declared.session.Session.{Session}
 use Rattle.sessions.specs.Listing.{put}
 use Rattle.sessions.specs.Stilled.{stilled}
 use Rattle.durable.specs.Entering.{flow_of}
-use Rattle.durable.specs.declared.coding.Flow.{Flow}
+use Rattle.durable.specs.declared.entry.Flow.{Flow}
 use Rattle.durable.specs.Coding.{Entry, Begin, End, Restart, Seen, Load, endpoint_bytes, entry_bytes, flow_bytes, session_bytes}
 use Rattle.machine.specs.Noted.{ends, sessions_at, with_it, goes_on, is_same, noted, noted_all, noted_by}
 use Rattle.machine.specs.Notes.{bytes_of}

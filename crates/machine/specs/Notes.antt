@@ -1,6 +1,6 @@
 -- The room that the entries of an event take.
 use Rattle.std.specs.Prelude.{ℕ, ◌+◌, List, [], ◌∷◌, length, Option, Some, None}
-use Rattle.durable.specs.declared.coding.Entry as declared
+use Rattle.durable.specs.declared.entry.Entry as declared
 use Rattle.durable.specs.Coding.{Entry, entry_bytes}
 use Rattle.durable.specs.Viewing.{view}
 use Rattle.machine.specs.declared.deed.Deed.{Deed}

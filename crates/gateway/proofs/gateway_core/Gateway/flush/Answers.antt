@@ -6,7 +6,7 @@ use Rattle.durable.specs.Coding.{Entry, body_bytes}
 use Rattle.durable.specs.Recovery.{IsConfigured}
 use Rattle.machine.specs.Noted.{lasting}
 use Rattle.gateway.specs.Kept.{IsStanding}
-use Rattle.gateway.specs.Waiting.{Waiting}
+use Rattle.gateway.specs.HeldAnswers.{HeldAnswers}
 use Rattle.gateway.proofs.Resting.{nothing_waits, stands_for, body_leads, idle_either, leaves_as}
 use Rattle.gateway.proofs.gateway_core.Gateway.flush.Goals as goal
 
@@ -40,10 +40,10 @@ returns-then-is_quiet-clause-reads g c = rw (← c.self.view_is) (λ honest.
 
 pub invariant_of-self : goal.invariant_of-self
 invariant_of-self g c =
-    let none = ap (λ (w : Waiting). w.entries) c.release.ensures.none in (
+    let none = ap (λ (h : HeldAnswers). h.entries) c.release.ensures.none in (
       c.commit.ensures.config ∙ c.self.invariant.0,
       λ held. none,
-      λ stands. ap (λ (w : Waiting). w.place) c.release.ensures.none ∙ c.end.ensures,
+      λ stands. ap (λ (h : HeldAnswers). h.place) c.release.ensures.none ∙ c.end.ensures,
       λ stands after.
           let honest = c.commit.ensures.honest.1 after in
           let is = c.self.invariant.3 (sym c.if-has_fallen.ensures.value) honest in
@@ -90,6 +90,6 @@ returns-in-Ok-clause-filled g c = rw (← c.self.view_is) (λ honest held.
     let place = c.self.invariant.2 (sym c.if-has_fallen.ensures.value) in
     let body = ap length c.group.ensures.body in
     let end = c.in-Ok.ensures.end honest in
-    let next = ap (λ (w : Waiting). w.place) c.release.ensures.none ∙ c.end.ensures in
-    let empty = ap (λ (w : Waiting). length (body_bytes w.entries)) c.release.ensures.none in
+    let next = ap (λ (h : HeldAnswers). h.place) c.release.ensures.none ∙ c.end.ensures in
+    let empty = ap (λ (h : HeldAnswers). length (body_bytes h.entries)) c.release.ensures.none in
     omega (arith, place, body, end, next, empty))

@@ -2,7 +2,7 @@ use Rattle.std.proofs.Common.{◌∙◌, List, sym, subst, ap}
 use Rattle.sessions.specs.declared.session.Session.{Session}
 use Rattle.durable.specs.Entering.{IsDurable, durable}
 use Rattle.machine.specs.Noted.{IsRestarted}
-use Rattle.gateway.specs.Waiting.{Waiting}
+use Rattle.gateway.specs.HeldAnswers.{HeldAnswers}
 use Rattle.gateway.proofs.Resting.{begun}
 use Rattle.gateway.proofs.gateway_core.Gateway.open.Goals as goal
 
@@ -14,10 +14,10 @@ pub invariant_of-result : goal.invariant_of-result
 invariant_of-result g c =
     let text = c.in-Ok.field-0.text.items in
     let restarted = subst (λ (ss : List Session). IsRestarted c.args.bounds (durable text ss) c.args.moment c.in-Ok-begin.core.state) c.as_slice.ensures.value c.in-Ok-begin.ensures.state in
-    let none = ap (λ (w : Waiting). w.entries) c.in-Ok-begin.ensures.pending in (
+    let none = ap (λ (h : HeldAnswers). h.entries) c.in-Ok-begin.ensures.pending in (
       c.in-Ok.ensures.config ∙ sym c.in-Ok-begin.ensures.config,
       λ held. none,
-      λ stands. ap (λ (w : Waiting). w.place) c.in-Ok-begin.ensures.pending ∙ c.end.ensures,
+      λ stands. ap (λ (h : HeldAnswers). h.place) c.in-Ok-begin.ensures.pending ∙ c.end.ensures,
       λ stands honest. begun c.args.bounds c.in-Ok-begin.core.config (g.D.Disk.seen c.in-Ok.field-0.store.disk) c.in-Ok-begin.pending.entries
           (durable text c.in-Ok.field-0.sessions.items) c.args.moment c.in-Ok-begin.core.state none c.in-Ok-begin.ensures.config c.in-Ok.ensures.sound restarted
           (c.in-Ok.ensures.ok (c.in-Ok.ensures.honest.1 honest)).1.reads,

@@ -1,4 +1,0 @@
-use Rattle.durable.proofs.writing.seen_code.Goals as goal
-
-pub returns-clause-fits : goal.returns-clause-fits
-returns-clause-fits c = λ bits. (c.flow_code.ensures.fits, bits)

@@ -1,0 +1,41 @@
+-- The answers that are held, and the entries of their events.
+use Rattle.std.specs.Prelude.{◌≡◌, ◌≢◌, ◌⊎◌, ◌<◌, ◌≤◌, ◌+◌, ℕ, zero, suc, List, [], ◌∷◌, length, Option, Some, None}
+use Rattle.machine.specs.declared.event.Answer.{Answer}
+use Rattle.durable.specs.Coding.{Entry, AreEntries, body_bytes}
+use Rattle.durable.specs.Reading.{entry_at}
+
+-- what is held, the entries of the events that are held, the place in the file where their group will stand, and how
+-- many more bytes of entries find room
+pub record HeldAnswers : Type 0 where
+  pub held : List (ℕ × Answer)
+  pub entries : List Entry
+  pub place : ℕ
+  pub room : ℕ
+
+-- the entries that a body has
+abbrev pub behind_it : (List ℕ → List Entry) → Option (Entry × List ℕ) → List Entry
+behind_it more None = []
+behind_it more (Some read) = read.0 ∷ more read.1
+
+abbrev pub entries_at : ℕ → List ℕ → List Entry
+entries_at zero bytes = []
+entries_at (suc n) bytes = behind_it (entries_at n) (entry_at bytes)
+
+abbrev pub entries_in : List ℕ → List Entry
+entries_in body = entries_at (length body) body
+
+-- some entry stands, or there is room for some, or some answer is held
+abbrev pub IsUsed : List ℕ → ℕ → List (ℕ × Answer) → Type 0
+IsUsed body room held = (0 < length body + room) ⊎ (held ≢ [])
+
+-- what they always keep: the buffer can spare the room for entries, 64 answers have a slot, and the group fits its file
+pub record IsPending (body : List ℕ) (spare capacity : ℕ) (held : List (ℕ × Answer))
+    (place room : ℕ) : Type 0 where
+  pub entries : List Entry
+  pub coded : AreEntries entries
+  pub are : body ≡ body_bytes entries
+  pub has_room : room ≤ spare
+  pub has_slots : IsUsed body room held → 64 ≤ capacity
+  pub fits : 0 < length body + room → place + length body + room + 6 ≤ 67108864
+  pub few : length held ≤ 64
+  pub needed : held ≢ [] → body ≢ []
