@@ -17,7 +17,7 @@ use Rattle.sessions.specs.Laws.{IsMapping}
 use Rattle.sessions.specs.Listing.{In, breaks_mapping, clashes, find, has_inside, has_outside, listing, put, same_flow}
 use Rattle.sessions.specs.Table.{AnyClash, Clash as Clashing}
 use Rattle.sessions.specs.declared.session.Change.{Change}
-use Rattle.sessions.specs.declared.session.Change.TheVariants.{Begin, Seen, Restart, End}
+use Rattle.sessions.specs.declared.session.Change.TheVariants.{Begin, Seen, Restart}
 use Rattle.sessions.specs.declared.session.Opener.TheVariants.{Inside, Remote}
 use Rattle.sessions.specs.declared.session.Session.{Session}
 use Rattle.sessions.proofs.Clashing.{breaks-from, breaks-parts, differ, same_endpoint-from}
@@ -160,7 +160,6 @@ not_of external held now (Seen of bits) first gives slot s at away is =
 not_of external held now (Restart of opener) first gives slot s at away is =
     let same : gives.0 ≡ s = same_Some gives.0 s (sym gives.1 ∙ subst (λ k. get_or held k None ≡ Some s) (sym is) at) in
     away (sym (ap (λ (u : Session). u.outside) same) ∙ sym (ap (λ (u : Session). u.outside) gives.2))
-not_of external held now (End of) first gives slot s at away is = gives
 
 -- a change of a session that is held, and of one that begins
 abbrev pub GivesHeld : Change → (Session → ℕ → Session) → Held → Type 0

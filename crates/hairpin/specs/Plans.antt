@@ -5,7 +5,7 @@ use Rattle.sessions.specs.Life.{IsSeen}
 use Rattle.sessions.specs.Listing.{listing, put}
 use Rattle.sessions.specs.Table.{AnyClash, most_sessions, restarted, seen}
 use Rattle.sessions.specs.declared.session.Change.{Change}
-use Rattle.sessions.specs.declared.session.Change.TheVariants.{Begin, Seen, Restart, End}
+use Rattle.sessions.specs.declared.session.Change.TheVariants.{Begin, Seen, Restart}
 use Rattle.sessions.specs.declared.session.Session.{Session}
 use Rattle.hairpin.specs.Legs.{Passage}
 use Rattle.hairpin.specs.declared.cause.Cause.{Cause}
@@ -26,7 +26,6 @@ abbrev pub IsOf : Change → ℕ → Type 0
 IsOf (Begin s) slot = ⊥
 IsOf (Seen of bits) slot = of ≡ slot
 IsOf (Restart of opener) slot = of ≡ slot
-IsOf (End of) slot = of ≡ slot
 
 -- the change has put the session in, and every other slot holds what it held
 pub record Became (held : List (Option Session)) (change : Change) (t : Session)
@@ -43,7 +42,6 @@ module _ (external : ℕ) (held : List (Option Session)) (now : ℕ) where
       × IsSeen s.proto bits × (t ≡ seen s bits now)
   Gives (Restart slot opener) t = (s : Session) × (slice_index_or held slot None ≡ Some s)
       × (t ≡ restarted s opener now)
-  Gives (End slot) t = ⊥
 
 -- once the first change is made, the second gives this session
 abbrev pub GivesThen : ℕ → List (Option Session) → ℕ → Change → Session → Change → Session → Type 0

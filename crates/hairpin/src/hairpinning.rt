@@ -5,7 +5,7 @@ ghost use Rattle.packet.specs.Config.{Config, is_inside};
 ghost use Rattle.mappings.specs.declared.map.Pair.{Pair as Mapping};
 ghost use Rattle.mappings.specs.Map.{times};
 ghost use Rattle.rulesyntax.specs.declared.tree.Spelled.{Spelled};
-ghost use Rattle.sessions.specs.Listing.{In, breaks_mapping as are_breaking, find, has_inside, has_outside, listing, put, same_flow};
+ghost use Rattle.sessions.specs.Listing.{In, find, has_inside, has_outside, listing, put, same_flow};
 ghost use Rattle.sessions.specs.Table.{at, count};
 ghost use Rattle.sessions.specs.declared.session.Session.{Session as Flow};
 ghost use Rattle.verdict.specs.Hooks.{forward_verdict};
@@ -25,7 +25,7 @@ use crate::translations::Translations;
 use packet::bounds::Bounds;
 use packet::endpoint::{Endpoint, Flags, Iface};
 use packet::view::View;
-use sessions::{Change, MOST_SESSIONS, Opener, Session, Table};
+use sessions::{Change, MOST_SESSIONS, Opener, Session, Table, breaks_mapping};
 use verdict::{Destination, Forwarding, Rules, State, forward, prerouting};
 
 /// How a packet passes from an inside endpoint (its source) to an outside endpoint of the gateway (its
@@ -75,7 +75,8 @@ struct Leg {
     before: Option<Held>,
 }
 
-// The session once a packet of it from this side has passed.
+// The session once a packet of it from this side has passed. A leg asks only its endpoints, which stay; the rest is what
+// `both` says of it.
 fn passed(session: &Session, sender: Opener, flags: Flags, now: u64) -> Session
     ensures { result ≡ passed_by session.now sender flags now }
 {
@@ -216,16 +217,6 @@ fn inside_far(
         Destination::To(inside) => Ok(inside),
         Destination::Drop => Err(Cause::Rule),
     }
-}
-
-#[tactic(auto, unfolding(sessions::specs::Listing::breaks_mapping))]
-fn breaks_mapping(new: &Session, held: &Session) -> bool
-    ensures { result ≡ are_breaking new.now held.now }
-{
-    let both_translated = new.inside != new.outside && held.inside != held.outside;
-    let same_inside = new.inside == held.inside;
-    let same_outside = new.outside == held.outside;
-    both_translated && new.proto == held.proto && same_inside != same_outside
 }
 
 // The second session begins, if it clashes neither with the first nor with one that is held. With the

@@ -64,7 +64,7 @@ fn known_out(bounds: &Bounds, rules: &Rules, found: &Held, view: &View) -> Resul
     let state = state_of(&found.session, Opener::Inside, view.flags);
     match forward(rules, bounds, &facts_out(view, state)) {
         Forwarding::Drop => Err(Cause::Rule),
-        Forwarding::Pass => Ok(plan_of(found, view.flags)),
+        Forwarding::Pass => Ok(plan_by(found, view.flags)),
     }
 }
 
@@ -165,6 +165,7 @@ fn outside_by_rules(
     match postrouting(rules, bounds, &facts_out(view, State::New)) {
         Source::Drop => Err(Cause::Rule),
         Source::None => Ok(view.src),
+        // Of rules that have loaded it is the external address.
         Source::From(_) => match translations.choose(view.proto, view.src.port) {
             Some(outside) => Ok(outside),
             None => Err(Cause::NoPort),
@@ -187,7 +188,7 @@ fn facts_out(view: &View, state: State) -> Facts
 }
 
 // The plan of a packet from inside by the session.
-fn plan_of(found: &Held, flags: Flags) -> Plan
+fn plan_by(found: &Held, flags: Flags) -> Plan
     ensures { (external : ℕ) (held : List (Maybe Flow)) (now : ℕ)
         → slice_index_or held found.now.slot None ≡ Some found.now.session
         → Plans external held now (Ok result)

@@ -66,5 +66,6 @@ pub fn append<D: Disk>(
     }
     write_synced(disk, file, at + 1, bytes)?;
     write_synced(disk, file, at, &[1])?;
+    // There stands the closed gate that ends `bytes`: the group's own gate is in front of them.
     Ok(at + count)
 }

@@ -14,10 +14,10 @@ pub enum JournalFault {
     /// The group would end past the greatest length of a file.
     #[error("the group would end past the greatest length of a file")]
     Full,
-    /// One of the leading open groups isn't whole.
+    /// One of the leading open groups isn't whole. Only `groups` tells it.
     #[error("an open group isn't whole")]
     Damaged,
-    /// Memory was refused.
+    /// Memory was refused. Only `groups` tells it.
     #[error("out of memory")]
     NoMemory,
 }

@@ -3,7 +3,7 @@ use Rattle.std.proofs.Common.{◌≡◌, ◌≢◌, ℕ, ◌≤◌, List, Option
 use Rattle.std.proofs.lemmas.Bool.{cases_eq}
 use Rattle.std.proofs.lemmas.Option.{same_Some}
 use Rattle.sessions.specs.declared.session.Change.{Change}
-use Rattle.sessions.specs.declared.session.Change.TheVariants.{Begin, Seen, Restart, End}
+use Rattle.sessions.specs.declared.session.Change.TheVariants.{Begin, Seen, Restart}
 use Rattle.sessions.specs.declared.session.Session.{Session}
 use Rattle.sessions.specs.Listing.{key}
 use Rattle.sessions.specs.declared.session.Opener.{Opener}
@@ -52,4 +52,3 @@ pub adds-few : (change : Change) → adds change ≤ 1
 adds-few (Begin s) = omega arith
 adds-few (Seen slot bits) = omega arith
 adds-few (Restart slot opener) = omega arith
-adds-few (End slot) = omega arith

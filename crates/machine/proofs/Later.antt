@@ -6,7 +6,7 @@ use Rattle.std.proofs.Math.Seq.{get_or-append_seam}
 use Rattle.std.proofs.lemmas.Option.{none-some, same_Some}
 use Rattle.sessions.specs.Listing.{key, listing, put}
 use Rattle.sessions.specs.declared.session.Change.{Change}
-use Rattle.sessions.specs.declared.session.Change.TheVariants.{Begin, Seen, Restart, End}
+use Rattle.sessions.specs.declared.session.Change.TheVariants.{Begin, Seen, Restart}
 use Rattle.sessions.specs.declared.session.Session.{Session}
 use Rattle.sessions.proofs.Puts.{keys-flow, put-apart}
 use Rattle.sessions.proofs.Sets.{Apart, Rises-listing, In-listing, listing-In, same_key}
@@ -101,7 +101,6 @@ change-leads external held now (Seen slot bits) t apart gives =
     gone-on held slot gives.0 t gives.1 (ap key (sym gives.3)) apart (Seen slot bits) (λ k other e. other (sym e))
 change-leads external held now (Restart slot opener) t apart gives =
     gone-on held slot gives.0 t gives.1 (ap key (sym gives.2)) apart (Restart slot opener) (λ k other e. other (sym e))
-change-leads external held now (End slot) t apart gives = absurd gives
 
 -- ---- how many sessions there are then
 
@@ -115,7 +114,6 @@ change-adds external held now (Seen slot bits) t apart gives =
     omega (arith, put-known t gives.0 (listing held) (Rises-listing held apart) (listing-In held gives.0 slot gives.1) (keys-flow t gives.0 (ap key gives.3)))
 change-adds external held now (Restart slot opener) t apart gives =
     omega (arith, put-known t gives.0 (listing held) (Rises-listing held apart) (listing-In held gives.0 slot gives.1) (keys-flow t gives.0 (ap key gives.2)))
-change-adds external held now (End slot) t apart gives = absurd gives
 
 -- and so do all changes of a plan
 pub plan-adds : (external : ℕ) (held : List (Option Session)) (now : ℕ) (first : Change) (second : Option Change) (ts : List Session) → Apart held → GiveAll external held now first second ts

@@ -5,7 +5,7 @@ use Rattle.packet.specs.Same.{same_endpoint}
 use Rattle.sessions.specs.Life.{IsSeen, timeout_of}
 use Rattle.sessions.specs.Table as table
 use Rattle.sessions.specs.declared.session.Change.{Change}
-use Rattle.sessions.specs.declared.session.Change.TheVariants.{Begin, Seen, Restart, End}
+use Rattle.sessions.specs.declared.session.Change.TheVariants.{Begin, Seen, Restart}
 use Rattle.sessions.specs.declared.session.Session.{Session}
 use Rattle.timers.specs.Due as due
 use Rattle.timers.specs.Laws.{idle_of}
@@ -55,7 +55,6 @@ abbrev pub adds : Change → ℕ
 adds (Begin s) = 1
 adds (Seen slot bits) = 0
 adds (Restart slot opener) = 0
-adds (End slot) = 0
 
 abbrev pub adds_second : Option Change → ℕ
 adds_second None = 0

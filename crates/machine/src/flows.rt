@@ -298,7 +298,6 @@ impl Flows {
             Change::Begin(session) => self.begin(*session),
             Change::Seen(slot, bits) => self.see(*slot, *bits, now),
             Change::Restart(slot, opener) => self.restart(*slot, *opener, now),
-            Change::End(_) => unreachable!(),
         }
     }
 
@@ -722,7 +721,6 @@ fn adds(change: &Change) -> usize
         Change::Begin(_) => 1,
         Change::Seen(_, _) => 0,
         Change::Restart(_, _) => 0,
-        Change::End(_) => 0,
     }
 }
 

@@ -92,7 +92,6 @@ pub fn makes_entry(table: &Table, change: &Change) -> bool
             Some(session) => begins_anew(&session, *opener),
             None => false,
         },
-        Change::End(_) => false,
     }
 }
 
@@ -161,7 +160,6 @@ pub fn entry_of(table: &Table, change: &Change) -> Option<Entry<'static>>
                 },
             )
         }
-        Change::End(_) => None,
     }
 }
 

@@ -7,7 +7,9 @@
 //!
 //! Each pair has a slot, with its count. A map leads to it from the protocol and the outside endpoint, in which each
 //! port of an address has a place of its own: so a look-up by these reads one place, and nothing that a packet asks for
-//! walks over pairs. No packet asks for the outside endpoint of an inside one, since the table of sessions tells it:
+//! walks over pairs. `sessions` has a map by outside endpoints too: a table tells by itself whether a session breaks a
+//! mapping, and the mappings count by themselves how often each is held, so that neither stands on the other. No packet
+//! asks for the outside endpoint of an inside one, since the table of sessions tells it:
 //! `outside_of` walks over all pairs. Nothing asks for the pairs in order.
 //!
 //! - `map`: the pairs that are held, and the look-ups by either endpoint

@@ -1,7 +1,7 @@
 //! The sessions of a gateway: the flows that it knows, how long each lives, and the table that
 //! holds them.
 //!
-//! - `session`: what a session is, and what may happen to it
+//! - `session`: what a session is, and what a packet does to it
 //! - `life`: what its packets have shown, its phase, and how long it may be idle
 //! - `table`: the sessions that are held, each in a slot that stays until the session ends
 //! - `index`: by what a table finds its sessions
@@ -30,5 +30,5 @@ pub use laws::{
     restarted_awaits_reply,
 };
 pub use life::{Phase, are_known_bits, is_syn_alone};
-pub use session::{Change, Opener, Session, order};
+pub use session::{Change, Opener, Session, breaks_mapping, order};
 pub use table::{AddFault, MOST_SESSIONS, Slot, Table};

@@ -1,7 +1,7 @@
 //! Sessions, and how two of them compare.
 ghost use Rattle.std.specs.Prelude.{◌≡◌, ◌≢◌, ◌↔◌, IfSome, IfNone, IsTrue};
 ghost use Rattle.sessions.specs.Life.{opener_code};
-ghost use Rattle.sessions.specs.Listing.{is_translated, key, order};
+ghost use Rattle.sessions.specs.Listing.{breaks_mapping as are_breaking, is_translated, key, order};
 ghost use Rattle.sessions.specs.Sound.{IsPlaced};
 ghost use Rattle.sessions.specs.Table.{Clash};
 
@@ -87,7 +87,7 @@ impl Session {
     }
 }
 
-/// What happens to a session.
+/// What a packet does to a session.
 #[derive(Clone, Copy, PartialEq, Eq, Drop)]
 pub enum Change {
     /// It begins.
@@ -96,12 +96,11 @@ pub enum Change {
     Seen(Slot, u8),
     /// A SYN alone from this side begins a closing session anew.
     Restart(Slot, Opener),
-    /// It ends.
-    End(Slot),
 }
 
 /// Whether the two sessions can't both be held: they are of one protocol, and share the remote and one more
 /// endpoint, or are both translated and share just one of inside and outside endpoint.
+#[tactic(auto, unfolding(crate::specs::Listing::breaks_mapping))]
 pub fn clash(new: &Session, held: &Session) -> bool
     ensures { IsTrue result ↔ Clash new.now held.now }
 {
@@ -113,8 +112,19 @@ pub fn clash(new: &Session, held: &Session) -> bool
     if new.remote == held.remote && (same_inside || same_outside) {
         return true;
     }
+    breaks_mapping(new, held)
+}
+
+/// Whether the two sessions, which are of one protocol, are both translated and share just one of inside and outside
+/// endpoint.
+#[tactic(auto, unfolding(crate::specs::Listing::breaks_mapping))]
+pub fn breaks_mapping(new: &Session, held: &Session) -> bool
+    ensures { result ≡ are_breaking new.now held.now }
+{
     let both_translated = new.is_translated() && held.is_translated();
-    both_translated && same_inside != same_outside
+    let same_inside = new.inside == held.inside;
+    let same_outside = new.outside == held.outside;
+    both_translated && new.proto == held.proto && same_inside != same_outside
 }
 
 // What the order of sessions goes by, in turn.

@@ -171,6 +171,7 @@ fn begin<D: Disk>(alloc: Global, disk: &mut D, bounds: &Bounds) -> Result<Ready,
     let kept = copy_of(alloc, bounds)?;
     let bytes = front_of(alloc, generation, bounds, &[], &[])?;
     remake(disk, file, &bytes)?;
+    // There stands the closed gate that ends `bytes`: the file's own gate is in front of them.
     let end = bytes.len() as u64;
     Ok(Ready {
         file,

@@ -329,6 +329,7 @@ impl<D: Disk + Drop> Store<D> {
             Ok(()) => {
                 self.active = file;
                 self.generation = generation;
+                // There stands the closed gate that ends `bytes`: the file's own gate is in front of them.
                 self.start = bytes.len() as u64;
                 self.end = self.start;
                 Ok(())

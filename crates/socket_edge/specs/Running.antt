@@ -30,7 +30,7 @@ pub record Answered (old new : Told) (bytes sent : List ℕ) : Type 0 where
   pub none : old.held ≡ [] → new.held ≡ []
   pub all : old.held ≡ [] → sent ≡ frames (replies old progress.judged)
 
--- what a fault says of the bytes that were read and sent
+-- what a fault says of the bytes that were read and sent; `at_end` is that the input has ended
 abbrev pub Ends : EdgeFault → Told → Told → List ℕ → List ℕ → Type 0 → Type 0
 Ends BadKind old new bytes sent at_end = ((whole_frames bytes).remainder ≡ Fault header.BadKind)
     × Answered old new bytes sent

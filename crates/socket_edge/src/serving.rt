@@ -327,7 +327,8 @@ pub fn close<D: Disk + Drop>(
     }
 }
 
-/// Compacts where the file has grown by more than `MOST_GROWN`. The answers are those that were handed out.
+/// Compacts where the file has grown by more than `MOST_GROWN`. Nothing is held, so no answer is handed out: `answers`
+/// stays.
 pub fn tidy<D: Disk + Drop>(
     gateway: &mut Gateway<D>,
     answers: &mut Vec<(u64, Answer)>,
