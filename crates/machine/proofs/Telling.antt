@@ -96,7 +96,6 @@ module _ (held : List (Option Session)) (apart : Apart held) (external now : ℕ
       let g = then leads.later leads.became in
       let told = told-before slot g.0 u (alone slot refl) g.1 (keys-flow u g.0 (ap key g.2)) in
       ((g.0, told.0, g.2), told.1)
-  second-told (change.End slot) u alone then new = absurd (then leads.later leads.became)
 
   -- one that begins makes an entry
   pub begun-told : (s u : Session) → GivesThen external held now first t (change.Begin s) u → noted (put t (listing held)) u ≡ Begin (stilled u) ∷ []
@@ -123,7 +122,6 @@ begins-one : (second : changes.Change) → 0 < adds second → (s : Session) × 
 begins-one (change.Begin s) some = (s, refl)
 begins-one (change.Seen slot bits) some = absurd (omega (arith, some))
 begins-one (change.Restart slot opener) some = absurd (omega (arith, some))
-begins-one (change.End slot) some = absurd (omega (arith, some))
 
 first-adds : (held : List (Option Session)) → Apart held → (external now : ℕ) (first : changes.Change) (t : Session) → Gives external held now first t → (more : List Entry)
     → noted (listing held) t ++ more ≡ [] → adds first ≡ 0
@@ -131,7 +129,6 @@ first-adds held apart external now (change.Begin s) t gives more none =
     absurd (some-behind [] (Begin (stilled s)) more (ap (λ es. es ++ more) (begin-told held apart external now s t gives) ∙ none))
 first-adds held apart external now (change.Seen slot bits) t gives more none = refl
 first-adds held apart external now (change.Restart slot opener) t gives more none = refl
-first-adds held apart external now (change.End slot) t gives more none = refl
 
 -- what a plan with two changes tells, where the first makes no entry
 module _ (held : List (Option Session)) (sound : IsSoundTable held) (external now : ℕ) (first second : changes.Change) (ts : List Session)
