@@ -47,7 +47,7 @@ fn answer_front<W: Write, D: Disk + Drop>(
     ensures came { (handed : List (ℕ × Answer)) × (sent : List ℕ)
         × Appends (W.contents writer.old) (W.contents writer.new) sent
         × SettledAndSent D.honest D.moment D.left D.failed result gateway.old gateway.new
-        waiting.old.pending waiting.new.pending (handed ++ answers.new.items) sent }
+        waiting.old.unanswered waiting.new.unanswered (handed ++ answers.new.items) sent }
     ensures sent { OnOk result (waiting.new.answered ≡ []) }
     ensures room { vec_len answers.new + length gateway.new.told.held ≤ vec_capacity answers.new }
 {
@@ -71,9 +71,9 @@ fn serve<W: Write, D: Disk + Drop>(
     requires stands { gateway.old.fallen ≡ false }
     requires sent { waiting.old.answered ≡ [] }
     ensures served { (sent : List ℕ) × Appends (W.contents writer.old) (W.contents writer.new) sent
-        × Came result gateway.old.told gateway.new.told waiting.old.pending waiting.new.pending sent
+        × Came result gateway.old.told gateway.new.told waiting.old.unanswered waiting.new.unanswered sent
         × Fares D.honest D.moment D.left gateway.old gateway.new
-        (events_in waiting.old.pending) sent }
+        (events_in waiting.old.unanswered) sent }
     ensures why { IfErr result (λ e. Explains D.honest D.moment D.left D.failed e gateway.old
         gateway.new) }
     ensures stands { OnOk result (gateway.new.fallen ≡ false) }
@@ -110,15 +110,15 @@ fn read_once<R: Read, W: Write, D: Disk + Drop>(
 ) -> Result<Turn, EdgeFault>
     requires stands { gateway.old.fallen ≡ false }
     requires sent { waiting.old.answered ≡ [] }
-    requires cut { next waiting.old.pending ≡ Cut }
+    requires cut { next waiting.old.unanswered ≡ Cut }
     ensures turned { (got sent : List ℕ)
         × Consumes (R.remaining reader.old) (R.remaining reader.new) got
         × Appends (W.contents writer.old) (W.contents writer.new) sent
-        × Turned result gateway.old.told gateway.new.told (waiting.old.pending ++ got)
-        waiting.new.pending sent
+        × Turned result gateway.old.told gateway.new.told (waiting.old.unanswered ++ got)
+        waiting.new.unanswered sent
         (IsAtEnd (R.remaining reader.new))
         × Fares D.honest D.moment D.left gateway.old gateway.new
-        (events_in (waiting.old.pending ++ got)) sent }
+        (events_in (waiting.old.unanswered ++ got)) sent }
     ensures why { IfErr result (λ e. Explains D.honest D.moment D.left D.failed e gateway.old
         gateway.new) }
     ensures stands { OnOk result (gateway.new.fallen ≡ false) }
@@ -134,7 +134,7 @@ fn read_once<R: Read, W: Write, D: Disk + Drop>(
         Err(Unread::Failed) => return Err(EdgeFault::Input),
     };
     if n == 0 {
-        if waiting.pending().is_empty() {
+        if waiting.unanswered().is_empty() {
             return Ok(Turn::End);
         }
         return Err(EdgeFault::Truncated);
