@@ -1,4 +1,9 @@
 //! A run: what is read is offered, and the answers are written.
+//!
+//! `run` calls `read_once` until the input ends. That reads (`Waiting::read`) and calls `serve`, which has `answer_front`
+//! answer all that is whole then, and compacts a file that has grown (`serving::tidy`). `answer_front` offers frame
+//! after frame (`serving::offer_all`), has what is held synced (`serving::close`), and only then writes the answers
+//! (`sending::send_behind`).
 ghost use Rattle.std.specs.Prelude.{◌≡◌, ◌≢◌, ◌↔◌, ℕ, List, [], ◌++◌, ◌+◌, ◌<◌, ◌≤◌, ◌^◌, true, false, IfOk, IfErr, OnOk, length, vec_len, vec_capacity};
 ghost use Rattle.std.specs.Io.KnownBytes.{Appends, Consumes, IsAtEnd};
 ghost use Rattle.machine.specs.declared.event.Answer.{Answer};

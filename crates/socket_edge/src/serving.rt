@@ -1,4 +1,13 @@
-//! Offering the whole frames at the front of the bytes.
+//! What one read made whole is offered, and its answers are put where their requests stood. The way of one read, as
+//! `edge::serve` and `edge::answer_front` go it:
+//!
+//! - `empty_for`: the answers of the read before are let go, and their memory is kept for bodies (`keep_bodies`);
+//! - `offer_all`: frame after frame is offered, until a `Halt`. `offer_next` offers the one at the front where it lies
+//!   (`Waiting::forward_next`), or else a copy of it: `offer_copy` takes it (`request::take_frame`), and `offer_event`
+//!   hands its event to `gateway::running::take`. What is answered goes back into the bytes (`put_back`);
+//! - `close`: what is held is synced and handed out (`give_held`, by `gateway::running::hand_out`) and put back too, and
+//!   `end_at` says what the halt means for the run. Then `edge` writes the answers (`sending::send_behind`);
+//! - `tidy`: a file that has grown is made short (`gateway::running::compact`).
 ghost use Rattle.std.specs.Prelude.{◌≡◌, ◌+◌, ◌∷◌, ◌++◌, [], ℕ, List, ◌<◌, ◌≤◌, false, length, true, IfErr, OnOk, vec_len, vec_capacity};
 ghost use Rattle.gateway.specs.Kept.{Kept};
 ghost use Rattle.gateway.specs.Running.{Stands};
