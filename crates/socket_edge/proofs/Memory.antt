@@ -13,9 +13,9 @@ use borrow.Rule.Slice.PartMut.{put_mid, same_len_mid}
 
 -- what the bytes are seen as: frames up to w, and from r to e those that wait
 abbrev pub view : ℕ → ℕ → ℕ → List ℕ → Exchange
-view w r e xs = record { answered = take w xs; pending = drop r (take e xs); reach = e }
+view w r e xs = record { answered = take w xs; unanswered = drop r (take e xs); reach = e }
 
-alike : (a b c d : List ℕ) (m n : ℕ) → a ≡ c → b ≡ d → m ≡ n → ◌≡◌ {A = Exchange} (record { answered = a; pending = b; reach = m }) (record { answered = c; pending = d; reach = n })
+alike : (a b c d : List ℕ) (m n : ℕ) → a ≡ c → b ≡ d → m ≡ n → ◌≡◌ {A = Exchange} (record { answered = a; unanswered = b; reach = m }) (record { answered = c; unanswered = d; reach = n })
 alike a b c d m n first then same = rw (first, then, same) refl
 
 pub ok_of : {T E P : Type 0} (r : Result T E) → is_err r ≡ false → OnOk r P → P
@@ -65,7 +65,7 @@ take_front n m xs within fits =
 -- bytes came behind those that wait
 pub seen_behind : (w r e n : ℕ) (old mid new got : List ℕ) → w ≤ r → r ≤ e → e ≤ length old → e ≤ length mid → e + n ≤ length new
     → take e mid ≡ take e old → take (e + n) new ≡ take e mid ++ got
-    → view w r (e + n) new ≡ record { answered = take w old; pending = drop r (take e old) ++ got; reach = e + n }
+    → view w r (e + n) new ≡ record { answered = take w old; unanswered = drop r (take e old) ++ got; reach = e + n }
 seen_behind w r e n old mid new got first then old_fits mid_fits new_fits same came =
     let size : length (take e mid) ≡ e = length-take-le e mid mid_fits in
     alike (take w new) (drop r (take (e + n) new)) (take w old) (drop r (take e old) ++ got) (e + n) (e + n)
@@ -94,7 +94,7 @@ seen_between w r e xs ys first then fits as_many =
 
 -- and a beginning of them is as it is wanted
 pub seen_more : (w r e n : ℕ) (xs ys : List ℕ) → w ≤ r → r ≤ e → e ≤ length xs → length ys ≡ r - w → n ≤ length ys
-    → view (w + n) r e (put_mid w (r - w) xs ys) ≡ record { answered = take w xs ++ take n ys; pending = drop r (take e xs); reach = e }
+    → view (w + n) r e (put_mid w (r - w) xs ys) ≡ record { answered = take w xs ++ take n ys; unanswered = drop r (take e xs); reach = e }
 seen_more w r e n xs ys first then fits as_many few =
     let behind : List ℕ = drop (r - w) (drop w xs) in
     let size : length (take w xs) ≡ w = length-take-le w xs (omega (arith, first, then, fits)) in
@@ -116,7 +116,7 @@ moved r e xs within fits =
     ∙ between_is xs r e
 
 pub seen_moved : (w r e : ℕ) (xs : List ℕ) → w ≤ r → r ≤ e → e ≤ length xs → take w xs ≡ []
-    → view w 0 (e - r) (copy_within xs r e 0) ≡ record { answered = take w xs; pending = drop r (take e xs); reach = length (drop r (take e xs)) }
+    → view w 0 (e - r) (copy_within xs r e 0) ≡ record { answered = take w xs; unanswered = drop r (take e xs); reach = length (drop r (take e xs)) }
 seen_moved w r e xs first then fits none =
     let zero : w ≡ 0 = omega (arith, length-take-le w xs (omega (arith, first, then, fits)), ap (λ (zs : List ℕ). length zs) none) in
     let front : take w (copy_within xs r e 0) ≡ take w xs = rw zero refl in
@@ -125,7 +125,7 @@ seen_moved w r e xs first then fits none =
 
 -- where they stand at the front already
 pub seen_there : (w r e : ℕ) (xs : List ℕ) → r ≡ 0 → e ≤ length xs
-    → view w r e xs ≡ record { answered = take w xs; pending = drop r (take e xs); reach = length (drop r (take e xs)) }
+    → view w r e xs ≡ record { answered = take w xs; unanswered = drop r (take e xs); reach = length (drop r (take e xs)) }
 seen_there w r e xs zero fits =
     alike (take w xs) (drop r (take e xs)) (take w xs) (drop r (take e xs)) e (length (drop r (take e xs))) refl refl (omega (arith, zero, length-drop r (take e xs), length-take-le e xs fits))
 

@@ -25,8 +25,8 @@ use Rattle.socket_edge.proofs.Lasting.{any-then, configured-then, fares-then}
 use Rattle.socket_edge.proofs.Closing.{events_cut, framed_then_cut, Answered-of}
 
 -- the events of the bytes that came before, and of those that come
-pub framed_more : (given pending got : List ℕ) (events : List Event) → Reads given events pending → whole_frames (given ++ got) ≡ behind events (whole_frames (pending ++ got))
-framed_more given pending got events r = r.goes got
+pub framed_more : (given unanswered got : List ℕ) (events : List Event) → Reads given events unanswered → whole_frames (given ++ got) ≡ behind events (whole_frames (unanswered ++ got))
+framed_more given unanswered got events r = r.goes got
 
 -- behind what was sent before
 Progress-shift : (old new : Told) (events : List Event) (before out : List ℕ) → Progress old new events [] out → Progress old new events before (before ++ out)
@@ -35,25 +35,25 @@ Progress-shift old new events before out p = record { judged = p.judged; are_jud
 pub Served-first : (old : Told) → Served old old [] [] [] 0
 Served-first old = record { events = []; reads = Reads-nil []; cut = next_nil; count_is = refl; progress = Progress-nil old []; none = λ h. h }
 
-pub Served-then : (a b c : Told) (given pending got rest w sent : List ℕ) (n m : ℕ) → Served a b given pending w n → Served b c (pending ++ got) rest sent m → Served a c (given ++ got) rest (w ++ sent) (n + m)
-Served-then a b c given pending got rest w sent n m p q = record {
+pub Served-then : (a b c : Told) (given unanswered got rest w sent : List ℕ) (n m : ℕ) → Served a b given unanswered w n → Served b c (unanswered ++ got) rest sent m → Served a c (given ++ got) rest (w ++ sent) (n + m)
+Served-then a b c given unanswered got rest w sent n m p q = record {
   events = p.events ++ q.events;
-  reads = Reads-then (given ++ got) (pending ++ got) rest p.events q.events (Reads-more given pending p.events got p.reads) q.reads;
+  reads = Reads-then (given ++ got) (unanswered ++ got) rest p.events q.events (Reads-more given unanswered p.events got p.reads) q.reads;
   cut = q.cut;
   count_is = omega (arith, p.count_is, q.count_is, length-append p.events q.events);
   progress = Progress-then a b c p.events q.events [] w (w ++ sent) p.progress (Progress-shift b c q.events w sent q.progress);
   none = λ h. q.none (p.none h);
 }
 
-answered_then : (a b c : Told) (given pending got w sent : List ℕ) (n : ℕ) → Served a b given pending w n → Answered b c (pending ++ got) sent → Answered a c (given ++ got) (w ++ sent)
-answered_then a b c given pending got w sent n p q =
+answered_then : (a b c : Told) (given unanswered got w sent : List ℕ) (n : ℕ) → Served a b given unanswered w n → Answered b c (unanswered ++ got) sent → Answered a c (given ++ got) (w ++ sent)
+answered_then a b c given unanswered got w sent n p q =
     Answered-of a c (given ++ got) (w ++ sent)
-    (subst (λ (f : Framed). Progress a c f.events [] (w ++ sent)) (sym (framed_more given pending got p.events p.reads))
-    (Progress-then a b c p.events (whole_frames (pending ++ got)).events [] w (w ++ sent) p.progress (Progress-shift b c (whole_frames (pending ++ got)).events w sent q.progress)))
+    (subst (λ (f : Framed). Progress a c f.events [] (w ++ sent)) (sym (framed_more given unanswered got p.events p.reads))
+    (Progress-then a b c p.events (whole_frames (unanswered ++ got)).events [] w (w ++ sent) p.progress (Progress-shift b c (whole_frames (unanswered ++ got)).events w sent q.progress)))
     (λ h. q.none (p.none h))
 
-stop_then : (a b : Told) (given pending got w : List ℕ) (n : ℕ) (s : Remainder) → Served a b given pending w n → (whole_frames (pending ++ got)).remainder ≡ s → (whole_frames (given ++ got)).remainder ≡ s
-stop_then a b given pending got w n s p e = ap (λ (f : Framed). f.remainder) (framed_more given pending got p.events p.reads) ∙ e
+stop_then : (a b : Told) (given unanswered got w : List ℕ) (n : ℕ) (s : Remainder) → Served a b given unanswered w n → (whole_frames (unanswered ++ got)).remainder ≡ s → (whole_frames (given ++ got)).remainder ≡ s
+stop_then a b given unanswered got w n s p e = ap (λ (f : Framed). f.remainder) (framed_more given unanswered got p.events p.reads) ∙ e
 
 begins_then : (a b c : Told) (es fs : List Event) (w sent : List ℕ) → Progress a b es [] w → BeginsFrames b c fs sent → BeginsFrames a c (es ++ fs) (w ++ sent)
 begins_then a b c es fs w sent p q =
@@ -68,50 +68,50 @@ begins_then a b c es fs w sent p q =
           ∙ sym (flat_map-append frame p.handed (answers_due b q.judged)) ∙ ap (flat_map frame) (sym d);
     }
 
-pub Ends-then : (e : EdgeFault) (a b c : Told) (given pending got w sent : List ℕ) (n : ℕ) (at_end : Type 0) → Served a b given pending w n → Ends e b c (pending ++ got) sent at_end → Ends e a c (given ++ got) (w ++ sent) at_end
-Ends-then BadKind a b c given pending got w sent n at_end p q = (stop_then a b given pending got w n _ p q.0, answered_then a b c given pending got w sent n p q.1)
-Ends-then BadInterface a b c given pending got w sent n at_end p q = (stop_then a b given pending got w n _ p q.0, answered_then a b c given pending got w sent n p q.1)
-Ends-then TooLong a b c given pending got w sent n at_end p q = (stop_then a b given pending got w n _ p q.0, answered_then a b c given pending got w sent n p q.1)
-Ends-then Truncated a b c given pending got w sent n at_end p q = (q.0, stop_then a b given pending got w n _ p q.1, q.2, answered_then a b c given pending got w sent n p q.3, q.4)
-Ends-then Input a b c given pending got w sent n at_end p q = answered_then a b c given pending got w sent n p q
-Ends-then Output a b c given pending got w sent n at_end p q =
-    let f : (whole_frames (given ++ got)).events ≡ p.events ++ (whole_frames (pending ++ got)).events = ap (λ (x : Framed). x.events) (framed_more given pending got p.events p.reads) in
-    subst (λ (es : List Event). BeginsFrames a c es (w ++ sent)) (sym f) (begins_then a b c p.events (whole_frames (pending ++ got)).events w sent p.progress q)
-Ends-then (Gateway fault) a b c given pending got w sent n at_end p q =
-    subst (λ (f : Framed). AnsweredFirst a c f.events (w ++ sent)) (sym (framed_more given pending got p.events p.reads))
-    (AnsweredFirst-then a b c p.events (whole_frames (pending ++ got)).events w sent p.progress q)
+pub Ends-then : (e : EdgeFault) (a b c : Told) (given unanswered got w sent : List ℕ) (n : ℕ) (at_end : Type 0) → Served a b given unanswered w n → Ends e b c (unanswered ++ got) sent at_end → Ends e a c (given ++ got) (w ++ sent) at_end
+Ends-then BadKind a b c given unanswered got w sent n at_end p q = (stop_then a b given unanswered got w n _ p q.0, answered_then a b c given unanswered got w sent n p q.1)
+Ends-then BadInterface a b c given unanswered got w sent n at_end p q = (stop_then a b given unanswered got w n _ p q.0, answered_then a b c given unanswered got w sent n p q.1)
+Ends-then TooLong a b c given unanswered got w sent n at_end p q = (stop_then a b given unanswered got w n _ p q.0, answered_then a b c given unanswered got w sent n p q.1)
+Ends-then Truncated a b c given unanswered got w sent n at_end p q = (q.0, stop_then a b given unanswered got w n _ p q.1, q.2, answered_then a b c given unanswered got w sent n p q.3, q.4)
+Ends-then Input a b c given unanswered got w sent n at_end p q = answered_then a b c given unanswered got w sent n p q
+Ends-then Output a b c given unanswered got w sent n at_end p q =
+    let f : (whole_frames (given ++ got)).events ≡ p.events ++ (whole_frames (unanswered ++ got)).events = ap (λ (x : Framed). x.events) (framed_more given unanswered got p.events p.reads) in
+    subst (λ (es : List Event). BeginsFrames a c es (w ++ sent)) (sym f) (begins_then a b c p.events (whole_frames (unanswered ++ got)).events w sent p.progress q)
+Ends-then (Gateway fault) a b c given unanswered got w sent n at_end p q =
+    subst (λ (f : Framed). AnsweredFirst a c f.events (w ++ sent)) (sym (framed_more given unanswered got p.events p.reads))
+    (AnsweredFirst-then a b c p.events (whole_frames (unanswered ++ got)).events w sent p.progress q)
 
-pub Done-then : (a b c : Told) (given pending got w sent : List ℕ) (n m : ℕ) (at_end : Type 0) → Served a b given pending w n → Done m b c (pending ++ got) sent at_end → Done (n + m) a c (given ++ got) (w ++ sent) at_end
-Done-then a b c given pending got w sent n m at_end p q = record {
-  answered = answered_then a b c given pending got w sent n p q.answered;
-  whole = stop_then a b given pending got w n _ p q.whole;
-  count_is = omega (arith, p.count_is, q.count_is, length-append p.events (whole_frames (pending ++ got)).events, ap (λ (f : Framed). length f.events) (framed_more given pending got p.events p.reads));
+pub Done-then : (a b c : Told) (given unanswered got w sent : List ℕ) (n m : ℕ) (at_end : Type 0) → Served a b given unanswered w n → Done m b c (unanswered ++ got) sent at_end → Done (n + m) a c (given ++ got) (w ++ sent) at_end
+Done-then a b c given unanswered got w sent n m at_end p q = record {
+  answered = answered_then a b c given unanswered got w sent n p q.answered;
+  whole = stop_then a b given unanswered got w n _ p q.whole;
+  count_is = omega (arith, p.count_is, q.count_is, length-append p.events (whole_frames (unanswered ++ got)).events, ap (λ (f : Framed). length f.events) (framed_more given unanswered got p.events p.reads));
   ended = q.ended;
 }
 
 -- the loop gave up
-pub Served-answered : (a b : Told) (given pending w : List ℕ) (n : ℕ) → Served a b given pending w n → Answered a b given w
-Served-answered a b given pending w n p =
-    Answered-of a b given w (subst (λ (f : Framed). Progress a b f.events [] w) (sym (framed_then_cut given pending p.events p.reads p.cut)) p.progress) p.none
+pub Served-answered : (a b : Told) (given unanswered w : List ℕ) (n : ℕ) → Served a b given unanswered w n → Answered a b given w
+Served-answered a b given unanswered w n p =
+    Answered-of a b given w (subst (λ (f : Framed). Progress a b f.events [] w) (sym (framed_then_cut given unanswered p.events p.reads p.cut)) p.progress) p.none
 
 -- nothing more came
-pub nothing : (b : Told) (pending : List ℕ) → next pending ≡ Cut → Answered b b (pending ++ []) []
-nothing b pending cut =
-    let f : whole_frames (pending ++ []) ≡ record { events = []; remainder = Rest pending } = ap whole_frames (append-nil pending) ∙ framed_then_cut pending pending [] (Reads-nil pending) cut in
-    Answered-of b b (pending ++ []) [] (subst (λ (x : Framed). Progress b b x.events [] []) (sym f) (Progress-nil b [])) (λ h. h)
+pub nothing : (b : Told) (unanswered : List ℕ) → next unanswered ≡ Cut → Answered b b (unanswered ++ []) []
+nothing b unanswered cut =
+    let f : whole_frames (unanswered ++ []) ≡ record { events = []; remainder = Rest unanswered } = ap whole_frames (append-nil unanswered) ∙ framed_then_cut unanswered unanswered [] (Reads-nil unanswered) cut in
+    Answered-of b b (unanswered ++ []) [] (subst (λ (x : Framed). Progress b b x.events [] []) (sym f) (Progress-nil b [])) (λ h. h)
 
-pub nothing_stops : (pending : List ℕ) → next pending ≡ Cut → (whole_frames (pending ++ [])).remainder ≡ Rest pending
-nothing_stops pending cut = ap (λ (f : Framed). f.remainder) (ap whole_frames (append-nil pending) ∙ framed_then_cut pending pending [] (Reads-nil pending) cut)
+pub nothing_stops : (unanswered : List ℕ) → next unanswered ≡ Cut → (whole_frames (unanswered ++ [])).remainder ≡ Rest unanswered
+nothing_stops unanswered cut = ap (λ (f : Framed). f.remainder) (ap whole_frames (append-nil unanswered) ∙ framed_then_cut unanswered unanswered [] (Reads-nil unanswered) cut)
 
-pub nothing_counts : (pending : List ℕ) → next pending ≡ Cut → 0 ≡ length (whole_frames (pending ++ [])).events
-nothing_counts pending cut = sym (ap (λ (f : Framed). length f.events) (ap whole_frames (append-nil pending) ∙ framed_then_cut pending pending [] (Reads-nil pending) cut))
+pub nothing_counts : (unanswered : List ℕ) → next unanswered ≡ Cut → 0 ≡ length (whole_frames (unanswered ++ [])).events
+nothing_counts unanswered cut = sym (ap (λ (f : Framed). length f.events) (ap whole_frames (append-nil unanswered) ∙ framed_then_cut unanswered unanswered [] (Reads-nil unanswered) cut))
 
 -- ---- how far a run has come
 
 module _ {D : Type 0} (honest : D → Type 0) (moment : D → ℕ) (left : D → ℕ → Files → Type 0) (failed : D → ℕ)
     (earlier : (disk : D) (s t : ℕ) (files : Files) → honest disk → s ≤ t → left disk t files → left disk s files) where
-  pub record Going (old now : Kept D) (given pending written : List ℕ) (count : ℕ) : Type 0 where
-    pub served : Served old.told now.told given pending written count
+  pub record Going (old now : Kept D) (given unanswered written : List ℕ) (count : ℕ) : Type 0 where
+    pub served : Served old.told now.told given unanswered written count
     pub keeps_honest : honest old.disk ↔ honest now.disk
     pub configured : honest old.disk → LeavesOnly moment left old.disk now.disk (IsConfigured old.told.config)
     pub any_moment : IsReady honest old → LeavesOnly moment left old.disk now.disk (IsSafe old.told.config old.told.state served.events 0)
@@ -134,20 +134,20 @@ module _ {D : Type 0} (honest : D → Type 0) (moment : D → ℕ) (left : D →
   }
 
   -- one more read
-  pub going-next : (a b c : Kept D) (given pending got rest w sent : List ℕ) (n m : ℕ) → Going a b given pending w n → Served b.told c.told (pending ++ got) rest sent m
-      → Fares honest moment left b c (events_in (pending ++ got)) sent → c.fallen ≡ false → failed c.disk ≡ failed b.disk → c.grown ≤ 1048576
+  pub going-next : (a b c : Kept D) (given unanswered got rest w sent : List ℕ) (n m : ℕ) → Going a b given unanswered w n → Served b.told c.told (unanswered ++ got) rest sent m
+      → Fares honest moment left b c (events_in (unanswered ++ got)) sent → c.fallen ≡ false → failed c.disk ≡ failed b.disk → c.grown ≤ 1048576
       → Going a c (given ++ got) rest (w ++ sent) (n + m)
   unfolding Served-then
-  going-next a b c given pending got rest w sent n m g q f stands passed tidy =
+  going-next a b c given unanswered got rest w sent n m g q f stands passed tidy =
       let p = g.served in
       record {
-        served = Served-then a.told b.told c.told given pending got rest w sent n m p q;
+        served = Served-then a.told b.told c.told given unanswered got rest w sent n m p q;
         keeps_honest = (λ h. f.keeps_honest.0 (g.keeps_honest.0 h), λ h. g.keeps_honest.1 (f.keeps_honest.1 h));
         configured = λ h. configured-then honest moment left failed earlier a b c p.progress.config (g.keeps_honest.0 h) (g.configured h) (f.configured (g.keeps_honest.0 h) g.stands);
         any_moment = λ ready.
             let there = g.keeps_honest.0 ready.is_honest in
             let o = f.outlives (record { stands = g.stands; is_honest = there; none = p.none ready.none }) in
-            let all : q.events ≡ o.front ++ o.back = sym (events_cut (pending ++ got) rest q.events q.reads q.cut) ∙ o.split in
+            let all : q.events ≡ o.front ++ o.back = sym (events_cut (unanswered ++ got) rest q.events q.reads q.cut) ∙ o.split in
             any-then honest moment left failed earlier a b c p.events q.events w p.progress (g.any_moment ready) there
             (narrows moment left b.disk c.disk (λ before files. IsSafe b.told.config b.told.state o.front 0 files) (λ before files. IsSafe b.told.config b.told.state q.events 0 files) o.any_moment
             (λ before files was is. subst (λ (es : List Event). IsSafe b.told.config b.told.state es 0 files) (sym all) (safe-less b.told.config b.told.state o.front o.back 0 0 files (omega arith) is)));
@@ -158,34 +158,34 @@ module _ {D : Type 0} (honest : D → Type 0) (moment : D → ℕ) (left : D →
       }
 
   -- and how it ends
-  pub going-ends : (a b c : Kept D) (given pending got w sent : List ℕ) (n : ℕ) → Going a b given pending w n → Fares honest moment left b c (events_in (pending ++ got)) sent
+  pub going-ends : (a b c : Kept D) (given unanswered got w sent : List ℕ) (n : ℕ) → Going a b given unanswered w n → Fares honest moment left b c (events_in (unanswered ++ got)) sent
       → Fares honest moment left a c (events_in (given ++ got)) (w ++ sent)
-  going-ends a b c given pending got w sent n g f =
+  going-ends a b c given unanswered got w sent n g f =
       let p = g.served in
-      subst (λ (x : Framed). Fares honest moment left a c x.events (w ++ sent)) (sym (framed_more given pending got p.events p.reads))
-      (fares-then honest moment left failed earlier a b c p.events (events_in (pending ++ got)) w sent p.progress p.none g.keeps_honest g.configured g.any_moment g.stands f)
+      subst (λ (x : Framed). Fares honest moment left a c x.events (w ++ sent)) (sym (framed_more given unanswered got p.events p.reads))
+      (fares-then honest moment left failed earlier a b c p.events (events_in (unanswered ++ got)) w sent p.progress p.none g.keeps_honest g.configured g.any_moment g.stands f)
 
   -- the loop gave up
-  pub going-stops : (a b : Kept D) (given pending w : List ℕ) (n : ℕ) → Going a b given pending w n → ((events : List Event) → Fares honest moment left b b events []) → Fares honest moment left a b (events_in given) w
-  going-stops a b given pending w n g none =
+  pub going-stops : (a b : Kept D) (given unanswered w : List ℕ) (n : ℕ) → Going a b given unanswered w n → ((events : List Event) → Fares honest moment left b b events []) → Fares honest moment left a b (events_in given) w
+  going-stops a b given unanswered w n g none =
       subst (λ (x : List ℕ). Fares honest moment left a b (events_in x) w) (append-nil given)
-      (subst (λ (x : List ℕ). Fares honest moment left a b (events_in (given ++ [])) x) (append-nil w) (going-ends a b b given pending [] w [] n g (none (events_in (pending ++ [])))))
+      (subst (λ (x : List ℕ). Fares honest moment left a b (events_in (given ++ [])) x) (append-nil w) (going-ends a b b given unanswered [] w [] n g (none (events_in (unanswered ++ [])))))
 
   -- the events have numbers of 64 bits, so their count has
-  pub going-fits : (a b c : Kept D) (given pending got rest w sent : List ℕ) (n m : ℕ) → Going a b given pending w n → Served b.told c.told (pending ++ got) rest sent m → c.told.last < 2 ^ 64 → n + m < 2 ^ 64
-  going-fits a b c given pending got rest w sent n m g q last =
-      let p = Served-then a.told b.told c.told given pending got rest w sent n m g.served q in
+  pub going-fits : (a b c : Kept D) (given unanswered got rest w sent : List ℕ) (n m : ℕ) → Going a b given unanswered w n → Served b.told c.told (unanswered ++ got) rest sent m → c.told.last < 2 ^ 64 → n + m < 2 ^ 64
+  going-fits a b c given unanswered got rest w sent n m g q last =
+      let p = Served-then a.told b.told c.told given unanswered got rest w sent n m g.served q in
       omega (arith, last, p.count_is, p.progress.last)
 
   -- why it ends, said of the whole run
-  pub going-why : (a b c : Kept D) (given pending w : List ℕ) (n : ℕ) (e : EdgeFault) → Going a b given pending w n → Explains honest moment left failed e b c → Explains honest moment left failed e a c
-  going-why a b c given pending w n BadKind g x = x
-  going-why a b c given pending w n BadInterface g x = x
-  going-why a b c given pending w n TooLong g x = x
-  going-why a b c given pending w n Truncated g x = x
-  going-why a b c given pending w n Input g x = x
-  going-why a b c given pending w n Output g x = tt
-  going-why a b c given pending w n (Gateway fault) g x = record {
+  pub going-why : (a b c : Kept D) (given unanswered w : List ℕ) (n : ℕ) (e : EdgeFault) → Going a b given unanswered w n → Explains honest moment left failed e b c → Explains honest moment left failed e a c
+  going-why a b c given unanswered w n BadKind g x = x
+  going-why a b c given unanswered w n BadInterface g x = x
+  going-why a b c given unanswered w n TooLong g x = x
+  going-why a b c given unanswered w n Truncated g x = x
+  going-why a b c given unanswered w n Input g x = x
+  going-why a b c given unanswered w n Output g x = tt
+  going-why a b c given unanswered w n (Gateway fault) g x = record {
     stood = x.stood;
     made_room = x.made_room;
     numbers_out = x.numbers_out;

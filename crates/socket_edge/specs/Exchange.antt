@@ -5,5 +5,5 @@ use Rattle.std.specs.Prelude.{ℕ, List}
 -- memory lie in front of where the latter end
 pub record Exchange : Type 0 where
   pub answered : List ℕ
-  pub pending : List ℕ
+  pub unanswered : List ℕ
   pub reach : ℕ

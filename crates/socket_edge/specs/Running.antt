@@ -95,9 +95,9 @@ module _ {D : Type 0} (honest : D → Type 0) (moment : D → ℕ) (left : D →
 -- ---- the parts
 
 -- the stream so far is these events, and then these bytes
-pub record Reads (given : List ℕ) (events : List Event) (pending : List ℕ) : Type 0 where
+pub record Reads (given : List ℕ) (events : List Event) (unanswered : List ℕ) : Type 0 where
   pub goes : (more : List ℕ) → whole_frames (given ++ more)
-      ≡ behind events (whole_frames (pending ++ more))
+      ≡ behind events (whole_frames (unanswered ++ more))
 
 -- the whole frames at the front were answered, and these bytes are left
 pub record Served (old new : Told) (bytes rest sent : List ℕ) (count : ℕ) : Type 0 where

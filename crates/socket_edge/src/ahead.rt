@@ -2,7 +2,7 @@
 //! they are taken, for several of them at once. Nothing rests on it but time.
 ghost use Rattle.std.specs.Prelude.{◌≡◌, length};
 
-use crate::request::{HEAD_LEN, Head, Kind, read_head};
+use crate::request::{Head, Kind, REQUEST_HEAD, read_head};
 use byteorder::{BigEndian, ByteOrder};
 use disk_model::Disk;
 use gateway::{Coming, Gateway, Iface, MOST_AHEAD};
@@ -103,12 +103,12 @@ fn next_packet(bytes: &[u8]) -> Option<(Iface, &[u8], &[u8])> {
     let Head::Frame(Kind::Packet(iface), _, len) = read_head(bytes) else {
         return None;
     };
-    let len = HEAD_LEN + len as usize;
+    let len = REQUEST_HEAD + len as usize;
     if bytes.len() < len {
         return None;
     }
     let (frame, behind) = bytes.split_at(len);
-    Some((iface, &frame[HEAD_LEN..], behind))
+    Some((iface, &frame[REQUEST_HEAD..], behind))
 }
 
 // By what the session of a packet is looked for, if it has no options (RFC 791, section 3.1).

@@ -7,8 +7,11 @@ ghost use Rattle.socket_edge.specs.Answering.{iface_byte, kind_byte, answer_body
 use gateway::{Answer, Iface};
 use std::alloc::AllocError;
 
-/// The bytes of a frame before its body.
-const HEAD_LEN: usize = 13;
+/// The bytes of an answer's frame before its body.
+const ANSWER_HEAD: usize = 13;
+
+/// The bytes of an answer's frame up to the first one of its body, with it: all before the packet of a forward.
+pub const ANSWER_FRONT: usize = ANSWER_HEAD + 1;
 
 fn kind_of(answer: &Answer) -> u8
     ensures { result ≡ kind_byte answer.now }
@@ -42,10 +45,10 @@ fn body_len(answer: &Answer) -> u32
 }
 
 /// The bytes of a frame before its body.
-fn head_with(kind: u8, number: u64, len: u32) -> [u8; HEAD_LEN]
+fn head_with(kind: u8, number: u64, len: u32) -> [u8; ANSWER_HEAD]
     ensures { result ≡ kind ∷ big_bytes 8 number ++ big_bytes 4 len }
 {
-    let mut bytes = [0; HEAD_LEN];
+    let mut bytes = [0; ANSWER_HEAD];
     bytes[0] = kind;
     bytes[1..9].copy_from_slice(&number.to_be_bytes());
     bytes[9..13].copy_from_slice(&len.to_be_bytes());
@@ -53,31 +56,31 @@ fn head_with(kind: u8, number: u64, len: u32) -> [u8; HEAD_LEN]
 }
 
 /// The bytes of an answer's frame before its body.
-pub fn head_bytes(number: u64, answer: &Answer) -> [u8; HEAD_LEN]
+pub fn head_bytes(number: u64, answer: &Answer) -> [u8; ANSWER_HEAD]
     ensures { result ≡ frame_head (number, answer.now) }
 {
     head_with(kind_of(answer), number, body_len(answer))
 }
 
 /// The bytes of a frame up to the first one of its body.
-fn front_with(head: &[u8; HEAD_LEN], first: u8) -> [u8; HEAD_LEN + 1]
+fn front_with(head: &[u8; ANSWER_HEAD], first: u8) -> [u8; ANSWER_FRONT]
     ensures { result ≡ head.now ++ first ∷ [] }
 {
-    let mut bytes = [0; HEAD_LEN + 1];
-    bytes[..HEAD_LEN].copy_from_slice(head);
-    bytes[HEAD_LEN] = first;
+    let mut bytes = [0; ANSWER_FRONT];
+    bytes[..ANSWER_HEAD].copy_from_slice(head);
+    bytes[ANSWER_HEAD] = first;
     bytes
 }
 
 /// The bytes of an answer's frame up to the first one of its body.
-fn front_bytes(number: u64, answer: &Answer, first: u8) -> [u8; HEAD_LEN + 1]
+fn front_bytes(number: u64, answer: &Answer, first: u8) -> [u8; ANSWER_FRONT]
     ensures { result ≡ frame_head (number, answer.now) ++ first ∷ [] }
 {
     front_with(&head_bytes(number, answer), first)
 }
 
 /// All bytes in front of the packet in the frame of a packet that leaves, whose length is in bytes.
-pub fn forward_front(number: u64, iface: Iface, len: usize) -> [u8; HEAD_LEN + 1]
+pub fn forward_front(number: u64, iface: Iface, len: usize) -> [u8; ANSWER_FRONT]
     requires { len ≤ 65535 }
     ensures { (packet : List ℕ) → length packet ≡ len
         → result ++ packet ≡ frame (number, Forward iface packet) }
@@ -160,7 +163,7 @@ fn write_frame_over(bytes: &mut [u8], number: u64, answer: &Answer)
     requires { length bytes.old ≡ 13 + length (answer_body answer.now) }
     ensures { bytes.new ≡ frame (number, answer.now) }
 {
-    let (head, body) = bytes.split_at_mut(HEAD_LEN);
+    let (head, body) = bytes.split_at_mut(ANSWER_HEAD);
     head.copy_from_slice(&head_bytes(number, answer));
     write_body_over(body, answer);
 }
@@ -169,7 +172,7 @@ fn write_frame_over(bytes: &mut [u8], number: u64, answer: &Answer)
 fn frame_len(answer: &Answer) -> usize
     ensures { result ≡ 13 + length (answer_body answer.now) }
 {
-    HEAD_LEN + body_len(answer) as usize
+    ANSWER_HEAD + body_len(answer) as usize
 }
 
 /// Writes the frame of an answer with this number over the first bytes, if it fits. Answers how many it has.

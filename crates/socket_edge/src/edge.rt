@@ -1,4 +1,9 @@
 //! A run: what is read is offered, and the answers are written.
+//!
+//! `run` calls `read_once` until the input ends. That reads (`Waiting::read`) and calls `serve`, which has `answer_front`
+//! answer all that is whole then, and compacts a file that has grown (`serving::tidy`). `answer_front` offers frame
+//! after frame (`serving::offer_all`), has what is held synced (`serving::close`), and only then writes the answers
+//! (`sending::send_behind`).
 ghost use Rattle.std.specs.Prelude.{◌≡◌, ◌≢◌, ◌↔◌, ℕ, List, [], ◌++◌, ◌+◌, ◌<◌, ◌≤◌, ◌^◌, true, false, IfOk, IfErr, OnOk, length, vec_len, vec_capacity};
 ghost use Rattle.std.specs.Io.KnownBytes.{Appends, Consumes, IsAtEnd};
 ghost use Rattle.machine.specs.declared.event.Answer.{Answer};
@@ -47,7 +52,7 @@ fn answer_front<W: Write, D: Disk + Drop>(
     ensures came { (handed : List (ℕ × Answer)) × (sent : List ℕ)
         × Appends (W.contents writer.old) (W.contents writer.new) sent
         × SettledAndSent D.honest D.moment D.left D.failed result gateway.old gateway.new
-        waiting.old.pending waiting.new.pending (handed ++ answers.new.items) sent }
+        waiting.old.unanswered waiting.new.unanswered (handed ++ answers.new.items) sent }
     ensures sent { OnOk result (waiting.new.answered ≡ []) }
     ensures room { vec_len answers.new + length gateway.new.told.held ≤ vec_capacity answers.new }
 {
@@ -71,9 +76,9 @@ fn serve<W: Write, D: Disk + Drop>(
     requires stands { gateway.old.fallen ≡ false }
     requires sent { waiting.old.answered ≡ [] }
     ensures served { (sent : List ℕ) × Appends (W.contents writer.old) (W.contents writer.new) sent
-        × Came result gateway.old.told gateway.new.told waiting.old.pending waiting.new.pending sent
+        × Came result gateway.old.told gateway.new.told waiting.old.unanswered waiting.new.unanswered sent
         × Fares D.honest D.moment D.left gateway.old gateway.new
-        (events_in waiting.old.pending) sent }
+        (events_in waiting.old.unanswered) sent }
     ensures why { IfErr result (λ e. Explains D.honest D.moment D.left D.failed e gateway.old
         gateway.new) }
     ensures stands { OnOk result (gateway.new.fallen ≡ false) }
@@ -110,15 +115,15 @@ fn read_once<R: Read, W: Write, D: Disk + Drop>(
 ) -> Result<Turn, EdgeFault>
     requires stands { gateway.old.fallen ≡ false }
     requires sent { waiting.old.answered ≡ [] }
-    requires cut { next waiting.old.pending ≡ Cut }
+    requires cut { next waiting.old.unanswered ≡ Cut }
     ensures turned { (got sent : List ℕ)
         × Consumes (R.remaining reader.old) (R.remaining reader.new) got
         × Appends (W.contents writer.old) (W.contents writer.new) sent
-        × Turned result gateway.old.told gateway.new.told (waiting.old.pending ++ got)
-        waiting.new.pending sent
+        × Turned result gateway.old.told gateway.new.told (waiting.old.unanswered ++ got)
+        waiting.new.unanswered sent
         (IsAtEnd (R.remaining reader.new))
         × Fares D.honest D.moment D.left gateway.old gateway.new
-        (events_in (waiting.old.pending ++ got)) sent }
+        (events_in (waiting.old.unanswered ++ got)) sent }
     ensures why { IfErr result (λ e. Explains D.honest D.moment D.left D.failed e gateway.old
         gateway.new) }
     ensures stands { OnOk result (gateway.new.fallen ≡ false) }
@@ -134,7 +139,7 @@ fn read_once<R: Read, W: Write, D: Disk + Drop>(
         Err(Unread::Failed) => return Err(EdgeFault::Input),
     };
     if n == 0 {
-        if waiting.pending().is_empty() {
+        if waiting.unanswered().is_empty() {
             return Ok(Turn::End);
         }
         return Err(EdgeFault::Truncated);

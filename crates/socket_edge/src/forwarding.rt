@@ -5,8 +5,7 @@ ghost use Rattle.machine.specs.declared.event.Answer.{Answer};
 ghost use Rattle.machine.specs.declared.event.What.TheVariants.{Packet};
 ghost use Rattle.socket_edge.specs.Answering.{frame};
 
-use crate::answer::forward_front;
-use crate::request::HEAD_LEN;
+use crate::answer::{ANSWER_FRONT, forward_front};
 use disk_model::Disk;
 use gateway::running::forward;
 use gateway::{Gateway, Iface};
@@ -32,11 +31,13 @@ pub fn forward_frame<D: Disk + Drop>(
     ensures stands { gateway.new.fallen ≡ false }
     ensures size { length bytes.new ≡ length bytes.old }
 {
-    let (head, packet) = bytes.split_at_mut(HEAD_LEN);
+    // What stands in front of the packet is as long in the answer (13 bytes of head, and the interface) as in the
+    // request (14 bytes of head), so the packet stays in its place: this is `REQUEST_HEAD` too.
+    let (front, packet) = bytes.split_at_mut(ANSWER_FRONT);
     let Some((number, out)) = forward(gateway, moment, iface, packet) else {
         return false;
     };
-    head.copy_from_slice(&forward_front(number, out, packet.len()));
+    front.copy_from_slice(&forward_front(number, out, packet.len()));
     true
 }
 

@@ -9,7 +9,7 @@ use rulesyntax::GREATEST_LENGTH;
 use std::alloc::{AllocError, Global};
 
 /// The bytes of a request's frame before its body.
-pub const HEAD_LEN: usize = 14;
+pub const REQUEST_HEAD: usize = 14;
 
 /// What a request's kind and interface announce.
 #[derive(Clone, Copy, Drop)]
@@ -95,7 +95,7 @@ fn longest_of(kind: Kind) -> u32
 pub fn read_head(bytes: &[u8]) -> Head
     ensures { result ≡ head_of bytes.now }
 {
-    if bytes.len() < HEAD_LEN {
+    if bytes.len() < REQUEST_HEAD {
         return Head::Cut;
     }
     match announced_by(bytes[0], bytes[1]) {
@@ -150,11 +150,11 @@ pub fn take_frame(
         Head::Cut => Ok(Taken::Cut),
         Head::Bad(fault) => Ok(Taken::Bad(fault)),
         Head::Frame(kind, moment, len) => {
-            let end = HEAD_LEN + len as usize;
+            let end = REQUEST_HEAD + len as usize;
             if bytes.len() < end {
                 return Ok(Taken::Cut);
             }
-            let body = copied(alloc, bodies, &bytes[HEAD_LEN..end])?;
+            let body = copied(alloc, bodies, &bytes[REQUEST_HEAD..end])?;
             let what = what_from(kind, body);
             Ok(Taken::Whole(Event { moment, what }, end))
         }

@@ -1,4 +1,13 @@
-//! Offering the whole frames at the front of the bytes.
+//! What one read made whole is offered, and its answers are put where their requests stood. The way of one read, as
+//! `edge::serve` and `edge::answer_front` go it:
+//!
+//! - `empty_for`: the answers of the read before are let go, and their memory is kept for bodies (`keep_bodies`);
+//! - `offer_all`: frame after frame is offered, until a `Halt`. `offer_next` offers the one at the front where it lies
+//!   (`Waiting::forward_next`), or else a copy of it: `offer_copy` takes it (`request::take_frame`), and `offer_event`
+//!   hands its event to `gateway::running::take`. What is answered goes back into the bytes (`put_back`);
+//! - `close`: what is held is synced and handed out (`give_held`, by `gateway::running::hand_out`) and put back too, and
+//!   `end_at` says what the halt means for the run. Then `edge` writes the answers (`sending::send_behind`);
+//! - `tidy`: a file that has grown is made short (`gateway::running::compact`).
 ghost use Rattle.std.specs.Prelude.{◌≡◌, ◌+◌, ◌∷◌, ◌++◌, [], ℕ, List, ◌<◌, ◌≤◌, false, length, true, IfErr, OnOk, vec_len, vec_capacity};
 ghost use Rattle.gateway.specs.Kept.{Kept};
 ghost use Rattle.gateway.specs.Running.{Stands};
@@ -111,7 +120,7 @@ fn put_back(waiting: &mut Waiting, answers: &mut Vec<(u64, Answer)>, bodies: &mu
     ensures put { (handed : List (ℕ × Answer)) × (answers.old.items ≡ handed ++ answers.new.items)
         × (waiting.new ≡ record waiting.old { answered = waiting.old.answered ++ frames handed }) }
     ensures fits { length waiting.old.answered + length (frames answers.old.items)
-        + length waiting.old.pending ≤ waiting.old.reach
+        + length waiting.old.unanswered ≤ waiting.old.reach
         → answers.new.items ≡ [] }
     ensures fewer { vec_len answers.new ≤ vec_len answers.old }
     ensures capacity { vec_capacity answers.new ≡ vec_capacity answers.old }
@@ -167,12 +176,12 @@ fn offer_copy<D: Disk + Drop>(
     ensures step { (handed : List (ℕ × Answer))
         × (waiting.new.answered ≡ waiting.old.answered ++ frames handed)
         × ((before : List (ℕ × Answer)) → Stepped D.honest D.moment D.left D.failed result
-        waiting.old.pending waiting.new.pending gateway.old gateway.new
+        waiting.old.unanswered waiting.new.unanswered gateway.old gateway.new
         (before ++ answers.old.items) (before ++ (handed ++ answers.new.items))) }
     ensures stands { GoesOn result → gateway.new.fallen ≡ false }
     ensures room { vec_len answers.new + length gateway.new.told.held ≤ vec_capacity answers.new }
 {
-    match take_frame(alloc, bodies, waiting.pending()) {
+    match take_frame(alloc, bodies, waiting.unanswered()) {
         Err(_) => Step::Ends(Halt::Refused(GatewayFault::NoMemory)),
         Ok(Taken::Cut) => Step::Ends(Halt::Cut),
         Ok(Taken::Bad(fault)) => Step::Ends(Halt::Bad(fault)),
@@ -213,7 +222,7 @@ fn offer_next<D: Disk + Drop>(
     ensures step { (handed : List (ℕ × Answer))
         × (waiting.new.answered ≡ waiting.old.answered ++ frames handed)
         × ((before : List (ℕ × Answer)) → Stepped D.honest D.moment D.left D.failed result
-        waiting.old.pending waiting.new.pending gateway.old gateway.new
+        waiting.old.unanswered waiting.new.unanswered gateway.old gateway.new
         (before ++ answers.old.items) (before ++ (handed ++ answers.new.items))) }
     ensures stands { GoesOn result → gateway.new.fallen ≡ false }
     ensures room { vec_len answers.new + length gateway.new.told.held ≤ vec_capacity answers.new }
@@ -250,18 +259,18 @@ pub fn offer_all<D: Disk + Drop>(
     ensures offered { (handed : List (ℕ × Answer))
         × (waiting.new.answered ≡ waiting.old.answered ++ frames handed)
         × Offered D.honest D.moment D.left D.failed result.1
-        waiting.old.pending waiting.new.pending result.0
+        waiting.old.unanswered waiting.new.unanswered result.0
         gateway.old gateway.new answers.old.items (handed ++ answers.new.items) }
     ensures room { vec_len answers.new + length gateway.new.told.held ≤ vec_capacity answers.new }
 {
-    let most = waiting.pending().len();
+    let most = waiting.unanswered().len();
     let mut count: usize = 0;
     // A packet that is asked for where it lies, and doesn't leave, is read twice: so none is asked for behind several
     // such, until the next one leaves.
     let mut misses: usize = 0;
     let mut ahead = Ahead::none();
     loop {
-        ahead = ahead.next(waiting.pending(), gateway);
+        ahead = ahead.next(waiting.unanswered(), gateway);
         let hopeful = ahead.is_known() && misses < MOST_MISSES;
         match offer_next(alloc, hopeful, waiting, answers, bodies, gateway) {
             Step::Took(forwarded) => {

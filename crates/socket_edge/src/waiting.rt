@@ -1,5 +1,10 @@
 //! The bytes that were read and aren't answered yet, and in front of them, in the same memory, the frames of answers to
 //! those that were. The next read goes right behind them, into memory that is kept.
+//!
+//! `read` puts what comes behind the bytes that wait. A frame leaves their front by `forward_next`, which has its packet
+//! offered where it lies (`forwarding::forward_frame`) and makes its answer of it, or by `skip`, where `serving` offers
+//! a copy of it; then `put` writes the answer where the request stood (`answer::fill_frames`). `answered` is all that is
+//! to be written, and `forget_answered` lets it go behind that.
 ghost use Rattle.std.specs.Prelude.{◌≡◌, ◌≢◌, ◌+◌, ◌≤◌, ◌++◌, ◌∷◌, [], ℕ, List, IfOk, OnOk, OnErr, length, take, drop, true, false};
 ghost use Rattle.std.specs.Io.KnownBytes.{Consumes, IsAtEnd};
 ghost use Rattle.gateway.specs.Running.{CarriesOn};
@@ -10,7 +15,7 @@ ghost use Rattle.socket_edge.specs.Requests.{next, Whole};
 
 use crate::answer::fill_frames;
 use crate::forwarding::{forward_frame, move_down};
-use crate::request::{HEAD_LEN, Head, Kind, read_head};
+use crate::request::{Head, Kind, REQUEST_HEAD, read_head};
 use disk_model::Disk;
 use gateway::{Answer, Gateway};
 use std::alloc::{AllocError, Global};
@@ -49,7 +54,7 @@ impl Model for Waiting {
 
     ghost view = { λ w. record {
       answered = take w.answered w.bytes.items;
-      pending = drop w.start (take w.end w.bytes.items);
+      unanswered = drop w.start (take w.end w.bytes.items);
       reach = w.end;
     } };
 
@@ -60,7 +65,7 @@ impl Model for Waiting {
 impl Waiting {
     /// No bytes.
     pub fn new(alloc: Global) -> Waiting
-        ensures { result ≡ record { answered = []; pending = []; reach = 0 } }
+        ensures { result ≡ record { answered = []; unanswered = []; reach = 0 } }
     {
         Waiting {
             bytes: Vec::new(alloc),
@@ -70,9 +75,9 @@ impl Waiting {
         }
     }
 
-    /// The bytes that wait.
-    pub fn pending(&self) -> &[u8]
-        ensures { result.now ≡ self.now.pending }
+    /// The bytes that wait: they were read and aren't answered yet.
+    pub fn unanswered(&self) -> &[u8]
+        ensures { result.now ≡ self.now.unanswered }
     {
         &self.bytes.as_slice()[self.start..self.end]
     }
@@ -86,8 +91,8 @@ impl Waiting {
 
     /// Takes the first `count` bytes that wait away.
     pub fn skip(&mut self, count: usize)
-        requires { count ≤ length self.old.pending }
-        ensures { self.new ≡ record self.old { pending = drop count self.old.pending } }
+        requires { count ≤ length self.old.unanswered }
+        ensures { self.new ≡ record self.old { unanswered = drop count self.old.unanswered } }
     {
         self.start += count;
     }
@@ -99,7 +104,7 @@ impl Waiting {
             → self.new ≡ record self.old { answered = self.old.answered ++ frames answers.now } }
         ensures full { result ≡ false → self.new ≡ self.old }
         ensures fits { length self.old.answered + length (frames answers.now)
-            + length self.old.pending ≤ self.old.reach
+            + length self.old.unanswered ≤ self.old.reach
             → result ≡ true }
     {
         match fill_frames(
@@ -119,7 +124,7 @@ impl Waiting {
     pub fn forward_next<D: Disk + Drop>(&mut self, gateway: &mut Gateway<D>) -> bool
         requires stands { gateway.old.fallen ≡ false }
         ensures left { result ≡ true → (event : Event) × (answer : ℕ × Answer)
-            × (next self.old.pending ≡ Whole event self.new.pending)
+            × (next self.old.unanswered ≡ Whole event self.new.unanswered)
             × (self.new.answered ≡ self.old.answered ++ frame answer)
             × ((before : List (ℕ × Answer)) → CarriesOn D.honest D.moment D.left D.failed
             gateway.old gateway.new (event ∷ []) before (before ++ answer ∷ [])) }
@@ -127,11 +132,11 @@ impl Waiting {
         ensures held { gateway.new.told.held ≡ gateway.old.told.held }
         ensures stands { gateway.new.fallen ≡ false }
     {
-        let Head::Frame(Kind::Packet(iface), moment, len) = read_head(self.pending()) else {
+        let Head::Frame(Kind::Packet(iface), moment, len) = read_head(self.unanswered()) else {
             return false;
         };
-        let len = HEAD_LEN + len as usize;
-        if self.pending().len() < len {
+        let len = REQUEST_HEAD + len as usize;
+        if self.unanswered().len() < len {
             return false;
         }
         let (bytes, end) = (self.bytes.as_mut_slice(), self.start + len);
@@ -162,13 +167,13 @@ impl Waiting {
         ensures ok { IfOk result (λ n. (got : List ℕ)
             × Consumes (R.remaining reader.old) (R.remaining reader.new) got
             × (self.new ≡ record self.old {
-              pending = self.old.pending ++ got;
-              reach = length self.old.pending + n;
+              unanswered = self.old.unanswered ++ got;
+              reach = length self.old.unanswered + n;
             })
             × (n ≡ length got) × (n ≤ 65536)) }
         ensures end { IfOk result (λ n. n ≡ 0 → IsAtEnd (R.remaining reader.new)) }
         ensures err { OnErr result (Consumes (R.remaining reader.old) (R.remaining reader.new) []
-            × (self.new ≡ record self.old { reach = length self.old.pending })) }
+            × (self.new ≡ record self.old { reach = length self.old.unanswered })) }
     {
         self.move_to_front();
         if make_room(&mut self.bytes, self.end).is_err() {
@@ -186,7 +191,7 @@ impl Waiting {
     /// Moves the bytes that wait to the front.
     fn move_to_front(&mut self)
         requires { self.old.answered ≡ [] }
-        ensures { self.new ≡ record self.old { reach = length self.old.pending } }
+        ensures { self.new ≡ record self.old { reach = length self.old.unanswered } }
     {
         if self.start > 0 {
             self.bytes

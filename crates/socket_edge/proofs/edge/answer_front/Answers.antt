@@ -22,8 +22,8 @@ pub returns-in_err-send_behind-clause-came : goal.returns-in_err-send_behind-cla
 returns-in_err-send_behind-clause-came g c =
     let p = err_from_is_err_and c.from_residual.result c.from_residual.ensures.1 in
     let e = c.in_err-send_behind.ensures.err in
-    let bytes = c.args.waiting.now.pending in
-    let rest = c.offer_all-count.new.waiting.pending in
+    let bytes = c.args.waiting.now.unanswered in
+    let rest = c.offer_all-count.new.waiting.unanswered in
     let items = c.close-closed.new.answers.items in
     let o = c.offer_all-count.ensures.offered in
     let k = c.close-closed.ensures.closed in
@@ -35,14 +35,14 @@ returns-in_err-send_behind-clause-came g c =
       front.written,
       front.appends,
       rw (p.1, p.2, e.0) (sent-some g.D.Disk.honest g.D.Disk.moment g.D.Disk.left g.D.Disk.seen g.D.Disk.failed g.met.D.Disk.reads g.met.D.Disk.earlier c.args.gateway.now c.close-closed.result c.close-closed.new.gateway bytes rest
-          c.offer_all-count.result.0 (o.0 ++ (k.0 ++ items)) front.written front.lost closed (front.splits ∙ whole) c.close-closed.new.waiting.pending items),
+          c.offer_all-count.result.0 (o.0 ++ (k.0 ++ items)) front.written front.lost closed (front.splits ∙ whole) c.close-closed.new.waiting.unanswered items),
     )
 
 pub returns-in_err-closed-clause-came : goal.returns-in_err-closed-clause-came
 returns-in_err-closed-clause-came g c =
     let p = err_from_is_err_and c.from_residual-in_err-closed.result c.from_residual-in_err-closed.ensures.1 in
-    let bytes = c.args.waiting.now.pending in
-    let rest = c.offer_all-count.new.waiting.pending in
+    let bytes = c.args.waiting.now.unanswered in
+    let rest = c.offer_all-count.new.waiting.unanswered in
     let items = c.close-closed.new.answers.items in
     let o = c.offer_all-count.ensures.offered in
     let k = c.in_err-closed.ensures.closed in
@@ -54,13 +54,13 @@ returns-in_err-closed-clause-came g c =
       frames (o.0 ++ (k.0 ++ items)),
       subst (Appends (g.W.Write.contents c.args.writer.now) (g.W.Write.contents c.send_behind.new.writer)) whole sent,
       rw (p.1, p.2) (sent-bad g.D.Disk.honest g.D.Disk.moment g.D.Disk.left g.D.Disk.seen g.D.Disk.failed g.met.D.Disk.reads g.met.D.Disk.earlier c.args.gateway.now c.in_err-closed.field-0.0 c.close-closed.new.gateway bytes rest
-          c.offer_all-count.result.0 (o.0 ++ (k.0 ++ items)) closed c.close-closed.new.waiting.pending items),
+          c.offer_all-count.result.0 (o.0 ++ (k.0 ++ items)) closed c.close-closed.new.waiting.unanswered items),
     )
 
 pub returns-clause-came : goal.returns-clause-came
 returns-clause-came g c =
-    let bytes = c.args.waiting.now.pending in
-    let rest = c.offer_all-count.new.waiting.pending in
+    let bytes = c.args.waiting.now.unanswered in
+    let rest = c.offer_all-count.new.waiting.unanswered in
     let items = c.close-closed.new.answers.items in
     let o = c.offer_all-count.ensures.offered in
     let k = c.in_ok-closed.ensures.closed in
@@ -68,7 +68,7 @@ returns-clause-came g c =
     let closed = k.2 c.args.gateway.now bytes rest c.offer_all-count.result.0 o.0 c.stands.ensures offered in
     let whole = all_frames c.args.waiting.now.answered c.offer_all-count.new.waiting.answered c.answered.result.now o.0 k.0 items c.requires.sent o.1 (c.answered.ensures ∙ ap (λ (x : Exchange). x.answered) k.1) in
     let sent = rw c.as_slice.ensures.value at c.in_ok-send_behind.ensures.ok in
-    let left : c.forget_answered.new.self.pending ≡ rest = ap (λ (x : Exchange). x.pending) c.forget_answered.ensures ∙ ap (λ (x : Exchange). x.pending) k.1 in
+    let left : c.forget_answered.new.self.unanswered ≡ rest = ap (λ (x : Exchange). x.unanswered) c.forget_answered.ensures ∙ ap (λ (x : Exchange). x.unanswered) k.1 in
     let all : o.0 ++ (k.0 ++ items) ≡ (o.0 ++ k.0) ++ items = sym (append_assoc o.0 k.0 items) in (
       o.0 ++ k.0,
       frames (o.0 ++ (k.0 ++ items)),

@@ -24,8 +24,8 @@ returns-in-Err-NoMemory-clause-turned g c = (
   [],
   c.in-Err-NoMemory.ensures.err.0,
   Appends-nil (g.W.Write.contents c.args.writer.now),
-  AnsweredFirst-nothing c.args.gateway.now.told (events_in (c.args.waiting.now.pending ++ [])),
-  idle-fares g.D.Disk.honest g.D.Disk.moment g.D.Disk.left g.D.Disk.seen g.D.Disk.failed g.met.D.Disk.reads g.met.D.Disk.earlier c.args.gateway.now c.stands.ensures (events_in (c.args.waiting.now.pending ++ [])),
+  AnsweredFirst-nothing c.args.gateway.now.told (events_in (c.args.waiting.now.unanswered ++ [])),
+  idle-fares g.D.Disk.honest g.D.Disk.moment g.D.Disk.left g.D.Disk.seen g.D.Disk.failed g.met.D.Disk.reads g.met.D.Disk.earlier c.args.gateway.now c.stands.ensures (events_in (c.args.waiting.now.unanswered ++ [])),
 )
 
 pub returns-in-Err-Failed-clause-turned : goal.returns-in-Err-Failed-clause-turned
@@ -34,43 +34,43 @@ returns-in-Err-Failed-clause-turned g c = (
   [],
   c.in-Err-Failed.ensures.err.0,
   Appends-nil (g.W.Write.contents c.args.writer.now),
-  nothing c.args.gateway.now.told c.args.waiting.now.pending c.requires.cut,
-  idle-fares g.D.Disk.honest g.D.Disk.moment g.D.Disk.left g.D.Disk.seen g.D.Disk.failed g.met.D.Disk.reads g.met.D.Disk.earlier c.args.gateway.now c.stands.ensures (events_in (c.args.waiting.now.pending ++ [])),
+  nothing c.args.gateway.now.told c.args.waiting.now.unanswered c.requires.cut,
+  idle-fares g.D.Disk.honest g.D.Disk.moment g.D.Disk.left g.D.Disk.seen g.D.Disk.failed g.met.D.Disk.reads g.met.D.Disk.earlier c.args.gateway.now c.stands.ensures (events_in (c.args.waiting.now.unanswered ++ [])),
 )
 
 pub returns-then-is_empty-clause-turned : goal.returns-then-is_empty-clause-turned
 returns-then-is_empty-clause-turned g c =
     let b = c.in-Ok.ensures.ok in
-    let same = none_added c.args.waiting.now.pending c.read.new.self.pending b.0 c.in-Ok.n c.if-n-eq0.true b.3 (ap (λ (x : Exchange). x.pending) b.2) in
+    let same = none_added c.args.waiting.now.unanswered c.read.new.self.unanswered b.0 c.in-Ok.n c.if-n-eq0.true b.3 (ap (λ (x : Exchange). x.unanswered) b.2) in
     let t = c.if-is_empty.true in
     let e = c.is_empty.ensures in
-    let l : length c.pending.result.now ≡ 0 = grind (arith, common_steps) in
-    let none : c.args.waiting.now.pending ≡ [] = sym same ∙ sym c.pending.ensures ∙ nil_from_length c.pending.result.now l in (
+    let l : length c.unanswered.result.now ≡ 0 = grind (arith, common_steps) in
+    let none : c.args.waiting.now.unanswered ≡ [] = sym same ∙ sym c.unanswered.ensures ∙ nil_from_length c.unanswered.result.now l in (
       [],
       [],
       none_read (g.R.Read.remaining c.args.reader.now) (g.R.Read.remaining c.read.new.reader) c.in-Ok.n b.0 c.if-n-eq0.true b.3 b.1,
       Appends-nil (g.W.Write.contents c.args.writer.now),
       record {
-        answered = nothing c.args.gateway.now.told c.args.waiting.now.pending c.requires.cut;
-        whole = nothing_stops c.args.waiting.now.pending c.requires.cut ∙ ap Rest none;
-        count_is = nothing_counts c.args.waiting.now.pending c.requires.cut;
+        answered = nothing c.args.gateway.now.told c.args.waiting.now.unanswered c.requires.cut;
+        whole = nothing_stops c.args.waiting.now.unanswered c.requires.cut ∙ ap Rest none;
+        count_is = nothing_counts c.args.waiting.now.unanswered c.requires.cut;
         ended = c.in-Ok.ensures.end c.if-n-eq0.true;
       },
-      idle-fares g.D.Disk.honest g.D.Disk.moment g.D.Disk.left g.D.Disk.seen g.D.Disk.failed g.met.D.Disk.reads g.met.D.Disk.earlier c.args.gateway.now c.stands.ensures (events_in (c.args.waiting.now.pending ++ [])),
+      idle-fares g.D.Disk.honest g.D.Disk.moment g.D.Disk.left g.D.Disk.seen g.D.Disk.failed g.met.D.Disk.reads g.met.D.Disk.earlier c.args.gateway.now c.stands.ensures (events_in (c.args.waiting.now.unanswered ++ [])),
     )
 
 pub returns-then-n-eq0-clause-turned : goal.returns-then-n-eq0-clause-turned
 returns-then-n-eq0-clause-turned g c =
     let b = c.in-Ok.ensures.ok in
-    let same = none_added c.args.waiting.now.pending c.read.new.self.pending b.0 c.in-Ok.n c.if-n-eq0.true b.3 (ap (λ (x : Exchange). x.pending) b.2) in
+    let same = none_added c.args.waiting.now.unanswered c.read.new.self.unanswered b.0 c.in-Ok.n c.if-n-eq0.true b.3 (ap (λ (x : Exchange). x.unanswered) b.2) in
     let t = c.if-is_empty.false in
     let e = c.is_empty.ensures in
-    let v = c.pending.ensures in
-    let some : c.args.waiting.now.pending ≢ [] = λ h. (let z : length c.pending.result.now ≡ 0 = ap length (v ∙ same ∙ h) in let f : ⊥ = grind (arith, common_steps) in f) in (
+    let v = c.unanswered.ensures in
+    let some : c.args.waiting.now.unanswered ≢ [] = λ h. (let z : length c.unanswered.result.now ≡ 0 = ap length (v ∙ same ∙ h) in let f : ⊥ = grind (arith, common_steps) in f) in (
       [],
       [],
       none_read (g.R.Read.remaining c.args.reader.now) (g.R.Read.remaining c.read.new.reader) c.in-Ok.n b.0 c.if-n-eq0.true b.3 b.1,
       Appends-nil (g.W.Write.contents c.args.writer.now),
-      (c.args.waiting.now.pending, nothing_stops c.args.waiting.now.pending c.requires.cut, some, nothing c.args.gateway.now.told c.args.waiting.now.pending c.requires.cut, c.in-Ok.ensures.end c.if-n-eq0.true),
-      idle-fares g.D.Disk.honest g.D.Disk.moment g.D.Disk.left g.D.Disk.seen g.D.Disk.failed g.met.D.Disk.reads g.met.D.Disk.earlier c.args.gateway.now c.stands.ensures (events_in (c.args.waiting.now.pending ++ [])),
+      (c.args.waiting.now.unanswered, nothing_stops c.args.waiting.now.unanswered c.requires.cut, some, nothing c.args.gateway.now.told c.args.waiting.now.unanswered c.requires.cut, c.in-Ok.ensures.end c.if-n-eq0.true),
+      idle-fares g.D.Disk.honest g.D.Disk.moment g.D.Disk.left g.D.Disk.seen g.D.Disk.failed g.met.D.Disk.reads g.met.D.Disk.earlier c.args.gateway.now c.stands.ensures (events_in (c.args.waiting.now.unanswered ++ [])),
     )

@@ -42,8 +42,8 @@ returns-in-Ok-End-clause-ran g c =
       Consumes-then (g.R.Read.remaining c.args.reader.now) (g.R.Read.remaining c.loop.reader) (g.R.Read.remaining c.read_once.new.reader) i.0 t.0 i.2 t.2,
       Appends-then (g.W.Write.contents c.args.writer.now) (g.W.Write.contents c.loop.writer) (g.W.Write.contents c.read_once.new.writer) i.1 t.1 i.3 t.3,
       subst (λ (n : ℕ). Done n c.args.gateway.now.told c.read_once.new.gateway.told (i.0 ++ t.0) (i.1 ++ t.1) at_end) (zero_more c.loop.count)
-          (Done-then c.args.gateway.now.told c.loop.gateway.told c.read_once.new.gateway.told i.0 c.loop.waiting.pending t.0 i.1 t.1 c.loop.count 0 at_end i.4.served t.4),
-      going-ends g.D.Disk.honest g.D.Disk.moment g.D.Disk.left g.D.Disk.failed g.met.D.Disk.earlier c.args.gateway.now c.loop.gateway c.read_once.new.gateway i.0 c.loop.waiting.pending t.0 i.1 t.1 c.loop.count i.4 t.5,
+          (Done-then c.args.gateway.now.told c.loop.gateway.told c.read_once.new.gateway.told i.0 c.loop.waiting.unanswered t.0 i.1 t.1 c.loop.count 0 at_end i.4.served t.4),
+      going-ends g.D.Disk.honest g.D.Disk.moment g.D.Disk.left g.D.Disk.failed g.met.D.Disk.earlier c.args.gateway.now c.loop.gateway c.read_once.new.gateway i.0 c.loop.waiting.unanswered t.0 i.1 t.1 c.loop.count i.4 t.5,
     )
 
 pub returns-in-Err-clause-ran : goal.returns-in-Err-clause-ran
@@ -55,8 +55,8 @@ returns-in-Err-clause-ran g c =
       i.1 ++ t.1,
       Consumes-then (g.R.Read.remaining c.args.reader.now) (g.R.Read.remaining c.loop.reader) (g.R.Read.remaining c.read_once.new.reader) i.0 t.0 i.2 t.2,
       Appends-then (g.W.Write.contents c.args.writer.now) (g.W.Write.contents c.loop.writer) (g.W.Write.contents c.read_once.new.writer) i.1 t.1 i.3 t.3,
-      Ends-then c.in-Err.fault c.args.gateway.now.told c.loop.gateway.told c.read_once.new.gateway.told i.0 c.loop.waiting.pending t.0 i.1 t.1 c.loop.count at_end i.4.served t.4,
-      going-ends g.D.Disk.honest g.D.Disk.moment g.D.Disk.left g.D.Disk.failed g.met.D.Disk.earlier c.args.gateway.now c.loop.gateway c.read_once.new.gateway i.0 c.loop.waiting.pending t.0 i.1 t.1 c.loop.count i.4 t.5,
+      Ends-then c.in-Err.fault c.args.gateway.now.told c.loop.gateway.told c.read_once.new.gateway.told i.0 c.loop.waiting.unanswered t.0 i.1 t.1 c.loop.count at_end i.4.served t.4,
+      going-ends g.D.Disk.honest g.D.Disk.moment g.D.Disk.left g.D.Disk.failed g.met.D.Disk.earlier c.args.gateway.now c.loop.gateway c.read_once.new.gateway i.0 c.loop.waiting.unanswered t.0 i.1 t.1 c.loop.count i.4 t.5,
     )
 
 pub loop-preserved : goal.loop-preserved
@@ -67,7 +67,7 @@ loop-preserved g c =
       i.1 ++ t.1,
       Consumes-then (g.R.Read.remaining c.args.reader.now) (g.R.Read.remaining c.loop.reader) (g.R.Read.remaining c.read_once.new.reader) i.0 t.0 i.2 t.2,
       Appends-then (g.W.Write.contents c.args.writer.now) (g.W.Write.contents c.loop.writer) (g.W.Write.contents c.read_once.new.writer) i.1 t.1 i.3 t.3,
-      rw c.sum-count.ensures (going-next g.D.Disk.honest g.D.Disk.moment g.D.Disk.left g.D.Disk.failed g.met.D.Disk.earlier c.args.gateway.now c.loop.gateway c.read_once.new.gateway i.0 c.loop.waiting.pending t.0 c.read_once.new.waiting.pending i.1 t.1 c.loop.count c.in-Ok-More.more i.4 t.4 t.5
+      rw c.sum-count.ensures (going-next g.D.Disk.honest g.D.Disk.moment g.D.Disk.left g.D.Disk.failed g.met.D.Disk.earlier c.args.gateway.now c.loop.gateway c.read_once.new.gateway i.0 c.loop.waiting.unanswered t.0 c.read_once.new.waiting.unanswered i.1 t.1 c.loop.count c.in-Ok-More.more i.4 t.4 t.5
           c.in-Ok-More.ensures.stands c.in-Ok-More.ensures.passed (c.in-Ok-More.ensures.grown (λ is. absurd cc))),
       c.in-Ok-More.ensures.sent,
     )
@@ -79,6 +79,6 @@ returns-clause-ran g c =
       i.1,
       i.2,
       i.3,
-      Served-answered c.args.gateway.now.told c.loop.gateway.told i.0 c.loop.waiting.pending i.1 c.loop.count i.4.served,
-      going-stops g.D.Disk.honest g.D.Disk.moment g.D.Disk.left g.D.Disk.failed g.met.D.Disk.earlier c.args.gateway.now c.loop.gateway i.0 c.loop.waiting.pending i.1 c.loop.count i.4 (idle-fares g.D.Disk.honest g.D.Disk.moment g.D.Disk.left g.D.Disk.seen g.D.Disk.failed g.met.D.Disk.reads g.met.D.Disk.earlier c.loop.gateway c.stands-2.ensures),
+      Served-answered c.args.gateway.now.told c.loop.gateway.told i.0 c.loop.waiting.unanswered i.1 c.loop.count i.4.served,
+      going-stops g.D.Disk.honest g.D.Disk.moment g.D.Disk.left g.D.Disk.failed g.met.D.Disk.earlier c.args.gateway.now c.loop.gateway i.0 c.loop.waiting.unanswered i.1 c.loop.count i.4 (idle-fares g.D.Disk.honest g.D.Disk.moment g.D.Disk.left g.D.Disk.seen g.D.Disk.failed g.met.D.Disk.reads g.met.D.Disk.earlier c.loop.gateway c.stands-2.ensures),
     )

@@ -10,16 +10,16 @@ pub returns-then-is_err-clause-served : goal.returns-then-is_err-clause-served
 returns-then-is_err-clause-served g c = (
   [],
   Appends-nil (g.W.Write.contents c.args.writer.now),
-  AnsweredFirst-nothing c.args.gateway.now.told (events_in c.args.waiting.now.pending),
-  idle-fares g.D.Disk.honest g.D.Disk.moment g.D.Disk.left g.D.Disk.seen g.D.Disk.failed g.met.D.Disk.reads g.met.D.Disk.earlier c.args.gateway.now c.stands.ensures (events_in c.args.waiting.now.pending),
+  AnsweredFirst-nothing c.args.gateway.now.told (events_in c.args.waiting.now.unanswered),
+  idle-fares g.D.Disk.honest g.D.Disk.moment g.D.Disk.left g.D.Disk.seen g.D.Disk.failed g.met.D.Disk.reads g.met.D.Disk.earlier c.args.gateway.now c.stands.ensures (events_in c.args.waiting.now.unanswered),
 )
 
 pub returns-in-Ok-clause-served : goal.returns-in-Ok-clause-served
 returns-in-Ok-clause-served g c =
     let a = c.in_ok-count.ensures.came in
     let e = c.in-Ok.ensures in
-    let bytes = c.args.waiting.now.pending in
-    let rest = c.answer_front.new.waiting.pending in
+    let bytes = c.args.waiting.now.unanswered in
+    let rest = c.answer_front.new.waiting.unanswered in
     let out = a.0 ++ c.answer_front.new.answers.items in
     let after = a.0 ++ c.tidy.new.answers.items in
     let same = ap (λ answers. a.0 ++ answers) e.answers in (
@@ -32,14 +32,14 @@ returns-in-Ok-clause-served g c =
 pub returns-in-Ok-clause-passed : goal.returns-in-Ok-clause-passed
 returns-in-Ok-clause-passed g c =
     let a = c.in_ok-count.ensures.came in
-    served-passed g.D.Disk.honest g.D.Disk.moment g.D.Disk.left g.D.Disk.seen g.D.Disk.failed g.met.D.Disk.reads g.met.D.Disk.earlier c.args.gateway.now c.answer_front.new.gateway c.tidy.new.gateway c.args.waiting.now.pending c.answer_front.new.waiting.pending c.in_ok-count.count
+    served-passed g.D.Disk.honest g.D.Disk.moment g.D.Disk.left g.D.Disk.seen g.D.Disk.failed g.met.D.Disk.reads g.met.D.Disk.earlier c.args.gateway.now c.answer_front.new.gateway c.tidy.new.gateway c.args.waiting.now.unanswered c.answer_front.new.waiting.unanswered c.in_ok-count.count
     (a.0 ++ c.answer_front.new.answers.items) (a.0 ++ c.tidy.new.answers.items) a.1 a.3 (c.in-Ok.ensures.ok a.0)
 
 pub returns-in-Err-clause-served : goal.returns-in-Err-clause-served
 returns-in-Err-clause-served g c =
     let a = c.in_ok-count.ensures.came in
     let e = c.in-Err.ensures in
-    let is = untidy g.D.Disk.honest g.D.Disk.moment g.D.Disk.left g.D.Disk.seen g.D.Disk.failed g.met.D.Disk.reads g.met.D.Disk.earlier c.args.gateway.now c.answer_front.new.gateway c.tidy.new.gateway c.args.waiting.now.pending c.answer_front.new.waiting.pending c.in_ok-count.count
+    let is = untidy g.D.Disk.honest g.D.Disk.moment g.D.Disk.left g.D.Disk.seen g.D.Disk.failed g.met.D.Disk.reads g.met.D.Disk.earlier c.args.gateway.now c.answer_front.new.gateway c.tidy.new.gateway c.args.waiting.now.unanswered c.answer_front.new.waiting.unanswered c.in_ok-count.count
     (a.0 ++ c.answer_front.new.answers.items) (a.0 ++ c.tidy.new.answers.items) a.1 c.in-Err.fault a.3 (e.err a.0) (ap (λ answers. a.0 ++ answers) e.answers) e.none in
     (a.1, a.2, is.0, is.1)
 
@@ -47,6 +47,6 @@ pub returns-in-Err-clause-why : goal.returns-in-Err-clause-why
 returns-in-Err-clause-why g c =
     let a = c.in_ok-count.ensures.came in
     let e = c.in-Err.ensures in
-    let is = untidy g.D.Disk.honest g.D.Disk.moment g.D.Disk.left g.D.Disk.seen g.D.Disk.failed g.met.D.Disk.reads g.met.D.Disk.earlier c.args.gateway.now c.answer_front.new.gateway c.tidy.new.gateway c.args.waiting.now.pending c.answer_front.new.waiting.pending c.in_ok-count.count
+    let is = untidy g.D.Disk.honest g.D.Disk.moment g.D.Disk.left g.D.Disk.seen g.D.Disk.failed g.met.D.Disk.reads g.met.D.Disk.earlier c.args.gateway.now c.answer_front.new.gateway c.tidy.new.gateway c.args.waiting.now.unanswered c.answer_front.new.waiting.unanswered c.in_ok-count.count
     (a.0 ++ c.answer_front.new.answers.items) (a.0 ++ c.tidy.new.answers.items) a.1 c.in-Err.fault a.3 (e.err a.0) (ap (λ answers. a.0 ++ answers) e.answers) e.none in
     is.2

@@ -14,5 +14,5 @@ returns-clause-left g c = λ yes.
       λ before.
           subst (λ (was : List ℕ). CarriesOn g.D.Disk.honest g.D.Disk.moment g.D.Disk.left g.D.Disk.failed c.args.gateway.now c.forward.new.gateway
           (record { moment = c.args.moment; what = Packet c.args.iface was } ∷ []) before (before ++ answer ∷ []))
-          c.split_at_mut-head.ensures.back (c.in-Some.ensures.some before),
+          c.split_at_mut-front.ensures.back (c.in-Some.ensures.some before),
     )

@@ -13,10 +13,10 @@ pub loop-hopeful-init : goal.loop-hopeful-init
 loop-hopeful-init g c = (
   [],
   sym (append-nil c.args.waiting.now.answered),
-  SoFar-first g.D.Disk.honest g.D.Disk.moment g.D.Disk.left g.D.Disk.failed c.args.gateway.now c.args.waiting.now.pending c.args.answers.now.items,
+  SoFar-first g.D.Disk.honest g.D.Disk.moment g.D.Disk.left g.D.Disk.failed c.args.gateway.now c.args.waiting.now.unanswered c.args.answers.now.items,
   c.requires.stands,
   c.requires.room,
-  ap length c.pending-most.ensures,
+  ap length c.unanswered-most.ensures,
 )
 
 pub loop-hopeful-preserved : goal.loop-hopeful-preserved
@@ -24,11 +24,11 @@ loop-hopeful-preserved g c =
     let i = c.loop-hopeful.invariant in
     let t = c.in-Took.ensures.step in
     let items = c.offer_next.new.answers.items in
-    let on = SoFar-next g.D.Disk.honest g.D.Disk.moment g.D.Disk.left g.D.Disk.failed c.args.gateway.now c.loop-hopeful.gateway c.offer_next.new.gateway c.args.waiting.now.pending c.loop-hopeful.waiting.pending c.offer_next.new.waiting.pending
+    let on = SoFar-next g.D.Disk.honest g.D.Disk.moment g.D.Disk.left g.D.Disk.failed c.args.gateway.now c.loop-hopeful.gateway c.offer_next.new.gateway c.args.waiting.now.unanswered c.loop-hopeful.waiting.unanswered c.offer_next.new.waiting.unanswered
     c.loop-hopeful.count c.args.answers.now.items (i.0 ++ c.loop-hopeful.answers.items) (i.0 ++ (t.0 ++ items)) c.in-Took.forwarded i.2 (t.2 i.0) in (
       i.0 ++ t.0,
       t.1 ∙ ap (λ (x : List ℕ). x ++ frames t.0) i.1 ∙ frames-append c.args.waiting.now.answered i.0 t.0,
-      subst (λ (out : List (ℕ × Answer)). SoFar g.D.Disk.honest g.D.Disk.moment g.D.Disk.left g.D.Disk.failed c.args.gateway.now c.offer_next.new.gateway c.args.waiting.now.pending c.offer_next.new.waiting.pending (c.loop-hopeful.count + 1) c.args.answers.now.items out)
+      subst (λ (out : List (ℕ × Answer)). SoFar g.D.Disk.honest g.D.Disk.moment g.D.Disk.left g.D.Disk.failed c.args.gateway.now c.offer_next.new.gateway c.args.waiting.now.unanswered c.offer_next.new.waiting.unanswered (c.loop-hopeful.count + 1) c.args.answers.now.items out)
           (sym (append_assoc i.0 t.0 items)) on,
       c.in-Took.ensures.stands tt,
       c.in-Took.ensures.room,
@@ -39,28 +39,28 @@ pub prove-unreachable-requires : goal.prove-unreachable-requires
 prove-unreachable-requires g c =
     let i = c.loop-hopeful.invariant in
     let t = c.in-Took.ensures.step.2 i.0 in
-    let shorter = next_shorter c.loop-hopeful.waiting.pending t.0 c.offer_next.new.waiting.pending t.1 in
+    let shorter = next_shorter c.loop-hopeful.waiting.unanswered t.0 c.offer_next.new.waiting.unanswered t.1 in
     let few = i.2.few in
-    let most = ap length c.pending-most.ensures in
-    let less : c.loop-hopeful.count < length c.pending-most.result.now = omega (arith, shorter, few, most) in
+    let most = ap length c.unanswered-most.ensures in
+    let less : c.loop-hopeful.count < length c.unanswered-most.result.now = omega (arith, shorter, few, most) in
     let other = c.if-prove.true in
     grind (arith, common_steps)
 
 pub loop-hopeful-smaller : goal.loop-hopeful-smaller
 loop-hopeful-smaller g c =
     let t = c.in-Took.ensures.step.2 c.loop-hopeful.invariant.0 in
-    next_shorter c.loop-hopeful.waiting.pending t.0 c.offer_next.new.waiting.pending t.1
+    next_shorter c.loop-hopeful.waiting.unanswered t.0 c.offer_next.new.waiting.unanswered t.1
 
 pub returns-in-Ends-clause-offered : goal.returns-in-Ends-clause-offered
 returns-in-Ends-clause-offered g c =
     let i = c.loop-hopeful.invariant in
     let t = c.in-Ends.ensures.step in
     let items = c.offer_next.new.answers.items in
-    let last = c.offer_next.new.waiting.pending in
-    let ends = SoFar-ends g.D.Disk.honest g.D.Disk.moment g.D.Disk.left g.D.Disk.failed c.args.gateway.now c.loop-hopeful.gateway c.offer_next.new.gateway c.args.waiting.now.pending c.loop-hopeful.waiting.pending last c.loop-hopeful.count
+    let last = c.offer_next.new.waiting.unanswered in
+    let ends = SoFar-ends g.D.Disk.honest g.D.Disk.moment g.D.Disk.left g.D.Disk.failed c.args.gateway.now c.loop-hopeful.gateway c.offer_next.new.gateway c.args.waiting.now.unanswered c.loop-hopeful.waiting.unanswered last c.loop-hopeful.count
     c.args.answers.now.items (i.0 ++ c.loop-hopeful.answers.items) (i.0 ++ (t.0 ++ items)) c.in-Ends.halt i.2 (t.2 i.0) in (
       i.0 ++ t.0,
       t.1 ∙ ap (λ (x : List ℕ). x ++ frames t.0) i.1 ∙ frames-append c.args.waiting.now.answered i.0 t.0,
-      subst (λ (out : List (ℕ × Answer)). Offered g.D.Disk.honest g.D.Disk.moment g.D.Disk.left g.D.Disk.failed c.in-Ends.halt c.args.waiting.now.pending last c.loop-hopeful.count c.args.gateway.now c.offer_next.new.gateway
+      subst (λ (out : List (ℕ × Answer)). Offered g.D.Disk.honest g.D.Disk.moment g.D.Disk.left g.D.Disk.failed c.in-Ends.halt c.args.waiting.now.unanswered last c.loop-hopeful.count c.args.gateway.now c.offer_next.new.gateway
           c.args.answers.now.items out) (sym (append_assoc i.0 t.0 items)) ends,
     )

@@ -11,7 +11,7 @@ use Rattle.socket_edge.proofs.serving.offer_copy.Goals as goal
 
 pub returns-in-Err-clause-step : goal.returns-in-Err-clause-step
 returns-in-Err-clause-step g c =
-    let bytes = c.args.waiting.now.pending in
+    let bytes = c.args.waiting.now.unanswered in
     let items = c.args.answers.now.items in (
       [],
       sym (append-nil c.args.waiting.now.answered),
@@ -26,9 +26,9 @@ returns-in-Err-clause-step g c =
 pub returns-in-Ok-clause-step : goal.returns-in-Ok-clause-step
 returns-in-Ok-clause-step g c =
     let event = c.in-Ok-Whole.event in
-    let taken = rw (c.in-Ok-Whole.field-0-is, c.pending.ensures) at c.in-Ok-Whole.ensures in
+    let taken = rw (c.in-Ok-Whole.field-0-is, c.unanswered.ensures) at c.in-Ok-Whole.ensures in
     let put = c.put_back.ensures.put in
-    let left : c.put_back.new.waiting.pending ≡ drop c.in-Ok-Whole.len c.args.waiting.now.pending = ap (λ (x : Exchange). x.pending) (put.2) ∙ ap (λ (x : Exchange). x.pending) c.skip.ensures in (
+    let left : c.put_back.new.waiting.unanswered ≡ drop c.in-Ok-Whole.len c.args.waiting.now.unanswered = ap (λ (x : Exchange). x.unanswered) (put.2) ∙ ap (λ (x : Exchange). x.unanswered) c.skip.ensures in (
       put.0,
       ap (λ (x : Exchange). x.answered) put.2 ∙ ap (λ (x : Exchange). x.answered ++ frames put.0) c.skip.ensures,
       λ before. (
@@ -42,8 +42,8 @@ returns-in-Ok-clause-step g c =
 pub returns-in-Err-offer_event-clause-step : goal.returns-in-Err-offer_event-clause-step
 returns-in-Err-offer_event-clause-step g c =
     let event = c.in-Ok-Whole.event in
-    let bytes = c.args.waiting.now.pending in
-    let taken = rw (c.in-Ok-Whole.field-0-is, c.pending.ensures) at c.in-Ok-Whole.ensures in
+    let bytes = c.args.waiting.now.unanswered in
+    let taken = rw (c.in-Ok-Whole.field-0-is, c.unanswered.ensures) at c.in-Ok-Whole.ensures in
     let later = drop c.in-Ok-Whole.len bytes in (
       [],
       ap (λ (x : Exchange). x.answered) c.skip.ensures ∙ sym (append-nil c.args.waiting.now.answered),

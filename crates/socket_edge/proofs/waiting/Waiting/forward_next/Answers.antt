@@ -15,13 +15,13 @@ forward_frame-requires-clause-short g c =
     let self = c.self.inside in
     let i = c.self.invariant in
     let it = c.in-Frame-Packet-default-default in
-    let bytes = c.pending.result.now in
+    let bytes = c.unanswered.result.now in
     let xs = c.as_mut_slice-bytes.result.now in
     let same = c.as_mut_slice-bytes.ensures.value in
     let is : head_of bytes ≡ head.Frame (kind.Packet it.iface) it.moment it.len = sym c.read_head.ensures ∙ it.is ∙ ap (λ k. head.Frame k it.moment it.len) it.field-0-is in
     let short : it.len ≤ 65535 = frame_is_short bytes (kind.Packet it.iface) it.moment it.len is in
     let ends : self.start + (14 + it.len) ≤ self.end =
-    ends_within self.start self.end (14 + it.len) self.bytes.items c.pending-2.result.now i.1 i.2 (c.pending-2.ensures ∙ sym (ap (λ (x : Exchange). x.pending) c.self.view_is)) c.if-pending-len.false in
+    ends_within self.start self.end (14 + it.len) self.bytes.items c.unanswered-2.result.now i.1 i.2 (c.unanswered-2.ensures ∙ sym (ap (λ (x : Exchange). x.unanswered) c.self.view_is)) c.if-unanswered-len.false in
     omega (arith, part_size self.start (self.start + (14 + it.len)) xs (omega arith) (omega (arith, ends, i.2, ap length same)), short)
 
 pub returns-clause-left : goal.returns-clause-left
@@ -29,18 +29,18 @@ returns-clause-left g c = λ yes.
     let self = c.self.inside in
     let i = c.self.invariant in
     let it = c.in-Frame-Packet-default-default in
-    let bytes = c.args.self.now.pending in
+    let bytes = c.args.self.now.unanswered in
     let len = 14 + it.len in
     let xs = c.as_mut_slice-bytes.result.now in
     let two = c.move_down.new.bytes in
     let same = c.as_mut_slice-bytes.ensures.value in
     let fits : self.end ≤ length xs = omega (arith, i.2, ap length same) in
     let was : view self.answered self.start self.end xs ≡ c.args.self.now = ap (view self.answered self.start self.end) same ∙ c.self.view_is in
-    let waits : drop self.start (take self.end xs) ≡ bytes = ap (λ (x : Exchange). x.pending) was in
-    let ends : self.start + len ≤ self.end = ends_within self.start self.end len xs c.pending-2.result.now i.1 fits (c.pending-2.ensures ∙ sym waits) c.if-pending-len.false in
+    let waits : drop self.start (take self.end xs) ≡ bytes = ap (λ (x : Exchange). x.unanswered) was in
+    let ends : self.start + len ≤ self.end = ends_within self.start self.end len xs c.unanswered-2.result.now i.1 fits (c.unanswered-2.ensures ∙ sym waits) c.if-unanswered-len.false in
     let is : head_of bytes ≡ head.Frame (kind.Packet it.iface) it.moment it.len =
-    ap head_of (sym c.pending.ensures) ∙ sym c.read_head.ensures ∙ it.is ∙ ap (λ k. head.Frame k it.moment it.len) it.field-0-is in
-    let long : len ≤ length bytes = omega (arith, c.if-pending-len.false, ap length c.pending-2.ensures) in
+    ap head_of (sym c.unanswered.ensures) ∙ sym c.read_head.ensures ∙ it.is ∙ ap (λ k. head.Frame k it.moment it.len) it.field-0-is in
+    let long : len ≤ length bytes = omega (arith, c.if-unanswered-len.false, ap length c.unanswered-2.ensures) in
     let left = c.if-not-forward_frame.ensures.left refl in
     let size : length c.forward_frame.new.bytes ≡ len = c.if-not-forward_frame.ensures.size ∙ part_size self.start (self.start + len) xs (omega arith) (omega (arith, ends, fits)) ∙ (omega arith) in
     let seen = seen_forward self.answered self.start len self.end xs two c.forward_frame.new.bytes i.0 ends fits size c.move_down.ensures.there c.move_down.ensures.behind in
@@ -65,7 +65,7 @@ slice_bounds-forward_frame-end g c =
     let xs = c.as_mut_slice-bytes.result.now in
     let same = c.as_mut_slice-bytes.ensures.value in
     let ends : self.start + (14 + it.len) ≤ self.end =
-    ends_within self.start self.end (14 + it.len) self.bytes.items c.pending-2.result.now i.1 i.2 (c.pending-2.ensures ∙ sym (ap (λ (x : Exchange). x.pending) c.self.view_is)) c.if-pending-len.false in
+    ends_within self.start self.end (14 + it.len) self.bytes.items c.unanswered-2.result.now i.1 i.2 (c.unanswered-2.ensures ∙ sym (ap (λ (x : Exchange). x.unanswered) c.self.view_is)) c.if-unanswered-len.false in
     omega (arith, ends, i.2, ap length same)
 
 pub move_down-requires-clause-within : goal.move_down-requires-clause-within
@@ -76,7 +76,7 @@ move_down-requires-clause-within g c =
     let xs = c.as_mut_slice-bytes.result.now in
     let same = c.as_mut_slice-bytes.ensures.value in
     let ends : self.start + (14 + it.len) ≤ self.end =
-    ends_within self.start self.end (14 + it.len) self.bytes.items c.pending-2.result.now i.1 i.2 (c.pending-2.ensures ∙ sym (ap (λ (x : Exchange). x.pending) c.self.view_is)) c.if-pending-len.false in
+    ends_within self.start self.end (14 + it.len) self.bytes.items c.unanswered-2.result.now i.1 i.2 (c.unanswered-2.ensures ∙ sym (ap (λ (x : Exchange). x.unanswered) c.self.view_is)) c.if-unanswered-len.false in
     let size : length c.forward_frame.new.bytes ≡ 14 + it.len = c.if-not-forward_frame.ensures.size ∙ part_size self.start (self.start + (14 + it.len)) xs (omega arith) (omega (arith, ends, i.2, ap length same)) ∙ (omega arith) in
     let between = between_size self.start (self.start + (14 + it.len)) xs c.forward_frame.new.bytes (omega arith) (omega (arith, ends, i.2, ap length same)) (size ∙ (omega arith)) in
     omega (arith, ends, i.2, ap length same, between)

@@ -21,7 +21,7 @@ returns-in-Some-clause-put c = λ yes.
     let now = with_items_is self.bytes (put_mid self.answered (self.start - self.answered) xs ys)
     (between_size self.answered self.start xs ys i.0 (omega (arith, fits, i.1)) as_many ∙ c.as_mut_slice.ensures.len) in
     ap (view (self.answered + c.in-Some.count) self.start self.end) now ∙ seen_more self.answered self.start self.end c.in-Some.count xs ys i.0 i.1 fits as_many it.0
-    ∙ rw (it.1) (ap (λ (x : Exchange). record { answered = x.answered ++ frames c.args.answers.now; pending = x.pending; reach = x.reach }) was)
+    ∙ rw (it.1) (ap (λ (x : Exchange). record { answered = x.answered ++ frames c.args.answers.now; unanswered = x.unanswered; reach = x.reach }) was)
 
 pub returns-in-None-clause-full : goal.returns-in-None-clause-full
 returns-in-None-clause-full c = λ no-room.
@@ -45,7 +45,7 @@ returns-in-None-clause-fits c = λ few.
     let i = c.self.invariant in
     let part = part_size self.answered self.start c.as_mut_slice.result.now i.0 (omega (arith, i.2, i.1, ap length c.as_mut_slice.ensures.value)) in
     let answered : length c.args.self.now.answered ≡ self.answered = ap (λ (x : Exchange). length x.answered) (sym c.self.view_is) ∙ length-take-le self.answered xs (omega (arith, i.0, i.1, i.2)) in
-    let pending : length c.args.self.now.pending ≡ self.end - self.start =
-    ap (λ (x : Exchange). length x.pending) (sym c.self.view_is) ∙ length-drop self.start (take self.end xs) ∙ ap (λ (n : ℕ). n - self.start) (length-take-le self.end xs i.2) in
+    let unanswered : length c.args.self.now.unanswered ≡ self.end - self.start =
+    ap (λ (x : Exchange). length x.unanswered) (sym c.self.view_is) ∙ length-drop self.start (take self.end xs) ∙ ap (λ (n : ℕ). n - self.start) (length-take-le self.end xs i.2) in
     let reach : c.args.self.now.reach ≡ self.end = ap (λ (x : Exchange). x.reach) (sym c.self.view_is) in
-    absurd (omega (arith, few, answered, pending, reach, part, c.in-None.ensures.none, i.0, i.1))
+    absurd (omega (arith, few, answered, unanswered, reach, part, c.in-None.ensures.none, i.0, i.1))

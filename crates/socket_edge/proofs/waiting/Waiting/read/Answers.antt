@@ -21,7 +21,7 @@ returns-in-Ok-clause-ok g c =
       it.0,
       it.1,
       ap (view self.answered self.start (self.end + c.in-Ok.n)) now ∙ seen
-          ∙ ap (λ (x : Exchange). record { answered = x.answered; pending = x.pending ++ it.0; reach = x.reach + c.in-Ok.n }) (c.self.view_is ∙ c.move_to_front.ensures),
+          ∙ ap (λ (x : Exchange). record { answered = x.answered; unanswered = x.unanswered ++ it.0; reach = x.reach + c.in-Ok.n }) (c.self.view_is ∙ c.move_to_front.ensures),
       it.3,
       it.4,
     )
