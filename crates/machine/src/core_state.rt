@@ -446,6 +446,7 @@ fn answer_deed<N: Notes>(
                 drop(rules);
                 return Err((What::Load(text), fault));
             }
+            let rules = rules.into_inner();
             drop(std::mem::replace(in_force, InForce { text, rules }));
             Ok(Answer::Loaded)
         }

@@ -9,14 +9,15 @@ use packet::bounds::Bounds;
 use packet::endpoint::Iface;
 use rulesyntax::fault::Kind;
 use ruletext::read;
+use sqlite_items::Boxed;
 use std::alloc::Global;
 use verdict::Rules;
 
 /// What an event does, once its text is read.
 #[derive(Drop)]
 pub enum Deed {
-    /// The text loads, and these are its rules.
-    Take(Bytes, Rules),
+    /// The text loads, and these are its rules. Behind a box they cost the deeds of packets no moves.
+    Take(Bytes, Boxed<Rules>),
     /// The text doesn't load.
     Refuse(Bytes),
     /// A packet, and the interface that it came in on.
@@ -86,7 +87,10 @@ pub fn judge(alloc: Global, bounds: &Bounds, what: What) -> Result<Deed, (What, 
 {
     match what {
         What::Load(text) => match rules_of(alloc, bounds, text.as_slice()) {
-            Ok(Some(rules)) => Ok(Deed::Take(text, rules)),
+            Ok(Some(rules)) => match Boxed::new(alloc, rules) {
+                Ok(rules) => Ok(Deed::Take(text, rules)),
+                Err(_) => Err((What::Load(text), NoMemory)),
+            },
             Ok(None) => Ok(Deed::Refuse(text)),
             Err(e) => Err((What::Load(text), e)),
         },
