@@ -83,7 +83,7 @@ fn run_opened(
 ) -> Result<(), Stop> {
     let mut gateway = open(rt, sides, bounds, opening)?;
     let worked = work_on(rt, opening.directory, work, requests, &mut gateway);
-    // Its own crate lets its parts go, so that this is not proved here once more. What is let go here are the files.
+    // `into_disk` lets the core go within `gateway`, so that this isn't proved here once more. Here the files go.
     drop(gateway.into_disk());
     worked
 }

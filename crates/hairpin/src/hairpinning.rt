@@ -75,8 +75,8 @@ struct Leg {
     before: Option<Held>,
 }
 
-// The session once a packet of it from this side has passed. A leg asks only its endpoints, which stay; the rest is what
-// `both` says of it.
+// The session once a packet of it from this side has passed. Of the result only the endpoints are read, which stay; the
+// other fields are there for the contract.
 fn passed(session: &Session, sender: Opener, flags: Flags, now: u64) -> Session
     ensures { result ≡ passed_by session.now sender flags now }
 {

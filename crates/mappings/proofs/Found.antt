@@ -8,8 +8,8 @@ use Rattle.rows.specs.declared.Entry.{Entry}
 use Rattle.rows.specs.Held.{value_at}
 use Rattle.mappings.specs.declared.map.Pair.{Pair}
 use Rattle.mappings.specs.declared.map.Counted.{Counted}
-use Rattle.mappings.specs.Map.{pair, times_in, AreOneToOne}
-use Rattle.mappings.specs.Indexed.{pairs_in, mapping_number, number_of, IsSmall, LeadToPairs, AreApart, AreIndexed, KeepsOneToOneIn}
+use Rattle.mappings.specs.Map.{pair, times_in, AreOneToOne, KeepsOneToOneIn}
+use Rattle.mappings.specs.Indexed.{pairs_in, mapping_number, number_of, IsSmall, LeadToPairs, AreApart, AreIndexed}
 use Rattle.mappings.proofs.Keys.{mapping_number-once}
 use Rattle.mappings.proofs.Slots.{times-slot, times-some}
 use Rattle.mappings.proofs.Times.{same_parts}

@@ -65,11 +65,6 @@ IsIndexed index = AreIndexed index.pairs.slots index.outside.held
 abbrev pub held_in : Index → List Counted
 held_in index = pairs_in index.pairs.slots
 
--- the pair shares neither endpoint with one of its protocol among these, but for itself
-abbrev pub KeepsOneToOneIn : List Counted → Pair → Type 0
-KeepsOneToOneIn entries new = (p : Pair) → 0 < times_in entries p → p.proto ≡ new.proto
-    → (p.inside ≡ new.inside) ↔ (p.outside ≡ new.outside)
-
 -- how many pairs surely go in with no memory
 abbrev pub room_in : Index → ℕ
 room_in index = min (index.pairs.capacity - slab_len index.pairs) index.outside.room

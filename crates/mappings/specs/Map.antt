@@ -47,10 +47,13 @@ GainsIn old new gained = (p : Pair) → times_in new p ≡ times_in old p + one_
 abbrev pub Gains : Pairs → Pairs → Pair → Type 0
 Gains old new gained = GainsIn old.held new.held gained
 
--- the pair shares neither endpoint with a pair of its protocol that is held, but for itself
-abbrev pub KeepsOneToOne : Pairs → Pair → Type 0
-KeepsOneToOne m new = (p : Pair) → 0 < times m p → p.proto ≡ new.proto
+-- the pair shares neither endpoint with one of its protocol among these, but for itself
+abbrev pub KeepsOneToOneIn : List Counted → Pair → Type 0
+KeepsOneToOneIn entries new = (p : Pair) → 0 < times_in entries p → p.proto ≡ new.proto
     → (p.inside ≡ new.inside) ↔ (p.outside ≡ new.outside)
+
+abbrev pub KeepsOneToOne : Pairs → Pair → Type 0
+KeepsOneToOne m new = KeepsOneToOneIn m.held new
 
 -- two pairs of a protocol that are held are one where they share an outside or an inside endpoint
 pub record AreOneToOne (times_of : Pair → ℕ) : Type 0 where

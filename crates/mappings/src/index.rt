@@ -3,8 +3,8 @@ ghost use Rattle.std.specs.Prelude.{◌≡◌, ◌↔◌, ◌+◌, ◌-◌, ◌<
 ghost use Rattle.packet.specs.declared.endpoint.Endpoint.{Endpoint as Place};
 ghost use Rattle.slab.specs.Slab.{get, with_value, HasRoomFor};
 ghost use Rattle.rows.specs.Held.{at};
-ghost use Rattle.mappings.specs.Map.{times_in, pair, GainsIn};
-ghost use Rattle.mappings.specs.Indexed.{mapping_number, IsSmall, IsIndexed, KeepsOneToOneIn, held_in, room_in};
+ghost use Rattle.mappings.specs.Map.{times_in, pair, GainsIn, KeepsOneToOneIn};
+ghost use Rattle.mappings.specs.Indexed.{mapping_number, IsSmall, IsIndexed, held_in, room_in};
 
 use crate::map::{Counted, Pair};
 use buckets::by_port::ByPort;

@@ -6,7 +6,6 @@ use Rattle.packet.specs.Config.{Config, is_inside}
 use Rattle.rulesyntax.specs.declared.tree.End.{End}
 use Rattle.rulesyntax.specs.declared.tree.End.TheVariants as ends
 use Rattle.rulesyntax.specs.declared.tree.Table.{Table}
-use Rattle.rulesyntax.specs.declared.tree.Spelled.{Spelled}
 use Rattle.ruletext.specs.declared.hooks.Translation.{Translation}
 use Rattle.ruletext.specs.declared.hooks.Translation.TheVariants.{Destination, Source, Masquerade}
 
@@ -32,6 +31,3 @@ some_end_in test tables =
     list_any
     (λ table. list_any (λ chain. list_any (λ rule. option_map_or test rule.end false) chain.rules)
     table.chains) tables
-
-abbrev pub some_end : (End → Bool) → Spelled → Bool
-some_end test text = some_end_in test text.tables

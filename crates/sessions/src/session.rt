@@ -115,8 +115,7 @@ pub fn clash(new: &Session, held: &Session) -> bool
     breaks_mapping(new, held)
 }
 
-/// Whether the two sessions, which are of one protocol, are both translated and share just one of inside and outside
-/// endpoint.
+/// Whether the two sessions are of one protocol, both translated, and share just one of inside and outside endpoint.
 #[tactic(auto, unfolding(crate::specs::Listing::breaks_mapping))]
 pub fn breaks_mapping(new: &Session, held: &Session) -> bool
     ensures { result ≡ are_breaking new.now held.now }

@@ -76,7 +76,7 @@ rules_at chains a = option_map_or (λ chain. chain.rules) (slice_get chains a) [
 abbrev pub rest_of : List Chain → Place → List Rule
 rest_of chains place = drop place.at (rules_at chains place.chain)
 
--- what rules of the table come to
+-- what rules of the table come to: `chain_outcome` of `Evaluation`, written out so that it unfolds by itself
 abbrev pub comes : Config → Facts → Table → List Rule → Outcome
 comes config facts table rules = walk config facts table (called 16 config facts table) rules
 

@@ -3,8 +3,8 @@ use Rattle.std.proofs.lemmas.Bool.{false≢true}
 use Rattle.rows.specs.Held.{Entries, Puts, value_at}
 use Rattle.slab.specs.Slab.{Slab, get}
 use Rattle.mappings.specs.declared.map.Counted.{Counted}
-use Rattle.mappings.specs.Indexed.{number_of, pairs_in, AreIndexed, KeepsOneToOneIn}
-use Rattle.mappings.specs.Map.{times_in, GainsIn}
+use Rattle.mappings.specs.Indexed.{number_of, pairs_in, AreIndexed}
+use Rattle.mappings.specs.Map.{times_in, GainsIn, KeepsOneToOneIn}
 use Rattle.mappings.proofs.Changed.{Updates-write, Gains-up, Gains-new, AreIndexed-counts, AreIndexed-more, AreIndexed-same}
 use Rattle.mappings.proofs.Found.{held_led, not_held, found_is, inside_free}
 use Rattle.mappings.proofs.Slots.{times-slot}
