@@ -32,7 +32,7 @@ use crate::deed::{Deed, judge, rules_of};
 use crate::event::{Answer, Event, NoMemory, What};
 use crate::flows::Flows;
 use crate::notes::{Notes, StepFault, Unkept};
-use durable::Entry;
+use durable::{Entry, LOAD_FRONT_LEN};
 use hairpin::{
     Cause, Going, Plan, both, comes_in, comes_in_showing, goes_out, goes_out_showing, in_leg,
     out_leg,
@@ -395,7 +395,7 @@ fn note_load<N: Notes>(ready: bool, text: &Bytes, notes: &mut N) -> Result<(), S
 {
     let bytes = text.as_slice();
     if !ready {
-        notes.reserve(0, 5 + bytes.len() as u64)?;
+        notes.reserve(0, LOAD_FRONT_LEN as u64 + bytes.len() as u64)?;
     }
     notes.note(Entry::Load(bytes));
     Ok(())

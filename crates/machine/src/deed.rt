@@ -5,6 +5,8 @@ ghost use Rattle.machine.specs.Judged.{AreRulesOf, IsNoLoad, IsRight, bringer};
 
 use crate::bytes::Bytes;
 use crate::event::{NoMemory, What};
+use crate::notes::MOST_OF_PACKET;
+use durable::LOAD_FRONT_LEN;
 use packet::bounds::Bounds;
 use packet::endpoint::Iface;
 use rulesyntax::fault::Kind;
@@ -44,9 +46,9 @@ impl Deed {
         ensures { result ≡ most_in self.now }
     {
         match self {
-            Deed::Take(text, _) => 5 + text.as_slice().len() as u64,
+            Deed::Take(text, _) => LOAD_FRONT_LEN as u64 + text.as_slice().len() as u64,
             Deed::Refuse(_) => 0,
-            Deed::Packet(_, _) => 44,
+            Deed::Packet(_, _) => MOST_OF_PACKET,
             Deed::Moment => 0,
         }
     }

@@ -20,7 +20,7 @@ ghost use Rattle.machine.specs.Notes.{bytes_of};
 ghost use Rattle.machine.specs.Flows.{IsDue, IsLatest, IsReady, MayJoin, adds as adds_by, adds_second};
 
 use crate::ahead::{count_ending, count_mapped};
-use crate::notes::{Notes, StepFault};
+use crate::notes::{MOST_OF_PACKET, Notes, StepFault};
 use crate::noting::{entry_of, flow_of, make_room_to_note, makes_entry, note};
 use durable::Entry;
 use hairpin::translations::Translations;
@@ -410,7 +410,7 @@ impl Flows {
         if adds_any(plan) && self.reserve().is_err() {
             return Err(StepFault::NoMemory);
         }
-        notes.reserve(0, 44)
+        notes.reserve(0, MOST_OF_PACKET)
     }
 
     /// Does what a plan says, at the second `now`, and notes it; `ready` says that there is room for two sessions

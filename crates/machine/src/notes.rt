@@ -19,6 +19,9 @@ pub enum StepFault {
     NoMemory,
 }
 
+/// How many bytes the entries of a packet have at most: it begins two sessions.
+pub(crate) const MOST_OF_PACKET: u64 = 44;
+
 /// Takes the entries of events, for which it makes room beforehand.
 ///
 /// What is said of the entries is said of notes that keep them; others let them go.

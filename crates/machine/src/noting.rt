@@ -11,7 +11,7 @@ ghost use Rattle.sessions.specs.declared.session.Session.{Session as Flowing};
 ghost use Rattle.sessions.specs.Stilled.{stilled as without_moment};
 ghost use Rattle.sessions.specs.Table.{restarted, seen as seen_with};
 
-use crate::notes::{Notes, StepFault};
+use crate::notes::{MOST_OF_PACKET, Notes, StepFault};
 use durable::{Entry, Flow, endpoint_fits};
 use sessions::{Change, Opener, Session, Table};
 
@@ -129,7 +129,7 @@ pub fn make_room_to_note<N: Notes>(
     if !makes_entry(table, change) {
         return Ok(());
     }
-    notes.reserve(0, 44)
+    notes.reserve(0, MOST_OF_PACKET)
 }
 
 /// The entry that a change of a session makes, if it makes one; the table is that before the change.
