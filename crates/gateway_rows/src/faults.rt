@@ -99,7 +99,8 @@ fn nearly_full(alloc: Global) -> Result<Vec<u8>, Fail> {
     Ok(file)
 }
 
-// 48 bytes of text, a packet at which a session ends, and a second packet; each comes back, and nothing changes.
+// 48 bytes of text, a packet at which a session ends, a second packet, and a first reply; each comes back, and nothing
+// changes.
 const NO_ROOM: &str = "\
 grown
 = 67108767
@@ -110,6 +111,8 @@ lan 1300 4500001c00010000 40118eea c0a80103 c6336407 13880035 0008003b
 lan 1000 4500001c00010000 40118eea c0a80103 c6336407 13880035 0008003b
 = held 1
 lan 1000 4500001c00010000 40118ee9 c0a80104 c6336407 13880035 0008003a
+= full
+wan 1000 4500001c00010000 40118eeb c6336407 c0a80102 00351388 0008003c
 = full
 held
 = 1
