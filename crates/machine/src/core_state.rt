@@ -43,6 +43,7 @@ use packet::rewriting::rewrite;
 use packet::route::Route;
 use packet::view::View;
 use sessions::{Coming, MOST_AHEAD, Session};
+use sqlite_items::Boxed;
 use std::alloc::Global;
 use std::marker::Model;
 use verdict::Rules;
@@ -401,6 +402,16 @@ fn note_load<N: Notes>(ready: bool, text: &Bytes, notes: &mut N) -> Result<(), S
     Ok(())
 }
 
+// Puts the rules of the text in force. Not compiled into its caller, so that a packet clears no room for rules.
+#[inline(never)]
+fn put_in_force(in_force: &mut InForce, text: Bytes, rules: Boxed<Rules>)
+    ensures text { in_force.new.text ≡ text }
+    ensures rules { in_force.new.rules ≡ rules }
+{
+    let rules = rules.into_inner();
+    drop(std::mem::replace(in_force, InForce { text, rules }));
+}
+
 // What is done at sessions that are alive.
 fn answer_deed<N: Notes>(
     flows: &mut Flows,
@@ -446,8 +457,7 @@ fn answer_deed<N: Notes>(
                 drop(rules);
                 return Err((What::Load(text), fault));
             }
-            let rules = rules.into_inner();
-            drop(std::mem::replace(in_force, InForce { text, rules }));
+            put_in_force(in_force, text, rules);
             Ok(Answer::Loaded)
         }
         Deed::Refuse(_) => Ok(Answer::Refused),

@@ -76,6 +76,23 @@ pub fn rules_of(alloc: Global, bounds: &Bounds, text: &[u8]) -> Result<Option<Ru
     }
 }
 
+// Reads the text. Not compiled into its caller, so that a packet clears no room for rules.
+#[inline(never)]
+fn judge_load(alloc: Global, bounds: &Bounds, text: Bytes) -> Result<Deed, (What, NoMemory)>
+    ensures brings { IfOk result (λ deed. What.Load text ≡ bringer deed) }
+    ensures right { IfOk result (λ deed. IsRight bounds.now deed) }
+    ensures err { IfErr result (λ e. e.0 ≡ What.Load text) }
+{
+    match rules_of(alloc, bounds, text.as_slice()) {
+        Ok(Some(rules)) => match Boxed::new(alloc, rules) {
+            Ok(rules) => Ok(Deed::Take(text, rules)),
+            Err(_) => Err((What::Load(text), NoMemory)),
+        },
+        Ok(None) => Ok(Deed::Refuse(text)),
+        Err(e) => Err((What::Load(text), e)),
+    }
+}
+
 /// Reads the text, if the event brings one. Nothing but a text takes memory.
 ///
 /// # Errors
@@ -88,14 +105,7 @@ pub fn judge(alloc: Global, bounds: &Bounds, what: What) -> Result<Deed, (What, 
     ensures succeeds { IsNoLoad what → IsOk result }
 {
     match what {
-        What::Load(text) => match rules_of(alloc, bounds, text.as_slice()) {
-            Ok(Some(rules)) => match Boxed::new(alloc, rules) {
-                Ok(rules) => Ok(Deed::Take(text, rules)),
-                Err(_) => Err((What::Load(text), NoMemory)),
-            },
-            Ok(None) => Ok(Deed::Refuse(text)),
-            Err(e) => Err((What::Load(text), e)),
-        },
+        What::Load(text) => judge_load(alloc, bounds, text),
         What::Packet(iface, bytes) => Ok(Deed::Packet(iface, bytes)),
         What::Moment => Ok(Deed::Moment),
     }
