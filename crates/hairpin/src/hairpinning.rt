@@ -1,4 +1,8 @@
 //! Both legs of a packet from an inside endpoint to an outside endpoint of the gateway.
+//!
+//! `both` asks `first_session` for the session that the packet goes out by, held or new, and `after_first` for the rest:
+//! the session that it comes in by (`second_leg`: one that is held, or a new one of `second_session`, to the inside
+//! endpoint that the prerouting chains or a mapping tell, `inside_far`), the forward chains (`is_forwarded`), the plan.
 ghost use Rattle.std.specs.Prelude.{◌≡◌, ◌≢◌, ◌↔◌, ◌<◌, ◌≤◌, ◌+◌, ℕ, List, Option as Maybe, IsTrue, IfErr, IfOk, IfSome, IfNone, Some, None, Ok, Err, slice_index_or, true};
 ghost use Rattle.std.specs.Option.{option_map, option_map_or};
 ghost use Rattle.packet.specs.Config.{Config, is_inside};
@@ -146,6 +150,7 @@ fn outside_near(
     }
 }
 
+// The session that the packet goes out by: as it is once the packet has passed, where one was held, and else a new one.
 fn first_session(
     bounds: &Bounds,
     table: &Table,
@@ -182,6 +187,7 @@ fn first_session(
     }
 }
 
+// The inside endpoint of the mapping whose outside endpoint is the destination.
 fn mapped_far(
     bounds: &Bounds,
     table: &Table,
@@ -245,6 +251,7 @@ fn begun_second(
     Ok(session)
 }
 
+// A new session that the packet comes in by, where none is held.
 fn second_session(
     bounds: &Bounds,
     rules: &Rules,
@@ -272,6 +279,7 @@ fn second_session(
     }
 }
 
+// The session that the packet comes in by, held or new.
 fn second_leg(
     bounds: &Bounds,
     rules: &Rules,
@@ -318,6 +326,7 @@ fn second_leg(
     }
 }
 
+// Whether the forward chains let the packet pass to this endpoint.
 fn is_forwarded(bounds: &Bounds, rules: &Rules, view: &View, dst: Endpoint, state: State) -> bool
     ensures { IsTrue result
         ↔ (forward_verdict bounds.now (record {
@@ -346,6 +355,7 @@ fn sessions_after(table: &Table, first: &Leg, second: &Leg) -> usize
     table.count() + news(first) + news(second)
 }
 
+// How many sessions the leg begins.
 fn news(leg: &Leg) -> usize
     ensures value { result ≡ option_map_or (λ (h : Known). 0) leg.now.before 1 }
     ensures few { result ≤ 1 }

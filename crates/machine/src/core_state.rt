@@ -729,7 +729,8 @@ impl Core {
     /// leaves. The clock rises to the moment, in seconds. That takes no memory, and nothing changes that must survive.
     ///
     /// `None` says nothing of the packet: nothing has changed, and `step` tells what it comes to. It comes where a
-    /// session would end at the moment, and where a look at the packet alone doesn't tell that its session goes on.
+    /// session would end at the moment, where the first look doesn't tell the packet's session, or the packet shows
+    /// something new of it, and where it is dropped or a hairpin.
     pub fn forward(&mut self, moment: u64, iface: Iface, packet: &mut [u8]) -> Option<Iface>
         ensures step { IfSome result (λ out. (judged : Judged)
             × IsJudged self.old.config
