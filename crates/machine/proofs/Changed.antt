@@ -1,5 +1,5 @@
 -- What a change does to the sessions that are held.
-use Rattle.std.proofs.Common.{◌≡◌, ◌≢◌, ℕ, ◌≤◌, List, Option, Some, None, get_or, sym, ◌∙◌, subst, inl, inr, arith}
+use Rattle.std.proofs.Common.{◌≡◌, ◌≢◌, ℕ, ◌≤◌, List, Option, Some, None, bit_or, get_or, refl, sym, ap, ◌∙◌, subst, inl, inr, arith}
 use Rattle.std.proofs.lemmas.Bool.{cases_eq}
 use Rattle.std.proofs.lemmas.Option.{same_Some}
 use Rattle.sessions.specs.declared.session.Change.{Change}
@@ -52,3 +52,15 @@ pub adds-few : (change : Change) → adds change ≤ 1
 adds-few (Begin s) = omega arith
 adds-few (Seen slot bits) = omega arith
 adds-few (Restart slot opener) = omega arith
+
+-- a packet that shows what was seen, in the second of the one before, leaves its session as it is
+seen_again : (s : Session) (bits last : ℕ) → bit_or s.seen bits ≡ s.seen → s.last ≡ last → seen s bits last ≡ s
+seen_again s bits last shown now = ap (λ n. record s { seen = n; last = last }) shown ∙ ap (λ (n : ℕ). record s { last = n }) (sym now)
+
+pub became_again : (old : Sessions) (slot : ℕ) (s : Session) (bits last : ℕ) → IsSound old.held → at old slot ≡ Some s
+    → (bit_or s.seen bits ≡ s.seen) × (s.last ≡ last) → Became old.held (Seen slot bits) (seen s bits last) old.held
+became_again old slot s bits last sound is stays =
+    let same = seen_again s bits last stays.0 stays.1 in
+    became old old (Seen slot bits) slot (seen s bits last) sound sound (record { changed = is ∙ ap Some (sym same); others = λ k away. refl })
+    (λ u at_u. ap key (same_Some u s (sym at_u ∙ is)))
+    (λ k u at_u other e. other (sym e))

@@ -180,6 +180,56 @@ fn plan_for(
     }
 }
 
+// What a packet with these fields comes to, on its route, by the plan that is made for it; `ready` says that there is room
+// already. Not compiled into its caller, so that a packet whose session goes on clears no place for a plan.
+#[inline(never)]
+fn answer_by_plan<N: Notes>(
+    flows: &mut Flows,
+    rules: &Rules,
+    bounds: &Bounds,
+    ready: bool,
+    route: Route,
+    view: &View,
+    bytes: Bytes,
+    now: u64,
+    notes: &mut N,
+) -> Result<Answer, (Bytes, StepFault)>
+    requires external { flows.old.translations.external ≡ bounds.now.external }
+    requires sound { AreSound bounds.now (listing flows.old.table.held) }
+    requires bounded { KeepBounds bounds.now rules.now }
+    requires ports { (0 < view.now.src.port) × (0 < view.now.dst.port) }
+    requires routed { (iface : Iface) × (route_for bounds.now iface view.now ≡ Ok route) }
+    requires read { IsOkAnd (fields bytes) (λ view. 2 ≤ view.ttl) }
+    requires latest { IsLatest flows.old.table.held now }
+    requires ready { IsTrue ready → IsReady 2 flows.old }
+    requires room { IsTrue ready → N.keeps notes.old → 44 ≤ N.room notes.old }
+    ensures ok { IfOk result (λ answer. (text : List ℕ)
+        → IsTransition (λ s. sent s bytes (leg bounds.now
+        (state_of text rules.now flows.old.table.held now) view.now route))
+        flows.old.table.held flows.new.table.held now answer) }
+    ensures err { IfErr result (λ e. (e.0 ≡ bytes)
+        × (flows.new.table.held ≡ flows.old.table.held)) }
+    ensures external { flows.new.translations.external ≡ flows.old.translations.external }
+    ensures ready { IsTrue ready → IsOk result }
+    ensures adds_none { (text : List ℕ)
+        → let s = state_of text rules.now flows.old.table.held now in
+        AddsNone s (sent s bytes (leg bounds.now s view.now route)) → N.grants notes.old
+        → IsOk result }
+    ensures keeps { N.keeps notes.old ↔ N.keeps notes.new }
+    ensures beside { N.beside notes.new ≡ N.beside notes.old }
+    ensures noted { OnOk result ((text : List ℕ) → N.keeps notes.old
+        → N.noted notes.new ≡ N.noted notes.old ++ of_way (listing flows.old.table.held)
+        (leg bounds.now (state_of text rules.now flows.old.table.held now) view.now route)) }
+    ensures err_noted { OnErr result (N.noted notes.new ≡ N.noted notes.old) }
+    ensures full { IfErr result (λ e. e.1 ≡ StepFault.Full → N.too_many notes.old 44) }
+    ensures quiet { (text : List ℕ) → of_way (listing flows.old.table.held)
+        (leg bounds.now (state_of text rules.now flows.old.table.held now) view.now route) ≡ []
+        → IsOk result }
+{
+    let plan = plan_for(flows, rules, bounds, route, view, now);
+    answer_planned(flows, ready, &plan, bytes, now, notes)
+}
+
 // How a packet with these fields leaves, where its session goes on and the first look tells it. Compiled into its
 // callers, it needs no place for what it answers.
 #[inline(always)]
@@ -280,6 +330,7 @@ fn answer_going<N: Notes>(
         ++ of_way (listing flows.old.table.held) way) }
     ensures err_noted { OnErr result (N.noted notes.new ≡ N.noted notes.old) }
     ensures full { IfErr result (λ e. e.1 ≡ StepFault.Full → N.too_many notes.old 44) }
+    ensures no_memory { IfErr result (λ e. e.1 ≡ StepFault.NoMemory → ¬ N.too_many notes.old 44) }
     ensures quiet { (way : Outcome Passage Reason)
         → Plans flows.old.translations.external flows.old.table.held now (planned going.now) way
         → of_way (listing flows.old.table.held) way ≡ [] → IsOk result }
@@ -341,8 +392,8 @@ fn answer_packet<N: Notes>(
             Ok(route) => match glance_showing(flows, &in_force.rules, bounds, route, &view) {
                 Some(going) => answer_going(flows, ready, &going, bytes, now, notes),
                 None => {
-                    let plan = plan_for(flows, &in_force.rules, bounds, route, &view, now);
-                    answer_planned(flows, ready, &plan, bytes, now, notes)
+                    let rules = &in_force.rules;
+                    answer_by_plan(flows, rules, bounds, ready, route, &view, bytes, now, notes)
                 }
             },
         },

@@ -1,5 +1,5 @@
 //! The sessions with their timers and mappings, which change together.
-ghost use Rattle.std.specs.Prelude.{◌≡◌, ◌≢◌, ◌↔◌, ◌+◌, ◌-◌, ◌*◌, ◌<◌, ◌≤◌, ◌++◌, ◌∷◌, [], ℕ, List, true, false, IsErrOf, IsTrue, Some, None, IfOk, OnOk, OnErr, IsOk, IfSome, IsSome, IsSomeAnd, length, map, slice_index};
+ghost use Rattle.std.specs.Prelude.{◌≡◌, ◌≢◌, ◌↔◌, ◌+◌, ◌-◌, ◌*◌, ◌<◌, ◌≤◌, ◌++◌, ◌∷◌, [], ℕ, List, true, false, IsErrOf, IsTrue, Some, None, IfOk, OnOk, OnErr, IsOk, IfSome, IsSome, IsSomeAnd, length, map, slice_index, bit_or};
 ghost use Rattle.std.specs.List.{Contains, filter};
 ghost use Rattle.std.specs.Option.{option_map};
 ghost use Rattle.sessions.specs.Life.{IsSeen, IsTimeout, alive, timeout_of};
@@ -211,8 +211,39 @@ impl Flows {
         now == clock || self.keeps_all(alloc, now)
     }
 
+    /// Whether a packet that shows these bits at this second leaves the session of the slot as it is.
+    fn stays(&self, slot: Slot, bits: u8, last: u64) -> bool
+        ensures { IsTrue result → (s : Flow) → at self.now.table slot ≡ Some s
+            → (bit_or s.seen bits ≡ s.seen) × (s.last ≡ last) }
+    {
+        match self.table.get(slot) {
+            Some(session) => session.last == last && session.seen | bits == session.seen,
+            None => false,
+        }
+    }
+
     /// A packet of the session of the slot passed.
     fn see(&mut self, slot: Slot, bits: u8, last: u64)
+        requires held { IsSome (at self.old.table slot) }
+        requires bits { IfSome (at self.old.table slot) (λ s. IsSeen s.proto bits) }
+        requires latest { IsLatest self.old.table.held last }
+        ensures became { (s : Flow) → at self.old.table slot ≡ Some s
+            → Became self.old.table.held (Change.Seen slot bits) (seen_with s bits last)
+            self.new.table.held }
+        ensures latest { IsLatest self.new.table.held last }
+        ensures ready { (n : ℕ) → IsReady n self.old → IsReady n self.new }
+        ensures external { self.new.translations.external ≡ self.old.translations.external }
+    {
+        self.table.is_sound();
+        // Most packets come in the second of the one before, and show what was seen.
+        if self.stays(slot, bits, last) {
+            return;
+        }
+        self.refresh(slot, bits, last);
+    }
+
+    /// Puts what a packet of the session of the slot showed, and when it passed.
+    fn refresh(&mut self, slot: Slot, bits: u8, last: u64)
         requires held { IsSome (at self.old.table slot) }
         requires bits { IfSome (at self.old.table slot) (λ s. IsSeen s.proto bits) }
         requires latest { IsLatest self.old.table.held last }
@@ -471,8 +502,8 @@ impl Flows {
     ///
     /// # Errors
     ///
-    /// `NoMemory` where something is noted, there is no room for it, and memory is refused; `Full` only where 44 bytes
-    /// of entries don't fit. The sessions stay as they are, and what is noted too.
+    /// `Full` only where something is noted and 44 bytes of entries don't fit; `NoMemory` only where they do, there is no
+    /// room for them yet, and memory is refused. The sessions stay as they are, and what is noted too.
     pub fn carry_out_going<N: Notes>(
         &mut self,
         ready: bool,
@@ -500,6 +531,7 @@ impl Flows {
             ++ noted_all ts (listing self.old.table.held)) }
         ensures err_noted { OnErr result (N.noted notes.new ≡ N.noted notes.old) }
         ensures full { IsErrOf result StepFault.Full → N.too_many notes.old 44 }
+        ensures no_memory { IsErrOf result StepFault.NoMemory → ¬ N.too_many notes.old 44 }
         ensures succeeds { IsTrue ready → IsOk result }
         ensures grants { N.grants notes.old → IsOk result }
         ensures quiet { (ts : List Flow)

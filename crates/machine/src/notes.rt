@@ -48,13 +48,15 @@ pub trait Notes {
     ///
     /// # Errors
     ///
-    /// `Full` only where these don't fit, and `NoMemory` where memory is refused. What is noted stays.
+    /// `Full` only where these don't fit, and `NoMemory` only where they do, and memory is refused. What is noted stays.
     fn reserve(&mut self, ends: usize, others: u64) -> Result<(), StepFault>
         ensures keeps { keeps self.old ↔ keeps self.new }
         ensures beside { beside self.new ≡ beside self.old }
         ensures ok { keeps self.old → OnOk result (14 * ends + others ≤ room self.new) }
         ensures noted { noted self.new ≡ noted self.old }
         ensures full { IsErrOf result StepFault.Full → too_many self.old (14 * ends + others) }
+        ensures no_memory { IsErrOf result StepFault.NoMemory
+            → ¬ too_many self.old (14 * ends + others) }
         ensures succeeds { grants self.old → IsOk result };
 
     /// Notes an entry, which has a code, and for which there is room. This takes no memory.

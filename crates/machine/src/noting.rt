@@ -100,7 +100,8 @@ pub fn makes_entry(table: &Table, change: &Change) -> bool
 ///
 /// # Errors
 ///
-/// `NoMemory` where memory is refused; `Full` only where 44 bytes of entries don't fit. What is noted stays.
+/// `Full` only where 44 bytes of entries don't fit; `NoMemory` only where they do, and memory is refused. What is noted
+/// stays.
 pub fn make_room_to_note<N: Notes>(
     table: &Table,
     ready: bool,
@@ -117,6 +118,7 @@ pub fn make_room_to_note<N: Notes>(
     ensures beside { N.beside notes.new ≡ N.beside notes.old }
     ensures noted { N.noted notes.new ≡ N.noted notes.old }
     ensures full { IsErrOf result StepFault.Full → N.too_many notes.old 44 }
+    ensures no_memory { IsErrOf result StepFault.NoMemory → ¬ N.too_many notes.old 44 }
     ensures succeeds { IsTrue ready → IsOk result }
     ensures grants { N.grants notes.old → IsOk result }
     ensures quiet { (external now : ℕ) (t : Flowing)

@@ -6,19 +6,16 @@ use Rattle.machine.proofs.Reading.{ports_are_some}
 use Rattle.machine.proofs.Soundness.{bounded}
 use Rattle.machine.proofs.core_state.answer_packet.Goals as goal
 
-pub plan_for-plan-requires-clause-bounded : goal.plan_for-plan-requires-clause-bounded
-plan_for-plan-requires-clause-bounded g c = bounded c.args.bounds.now c.args.in_force.now.text c.args.in_force.now.rules c.requires.in_force
+pub answer_by_plan-requires-clause-bounded : goal.answer_by_plan-requires-clause-bounded
+answer_by_plan-requires-clause-bounded g c = bounded c.args.bounds.now c.args.in_force.now.text c.args.in_force.now.rules c.requires.in_force
 
-pub plan_for-plan-requires-clause-ports : goal.plan_for-plan-requires-clause-ports
-plan_for-plan-requires-clause-ports g c = ports_are_some c.as_slice.result.now c.in-Ok.view (sym c.read.ensures ∙ c.in-Ok.is)
+pub answer_by_plan-requires-clause-ports : goal.answer_by_plan-requires-clause-ports
+answer_by_plan-requires-clause-ports g c = ports_are_some c.as_slice.result.now c.in-Ok.view (sym c.read.ensures ∙ c.in-Ok.is)
 
-pub answer_planned-requires-clause-read : goal.answer_planned-requires-clause-read
-answer_planned-requires-clause-read g c =
+pub answer_by_plan-requires-clause-read : goal.answer_by_plan-requires-clause-read
+answer_by_plan-requires-clause-read g c =
     let is = rw c.as_slice.ensures.value at (sym c.read.ensures ∙ c.in-Ok.is) in
     subst (λ (r : Result View Fault). IsOkAnd r (λ (v : View). 2 ≤ v.ttl)) (sym is) (routed_is_on_route c.args.bounds.now c.args.iface c.in-Ok.view c.in-Ok-route.route (sym c.route.ensures ∙ c.in-Ok-route.is)).0
-
-pub answer_planned-requires-clause-planned : goal.answer_planned-requires-clause-planned
-answer_planned-requires-clause-planned g c = (_, c.plan_for-plan.ensures c.args.in_force.now.text)
 
 pub answer_going-requires-clause-read : goal.answer_going-requires-clause-read
 answer_going-requires-clause-read g c =
