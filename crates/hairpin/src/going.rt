@@ -14,7 +14,7 @@ use packet::bounds::Bounds;
 use packet::endpoint::{Endpoint, Flags, Iface};
 use packet::view::View;
 use sessions::{Opener, Session, Slot, Table};
-use verdict::{Forwarding, Rules, forward};
+use verdict::{Forwarding, Rules, forward, passes_all};
 
 /// How a packet leaves whose session goes on.
 #[derive(Clone, Copy, PartialEq, Eq, Drop)]
@@ -210,18 +210,20 @@ fn on_out(
     ensures bits { IfOk result (λ g. g.bits ≡ bits) }
 {
     let session = &found.session;
-    let state = state_of(session, Opener::Inside, view.flags);
-    let facts = facts_of(view, Iface::Lan, Some(Iface::Wan), view.dst, state);
-    match forward(rules, bounds, &facts) {
-        Forwarding::Drop => Err(Cause::Rule),
-        Forwarding::Pass => Ok(Going {
-            slot: found.slot,
-            bits,
-            iface: Iface::Wan,
-            src: session.outside,
-            dst: session.remote,
-        }),
+    if !passes_all(rules) {
+        let state = state_of(session, Opener::Inside, view.flags);
+        let facts = facts_of(view, Iface::Lan, Some(Iface::Wan), view.dst, state);
+        if forward(rules, bounds, &facts) == Forwarding::Drop {
+            return Err(Cause::Rule);
+        }
     }
+    Ok(Going {
+        slot: found.slot,
+        bits,
+        iface: Iface::Wan,
+        src: session.outside,
+        dst: session.remote,
+    })
 }
 
 // How a packet comes in by the session that was found, of which it shows these bits.
@@ -242,16 +244,18 @@ fn on_in(
     ensures bits { IfOk result (λ g. g.bits ≡ bits) }
 {
     let session = &found.session;
-    let state = state_of(session, Opener::Remote, view.flags);
-    let facts = facts_of(view, Iface::Wan, Some(Iface::Lan), session.inside, state);
-    match forward(rules, bounds, &facts) {
-        Forwarding::Drop => Err(Cause::Rule),
-        Forwarding::Pass => Ok(Going {
-            slot: found.slot,
-            bits,
-            iface: Iface::Lan,
-            src: session.remote,
-            dst: session.inside,
-        }),
+    if !passes_all(rules) {
+        let state = state_of(session, Opener::Remote, view.flags);
+        let facts = facts_of(view, Iface::Wan, Some(Iface::Lan), session.inside, state);
+        if forward(rules, bounds, &facts) == Forwarding::Drop {
+            return Err(Cause::Rule);
+        }
     }
+    Ok(Going {
+        slot: found.slot,
+        bits,
+        iface: Iface::Lan,
+        src: session.remote,
+        dst: session.inside,
+    })
 }

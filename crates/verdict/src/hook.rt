@@ -1,7 +1,7 @@
 //! What the rules decide at each hook.
 //!
 //! `forward`, `prerouting` and `postrouting` stand at the end. Each asks `hook_outcome`, which goes by what was noted
-//! of the hook when the text loaded (`bases`):
+//! of the hook when the text loaded (`bases`), as `passes_all` does:
 //! - Where no base chain stands, nothing is asked.
 //! - Where only one stands, and calls no chain, it is asked by itself: `lone_outcome`, `lone_in_table`, and
 //!   `callless_outcome` of the module `callless`.
@@ -9,10 +9,12 @@
 //!   one, `final_at` of one chain, and `chain_outcome` of the module `walk`. Of what the base chains come to the one
 //!   that counts first is kept (`preferred`).
 
-ghost use Rattle.std.specs.Prelude.{◌≡◌, ◌+◌, ◌^◌, ◌<◌, ◌≤◌, [], IfSome, false, length, slice_get};
+ghost use Rattle.std.specs.Prelude.{◌≡◌, ◌+◌, ◌^◌, ◌<◌, ◌≤◌, [], IfSome, IsTrue, false, length, slice_get};
 ghost use Rattle.std.specs.Option.{option_map_or};
 ghost use Rattle.ruletext.specs.Calls.{OfSome, IsLooped, IsDeep};
 ghost use Rattle.ruletext.specs.Counts.{rules_of_table, is_much};
+ghost use Rattle.packet.specs.Config.{Config};
+ghost use Rattle.verdict.specs.declared.facts.Facts.{Facts as Seen};
 ghost use Rattle.verdict.specs.Lines.{IsLaid, AreLaid};
 ghost use Rattle.verdict.specs.Places.{AreKnown};
 ghost use Rattle.verdict.specs.Noted.{IsLoneIn, IsLone};
@@ -356,6 +358,15 @@ fn hook_outcome(rules: &Rules, bounds: &Bounds, facts: &Facts, hook: Hook) -> (O
         Asked::Lone(spot) => lone_outcome(rules, bounds, facts, hook, spot),
         Asked::All => asked_outcome(rules, bounds, facts, hook),
     }
+}
+
+/// Whether no base chain stands at forward, so that every packet passes there. Whoever asks this first needs no facts of
+/// a packet that passes so.
+pub fn passes_all(rules: &Rules) -> bool
+    ensures { IsTrue result → (config : Config) (facts : Seen)
+        → forward_verdict config facts rules.now ≡ Forwarding.Pass }
+{
+    matches!(rules.asked_at(Hook::Forward), Asked::Nothing)
 }
 
 /// Whether a packet passes: where every base chain at forward accepts, or there is none. Takes no memory.

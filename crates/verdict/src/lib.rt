@@ -50,7 +50,7 @@ mod walk;
 
 pub use facts::{Facts, State};
 pub use hook::{
-    Destination, Forwarding, Source, forward, forward_counted, postrouting, postrouting_counted,
-    prerouting, prerouting_counted,
+    Destination, Forwarding, Source, forward, forward_counted, passes_all, postrouting,
+    postrouting_counted, prerouting, prerouting_counted,
 };
 pub use rules::Rules;
