@@ -234,7 +234,9 @@ pub fn hand_out<D: Disk + Drop>(
     Ok(())
 }
 
-// Offers an event, and hands out its answer where it is answered at once.
+// Offers an event, and hands out its answer where it is answered at once. Compiled into its callers, so that the event
+// isn't put down in memory for it.
+#[inline(always)]
 fn offer<D: Disk + Drop>(
     gateway: &mut Gateway<D>,
     event: Event,

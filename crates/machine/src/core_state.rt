@@ -385,15 +385,15 @@ fn answer_packet<N: Notes>(
         → IsOk result }
 {
     bounds.facts();
-    match View::read(bytes.as_slice()) {
-        Err(fault) => Ok(drop_for(Cause::Packet(fault))),
-        Ok(view) => match bounds.route(iface, &view) {
+    let rules = &in_force.rules;
+    match &View::read(bytes.as_slice()) {
+        Err(fault) => Ok(drop_for(Cause::Packet(*fault))),
+        Ok(view) => match bounds.route(iface, view) {
             Err(fault) => Ok(drop_for(Cause::Route(fault))),
-            Ok(route) => match glance_showing(flows, &in_force.rules, bounds, route, &view) {
+            Ok(route) => match glance_showing(flows, rules, bounds, route, view) {
                 Some(going) => answer_going(flows, ready, &going, bytes, now, notes),
                 None => {
-                    let rules = &in_force.rules;
-                    answer_by_plan(flows, rules, bounds, ready, route, &view, bytes, now, notes)
+                    answer_by_plan(flows, rules, bounds, ready, route, view, bytes, now, notes)
                 }
             },
         },

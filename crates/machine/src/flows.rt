@@ -312,7 +312,8 @@ impl Flows {
         self.table.is_sound();
     }
 
-    /// Does what a change says, for which there is room.
+    /// Does what a change says, for which there is room. Compiled into its callers, of which one knows the kind of change.
+    #[inline(always)]
     fn apply(&mut self, change: &Change, now: u64)
         requires latest { IsLatest self.old.table.held now }
         requires gives { (t : Flow)
@@ -332,7 +333,8 @@ impl Flows {
         }
     }
 
-    /// Does what a change says, for which there is room, and notes it.
+    /// Does what a change says, for which there is room, and notes it. Compiled into its callers as well.
+    #[inline(always)]
     fn apply_noted<N: Notes>(&mut self, change: &Change, now: u64, notes: &mut N)
         requires latest { IsLatest self.old.table.held now }
         requires gives { (t : Flow)

@@ -115,7 +115,9 @@ pub fn empty_for(
     make_slots(answers, count)
 }
 
-/// Puts the answers' frames where their requests stood, if all of them have room there. Otherwise they stay.
+/// Puts the answers' frames where their requests stood, if all of them have room there. Otherwise they stay. Compiled
+/// into its callers, since behind most events that are held none was handed out.
+#[inline(always)]
 fn put_back(waiting: &mut Waiting, answers: &mut Vec<(u64, Answer)>, bodies: &mut Vec<Vec<u8>>)
     ensures put { (handed : List (ℕ × Answer)) × (answers.old.items ≡ handed ++ answers.new.items)
         × (waiting.new ≡ record waiting.old { answered = waiting.old.answered ++ frames handed }) }
@@ -125,10 +127,23 @@ fn put_back(waiting: &mut Waiting, answers: &mut Vec<(u64, Answer)>, bodies: &mu
     ensures fewer { vec_len answers.new ≤ vec_len answers.old }
     ensures capacity { vec_capacity answers.new ≡ vec_capacity answers.old }
 {
-    // Behind most events that are held none was handed out.
     if answers.is_empty() {
         return;
     }
+    put_some_back(waiting, answers, bodies);
+}
+
+/// As `put_back`, where there are answers.
+#[inline(never)]
+fn put_some_back(waiting: &mut Waiting, answers: &mut Vec<(u64, Answer)>, bodies: &mut Vec<Vec<u8>>)
+    ensures put { (handed : List (ℕ × Answer)) × (answers.old.items ≡ handed ++ answers.new.items)
+        × (waiting.new ≡ record waiting.old { answered = waiting.old.answered ++ frames handed }) }
+    ensures fits { length waiting.old.answered + length (frames answers.old.items)
+        + length waiting.old.unanswered ≤ waiting.old.reach
+        → answers.new.items ≡ [] }
+    ensures fewer { vec_len answers.new ≤ vec_len answers.old }
+    ensures capacity { vec_capacity answers.new ≡ vec_capacity answers.old }
+{
     if waiting.put(answers.as_slice()) {
         keep_bodies(answers, bodies);
     }
