@@ -28,7 +28,7 @@ const SPREAD: u64 = 0x9e37_79b9_7f4a_7c15;
 /// rests on what the places hold but time.
 #[derive(Drop)]
 pub struct Hints {
-    buckets: Vec<[u32; 8]>,
+    buckets: Vec<[u32; WIDTH]>,
 }
 
 impl Hints {
@@ -89,7 +89,7 @@ impl Hints {
         }
         self.buckets.clear();
         for _ in 0..wanted {
-            if self.buckets.push([NOTHING; 8]).is_err() {
+            if self.buckets.push([NOTHING; WIDTH]).is_err() {
                 return false;
             }
         }
@@ -118,7 +118,7 @@ impl Hints {
 }
 
 // The place with this tag that was put last.
-fn latest(bucket: &[u32; 8], tag: u32) -> u32 {
+fn latest(bucket: &[u32; WIDTH], tag: u32) -> u32 {
     let tags = u32x8::from_array(*bucket) & u32x8::splat(!(SLOTS - 1));
     match tags.simd_eq(u32x8::splat(tag)).first_set() {
         Some(at) if at < WIDTH => bucket[at],
@@ -127,7 +127,7 @@ fn latest(bucket: &[u32; 8], tag: u32) -> u32 {
 }
 
 // Puts a place before the others, of which the last is forgotten.
-fn push(bucket: &mut [u32; 8], place: u32) {
+fn push(bucket: &mut [u32; WIDTH], place: u32) {
     let [a, b, c, d, e, f, g, _] = *bucket;
     *bucket = [place, a, b, c, d, e, f, g];
 }

@@ -312,11 +312,11 @@ pub fn clashes(sessions: &Slab<Session>, index: &Index, session: &Session) -> bo
     if seek_outside(sessions, index, by_outside, proto, session.outside, remote).is_some() {
         return true;
     }
-    breaks_mapping(sessions, index, by_inside, by_outside, session)
+    clashes_with_firsts(sessions, index, by_inside, by_outside, session)
 }
 
 // Whether the session clashes with the first one of either of its endpoints, which tells the mapping of it.
-fn breaks_mapping(
+fn clashes_with_firsts(
     sessions: &Slab<Session>,
     index: &Index,
     by_inside: Option<usize>,

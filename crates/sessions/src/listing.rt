@@ -23,11 +23,11 @@ pub fn sorted(alloc: Global, sessions: &Slab<Session>) -> Result<Vec<Session>, A
     if are_in_order(&sorted) {
         return Ok(sorted);
     }
-    sorted.sort_by_cached_key(|session| number_of(session))?;
+    sorted.sort_by_cached_key(|session| key_of(session))?;
     Ok(sorted)
 }
 
-fn number_of(session: &Session) -> u128
+fn key_of(session: &Session) -> u128
     ensures { result ≡ flow_number session.now }
 {
     key(session.proto, session.inside, session.remote)
@@ -36,7 +36,7 @@ fn number_of(session: &Session) -> u128
 fn are_in_order(sessions: &[Session]) -> bool
     ensures { IsTrue result → IsNonDecreasingBy flow_number sessions.now }
 {
-    sessions.is_sorted_by_key(|session| number_of(session))
+    sessions.is_sorted_by_key(|session| key_of(session))
 }
 
 // The sessions by rising slot.

@@ -4,7 +4,7 @@ use Rattle.sessions.specs.Index.{ClashesAt, inside_number, outside_number}
 use Rattle.sessions.specs.Translated.{first_of}
 use Rattle.rows.specs.Held.{value_at}
 use Rattle.sessions.proofs.Mapped.{unbroken-mapping, where-held}
-use Rattle.sessions.proofs.index.breaks_mapping.Goals as goal
+use Rattle.sessions.proofs.index.clashes_with_firsts.Goals as goal
 
 pub returns-else-clashes_at-clause-kept : goal.returns-else-clashes_at-clause-kept
 returns-else-clashes_at-clause-kept c clear slot =
