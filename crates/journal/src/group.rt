@@ -137,11 +137,11 @@ fn grow(bytes: &mut Vec<u8>, entry: &[u8]) -> Result<(), AllocError>
 {
     let end = bytes.len() - 1;
     bytes.extend_from_slice(entry)?;
-    settle(bytes, end, entry);
+    put_and_seal(bytes, end, entry);
     Ok(())
 }
 
-fn settle(bytes: &mut [u8], end: usize, entry: &[u8])
+fn put_and_seal(bytes: &mut [u8], end: usize, entry: &[u8])
     requires end { end + 1 + length entry.now ≡ length bytes.old }
     requires framed { 4 ≤ end }
     requires fits { length bytes.old < 2 ^ 32 + 5 }

@@ -12,8 +12,8 @@ returns-clause-ok c =
     let long = c.requires.framed in
     let whole : c.deref_mut.result.now ≡ old ++ entry = cc (c.deref_mut.ensures.value, c.in_ok-extend_from_slice.ensures.items) in
     let end : c.len-end.result - 1 ≡ length old - 1 = omega arith in
-    take_at c.settle.new.bytes (drop (length c.settle.new.bytes) c.extend_from_slice.new.self.items) c.extend_from_slice.new.self.len (omega (arith, c.settle.auto.bytes, c.deref_mut.ensures.len))
-    ∙ c.settle.ensures
+    take_at c.put_and_seal.new.bytes (drop (length c.put_and_seal.new.bytes) c.extend_from_slice.new.self.items) c.extend_from_slice.new.self.len (omega (arith, c.put_and_seal.auto.bytes, c.deref_mut.ensures.len))
+    ∙ c.put_and_seal.ensures
     ∙ ap (λ (l : List ℕ). framed (body_of (put (c.len-end.result - 1) entry l))) whole
     ∙ ap (λ (k : ℕ). framed (body_of (put k entry (old ++ entry)))) end
     ∙ ap (λ (l : List ℕ). framed l) (grown old entry long)
