@@ -273,7 +273,7 @@ pub fn find_or_add(
     find_then_add(places, overflow, are_packed, key, value)
 }
 
-// The same by two searches, where the bucket is full, or doesn't tell that the overflow lacks the key.
+// As `find_or_add`, by two searches, where the bucket is full, or doesn't tell that the overflow lacks the key.
 #[inline(never)]
 fn find_then_add(
     places: &mut [Place],

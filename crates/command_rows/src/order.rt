@@ -111,7 +111,7 @@ const OVER_DAMAGED_FILES: [Row; 6] = [
     },
 ];
 
-// The same where both files can be made.
+// Where both files can be made; here too each has the faults of those behind it as well.
 const OVER_NO_FILES: [Row; 2] = [
     Row {
         sides: SIDES,

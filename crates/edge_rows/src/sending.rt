@@ -98,7 +98,7 @@ fn send_whole(
     send_all(alloc, writer, answers)
 }
 
-/// The same in parts.
+/// How sending in parts ends.
 fn send_parts(writer: &mut Taker, answers: &[(u64, Answer)]) -> Result<(), EdgeFault> {
     send(writer, answers)
 }

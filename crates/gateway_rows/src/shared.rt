@@ -31,7 +31,7 @@ flush
 = 1 loaded
 = 2 wan 4500001c00010000 3f111594 cb007101 c6336407 13880035 000885e4";
 
-/// The same port of a second host.
+/// A packet from the port of that one, of a second host, is held.
 pub const THIRD_HELD: &str = "\
 lan 1000 4500001c00010000 40118eea c0a80103 c6336407 13880035 0008003b
 = held 3";

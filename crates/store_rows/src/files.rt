@@ -55,7 +55,7 @@ fn outcome(alloc: Global, a: &[u8], b: &[u8]) -> u8 {
     }
 }
 
-// The same where the second group of a file has this entry alone.
+// As `outcome`, of a file whose second group has this entry alone.
 fn outcome_behind(alloc: Global, entry: &[u8]) -> Result<u8, AllocError> {
     let file = followed(alloc, entry)?;
     Ok(outcome(alloc, &file, b""))

@@ -271,7 +271,7 @@ fn commits(alloc: Global, store: &mut Store<Trial>, script: &Script) -> (Came, u
     (came, if came == Came::Through { 2 } else { 1 })
 }
 
-// The same with two empty files.
+// Opens a disk with two empty files, and does what `commits` does.
 fn run(alloc: Global, disk: Trial, script: &Script) -> (Trial, Came, u8) {
     match open(alloc, disk, &script.bounds) {
         Ok(opened) => {

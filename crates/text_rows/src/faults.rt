@@ -153,7 +153,7 @@ fn is_too_much(
     }
 }
 
-// The same for texts with one chain, one rule and one element too many.
+// A text with one chain, one rule or one element too many is refused at the line of that one.
 #[test]
 fn each_growth_past_a_limit(rt: HostRuntime) {
     let alloc = rt.alloc();

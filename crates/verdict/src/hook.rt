@@ -8,6 +8,9 @@
 //! - Elsewhere all tables are asked: `asked_outcome`, `final_of_all` table by table, `final_among` and `final_over` in
 //!   one, `final_at` of one chain, and `chain_outcome` of the module `walk`. Of what the base chains come to the one
 //!   that counts first is kept (`preferred`).
+//!
+//! A clause `room` asks that the steps which may still be counted fit their number of 32 bits, and a clause `roomy` that
+//! `known` has a place for each chain of the table.
 
 ghost use Rattle.std.specs.Prelude.{◌≡◌, ◌+◌, ◌^◌, ◌<◌, ◌≤◌, [], IfSome, IsTrue, false, length, slice_get};
 ghost use Rattle.std.specs.Option.{option_map_or};

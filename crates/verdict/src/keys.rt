@@ -97,7 +97,7 @@ fn next_of(keys: &[u64], head: u64, from: u64, to: u64) -> u64
     keys[at] - head
 }
 
-// The same of the numbers that a packet has.
+// As `next_of`, where the head is that of any of the packet's numbers.
 fn next_among(keys: &[u64], numbers: &[u64], from: u64, to: u64) -> u64
     requires ordered { AreOrdered keys.now }
     requires rises { from ≤ to }

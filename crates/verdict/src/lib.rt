@@ -11,12 +11,12 @@
 //! - `keys`: keys in order, by which the walk passes over rules that ask for other numbers than a packet has.
 //! - `chain`: what a chain of rules comes to, and the ends of rules.
 //! - `stack`, `walk`: the walk over a row, with at most 16 places to return to and without recursion.
-//! - `callless`: the same over a base chain that calls none, with no place.
+//! - `callless`: the walk over a base chain that calls no chain, with no place to return to.
 //! - `calls`: whether rules call chains.
 //! - `bases`: which base chains stand at which hooks. Elsewhere nothing is asked, and where only one stands and calls
 //!   no chain, it is asked by itself.
 //! - `hook`: `forward`, `prerouting` and `postrouting`, what the base chains of a hook decide, of which the
-//!   one of the least priority counts first; and the same with the steps counted.
+//!   one of the least priority counts first; and each of the three with its steps counted.
 //! - `laws`: what follows from these definitions, in functions that do nothing.
 //!
 //! When a text loads, `Rules::of` has its tables laid in rows (`row`) and notes what is asked at each hook (`bases`). A

@@ -132,7 +132,7 @@ fn asked_inside(bounds: &Bounds, facts: &Facts, pool: &Pool, head: Head) -> bool
     is_inside(pool, asked(bounds, facts, head))
 }
 
-// The same, where names are compared as names at once.
+// As `asked_inside`, where names are compared as names at once.
 #[tactic(auto, unfolding(crate::specs::Matching::asked, sets::specs::Members::fact_of))]
 #[inline(always)]
 fn met_inside(bounds: &Bounds, facts: &Facts, pool: &Pool, head: Head) -> bool

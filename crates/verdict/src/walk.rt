@@ -7,6 +7,9 @@
 //!   acted on (`act`), and a chain that has none left returns (`back`).
 //! - `chain_outcome`: reads a base chain by `step_at_base`, without a stack, until a rule calls a chain; then the walk
 //!   reads all that is left (`walked_from`).
+//!
+//! A clause `room` asks that the steps which may still be counted fit their number of 32 bits; that of `act` asks for a
+//! place to return to that is still free.
 
 ghost use Rattle.std.specs.Prelude.{◌≡◌, ◌+◌, ◌-◌, ◌^◌, ◌<◌, ◌≤◌, ℕ, List, [], ◌∷◌, Option, Some, None, true, false, IfSome, MatchOption, length, slice_get};
 ghost use Rattle.ruletext.specs.Said.{verdicts_in};

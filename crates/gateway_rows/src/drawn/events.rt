@@ -11,7 +11,7 @@ pub const EVENTS: usize = 1000;
 const MASQUERADE: &str =
     "table ip nat { chain post { type nat hook postrouting priority srcnat; oifname \"wan\" masquerade; }; }";
 
-// The same, and what begins on wan is dropped.
+// As `MASQUERADE`, and what begins on wan is dropped.
 const FILTER: &str =
     "table ip nat { chain post { type nat hook postrouting priority srcnat; oifname \"wan\" masquerade; }; } table ip f { chain fw { type filter hook forward priority filter; iifname \"wan\" ct state new drop; }; }";
 
