@@ -6,7 +6,8 @@ use Rattle.disk_model.specs.declared.disk.FileId.{FileId}
 use Rattle.disk_model.specs.declared.disk.FileId.TheVariants.{A, B}
 use Rattle.durable.specs.Coding.{Heading}
 use Rattle.durable.specs.Entering.{Durable}
-use Rattle.durable.specs.Recovery.{Active, Finds, Holds, IsActive, IsFound, IsOpen, behind, pair}
+use Rattle.disk_model.specs.Disk.{pair}
+use Rattle.durable.specs.Recovery.{Active, Finds, Holds, IsActive, IsFound, IsOpen, behind}
 use Rattle.durable.proofs.Headed.{headed_open}
 
 pub closed_nothing : ¬ IsOpen []

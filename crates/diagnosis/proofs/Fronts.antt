@@ -5,7 +5,8 @@ use Rattle.std.proofs.lemmas.List.{take_at, take_all, take-take, length-take-le,
 use Rattle.std.specs.Prelude.{Option, Some, None, Bool, true, false}
 use Rattle.durable.specs.Coding.{Heading, heading_bytes}
 use Rattle.durable.specs.Laws.{IsFresh}
-use Rattle.durable.specs.Recovery.{Active, Finds, IsHeaded, IsOpen, begun, behind, pair}
+use Rattle.disk_model.specs.Disk.{pair}
+use Rattle.durable.specs.Recovery.{Active, Finds, IsHeaded, IsOpen, begun, behind}
 use Rattle.durable.proofs.Headed.{headed_open, headed_once}
 use Rattle.durable.proofs.Growing.{grows}
 use Rattle.diagnosis.specs.Reading.{Begins}

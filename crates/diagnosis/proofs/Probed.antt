@@ -6,7 +6,8 @@ use Rattle.disk_model.specs.declared.disk.FileId.{FileId}
 use Rattle.disk_model.specs.declared.disk.FileId.TheVariants.{A, B}
 use Rattle.durable.specs.Coding.{Heading}
 use Rattle.durable.specs.Entering.{Durable, empty}
-use Rattle.durable.specs.Recovery.{Active, Finds, IsActive, IsOlder, IsOpen, behind, pair}
+use Rattle.disk_model.specs.Disk.{pair}
+use Rattle.durable.specs.Recovery.{Active, Finds, IsActive, IsOlder, IsOpen, behind}
 use Rattle.durable.proofs.Headed.{headed_open, headed_once}
 use Rattle.diagnosis.specs.Reading.{greatest}
 use Rattle.diagnosis.specs.Probing.{HasFront, HasNoFront, IsProbe, Tells, TellsFront}

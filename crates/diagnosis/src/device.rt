@@ -1,8 +1,7 @@
 //! What the files of a disk are.
 ghost use Rattle.std.specs.Prelude.{◌≡◌, ◌↔◌, ◌≤◌, IfOk, OnOk, IsErrOf};
 ghost use Rattle.disk_model.specs.declared.disk.FileId.TheVariants.{A, B};
-ghost use Rattle.disk_model.specs.Disk.{Looks, Grew};
-ghost use Rattle.durable.specs.Recovery.{pair};
+ghost use Rattle.disk_model.specs.Disk.{Looks, Grew, pair};
 ghost use Rattle.diagnosis.specs.Finding.{IsFinding};
 ghost use Rattle.diagnosis.specs.declared.device.DeviceFault.TheVariants.{Device, NoMemory};
 

@@ -1,7 +1,8 @@
 //! What two files are together.
 ghost use Rattle.std.specs.Prelude.{IfOk};
 ghost use Rattle.durable.specs.Entering.{Durable};
-ghost use Rattle.durable.specs.Recovery.{Recovers, pair};
+ghost use Rattle.disk_model.specs.Disk.{pair};
+ghost use Rattle.durable.specs.Recovery.{Recovers};
 ghost use Rattle.diagnosis.specs.Finding.{IsDamaged, IsFinding};
 
 use crate::Reading;

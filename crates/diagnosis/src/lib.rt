@@ -2,11 +2,11 @@
 //!
 //! - `finding`: what two files are together: they stand for a state of this configuration, they are damaged, or they
 //!   have another configuration.
+//! - `device`: what the two files of a disk are together, once they are read from it.
 //! - `reading`: what one file is by itself, or why it holds no state.
 //! - `probe`: a file that holds nothing, beside which another one counts by its front alone.
 //! - `front`: where the front of a file ends, and whether a state begins there.
 //! - `fields`: the parts of a configuration, and which of them differ.
-//! - `device`: the same of the files of a disk.
 //! - `words`: what is said of all this, and what to do.
 //!
 //! What a file holds is read by `durable` alone; the clauses are in its words.

@@ -1,6 +1,6 @@
 //! A file that holds nothing, beside which another one counts by its front alone.
 ghost use Rattle.std.specs.Prelude.{IfOk};
-ghost use Rattle.durable.specs.Recovery.{pair};
+ghost use Rattle.disk_model.specs.Disk.{pair};
 ghost use Rattle.diagnosis.specs.Probing.{IsProbe, Tells, TellsFront};
 
 use durable::{DurableFault, growing_laws, heading_fits, put_heading, recover};

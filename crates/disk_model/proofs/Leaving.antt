@@ -5,8 +5,8 @@ use Rattle.std.proofs.lemmas.List.{take_all, take-append-le}
 use Rattle.std.proofs.lemmas.Bool.{cases_lt, false≢true}
 use Rattle.disk_model.specs.declared.disk.FileId.{FileId}
 use Rattle.disk_model.specs.declared.disk.FileId.TheVariants.{A, B}
-use Rattle.disk_model.specs.Disk.{Files, Same, Torn, Written, Goes}
-use Rattle.disk_model.specs.Recorded.{Since, Done, Wrote, Synced, History, MayLeave, LeftAfter, LeftSince, since, reads, did, is_same, read_after, two}
+use Rattle.disk_model.specs.Disk.{Files, Same, Torn, Written, Goes, pair}
+use Rattle.disk_model.specs.Recorded.{Since, Done, Wrote, Synced, History, MayLeave, LeftAfter, LeftSince, since, reads, did, is_same, read_after}
 use Rattle.disk_model.specs.Choices.{crashed}
 use Rattle.disk_model.proofs.Histories.{since_push, reads_synced}
 use Rattle.disk_model.specs.Lawful.{may_read, now_is}
@@ -76,7 +76,7 @@ unfolding Left
 leads_wrote h A at part bytes widens files left =
     let a : Left (record { base = (since h h.done A).base; writes = record { at = at; bytes = part } ∷ (since h h.done A).writes }) (files A) = subst (λ (s : Since). Left s (files A)) (since_push h h.done (Wrote A at part) A) (left A) in
     let b : Left (since h h.done B) (files B) = subst (λ (s : Since). Left s (files B)) (since_push h h.done (Wrote A at part) B) (left B) in
-    let before = two a.0 (files B) in (
+    let before = pair a.0 (files B) in (
       before,
       both (λ file. Left (since h h.done file) (before file)) a.1 b,
       record {
@@ -87,7 +87,7 @@ leads_wrote h A at part bytes widens files left =
 leads_wrote h B at part bytes widens files left =
     let a : Left (since h h.done A) (files A) = subst (λ (s : Since). Left s (files A)) (since_push h h.done (Wrote B at part) A) (left A) in
     let b : Left (record { base = (since h h.done B).base; writes = record { at = at; bytes = part } ∷ (since h h.done B).writes }) (files B) = subst (λ (s : Since). Left s (files B)) (since_push h h.done (Wrote B at part) B) (left B) in
-    let before = two (files A) b.0 in (
+    let before = pair (files A) b.0 in (
       before,
       both (λ file. Left (since h h.done file) (before file)) a b.1,
       record {

@@ -1,18 +1,29 @@
 -- What the calls of a disk do to its two files, and what a crash may do between two syncs.
 use Rattle.std.specs.Prelude.{◌<◌, ◌≡◌, ◌≢◌, ◌⊎◌, ℕ, ◌+◌, ◌-◌, ◌≤◌, ◌^◌, min, List, [], ◌∷◌, ◌++◌, length, take, drop, get_or, Result, IsErr, IsOk}
 use Rattle.disk_model.specs.declared.disk.FileId.{FileId}
+use Rattle.disk_model.specs.declared.disk.FileId.TheVariants.{A, B}
 use Rattle.disk_model.specs.declared.disk.DiskFault.{DiskFault}
 
 -- the bytes of each file
 abbrev pub Files : Type 0
 Files = FileId → List ℕ
 
+-- two files by their bytes
+abbrev pub pair : List ℕ → List ℕ → Files
+pair a b A = a
+pair a b B = b
+
+-- the other one of the two
+abbrev pub other : FileId → FileId
+other A = B
+other B = A
+
 abbrev pub Same : Files → Files → Type 0
 Same old new = (file : FileId) → new file ≡ old file
 
 -- each file but this one stays
 abbrev pub Elsewhere : FileId → Files → Files → Type 0
-Elsewhere file old new = (other : FileId) → other ≢ file → new other ≡ old other
+Elsewhere file old new = (another : FileId) → another ≢ file → new another ≡ old another
 
 -- the old bytes with these at this place
 abbrev pub put : ℕ → List ℕ → List ℕ → List ℕ

@@ -2,7 +2,7 @@
 use Rattle.std.specs.Prelude.{◌≡◌, ℕ, ◌≤◌, Bool, true, false, if◌then◌else◌, List, [], ◌∷◌, ◌++◌, length, take}
 use Rattle.disk_model.specs.declared.disk.FileId.{FileId}
 use Rattle.disk_model.specs.declared.disk.FileId.TheVariants.{A, B}
-use Rattle.disk_model.specs.Disk.{Files, Torn, put}
+use Rattle.disk_model.specs.Disk.{Files, Torn, pair, put}
 
 -- a write or a sync that was done
 pub data Done : Type 0 where
@@ -49,11 +49,6 @@ abbrev pub heard_all : FileId → List Done → Since → Since
 heard_all file [] since = since
 heard_all file (d ∷ more) since = heard_all file more (heard file d since)
 
--- two files
-abbrev pub two : List ℕ → List ℕ → Files
-two a b A = a
-two a b B = b
-
 -- two files that were synced, and what was done from then on
 pub record History : Type 0 where
   pub first_a : List ℕ
@@ -61,7 +56,7 @@ pub record History : Type 0 where
   pub done : List Done
 
 abbrev pub first_of : History → Files
-first_of h = two h.first_a h.first_b
+first_of h = pair h.first_a h.first_b
 
 abbrev pub since : History → List Done → FileId → Since
 since h done file = heard_all file done (record { base = first_of h file; writes = [] })

@@ -1,7 +1,7 @@
 //! `SimDisk`: a disk in memory that can be told to fail and to crash.
 ghost use Rattle.std.specs.Prelude.{◌≡◌, ◌↔◌, ◌⊎◌, ◌+◌, ◌≤◌, ◌<◌, [], length, take, drop, IfOk, OnOk, OnErr, IsOk, ⊤, Some, None};
-ghost use Rattle.disk_model.specs.Disk.{Synced as IsSynced, Put, Written, Goes, Same, Grew, Called, HasCause};
-ghost use Rattle.disk_model.specs.Recorded.{Wrote, Synced, did, reads, two};
+ghost use Rattle.disk_model.specs.Disk.{Synced as IsSynced, Put, Written, Goes, Same, Grew, Called, HasCause, pair};
+ghost use Rattle.disk_model.specs.Recorded.{Wrote, Synced, did, reads};
 ghost use Rattle.disk_model.specs.Choices.{crashed, restarted};
 ghost use Rattle.disk_model.specs.Metered.{failed, turn_of};
 ghost use Rattle.disk_model.specs.Simulated.{Simulated, seen_of, moment_of, left_of, IsRested, passed, failing, half, FailsToWrite};
@@ -41,7 +41,7 @@ impl SimDisk {
             ≡ (record { first_a = a.now; first_b = b.now; done = [] })) }
         ensures meter { IfOk result (λ disk. disk.meter
             ≡ (record { calls = 0; failures = 0; fuse = None; once = None })) }
-        ensures seen { IfOk result (λ disk. Same (two a.now b.now) (seen_of disk)) }
+        ensures seen { IfOk result (λ disk. Same (pair a.now b.now) (seen_of disk)) }
         ensures synced { IfOk result IsRested }
     {
         Ok(SimDisk {

@@ -8,7 +8,7 @@ use Rattle.sessions.specs.declared.session.Session.{Session}
 use Rattle.sessions.specs.Listing.{below, In, Rises, insert}
 use Rattle.sessions.proofs.Sets.{below-itself, below-trans}
 use Rattle.journal.specs.Groups.{Groups, Extended, Appended, open_groups}
-use Rattle.disk_model.specs.Disk.{Files, Elsewhere}
+use Rattle.disk_model.specs.Disk.{Files, Elsewhere, other}
 use Rattle.disk_model.specs.declared.disk.FileId.{FileId}
 use Rattle.disk_model.specs.declared.disk.FileId.TheVariants.{A, B}
 use Rattle.std.specs.Prelude.{IsTrue}
@@ -16,7 +16,7 @@ use Rattle.durable.specs.Coding.{Heading, heading_bytes, IsHeading}
 use Rattle.sessions.specs.Sound.{AreSound}
 use Rattle.durable.specs.Entering.{Durable, durable, IsDurable, BodyEnters, Changed}
 use Rattle.durable.specs.Laws.{anew, IsFresh, Grows, Renews}
-use Rattle.durable.specs.Recovery.{arranged_on, arranged, begun, behind, IsHeaded, Holds, IsActive, IsOlder, IsOpen, other}
+use Rattle.durable.specs.Recovery.{arranged_on, arranged, begun, behind, IsHeaded, Holds, IsActive, IsOlder, IsOpen}
 
 -- ---- sessions in their order are arranged
 

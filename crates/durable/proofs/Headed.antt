@@ -3,7 +3,7 @@ use Rattle.std.proofs.Common.{◌≡◌, ◌⊎◌, inl, inr, ℕ, ◌+◌, ◌-
 use Rattle.std.proofs.lemmas.List.{drop_at, length-drop}
 use Rattle.std.specs.Prelude.{IsTrue, Option, Some, None}
 use Rattle.packet.specs.Config.{Config, is_config}
-use Rattle.disk_model.specs.Disk.{Files, Same}
+use Rattle.disk_model.specs.Disk.{Files, Same, other}
 use Rattle.disk_model.specs.declared.disk.FileId.{FileId}
 use Rattle.disk_model.specs.declared.disk.FileId.TheVariants.{A, B}
 use Rattle.journal.specs.Groups.{open_groups}
@@ -12,7 +12,7 @@ use Rattle.durable.specs.Reading.{heading_at}
 use Rattle.durable.specs.Entering.{Durable, IsDurable}
 use Rattle.durable.specs.Laws.{RecoversOnce}
 use Rattle.durable.specs.Leading.{StateLeads}
-use Rattle.durable.specs.Recovery.{Active, Finds, Holds, IsActive, IsFound, IsHeaded, IsOlder, IsOpen, NoneOpen, Recovers, begun, behind, other}
+use Rattle.durable.specs.Recovery.{Active, Finds, Holds, IsActive, IsFound, IsHeaded, IsOlder, IsOpen, NoneOpen, Recovers, begun, behind}
 use Rattle.durable.proofs.Coded.{once}
 use Rattle.durable.proofs.Stored_values.{coded-heading}
 use Rattle.durable.proofs.Leads.{lead_once}

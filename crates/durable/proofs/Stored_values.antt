@@ -10,7 +10,7 @@ use Rattle.durable.specs.Coding.{Kept, Heading, text_bytes, list_bytes, session_
 use Rattle.durable.specs.Reading.{both, byte_at, number_at, text_at, session_at, prefix_from, prefix_at, prefixes_at, sessions_at, ConfigParts, config_from, config_at, kept_from, snapshot_at, mark_from, mark_at, HeadingParts, heading_from, heading_at}
 use Rattle.durable.proofs.Coded.{Coded, some_is, guard_some, coded-chosen}
 use Rattle.durable.proofs.Widths.{coded-byte, coded-number, coded-text, coded-list, width1, width4, width8}
-use Rattle.durable.proofs.Values.{Any, pair, coded-session}
+use Rattle.durable.proofs.Values.{Any, coded-pair, coded-session}
 
 prefix_back : (p : ℕ × ℕ) (x : Prefix) → (p.0 < 256 ^ 4) × (p.1 < 256) → prefix_from p ≡ Some x → (p ≡ (x.addr, x.len)) × IsPrefix x
 unfolding IsPrefix
@@ -23,7 +23,7 @@ unfolding prefix_at prefix_bytes IsPrefix
 coded-prefix =
     coded-chosen (λ (p : ℕ × ℕ). (p.0 < 256 ^ 4) × (p.1 < 256)) (λ p. big_bytes 4 p.0 ++ p.1 ∷ []) (both (number_at 4) (λ _. byte_at))
     IsPrefix prefix_from (λ x. (x.addr, x.len)) (λ x is. (refl, is)) (λ p x is h. prefix_back p x is h)
-    (pair (coded-number 4 width4) coded-byte)
+    (coded-pair (coded-number 4 width4) coded-byte)
 
 coded-prefixes : Coded (λ xs. (length xs < 256 ^ 1) × AllByRecursion IsPrefix xs) (list_bytes 1 prefix_bytes) prefixes_at
 unfolding prefixes_at
@@ -48,7 +48,7 @@ coded-config =
     coded-chosen ConfigFits (λ p. text_bytes 1 p.0 ++ (text_bytes 1 p.1.0 ++ (list_bytes 1 prefix_bytes p.1.1.0 ++ big_bytes 4 p.1.1.1)))
     (both (text_at 1) (λ _. both (text_at 1) (λ _. both prefixes_at (λ _. number_at 4))))
     IsCodedConfig config_from (λ c. (c.lan, (c.wan, (c.inside, c.external)))) (λ c is. (refl, (is.lan, (is.wan, ((is.count, is.inside), is.external))))) (λ p c is h. config_back p c is h)
-    (pair (coded-text 1 width1) (pair (coded-text 1 width1) (pair coded-prefixes (coded-number 4 width4))))
+    (coded-pair (coded-text 1 width1) (coded-pair (coded-text 1 width1) (coded-pair coded-prefixes (coded-number 4 width4))))
 
 abbrev KeptFits : List ℕ × List Session → Type 0
 KeptFits p = (length p.0 < 256 ^ 4) × ((length p.1 < 256 ^ 4) × AllByRecursion IsSession p.1)
@@ -63,7 +63,7 @@ unfolding snapshot_at snapshot_bytes
 coded-snapshot =
     coded-chosen KeptFits (λ p. text_bytes 4 p.0 ++ list_bytes 4 session_bytes p.1) (both (text_at 4) (λ _. sessions_at))
     IsKept kept_from (λ k. (k.text, k.sessions)) (λ k is. (refl, (is.text, (is.count, is.sessions)))) (λ p k is h. kept_back p k is h)
-    (pair (coded-text 4 width4) coded-sessions)
+    (coded-pair (coded-text 4 width4) coded-sessions)
 
 mark_there : (x : Unit {0}) → Any x → (mark_from 0x4e475731 ≡ Some x) × (0x4e475731 < 256 ^ 4)
 mark_there x is = (refl, omega arith)
@@ -91,4 +91,4 @@ coded-heading =
     coded-chosen HeadingFits (λ p. mark ++ (big_bytes 8 p.1.0 ++ (config_bytes p.1.1.0 ++ snapshot_bytes p.1.1.1)))
     (both mark_at (λ _. both (number_at 8) (λ _. both config_at (λ _. snapshot_at))))
     IsHeading heading_from (λ x. (tt, (x.generation, (x.config, x.kept)))) (λ x is. (refl, (tt, (is.generation, (is.config, is.kept))))) (λ p x is h. heading_back p x is h)
-    (pair coded-mark (pair (coded-number 8 width8) (pair coded-config coded-snapshot)))
+    (coded-pair coded-mark (coded-pair (coded-number 8 width8) (coded-pair coded-config coded-snapshot)))

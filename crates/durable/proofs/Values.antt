@@ -94,9 +94,9 @@ coded-endpoint =
 -- ---- sessions
 
 -- one behind the other, where the second doesn't depend on the first
-pub pair : {X Y : Type 0} {P : X → Type 0} {a : X → List ℕ} {r : Reader X} {Q : Y → Type 0} {b : Y → List ℕ} {s : Reader Y} → Coded P a r → Coded Q b s
+pub coded-pair : {X Y : Type 0} {P : X → Type 0} {a : X → List ℕ} {r : Reader X} {Q : Y → Type 0} {b : Y → List ℕ} {s : Reader Y} → Coded P a r → Coded Q b s
     → Coded (λ (p : X × Y). P p.0 × Q p.1) (λ (p : X × Y). a p.0 ++ b p.1) (both r (λ _. s))
-pair {X} {Y} {P} {a} {r} {Q} {b} {s} c d = coded-both P a r (λ _. Q) (λ _. b) (λ _. s) c (λ _ _. d)
+coded-pair {X} {Y} {P} {a} {r} {Q} {b} {s} c d = coded-both P a r (λ _. Q) (λ _. b) (λ _. s) c (λ _ _. d)
 
 most_small : (p : Proto) → most_seen p < 256
 most_small Tcp = omega arith
@@ -130,7 +130,7 @@ coded-session =
     (λ p. (proto_number p.0 ∷ []) ++ (endpoint_bytes p.1.0 ++ (endpoint_bytes p.1.1.0 ++ (endpoint_bytes p.1.1.1.0 ++ ((opener_code p.1.1.1.1.0 ∷ []) ++ (p.1.1.1.1.1 ∷ []))))))
     (both proto_at (λ _. both endpoint_at (λ _. both endpoint_at (λ _. both endpoint_at (λ _. both opener_at (λ _. byte_at))))))
     IsSession session_from session_parts session_there session_back
-    (pair coded-proto (pair coded-endpoint (pair coded-endpoint (pair coded-endpoint (pair coded-opener coded-byte)))))
+    (coded-pair coded-proto (coded-pair coded-endpoint (coded-pair coded-endpoint (coded-pair coded-endpoint (coded-pair coded-opener coded-byte)))))
 
 -- ---- flows
 
@@ -148,7 +148,7 @@ coded-flow =
     IsFlow flow_from (λ f. (f.proto, (f.inside, f.remote)))
     (λ f is. (refl, (tt, (is.inside, is.remote))))
     (λ p f is e. flow_back p f is e)
-    (pair coded-proto (pair coded-endpoint coded-endpoint))
+    (coded-pair coded-proto (coded-pair coded-endpoint coded-endpoint))
 
 -- ---- entries
 
@@ -217,7 +217,7 @@ coded-seen = coded-into (λ (p : Flow × ℕ). IsFlow p.0 × (p.1 < 256)) (λ p.
     (λ p e is h.
     let g = guard_some (leb p.1 (most_seen p.0.proto)) (Seen p.0 p.1) e h in
     subst (λ (x : Entry). (flow_bytes p.0 ++ p.1 ∷ [] ≡ payload x) × Tagged 3 x) g.1 (refl, (refl, (is.0, leb-true _ _ g.0))))
-    (pair coded-flow coded-byte)
+    (coded-pair coded-flow coded-byte)
 
 restart_there : (e : Entry) → Tagged 4 e
     → (p : Flow × (Opener × ℕ)) × (payload e ≡ flow_bytes p.0 ++ ((opener_code p.1.0 ∷ []) ++ p.1.1 ∷ [])) × (restart_from p ≡ Some e) × (IsFlow p.0 × (Any p.1.0 × (p.1.1 < 256)))
@@ -236,7 +236,7 @@ coded-restart = coded-into (λ (p : Flow × (Opener × ℕ)). IsFlow p.0 × (Any
     (λ p e is h.
     let g = guard_some (leb p.1.1 (most_seen p.0.proto)) (Restart p.0 p.1.0 p.1.1) e h in
     subst (λ (x : Entry). (flow_bytes p.0 ++ ((opener_code p.1.0 ∷ []) ++ p.1.1 ∷ []) ≡ payload x) × Tagged 4 x) g.1 (refl, (refl, (is.0, leb-true _ _ g.0))))
-    (pair coded-flow (pair coded-opener coded-byte))
+    (coded-pair coded-flow (coded-pair coded-opener coded-byte))
 
 end_there : (e : Entry) → Tagged 5 e → (f : Flow) × (payload e ≡ flow_bytes f) × (Some (End f) ≡ Some e) × IsFlow f
 end_there (Load t) is = absurd (omega (arith, is.0))

@@ -4,12 +4,12 @@ use Rattle.packet.specs.Config.{Config, is_config}
 use Rattle.sessions.specs.Listing.{Rises}
 use Rattle.sessions.specs.Stilled.{AreStilled}
 use Rattle.sessions.specs.declared.session.Session.{Session}
-use Rattle.disk_model.specs.Disk.{Files, Same, Elsewhere}
+use Rattle.disk_model.specs.Disk.{Files, Same, Elsewhere, other}
 use Rattle.disk_model.specs.declared.disk.FileId.{FileId}
 use Rattle.journal.specs.Groups.{Groups, Appended}
 use Rattle.durable.specs.Coding.{Entry, AreEntries, IsEntry, body_bytes, Heading, heading_bytes, IsHeading}
 use Rattle.durable.specs.Entering.{Durable, entered, IsDurable, Admits, Enters, BodyEnters}
-use Rattle.durable.specs.Recovery.{arranged, begun, behind, IsOpen, Holds, IsActive, IsConfigured, Recovers, other}
+use Rattle.durable.specs.Recovery.{arranged, begun, behind, IsOpen, Holds, IsActive, IsConfigured, Recovers}
 
 -- A code at the front of bytes determines the value and the rest.
 abbrev pub CodedOnce : {X : Type 0} → (X → Type 0) → (X → List ℕ) → Type 0

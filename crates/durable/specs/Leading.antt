@@ -19,7 +19,7 @@ GroupsLead config bytes old new tail = (bodies : List (List ℕ))
     × IsClosed tail
     × Changed config bodies old new
 
--- The same from a heading on.
+-- The state of the heading is sound, and the bytes behind it lead from that to this state, up to this tail.
 pub record StateLeads (h : Heading) (bytes : List ℕ) (d : Durable) (tail : List ℕ) : Type 0 where
   pub text : IsRuleset h.config h.kept.text
   pub sound : AreSound h.config (arranged h.kept.sessions)

@@ -29,7 +29,7 @@ abbrev pub Gives : {X Y : Type 0} → (X → Y) → Option X → Option Y → Ty
 Gives view (Some x) read = read ≡ Some (view x)
 Gives view None read = read ≡ None
 
--- the same, unless memory was refused
+-- a function failed because reading gives none, unless memory was refused
 abbrev pub Fails : {Y : Type 0} → DurableFault → Option Y → Type 0
 Fails NoMemory read = Unit {0}
 Fails Damaged read = read ≡ None

@@ -4,7 +4,7 @@ use Rattle.packet.specs.Config.{Config, is_config}
 use Rattle.sessions.specs.Listing.{insert}
 use Rattle.sessions.specs.Sound.{AreSound}
 use Rattle.sessions.specs.declared.session.Session.{Session}
-use Rattle.disk_model.specs.Disk.{Files}
+use Rattle.disk_model.specs.Disk.{Files, other}
 use Rattle.disk_model.specs.declared.disk.FileId.{FileId}
 use Rattle.disk_model.specs.declared.disk.FileId.TheVariants.{A, B}
 use Rattle.journal.specs.Groups.{Groups}
@@ -53,10 +53,6 @@ abbrev pub IsOlder : ℕ → List ℕ → Type 0
 IsOlder generation file = IsOpen file → (h : Heading) × IsHeaded file h
     × (h.generation < generation)
 
-abbrev pub other : FileId → FileId
-other A = B
-other B = A
-
 -- The file is the active one: it is open and holds this state, and the other one is closed or older.
 abbrev pub IsActive : Files → FileId → Heading → Durable → ℕ → Type 0
 IsActive files file h d end = Holds (files file) h d end × IsOlder h.generation (files (other file))
@@ -99,8 +95,3 @@ pub record IsFound (files : Files) (x : Active) : Type 0 where
 abbrev pub Finds : Files → Option Active → Type 0
 Finds files None = NoneOpen files
 Finds files (Some x) = IsFound files x
-
--- two files by their bytes
-abbrev pub pair : List ℕ → List ℕ → Files
-pair a b A = a
-pair a b B = b

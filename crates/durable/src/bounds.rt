@@ -10,7 +10,7 @@ use packet::endpoint::Prefix;
 use std::alloc::Global;
 
 // The name as a string; what is no ASCII is no name.
-fn name_of(alloc: Global, bytes: &[u8]) -> Result<String, DurableFault>
+fn string_of(alloc: Global, bytes: &[u8]) -> Result<String, DurableFault>
     ensures ok { IfOk result (λ name. string_bytes name ≡ bytes.now) }
     ensures damaged { IsErrOf result DurableFault.Damaged → ¬ IsTrue (is_name bytes.now) }
 {
@@ -32,8 +32,8 @@ pub fn bounds_of(alloc: Global, config: StoredConfig<'_>) -> Result<Bounds, Dura
     ensures damaged { IsErrOf result DurableFault.Damaged
         → ¬ IsTrue (is_config (config_view config.entry)) }
 {
-    let lan = name_of(alloc, config.lan)?;
-    let wan = name_of(alloc, config.wan)?;
+    let lan = string_of(alloc, config.lan)?;
+    let wan = string_of(alloc, config.wan)?;
     match Bounds::new(lan, wan, config.inside, config.external) {
         Ok(bounds) => Ok(bounds),
         Err(_) => Err(DurableFault::Damaged),

@@ -35,6 +35,9 @@ const SESSION_LEN: usize = 21;
 /// The bytes of a flow: its protocol, and two endpoints of six bytes.
 const FLOW_LEN: usize = 13;
 
+/// Where the flow of an entry ends: it stands behind the tag.
+const FLOW_END: usize = 1 + FLOW_LEN;
+
 fn address_fits(address: u32)
     ensures { address < 2 ^ 32 }
 {}
@@ -117,8 +120,8 @@ pub fn seen_code(flow: &Flow, seen: u8) -> [u8; SEEN_LEN]
     ensures fits { IsSeen flow.now.proto seen → IsEntry (Seen flow.now seen) }
 {
     let mut code = [3; SEEN_LEN];
-    code[1..14].copy_from_slice(&flow_code(flow));
-    code[14] = seen;
+    code[1..FLOW_END].copy_from_slice(&flow_code(flow));
+    code[FLOW_END] = seen;
     code
 }
 
@@ -129,9 +132,9 @@ pub fn restart_code(flow: &Flow, opener: Opener, seen: u8) -> [u8; RESTART_LEN]
     ensures fits { IsSeen flow.now.proto seen → IsEntry (Restart flow.now opener seen) }
 {
     let mut code = [4; RESTART_LEN];
-    code[1..14].copy_from_slice(&flow_code(flow));
-    code[14] = opener.code();
-    code[15] = seen;
+    code[1..FLOW_END].copy_from_slice(&flow_code(flow));
+    code[FLOW_END] = opener.code();
+    code[FLOW_END + 1] = seen;
     code
 }
 

@@ -1,10 +1,12 @@
-//! Numbers, texts and endpoints at the front of bytes.
+//! Numbers, texts and endpoints at the front of bytes: each is answered with what stands behind it, or none where the
+//! bytes don't begin with one.
 ghost use Rattle.durable.specs.Reading.{Gives, byte_at, number_at, text_at, proto_at, opener_at, endpoint_at};
 
 use byteorder::{BigEndian, ByteOrder};
 use packet::endpoint::{Endpoint, Proto};
 use sessions::Opener;
 
+/// A byte by itself.
 pub fn byte_of(bytes: &[u8]) -> Option<(u8, &[u8])>
     ensures { Gives (λ x. (x.0, x.1.now)) result (byte_at bytes.now) }
 {
@@ -36,6 +38,7 @@ pub fn u32_of(bytes: &[u8]) -> Option<(u32, &[u8])>
     Some((BigEndian::read_u32(bytes), rest))
 }
 
+/// A text behind its length, which has four bytes.
 #[tactic(auto, unfolding(crate::specs::Reading::text_at, crate::specs::Reading::front_at))]
 pub fn text_of(bytes: &[u8]) -> Option<(&[u8], &[u8])>
     ensures { Gives (λ x. (x.0.now, x.1.now)) result (text_at 4 bytes.now) }
@@ -75,6 +78,8 @@ pub fn endpoint_of(bytes: &[u8]) -> Option<(Endpoint, &[u8])>
     Some((Endpoint { addr, port }, rest))
 }
 
+/// A byte that is a number of its own width, as a count or a length. It is found as by `byte_of`; contracts see it as
+/// they see longer numbers.
 #[tactic(auto, unfolding(crate::specs::Reading::number_at))]
 pub fn u8_of(bytes: &[u8]) -> Option<(u8, &[u8])>
     ensures { Gives (λ x. (x.0, x.1.now)) result (number_at 1 bytes.now) }
@@ -97,6 +102,7 @@ pub fn u64_of(bytes: &[u8]) -> Option<(u64, &[u8])>
     Some((BigEndian::read_u64(bytes), rest))
 }
 
+/// A name behind its length, which has one byte.
 #[tactic(auto, unfolding(crate::specs::Reading::text_at, crate::specs::Reading::front_at))]
 pub fn name_of(bytes: &[u8]) -> Option<(&[u8], &[u8])>
     ensures { Gives (λ x. (x.0.now, x.1.now)) result (text_at 1 bytes.now) }

@@ -1,4 +1,9 @@
 //! What two files stand for.
+//!
+//! `recover` reads the heading of each file that is open (`read_open`, by `heading_of` and `bounds_of`), and `choose`
+//! takes the file of the greater generation. Of that one alone `active` reads the state (`read_state`): its text is
+//! checked (`check_text`), its sessions are put into a table (`table_of`), and its groups are played on both (`lead`,
+//! by `enter_groups`).
 ghost use Rattle.std.specs.Prelude.{◌≡◌, ◌<◌, ◌↔◌, IsTrue, List, ℕ, Option, drop, IfOk, OnOk, IsErrOf};
 ghost use Rattle.std.specs.List.{All};
 ghost use Rattle.sessions.specs.Life.{IsSeen};
@@ -8,7 +13,8 @@ ghost use Rattle.durable.specs.Coding.{Heading, IsHeading};
 ghost use Rattle.durable.specs.Entering.{Durable, IsRuleset, durable};
 ghost use Rattle.durable.specs.Found.{HeldBy, IsReadOpen, found_view};
 ghost use Rattle.durable.specs.Leading.{StateLeads};
-ghost use Rattle.durable.specs.Recovery.{Active, Finds, Holds, IsHeaded, IsOpen, arranged, arranged_on, behind, pair};
+ghost use Rattle.disk_model.specs.Disk.{pair};
+ghost use Rattle.durable.specs.Recovery.{Active, Finds, Holds, IsHeaded, IsOpen, arranged, arranged_on, behind};
 ghost use Rattle.durable.specs.Viewing.{headed_view};
 
 use crate::DurableFault;
@@ -145,7 +151,7 @@ fn lead<'a>(
 }
 
 // The text and the sessions of a file's state, and what stands from the closed gate on.
-fn settle<'a>(
+fn read_state<'a>(
     alloc: Global,
     headed: &Headed<'a>,
     rest: &'a [u8],
@@ -158,9 +164,9 @@ fn settle<'a>(
 {
     check_text(alloc, &headed.bounds, headed.text)?;
     let mut table = table_of(alloc, &headed.bounds, &headed.sessions)?;
-    let settled = lead(alloc, headed, &mut table, rest);
+    let state = lead(alloc, headed, &mut table, rest);
     drop(table);
-    settled
+    state
 }
 
 // The state that a file holds.
@@ -177,7 +183,7 @@ fn active<'a>(
     ensures damaged { IsErrOf result DurableFault.Damaged → (d : Durable) (end : ℕ)
         → ¬ Holds bytes.now (headed_view headed.entry) d end }
 {
-    let (text, sessions, tail) = settle(alloc, &headed, rest)?;
+    let (text, sessions, tail) = read_state(alloc, &headed, rest)?;
     let start = bytes.len().saturating_sub(rest.len());
     let end = bytes.len().saturating_sub(tail.len());
     Ok(Some(Recovered {

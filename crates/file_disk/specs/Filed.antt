@@ -1,5 +1,6 @@
 -- What a call of the disk asks of its two files.
 use Rattle.std.specs.Prelude.{◌≡◌, ℕ}
+use Rattle.disk_model.specs.Disk.{other}
 use Rattle.disk_model.specs.declared.disk.FileId.{FileId}
 use Rattle.disk_model.specs.declared.disk.FileId.TheVariants.{A, B}
 
@@ -13,10 +14,6 @@ pub record Filed (F : Type 0) : Type 0 where
   pub files : Two F
   pub calls : ℕ
   pub failures : ℕ
-
-abbrev pub other : FileId → FileId
-other A = B
-other B = A
 
 module _ {F : Type 0} where
   abbrev pub file_of : Two F → FileId → F

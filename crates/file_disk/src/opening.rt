@@ -123,7 +123,7 @@ fn open_file(rt: &HostRuntime, directory: &str, id: FileId) -> Result<File, Open
 
 // Syncs a file, and drops what the system has of it in memory: behind a sync of another program that failed it may be
 // other than what the device has.
-fn settle(file: &File) -> Result<(), OpenError> {
+fn sync_and_uncache(file: &File) -> Result<(), OpenError> {
     file.sync_all()?;
     let refused = libc::posix_fadvise(file.as_raw_fd(), 0, 0, libc::POSIX_FADV_DONTNEED);
     if refused != 0 {
@@ -132,16 +132,16 @@ fn settle(file: &File) -> Result<(), OpenError> {
     Ok(())
 }
 
-// One of the files, opened and settled.
-fn settled_file(rt: &HostRuntime, directory: &str, id: FileId) -> Result<File, OpenError> {
+// One of the files, opened and synced.
+fn synced_file(rt: &HostRuntime, directory: &str, id: FileId) -> Result<File, OpenError> {
     let file = open_file(rt, directory, id)?;
-    settle(&file)?;
+    sync_and_uncache(&file)?;
     Ok(file)
 }
 
 // One of the files, or what is the matter with it.
 fn file_in(rt: &HostRuntime, directory: &str, id: FileId) -> Result<File, OpenError> {
-    match settled_file(rt, directory, id) {
+    match synced_file(rt, directory, id) {
         Ok(file) => Ok(file),
         Err(error) => Err(of_file(id, error)),
     }

@@ -2,14 +2,14 @@
 use Rattle.std.proofs.Common.{◌≡◌, ◌≢◌, ◌⊎◌, inl, inr, ⊎_elim, ℕ, ◌+◌, ◌<◌, ◌≤◌, ◌^◌, List, [], ◌∷◌, ◌++◌, length, take, refl, sym, ◌∙◌, ap, subst, arith}
 use Rattle.std.specs.Prelude.{IsTrue, Option, Some, None}
 use Rattle.packet.specs.Config.{Config, is_config}
-use Rattle.disk_model.specs.Disk.{Files, Same, Goes, Leaves, LeavesNow, LeavesOnly, Synced, Elsewhere}
+use Rattle.disk_model.specs.Disk.{Files, Same, Goes, Leaves, LeavesNow, LeavesOnly, Synced, Elsewhere, pair}
 use Rattle.disk_model.specs.declared.disk.FileId.{FileId}
 use Rattle.disk_model.specs.declared.disk.FileId.TheVariants.{A, B}
 use Rattle.disk_model.proofs.Moments.{called, follows, at_end, narrows, only_then}
 use Rattle.durable.specs.Coding.{heading_bytes, IsHeading}
 use Rattle.durable.specs.Entering.{Durable, IsDurable, empty}
 use Rattle.durable.specs.Laws.{anew}
-use Rattle.durable.specs.Recovery.{Active, Finds, Alike, IsActive, IsConfigured, NoneOpen, Recovers, behind, pair}
+use Rattle.durable.specs.Recovery.{Active, Finds, Alike, IsActive, IsConfigured, NoneOpen, Recovers, behind}
 use Rattle.durable.proofs.Headed.{headed_open, recovers_once}
 use Rattle.durable.proofs.Storable.{empty_durable}
 use Rattle.snapshot.specs.Remaking.{Remade}

@@ -3,13 +3,13 @@ use Rattle.std.proofs.Common.{◌≡◌, ◌≢◌, ◌⊎◌, inl, inr, ⊎_eli
 use Rattle.std.proofs.lemmas.List.{length-take, take_at, take-take}
 use Rattle.std.specs.Prelude.{IsTrue}
 use Rattle.packet.specs.Config.{Config, is_config}
-use Rattle.disk_model.specs.Disk.{Files, Elsewhere}
+use Rattle.disk_model.specs.Disk.{Files, Elsewhere, other}
 use Rattle.disk_model.specs.declared.disk.FileId.{FileId}
 use Rattle.disk_model.specs.declared.disk.FileId.TheVariants.{A, B}
 use Rattle.durable.specs.Coding.{Heading, heading_bytes, IsHeading}
 use Rattle.durable.specs.Entering.{Durable, IsDurable, empty}
 use Rattle.durable.specs.Laws.{anew, IsFresh}
-use Rattle.durable.specs.Recovery.{Holds, IsActive, IsHeaded, IsOpen, NoneOpen, behind, other}
+use Rattle.durable.specs.Recovery.{Holds, IsActive, IsHeaded, IsOpen, NoneOpen, behind}
 use Rattle.durable.proofs.Headed.{recovers_once}
 use Rattle.durable.proofs.Growing.{renews}
 use Rattle.durable.proofs.Storable.{active_kept}

@@ -1,7 +1,7 @@
 -- A store at rest, and its commits and compactions.
 use Rattle.std.proofs.Common.{◌≡◌, ◌≢◌, ◌⊎◌, inl, inr, ⊎_elim, ℕ, ◌+◌, ◌<◌, ◌≤◌, ◌^◌, List, [], ◌∷◌, ◌++◌, length, take, refl, sym, ◌∙◌, ap, subst, arith}
 use Rattle.packet.specs.Config.{Config}
-use Rattle.disk_model.specs.Disk.{Files, LeftNow, Leaves, LeavesNow, LeavesOnly, Synced, Elsewhere}
+use Rattle.disk_model.specs.Disk.{Files, LeftNow, Leaves, LeavesNow, LeavesOnly, Synced, Elsewhere, other}
 use Rattle.disk_model.specs.declared.disk.FileId.{FileId}
 use Rattle.disk_model.proofs.Moments.{at_end, narrows, idle}
 use Rattle.journal.specs.Groups.{Appended, Resting, Stands}
@@ -9,7 +9,7 @@ use Rattle.journal.proofs.Behind.{closed_there}
 use Rattle.durable.specs.Coding.{Heading, heading_bytes}
 use Rattle.durable.specs.Entering.{Durable, BodyEnters}
 use Rattle.durable.specs.Laws.{anew}
-use Rattle.durable.specs.Recovery.{IsActive, IsConfigured, Recovers, behind, other}
+use Rattle.durable.specs.Recovery.{IsActive, IsConfigured, Recovers, behind}
 use Rattle.durable.proofs.Headed.{recovers_once}
 use Rattle.durable.proofs.Growing.{renews}
 use Rattle.snapshot.specs.Remaking.{Remade}

@@ -20,11 +20,11 @@ pub record IsReady (config : Config) (files : Files) (r : opening.Ready) : Type 
   pub starts : r.start ≡ behind heading
 
 -- what was found in two files
-abbrev pub IsJudged : Config → Files → Option opening.Ready → Type 0
-IsJudged config files None = NoneOpen files
-IsJudged config files (Some r) = IsReady config files r
+abbrev pub IsRecovered : Config → Files → Option opening.Ready → Type 0
+IsRecovered config files None = NoneOpen files
+IsRecovered config files (Some r) = IsReady config files r
 
--- the same, with a text of its own
+-- what was recovered, with a text of its own
 pub record IsKept (found : recovery.Recovered) (r : opening.Ready) : Type 0 where
   pub file : r.file ≡ found.file
   pub generation : r.generation ≡ found.generation

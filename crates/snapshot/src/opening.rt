@@ -1,11 +1,15 @@
 //! What two files hold.
+//!
+//! `make_ready` syncs both files and reads them whole (`look`, by `sync_both` and `contents`). `recover_for` asks
+//! `durable::recover` what they stand for, compares the configuration, and keeps what was found (`keep`). Where no file
+//! is open, `make_first` makes file A.
 ghost use Rattle.std.specs.Prelude.{◌≡◌, ◌<◌, ◌≤◌, ◌↔◌, [], IfOk, IfSome, OnOk, OnErr, IsErrOf};
 ghost use Rattle.disk_model.specs.declared.disk.FileId.{FileId};
 ghost use Rattle.disk_model.specs.declared.disk.FileId.TheVariants.{A, B};
-ghost use Rattle.disk_model.specs.Disk.{Same, Leaves, LeavesNow, LeavesOnly, Looks, Synced, Grew, HasCause};
+ghost use Rattle.disk_model.specs.Disk.{Same, Leaves, LeavesNow, LeavesOnly, Looks, Synced, Grew, HasCause, pair};
 ghost use Rattle.durable.specs.Entering.{Durable, IsDurable, durable, empty};
-ghost use Rattle.durable.specs.Recovery.{Alike, IsConfigured, NoneOpen, Recovers, pair};
-ghost use Rattle.snapshot.specs.Opening.{IsReady, IsJudged, IsKept, state_of};
+ghost use Rattle.durable.specs.Recovery.{Alike, IsConfigured, NoneOpen, Recovers};
+ghost use Rattle.snapshot.specs.Opening.{IsReady, IsRecovered, IsKept, state_of};
 ghost use Rattle.snapshot.specs.Store.{IsFirst};
 
 use crate::OpenFault;
@@ -33,7 +37,7 @@ pub(crate) struct Ready {
 }
 
 // Syncs both files: from then on a crash leaves what they read.
-fn settle<D: Disk>(disk: &mut D) -> Result<(), DiskFault>
+fn sync_both<D: Disk>(disk: &mut D) -> Result<(), DiskFault>
     ensures honest { D.honest disk.old ↔ D.honest disk.new }
     ensures leaves { D.honest disk.old → Leaves D.moment D.left disk.old disk.new Same }
     ensures looks { D.honest disk.old
@@ -86,7 +90,7 @@ fn look<D: Disk>(alloc: Global, disk: &mut D) -> Result<(Vec<u8>, Vec<u8>), Open
     ensures damaged { IsErrOf result OpenFault.Damaged → ⊥ }
     ensures differs { IsErrOf result OpenFault.ConfigDiffers → ⊥ }
 {
-    settle(disk)?;
+    sync_both(disk)?;
     let a = contents(alloc, disk, FileId::A)?;
     let b = contents(alloc, disk, FileId::B)?;
     Ok((a, b))
@@ -112,8 +116,13 @@ fn keep(alloc: Global, found: Recovered<'_>) -> Result<Ready, OpenFault>
 }
 
 // What two files hold, by their bytes, for a store of these bounds.
-fn judge(alloc: Global, a: &[u8], b: &[u8], bounds: &Bounds) -> Result<Option<Ready>, OpenFault>
-    ensures ok { IfOk result (λ found. IsJudged bounds.now (pair a.now b.now) found) }
+fn recover_for(
+    alloc: Global,
+    a: &[u8],
+    b: &[u8],
+    bounds: &Bounds,
+) -> Result<Option<Ready>, OpenFault>
+    ensures ok { IfOk result (λ found. IsRecovered bounds.now (pair a.now b.now) found) }
     ensures bounds { IfOk result (λ found. IfSome found (λ r. r.bounds ≡ bounds.now)) }
     ensures damaged { IsErrOf result OpenFault.Damaged → (d : Durable)
         → ¬ Recovers (pair a.now b.now) d }
@@ -137,7 +146,7 @@ fn judge(alloc: Global, a: &[u8], b: &[u8], bounds: &Bounds) -> Result<Option<Re
 }
 
 // Makes file A, where no file is open: it holds no text and no session.
-fn begin<D: Disk>(alloc: Global, disk: &mut D, bounds: &Bounds) -> Result<Ready, OpenFault>
+fn make_first<D: Disk>(alloc: Global, disk: &mut D, bounds: &Bounds) -> Result<Ready, OpenFault>
     requires none { D.honest disk.old → NoneOpen (D.seen disk.old) }
     requires synced { D.honest disk.old → (file : FileId)
         → Synced D.moment D.left D.seen disk.old file }
@@ -228,8 +237,8 @@ pub(crate) fn make_ready<D: Disk>(
         → Grew (D.failed disk.old) (D.failed disk.new) }
 {
     let (a, b) = look(alloc, disk)?;
-    match judge(alloc, &a, &b, bounds)? {
+    match recover_for(alloc, &a, &b, bounds)? {
         Some(found) => Ok(found),
-        None => begin(alloc, disk, bounds),
+        None => make_first(alloc, disk, bounds),
     }
 }

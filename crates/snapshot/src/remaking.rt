@@ -1,7 +1,6 @@
 //! A file is made anew.
 ghost use Rattle.std.specs.Prelude.{◌≡◌, ◌+◌, ◌↔◌, ◌∷◌, length, take, OnOk};
-ghost use Rattle.disk_model.specs.Disk.{Leaves, HasCause, Called, Synced, Elsewhere};
-ghost use Rattle.durable.specs.Recovery.{other};
+ghost use Rattle.disk_model.specs.Disk.{Leaves, HasCause, Called, Synced, Elsewhere, other};
 ghost use Rattle.snapshot.specs.Remaking.{Remade};
 
 use disk_model::{Disk, DiskFault, FileId, write_synced};

@@ -28,7 +28,9 @@ pub struct Store<D: Disk + Drop> {
     bounds: Bounds,
     active: FileId,
     generation: u64,
+    /// The place behind the heading of the active file, where its groups begin.
     start: u64,
+    /// The place of the closed gate behind these groups.
     end: u64,
     fallen: bool,
 }

@@ -1,7 +1,7 @@
 use Rattle.std.proofs.Common.{◌≡◌, ◌∙◌, ℕ, List, subst}
 use Rattle.disk_model.specs.declared.disk.FileId.TheVariants.{A, B}
 use Rattle.disk_model.proofs.Moments.{looks_then}
-use Rattle.durable.specs.Recovery.{pair}
+use Rattle.disk_model.specs.Disk.{pair}
 use Rattle.diagnosis.specs.Finding.{IsFinding}
 use Rattle.diagnosis.proofs.device.diagnose.Goals as goal
 

@@ -1,4 +1,4 @@
-use Rattle.durable.specs.Recovery.{pair}
+use Rattle.disk_model.specs.Disk.{pair}
 use Rattle.diagnosis.proofs.Whys.{why}
 use Rattle.diagnosis.proofs.finding.damage_of.Goals as goal
 

@@ -2,7 +2,8 @@ use Rattle.std.proofs.Common.{rules, ◌≡◌, ◌∙◌, inl, inr, refl, sym, 
 use Rattle.std.specs.Prelude.{Err, Option}
 use Rattle.durable.specs.Entering.{empty}
 use Rattle.durable.specs.Found.{found_view, state_view}
-use Rattle.durable.specs.Recovery.{Finds, pair}
+use Rattle.disk_model.specs.Disk.{pair}
+use Rattle.durable.specs.Recovery.{Finds}
 use Rattle.durable.specs.declared.recovery.Recovered.{Recovered}
 use Rattle.diagnosis.proofs.Whys.{configured_by, configured_none, found_of}
 use Rattle.diagnosis.proofs.finding.examine.Goals as goal

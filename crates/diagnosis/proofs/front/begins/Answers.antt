@@ -1,7 +1,7 @@
 use Rattle.std.proofs.Common.{◌≡◌, ◌∙◌, List, ℕ, [], ◌∷◌, ◌++◌, take, ap}
 use Rattle.std.specs.Prelude.{Bool}
 use Rattle.std.proofs.lemmas.Result.{IfOk-weaker}
-use Rattle.durable.specs.Recovery.{pair}
+use Rattle.disk_model.specs.Disk.{pair}
 use Rattle.diagnosis.specs.Probing.{Tells, TellsBegin}
 use Rattle.diagnosis.proofs.Fronts.{tells_begin}
 use Rattle.diagnosis.proofs.front.begins.Goals as goal

@@ -1,6 +1,6 @@
 use Rattle.std.specs.Prelude.{Bool}
 use Rattle.std.proofs.lemmas.Result.{IfOk-weaker}
-use Rattle.durable.specs.Recovery.{pair}
+use Rattle.disk_model.specs.Disk.{pair}
 use Rattle.diagnosis.specs.Probing.{Tells, TellsFront}
 use Rattle.diagnosis.proofs.Probed.{tells_front}
 use Rattle.diagnosis.proofs.probe.has_front.Goals as goal

@@ -1,7 +1,8 @@
 use Rattle.std.proofs.Common.{◌≡◌}
 use Rattle.std.proofs.lemmas.Result.{IfOk-weaker}
 use Rattle.durable.specs.Found.{found_view}
-use Rattle.durable.specs.Recovery.{Finds, pair}
+use Rattle.disk_model.specs.Disk.{pair}
+use Rattle.durable.specs.Recovery.{Finds}
 use Rattle.durable.proofs.Headed.{found_once}
 use Rattle.durable.proofs.recovery.recover.Goals as goal
 

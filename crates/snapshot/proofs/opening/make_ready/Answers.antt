@@ -1,10 +1,10 @@
 use Rattle.std.proofs.Common.{◌≡◌, ◌∙◌, ℕ, List, rules, inl, inr, refl, sym, ap, subst}
 use Rattle.std.specs.Prelude.{Err}
 use Rattle.std.proofs.lemmas.Result.{err_from_is_err_and, on_ok_weaker, IfOk-weaker}
-use Rattle.disk_model.specs.Disk.{Files, Same}
+use Rattle.disk_model.specs.Disk.{Files, Same, pair}
 use Rattle.disk_model.specs.declared.disk.FileId.TheVariants.{A, B}
 use Rattle.durable.specs.Entering.{Durable, IsDurable, empty}
-use Rattle.durable.specs.Recovery.{IsConfigured, NoneOpen, Recovers, pair}
+use Rattle.durable.specs.Recovery.{IsConfigured, NoneOpen, Recovers}
 use Rattle.durable.proofs.Errors.{same_error}
 use Rattle.durable.proofs.Storable.{empty_durable}
 use Rattle.durable.proofs.Headed.{recovers_once}
@@ -69,14 +69,14 @@ pub returns-clause-any_moment : goal.returns-clause-any_moment
 returns-clause-any_moment g c = λ h.
     let h1 = c.look.ensures.honest.0 h in
     let none : NoneOpen (g.D.Disk.seen c.look.new.disk) = search rules in
-    alike_on g.D.Disk.moment g.D.Disk.left c.args.disk.now c.look.new.disk c.begin.new.disk (λ s t files le since. g.met.D.Disk.earlier c.look.new.disk s t files h1 le since) (c.look.ensures.leaves h)
-    (begun_alike g.D.Disk.moment g.D.Disk.left g.D.Disk.seen c.look.new.disk c.begin.new.disk none (c.in_ok-a.ensures.synced h) (c.begin.ensures.any_moment h1))
+    alike_on g.D.Disk.moment g.D.Disk.left c.args.disk.now c.look.new.disk c.make_first.new.disk (λ s t files le since. g.met.D.Disk.earlier c.look.new.disk s t files h1 le since) (c.look.ensures.leaves h)
+    (begun_alike g.D.Disk.moment g.D.Disk.left g.D.Disk.seen c.look.new.disk c.make_first.new.disk none (c.in_ok-a.ensures.synced h) (c.make_first.ensures.any_moment h1))
 
 pub returns-clause-configured : goal.returns-clause-configured
 returns-clause-configured g c = λ h now.
     let h1 = c.look.ensures.honest.0 h in
-    configured_on g.D.Disk.moment g.D.Disk.left c.args.bounds.now c.args.disk.now c.look.new.disk c.begin.new.disk (λ s t files le since. g.met.D.Disk.earlier c.look.new.disk s t files h1 le since) (c.look.ensures.leaves h) now
-    (c.begin.ensures.configured h1)
+    configured_on g.D.Disk.moment g.D.Disk.left c.args.bounds.now c.args.disk.now c.look.new.disk c.make_first.new.disk (λ s t files le since. g.met.D.Disk.earlier c.look.new.disk s t files h1 le since) (c.look.ensures.leaves h) now
+    (c.make_first.ensures.configured h1)
 
 -- a file was found open
 pub returns-in-Some-clause-fresh : goal.returns-in-Some-clause-fresh
@@ -99,7 +99,7 @@ returns-clause-fresh g c = λ h none.
     let h1 = c.look.ensures.honest.0 h in
     let looked = c.in_ok-a.ensures.looks h (λ told. absurd cc) in
     let read = g.D.Disk.seen c.look.new.disk in
-    on_ok_weaker c.begin.result (λ (is : IsFirst c.args.bounds.now read (g.D.Disk.seen c.begin.new.disk)). record { made = is.made; beside = is.beside ∙ looked.stays B }) (c.begin.ensures.fresh h1)
+    on_ok_weaker c.make_first.result (λ (is : IsFirst c.args.bounds.now read (g.D.Disk.seen c.make_first.new.disk)). record { made = is.made; beside = is.beside ∙ looked.stays B }) (c.make_first.ensures.fresh h1)
 
 pub returns-clause-only_looks : goal.returns-clause-only_looks
 returns-clause-only_looks g c = λ h open_so.
@@ -114,5 +114,5 @@ returns-in-Some-clause-sound g c =
     ready_sound c.args.bounds.now (pair c.deref.result.now c.deref-2.result.now) c.in-Some.found is
 
 pub returns-clause-sound : goal.returns-clause-sound
-returns-clause-sound g c = IfOk-weaker c.begin.result (λ (r : Ready). state_of r ≡ empty) (λ (r : Ready). IsDurable c.args.bounds.now (state_of r))
-    (λ r none. subst (λ (d : Durable). IsDurable c.args.bounds.now d) (sym none) (empty_durable c.args.bounds.now)) c.begin.ensures.empty
+returns-clause-sound g c = IfOk-weaker c.make_first.result (λ (r : Ready). state_of r ≡ empty) (λ (r : Ready). IsDurable c.args.bounds.now (state_of r))
+    (λ r none. subst (λ (d : Durable). IsDurable c.args.bounds.now d) (sym none) (empty_durable c.args.bounds.now)) c.make_first.ensures.empty

@@ -1,10 +1,10 @@
 use Rattle.std.proofs.Common.{◌≡◌, ◌≢◌, ◌+◌, ◌-◌, ◌++◌, ◌∷◌, [], ◌<◌, ◌≤◌, ◌^◌, ℕ, List, rules, sym, refl, ap, subst, ◌∙◌, arith, length, take, false}
-use Rattle.disk_model.specs.Disk.{Files, Leaves, Synced, Elsewhere}
+use Rattle.disk_model.specs.Disk.{Files, Leaves, Synced, Elsewhere, other}
 use Rattle.disk_model.specs.declared.disk.FileId.{FileId}
 use Rattle.durable.specs.Coding.{heading_bytes}
 use Rattle.durable.specs.Entering.{Durable, durable}
 use Rattle.durable.specs.Laws.{anew}
-use Rattle.durable.specs.Recovery.{Recovers, behind, other}
+use Rattle.durable.specs.Recovery.{Recovers, behind}
 use Rattle.snapshot.specs.Remaking.{Remade}
 use Rattle.snapshot.specs.Store.{Stored, Rests}
 use Rattle.snapshot.proofs.Resting.{rests_as, keeps, idle_one, idle_configured, compact_leaves, compact_configured, compact_rests}

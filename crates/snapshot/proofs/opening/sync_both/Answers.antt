@@ -3,7 +3,7 @@ use Rattle.disk_model.specs.Disk.{Looks, Same, Synced}
 use Rattle.disk_model.specs.declared.disk.FileId.{FileId}
 use Rattle.disk_model.specs.declared.disk.FileId.TheVariants.{A, B}
 use Rattle.snapshot.proofs.Beginnings.{same_call, same_then, both_synced}
-use Rattle.snapshot.proofs.opening.settle.Goals as goal
+use Rattle.snapshot.proofs.opening.sync_both.Goals as goal
 
 pub returns-in_err-sync-clause-leaves : goal.returns-in_err-sync-clause-leaves
 returns-in_err-sync-clause-leaves g c = λ h0. same_call g.D.Disk.moment g.D.Disk.left c.args.disk.now c.sync.new.self (c.sync.ensures.crash h0)

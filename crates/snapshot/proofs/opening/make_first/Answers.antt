@@ -5,7 +5,7 @@ use Rattle.durable.specs.Laws.{anew}
 use Rattle.snapshot.proofs.Making.{fresh_of}
 use Rattle.snapshot.proofs.States.{apart}
 use Rattle.snapshot.proofs.Beginnings.{begun_leaves, begun_configured, begun_synced, begun_ready}
-use Rattle.snapshot.proofs.opening.begin.Goals as goal
+use Rattle.snapshot.proofs.opening.make_first.Goals as goal
 
 pub returns-in_err-remake-clause-any_moment : goal.returns-in_err-remake-clause-any_moment
 returns-in_err-remake-clause-any_moment g c = λ honest.

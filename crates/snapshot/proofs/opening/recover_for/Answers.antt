@@ -1,10 +1,11 @@
 use Rattle.std.proofs.Common.{◌≡◌, ◌∙◌, rules, inr, sym, ap, subst}
 use Rattle.std.specs.Prelude.{Err, Option}
 use Rattle.durable.specs.Found.{found_view, state_view}
-use Rattle.durable.specs.Recovery.{Finds, pair}
+use Rattle.disk_model.specs.Disk.{pair}
+use Rattle.durable.specs.Recovery.{Finds}
 use Rattle.durable.specs.declared.recovery.Recovered.{Recovered}
 use Rattle.snapshot.proofs.Beginnings.{found_of}
-use Rattle.snapshot.proofs.opening.judge.Goals as goal
+use Rattle.snapshot.proofs.opening.recover_for.Goals as goal
 
 pub returns-in-Err-Damaged-clause-damaged : goal.returns-in-Err-Damaged-clause-damaged
 returns-in-Err-Damaged-clause-damaged c = λ damaged d recovers.
