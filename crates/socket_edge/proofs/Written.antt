@@ -6,13 +6,12 @@ use Rattle.std.proofs.Math.Seq.{take-suc}
 use Rattle.std.specs.List.{flat_map}
 use Rattle.std.proofs.lemmas.Result.{IfErr-weaker}
 use Rattle.std.specs.Io.KnownBytes.{Appends, Keeps}
-use Rattle.byteorder.specs.Endian.{big_bytes}
 use Rattle.packet.specs.declared.endpoint.Iface.{Iface}
 use Rattle.machine.specs.declared.event.Answer.{Answer}
 use Rattle.machine.specs.declared.event.Answer.TheVariants as answer
 use Rattle.socket_edge.specs.declared.fault.EdgeFault.{EdgeFault}
 use Rattle.socket_edge.specs.declared.fault.EdgeFault.TheVariants.{Output}
-use Rattle.socket_edge.specs.Answering.{kind_byte, answer_body, frame_head, frame, AppendsFront}
+use Rattle.socket_edge.specs.Answering.{answer_body, frame_head, frame, AppendsFront}
 use Rattle.socket_edge.proofs.Streams.{Appends-then}
 
 -- the first n bytes, and then a write that appends nothing
@@ -46,7 +45,7 @@ Fails-behind a b c x y r p q = IfErr-weaker r (λ e. (e ≡ Output) × AppendsFr
 -- a frame is its head and its body
 pub frame_parts : (p : ℕ × Answer) → frame_head p ++ answer_body p.1 ≡ frame p
 unfolding frame
-frame_parts p = append_assoc (kind_byte p.1 ∷ big_bytes 8 p.0) (big_bytes 4 (length (answer_body p.1))) (answer_body p.1)
+frame_parts p = refl
 
 -- one frame more
 pub frames_step : (answers : List (ℕ × Answer)) (i : ℕ) (p : ℕ × Answer) → i < length answers → p ≡ get_or answers i p

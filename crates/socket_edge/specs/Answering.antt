@@ -31,17 +31,16 @@ answer_body answer.Loaded = []
 answer_body answer.Refused = []
 answer_body answer.Ticked = []
 
--- the frame of an event's number and answer: kind, number, length of the body, body
+-- what stands in a frame before its body: kind, number, length of the body
+abbrev pub frame_head : ℕ × Answer → List ℕ
+frame_head p = kind_byte p.1 ∷ big_bytes 8 p.0 ++ big_bytes 4 (length (answer_body p.1))
+
+-- the frame of an event's number and answer
 unfoldable pub frame : ℕ × Answer → List ℕ
-frame p =
-    kind_byte p.1 ∷ big_bytes 8 p.0 ++ big_bytes 4 (length (answer_body p.1)) ++ answer_body p.1
+frame p = frame_head p ++ answer_body p.1
 
 abbrev pub frames : List (ℕ × Answer) → List ℕ
 frames answers = flat_map frame answers
-
--- what stands in a frame before its body
-abbrev pub frame_head : ℕ × Answer → List ℕ
-frame_head p = kind_byte p.1 ∷ big_bytes 8 p.0 ++ big_bytes 4 (length (answer_body p.1))
 
 -- A beginning of the bytes was written, and no more of them.
 pub record AppendsFront (old new : Option (List ℕ)) (bytes : List ℕ) : Type 0 where

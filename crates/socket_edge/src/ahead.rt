@@ -29,7 +29,8 @@ const NOTHING: Coming = Coming {
 pub struct Ahead {
     /// Behind the next frame, for so many more there is no look ahead.
     frames: usize,
-    /// Whether a session of any of their packets seems to be held, or its mapping.
+    /// Whether one of their packets at least seems to be of a session that is held, or of an inside endpoint that has
+    /// a mapping. Where that wasn't asked it is taken to be so.
     known: bool,
 }
 
@@ -47,7 +48,8 @@ impl Ahead {
         }
     }
 
-    /// Whether a session of the next packets seems to be held, or its mapping.
+    /// Whether one of the next packets at least seems to be of a session that is held, or of an inside endpoint that
+    /// has a mapping. Where that wasn't asked it is taken to be so.
     pub fn is_known(self) -> bool {
         self.known
     }
