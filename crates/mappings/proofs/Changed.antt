@@ -9,7 +9,8 @@ use Rattle.slab.proofs.SlabLemmas.{Updates-with_value}
 use Rattle.mappings.specs.declared.map.Pair.{Pair}
 use Rattle.mappings.specs.declared.map.Counted.{Counted}
 use Rattle.mappings.specs.Map.{times_at, GainsIn}
-use Rattle.mappings.specs.Indexed.{pairs_in, number_of, IsSmall, IsEntry, AreIndexed}
+use Rattle.packet.specs.Numbers.{IsEndpoint}
+use Rattle.mappings.specs.Indexed.{pairs_in, number_of, IsEntry, AreIndexed}
 use Rattle.mappings.proofs.Led.{LeadToPairs-counts, LeadToPairs-more, LeadToPairs-less, LeadToPairs-same, AreApart-counts, AreApart-more, AreApart-less}
 use Rattle.mappings.proofs.Slots.{times-update, weight}
 use Rattle.mappings.proofs.Times.{entry-more, entry-same}
@@ -66,7 +67,7 @@ module _ (old new : Slab Counted) (slot : ℕ) where
             let one : is ≡ entry = same_Some is entry (sym updates.changed ∙ ap (get new) (sym here) ∙ there) in
             subst IsEntry one (record {
               held = held;
-              outside = subst (λ (q : Pair). IsSmall q.outside) (sym same) (indexed.entries slot was before).outside;
+              outside = subst (λ (q : Pair). IsEndpoint q.outside) (sym same) (indexed.entries slot was before).outside;
             })
         | inr away ↦ indexed.entries k entry (sym (updates.others k away) ∙ there)
       ];

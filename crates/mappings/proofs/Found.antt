@@ -9,7 +9,8 @@ use Rattle.rows.specs.Held.{value_at}
 use Rattle.mappings.specs.declared.map.Pair.{Pair}
 use Rattle.mappings.specs.declared.map.Counted.{Counted}
 use Rattle.mappings.specs.Map.{pair, times_in, AreOneToOne, KeepsOneToOneIn}
-use Rattle.mappings.specs.Indexed.{pairs_in, mapping_number, number_of, IsSmall, LeadToPairs, AreApart, AreIndexed}
+use Rattle.packet.specs.Numbers.{IsEndpoint}
+use Rattle.mappings.specs.Indexed.{pairs_in, mapping_number, number_of, LeadToPairs, AreApart, AreIndexed}
 use Rattle.mappings.proofs.Keys.{mapping_number-once}
 use Rattle.mappings.proofs.Slots.{times-slot, times-some}
 use Rattle.mappings.proofs.Times.{same_parts}
@@ -83,14 +84,14 @@ module _ (slots : List (Option Counted)) (outside : List Entry) (indexed : AreIn
       omega (arith, entry-held slot entry is, ap (times_in (pairs_in slots)) same)
 
   -- the pair to which the map leads has this protocol and endpoint
-  found_outside : (proto : Proto) (far : Endpoint) (slot : ℕ) → IsSmall far
+  found_outside : (proto : Proto) (far : Endpoint) (slot : ℕ) → IsEndpoint far
       → value_at outside (mapping_number proto far) ≡ Some slot → (entry : Counted) × (get_or slots slot None ≡ Some entry) × ((entry.pair.proto ≡ proto) × (entry.pair.outside ≡ far))
   found_outside proto far slot small found =
       let there = indexed.by_outside.back (mapping_number proto far) slot found in
       (there.0, there.1, mapping_number-once there.0.pair.proto proto there.0.pair.outside far (indexed.entries slot there.0 there.1).outside small there.2)
 
   -- and it is held
-  pub outside_held : (proto : Proto) (far : Endpoint) (slot : ℕ) (entry : Counted) → IsSmall far → value_at outside (mapping_number proto far) ≡ Some slot → get_or slots slot None ≡ Some entry
+  pub outside_held : (proto : Proto) (far : Endpoint) (slot : ℕ) (entry : Counted) → IsEndpoint far → value_at outside (mapping_number proto far) ≡ Some slot → get_or slots slot None ≡ Some entry
       → 0 < times_in (pairs_in slots) (pair proto entry.pair.inside far)
   outside_held proto far slot entry small found is =
       let there = found_outside proto far slot small found in
@@ -101,7 +102,7 @@ module _ (slots : List (Option Counted)) (outside : List Entry) (indexed : AreIn
 
   -- a pair that keeps the pairs one-to-one
   module _ (p : Pair) (keeps : KeepsOneToOneIn (pairs_in slots) p) where
-    pub found_is : (slot : ℕ) → IsSmall p.outside → value_at outside (number_of p) ≡ Some slot → (entry : Counted) × (get_or slots slot None ≡ Some entry) × (entry.pair ≡ p)
+    pub found_is : (slot : ℕ) → IsEndpoint p.outside → value_at outside (number_of p) ≡ Some slot → (entry : Counted) × (get_or slots slot None ≡ Some entry) × (entry.pair ≡ p)
     found_is slot small found =
         let there = found_outside p.proto p.outside slot small found in
         let near : there.0.pair.inside ≡ p.inside = (keeps there.0.pair (entry-held slot there.0 there.1) there.2.0).1 there.2.1 in

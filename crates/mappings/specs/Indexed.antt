@@ -2,7 +2,7 @@
 -- endpoint. No public clause cites this module.
 use Rattle.std.specs.Prelude.{◌≡◌, ◌↔◌, ℕ, ◌+◌, ◌-◌, ◌*◌, ◌<◌, List, [], ◌∷◌, Option, Some, None, min, slice_index_or}
 use Rattle.slab.specs.Slab.{slab_len}
-use Rattle.packet.specs.Numbers.{proto_number}
+use Rattle.packet.specs.Numbers.{IsEndpoint, proto_number}
 use Rattle.packet.specs.declared.endpoint.Proto.{Proto}
 use Rattle.packet.specs.declared.endpoint.Endpoint.{Endpoint}
 use Rattle.rows.specs.declared.Entry.{Entry}
@@ -22,11 +22,6 @@ pairs_in (Some entry ∷ slots) = entry ∷ pairs_in slots
 abbrev pub mapping_number : Proto → Endpoint → ℕ
 mapping_number proto endpoint =
     proto_number proto * 281474976710656 + endpoint.addr * 65536 + endpoint.port
-
--- the address has 32 bits, and the port 16
-pub record IsSmall (endpoint : Endpoint) : Type 0 where
-  pub addr : endpoint.addr < 4294967296
-  pub port : endpoint.port < 65536
 
 -- the number by which the map leads to the pair
 abbrev pub number_of : Pair → ℕ
@@ -49,7 +44,7 @@ AreApart slots = (i j : ℕ) (e f : Counted) → slice_index_or slots i None ≡
 -- what holds of each pair in a slot
 pub record IsEntry (entry : Counted) : Type 0 where
   pub held : 0 < entry.count
-  pub outside : IsSmall entry.pair.outside
+  pub outside : IsEndpoint entry.pair.outside
 
 -- the map leads to the pairs, of which no two of a protocol share an inside endpoint
 pub record AreIndexed (slots : List (Option Counted)) (outside : List Entry) : Type 0 where

@@ -4,7 +4,8 @@ ghost use Rattle.packet.specs.declared.endpoint.Endpoint.{Endpoint as Place};
 ghost use Rattle.slab.specs.Slab.{get, with_value, HasRoomFor};
 ghost use Rattle.rows.specs.Held.{at};
 ghost use Rattle.mappings.specs.Map.{times_in, pair, GainsIn, KeepsOneToOneIn};
-ghost use Rattle.mappings.specs.Indexed.{mapping_number, IsSmall, IsIndexed, held_in, room_in};
+ghost use Rattle.packet.specs.Numbers.{IsEndpoint};
+ghost use Rattle.mappings.specs.Indexed.{mapping_number, IsIndexed, held_in, room_in};
 
 use crate::map::{Counted, Pair};
 use buckets::by_port::ByPort;
@@ -22,7 +23,7 @@ pub struct Index {
 // Protocol, address and port, one behind another: a number of 56 bits, the same as `keys::mapping_key` of `sessions`.
 fn mapping_key(proto: Proto, endpoint: Endpoint) -> u64
     ensures key { result ≡ mapping_number proto endpoint }
-    ensures small { IsSmall endpoint }
+    ensures small { IsEndpoint endpoint }
 {
     let addr = u64::from(endpoint.addr) * 0x1_0000;
     u64::from(proto.number()) * 0x1_0000_0000_0000 + addr + u64::from(endpoint.port)

@@ -1,11 +1,16 @@
--- The numbers of protocols, and those under which drops are reported.
-use Rattle.std.specs.Prelude.{ℕ}
+-- The numbers of endpoints and protocols, and those under which drops are reported.
+use Rattle.std.specs.Prelude.{ℕ, ◌<◌, ◌^◌}
+use Rattle.packet.specs.declared.endpoint.Endpoint.{Endpoint}
 use Rattle.packet.specs.declared.endpoint.Proto.{Proto}
 use Rattle.packet.specs.declared.endpoint.Proto.TheVariants.{Tcp, Udp}
 use Rattle.packet.specs.declared.fault.Fault.{Fault}
 use Rattle.packet.specs.declared.fault.Fault.TheVariants.{Short, Version, HeaderLength, Length, HeaderSum, Fragment, Protocol, Transport, PortZero}
 use Rattle.packet.specs.declared.route.RouteFault.{RouteFault}
 use Rattle.packet.specs.declared.route.RouteFault.TheVariants.{Ttl, Spoofed, NoRoute}
+
+-- the address has 32 bits, and the port 16
+abbrev pub IsEndpoint : Endpoint → Type 0
+IsEndpoint e = (e.addr < 2 ^ 32) × (e.port < 2 ^ 16)
 
 -- the number in the protocol field of the IP header (RFC 791, section 3.1)
 abbrev pub proto_number : Proto → ℕ

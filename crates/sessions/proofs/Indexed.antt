@@ -15,7 +15,8 @@ use Rattle.sessions.specs.declared.translated.Translated.{Translated}
 use Rattle.sessions.specs.Life.{IsSeen}
 use Rattle.sessions.specs.Table.{AnyClash, Clash, HasInside, HasOutside}
 use Rattle.sessions.specs.Listing.{is_translated}
-use Rattle.sessions.specs.Index.{AreEndpoints, Finds, IsEndpoint, LacksName, PutsName, flow_number, inside_number, key_number, outside_number, untranslated_name}
+use Rattle.packet.specs.Numbers.{IsEndpoint}
+use Rattle.sessions.specs.Index.{AreEndpoints, Finds, LacksName, PutsName, flow_number, inside_number, key_number, outside_number, untranslated_name}
 use Rattle.sessions.specs.Indexed.{AddsTo, EndsIn, IsIndexed, KeepsIndex}
 use Rattle.sessions.specs.Translated.{AreFound, HasPlace, IsFirst, IsNowhereTranslated, IsTold, LacksMapping, Lead, first_of}
 use Rattle.sessions.proofs.Held.{SameKeys, SameKeys-refl, IsSound-set, IsSound-more, IsSound-kept, held_in_range}

@@ -7,10 +7,10 @@ use Rattle.std.specs.Cmp.Lexicographic.{slice_cmp}
 use Rattle.std.proofs.lemmas.Bool.{cases_eq}
 use Rattle.packet.specs.declared.endpoint.Proto.{Proto}
 use Rattle.packet.specs.declared.endpoint.Endpoint.{Endpoint}
-use Rattle.packet.specs.Numbers.{proto_number}
+use Rattle.packet.specs.Numbers.{IsEndpoint, proto_number}
 use Rattle.sessions.specs.declared.session.Session.{Session}
 use Rattle.sessions.specs.Listing.{key, below}
-use Rattle.sessions.specs.Index.{endpoint_number, key_number, mapping_number, IsEndpoint, AreEndpoints}
+use Rattle.sessions.specs.Index.{endpoint_number, key_number, mapping_number, AreEndpoints}
 use Rattle.sessions.proofs.Sets.{number-same, same_endpoints}
 
 -- ---- two numbers behind one another

@@ -12,7 +12,8 @@ use Rattle.sessions.specs.declared.translated.Translated.{Translated}
 use Rattle.sessions.specs.Table.{BreakMapping, Clash, HasInside, HasOutside, IsSound}
 use Rattle.sessions.specs.Laws.{IsMapping}
 use Rattle.sessions.specs.Listing.{is_translated, listing}
-use Rattle.sessions.specs.Index.{AreEndpoints, ClashesAt, ClashesAtHeld, IsAt, IsEndpoint, endpoint_number, first_value, flow_number, inside_number, key_number, mapping_number, outside_number}
+use Rattle.packet.specs.Numbers.{IsEndpoint}
+use Rattle.sessions.specs.Index.{AreEndpoints, ClashesAt, ClashesAtHeld, IsAt, endpoint_number, first_value, flow_number, inside_number, key_number, mapping_number, outside_number}
 use Rattle.sessions.specs.Translated.{HasPlace, IsHeir, IsNowhereTranslated, IsTold, first_of}
 use Rattle.sessions.proofs.Clashing.{apart-from, differ}
 use Rattle.sessions.proofs.KeyNumbers.{key-between, key-from, key-least, key-parts, mapping-from, mapping-parts}

@@ -2,7 +2,7 @@
 use Rattle.std.specs.Prelude.{◌≡◌, ℕ, ◌+◌, ◌*◌, ◌<◌, List, [], ◌∷◌, Option, Some, None, cond, IfSome, IsSomeAnd, slice_index_or}
 use Rattle.packet.specs.declared.endpoint.Proto.{Proto}
 use Rattle.packet.specs.declared.endpoint.Endpoint.{Endpoint}
-use Rattle.packet.specs.Numbers.{proto_number}
+use Rattle.packet.specs.Numbers.{IsEndpoint, proto_number}
 use Rattle.rows.specs.declared.Entry.{Entry}
 use Rattle.rows.specs.Held.{value_at, Puts}
 use Rattle.sessions.specs.declared.session.Session.{Session}
@@ -18,10 +18,6 @@ abbrev pub key_number : Proto → Endpoint → Endpoint → ℕ
 key_number proto near remote =
     (proto_number proto * 281474976710656 + endpoint_number near) * 281474976710656
     + endpoint_number remote
-
--- the address has 32 bits and the port 16
-abbrev pub IsEndpoint : Endpoint → Type 0
-IsEndpoint e = (e.addr < 4294967296) × (e.port < 65536)
 
 abbrev pub AreEndpoints : Session → Type 0
 AreEndpoints s = IsEndpoint s.inside × IsEndpoint s.outside × IsEndpoint s.remote

@@ -1,6 +1,7 @@
 //! The numbers by which sessions are found.
 ghost use Rattle.std.specs.Prelude.{◌≡◌, ◌+◌, ◌*◌, ◌<◌};
-ghost use Rattle.sessions.specs.Index.{AreEndpoints, IsEndpoint, endpoint_number, key_number, mapping_number, untranslated_name};
+ghost use Rattle.packet.specs.Numbers.{IsEndpoint};
+ghost use Rattle.sessions.specs.Index.{AreEndpoints, endpoint_number, key_number, mapping_number, untranslated_name};
 
 use crate::Session;
 use packet::endpoint::{Endpoint, Proto};
