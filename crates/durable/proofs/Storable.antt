@@ -12,7 +12,8 @@ use Rattle.sessions.specs.Stilled.{AreStilled}
 use Rattle.sessions.specs.declared.session.Session.{Session}
 use Rattle.sessions.proofs.Sets.{In-insert, In-filter}
 use Rattle.durable.specs.declared.entry.Flow.{Flow}
-use Rattle.durable.specs.Coding.{Heading, Kept, Entry, Load, Begin, Seen, Restart, End, IsEntry, AreEntries, IsEndpoint, IsSession, IsKept}
+use Rattle.packet.specs.Numbers.{IsEndpoint}
+use Rattle.durable.specs.Coding.{Heading, Kept, Entry, Load, Begin, Seen, Restart, End, IsEntry, AreEntries, IsSession, IsKept}
 use Rattle.durable.specs.Entering.{Durable, IsDurable, empty, is_of, seen_so, begun_anew, changed, ended, entered, Enters, BodyEnters, Changed}
 use Rattle.durable.specs.Laws.{RecoversSound}
 use Rattle.durable.specs.Recovery.{IsActive, IsConfigured, Recovers, arranged_on, begun}

@@ -5,13 +5,13 @@ use Rattle.byteorder.specs.Endian.{big_bytes}
 use Rattle.packet.specs.declared.endpoint.Proto.{Proto}
 use Rattle.packet.specs.declared.endpoint.Proto.TheVariants.{Tcp, Udp}
 use Rattle.packet.specs.declared.endpoint.Endpoint.{Endpoint}
-use Rattle.packet.specs.Numbers.{proto_number}
+use Rattle.packet.specs.Numbers.{IsEndpoint, proto_number}
 use Rattle.sessions.specs.declared.session.Session.{Session}
 use Rattle.sessions.specs.declared.session.Opener.{Opener}
 use Rattle.sessions.specs.declared.session.Opener.TheVariants.{Inside, Remote}
 use Rattle.sessions.specs.Life.{most_seen, opener_code}
 use Rattle.durable.specs.declared.entry.Flow.{Flow}
-use Rattle.durable.specs.Coding.{Entry, Load, Begin, Seen, Restart, End, endpoint_bytes, session_bytes, flow_bytes, entry_bytes, text_bytes, IsEndpoint, IsSession, IsFlow, IsEntry, Begins}
+use Rattle.durable.specs.Coding.{Entry, Load, Begin, Seen, Restart, End, endpoint_bytes, session_bytes, flow_bytes, entry_bytes, text_bytes, IsSession, IsFlow, IsEntry, Begins}
 use Rattle.durable.specs.Reading.{Reader, both, chosen, byte_at, number_at, text_at, proto_of, opener_of, proto_at, opener_at, endpoint_from, endpoint_at, SessionParts, session_from, session_at, flow_from, flow_at, seen_from, restart_from, seen_at, restart_at, tagged_at, entry_at}
 use Rattle.durable.proofs.Coded.{IsBytes, Coded, some_is, guard_some, coded-both, coded-chosen, coded-into}
 use Rattle.durable.proofs.Widths.{coded-byte, coded-number, coded-text, width2, width4}
@@ -77,13 +77,12 @@ unfolding opener_at
 coded-opener = coded-chosen (λ b. b < 256) (λ b. b ∷ []) byte_at Any opener_of opener_code opener_there opener_back coded-byte
 
 endpoint_back : (p : ℕ × ℕ) (e : Endpoint) → (p.0 < 256 ^ 4) × (p.1 < 256 ^ 2) → endpoint_from p ≡ Some e → (p ≡ (e.addr, e.port)) × IsEndpoint e
-unfolding IsEndpoint
 endpoint_back p e is h =
     let made : Endpoint = record { addr = p.0; port = p.1 } in
     subst (λ (x : Endpoint). (p ≡ (x.addr, x.port)) × IsEndpoint x) (some_is made e h) (refl, is)
 
 pub coded-endpoint : Coded IsEndpoint endpoint_bytes endpoint_at
-unfolding endpoint_at endpoint_bytes IsEndpoint
+unfolding endpoint_at endpoint_bytes
 coded-endpoint =
     coded-chosen (λ (p : ℕ × ℕ). (p.0 < 256 ^ 4) × (p.1 < 256 ^ 2)) (λ p. big_bytes 4 p.0 ++ big_bytes 2 p.1) (both (number_at 4) (λ _. number_at 2))
     IsEndpoint endpoint_from (λ e. (e.addr, e.port))

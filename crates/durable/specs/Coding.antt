@@ -5,7 +5,7 @@ use Rattle.byteorder.specs.Endian.{big_bytes}
 use Rattle.packet.specs.declared.endpoint.Endpoint.{Endpoint}
 use Rattle.packet.specs.declared.endpoint.Prefix.{Prefix}
 use Rattle.packet.specs.Config.{Config}
-use Rattle.packet.specs.Numbers.{proto_number}
+use Rattle.packet.specs.Numbers.{IsEndpoint, proto_number}
 use Rattle.sessions.specs.declared.session.Session.{Session}
 use Rattle.sessions.specs.declared.session.Opener.{Opener}
 use Rattle.sessions.specs.Life.{most_seen, opener_code}
@@ -85,9 +85,7 @@ unfoldable pub heading_bytes : Heading → List ℕ
 heading_bytes h =
     mark ++ (big_bytes 8 h.generation ++ (config_bytes h.config ++ snapshot_bytes h.kept))
 
--- Which values have a code.
-unfoldable pub IsEndpoint : Endpoint → Type 0
-IsEndpoint e = (e.addr < 2 ^ 32) × (e.port < 2 ^ 16)
+-- Which values have a code: an endpoint by `IsEndpoint`, and these.
 
 -- A session without the moment of its last packet: that one is 0.
 pub record IsSession (s : Session) : Type 0 where

@@ -4,7 +4,8 @@ ghost use Rattle.std.specs.List.{All, flat_map};
 ghost use Rattle.byteorder.specs.Endian.{big_bytes};
 ghost use Rattle.disk_model.specs.Disk.{put};
 ghost use Rattle.sessions.specs.Life.{IsSeen};
-ghost use Rattle.durable.specs.Coding.{Begin, End, Load, Restart, Seen, session_bytes, flow_bytes, entry_bytes, text_bytes, prefix_bytes, config_bytes, snapshot_bytes, heading_bytes, mark, IsEndpoint, IsEntry, IsFlow, IsHeading, IsPrefix, IsSession};
+ghost use Rattle.packet.specs.Numbers.{IsEndpoint};
+ghost use Rattle.durable.specs.Coding.{Begin, End, Load, Restart, Seen, session_bytes, flow_bytes, entry_bytes, text_bytes, prefix_bytes, config_bytes, snapshot_bytes, heading_bytes, mark, IsEntry, IsFlow, IsHeading, IsPrefix, IsSession};
 ghost use Rattle.durable.specs.Entering.{durable};
 ghost use Rattle.durable.specs.Laws.{anew};
 
