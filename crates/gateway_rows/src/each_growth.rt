@@ -5,10 +5,10 @@
 //! failed, and the gateway is opened again.
 use crate::script::{compact, flush, offer, run};
 use crate::shared::{
-    Answer, Bytes, Event, GatewayFault, Given, Iface, OpenFault, Trials, What, disk_of, open,
+    Answer, Bytes, Event, GatewayFault, Given, Iface, OpenFault, Trials, What, close, disk_of,
+    open, some_bounds,
 };
 use packet::bounds::Bounds;
-use packet::endpoint::Prefix;
 use std::alloc::Global;
 use std::test::*;
 use trial_disk::Trial;
@@ -48,21 +48,10 @@ struct Begun {
     run: Vec<Event>,
 }
 
-fn one_bounds(alloc: Global) -> Option<Bounds> {
-    let prefix = Prefix {
-        addr: 0xc0a8_0000,
-        len: 16,
-    };
-    let inside = Vec::from_slice(alloc, &[prefix]).ok()?;
-    let lan = String::from_str(alloc, "lan").ok()?;
-    let wan = String::from_str(alloc, "wan").ok()?;
-    Bounds::new(lan, wan, inside, 0xcb00_7101).ok()
-}
-
-fn some_bounds(alloc: Global) -> Option<Vec<Bounds>> {
+fn four_bounds(alloc: Global) -> Option<Vec<Bounds>> {
     let mut all = Vec::new(alloc);
     for _ in 0..4 {
-        all.push(one_bounds(alloc)?).ok()?;
+        all.push(some_bounds(alloc, "wan")?).ok()?;
     }
     Some(all)
 }
@@ -113,7 +102,7 @@ fn some_run(alloc: Global) -> Option<Vec<Event>> {
 fn begin(alloc: Global) -> Option<Begun> {
     Some(Begun {
         disk: Trial::of(alloc, b"", b"").ok()?,
-        bounds: some_bounds(alloc)?,
+        bounds: four_bounds(alloc)?,
         offered: some_events(alloc)?,
         run: some_run(alloc)?,
     })
@@ -151,13 +140,15 @@ fn open_once(
     }
 }
 
+fn wrong(disk: Trial) -> Result<Trials, Stop> {
+    drop(disk);
+    Err(Stop::Wrong)
+}
+
 fn open_again(alloc: Global, disk: Trial, all: &mut Vec<Bounds>) -> Result<Trials, Stop> {
     match open_once(alloc, disk, all) {
         Ok(gateway) => Ok(gateway),
-        Err(refused) => {
-            drop(refused);
-            Err(Stop::Wrong)
-        }
+        Err((disk, _)) => wrong(disk),
     }
 }
 
@@ -166,10 +157,7 @@ fn open_twice(alloc: Global, disk: Trial, all: &mut Vec<Bounds>) -> Result<Trial
     match open_once(alloc, disk, all) {
         Ok(gateway) => Ok(gateway),
         Err((disk, OpenFault::NoMemory | OpenFault::Device)) => open_again(alloc, disk, all),
-        Err(refused) => {
-            drop(refused);
-            Err(Stop::Wrong)
-        }
+        Err((disk, _)) => wrong(disk),
     }
 }
 
@@ -287,10 +275,33 @@ fn calls(gateway: &mut Trials, offered: &mut Vec<Event>, events: Vec<Event>) -> 
     run_once(gateway, events)
 }
 
+fn holds_left(gateway: &Trials) -> Result<(), Stop> {
+    must(count_twice(gateway)? <= 3 && gateway.held() == 0)
+}
+
 // The files open again, and hold no more than was taken.
 fn expect_left(alloc: Global, disk: Trial, all: &mut Vec<Bounds>) -> Result<(), Stop> {
     let gateway = open_twice(alloc, disk, all)?;
-    must(count_twice(&gateway)? <= 3 && gateway.held() == 0)
+    let ended = holds_left(&gateway);
+    close(gateway);
+    ended
+}
+
+fn scenario_within(
+    alloc: Global,
+    disk: Trial,
+    bounds: &mut Vec<Bounds>,
+    offered: &mut Vec<Event>,
+    run: Vec<Event>,
+) -> Result<(), Stop> {
+    let mut gateway = open_twice(alloc, disk, bounds)?;
+    let ended = calls(&mut gateway, offered, run);
+    let disk = disk_of(gateway);
+    if ended == Err(Stop::Wrong) {
+        drop(disk);
+        return ended;
+    }
+    expect_left(alloc, disk, bounds)
 }
 
 fn scenario(alloc: Global, begun: Begun) -> Result<(), Stop> {
@@ -300,11 +311,7 @@ fn scenario(alloc: Global, begun: Begun) -> Result<(), Stop> {
         mut offered,
         run,
     } = begun;
-    let mut gateway = open_twice(alloc, disk, &mut bounds)?;
-    match calls(&mut gateway, &mut offered, run) {
-        Ok(()) | Err(Stop::Fallen) => expect_left(alloc, disk_of(gateway), &mut bounds),
-        Err(Stop::Wrong) => Err(Stop::Wrong),
-    }
+    scenario_within(alloc, disk, &mut bounds, &mut offered, run)
 }
 
 #[test]

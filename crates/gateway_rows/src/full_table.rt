@@ -88,11 +88,17 @@ fn begins_anew(rt: &impl Abort, alloc: Global, core: &mut Core) -> Result<(), Fa
     Ok(())
 }
 
+fn fill_and_empty(rt: &impl Abort, alloc: Global, core: &mut Core) -> Result<(), Fail> {
+    fill(rt, alloc, core)?;
+    refuses_more(rt, alloc, core)?;
+    begins_anew(rt, alloc, core)
+}
+
 #[test]
 fn full(rt: HostRuntime) -> Result<(), Fail> {
     let alloc = rt.alloc();
     let mut core = machine(alloc, 1000)?;
-    fill(&rt, alloc, &mut core)?;
-    refuses_more(&rt, alloc, &mut core)?;
-    begins_anew(&rt, alloc, &mut core)
+    let ended = fill_and_empty(&rt, alloc, &mut core);
+    drop(core);
+    ended
 }
