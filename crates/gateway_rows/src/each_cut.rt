@@ -2,7 +2,7 @@
 //! leaves the rules as they were.
 use crate::script::{flush, offer, play};
 use crate::shared::{Answer, Event, Given, MASQUERADE, Trials, close, fresh};
-use crate::words::load;
+use crate::words::{load, put};
 use std::alloc::{AllocError, Global};
 use std::process::Abort;
 use std::test::*;
@@ -118,11 +118,6 @@ fn each_cut_of_packets(rt: HostRuntime) -> Result<(), Fail> {
 
 fn empty_chain(alloc: Global, number: u32) -> Result<String, AllocError> {
     format!(in alloc; "chain c{number} {{ }}\n")
-}
-
-fn put(text: &mut String, line: Result<String, AllocError>) -> Result<(), AllocError> {
-    let line = line?;
-    text.push_str(line.as_str())
 }
 
 // So many chains without a rule.

@@ -2,12 +2,13 @@
 //! the machine in memory has after a beginning of the events that holds every answered one, and so is all that is
 //! answered from there on.
 use crate::model::{Lasting, Model, step};
-use crate::script::{offer, play, run};
+use crate::script::{play, run};
 use crate::shared::{
-    Answer, Event, Given, Session, Trials, Trouble, close, crashed, disk_of, machine,
+    Answer, CHOICES, Event, Session, Trials, Trouble, close, crashed, disk_of, machine,
 };
 use crate::told::{
-    Told, begun, do_compact, do_flush, hear, hear_all, not_begun, opened_again, taken, with_disk,
+    Told, begun, do_compact, do_flush, do_offer, hear_all, not_begun, opened_again, taken,
+    with_disk,
 };
 use crate::words::{event, moved, read_event};
 use machine::Core;
@@ -159,20 +160,6 @@ fn answers_behind(alloc: Global, taken: usize) -> Result<Vec<Answer>, Fail> {
     Ok(answers.ok_or("no memory")?)
 }
 
-fn do_offer(
-    gateway: &mut Trials,
-    model: &Model,
-    told: &mut Told,
-    event: Event,
-) -> Result<(), Fail> {
-    told.offered = told.offered.saturating_add(1);
-    match offer(gateway, event) {
-        Ok(Given::Now(number, answer)) => hear(model.answers.as_slice(), told, number, &answer),
-        Ok(Given::Held(_)) => Ok(()),
-        Err((_, fault)) => Err(fault.into()),
-    }
-}
-
 fn do_line(
     alloc: Global,
     gateway: &mut Trials,
@@ -183,7 +170,10 @@ fn do_line(
     match line {
         "flush" => do_flush(model, gateway, told),
         "compact" => do_compact(gateway, told),
-        _ => do_offer(gateway, model, told, event(alloc, line)?),
+        _ => {
+            told.offered = told.offered.saturating_add(1);
+            do_offer(model, gateway, told, event(alloc, line)?)
+        }
     }
 }
 
@@ -278,14 +268,19 @@ fn stop(rt: &impl Abort, alloc: Global, model: &Model, call: u64, choice: u64) -
     check(alloc, model, crashed(disk, choice)?, told)
 }
 
+fn stop_by_choices(rt: &impl Abort, alloc: Global, model: &Model, call: u64) -> Result<(), Fail> {
+    for choice in &CHOICES {
+        stop(rt, alloc, model, call, *choice)?;
+    }
+    Ok(())
+}
+
 #[test]
 fn each_stop(rt: HostRuntime) -> Result<(), Fail> {
     let alloc = rt.alloc();
     let model = run_of_machine(alloc)?;
     for call in 0..CALLS {
-        for choice in [0, 1, 2, 3, 5, 10] {
-            stop(&rt, alloc, &model, call, choice)?;
-        }
+        stop_by_choices(&rt, alloc, &model, call)?;
     }
     Ok(())
 }
@@ -318,8 +313,8 @@ fn end(rt: &impl Abort, alloc: Global, model: &Model, choice: u64) -> Result<(),
 fn no_stop(rt: HostRuntime) -> Result<(), Fail> {
     let alloc = rt.alloc();
     let model = run_of_machine(alloc)?;
-    for choice in [0, 1, 2, 3, 5, 10] {
-        end(&rt, alloc, &model, choice)?;
+    for choice in &CHOICES {
+        end(&rt, alloc, &model, *choice)?;
     }
     Ok(())
 }

@@ -78,8 +78,8 @@ fn put_loads(alloc: Global, file: &mut Vec<u8>) -> Result<(), AllocError> {
 // A file whose next group would stand at 67,108,806, and so may have 52 bytes of entries.
 fn nearly_full(alloc: Global) -> Result<Vec<u8>, Fail> {
     let mut file = Vec::new(alloc);
-    for text in [FRESH_FRONT, GROUP, BEGIN] {
-        put_hex(&mut file, text)?;
+    for text in &[FRESH_FRONT, GROUP, BEGIN] {
+        put_hex(&mut file, *text)?;
     }
     put_loads(alloc, &mut file)?;
     file.extend_from_slice(&[0])?;

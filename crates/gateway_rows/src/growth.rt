@@ -3,10 +3,10 @@ use crate::script::{
     expect, fresh_behind, name, play, play_over, played, run, run_through, two_flushed,
 };
 use crate::shared::{
-    Answer, Event, FRESH_FRONT, MASQUERADE, TWO_FLUSHED, TWO_HELD, Trials, Trouble, calls_of,
-    close, crashed, fresh, kept, left_of, opened, troubled,
+    Answer, CHOICES, Event, FRESH_FRONT, MASQUERADE, TWO_FLUSHED, TWO_HELD, Trials, Trouble,
+    calls_of, close, crashed, fresh, kept, left_of, opened, troubled,
 };
-use crate::words::{event, hex, put_hex};
+use crate::words::{event, hex, put, put_hex};
 use disk_model::FileId;
 use std::alloc::{AllocError, Global};
 use std::process::Abort;
@@ -18,8 +18,8 @@ fn snapshot(alloc: Global, generation: &str) -> Result<Vec<u8>, Fail> {
     let configuration = "036c616e 0377616e 01 c0a8000010 cb007101 00000065";
     let session = "00000001 11 c0a801021388 cb0071011388 c63364070035 00 00 00";
     let mut file = Vec::new(alloc);
-    for text in ["01 4e475731", generation, configuration] {
-        put_hex(&mut file, text)?;
+    for text in &["01 4e475731", generation, configuration] {
+        put_hex(&mut file, *text)?;
     }
     file.extend_from_slice(MASQUERADE.as_bytes())?;
     put_hex(&mut file, session)?;
@@ -129,15 +129,19 @@ fn stop(alloc: Global, call: u64, choice: u64) -> Result<(), Fail> {
     play_over(alloc, crashed(disk, choice)?, 2000, &[KEPT])
 }
 
+fn stop_by_choices(alloc: Global, call: u64) -> Result<(), Fail> {
+    for choice in &CHOICES {
+        stop(alloc, call, *choice)?;
+    }
+    Ok(())
+}
+
 // Each of the six calls fails, alone or with all behind it; nothing is lost.
 #[test]
 fn compaction_stops(rt: HostRuntime) -> Result<(), Fail> {
-    let alloc = rt.alloc();
     for call in 0..6 {
-        fault(alloc, call)?;
-        for choice in [0, 1, 2, 3, 5, 10] {
-            stop(alloc, call, choice)?;
-        }
+        fault(rt.alloc(), call)?;
+        stop_by_choices(rt.alloc(), call)?;
     }
     Ok(())
 }
@@ -151,16 +155,11 @@ fn loads(alloc: Global, count: u64) -> Result<Vec<Event>, Fail> {
     Ok(events)
 }
 
-fn put_made(out: &mut String, line: Result<String, AllocError>) -> Result<(), AllocError> {
-    let line = line?;
-    out.push_str(line.as_str())
-}
-
 // So many times `loaded`, with rising numbers.
 fn all_loaded(alloc: Global, count: u64) -> Result<String, AllocError> {
     let mut lines = String::new(alloc);
     for number in 1..=count {
-        put_made(&mut lines, format!(in alloc; "{number} loaded\n"))?;
+        put(&mut lines, format!(in alloc; "{number} loaded\n"))?;
     }
     Ok(lines)
 }

@@ -4,7 +4,7 @@ use crate::shared::{
     FRESH_FRONT, MASQUERADE, THIRD_HELD, THREE_FLUSHED, TWO_FLUSHED, TWO_HELD, assert_file,
     calls_of,
 };
-use crate::words::put_hex;
+use crate::words::{put, put_hex};
 use disk_model::FileId;
 use std::alloc::{AllocError, Global};
 use std::process::Abort;
@@ -165,16 +165,11 @@ load 1000 table ip t { }
 at 1001
 = held 2";
 
-fn put_made(out: &mut String, line: Result<String, AllocError>) -> Result<(), AllocError> {
-    let line = line?;
-    out.push_str(line.as_str())
-}
-
 // What changes nothing is held behind what is held.
 fn held_moments(alloc: Global) -> Result<String, AllocError> {
     let mut lines = String::from_str(alloc, LOAD_AND_MOMENT)?;
     for number in 3..=64 {
-        put_made(&mut lines, format!(in alloc; "\nat 1001\n= held {number}"))?;
+        put(&mut lines, format!(in alloc; "\nat 1001\n= held {number}"))?;
     }
     Ok(lines)
 }
@@ -182,7 +177,7 @@ fn held_moments(alloc: Global) -> Result<String, AllocError> {
 fn flushed_moments(alloc: Global) -> Result<String, AllocError> {
     let mut lines = String::from_str(alloc, "flush\n= 1 loaded")?;
     for number in 2..=64 {
-        put_made(&mut lines, format!(in alloc; "\n= {number} ticked"))?;
+        put(&mut lines, format!(in alloc; "\n= {number} ticked"))?;
     }
     Ok(lines)
 }

@@ -1,8 +1,8 @@
 //! What an opening finds, makes and refuses.
 use crate::script::{play_over, played, two_flushed};
 use crate::shared::{
-    FRESH, NOTHING, OpenFault, Trouble, assert_file, bounds, close, crashed, disk, disk_of,
-    expect_trouble, open,
+    CHOICES, FRESH, NOTHING, OpenFault, Trouble, assert_file, bounds, close, crashed, disk,
+    disk_of, expect_trouble, open,
 };
 use crate::words::hex;
 use disk_model::{Disk, FileId};
@@ -44,22 +44,22 @@ fn begins_over(rt: &impl Abort, alloc: Global, a: &str, b: &str) -> Result<(), F
     begins(rt, alloc, a.as_slice(), b.as_slice())
 }
 
+const NO_OPEN_FILE: [(&str, &str); 5] = [
+    ("", ""),
+    ("00", ""),
+    ("", "02 4e475731"),
+    (
+        "02 4e475731 0000000000000009 036c616e 0377616e 01 c0a8000010 cb007101 00000000 00000000",
+        "00",
+    ),
+    ("ff", "ff"),
+];
+
 // A gate that is neither 00 nor 01 is closed too.
 #[test]
 fn no_open_file(rt: HostRuntime) -> Result<(), Fail> {
-    let alloc = rt.alloc();
-    let rows: [(&str, &str); 5] = [
-        ("", ""),
-        ("00", ""),
-        ("", "02 4e475731"),
-        (
-            "02 4e475731 0000000000000009 036c616e 0377616e 01 c0a8000010 cb007101 00000000 00000000",
-            "00",
-        ),
-        ("ff", "ff"),
-    ];
-    for (a, b) in rows {
-        begins_over(&rt, alloc, a, b)?;
+    for (a, b) in &NO_OPEN_FILE {
+        begins_over(&rt, rt.alloc(), a, b)?;
     }
     Ok(())
 }
@@ -186,8 +186,8 @@ fn assert_is_damaged(
 // It is judged by its own configuration alone.
 fn assert_damaged(rt: &impl Abort, alloc: Global, row: usize, file: &str) -> Result<(), Fail> {
     let file = hex(alloc, file)?;
-    for wan in ["wan", "wan1"] {
-        assert_is_damaged(rt, alloc, wan, file.as_slice(), row)?;
+    for wan in &["wan", "wan1"] {
+        assert_is_damaged(rt, alloc, *wan, file.as_slice(), row)?;
     }
     Ok(())
 }
@@ -238,8 +238,8 @@ fn assert_refused(rt: &impl Abort, at: Trouble, disk: &Trial, fault: Option<Open
         return false;
     };
     let (word, call) = told(at);
-    assert_eq!(rt; fault, OpenFault::Device, "{word} {call}");
-    assert!(rt; disk.failures() > 0, "{word} {call}");
+    let is_device = fault == OpenFault::Device && disk.failures() > 0;
+    assert!(rt; is_device, "{word} {call}: {fault}");
     true
 }
 
@@ -296,6 +296,19 @@ fn stop(
     play_over(alloc, crashed(disk, choice)?, 1250, &[state])
 }
 
+fn stop_by_choices(
+    rt: &impl Abort,
+    alloc: Global,
+    file: &[u8],
+    state: &str,
+    calls: u64,
+) -> Result<(), Fail> {
+    for choice in &CHOICES {
+        stop(rt, alloc, file, state, calls, *choice)?;
+    }
+    Ok(())
+}
+
 // Behind each call of an opening, and each choice of what is left.
 fn stop_each(
     rt: &impl Abort,
@@ -304,10 +317,8 @@ fn stop_each(
     state: &str,
     calls: u64,
 ) -> Result<(), Fail> {
-    for choice in [0, 1, 2, 3, 5, 10] {
-        for calls in 0..=calls {
-            stop(rt, alloc, file, state, calls, choice)?;
-        }
+    for calls in 0..=calls {
+        stop_by_choices(rt, alloc, file, state, calls)?;
     }
     Ok(())
 }

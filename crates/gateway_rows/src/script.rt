@@ -229,20 +229,22 @@ fn end(talk: &Talk<'_>) -> Result<(), Fail> {
     Err(Fail::new(format_args!("{asked}: {said}: {expected}")))
 }
 
-fn begin<'a>(talk: &mut Talk<'a>, line: &'a str) -> Result<(), Fail> {
-    end(talk)?;
+// Asks a line, or expects it.
+fn say<'a>(talk: &mut Talk<'a>, gateway: &mut Trials, line: &'a str) -> Result<(), AllocError> {
+    if let Some(expected) = line.strip_prefix('=') {
+        return put_line(&mut talk.expected, expected);
+    }
     talk.asked = line;
     talk.said.clear();
     talk.expected.clear();
-    Ok(())
+    ask(talk.alloc, &mut talk.said, gateway, line)
 }
 
 fn play_line<'a>(talk: &mut Talk<'a>, gateway: &mut Trials, line: &'a str) -> Result<(), Fail> {
-    if let Some(expected) = line.strip_prefix('=') {
-        return Ok(put_line(&mut talk.expected, expected)?);
+    if !line.starts_with('=') {
+        end(talk)?;
     }
-    begin(talk, line)?;
-    Ok(ask(talk.alloc, &mut talk.said, gateway, line)?)
+    Ok(say(talk, gateway, line)?)
 }
 
 fn play_lines<'a>(talk: &mut Talk<'a>, gateway: &mut Trials, lines: &'a str) -> Result<(), Fail> {

@@ -168,6 +168,10 @@ pub fn fresh(alloc: Global) -> Result<Trials, Fail> {
     opened(alloc, disk(alloc, b"", b"")?, 1000)
 }
 
+/// What a crash leaves of what wasn't synced: nothing, everything, 01 at each byte, ff at each byte, and two choices of
+/// writes.
+pub const CHOICES: [u64; 6] = [0, 1, 2, 3, 5, 10];
+
 /// A call of the disk, counted from 0, at which something happens.
 #[derive(Clone, Copy)]
 pub enum Trouble {

@@ -36,17 +36,27 @@ fn stop(alloc: Global, call: u64, choice: u64, flushed: &str, left: &str) -> Res
     play_over(alloc, crashed(disk, choice)?, 2000, &[left])
 }
 
+// What is left where the third call fails, the write of the gate, by the choice of what a crash leaves of it.
+const GATE_IS_WRITTEN: [(u64, &str); 4] = [
+    (0, NOTHING),
+    (1, ALL_THREE),
+    (2, ALL_THREE),
+    (3, NOTHING),
+];
+
+// Up to the write of the gate nothing is there, and behind its sync everything.
+fn stop_around_gate(alloc: Global, choice: u64) -> Result<(), Fail> {
+    for call in 0..3 {
+        stop(alloc, call, choice, FAILED_FLUSH, NOTHING)?;
+    }
+    stop(alloc, 4, choice, THREE_FLUSHED, ALL_THREE)
+}
+
 #[test]
 fn stop_rows(rt: HostRuntime) -> Result<(), Fail> {
-    let alloc = rt.alloc();
-    for choice in 0..4 {
-        for call in 0..3 {
-            stop(alloc, call, choice, FAILED_FLUSH, NOTHING)?;
-        }
-        stop(alloc, 4, choice, THREE_FLUSHED, ALL_THREE)?;
-    }
-    for (choice, left) in [(0, NOTHING), (1, ALL_THREE), (2, ALL_THREE), (3, NOTHING)] {
-        stop(alloc, 3, choice, FAILED_FLUSH, left)?;
+    for (choice, left) in &GATE_IS_WRITTEN {
+        stop_around_gate(rt.alloc(), *choice)?;
+        stop(rt.alloc(), 3, *choice, FAILED_FLUSH, left)?;
     }
     Ok(())
 }
@@ -127,16 +137,17 @@ fn fail_once(alloc: Global, call: u64, left: &str) -> Result<(), Fail> {
     play_over(alloc, fallen(alloc, call)?, 2000, &[left])
 }
 
+const FAILING: [(u64, &str); 4] = [
+    (0, ANSWERED),
+    (1, ANSWERED),
+    (2, ANSWERED),
+    (3, ANSWERED_AND_HELD),
+];
+
 #[test]
 fn call_that_fails_once(rt: HostRuntime) -> Result<(), Fail> {
-    let alloc = rt.alloc();
-    for (call, left) in [
-        (0, ANSWERED),
-        (1, ANSWERED),
-        (2, ANSWERED),
-        (3, ANSWERED_AND_HELD),
-    ] {
-        fail_once(alloc, call, left)?;
+    for (call, left) in &FAILING {
+        fail_once(rt.alloc(), *call, left)?;
     }
     Ok(())
 }
@@ -171,13 +182,17 @@ fn restart(alloc: Global, choice: u64, lines: &str) -> Result<(), Fail> {
     play_over(alloc, disk, 1250, &[lines])
 }
 
+fn restart_each(alloc: Global, choice: u64) -> Result<(), Fail> {
+    for lines in &[ALIVE, REPLY_IN_TIME, REPLY_TOO_LATE] {
+        restart(alloc, choice, lines)?;
+    }
+    Ok(())
+}
+
 #[test]
 fn restarted(rt: HostRuntime) -> Result<(), Fail> {
-    let alloc = rt.alloc();
     for choice in 0..4 {
-        for lines in [ALIVE, REPLY_IN_TIME, REPLY_TOO_LATE] {
-            restart(alloc, choice, lines)?;
-        }
+        restart_each(rt.alloc(), choice)?;
     }
     Ok(())
 }
@@ -195,9 +210,8 @@ fn resumes(alloc: Global, moment: u64) -> Result<(), Fail> {
 
 #[test]
 fn old_sessions(rt: HostRuntime) -> Result<(), Fail> {
-    let alloc = rt.alloc();
-    for moment in [0, 1299, 1300, 1_000_000_000, u64::MAX] {
-        resumes(alloc, moment)?;
+    for moment in &[0, 1299, 1300, 1_000_000_000, u64::MAX] {
+        resumes(rt.alloc(), *moment)?;
     }
     Ok(())
 }

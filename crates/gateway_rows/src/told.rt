@@ -1,9 +1,9 @@
 //! How far a gateway comes whose disk stops or fails, and whether it answers what the machine in memory does.
 use crate::model::{Lasting, Model, is_same};
-use crate::script::{compact, flush};
+use crate::script::{compact, flush, offer};
 use crate::shared::{
-    Answer, GatewayFault, OpenFault, Trials, Trouble, disk, expect_trouble, open, opened,
-    some_bounds,
+    Answer, Event, GatewayFault, Given, OpenFault, Trials, Trouble, disk, expect_trouble, open,
+    opened, some_bounds,
 };
 use packet::bounds::Bounds;
 use std::alloc::Global;
@@ -101,6 +101,20 @@ fn fall(told: &mut Told, fault: GatewayFault) -> Result<(), Fail> {
     }
     told.has_fallen = true;
     Ok(())
+}
+
+/// Offers an event, and hears what is answered at once.
+pub fn do_offer(
+    model: &Model,
+    gateway: &mut Trials,
+    told: &mut Told,
+    event: Event,
+) -> Result<(), Fail> {
+    match offer(gateway, event) {
+        Ok(Given::Now(number, answer)) => hear(model.answers.as_slice(), told, number, &answer),
+        Ok(Given::Held(_)) => Ok(()),
+        Err((_, fault)) => Err(fault.into()),
+    }
 }
 
 /// Flushes, and hears what is handed out.

@@ -73,6 +73,12 @@ pub fn squeezed(alloc: Global, text: &str) -> Result<String, AllocError> {
     Ok(out)
 }
 
+/// Puts a text that was made.
+pub fn put(out: &mut String, text: Result<String, AllocError>) -> Result<(), AllocError> {
+    let text = text?;
+    out.push_str(text.as_str())
+}
+
 /// The first word of a line, and what stands behind it.
 fn first_word(line: &str) -> (&str, &str) {
     line.split_once(' ').unwrap_or((line, ""))
@@ -146,15 +152,10 @@ fn name(iface: Iface) -> &'static str {
     }
 }
 
-fn put_byte(alloc: Global, out: &mut String, byte: u8) -> Result<(), AllocError> {
-    let digits = format!(in alloc; "{byte:02x}")?;
-    out.push_str(digits.as_str())
-}
-
 fn shown(alloc: Global, bytes: &[u8]) -> Result<String, AllocError> {
     let mut text = String::new(alloc);
     for byte in bytes {
-        put_byte(alloc, &mut text, *byte)?;
+        put(&mut text, format!(in alloc; "{byte:02x}"))?;
     }
     Ok(text)
 }

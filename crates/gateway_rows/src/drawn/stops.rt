@@ -1,10 +1,10 @@
 //! The gateway over a disk that is stopped, or fails, at each of its calls, and opened again.
 use crate::drawn::events::{EVENTS, Next, Number, behind, event, numbers};
 use crate::model::{Lasting, Model};
-use crate::script::{forward, offer};
-use crate::shared::{Event, Given, Trials, Trouble, close, crashed, disk_of, machine};
+use crate::script::forward;
+use crate::shared::{CHOICES, Event, Trials, Trouble, close, crashed, disk_of, machine};
 use crate::told::{
-    Told, begun, do_compact, do_flush, hear, not_begun, opened_again, taken, with_disk,
+    Told, begun, do_compact, do_flush, do_offer, hear, not_begun, opened_again, taken, with_disk,
 };
 use machine::Core;
 use std::alloc::Global;
@@ -51,7 +51,7 @@ fn script_of(alloc: Global, seed: u64) -> Result<Script, Fail> {
 }
 
 // A packet is handed in where it lies first.
-fn do_offer(
+fn do_event(
     model: &Model,
     gateway: &mut Trials,
     told: &mut Told,
@@ -60,15 +60,7 @@ fn do_offer(
     told.offered = told.offered.saturating_add(1);
     match forward(gateway, event) {
         Ok((number, answer)) => hear(model.answers.as_slice(), told, number, &answer),
-        Err(event) => do_hold(model, gateway, told, event),
-    }
-}
-
-fn do_hold(model: &Model, gateway: &mut Trials, told: &mut Told, event: Event) -> Result<(), Fail> {
-    match offer(gateway, event) {
-        Ok(Given::Now(number, answer)) => hear(model.answers.as_slice(), told, number, &answer),
-        Ok(Given::Held(_)) => Ok(()),
-        Err((_, fault)) => Err(fault.into()),
+        Err(event) => do_offer(model, gateway, told, event),
     }
 }
 
@@ -97,7 +89,7 @@ fn do_number(
     number: &Number,
 ) -> Result<(), Fail> {
     let event = event(alloc, place, number).ok_or("no memory")?;
-    do_offer(model, gateway, told, event)?;
+    do_event(model, gateway, told, event)?;
     go_behind(model, gateway, told, number)
 }
 
@@ -208,12 +200,12 @@ fn stop_by_choices(
     call: u64,
     seen: &mut Seen,
 ) -> Result<bool, Fail> {
-    for choice in [0, 1, 2, 3, 5, 10, drawn_choice(script, call)] {
-        if !stop(alloc, script, call, choice, seen)? {
+    for choice in &CHOICES {
+        if !stop(alloc, script, call, *choice, seen)? {
             return Ok(false);
         }
     }
-    Ok(true)
+    stop(alloc, script, call, drawn_choice(script, call), seen)
 }
 
 fn none_seen() -> Seen {
