@@ -5,38 +5,32 @@
 //! failed, and the gateway is opened again.
 use crate::script::{compact, flush, offer, run};
 use crate::shared::{
-    Answer, Bytes, Event, GatewayFault, Given, Iface, OpenFault, Trials, What, disk_of, open,
+    Answer, Event, GatewayFault, Given, Iface, OpenFault, Trials, close, disk_of, open, some_bounds,
 };
+use crate::words::read_event;
 use packet::bounds::Bounds;
-use packet::endpoint::Prefix;
 use std::alloc::Global;
 use std::test::*;
 use trial_disk::Trial;
 
-// Every packet to wan leaves from the external address.
-const RULES: &[u8; 101] =
-    b"table ip nat { chain post { type nat hook postrouting priority srcnat; oifname \"wan\" masquerade; }; }";
-
-// It jumps to itself, and doesn't load.
-const LOOP: &[u8; 101] =
-    b"table ip t { chain c { jump c; }; }                                                                  ";
-
-// UDP from 192.168.1.2:5000 to 198.51.100.7:53.
-const FIRST: [u8; 28] = [
-    0x45, 0x00, 0x00, 0x1c, 0x00, 0x01, 0x00, 0x00, 0x40, 0x11, 0x8e, 0xeb, 0xc0, 0xa8, 0x01, 0x02,
-    0xc6, 0x33, 0x64, 0x07, 0x13, 0x88, 0x00, 0x35, 0x00, 0x08, 0x00, 0x3c,
+// What is offered one by one, from the last to the first: a text, UDP from 192.168.1.2:5000 to 198.51.100.7:53 twice, from
+// 192.168.1.3:6000 to 203.0.113.1:5000, which begins two sessions, and from 192.168.1.3:5000 to 198.51.100.7:53. At 1300
+// all sessions end that began at 1000.
+const OFFERED: [&str; 5] = [
+    "lan 1300 4500001c00010000 40118eea c0a80103 c6336407 13880035 0008003b",
+    "lan 1000 4500001c00010000 40117d23 c0a80103 cb007101 17701388 0008d738",
+    "lan 1000 4500001c00010000 40118eeb c0a80102 c6336407 13880035 0008003c",
+    "lan 1000 4500001c00010000 40118eeb c0a80102 c6336407 13880035 0008003c",
+    "load 1000 table ip nat { chain post { type nat hook postrouting priority srcnat; oifname \"wan\" masquerade; }; }",
 ];
 
-// UDP from 192.168.1.3:5000 to 198.51.100.7:53.
-const NEIGHBOUR: [u8; 28] = [
-    0x45, 0x00, 0x00, 0x1c, 0x00, 0x01, 0x00, 0x00, 0x40, 0x11, 0x8e, 0xea, 0xc0, 0xa8, 0x01, 0x03,
-    0xc6, 0x33, 0x64, 0x07, 0x13, 0x88, 0x00, 0x35, 0x00, 0x08, 0x00, 0x3b,
-];
-
-// From 192.168.1.3:6000 to 203.0.113.1:5000. It begins two sessions.
-const HAIRPIN: [u8; 28] = [
-    0x45, 0x00, 0x00, 0x1c, 0x00, 0x01, 0x00, 0x00, 0x40, 0x11, 0x7d, 0x23, 0xc0, 0xa8, 0x01, 0x03,
-    0xcb, 0x00, 0x71, 0x01, 0x17, 0x70, 0x13, 0x88, 0x00, 0x08, 0xd7, 0x38,
+// The first text jumps to itself, and doesn't load; the second one and the packet change something.
+const RUN: [&str; 5] = [
+    "at 1301",
+    "load 1301 table ip t { chain c { jump c; }; }",
+    "load 1302 table ip nat { chain post { type nat hook postrouting priority srcnat; oifname \"wan\" masquerade; }; }",
+    "lan 1303 4500001c00010000 40118eeb c0a80102 c6336407 13880035 0008003c",
+    "at 1304",
 ];
 
 /// What the calls are given. The events that are offered one by one stand here from the last to the first.
@@ -48,74 +42,29 @@ struct Begun {
     run: Vec<Event>,
 }
 
-fn one_bounds(alloc: Global) -> Option<Bounds> {
-    let prefix = Prefix {
-        addr: 0xc0a8_0000,
-        len: 16,
-    };
-    let inside = Vec::from_slice(alloc, &[prefix]).ok()?;
-    let lan = String::from_str(alloc, "lan").ok()?;
-    let wan = String::from_str(alloc, "wan").ok()?;
-    Bounds::new(lan, wan, inside, 0xcb00_7101).ok()
-}
-
-fn some_bounds(alloc: Global) -> Option<Vec<Bounds>> {
+fn four_bounds(alloc: Global) -> Option<Vec<Bounds>> {
     let mut all = Vec::new(alloc);
     for _ in 0..4 {
-        all.push(one_bounds(alloc)?).ok()?;
+        all.push(some_bounds(alloc, "wan")?).ok()?;
     }
     Some(all)
 }
 
-fn load(alloc: Global, moment: u64, text: &[u8; 101]) -> Option<Event> {
-    let bytes = Bytes::of(Vec::from_slice(alloc, text).ok()?);
-    let what = What::Load(bytes);
-    Some(Event { moment, what })
-}
-
-fn from_lan(alloc: Global, moment: u64, packet: &[u8; 28]) -> Option<Event> {
-    let bytes = Bytes::of(Vec::from_slice(alloc, packet).ok()?);
-    let what = What::Packet(Iface::Lan, bytes);
-    Some(Event { moment, what })
-}
-
-fn tick(moment: u64) -> Event {
-    let what = What::Moment;
-    Event { moment, what }
-}
-
-// The packets from the last to the first. At 1300 all sessions end that began at 1000.
-const OFFERED: [(u64, &[u8; 28]); 4] = [
-    (1300, &NEIGHBOUR),
-    (1000, &HAIRPIN),
-    (1000, &FIRST),
-    (1000, &FIRST),
-];
-
-fn some_events(alloc: Global) -> Option<Vec<Event>> {
+fn some_events(alloc: Global, lines: &[&str]) -> Option<Vec<Event>> {
     let mut events = Vec::new(alloc);
-    for (moment, packet) in &OFFERED {
-        events.push(from_lan(alloc, *moment, packet)?).ok()?;
+    for line in lines {
+        events.push(read_event(alloc, line)?).ok()?;
     }
-    events.push(load(alloc, 1000, RULES)?).ok()?;
     Some(events)
-}
-
-// The second text and the packet change something.
-fn some_run(alloc: Global) -> Option<Vec<Event>> {
-    let refused = load(alloc, 1301, LOOP)?;
-    let loaded = load(alloc, 1302, RULES)?;
-    let packet = from_lan(alloc, 1303, &FIRST)?;
-    vec![in alloc; tick(1301), refused, loaded, packet, tick(1304)].ok()
 }
 
 // None where memory was refused.
 fn begin(alloc: Global) -> Option<Begun> {
     Some(Begun {
         disk: Trial::of(alloc, b"", b"").ok()?,
-        bounds: some_bounds(alloc)?,
-        offered: some_events(alloc)?,
-        run: some_run(alloc)?,
+        bounds: four_bounds(alloc)?,
+        offered: some_events(alloc, &OFFERED)?,
+        run: some_events(alloc, &RUN)?,
     })
 }
 
@@ -151,13 +100,15 @@ fn open_once(
     }
 }
 
+fn wrong(disk: Trial) -> Result<Trials, Stop> {
+    drop(disk);
+    Err(Stop::Wrong)
+}
+
 fn open_again(alloc: Global, disk: Trial, all: &mut Vec<Bounds>) -> Result<Trials, Stop> {
     match open_once(alloc, disk, all) {
         Ok(gateway) => Ok(gateway),
-        Err(refused) => {
-            drop(refused);
-            Err(Stop::Wrong)
-        }
+        Err((disk, _)) => wrong(disk),
     }
 }
 
@@ -166,10 +117,7 @@ fn open_twice(alloc: Global, disk: Trial, all: &mut Vec<Bounds>) -> Result<Trial
     match open_once(alloc, disk, all) {
         Ok(gateway) => Ok(gateway),
         Err((disk, OpenFault::NoMemory | OpenFault::Device)) => open_again(alloc, disk, all),
-        Err(refused) => {
-            drop(refused);
-            Err(Stop::Wrong)
-        }
+        Err((disk, _)) => wrong(disk),
     }
 }
 
@@ -267,13 +215,16 @@ fn next(offered: &mut Vec<Event>) -> Result<Event, Stop> {
     offered.pop().ok_or(Stop::Wrong)
 }
 
-fn offer_all(gateway: &mut Trials, offered: &mut Vec<Event>) -> Result<(), Stop> {
+fn begin_three(gateway: &mut Trials, offered: &mut Vec<Event>) -> Result<(), Stop> {
     hold(gateway, next(offered)?, 1)?;
     hold(gateway, next(offered)?, 2)?;
     hand_out(gateway, 2)?;
     answer_at_once(gateway, next(offered)?, 3)?;
     hold(gateway, next(offered)?, 4)?;
-    expect_sessions(gateway, 3)?;
+    expect_sessions(gateway, 3)
+}
+
+fn end_three(gateway: &mut Trials, offered: &mut Vec<Event>) -> Result<(), Stop> {
     hand_out(gateway, 1)?;
     compact_twice(gateway)?;
     hold(gateway, next(offered)?, 5)?;
@@ -283,14 +234,38 @@ fn offer_all(gateway: &mut Trials, offered: &mut Vec<Event>) -> Result<(), Stop>
 
 // Each call in turn, up to a fault of the disk.
 fn calls(gateway: &mut Trials, offered: &mut Vec<Event>, events: Vec<Event>) -> Result<(), Stop> {
-    offer_all(gateway, offered)?;
+    begin_three(gateway, offered)?;
+    end_three(gateway, offered)?;
     run_once(gateway, events)
+}
+
+fn holds_left(gateway: &Trials) -> Result<(), Stop> {
+    must(count_twice(gateway)? <= 3 && gateway.held() == 0)
 }
 
 // The files open again, and hold no more than was taken.
 fn expect_left(alloc: Global, disk: Trial, all: &mut Vec<Bounds>) -> Result<(), Stop> {
     let gateway = open_twice(alloc, disk, all)?;
-    must(count_twice(&gateway)? <= 3 && gateway.held() == 0)
+    let ended = holds_left(&gateway);
+    close(gateway);
+    ended
+}
+
+fn scenario_within(
+    alloc: Global,
+    disk: Trial,
+    bounds: &mut Vec<Bounds>,
+    offered: &mut Vec<Event>,
+    run: Vec<Event>,
+) -> Result<(), Stop> {
+    let mut gateway = open_twice(alloc, disk, bounds)?;
+    let ended = calls(&mut gateway, offered, run);
+    let disk = disk_of(gateway);
+    if ended == Err(Stop::Wrong) {
+        drop(disk);
+        return ended;
+    }
+    expect_left(alloc, disk, bounds)
 }
 
 fn scenario(alloc: Global, begun: Begun) -> Result<(), Stop> {
@@ -300,11 +275,7 @@ fn scenario(alloc: Global, begun: Begun) -> Result<(), Stop> {
         mut offered,
         run,
     } = begun;
-    let mut gateway = open_twice(alloc, disk, &mut bounds)?;
-    match calls(&mut gateway, &mut offered, run) {
-        Ok(()) | Err(Stop::Fallen) => expect_left(alloc, disk_of(gateway), &mut bounds),
-        Err(Stop::Wrong) => Err(Stop::Wrong),
-    }
+    scenario_within(alloc, disk, &mut bounds, &mut offered, run)
 }
 
 #[test]

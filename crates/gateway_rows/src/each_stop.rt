@@ -2,12 +2,15 @@
 //! the machine in memory has after a beginning of the events that holds every answered one, and so is all that is
 //! answered from there on.
 use crate::model::{Lasting, Model, step};
-use crate::script::{offer, play, run};
-use crate::shared::{Answer, Event, Given, Trials, Trouble, crashed, disk_of, machine};
-use crate::told::{
-    Told, begun, do_compact, do_flush, hear, hear_all, not_begun, opened_again, taken,
+use crate::script::{play, run};
+use crate::shared::{
+    Answer, CHOICES, Event, Session, Trials, Trouble, close, crashed, disk_of, machine,
 };
-use crate::words::{event, moved};
+use crate::told::{
+    Told, begun, do_compact, do_flush, do_offer, hear_all, not_begun, opened_again, taken,
+    with_disk,
+};
+use crate::words::{event, moved, read_event};
 use machine::Core;
 use std::alloc::Global;
 use std::process::Abort;
@@ -64,89 +67,97 @@ fn is_event(line: &str) -> bool {
     line != "flush" && line != "compact"
 }
 
-fn go_through(alloc: Global, core: &mut Core) -> Result<Model, Fail> {
+// Takes the event of a line more. Here and below none where memory is refused.
+fn go_on(alloc: Global, model: &mut Model, core: &mut Core, line: &str) -> Option<()> {
+    model.go_on(alloc, core, read_event(alloc, line)?)
+}
+
+fn go_through(alloc: Global, core: &mut Core) -> Option<Model> {
     let mut model = Model::begin(alloc, core)?;
     for line in &SCRIPT {
         if is_event(line) {
-            model.go_on(alloc, core, event(alloc, line)?)?;
+            go_on(alloc, &mut model, core, line)?;
         }
     }
-    Ok(model)
+    Some(model)
 }
 
 fn run_of_machine(alloc: Global) -> Result<Model, Fail> {
     let mut core = machine(alloc, 1000)?;
-    go_through(alloc, &mut core)
+    let model = go_through(alloc, &mut core);
+    drop(core);
+    Ok(model.ok_or("no memory")?)
 }
 
-// The events of the script and of those behind it, but for the first ones.
-fn events_behind(alloc: Global, taken: usize) -> Result<Vec<Event>, Fail> {
-    let mut events = Vec::new(alloc);
-    let mut left = taken;
-    put_behind(alloc, &mut events, &mut left, &SCRIPT)?;
-    put_behind(alloc, &mut events, &mut left, &LATER)?;
-    Ok(events)
+fn put_event(alloc: Global, events: &mut Vec<Event>, line: &str) -> Option<()> {
+    events.push(read_event(alloc, line)?).ok()
 }
 
+// Puts the events of these lines, but for the first ones.
 fn put_behind(
     alloc: Global,
     events: &mut Vec<Event>,
     left: &mut usize,
     lines: &[&str],
-) -> Result<(), Fail> {
+) -> Option<()> {
     for line in lines {
         if !is_event(line) {
             continue;
         }
         if *left == 0 {
-            events.push(event(alloc, line)?)?;
+            put_event(alloc, events, line)?;
         }
         *left = left.saturating_sub(1);
     }
-    Ok(())
+    Some(())
+}
+
+// The events of the script and of those behind it, but for the first ones.
+fn events_behind(alloc: Global, taken: usize) -> Option<Vec<Event>> {
+    let mut events = Vec::new(alloc);
+    let mut left = taken;
+    put_behind(alloc, &mut events, &mut left, &SCRIPT)?;
+    put_behind(alloc, &mut events, &mut left, &LATER)?;
+    Some(events)
+}
+
+// Takes the event of a line at 2000.
+fn take(alloc: Global, core: &mut Core, line: &str) -> Option<Answer> {
+    step(core, moved(read_event(alloc, line)?, 2000))
 }
 
 // Takes so many events of the script, each of them at 2000.
-fn take_first(alloc: Global, core: &mut Core, taken: usize) -> Result<(), Fail> {
+fn take_first(alloc: Global, core: &mut Core, taken: usize) -> Option<()> {
     let mut left = taken;
     for line in &SCRIPT {
         if is_event(line) && left > 0 {
-            let _ = step(core, moved(event(alloc, line)?, 2000))?;
+            take(alloc, core, line)?;
             left = left.saturating_sub(1);
         }
     }
-    Ok(())
+    Some(())
 }
 
-fn hear_rest(core: &mut Core, events: Vec<Event>, answers: &mut Vec<Answer>) -> Result<(), Fail> {
+fn hear_rest(alloc: Global, core: &mut Core, events: Vec<Event>) -> Option<Vec<Answer>> {
+    let mut answers = Vec::new(alloc);
     for event in events {
-        answers.push(step(core, event)?)?;
+        answers.push(step(core, event)?).ok()?;
     }
-    Ok(())
+    Some(answers)
+}
+
+fn answers_of(alloc: Global, core: &mut Core, taken: usize) -> Option<Vec<Answer>> {
+    take_first(alloc, core, taken)?;
+    hear_rest(alloc, core, events_behind(alloc, taken)?)
 }
 
 // What the machine answers behind so many events, if it was stopped there and begun again at 2000. None of them ends a
 // session, so that at 2000 they lead to the same state.
 fn answers_behind(alloc: Global, taken: usize) -> Result<Vec<Answer>, Fail> {
     let mut core = machine(alloc, 2000)?;
-    let mut answers = Vec::new(alloc);
-    take_first(alloc, &mut core, taken)?;
-    hear_rest(&mut core, events_behind(alloc, taken)?, &mut answers)?;
-    Ok(answers)
-}
-
-fn do_offer(
-    gateway: &mut Trials,
-    model: &Model,
-    told: &mut Told,
-    event: Event,
-) -> Result<(), Fail> {
-    told.offered = told.offered.saturating_add(1);
-    match offer(gateway, event) {
-        Ok(Given::Now(number, answer)) => hear(model.answers.as_slice(), told, number, &answer),
-        Ok(Given::Held(_)) => Ok(()),
-        Err((_, fault)) => Err(fault.into()),
-    }
+    let answers = answers_of(alloc, &mut core, taken);
+    drop(core);
+    Ok(answers.ok_or("no memory")?)
 }
 
 fn do_line(
@@ -159,7 +170,10 @@ fn do_line(
     match line {
         "flush" => do_flush(model, gateway, told),
         "compact" => do_compact(gateway, told),
-        _ => do_offer(gateway, model, told, event(alloc, line)?),
+        _ => {
+            told.offered = told.offered.saturating_add(1);
+            do_offer(model, gateway, told, event(alloc, line)?)
+        }
     }
 }
 
@@ -181,8 +195,8 @@ fn drive_to_its_end(
     mut gateway: Trials,
     model: &Model,
 ) -> Result<(Trial, Told), Fail> {
-    let told = drive(alloc, &mut gateway, model)?;
-    Ok((disk_of(gateway), told))
+    let told = drive(alloc, &mut gateway, model);
+    with_disk(disk_of(gateway), told)
 }
 
 // Over files that were empty.
@@ -193,13 +207,21 @@ fn driven(alloc: Global, model: &Model, at: Trouble) -> Result<(Trial, Told), Fa
     }
 }
 
-fn began_anew(gateway: &Trials) -> Result<(), Fail> {
-    for session in gateway.sessions()?.as_slice() {
-        if session.last != 2000 {
-            return Err(Fail::new("another moment"));
+fn are_of(sessions: &[Session], moment: u64) -> bool {
+    for session in sessions {
+        if session.last != moment {
+            return false;
         }
     }
-    Ok(())
+    true
+}
+
+fn began_anew(gateway: &Trials) -> Result<(), Fail> {
+    let sessions = gateway.sessions()?;
+    if are_of(sessions.as_slice(), 2000) {
+        return Ok(());
+    }
+    Err(Fail::new("another moment"))
 }
 
 // All is answered that the machine answers.
@@ -214,7 +236,8 @@ fn expect_all(wanted: &[Answer], answers: &[(u64, Answer)]) -> Result<(), Fail> 
 
 fn goes_on(alloc: Global, gateway: &mut Trials, taken: usize) -> Result<(), Fail> {
     let wanted = answers_behind(alloc, taken)?;
-    match run(gateway, events_behind(alloc, taken)?) {
+    let events = events_behind(alloc, taken).ok_or("no memory")?;
+    match run(gateway, events) {
         Ok(answers) => expect_all(wanted.as_slice(), answers.as_slice()),
         Err((_, fault)) => Err(fault.into()),
     }
@@ -228,13 +251,15 @@ fn check_opened(
     told: Told,
 ) -> Result<(), Fail> {
     began_anew(gateway)?;
-    let left = Lasting::of_gateway(alloc, gateway)?;
+    let left = Lasting::of_gateway(alloc, gateway).ok_or("no memory")?;
     goes_on(alloc, gateway, taken(model, told, &left)?)
 }
 
 fn check(alloc: Global, model: &Model, disk: Trial, told: Told) -> Result<(), Fail> {
     let mut gateway = opened_again(alloc, disk, 2000)?;
-    check_opened(alloc, model, &mut gateway, told)
+    let ended = check_opened(alloc, model, &mut gateway, told);
+    close(gateway);
+    ended
 }
 
 fn stop(rt: &impl Abort, alloc: Global, model: &Model, call: u64, choice: u64) -> Result<(), Fail> {
@@ -243,14 +268,19 @@ fn stop(rt: &impl Abort, alloc: Global, model: &Model, call: u64, choice: u64) -
     check(alloc, model, crashed(disk, choice)?, told)
 }
 
+fn stop_by_choices(rt: &impl Abort, alloc: Global, model: &Model, call: u64) -> Result<(), Fail> {
+    for choice in &CHOICES {
+        stop(rt, alloc, model, call, *choice)?;
+    }
+    Ok(())
+}
+
 #[test]
 fn each_stop(rt: HostRuntime) -> Result<(), Fail> {
     let alloc = rt.alloc();
     let model = run_of_machine(alloc)?;
     for call in 0..CALLS {
-        for choice in [0, 1, 2, 3, 5, 10] {
-            stop(&rt, alloc, &model, call, choice)?;
-        }
+        stop_by_choices(&rt, alloc, &model, call)?;
     }
     Ok(())
 }
@@ -283,8 +313,8 @@ fn end(rt: &impl Abort, alloc: Global, model: &Model, choice: u64) -> Result<(),
 fn no_stop(rt: HostRuntime) -> Result<(), Fail> {
     let alloc = rt.alloc();
     let model = run_of_machine(alloc)?;
-    for choice in [0, 1, 2, 3, 5, 10] {
-        end(&rt, alloc, &model, choice)?;
+    for choice in &CHOICES {
+        end(&rt, alloc, &model, *choice)?;
     }
     Ok(())
 }

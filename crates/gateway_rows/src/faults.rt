@@ -1,7 +1,7 @@
 //! What is refused where a file is full or has the greatest generation, and what stays. (That no number is left can't be
 //! shown: 2^64 - 1 events would have to come first.)
-use crate::script::{play, run_through};
-use crate::shared::{FRESH_FRONT, Trials, assert_file, disk_of, opened, reopened};
+use crate::script::{play, play_over, played, run_through};
+use crate::shared::{FRESH_FRONT, Trials, assert_file, disk, left_of, opened};
 use crate::words::{hex, put_hex};
 use disk_model::FileId;
 use std::alloc::{AllocError, Global};
@@ -41,27 +41,14 @@ sessions
 grown
 = 48";
 
-// The disk, whose second file is empty.
-fn left(rt: &impl Abort, alloc: Global, gateway: Trials) -> Result<Trial, Fail> {
-    let mut disk = disk_of(gateway);
-    match assert_file(rt, alloc, &mut disk, FileId::B, b"") {
-        Ok(()) => Ok(disk),
-        Err(fail) => {
-            drop(disk);
-            Err(fail)
-        }
-    }
-}
-
 #[test]
 fn generations(rt: HostRuntime) -> Result<(), Fail> {
     let alloc = rt.alloc();
     let file = hex(alloc, LAST_GENERATION)?;
-    let mut gateway = opened(alloc, Trial::of(alloc, file.as_slice(), b"")?, 1000)?;
-    play(alloc, &mut gateway, NO_GENERATION)?;
-    let disk = left(&rt, alloc, gateway)?;
-    let mut gateway = opened(alloc, disk, 2000)?;
-    play(alloc, &mut gateway, STAYS)
+    let disk = disk(alloc, &file, b"")?;
+    let mut disk = played(alloc, disk, 1000, &[NO_GENERATION])?;
+    assert_file(&rt, alloc, &mut disk, FileId::B, b"");
+    play_over(alloc, disk, 2000, &[STAYS])
 }
 
 // An open group of 67,108,762 bytes, and a session that begins in it.
@@ -91,8 +78,8 @@ fn put_loads(alloc: Global, file: &mut Vec<u8>) -> Result<(), AllocError> {
 // A file whose next group would stand at 67,108,806, and so may have 52 bytes of entries.
 fn nearly_full(alloc: Global) -> Result<Vec<u8>, Fail> {
     let mut file = Vec::new(alloc);
-    for text in [FRESH_FRONT, GROUP, BEGIN] {
-        put_hex(&mut file, text)?;
+    for text in &[FRESH_FRONT, GROUP, BEGIN] {
+        put_hex(&mut file, *text)?;
     }
     put_loads(alloc, &mut file)?;
     file.extend_from_slice(&[0])?;
@@ -156,19 +143,18 @@ flush
 grown
 = 67108824";
 
-fn open_nearly_full(alloc: Global) -> Result<Trials, Fail> {
+fn nearly_full_disk(alloc: Global) -> Result<Trial, Fail> {
     let file = nearly_full(alloc)?;
-    opened(alloc, Trial::of(alloc, file.as_slice(), b"")?, 1000)
+    disk(alloc, &file, b"")
 }
 
 // What is refused is taken when the rest is compacted.
 #[test]
 fn full(rt: HostRuntime) -> Result<(), Fail> {
     let alloc = rt.alloc();
-    let mut gateway = open_nearly_full(alloc)?;
-    play(alloc, &mut gateway, NO_ROOM)?;
-    let mut gateway = reopened(alloc, gateway, 2000)?;
-    play(alloc, &mut gateway, ALL_THREE)
+    let disk = nearly_full_disk(alloc)?;
+    let disk = played(alloc, disk, 1000, &[NO_ROOM])?;
+    play_over(alloc, disk, 2000, &[ALL_THREE])
 }
 
 const BOTH: &str = "\
@@ -179,20 +165,23 @@ const BOTH_ANSWERS: &str = "\
 1 wan 4500001c00010000 3f118fea c0a80103 c6336407 13880035 0008003b
 2 wan 4500001c00010000 3f118fe9 c0a80104 c6336407 13880035 0008003a";
 
+fn run_both(alloc: Global, gateway: &mut Trials) -> Result<(), Fail> {
+    run_through(alloc, gateway, BOTH, BOTH_ANSWERS)?;
+    play(alloc, gateway, "held\n= 0\ngrown\n= 27")
+}
+
 // The second is refused; a run flushes, compacts and offers it again.
 #[test]
 fn run_makes_room(rt: HostRuntime) -> Result<(), Fail> {
     let alloc = rt.alloc();
-    let mut gateway = open_nearly_full(alloc)?;
-    run_through(alloc, &mut gateway, BOTH, BOTH_ANSWERS)?;
-    play(alloc, &mut gateway, "held\n= 0\ngrown\n= 27")?;
-    let mut gateway = reopened(alloc, gateway, 2000)?;
-    play(alloc, &mut gateway, ALL_THREE)
+    let mut gateway = opened(alloc, nearly_full_disk(alloc)?, 1000)?;
+    let ended = run_both(alloc, &mut gateway);
+    let disk = left_of(gateway, ended)?;
+    play_over(alloc, disk, 2000, &[ALL_THREE])
 }
 
 #[test]
 fn last_room(rt: HostRuntime) -> Result<(), Fail> {
     let alloc = rt.alloc();
-    let mut gateway = open_nearly_full(alloc)?;
-    play(alloc, &mut gateway, ROOM)
+    play_over(alloc, nearly_full_disk(alloc)?, 1000, &[ROOM])
 }

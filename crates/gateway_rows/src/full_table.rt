@@ -1,5 +1,7 @@
 //! As many sessions as a core holds, what it drops then, and what it takes when they have ended.
+use crate::model::step;
 use crate::shared::machine;
+use crate::words::body;
 use machine::{Answer, Bytes, Core, Event, Iface, What};
 use std::alloc::Global;
 use std::process::Abort;
@@ -29,70 +31,71 @@ const FROM_OUTSIDE: [u8; 28] = [
     0xc0, 0xa8, 0x01, 0x03, 0x00, 0x35, 0x13, 0x88, 0x00, 0x08, 0x00, 0x00,
 ];
 
-/// Offers the packet, with this source port where there is one.
+/// The packet with this source port; none where memory is refused.
+fn with_port(alloc: Global, packet: &[u8; 28], port: u16) -> Option<Bytes> {
+    let mut packet = *packet;
+    let [high, low] = port.to_be_bytes();
+    packet[20] = high;
+    packet[21] = low;
+    body(Vec::from_slice(alloc, &packet).ok()?)
+}
+
+/// Offers the packet, with this source port.
 fn answer(
     alloc: Global,
     core: &mut Core,
     moment: u64,
     iface: Iface,
     packet: &[u8; 28],
-    port: Option<u16>,
-) -> Result<Answer, Fail> {
-    let mut bytes = Vec::from_slice(alloc, packet)?;
-    if let (Some(port), Some(place)) = (port, bytes.as_mut_slice().get_mut(20..22)) {
-        place.copy_from_slice(&port.to_be_bytes());
-    }
-    let what = What::Packet(iface, Bytes::of(bytes));
-    match core.step(Event { moment, what }) {
-        Ok(answer) => Ok(answer),
-        Err(_) => Err(Fail::new("memory was refused")),
-    }
+    port: u16,
+) -> Option<Answer> {
+    let what = What::Packet(iface, with_port(alloc, packet, port)?);
+    step(core, Event { moment, what })
 }
 
-fn is_sent_on(answer: &Answer) -> bool {
-    matches!(answer, Answer::Forward(Iface::Wan, _))
+fn is_sent_on(alloc: Global, core: &mut Core, moment: u64, packet: &[u8; 28], port: u16) -> bool {
+    let answer = answer(alloc, core, moment, Iface::Lan, packet, port);
+    matches!(answer, Some(Answer::Forward(Iface::Wan, _)))
 }
 
-fn is_full(answer: &Answer) -> bool {
-    matches!(answer, Answer::Dropped(TABLE_FULL))
+fn is_full(alloc: Global, core: &mut Core, iface: Iface, packet: &[u8; 28], port: u16) -> bool {
+    let answer = answer(alloc, core, 1000, iface, packet, port);
+    matches!(answer, Some(Answer::Dropped(TABLE_FULL)))
 }
 
 /// Begins 65,536 sessions: one of each port of the first host, and one of the second.
-fn fill(rt: &impl Abort, alloc: Global, core: &mut Core) -> Result<(), Fail> {
+fn fill(rt: &impl Abort, alloc: Global, core: &mut Core) {
     for port in 1..=u16::MAX {
-        let sent = answer(alloc, core, 1000, Iface::Lan, &FIRST_HOST, Some(port))?;
-        assert!(rt; is_sent_on(&sent), "{port}");
+        assert!(rt; is_sent_on(alloc, core, 1000, &FIRST_HOST, port), "{port}");
     }
-    let sent = answer(alloc, core, 1000, Iface::Lan, &SECOND_HOST, None)?;
-    assert!(rt; is_sent_on(&sent));
-    Ok(())
+    assert!(rt; is_sent_on(alloc, core, 1000, &SECOND_HOST, 5000));
 }
 
 /// No session begins, from either side, and one that lives goes on.
-fn refuses_more(rt: &impl Abort, alloc: Global, core: &mut Core) -> Result<(), Fail> {
-    let new = answer(alloc, core, 1000, Iface::Lan, &SECOND_HOST, Some(6000))?;
-    assert!(rt; is_full(&new));
-    let incoming = answer(alloc, core, 1000, Iface::Wan, &FROM_OUTSIDE, Some(54))?;
-    assert!(rt; is_full(&incoming));
-    let held = answer(alloc, core, 1000, Iface::Lan, &SECOND_HOST, None)?;
-    assert!(rt; is_sent_on(&held));
-    Ok(())
+fn refuses_more(rt: &impl Abort, alloc: Global, core: &mut Core) {
+    assert!(rt; is_full(alloc, core, Iface::Lan, &SECOND_HOST, 6000));
+    assert!(rt; is_full(alloc, core, Iface::Wan, &FROM_OUTSIDE, 54));
+    assert!(rt; is_sent_on(alloc, core, 1000, &SECOND_HOST, 5000));
+}
+
+/// How many sessions there are.
+fn count(core: &Core) -> Option<usize> {
+    Some(core.sessions().ok()?.len())
 }
 
 /// When all are over, one begins, and is the only one.
-fn begins_anew(rt: &impl Abort, alloc: Global, core: &mut Core) -> Result<(), Fail> {
-    let moment = 1000 + IDLE;
-    let later = answer(alloc, core, moment, Iface::Lan, &SECOND_HOST, Some(6000))?;
-    assert!(rt; is_sent_on(&later));
-    assert_eq!(rt; core.sessions()?.len(), 1);
-    Ok(())
+fn begins_anew(rt: &impl Abort, alloc: Global, core: &mut Core) {
+    assert!(rt; is_sent_on(alloc, core, 1000 + IDLE, &SECOND_HOST, 6000));
+    assert!(rt; count(core) == Some(1));
 }
 
 #[test]
 fn full(rt: HostRuntime) -> Result<(), Fail> {
     let alloc = rt.alloc();
     let mut core = machine(alloc, 1000)?;
-    fill(&rt, alloc, &mut core)?;
-    refuses_more(&rt, alloc, &mut core)?;
-    begins_anew(&rt, alloc, &mut core)
+    fill(&rt, alloc, &mut core);
+    refuses_more(&rt, alloc, &mut core);
+    begins_anew(&rt, alloc, &mut core);
+    drop(core);
+    Ok(())
 }

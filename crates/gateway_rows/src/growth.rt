@@ -1,12 +1,14 @@
 //! Groups that grow, compaction, and runs of many events.
-use crate::script::{expect, handed, name, play, run, run_through, two_flushed};
-use crate::shared::{
-    Answer, Event, FRESH_FRONT, MASQUERADE, Trials, Trouble, assert_file, calls_of, disk_of, fresh,
-    lost_power, opened, reopened, troubled,
+use crate::script::{
+    expect, fresh_behind, name, play, play_over, played, run, run_through, two_flushed,
 };
-use crate::words::{event, hex, put_hex};
+use crate::shared::{
+    Answer, CHOICES, Event, FRESH_FRONT, MASQUERADE, TWO_FLUSHED, TWO_HELD, Trials, Trouble,
+    calls_of, close, crashed, fresh, kept, left_of, opened, troubled,
+};
+use crate::words::{event, hex, put, put_hex};
 use disk_model::FileId;
-use std::alloc::Global;
+use std::alloc::{AllocError, Global};
 use std::process::Abort;
 use std::test::*;
 use trial_disk::Trial;
@@ -16,8 +18,8 @@ fn snapshot(alloc: Global, generation: &str) -> Result<Vec<u8>, Fail> {
     let configuration = "036c616e 0377616e 01 c0a8000010 cb007101 00000065";
     let session = "00000001 11 c0a801021388 cb0071011388 c63364070035 00 00 00";
     let mut file = Vec::new(alloc);
-    for text in ["01 4e475731", generation, configuration] {
-        put_hex(&mut file, text)?;
+    for text in &["01 4e475731", generation, configuration] {
+        put_hex(&mut file, *text)?;
     }
     file.extend_from_slice(MASQUERADE.as_bytes())?;
     put_hex(&mut file, session)?;
@@ -52,51 +54,42 @@ compact
 grown
 = 0";
 
-#[test]
-fn compacted(rt: HostRuntime) -> Result<(), Fail> {
-    let alloc = rt.alloc();
-    let second = snapshot(alloc, "0000000000000002")?;
-    assert_eq!(rt; second.len(), 162);
-    let mut gateway = two_flushed(alloc)?;
-    play(alloc, &mut gateway, COMPACTED)?;
-    let mut disk = disk_of(gateway);
-    look(&rt, alloc, &mut disk, second.as_slice())?;
-    found_again(&rt, alloc, disk, second.as_slice())
-}
-
-// The second file is the snapshot, and the first begins with these bytes. How long the first is.
-fn look_at(
-    rt: &impl Abort,
-    alloc: Global,
-    disk: &mut Trial,
-    front: &[u8],
-    second: &[u8],
-) -> Result<usize, Fail> {
-    assert_file(rt, alloc, disk, FileId::B, second)?;
-    let first = disk.bytes(alloc, FileId::A)?;
-    assert!(rt; first.as_slice().starts_with(front));
-    Ok(first.len())
+// How long the first file is, if it begins so and the second file is the snapshot.
+fn length_of(alloc: Global, disk: &mut Trial, front: &[u8], second: &[u8]) -> Option<usize> {
+    let is_second = disk.bytes(alloc, FileId::B).ok()?.as_slice() == second;
+    let first = disk.bytes(alloc, FileId::A).ok()?;
+    if is_second && first.as_slice().starts_with(front) {
+        return Some(first.len());
+    }
+    None
 }
 
 // The first file is as it was.
 fn look(rt: &impl Abort, alloc: Global, disk: &mut Trial, second: &[u8]) -> Result<(), Fail> {
     let front = hex(alloc, FRESH_FRONT)?;
-    assert_eq!(rt; look_at(rt, alloc, disk, front.as_slice(), second)?, 173);
+    assert_eq!(rt; length_of(alloc, disk, &front, second), Some(173));
     Ok(())
 }
 
 // It is there when the files are opened, and compacted again it goes to the other file, behind which bytes mean nothing.
-fn found_again(rt: &impl Abort, alloc: Global, disk: Trial, second: &[u8]) -> Result<(), Fail> {
-    let mut gateway = opened(alloc, disk, 1400)?;
-    play(alloc, &mut gateway, FOUND_AGAIN)?;
-    look_again(rt, alloc, &mut disk_of(gateway), second)
-}
-
 fn look_again(rt: &impl Abort, alloc: Global, disk: &mut Trial, second: &[u8]) -> Result<(), Fail> {
     let third = snapshot(alloc, "0000000000000003")?;
-    let _len = look_at(rt, alloc, disk, third.as_slice(), second)?;
+    assert!(rt; length_of(alloc, disk, &third, second).is_some());
     assert!(rt; !disk.has_strayed());
     Ok(())
+}
+
+#[test]
+fn compacted(rt: HostRuntime) -> Result<(), Fail> {
+    let alloc = rt.alloc();
+    let second = snapshot(alloc, "0000000000000002")?;
+    assert_eq!(rt; second.len(), 162);
+    let mut disk = fresh_behind(alloc, &[TWO_HELD, TWO_FLUSHED, COMPACTED])?;
+    let ended = look(&rt, alloc, &mut disk, &second);
+    let mut disk = played(alloc, kept(disk, ended)?, 1400, &[FOUND_AGAIN])?;
+    let ended = look_again(&rt, alloc, &mut disk, &second);
+    drop(disk);
+    ended
 }
 
 const COMPACTION_FAILS: &str = "\
@@ -121,33 +114,34 @@ compact
 grown
 = 0";
 
-fn failed_compaction(alloc: Global, at: Trouble) -> Result<Trials, Fail> {
-    let mut gateway = troubled(alloc, two_flushed(alloc)?, at)?;
-    play(alloc, &mut gateway, COMPACTION_FAILS)?;
-    Ok(gateway)
+fn failed_compaction(alloc: Global, at: Trouble) -> Result<Trial, Fail> {
+    let disk = troubled(alloc, two_flushed(alloc)?, at)?;
+    played(alloc, disk, 1000, &[COMPACTION_FAILS])
 }
 
 fn fault(alloc: Global, call: u64) -> Result<(), Fail> {
-    let gateway = failed_compaction(alloc, Trouble::Fault(call))?;
-    let mut gateway = reopened(alloc, gateway, 2000)?;
-    play(alloc, &mut gateway, KEPT)
+    let disk = failed_compaction(alloc, Trouble::Fault(call))?;
+    play_over(alloc, disk, 2000, &[KEPT])
 }
 
 fn stop(alloc: Global, call: u64, choice: u64) -> Result<(), Fail> {
-    let gateway = failed_compaction(alloc, Trouble::Stop(call))?;
-    let mut gateway = lost_power(alloc, gateway, choice, 2000)?;
-    play(alloc, &mut gateway, KEPT)
+    let disk = failed_compaction(alloc, Trouble::Stop(call))?;
+    play_over(alloc, crashed(disk, choice)?, 2000, &[KEPT])
+}
+
+fn stop_by_choices(alloc: Global, call: u64) -> Result<(), Fail> {
+    for choice in &CHOICES {
+        stop(alloc, call, *choice)?;
+    }
+    Ok(())
 }
 
 // Each of the six calls fails, alone or with all behind it; nothing is lost.
 #[test]
 fn compaction_stops(rt: HostRuntime) -> Result<(), Fail> {
-    let alloc = rt.alloc();
     for call in 0..6 {
-        fault(alloc, call)?;
-        for choice in [0, 1, 2, 3, 5, 10] {
-            stop(alloc, call, choice)?;
-        }
+        fault(rt.alloc(), call)?;
+        stop_by_choices(rt.alloc(), call)?;
     }
     Ok(())
 }
@@ -162,10 +156,10 @@ fn loads(alloc: Global, count: u64) -> Result<Vec<Event>, Fail> {
 }
 
 // So many times `loaded`, with rising numbers.
-fn all_loaded(alloc: Global, count: u64) -> Result<String, Fail> {
+fn all_loaded(alloc: Global, count: u64) -> Result<String, AllocError> {
     let mut lines = String::new(alloc);
     for number in 1..=count {
-        lines.push_str(format!(in alloc; "{number} loaded\n")?.as_str())?;
+        put(&mut lines, format!(in alloc; "{number} loaded\n"))?;
     }
     Ok(lines)
 }
@@ -199,8 +193,7 @@ fn assert_run(
 
 fn expect_loaded(alloc: Global, answers: &[(u64, Answer)], count: u64) -> Result<(), Fail> {
     let lines = all_loaded(alloc, count)?;
-    let said = handed(alloc, answers)?;
-    expect(alloc, said.as_slice(), lines.as_str())
+    expect(alloc, answers, lines.as_str())
 }
 
 // Groups of 64 and of 1: 5 bytes, and 16 for each load.
@@ -212,14 +205,19 @@ grown
 at 1001
 = now 66 ticked";
 
+fn run_at_64(rt: &impl Abort, alloc: Global, gateway: &mut Trials) -> Result<(), Fail> {
+    assert_run(rt, alloc, gateway, 65, 65, "done")?;
+    play(alloc, gateway, RAN)
+}
+
 #[test]
 fn run_flushes_at_64(rt: HostRuntime) -> Result<(), Fail> {
     let alloc = rt.alloc();
-    let calls = calls_of(fresh(alloc)?);
+    let calls = calls_of(fresh_behind(alloc, &[])?);
     let mut gateway = fresh(alloc)?;
-    assert_run(&rt, alloc, &mut gateway, 65, 65, "done")?;
-    play(alloc, &mut gateway, RAN)?;
-    assert_eq!(rt; calls_of(gateway), calls.saturating_add(8));
+    let ended = run_at_64(&rt, alloc, &mut gateway);
+    let disk = left_of(gateway, ended)?;
+    assert_eq!(rt; calls_of(disk), calls.saturating_add(8));
     Ok(())
 }
 
@@ -237,14 +235,19 @@ fn run_stops(rt: &impl Abort, alloc: Global, gateway: &mut Trials) -> Result<(),
 }
 
 // The second flush fails: 64 answers are handed out.
+fn stop_a_run(rt: &impl Abort, alloc: Global, call: u64) -> Result<(), Fail> {
+    let disk = fresh_behind(alloc, &[])?;
+    let disk = troubled(alloc, disk, Trouble::Stop(call))?;
+    let mut gateway = opened(alloc, disk, 1000)?;
+    let ended = run_stops(rt, alloc, &mut gateway);
+    let disk = crashed(left_of(gateway, ended)?, 0)?;
+    play_over(alloc, disk, 2000, &["rules\n= table t { }"])
+}
+
 #[test]
 fn run_meets_a_fault(rt: HostRuntime) -> Result<(), Fail> {
-    let alloc = rt.alloc();
     for call in 4..8 {
-        let mut gateway = troubled(alloc, fresh(alloc)?, Trouble::Stop(call))?;
-        run_stops(&rt, alloc, &mut gateway)?;
-        let mut gateway = lost_power(alloc, gateway, 0, 2000)?;
-        play(alloc, &mut gateway, "rules\n= table t { }")?;
+        stop_a_run(&rt, rt.alloc(), call)?;
     }
     Ok(())
 }
@@ -274,13 +277,18 @@ const TICKS_ANSWERS: &str = "\
 8 ticked
 9 ticked";
 
+fn run_twice(alloc: Global, gateway: &mut Trials) -> Result<(), Fail> {
+    run_through(alloc, gateway, MIXED, MIXED_ANSWERS)?;
+    play(alloc, gateway, "load 1001 table t { }\n= held 7")?;
+    run_through(alloc, gateway, TICKS, TICKS_ANSWERS)?;
+    play(alloc, gateway, "held\n= 0\ngrown\n= 154")
+}
+
 // What is held at the entry comes first.
 #[test]
 fn run_in_order(rt: HostRuntime) -> Result<(), Fail> {
-    let alloc = rt.alloc();
-    let mut gateway = fresh(alloc)?;
-    run_through(alloc, &mut gateway, MIXED, MIXED_ANSWERS)?;
-    play(alloc, &mut gateway, "load 1001 table t { }\n= held 7")?;
-    run_through(alloc, &mut gateway, TICKS, TICKS_ANSWERS)?;
-    play(alloc, &mut gateway, "held\n= 0\ngrown\n= 154")
+    let mut gateway = fresh(rt.alloc())?;
+    let ended = run_twice(rt.alloc(), &mut gateway);
+    close(gateway);
+    ended
 }

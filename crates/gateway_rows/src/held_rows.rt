@@ -1,12 +1,12 @@
 //! Which answers are held, what a flush writes and hands out, and how many are held at the most.
-use crate::script::{fresh_behind, play, two_flushed};
+use crate::script::{fresh_behind, play_fresh};
 use crate::shared::{
-    FRESH_FRONT, MASQUERADE, THIRD_HELD, THREE_FLUSHED, TWO_FLUSHED, TWO_HELD, Trials, assert_file,
-    disk_of, fresh,
+    FRESH_FRONT, MASQUERADE, THIRD_HELD, THREE_FLUSHED, TWO_FLUSHED, TWO_HELD, assert_file,
+    calls_of,
 };
-use crate::words::put_hex;
+use crate::words::{put, put_hex};
 use disk_model::FileId;
-use std::alloc::Global;
+use std::alloc::{AllocError, Global};
 use std::process::Abort;
 use std::test::*;
 use trial_disk::Trial;
@@ -22,16 +22,18 @@ fn one_group(alloc: Global) -> Result<Vec<u8>, Fail> {
     Ok(file)
 }
 
-// How many calls of the disk there were, and what is in the files.
-fn look(rt: &impl Abort, alloc: Global, gateway: Trials, a: &[u8]) -> Result<u64, Fail> {
-    look_at(rt, alloc, &mut disk_of(gateway), a)
+// What is in the files.
+fn look(rt: &impl Abort, alloc: Global, disk: &mut Trial, a: &[u8]) {
+    assert_file(rt, alloc, disk, FileId::A, a);
+    assert_file(rt, alloc, disk, FileId::B, b"");
+    assert!(rt; !disk.has_strayed());
 }
 
-fn look_at(rt: &impl Abort, alloc: Global, disk: &mut Trial, a: &[u8]) -> Result<u64, Fail> {
-    assert_file(rt, alloc, disk, FileId::A, a)?;
-    assert_file(rt, alloc, disk, FileId::B, b"")?;
-    assert!(rt; !disk.has_strayed());
-    Ok(disk.calls())
+// What is in the files behind these, and how many calls of the disk there were.
+fn look_behind(rt: &impl Abort, alloc: Global, scripts: &[&str], a: &[u8]) -> Result<u64, Fail> {
+    let mut disk = fresh_behind(alloc, scripts)?;
+    look(rt, alloc, &mut disk, a);
+    Ok(calls_of(disk))
 }
 
 const COUNTS_HELD: &str = "\
@@ -52,16 +54,14 @@ fn held_rows(rt: HostRuntime) -> Result<(), Fail> {
     let alloc = rt.alloc();
     let file = one_group(alloc)?;
     assert_eq!(rt; file.len(), 173);
-    let gateway = fresh_behind(alloc, &[TWO_HELD, COUNTS_HELD, TWO_FLUSHED, COUNTS_FLUSHED])?;
-    let _calls = look(&rt, alloc, gateway, file.as_slice())?;
+    let scripts = [TWO_HELD, COUNTS_HELD, TWO_FLUSHED, COUNTS_FLUSHED];
+    let _calls = look_behind(&rt, alloc, &scripts, &file)?;
     Ok(())
 }
 
 #[test]
 fn third_joins(rt: HostRuntime) -> Result<(), Fail> {
-    let alloc = rt.alloc();
-    drop(fresh_behind(alloc, &[TWO_HELD, THIRD_HELD, THREE_FLUSHED])?);
-    Ok(())
+    play_fresh(rt.alloc(), &[TWO_HELD, THIRD_HELD, THREE_FLUSHED])
 }
 
 // The packet again, a drop, a text that is refused and an earlier moment; the clock stays.
@@ -87,10 +87,10 @@ grown
 fn answered_at_once(rt: HostRuntime) -> Result<(), Fail> {
     let alloc = rt.alloc();
     let file = one_group(alloc)?;
-    let before = look(&rt, alloc, two_flushed(alloc)?, file.as_slice())?;
-    let mut gateway = two_flushed(alloc)?;
-    play(alloc, &mut gateway, NOTHING_CHANGES)?;
-    assert_eq!(rt; look(&rt, alloc, gateway, file.as_slice())?, before);
+    let before = look_behind(&rt, alloc, &[TWO_HELD, TWO_FLUSHED], &file)?;
+    let scripts = [TWO_HELD, TWO_FLUSHED, NOTHING_CHANGES];
+    let calls = look_behind(&rt, alloc, &scripts, &file)?;
+    assert_eq!(rt; calls, before);
     Ok(())
 }
 
@@ -116,9 +116,7 @@ sessions";
 
 #[test]
 fn held_where_something_changes(rt: HostRuntime) -> Result<(), Fail> {
-    let alloc = rt.alloc();
-    let mut gateway = two_flushed(alloc)?;
-    play(alloc, &mut gateway, SOMETHING_CHANGES)
+    play_fresh(rt.alloc(), &[TWO_HELD, TWO_FLUSHED, SOMETHING_CHANGES])
 }
 
 // The packets of a session that goes on leave where they lie, also where the clock rises, while nothing is held. Those
@@ -158,9 +156,7 @@ sessions";
 
 #[test]
 fn forwarded_where_it_lies(rt: HostRuntime) -> Result<(), Fail> {
-    let alloc = rt.alloc();
-    let mut gateway = two_flushed(alloc)?;
-    play(alloc, &mut gateway, GOES_ON)
+    play_fresh(rt.alloc(), &[TWO_HELD, TWO_FLUSHED, GOES_ON])
 }
 
 const LOAD_AND_MOMENT: &str = "\
@@ -170,18 +166,18 @@ at 1001
 = held 2";
 
 // What changes nothing is held behind what is held.
-fn hold_moments(alloc: Global, gateway: &mut Trials) -> Result<(), Fail> {
+fn held_moments(alloc: Global) -> Result<String, AllocError> {
+    let mut lines = String::from_str(alloc, LOAD_AND_MOMENT)?;
     for number in 3..=64 {
-        let line = format!(in alloc; "at 1001\n= held {number}")?;
-        play(alloc, gateway, line.as_str())?;
+        put(&mut lines, format!(in alloc; "\nat 1001\n= held {number}"))?;
     }
-    Ok(())
+    Ok(lines)
 }
 
-fn flushed_moments(alloc: Global) -> Result<String, Fail> {
+fn flushed_moments(alloc: Global) -> Result<String, AllocError> {
     let mut lines = String::from_str(alloc, "flush\n= 1 loaded")?;
     for number in 2..=64 {
-        lines.push_str(format!(in alloc; "\n= {number} ticked")?.as_str())?;
+        put(&mut lines, format!(in alloc; "\n= {number} ticked"))?;
     }
     Ok(lines)
 }
@@ -207,10 +203,8 @@ at 1002
 #[test]
 fn sixty_fifth(rt: HostRuntime) -> Result<(), Fail> {
     let alloc = rt.alloc();
-    let mut gateway = fresh(alloc)?;
-    play(alloc, &mut gateway, LOAD_AND_MOMENT)?;
-    hold_moments(alloc, &mut gateway)?;
-    play(alloc, &mut gateway, ONE_TOO_MANY)?;
-    play(alloc, &mut gateway, flushed_moments(alloc)?.as_str())?;
-    play(alloc, &mut gateway, TAKEN_AFTERWARDS)
+    let held = held_moments(alloc)?;
+    let flushed = flushed_moments(alloc)?;
+    let (held, flushed) = (held.as_str(), flushed.as_str());
+    play_fresh(alloc, &[held, ONE_TOO_MANY, flushed, TAKEN_AFTERWARDS])
 }

@@ -2,7 +2,6 @@
 use crate::shared::{Answer, Event, Session, Trials};
 use machine::Core;
 use std::alloc::Global;
-use std::test::Fail;
 
 /// A text, and sessions without the moments of their last packets.
 #[derive(Drop)]
@@ -18,22 +17,27 @@ pub struct Model {
     pub states: Vec<Lasting>,
 }
 
+fn forget_moments(sessions: &mut [Session]) {
+    for session in sessions {
+        session.last = 0;
+    }
+}
+
+// Here and below none where memory is refused.
+fn lasting_of(alloc: Global, text: &[u8], mut sessions: Vec<Session>) -> Option<Lasting> {
+    forget_moments(&mut sessions);
+    let text = Vec::from_slice(alloc, text).ok()?;
+    Some(Lasting { text, sessions })
+}
+
 impl Lasting {
-    fn of(alloc: Global, text: &[u8], mut sessions: Vec<Session>) -> Result<Lasting, Fail> {
-        for session in sessions.iter_mut() {
-            session.last = 0;
-        }
-        let text = Vec::from_slice(alloc, text)?;
-        Ok(Lasting { text, sessions })
-    }
-
     /// Those of a gateway.
-    pub fn of_gateway(alloc: Global, gateway: &Trials) -> Result<Lasting, Fail> {
-        Lasting::of(alloc, gateway.rules(), gateway.sessions()?)
+    pub fn of_gateway(alloc: Global, gateway: &Trials) -> Option<Lasting> {
+        lasting_of(alloc, gateway.rules(), gateway.sessions().ok()?)
     }
 
-    fn of_core(alloc: Global, core: &Core) -> Result<Lasting, Fail> {
-        Lasting::of(alloc, core.rules(), core.sessions()?)
+    fn of_core(alloc: Global, core: &Core) -> Option<Lasting> {
+        lasting_of(alloc, core.rules(), core.sessions().ok()?)
     }
 
     /// Whether both are the same.
@@ -58,27 +62,27 @@ pub fn is_same(answer: &Answer, wanted: &Answer) -> bool {
 }
 
 /// What the machine answers to an event.
-pub fn step(core: &mut Core, event: Event) -> Result<Answer, Fail> {
+pub fn step(core: &mut Core, event: Event) -> Option<Answer> {
     match core.step(event) {
-        Ok(answer) => Ok(answer),
-        Err((_, fault)) => Err(fault.into()),
+        Ok(answer) => Some(answer),
+        Err(_) => None,
     }
 }
 
 impl Model {
     /// Of a machine that has taken no event.
-    pub fn begin(alloc: Global, core: &Core) -> Result<Model, Fail> {
+    pub fn begin(alloc: Global, core: &Core) -> Option<Model> {
         let state = Lasting::of_core(alloc, core)?;
-        Ok(Model {
+        Some(Model {
             answers: Vec::new(alloc),
-            states: vec![in alloc; state]?,
+            states: vec![in alloc; state].ok()?,
         })
     }
 
     /// Takes one event more.
-    pub fn go_on(&mut self, alloc: Global, core: &mut Core, event: Event) -> Result<(), Fail> {
-        self.answers.push(step(core, event)?)?;
-        self.states.push(Lasting::of_core(alloc, core)?)?;
-        Ok(())
+    pub fn go_on(&mut self, alloc: Global, core: &mut Core, event: Event) -> Option<()> {
+        self.answers.push(step(core, event)?).ok()?;
+        self.states.push(Lasting::of_core(alloc, core)?).ok()?;
+        Some(())
     }
 }

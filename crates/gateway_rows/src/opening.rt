@@ -1,8 +1,8 @@
 //! What an opening finds, makes and refuses.
-use crate::script::{play, two_flushed};
+use crate::script::{play_over, played, two_flushed};
 use crate::shared::{
-    FRESH, NOTHING, OpenFault, Trouble, assert_file, bounds, crashed, disk_of, expect_trouble,
-    open, opened,
+    CHOICES, FRESH, NOTHING, OpenFault, Trouble, assert_file, bounds, close, crashed, disk,
+    disk_of, expect_trouble, open,
 };
 use crate::words::hex;
 use disk_model::{Disk, FileId};
@@ -12,11 +12,10 @@ use std::test::*;
 use trial_disk::Trial;
 
 // Looks at the bytes of both files, and whether each call was within its file.
-fn look(rt: &impl Abort, alloc: Global, disk: &mut Trial, a: &[u8], b: &[u8]) -> Result<(), Fail> {
-    assert_file(rt, alloc, disk, FileId::A, a)?;
-    assert_file(rt, alloc, disk, FileId::B, b)?;
+fn look(rt: &impl Abort, alloc: Global, disk: &mut Trial, a: &[u8], b: &[u8]) {
+    assert_file(rt, alloc, disk, FileId::A, a);
+    assert_file(rt, alloc, disk, FileId::B, b);
     assert!(rt; !disk.has_strayed());
-    Ok(())
 }
 
 const NOTHING_YET: &str = "\
@@ -33,9 +32,10 @@ at 1001
 // Opens it over these files: there is no state, and file A is made.
 fn begins(rt: &impl Abort, alloc: Global, a: &[u8], b: &[u8]) -> Result<(), Fail> {
     let made = hex(alloc, FRESH)?;
-    let mut gateway = opened(alloc, Trial::of(alloc, a, b)?, 1000)?;
-    play(alloc, &mut gateway, NOTHING_YET)?;
-    look(rt, alloc, &mut disk_of(gateway), made.as_slice(), b)
+    let mut disk = played(alloc, disk(alloc, a, b)?, 1000, &[NOTHING_YET])?;
+    look(rt, alloc, &mut disk, made.as_slice(), b);
+    drop(disk);
+    Ok(())
 }
 
 fn begins_over(rt: &impl Abort, alloc: Global, a: &str, b: &str) -> Result<(), Fail> {
@@ -44,29 +44,29 @@ fn begins_over(rt: &impl Abort, alloc: Global, a: &str, b: &str) -> Result<(), F
     begins(rt, alloc, a.as_slice(), b.as_slice())
 }
 
+const NO_OPEN_FILE: [(&str, &str); 5] = [
+    ("", ""),
+    ("00", ""),
+    ("", "02 4e475731"),
+    (
+        "02 4e475731 0000000000000009 036c616e 0377616e 01 c0a8000010 cb007101 00000000 00000000",
+        "00",
+    ),
+    ("ff", "ff"),
+];
+
 // A gate that is neither 00 nor 01 is closed too.
 #[test]
 fn no_open_file(rt: HostRuntime) -> Result<(), Fail> {
-    let alloc = rt.alloc();
-    let rows: [(&str, &str); 5] = [
-        ("", ""),
-        ("00", ""),
-        ("", "02 4e475731"),
-        (
-            "02 4e475731 0000000000000009 036c616e 0377616e 01 c0a8000010 cb007101 00000000 00000000",
-            "00",
-        ),
-        ("ff", "ff"),
-    ];
-    for (a, b) in rows {
-        begins_over(&rt, alloc, a, b)?;
+    for (a, b) in &NO_OPEN_FILE {
+        begins_over(&rt, rt.alloc(), a, b)?;
     }
     Ok(())
 }
 
 // An active file of generation 1 whose text and session stand in a group, and one of generation 2 with other rules.
 fn grown_file(alloc: Global) -> Result<Vec<u8>, Fail> {
-    let mut disk = disk_of(two_flushed(alloc)?);
+    let mut disk = two_flushed(alloc)?;
     let file = disk.bytes(alloc, FileId::A);
     drop(disk);
     Ok(file?)
@@ -100,9 +100,10 @@ grown
 
 // Opens it over these files, which stay as they are.
 fn finds(rt: &impl Abort, alloc: Global, a: &[u8], b: &[u8], state: &str) -> Result<(), Fail> {
-    let mut gateway = opened(alloc, Trial::of(alloc, a, b)?, 1250)?;
-    play(alloc, &mut gateway, state)?;
-    look(rt, alloc, &mut disk_of(gateway), a, b)
+    let mut disk = played(alloc, disk(alloc, a, b)?, 1250, &[state])?;
+    look(rt, alloc, &mut disk, a, b);
+    drop(disk);
+    Ok(())
 }
 
 #[test]
@@ -116,6 +117,18 @@ fn greatest_generation(rt: HostRuntime) -> Result<(), Fail> {
     finds(&rt, alloc, newer.as_slice(), older.as_slice(), NEWER_STATE)
 }
 
+// Opens it over these files: the disk, and why it was refused.
+fn refused(alloc: Global, wan: &str, a: &[u8], b: &[u8]) -> Result<(Trial, OpenFault), Fail> {
+    let bounds = bounds(alloc, wan)?;
+    match open(alloc, disk(alloc, a, b)?, bounds, 1000) {
+        Ok(gateway) => {
+            close(gateway);
+            Err(Fail::new("it was opened"))
+        }
+        Err(refused) => Ok(refused),
+    }
+}
+
 // Opens it over these files, which is refused; they stay as they are.
 fn refuses(
     rt: &impl Abort,
@@ -124,16 +137,10 @@ fn refuses(
     a: &[u8],
     b: &[u8],
 ) -> Result<OpenFault, Fail> {
-    let bounds = bounds(alloc, wan)?;
-    match open(alloc, Trial::of(alloc, a, b)?, bounds, 1000) {
-        Ok(_) => Err(Fail::new("it was opened")),
-        Err((mut disk, fault)) => {
-            let looked = look(rt, alloc, &mut disk, a, b);
-            drop(disk);
-            looked?;
-            Ok(fault)
-        }
-    }
+    let (mut disk, fault) = refused(alloc, wan, a, b)?;
+    look(rt, alloc, &mut disk, a, b);
+    drop(disk);
+    Ok(fault)
 }
 
 fn assert_differs(rt: &impl Abort, alloc: Global, file: &[u8]) -> Result<(), Fail> {
@@ -145,8 +152,10 @@ fn assert_differs(rt: &impl Abort, alloc: Global, file: &[u8]) -> Result<(), Fai
 #[test]
 fn config_differs(rt: HostRuntime) -> Result<(), Fail> {
     let alloc = rt.alloc();
-    assert_differs(&rt, alloc, grown_file(alloc)?.as_slice())?;
-    assert_differs(&rt, alloc, hex(alloc, FRESH)?.as_slice())
+    let grown = grown_file(alloc)?;
+    let fresh = hex(alloc, FRESH)?;
+    assert_differs(&rt, alloc, grown.as_slice())?;
+    assert_differs(&rt, alloc, fresh.as_slice())
 }
 
 // Another mark; no snapshot; more sessions than there are; a text that doesn't load; a group that is cut; one without the
@@ -162,12 +171,23 @@ const DAMAGED: [&str; 8] = [
     "01 4e475731 0000000000000001 036c616e 0377616e 01 c0a8000010 cb007101 00000000 00000000 01 00000001 09 00",
 ];
 
+fn assert_is_damaged(
+    rt: &impl Abort,
+    alloc: Global,
+    wan: &str,
+    file: &[u8],
+    row: usize,
+) -> Result<(), Fail> {
+    let fault = refuses(rt, alloc, wan, file, b"")?;
+    assert_eq!(rt; fault, OpenFault::Damaged, "row {row}");
+    Ok(())
+}
+
 // It is judged by its own configuration alone.
 fn assert_damaged(rt: &impl Abort, alloc: Global, row: usize, file: &str) -> Result<(), Fail> {
     let file = hex(alloc, file)?;
-    for wan in ["wan", "wan1"] {
-        let fault = refuses(rt, alloc, wan, file.as_slice(), b"")?;
-        assert_eq!(rt; fault, OpenFault::Damaged, "row {row}");
+    for wan in &["wan", "wan1"] {
+        assert_is_damaged(rt, alloc, *wan, file.as_slice(), row)?;
     }
     Ok(())
 }
@@ -197,49 +217,54 @@ fn told(at: Trouble) -> (&'static str, u64) {
     }
 }
 
-// Opens it with trouble at a call: whether it is refused, and the disk.
+// Opens it with trouble at a call: the disk, and why it is refused, if it is.
 fn with_trouble(
-    rt: &impl Abort,
     alloc: Global,
     file: &[u8],
     at: Trouble,
-) -> Result<(bool, Trial), Fail> {
+) -> Result<(Trial, Option<OpenFault>), Fail> {
     let bounds = bounds(alloc, "wan")?;
-    let mut disk = Trial::of(alloc, file, b"")?;
+    let mut disk = disk(alloc, file, b"")?;
     expect_trouble(&mut disk, at, 0);
-    match open(alloc, disk, bounds, 1000) {
-        Ok(gateway) => Ok((false, disk_of(gateway))),
-        Err((disk, fault)) => {
-            let (word, call) = told(at);
-            assert_eq!(rt; fault, OpenFault::Device, "{word} {call}");
-            assert!(rt; disk.failures() > 0, "{word} {call}");
-            Ok((true, disk))
-        }
-    }
+    Ok(match open(alloc, disk, bounds, 1000) {
+        Ok(gateway) => (disk_of(gateway), None),
+        Err((disk, fault)) => (disk, Some(fault)),
+    })
 }
 
-// Fails a call of an opening once, and then opens it; None where there is no such call.
+// It is refused for this trouble alone, and whether it is.
+fn assert_refused(rt: &impl Abort, at: Trouble, disk: &Trial, fault: Option<OpenFault>) -> bool {
+    let Some(fault) = fault else {
+        return false;
+    };
+    let (word, call) = told(at);
+    let is_device = fault == OpenFault::Device && disk.failures() > 0;
+    assert!(rt; is_device, "{word} {call}: {fault}");
+    true
+}
+
+// Fails a call of an opening once, and then opens it; whether there is such a call.
 fn fault(
     rt: &impl Abort,
     alloc: Global,
     file: &[u8],
     state: &str,
     call: u64,
-) -> Result<Option<()>, Fail> {
-    let (is_refused, disk) = with_trouble(rt, alloc, file, Trouble::Fault(call))?;
-    if !is_refused {
+) -> Result<bool, Fail> {
+    let at = Trouble::Fault(call);
+    let (disk, fault) = with_trouble(alloc, file, at)?;
+    if !assert_refused(rt, at, &disk, fault) {
         drop(disk);
-        return Ok(None);
+        return Ok(false);
     }
-    let mut gateway = opened(alloc, disk, 1250)?;
-    play(alloc, &mut gateway, state)?;
-    Ok(Some(()))
+    play_over(alloc, disk, 1250, &[state])?;
+    Ok(true)
 }
 
 // Fails each call of an opening once, and how many calls there are.
 fn each_fault(rt: &impl Abort, alloc: Global, file: &[u8], state: &str) -> Result<u64, Fail> {
     for call in 0..100 {
-        if fault(rt, alloc, file, state, call)?.is_none() {
+        if !fault(rt, alloc, file, state, call)? {
             return Ok(call);
         }
     }
@@ -265,9 +290,23 @@ fn stop(
     calls: u64,
     choice: u64,
 ) -> Result<(), Fail> {
-    let (_, disk) = with_trouble(rt, alloc, file, Trouble::Stop(calls))?;
-    let mut gateway = opened(alloc, crashed(disk, choice)?, 1250)?;
-    play(alloc, &mut gateway, state)
+    let at = Trouble::Stop(calls);
+    let (disk, fault) = with_trouble(alloc, file, at)?;
+    let _is_refused = assert_refused(rt, at, &disk, fault);
+    play_over(alloc, crashed(disk, choice)?, 1250, &[state])
+}
+
+fn stop_by_choices(
+    rt: &impl Abort,
+    alloc: Global,
+    file: &[u8],
+    state: &str,
+    calls: u64,
+) -> Result<(), Fail> {
+    for choice in &CHOICES {
+        stop(rt, alloc, file, state, calls, *choice)?;
+    }
+    Ok(())
 }
 
 // Behind each call of an opening, and each choice of what is left.
@@ -278,10 +317,8 @@ fn stop_each(
     state: &str,
     calls: u64,
 ) -> Result<(), Fail> {
-    for choice in [0, 1, 2, 3, 5, 10] {
-        for calls in 0..=calls {
-            stop(rt, alloc, file, state, calls, choice)?;
-        }
+    for calls in 0..=calls {
+        stop_by_choices(rt, alloc, file, state, calls)?;
     }
     Ok(())
 }

@@ -8,11 +8,15 @@
 //! - `flush`: a line for each answer with its number, or the fault; `compact`: `done`, or the fault;
 //! - `held`, `grown`: the number; `rules`: the text; `sessions`: a line for each.
 use crate::shared::{
-    Answer, Bytes, Event, GatewayFault, Given, TWO_FLUSHED, TWO_HELD, Trials, What, fresh,
+    Answer, Bytes, Event, GatewayFault, Given, TWO_FLUSHED, TWO_HELD, Trials, What, disk, left_of,
+    opened,
 };
-use crate::words::{event, event_line, events, given_line, handed_line, session_line, squeezed};
-use std::alloc::Global;
+use crate::words::{
+    event_line, events, given_line, handed_line, put_squeezed, read_event, session_line, squeezed,
+};
+use std::alloc::{AllocError, Global};
 use std::test::Fail;
+use trial_disk::Trial;
 
 /// The name of a fault.
 pub fn name(fault: GatewayFault) -> &'static str {
@@ -53,66 +57,6 @@ pub fn run(
     gateway.run(events)
 }
 
-fn one(alloc: Global, line: String) -> Result<Vec<String>, Fail> {
-    let mut said = Vec::new(alloc);
-    said.push(line)?;
-    Ok(said)
-}
-
-fn word(alloc: Global, word: &str) -> Result<Vec<String>, Fail> {
-    one(alloc, String::from_str(alloc, word)?)
-}
-
-fn number(alloc: Global, number: u64) -> Result<Vec<String>, Fail> {
-    one(alloc, format!(in alloc; "{number}")?)
-}
-
-/// Takes the events of these lines in turn, which are all answered, and expects those lines of their answers.
-pub fn run_through(
-    alloc: Global,
-    gateway: &mut Trials,
-    asked: &str,
-    lines: &str,
-) -> Result<(), Fail> {
-    match run(gateway, events(alloc, asked)?) {
-        Ok(answers) => expect(alloc, handed(alloc, answers.as_slice())?.as_slice(), lines),
-        Err((_, fault)) => Err(fault.into()),
-    }
-}
-
-/// The lines of answers with their numbers.
-pub fn handed(alloc: Global, answers: &[(u64, Answer)]) -> Result<Vec<String>, Fail> {
-    let mut said = Vec::new(alloc);
-    for (number, answer) in answers {
-        said.push(handed_line(alloc, *number, answer)?)?;
-    }
-    Ok(said)
-}
-
-fn is_same(alloc: Global, said: &str, line: &str) -> Result<bool, Fail> {
-    Ok(squeezed(alloc, said)? == squeezed(alloc, line)?)
-}
-
-fn came_back(
-    alloc: Global,
-    event: &Event,
-    line: &str,
-    fault: GatewayFault,
-) -> Result<Vec<String>, Fail> {
-    if !is_same(alloc, event_line(alloc, event)?.as_str(), line)? {
-        return Err(Fail::new("another event came back"));
-    }
-    word(alloc, name(fault))
-}
-
-fn ask_event(alloc: Global, gateway: &mut Trials, line: &str) -> Result<Vec<String>, Fail> {
-    let event = event(alloc, line)?;
-    match offer(gateway, event) {
-        Ok(given) => one(alloc, given_line(alloc, &given)?),
-        Err((event, fault)) => came_back(alloc, &event, line, fault),
-    }
-}
-
 /// Hands a packet in where it lies. It leaves there, or comes back as an event; so does any other event.
 pub fn forward(gateway: &mut Trials, event: Event) -> Result<(u64, Answer), Event> {
     let Event { moment, what } = event;
@@ -129,127 +73,197 @@ pub fn forward(gateway: &mut Trials, event: Event) -> Result<(u64, Answer), Even
     }
 }
 
-fn stays(alloc: Global, event: &Event, line: &str) -> Result<Vec<String>, Fail> {
-    if !is_same(alloc, event_line(alloc, event)?.as_str(), line)? {
-        return Err(Fail::new("forward: another packet is left"));
-    }
-    word(alloc, "none")
+// Puts a line without its spaces.
+fn put_line(out: &mut String, line: &str) -> Result<(), AllocError> {
+    put_squeezed(out, line)?;
+    out.push_str("\n")
 }
 
-fn ask_forward(alloc: Global, gateway: &mut Trials, line: &str) -> Result<Vec<String>, Fail> {
-    let event = event(alloc, line)?;
+fn put_made(out: &mut String, line: Result<String, AllocError>) -> Result<(), AllocError> {
+    let line = line?;
+    put_line(out, line.as_str())
+}
+
+fn put_number(alloc: Global, out: &mut String, number: u64) -> Result<(), AllocError> {
+    put_made(out, format!(in alloc; "{number}"))
+}
+
+fn put_answers(
+    alloc: Global,
+    out: &mut String,
+    answers: &[(u64, Answer)],
+) -> Result<(), AllocError> {
+    for (number, answer) in answers {
+        put_made(out, handed_line(alloc, *number, answer))?;
+    }
+    Ok(())
+}
+
+// Whether an event is that of a line.
+fn is_of_line(alloc: Global, event: &Event, line: &str) -> Result<bool, AllocError> {
+    let spelled = event_line(alloc, event)?;
+    Ok(squeezed(alloc, spelled.as_str())? == squeezed(alloc, line)?)
+}
+
+// Puts a word, if the event came back as it was.
+fn put_back(
+    alloc: Global,
+    out: &mut String,
+    event: &Event,
+    line: &str,
+    word: &str,
+) -> Result<(), AllocError> {
+    if is_of_line(alloc, event, line)? {
+        return put_line(out, word);
+    }
+    put_line(out, "another event came back")
+}
+
+fn ask_event(
+    alloc: Global,
+    out: &mut String,
+    gateway: &mut Trials,
+    line: &str,
+) -> Result<(), AllocError> {
+    let Some(event) = read_event(alloc, line) else {
+        return put_line(out, "no event");
+    };
+    match offer(gateway, event) {
+        Ok(given) => put_made(out, given_line(alloc, &given)),
+        Err((event, fault)) => put_back(alloc, out, &event, line, name(fault)),
+    }
+}
+
+fn ask_forward(
+    alloc: Global,
+    out: &mut String,
+    gateway: &mut Trials,
+    line: &str,
+) -> Result<(), AllocError> {
+    let Some(event) = read_event(alloc, line) else {
+        return put_line(out, "no event");
+    };
     if !matches!(&event.what, What::Packet(..)) {
-        return Err(Fail::new("forward: no packet"));
+        return put_line(out, "no packet");
     }
     match forward(gateway, event) {
-        Ok((number, answer)) => one(alloc, handed_line(alloc, number, &answer)?),
-        Err(event) => stays(alloc, &event, line),
+        Ok((number, answer)) => put_made(out, handed_line(alloc, number, &answer)),
+        Err(event) => put_back(alloc, out, &event, line, "none"),
     }
 }
 
-fn ask_flush(alloc: Global, gateway: &mut Trials) -> Result<Vec<String>, Fail> {
+fn ask_flush(alloc: Global, out: &mut String, gateway: &mut Trials) -> Result<(), AllocError> {
     match flush(gateway) {
-        Ok(answers) => handed(alloc, answers.as_slice()),
-        Err(fault) => word(alloc, name(fault)),
+        Ok(answers) => put_answers(alloc, out, answers.as_slice()),
+        Err(fault) => put_line(out, name(fault)),
     }
 }
 
-fn ask_compact(alloc: Global, gateway: &mut Trials) -> Result<Vec<String>, Fail> {
+fn ask_compact(out: &mut String, gateway: &mut Trials) -> Result<(), AllocError> {
     match compact(gateway) {
-        Some(Ok(())) => word(alloc, "done"),
-        Some(Err(fault)) => word(alloc, name(fault)),
-        None => Err(Fail::new("compact: answers are held")),
+        Some(Ok(())) => put_line(out, "done"),
+        Some(Err(fault)) => put_line(out, name(fault)),
+        None => put_line(out, "answers are held"),
     }
 }
 
-fn ask_rules(alloc: Global, gateway: &Trials) -> Result<Vec<String>, Fail> {
-    word(alloc, std::str::from_utf8(gateway.rules())?)
+fn ask_rules(out: &mut String, gateway: &Trials) -> Result<(), AllocError> {
+    put_line(out, std::str::from_utf8(gateway.rules()).unwrap_or("?"))
 }
 
-fn ask_sessions(alloc: Global, gateway: &Trials) -> Result<Vec<String>, Fail> {
-    let mut said = Vec::new(alloc);
-    for session in gateway.sessions()?.as_slice() {
-        said.push(session_line(alloc, session)?)?;
+fn ask_sessions(alloc: Global, out: &mut String, gateway: &Trials) -> Result<(), AllocError> {
+    let Ok(sessions) = gateway.sessions() else {
+        return Err(AllocError);
+    };
+    for session in sessions.as_slice() {
+        put_made(out, session_line(alloc, session))?;
     }
-    Ok(said)
+    Ok(())
 }
 
-fn ask(alloc: Global, gateway: &mut Trials, line: &str) -> Result<Vec<String>, Fail> {
+// Puts all that is answered to a line.
+fn ask(
+    alloc: Global,
+    out: &mut String,
+    gateway: &mut Trials,
+    line: &str,
+) -> Result<(), AllocError> {
     match line {
-        "flush" => ask_flush(alloc, gateway),
-        "compact" => ask_compact(alloc, gateway),
-        "held" => number(alloc, gateway.held() as u64),
-        "grown" => number(alloc, gateway.grown()),
-        "rules" => ask_rules(alloc, gateway),
-        "sessions" => ask_sessions(alloc, gateway),
+        "flush" => ask_flush(alloc, out, gateway),
+        "compact" => ask_compact(out, gateway),
+        "held" => put_number(alloc, out, gateway.held() as u64),
+        "grown" => put_number(alloc, out, gateway.grown()),
+        "rules" => ask_rules(out, gateway),
+        "sessions" => ask_sessions(alloc, out, gateway),
         _ => match line.strip_prefix("forward ") {
-            Some(line) => ask_forward(alloc, gateway, line),
-            None => ask_event(alloc, gateway, line),
+            Some(line) => ask_forward(alloc, out, gateway, line),
+            None => ask_event(alloc, out, gateway, line),
         },
     }
 }
 
-/// What was answered to a line, and how much of it was expected.
+/// A line, what was answered to it, and what is to be: lines without spaces.
 #[derive(Drop)]
-struct Said<'a> {
+struct Talk<'a> {
+    alloc: Global,
     asked: &'a str,
-    lines: Vec<String>,
-    expected: usize,
+    said: String,
+    expected: String,
 }
 
-impl<'a> Said<'a> {
-    fn ask(&mut self, alloc: Global, gateway: &mut Trials, line: &'a str) -> Result<(), Fail> {
-        self.end()?;
-        self.lines = ask(alloc, gateway, line)?;
-        self.asked = line;
-        self.expected = 0;
-        Ok(())
-    }
-
-    fn expect(&mut self, alloc: Global, line: &str) -> Result<(), Fail> {
-        let asked = self.asked;
-        let Some(said) = self.lines.as_slice().get(self.expected) else {
-            return Err(Fail::new(format_args!("{asked}: {line}: nothing")));
-        };
-        if !is_same(alloc, said.as_str(), line)? {
-            return Err(Fail::new(format_args!("{asked}: {line}: {said}")));
-        }
-        self.expected = self.expected.saturating_add(1);
-        Ok(())
-    }
-
-    fn end(&self) -> Result<(), Fail> {
-        let asked = self.asked;
-        match self.lines.as_slice().get(self.expected) {
-            Some(said) => Err(Fail::new(format_args!("{asked}: {said}"))),
-            None => Ok(()),
-        }
-    }
-}
-
-fn nothing<'a>(alloc: Global) -> Said<'a> {
-    Said {
+fn nothing<'a>(alloc: Global) -> Talk<'a> {
+    Talk {
+        alloc,
         asked: "",
-        lines: Vec::new(alloc),
-        expected: 0,
+        said: String::new(alloc),
+        expected: String::new(alloc),
     }
+}
+
+// All was answered that was to be, and no more.
+fn end(talk: &Talk<'_>) -> Result<(), Fail> {
+    if talk.said == talk.expected {
+        return Ok(());
+    }
+    let (asked, said, expected) = (talk.asked, &talk.said, &talk.expected);
+    Err(Fail::new(format_args!("{asked}: {said}: {expected}")))
+}
+
+// Asks a line, or expects it.
+fn say<'a>(talk: &mut Talk<'a>, gateway: &mut Trials, line: &'a str) -> Result<(), AllocError> {
+    if let Some(expected) = line.strip_prefix('=') {
+        return put_line(&mut talk.expected, expected);
+    }
+    talk.asked = line;
+    talk.said.clear();
+    talk.expected.clear();
+    ask(talk.alloc, &mut talk.said, gateway, line)
+}
+
+fn play_line<'a>(talk: &mut Talk<'a>, gateway: &mut Trials, line: &'a str) -> Result<(), Fail> {
+    if !line.starts_with('=') {
+        end(talk)?;
+    }
+    Ok(say(talk, gateway, line)?)
+}
+
+fn play_lines<'a>(talk: &mut Talk<'a>, gateway: &mut Trials, lines: &'a str) -> Result<(), Fail> {
+    for line in lines.lines() {
+        play_line(talk, gateway, line)?;
+    }
+    end(talk)
 }
 
 /// Plays the lines.
 ///
 /// # Errors
 ///
-/// A `Fail` with the line that was asked, what was expected and what came; or where a line can't be read.
+/// A `Fail` with the line that was asked, what came and what was expected; or where memory is refused.
 pub fn play(alloc: Global, gateway: &mut Trials, lines: &str) -> Result<(), Fail> {
-    let mut said = nothing(alloc);
-    for line in lines.lines() {
-        if let Some(expected) = line.strip_prefix('=') {
-            said.expect(alloc, expected)?;
-        } else {
-            said.ask(alloc, gateway, line)?;
-        }
-    }
-    said.end()
+    let mut talk = nothing(alloc);
+    let played = play_lines(&mut talk, gateway, lines);
+    drop(talk);
+    played
 }
 
 /// Plays the lines of each of these.
@@ -260,31 +274,68 @@ pub fn play_all(alloc: Global, gateway: &mut Trials, scripts: &[&str]) -> Result
     Ok(())
 }
 
-/// A gateway over files that were empty, over which these were played.
-pub fn fresh_behind(alloc: Global, scripts: &[&str]) -> Result<Trials, Fail> {
-    let mut gateway = fresh(alloc)?;
-    play_all(alloc, &mut gateway, scripts)?;
-    Ok(gateway)
+/// Opens a gateway over a disk, plays these, and gives back the disk.
+pub fn played(alloc: Global, disk: Trial, moment: u64, scripts: &[&str]) -> Result<Trial, Fail> {
+    let mut gateway = opened(alloc, disk, moment)?;
+    let ended = play_all(alloc, &mut gateway, scripts);
+    left_of(gateway, ended)
 }
 
-/// A gateway with a text and a session, of which both events are answered.
-pub fn two_flushed(alloc: Global) -> Result<Trials, Fail> {
+/// The same over a disk that is let go.
+pub fn play_over(alloc: Global, disk: Trial, moment: u64, scripts: &[&str]) -> Result<(), Fail> {
+    drop(played(alloc, disk, moment, scripts)?);
+    Ok(())
+}
+
+/// A disk whose files were empty, over which these were played.
+pub fn fresh_behind(alloc: Global, scripts: &[&str]) -> Result<Trial, Fail> {
+    played(alloc, disk(alloc, b"", b"")?, 1000, scripts)
+}
+
+/// Plays these over files that were empty.
+pub fn play_fresh(alloc: Global, scripts: &[&str]) -> Result<(), Fail> {
+    drop(fresh_behind(alloc, scripts)?);
+    Ok(())
+}
+
+/// A disk with a text and a session, of which both events are answered.
+pub fn two_flushed(alloc: Global) -> Result<Trial, Fail> {
     fresh_behind(alloc, &[TWO_HELD, TWO_FLUSHED])
 }
 
-/// Expects these lines.
-pub fn expect(alloc: Global, said: &[String], lines: &str) -> Result<(), Fail> {
-    let mut left = said.iter();
+/// Takes the events of these lines in turn, which are all answered, and expects those lines of their answers.
+pub fn run_through(
+    alloc: Global,
+    gateway: &mut Trials,
+    asked: &str,
+    lines: &str,
+) -> Result<(), Fail> {
+    match run(gateway, events(alloc, asked)?) {
+        Ok(answers) => expect(alloc, answers.as_slice(), lines),
+        Err((_, fault)) => Err(fault.into()),
+    }
+}
+
+fn handed(alloc: Global, answers: &[(u64, Answer)]) -> Result<String, AllocError> {
+    let mut out = String::new(alloc);
+    put_answers(alloc, &mut out, answers)?;
+    Ok(out)
+}
+
+fn all_of(alloc: Global, lines: &str) -> Result<String, AllocError> {
+    let mut out = String::new(alloc);
     for line in lines.lines() {
-        let Some(said) = left.next() else {
-            return Err(Fail::new(format_args!("{line}: nothing")));
-        };
-        if !is_same(alloc, said.as_str(), line)? {
-            return Err(Fail::new(format_args!("{line}: {said}")));
-        }
+        put_line(&mut out, line)?;
     }
-    match left.next() {
-        Some(said) => Err(Fail::new(format_args!("too much: {said}"))),
-        None => Ok(()),
+    Ok(out)
+}
+
+/// Expects these lines of answers with their numbers.
+pub fn expect(alloc: Global, answers: &[(u64, Answer)], lines: &str) -> Result<(), Fail> {
+    let said = handed(alloc, answers)?;
+    let expected = all_of(alloc, lines)?;
+    if said == expected {
+        return Ok(());
     }
+    Err(Fail::new(format_args!("{expected}: {said}")))
 }

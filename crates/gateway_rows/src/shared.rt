@@ -6,12 +6,13 @@ pub use gateway::{
 use machine::Core;
 use packet::bounds::Bounds;
 use packet::endpoint::Prefix;
-use std::alloc::Global;
+use std::alloc::{AllocFailed, Global};
 use std::process::Abort;
 use std::test::Fail;
 use trial_disk::Trial;
 
-/// A gateway over a disk for trials. It lies behind a box, so that a function which lets it go does so by one call.
+/// A gateway over a disk for trials. It lies behind a box, and is let go by `close`, `disk_of` or `left_of` alone: all of
+/// it but its disk goes in its own crate then, and nothing is to be proved of that here.
 pub type Trials = Box<Gateway<Trial>>;
 
 /// Every packet to wan leaves from the external address.
@@ -57,16 +58,21 @@ pub const FRESH: &str = "\
 pub const FRESH_FRONT: &str = "\
 01 4e475731 0000000000000001 036c616e 0377616e 01 c0a8000010 cb007101 00000000 00000000";
 
-/// Inside 192.168.0.0/16, outside 203.0.113.1, with this name of the outer interface.
-pub fn bounds(alloc: Global, wan: &str) -> Result<Bounds, Fail> {
-    let lan = String::from_str(alloc, "lan")?;
-    let wan = String::from_str(alloc, wan)?;
+/// Inside 192.168.0.0/16, outside 203.0.113.1, with this name of the outer interface; none where memory is refused.
+pub fn some_bounds(alloc: Global, wan: &str) -> Option<Bounds> {
     let prefix = Prefix {
         addr: 0xc0a8_0000,
         len: 16,
     };
-    let inside = vec![in alloc; prefix]?;
-    Ok(Bounds::new(lan, wan, inside, 0xcb00_7101)?)
+    let inside = Vec::from_slice(alloc, &[prefix]).ok()?;
+    let lan = String::from_str(alloc, "lan").ok()?;
+    let wan = String::from_str(alloc, wan).ok()?;
+    Bounds::new(lan, wan, inside, 0xcb00_7101).ok()
+}
+
+/// The same, where memory isn't refused.
+pub fn bounds(alloc: Global, wan: &str) -> Result<Bounds, Fail> {
+    Ok(some_bounds(alloc, wan).ok_or("no bounds")?)
 }
 
 /// A machine without a disk. It lies behind a box as a gateway does.
@@ -75,17 +81,14 @@ pub fn machine(alloc: Global, moment: u64) -> Result<Box<Core>, Fail> {
     Ok(Box::new(alloc, core)?)
 }
 
+fn is_file(alloc: Global, disk: &mut Trial, id: FileId, bytes: &[u8]) -> Option<bool> {
+    let file = disk.bytes(alloc, id).ok()?;
+    Some(file.as_slice() == bytes)
+}
+
 /// A file of the disk has these bytes.
-pub fn assert_file(
-    rt: &impl Abort,
-    alloc: Global,
-    disk: &mut Trial,
-    id: FileId,
-    bytes: &[u8],
-) -> Result<(), Fail> {
-    let file = disk.bytes(alloc, id)?;
-    assert_eq!(rt; file.as_slice(), bytes);
-    Ok(())
+pub fn assert_file(rt: &impl Abort, alloc: Global, disk: &mut Trial, id: FileId, bytes: &[u8]) {
+    assert!(rt; is_file(alloc, disk, id, bytes) == Some(true));
 }
 
 /// Opens a gateway over the disk, which may be refused.
@@ -95,16 +98,48 @@ pub fn open(
     bounds: Bounds,
     moment: u64,
 ) -> Result<Trials, (Trial, OpenFault)> {
-    let gateway = Gateway::open(alloc, disk, bounds, moment)?;
+    match Gateway::open(alloc, disk, bounds, moment) {
+        Ok(gateway) => boxed(alloc, gateway),
+        Err(refused) => Err(refused),
+    }
+}
+
+fn boxed(alloc: Global, gateway: Gateway<Trial>) -> Result<Trials, (Trial, OpenFault)> {
     match Box::new(alloc, gateway) {
         Ok(gateway) => Ok(gateway),
-        Err(refused) => Err((refused.value.into_disk(), OpenFault::NoMemory)),
+        Err(AllocFailed { value }) => Err((value.into_disk(), OpenFault::NoMemory)),
     }
 }
 
 /// The disk of a gateway that works no longer.
 pub fn disk_of(gateway: Trials) -> Trial {
     Box::into_inner(gateway).into_disk()
+}
+
+/// Lets a gateway go.
+pub fn close(gateway: Trials) {
+    drop(disk_of(gateway));
+}
+
+/// The disk, where all went well.
+pub fn kept(disk: Trial, ended: Result<(), Fail>) -> Result<Trial, Fail> {
+    match ended {
+        Ok(()) => Ok(disk),
+        Err(fail) => {
+            drop(disk);
+            Err(fail)
+        }
+    }
+}
+
+/// The disk of a gateway over which all went well.
+pub fn left_of(gateway: Trials, ended: Result<(), Fail>) -> Result<Trial, Fail> {
+    kept(disk_of(gateway), ended)
+}
+
+/// A disk of these files.
+pub fn disk(alloc: Global, a: &[u8], b: &[u8]) -> Result<Trial, Fail> {
+    Ok(Trial::of(alloc, a, b)?)
 }
 
 fn opened_within(alloc: Global, disk: Trial, bounds: Bounds, moment: u64) -> Result<Trials, Fail> {
@@ -130,13 +165,12 @@ pub fn opened(alloc: Global, disk: Trial, moment: u64) -> Result<Trials, Fail> {
 
 /// A gateway over two empty files, opened at 1000.
 pub fn fresh(alloc: Global) -> Result<Trials, Fail> {
-    opened(alloc, Trial::of(alloc, b"", b"")?, 1000)
+    opened(alloc, disk(alloc, b"", b"")?, 1000)
 }
 
-/// Opens it again over its files.
-pub fn reopened(alloc: Global, gateway: Trials, moment: u64) -> Result<Trials, Fail> {
-    opened(alloc, disk_of(gateway), moment)
-}
+/// What a crash leaves of what wasn't synced: nothing, everything, 01 at each byte, ff at each byte, and two choices of
+/// writes.
+pub const CHOICES: [u64; 6] = [0, 1, 2, 3, 5, 10];
 
 /// A call of the disk, counted from 0, at which something happens.
 #[derive(Clone, Copy)]
@@ -156,21 +190,19 @@ pub fn expect_trouble(disk: &mut Trial, at: Trouble, later: u64) {
 }
 
 /// How many calls of the disk there were in all.
-pub fn calls_of(gateway: Trials) -> u64 {
-    let disk = disk_of(gateway);
+pub fn calls_of(disk: Trial) -> u64 {
     let calls = disk.calls();
     drop(disk);
     calls
 }
 
-/// Opens it again, with trouble at a call of the disk once it is open.
-pub fn troubled(alloc: Global, gateway: Trials, at: Trouble) -> Result<Trials, Fail> {
-    let disk = disk_of(gateway);
+/// The disk, with trouble at a call once a gateway is open over it.
+pub fn troubled(alloc: Global, disk: Trial, at: Trouble) -> Result<Trial, Fail> {
     let before = disk.calls();
     let mut disk = disk_of(opened(alloc, disk, 1000)?);
     let opening = disk.calls().saturating_sub(before);
     expect_trouble(&mut disk, at, opening);
-    opened(alloc, disk, 1000)
+    Ok(disk)
 }
 
 /// The disk when power was lost, of which this choice is left.
@@ -182,14 +214,4 @@ pub fn crashed(mut disk: Trial, choice: u64) -> Result<Trial, Fail> {
             Err(refused.into())
         }
     }
-}
-
-/// Loses power, of which this choice is left, and opens the gateway again.
-pub fn lost_power(
-    alloc: Global,
-    gateway: Trials,
-    choice: u64,
-    moment: u64,
-) -> Result<Trials, Fail> {
-    opened(alloc, crashed(disk_of(gateway), choice)?, moment)
 }

@@ -1,12 +1,13 @@
 //! What is there again after a loss of power at each call of a flush, after a call that fails, and after a long time.
-use crate::script::{expect, handed, name, play, play_all, run, two_flushed};
+use crate::script::{expect, fresh_behind, name, play_all, play_over, played, run, two_flushed};
 use crate::shared::{
-    NOTHING, THIRD_HELD, THREE_FLUSHED, TWO_FLUSHED, TWO_HELD, Trials, Trouble, fresh, lost_power,
-    reopened, troubled,
+    NOTHING, THIRD_HELD, THREE_FLUSHED, TWO_FLUSHED, TWO_HELD, Trials, Trouble, crashed, left_of,
+    opened, troubled,
 };
 use crate::words::events;
 use std::alloc::Global;
 use std::test::Fail;
+use trial_disk::Trial;
 
 const FAILED_FLUSH: &str = "\
 flush
@@ -23,30 +24,39 @@ sessions
 held
 = 0";
 
-// Behind each of these calls the power is lost: the group is written, and synced; its gate is written, and synced.
-fn stopped_flush(alloc: Global, call: u64, flushed: &str) -> Result<Trials, Fail> {
-    let mut gateway = troubled(alloc, fresh(alloc)?, Trouble::Stop(call))?;
-    play_all(alloc, &mut gateway, &[TWO_HELD, THIRD_HELD, flushed])?;
-    Ok(gateway)
+// A disk whose files were just made, with this trouble once they are open.
+fn troubled_anew(alloc: Global, at: Trouble) -> Result<Trial, Fail> {
+    troubled(alloc, fresh_behind(alloc, &[])?, at)
 }
 
+// Behind each of these calls the power is lost: the group is written, and synced; its gate is written, and synced.
 fn stop(alloc: Global, call: u64, choice: u64, flushed: &str, left: &str) -> Result<(), Fail> {
-    let gateway = stopped_flush(alloc, call, flushed)?;
-    let mut gateway = lost_power(alloc, gateway, choice, 2000)?;
-    play(alloc, &mut gateway, left)
+    let disk = troubled_anew(alloc, Trouble::Stop(call))?;
+    let disk = played(alloc, disk, 1000, &[TWO_HELD, THIRD_HELD, flushed])?;
+    play_over(alloc, crashed(disk, choice)?, 2000, &[left])
+}
+
+// What is left where the third call fails, the write of the gate, by the choice of what a crash leaves of it.
+const GATE_IS_WRITTEN: [(u64, &str); 4] = [
+    (0, NOTHING),
+    (1, ALL_THREE),
+    (2, ALL_THREE),
+    (3, NOTHING),
+];
+
+// Up to the write of the gate nothing is there, and behind its sync everything.
+fn stop_around_gate(alloc: Global, choice: u64) -> Result<(), Fail> {
+    for call in 0..3 {
+        stop(alloc, call, choice, FAILED_FLUSH, NOTHING)?;
+    }
+    stop(alloc, 4, choice, THREE_FLUSHED, ALL_THREE)
 }
 
 #[test]
 fn stop_rows(rt: HostRuntime) -> Result<(), Fail> {
-    let alloc = rt.alloc();
-    for choice in 0..4 {
-        for call in 0..3 {
-            stop(alloc, call, choice, FAILED_FLUSH, NOTHING)?;
-        }
-        stop(alloc, 4, choice, THREE_FLUSHED, ALL_THREE)?;
-    }
-    for (choice, left) in [(0, NOTHING), (1, ALL_THREE), (2, ALL_THREE), (3, NOTHING)] {
-        stop(alloc, 3, choice, FAILED_FLUSH, left)?;
+    for (choice, left) in &GATE_IS_WRITTEN {
+        stop_around_gate(rt.alloc(), *choice)?;
+        stop(rt.alloc(), 3, *choice, FAILED_FLUSH, left)?;
     }
     Ok(())
 }
@@ -97,7 +107,7 @@ fn run_is_refused(alloc: Global, gateway: &mut Trials) -> Result<(), Fail> {
     match run(gateway, events(alloc, "at 1001")?) {
         Ok(_) => Err(Fail::new("it ran")),
         Err((answers, fault)) => {
-            expect(alloc, handed(alloc, answers.as_slice())?.as_slice(), "")?;
+            expect(alloc, answers.as_slice(), "")?;
             expect_name(name(fault), "reopen")
         }
     }
@@ -110,30 +120,34 @@ fn expect_name(came: &str, wanted: &str) -> Result<(), Fail> {
     Err(Fail::new(format_args!("{wanted}: {came}")))
 }
 
-// Two events are answered, and a call of the flush of the third fails; the first flush made four calls.
-fn fallen(alloc: Global, call: u64) -> Result<Trials, Fail> {
-    let mut gateway = troubled(alloc, fresh(alloc)?, Trouble::Fault(call.saturating_add(4)))?;
-    play_all(
-        alloc,
-        &mut gateway,
-        &[TWO_HELD, TWO_FLUSHED, ONE_HELD, FALLEN],
-    )?;
-    run_is_refused(alloc, &mut gateway)?;
-    Ok(gateway)
+fn fall(alloc: Global, gateway: &mut Trials) -> Result<(), Fail> {
+    play_all(alloc, gateway, &[TWO_HELD, TWO_FLUSHED, ONE_HELD, FALLEN])?;
+    run_is_refused(alloc, gateway)
 }
+
+// Two events are answered, and a call of the flush of the third fails; the first flush made four calls.
+fn fallen(alloc: Global, call: u64) -> Result<Trial, Fail> {
+    let disk = troubled_anew(alloc, Trouble::Fault(call.saturating_add(4)))?;
+    let mut gateway = opened(alloc, disk, 1000)?;
+    let ended = fall(alloc, &mut gateway);
+    left_of(gateway, ended)
+}
+
+fn fail_once(alloc: Global, call: u64, left: &str) -> Result<(), Fail> {
+    play_over(alloc, fallen(alloc, call)?, 2000, &[left])
+}
+
+const FAILING: [(u64, &str); 4] = [
+    (0, ANSWERED),
+    (1, ANSWERED),
+    (2, ANSWERED),
+    (3, ANSWERED_AND_HELD),
+];
 
 #[test]
 fn call_that_fails_once(rt: HostRuntime) -> Result<(), Fail> {
-    let alloc = rt.alloc();
-    for (call, left) in [
-        (0, ANSWERED),
-        (1, ANSWERED),
-        (2, ANSWERED),
-        (3, ANSWERED_AND_HELD),
-    ] {
-        let gateway = fallen(alloc, call)?;
-        let mut gateway = reopened(alloc, gateway, 2000)?;
-        play(alloc, &mut gateway, left)?;
+    for (call, left) in &FAILING {
+        fail_once(rt.alloc(), *call, left)?;
     }
     Ok(())
 }
@@ -164,17 +178,21 @@ flush
 = 1 drop 13";
 
 fn restart(alloc: Global, choice: u64, lines: &str) -> Result<(), Fail> {
-    let mut gateway = lost_power(alloc, two_flushed(alloc)?, choice, 1250)?;
-    play(alloc, &mut gateway, lines)
+    let disk = crashed(two_flushed(alloc)?, choice)?;
+    play_over(alloc, disk, 1250, &[lines])
+}
+
+fn restart_each(alloc: Global, choice: u64) -> Result<(), Fail> {
+    for lines in &[ALIVE, REPLY_IN_TIME, REPLY_TOO_LATE] {
+        restart(alloc, choice, lines)?;
+    }
+    Ok(())
 }
 
 #[test]
 fn restarted(rt: HostRuntime) -> Result<(), Fail> {
-    let alloc = rt.alloc();
     for choice in 0..4 {
-        for lines in [ALIVE, REPLY_IN_TIME, REPLY_TOO_LATE] {
-            restart(alloc, choice, lines)?;
-        }
+        restart_each(rt.alloc(), choice)?;
     }
     Ok(())
 }
@@ -187,15 +205,13 @@ fn last_at(alloc: Global, moment: u64) -> Result<String, Fail> {
 // Its last packet is taken to have passed when the gateway was opened, however long ago it did.
 fn resumes(alloc: Global, moment: u64) -> Result<(), Fail> {
     let lines = last_at(alloc, moment)?;
-    let mut gateway = reopened(alloc, two_flushed(alloc)?, moment)?;
-    play(alloc, &mut gateway, lines.as_str())
+    play_over(alloc, two_flushed(alloc)?, moment, &[lines.as_str()])
 }
 
 #[test]
 fn old_sessions(rt: HostRuntime) -> Result<(), Fail> {
-    let alloc = rt.alloc();
-    for moment in [0, 1299, 1300, 1_000_000_000, u64::MAX] {
-        resumes(alloc, moment)?;
+    for moment in &[0, 1299, 1300, 1_000_000_000, u64::MAX] {
+        resumes(rt.alloc(), *moment)?;
     }
     Ok(())
 }

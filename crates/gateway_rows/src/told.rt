@@ -1,9 +1,11 @@
 //! How far a gateway comes whose disk stops or fails, and whether it answers what the machine in memory does.
 use crate::model::{Lasting, Model, is_same};
-use crate::script::{compact, flush};
+use crate::script::{compact, flush, offer};
 use crate::shared::{
-    Answer, GatewayFault, OpenFault, Trials, Trouble, bounds, expect_trouble, open, opened,
+    Answer, Event, GatewayFault, Given, OpenFault, Trials, Trouble, disk, expect_trouble, open,
+    opened, some_bounds,
 };
+use packet::bounds::Bounds;
 use std::alloc::Global;
 use std::test::Fail;
 use trial_disk::Trial;
@@ -25,17 +27,36 @@ pub fn not_begun(has_fallen: bool) -> Told {
     }
 }
 
-/// Opens a gateway over empty files, with trouble at a call of the disk; where the opening meets it, the disk comes back.
-pub fn begun(alloc: Global, at: Trouble) -> Result<Result<Trials, Trial>, Fail> {
-    let bounds = bounds(alloc, "wan")?;
-    let mut disk = Trial::of(alloc, b"", b"")?;
-    expect_trouble(&mut disk, at, 0);
+fn begun_within(
+    alloc: Global,
+    disk: Trial,
+    bounds: Bounds,
+) -> Result<Result<Trials, Trial>, OpenFault> {
     match open(alloc, disk, bounds, 1000) {
         Ok(gateway) => Ok(Ok(gateway)),
         Err((disk, OpenFault::Device)) => Ok(Err(disk)),
         Err((disk, fault)) => {
             drop(disk);
-            Err(fault.into())
+            Err(fault)
+        }
+    }
+}
+
+/// Opens a gateway over empty files, with trouble at a call of the disk; where the opening meets it, the disk comes back.
+pub fn begun(alloc: Global, at: Trouble) -> Result<Result<Trials, Trial>, Fail> {
+    let bounds = some_bounds(alloc, "wan").ok_or("no bounds")?;
+    let mut disk = disk(alloc, b"", b"")?;
+    expect_trouble(&mut disk, at, 0);
+    Ok(begun_within(alloc, disk, bounds)?)
+}
+
+/// The disk, and how far the events came over it.
+pub fn with_disk(disk: Trial, told: Result<Told, Fail>) -> Result<(Trial, Told), Fail> {
+    match told {
+        Ok(told) => Ok((disk, told)),
+        Err(fail) => {
+            drop(disk);
+            Err(fail)
         }
     }
 }
@@ -49,14 +70,21 @@ pub fn opened_again(alloc: Global, disk: Trial, moment: u64) -> Result<Trials, F
     opened(alloc, disk, moment)
 }
 
-/// The answers come in order, and are the machine's.
-pub fn hear(wanted: &[Answer], told: &mut Told, number: u64, answer: &Answer) -> Result<(), Fail> {
+fn is_next(wanted: &[Answer], told: &mut Told, number: u64, answer: &Answer) -> bool {
     let place = told.answered;
     told.answered = place.saturating_add(1);
     match wanted.get(place) {
-        Some(wanted) if told.answered as u64 == number && is_same(answer, wanted) => Ok(()),
-        _ => Err(Fail::new(format_args!("another answer: {number}"))),
+        Some(wanted) => told.answered as u64 == number && is_same(answer, wanted),
+        None => false,
     }
+}
+
+/// The answers come in order, and are the machine's.
+pub fn hear(wanted: &[Answer], told: &mut Told, number: u64, answer: &Answer) -> Result<(), Fail> {
+    if is_next(wanted, told, number, answer) {
+        return Ok(());
+    }
+    Err(Fail::new(format_args!("another answer: {number}")))
 }
 
 /// Hears each of the answers.
@@ -73,6 +101,20 @@ fn fall(told: &mut Told, fault: GatewayFault) -> Result<(), Fail> {
     }
     told.has_fallen = true;
     Ok(())
+}
+
+/// Offers an event, and hears what is answered at once.
+pub fn do_offer(
+    model: &Model,
+    gateway: &mut Trials,
+    told: &mut Told,
+    event: Event,
+) -> Result<(), Fail> {
+    match offer(gateway, event) {
+        Ok(Given::Now(number, answer)) => hear(model.answers.as_slice(), told, number, &answer),
+        Ok(Given::Held(_)) => Ok(()),
+        Err((_, fault)) => Err(fault.into()),
+    }
 }
 
 /// Flushes, and hears what is handed out.
@@ -95,12 +137,17 @@ pub fn do_compact(gateway: &mut Trials, told: &mut Told) -> Result<(), Fail> {
     }
 }
 
+fn is_behind(model: &Model, count: usize, left: &Lasting) -> bool {
+    match model.states.as_slice().get(count) {
+        Some(state) => state.is(left),
+        None => false,
+    }
+}
+
 /// How many events lead to what is left, of those that were offered: at least those that were answered.
 pub fn taken(model: &Model, told: Told, left: &Lasting) -> Result<usize, Fail> {
     for count in told.answered..=told.offered {
-        if let Some(state) = model.states.as_slice().get(count)
-            && state.is(left)
-        {
+        if is_behind(model, count, left) {
             return Ok(count);
         }
     }

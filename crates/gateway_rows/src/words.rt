@@ -8,99 +8,126 @@
 use crate::shared::{Answer, Bytes, Event, Given, Iface, Session, What};
 use packet::endpoint::{Endpoint, Proto};
 use sessions::Opener;
-use std::alloc::Global;
+use std::alloc::{AllocError, Global};
 use std::net::Ipv4Addr;
 use std::test::Fail;
 
-fn digit(byte: u8) -> Result<u8, Fail> {
+fn digit(byte: u8) -> Option<u8> {
     match byte {
-        b'0'..=b'9' => Ok(byte - b'0'),
-        b'a'..=b'f' => Ok(byte - b'a' + 10),
-        _ => Err(Fail::new("not a hexadecimal digit")),
+        b'0'..=b'9' => Some(byte - b'0'),
+        b'a'..=b'f' => Some(byte - b'a' + 10),
+        _ => None,
     }
 }
 
-fn put_pair(out: &mut Vec<u8>, pair: &[u8]) -> Result<(), Fail> {
+fn byte_of(pair: &[u8]) -> Option<u8> {
     match pair {
-        [high, low] => Ok(out.push(digit(*high)? << 4 | digit(*low)?)?),
-        _ => Err(Fail::new("an odd digit")),
+        [high, low] => Some(digit(*high)? << 4 | digit(*low)?),
+        _ => None,
     }
+}
+
+// None where something else stands there, or memory is refused.
+fn put_word(out: &mut Vec<u8>, word: &[u8]) -> Option<()> {
+    for pair in word.chunks(2) {
+        out.push(byte_of(pair)?).ok()?;
+    }
+    Some(())
+}
+
+fn put_words(out: &mut Vec<u8>, text: &str) -> Option<()> {
+    for word in text.split_whitespace() {
+        put_word(out, word.as_bytes())?;
+    }
+    Some(())
 }
 
 /// Puts the bytes that a text has in hexadecimal behind those that are there.
 pub fn put_hex(out: &mut Vec<u8>, text: &str) -> Result<(), Fail> {
-    for word in text.split_whitespace() {
-        for pair in word.as_bytes().chunks(2) {
-            put_pair(out, pair)?;
-        }
-    }
-    Ok(())
+    Ok(put_words(out, text).ok_or("not in hexadecimal")?)
 }
 
 /// The bytes that a text has in hexadecimal.
 pub fn hex(alloc: Global, text: &str) -> Result<Vec<u8>, Fail> {
+    Ok(bytes_of(alloc, text).ok_or("not in hexadecimal")?)
+}
+
+fn bytes_of(alloc: Global, text: &str) -> Option<Vec<u8>> {
     let mut out = Vec::new(alloc);
-    put_hex(&mut out, text)?;
-    Ok(out)
+    put_words(&mut out, text)?;
+    Some(out)
 }
 
-fn shown(alloc: Global, bytes: &[u8]) -> Result<String, Fail> {
-    let mut text = String::new(alloc);
-    for byte in bytes {
-        text.push_str(format!(in alloc; "{byte:02x}")?.as_str())?;
-    }
-    Ok(text)
-}
-
-/// The text without its spaces.
-pub fn squeezed(alloc: Global, text: &str) -> Result<String, Fail> {
-    let mut out = String::new(alloc);
+/// Puts a text without its spaces.
+pub fn put_squeezed(out: &mut String, text: &str) -> Result<(), AllocError> {
     for word in text.split_whitespace() {
         out.push_str(word)?;
     }
+    Ok(())
+}
+
+/// The text without its spaces.
+pub fn squeezed(alloc: Global, text: &str) -> Result<String, AllocError> {
+    let mut out = String::new(alloc);
+    put_squeezed(&mut out, text)?;
     Ok(out)
 }
 
+/// Puts a text that was made.
+pub fn put(out: &mut String, text: Result<String, AllocError>) -> Result<(), AllocError> {
+    let text = text?;
+    out.push_str(text.as_str())
+}
+
 /// The first word of a line, and what stands behind it.
-pub fn first_word(line: &str) -> (&str, &str) {
+fn first_word(line: &str) -> (&str, &str) {
     line.split_once(' ').unwrap_or((line, ""))
 }
 
 /// The bytes of a load or a packet: of a text, one more than it may have.
-pub fn body(bytes: Vec<u8>) -> Result<Bytes, Fail> {
+pub fn body(bytes: Vec<u8>) -> Option<Bytes> {
     if bytes.len() > 262_145 {
-        return Err(Fail::new("too many bytes"));
+        return None;
     }
-    Ok(Bytes::of(bytes))
+    Some(Bytes::of(bytes))
 }
 
-fn packet(alloc: Global, iface: Iface, text: &str) -> Result<What, Fail> {
-    let bytes = body(hex(alloc, text)?)?;
-    Ok(What::Packet(iface, bytes))
+fn packet(alloc: Global, iface: Iface, text: &str) -> Option<What> {
+    let bytes = body(bytes_of(alloc, text)?)?;
+    Some(What::Packet(iface, bytes))
 }
 
-fn load(alloc: Global, text: &str) -> Result<What, Fail> {
-    let bytes = body(Vec::from_slice(alloc, text.as_bytes())?)?;
-    Ok(What::Load(bytes))
+/// The load of a text.
+pub fn load(alloc: Global, text: &[u8]) -> Option<What> {
+    let bytes = body(Vec::from_slice(alloc, text).ok()?)?;
+    Some(What::Load(bytes))
 }
 
-fn what(alloc: Global, word: &str, body: &str) -> Result<What, Fail> {
+fn what(alloc: Global, word: &str, body: &str) -> Option<What> {
     match word {
         "lan" => packet(alloc, Iface::Lan, body),
         "wan" => packet(alloc, Iface::Wan, body),
-        "load" => load(alloc, body),
-        "at" => Ok(What::Moment),
-        _ => Err(Fail::new(format_args!("no event: {word} {body}"))),
+        "load" => load(alloc, body.as_bytes()),
+        "at" => Some(What::Moment),
+        _ => None,
     }
+}
+
+/// The event of a line, if it has one and there is memory for it.
+pub fn read_event(alloc: Global, line: &str) -> Option<Event> {
+    let (word, rest) = first_word(line);
+    let (moment, body) = first_word(rest);
+    let moment = moment.parse::<u64>().ok()?;
+    let what = what(alloc, word, body)?;
+    Some(Event { moment, what })
 }
 
 /// The event of a line.
 pub fn event(alloc: Global, line: &str) -> Result<Event, Fail> {
-    let (word, rest) = first_word(line);
-    let (moment, body) = first_word(rest);
-    let moment = moment.parse::<u64>()?;
-    let what = what(alloc, word, body)?;
-    Ok(Event { moment, what })
+    match read_event(alloc, line) {
+        Some(event) => Ok(event),
+        None => Err(Fail::new(format_args!("no event: {line}"))),
+    }
 }
 
 /// The events of these lines.
@@ -125,56 +152,71 @@ fn name(iface: Iface) -> &'static str {
     }
 }
 
+fn shown(alloc: Global, bytes: &[u8]) -> Result<String, AllocError> {
+    let mut text = String::new(alloc);
+    for byte in bytes {
+        put(&mut text, format!(in alloc; "{byte:02x}"))?;
+    }
+    Ok(text)
+}
+
 /// The line of an event, with no spaces in its body.
-pub fn event_line(alloc: Global, event: &Event) -> Result<String, Fail> {
+pub fn event_line(alloc: Global, event: &Event) -> Result<String, AllocError> {
     let moment = event.moment;
     match &event.what {
-        What::Moment => Ok(format!(in alloc; "at {moment}")?),
+        What::Moment => format!(in alloc; "at {moment}"),
         What::Load(text) => load_line(alloc, moment, text.as_slice()),
         What::Packet(iface, bytes) => packet_line(alloc, moment, *iface, bytes.as_slice()),
     }
 }
 
-fn load_line(alloc: Global, moment: u64, text: &[u8]) -> Result<String, Fail> {
-    let text = std::str::from_utf8(text)?;
-    Ok(format!(in alloc; "load {moment} {text}")?)
+fn load_line(alloc: Global, moment: u64, text: &[u8]) -> Result<String, AllocError> {
+    let text = std::str::from_utf8(text).unwrap_or("?");
+    format!(in alloc; "load {moment} {text}")
 }
 
-fn packet_line(alloc: Global, moment: u64, iface: Iface, bytes: &[u8]) -> Result<String, Fail> {
+fn packet_line(
+    alloc: Global,
+    moment: u64,
+    iface: Iface,
+    bytes: &[u8],
+) -> Result<String, AllocError> {
     let bytes = shown(alloc, bytes)?;
-    Ok(format!(in alloc; "{} {moment} {bytes}", name(iface))?)
+    format!(in alloc; "{} {moment} {bytes}", name(iface))
 }
 
-fn forward_line(alloc: Global, iface: Iface, bytes: &[u8]) -> Result<String, Fail> {
+fn forward_line(alloc: Global, iface: Iface, bytes: &[u8]) -> Result<String, AllocError> {
     let bytes = shown(alloc, bytes)?;
-    Ok(format!(in alloc; "{} {bytes}", name(iface))?)
+    format!(in alloc; "{} {bytes}", name(iface))
 }
 
 /// The line of an answer.
-pub fn answer_line(alloc: Global, answer: &Answer) -> Result<String, Fail> {
+fn answer_line(alloc: Global, answer: &Answer) -> Result<String, AllocError> {
     match answer {
-        Answer::Loaded => Ok(String::from_str(alloc, "loaded")?),
-        Answer::Refused => Ok(String::from_str(alloc, "refused")?),
-        Answer::Ticked => Ok(String::from_str(alloc, "ticked")?),
-        Answer::Dropped(cause) => Ok(format!(in alloc; "drop {cause}")?),
+        Answer::Loaded => String::from_str(alloc, "loaded"),
+        Answer::Refused => String::from_str(alloc, "refused"),
+        Answer::Ticked => String::from_str(alloc, "ticked"),
+        Answer::Dropped(cause) => format!(in alloc; "drop {cause}"),
         Answer::Forward(iface, bytes) => forward_line(alloc, *iface, bytes.as_slice()),
     }
 }
 
 /// The line of an answer that is handed out, with its number.
-pub fn handed_line(alloc: Global, number: u64, answer: &Answer) -> Result<String, Fail> {
+pub fn handed_line(alloc: Global, number: u64, answer: &Answer) -> Result<String, AllocError> {
     let answer = answer_line(alloc, answer)?;
-    Ok(format!(in alloc; "{number} {answer}")?)
+    format!(in alloc; "{number} {answer}")
+}
+
+fn now_line(alloc: Global, number: u64, answer: &Answer) -> Result<String, AllocError> {
+    let handed = handed_line(alloc, number, answer)?;
+    format!(in alloc; "now {handed}")
 }
 
 /// What became of an event: `now 3 ticked`, `held 1`.
-pub fn given_line(alloc: Global, given: &Given) -> Result<String, Fail> {
+pub fn given_line(alloc: Global, given: &Given) -> Result<String, AllocError> {
     match given {
-        Given::Held(number) => Ok(format!(in alloc; "held {number}")?),
-        Given::Now(number, answer) => {
-            let handed = handed_line(alloc, *number, answer)?;
-            Ok(format!(in alloc; "now {handed}")?)
-        }
+        Given::Held(number) => format!(in alloc; "held {number}"),
+        Given::Now(number, answer) => now_line(alloc, *number, answer),
     }
 }
 
@@ -192,18 +234,26 @@ fn opener(opener: Opener) -> &'static str {
     }
 }
 
-fn endpoint(alloc: Global, endpoint: Endpoint) -> Result<String, Fail> {
+fn endpoint(alloc: Global, endpoint: Endpoint) -> Result<String, AllocError> {
     let addr = Ipv4Addr::from_bits(endpoint.addr);
-    Ok(format!(in alloc; "{addr}:{}", endpoint.port)?)
+    format!(in alloc; "{addr}:{}", endpoint.port)
 }
 
-/// The line of a session.
-pub fn session_line(alloc: Global, session: &Session) -> Result<String, Fail> {
-    let proto = proto(session.proto);
+fn endpoints(alloc: Global, session: &Session) -> Result<String, AllocError> {
     let inside = endpoint(alloc, session.inside)?;
     let outside = endpoint(alloc, session.outside)?;
     let remote = endpoint(alloc, session.remote)?;
-    let opener = opener(session.opener);
-    let (seen, last) = (session.seen, session.last);
-    Ok(format!(in alloc; "{proto} {inside} {outside} {remote} {opener} {seen} at {last}")?)
+    format!(in alloc; "{inside} {outside} {remote}")
+}
+
+fn last_use(alloc: Global, session: &Session) -> Result<String, AllocError> {
+    format!(in alloc; "{} at {}", session.seen, session.last)
+}
+
+/// The line of a session.
+pub fn session_line(alloc: Global, session: &Session) -> Result<String, AllocError> {
+    let endpoints = endpoints(alloc, session)?;
+    let last_use = last_use(alloc, session)?;
+    let (proto, opener) = (proto(session.proto), opener(session.opener));
+    format!(in alloc; "{proto} {endpoints} {opener} {last_use}")
 }

@@ -16,7 +16,7 @@ mod shared;
 mod streams;
 mod texts;
 
-use shared::{Answer, Iface, Stop};
+use shared::{Answer, Iface, Stop, must};
 use std::io;
 use std::process::ExitCode;
 
@@ -41,10 +41,13 @@ fn play(rt: &HostRuntime) -> Result<(), Stop> {
     texts::read_each(rt)?;
     let answers = calls::play(rt.alloc())?;
     for (number, answer) in answers.as_slice() {
-        print_answer(rt, *number, answer).map_err(|_| Stop::Wrong("printing"))?;
+        must(print_answer(rt, *number, answer).is_ok(), "printing")?;
     }
     let frames = streams::answer(rt.alloc())?;
-    print_bytes(rt, "frames", frames.as_slice()).map_err(|_| Stop::Wrong("printing"))
+    must(
+        print_bytes(rt, "frames", frames.as_slice()).is_ok(),
+        "printing",
+    )
 }
 
 fn print_bytes(rt: &HostRuntime, word: &str, bytes: &[u8]) -> io::Result<()> {

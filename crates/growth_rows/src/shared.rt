@@ -4,11 +4,15 @@ pub use gateway::{
 };
 use packet::bounds::Bounds;
 use packet::endpoint::Prefix;
-use std::alloc::Global;
+use std::alloc::{AllocFailed, Global};
 use trial_disk::Trial;
 
-/// A gateway over a disk for trials. It lies behind a box, so that a function which lets it go does so by one call.
+/// A gateway over a disk for trials. It lies behind a box, and is let go by `close` or `disk_of` alone: all of it but its
+/// disk goes in its own crate then, and nothing is to be proved of that here.
 pub type Trials = Box<Gateway<Trial>>;
+
+/// Answers with their numbers.
+pub type Answers = Vec<(u64, Answer)>;
 
 /// Every packet to wan leaves from the external address.
 pub const MASQUERADE: &[u8; 101] =
@@ -58,42 +62,105 @@ fn bounds_once(alloc: Global) -> Option<Bounds> {
 
 /// As `bounds_once`, made a second time where memory was refused.
 pub fn bounds(alloc: Global) -> Result<Bounds, Stop> {
-    bounds_once(alloc)
-        .or_else(|| bounds_once(alloc))
-        .ok_or(Stop::Wrong("bounds"))
+    match bounds_once(alloc) {
+        Some(bounds) => Ok(bounds),
+        None => bounds_once(alloc).ok_or(Stop::Wrong("bounds")),
+    }
+}
+
+fn disk_once(alloc: Global) -> Option<Trial> {
+    Trial::of(alloc, b"", b"").ok()
 }
 
 /// A disk of two empty files, made a second time where memory was refused.
 pub fn empty_disk(alloc: Global) -> Result<Trial, Stop> {
-    Trial::of(alloc, b"", b"")
-        .or_else(|_| Trial::of(alloc, b"", b""))
-        .map_err(|_| Stop::Wrong("disk"))
+    match disk_once(alloc) {
+        Some(disk) => Ok(disk),
+        None => disk_once(alloc).ok_or(Stop::Wrong("disk")),
+    }
 }
 
 fn open_once(alloc: Global, disk: Trial, bounds: Bounds) -> Result<Trials, (Trial, OpenFault)> {
-    let gateway = Gateway::open(alloc, disk, bounds, 1000)?;
+    match Gateway::open(alloc, disk, bounds, 1000) {
+        Ok(gateway) => boxed(alloc, gateway),
+        Err(refused) => Err(refused),
+    }
+}
+
+fn boxed(alloc: Global, gateway: Gateway<Trial>) -> Result<Trials, (Trial, OpenFault)> {
     match Box::new(alloc, gateway) {
         Ok(gateway) => Ok(gateway),
-        Err(refused) => Err((refused.value.into_disk(), OpenFault::NoMemory)),
+        Err(AllocFailed { value }) => Err((value.into_disk(), OpenFault::NoMemory)),
     }
+}
+
+fn refused(disk: Trial, stop: Stop) -> Result<Trials, Stop> {
+    drop(disk);
+    Err(stop)
+}
+
+fn open_again(alloc: Global, disk: Trial, bounds: Bounds) -> Result<Trials, Stop> {
+    match open_once(alloc, disk, bounds) {
+        Ok(gateway) => Ok(gateway),
+        Err((disk, _)) => refused(disk, Stop::Wrong("second opening")),
+    }
+}
+
+// Within the first bounds, and within the second ones where memory was refused.
+fn open_within(alloc: Global, disk: Trial, both: (Bounds, Bounds)) -> Result<Trials, Stop> {
+    let (first, second) = both;
+    match open_once(alloc, disk, first) {
+        Ok(gateway) => Ok(gateway),
+        Err((disk, OpenFault::NoMemory | OpenFault::Device)) => open_again(alloc, disk, second),
+        Err((disk, _)) => refused(disk, Stop::Wrong("opening")),
+    }
+}
+
+fn bounds_twice(alloc: Global) -> Result<(Bounds, Bounds), Stop> {
+    let first = bounds(alloc)?;
+    let second = bounds(alloc)?;
+    Ok((first, second))
 }
 
 /// Opens a gateway at 1000, a second time where memory was refused to it or to its disk.
 pub fn open(alloc: Global, disk: Trial) -> Result<Trials, Stop> {
-    let first = bounds(alloc)?;
-    let second = bounds(alloc)?;
-    match open_once(alloc, disk, first) {
-        Ok(gateway) => Ok(gateway),
-        Err((disk, OpenFault::NoMemory | OpenFault::Device)) => {
-            open_once(alloc, disk, second).map_err(|_| Stop::Wrong("second opening"))
-        }
-        Err(_) => Err(Stop::Wrong("opening")),
+    match bounds_twice(alloc) {
+        Ok(both) => open_within(alloc, disk, both),
+        Err(stop) => refused(disk, stop),
     }
 }
 
 /// The disk of a gateway that works no longer.
 pub fn disk_of(gateway: Trials) -> Trial {
     Box::into_inner(gateway).into_disk()
+}
+
+/// Lets a gateway go.
+pub fn close(gateway: Trials) {
+    drop(disk_of(gateway));
+}
+
+/// Offers an event. Of this call and the next three, who makes them here knows no clause.
+pub fn offer(gateway: &mut Trials, event: Event) -> Result<Given, (Event, GatewayFault)> {
+    gateway.offer(event)
+}
+
+/// Hands out what is held.
+pub fn flush(gateway: &mut Trials) -> Result<Answers, GatewayFault> {
+    gateway.flush()
+}
+
+/// Compacts, if nothing is held.
+pub fn compact(gateway: &mut Trials) -> Result<(), GatewayFault> {
+    if gateway.held() != 0 {
+        return Err(GatewayFault::HeldFull);
+    }
+    gateway.compact()
+}
+
+/// Takes the events in turn.
+pub fn run(gateway: &mut Trials, events: Vec<Event>) -> Result<Answers, (Answers, GatewayFault)> {
+    gateway.run(events)
 }
 
 /// What a caller sees of a gateway.
@@ -116,9 +183,10 @@ fn see_once(gateway: &Trials) -> Option<Seen> {
 
 /// Looks at it, a second time where memory was refused.
 pub fn see(gateway: &Trials) -> Result<Seen, Stop> {
-    see_once(gateway)
-        .or_else(|| see_once(gateway))
-        .ok_or(Stop::Wrong("sessions"))
+    match see_once(gateway) {
+        Some(seen) => Ok(seen),
+        None => see_once(gateway).ok_or(Stop::Wrong("sessions")),
+    }
 }
 
 impl Seen {
@@ -128,9 +196,13 @@ impl Seen {
         let sizes = (self.held, self.grown, self.rules) == (now.held, now.grown, now.rules);
         Ok(sizes && self.sessions.as_slice() == now.sessions.as_slice())
     }
+}
 
-    /// How long the text is, and how many sessions there are.
-    pub fn lasting(&self) -> (usize, usize) {
-        (self.rules, self.sessions.len())
-    }
+/// What files stand for: the length of the text, and how many sessions there are.
+pub type Kept = (usize, usize);
+
+/// What a gateway's files are to stand for, once nothing is held.
+pub fn lasting(gateway: &Trials) -> Result<Kept, Stop> {
+    let seen = see(gateway)?;
+    Ok((seen.rules, seen.sessions.len()))
 }

@@ -1,10 +1,12 @@
 //! A stream of requests over a gateway, read in pieces.
 use crate::shared::{
-    FIRST, GatewayFault, MASQUERADE, NEIGHBOUR, Stop, Trials, disk_of, empty_disk, must, open, see,
+    FIRST, GatewayFault, Kept, MASQUERADE, NEIGHBOUR, Stop, Trials, close, disk_of, empty_disk,
+    lasting, must, open,
 };
 use socket_edge::EdgeFault;
 use std::alloc::Global;
 use std::io::{self, Read};
+use trial_disk::Trial;
 
 /// Requests begin with these: a load of 101 bytes, a packet of 28 from lan, and a moment, each at 1000.
 const LOAD: [u8; 14] = [2, 0, 0, 0, 0, 0x65, 0, 0, 0, 0, 0, 0, 3, 0xe8];
@@ -31,27 +33,24 @@ impl Read for Pieces<'_> {
     }
 }
 
+const PARTS: [&[u8]; 7] = [
+    &LOAD, MASQUERADE, &PACKET, &FIRST, &MOMENT, &PACKET, &NEIGHBOUR,
+];
+
 fn requests_once(alloc: Global) -> Option<Vec<u8>> {
     let mut bytes = Vec::with_capacity(alloc, REQUESTED).ok()?;
-    for part in [
-        &LOAD[..],
-        MASQUERADE,
-        &PACKET,
-        &FIRST,
-        &MOMENT,
-        &PACKET,
-        &NEIGHBOUR,
-    ] {
-        bytes.extend_from_slice(part).ok()?;
+    for part in &PARTS {
+        bytes.extend_from_slice(*part).ok()?;
     }
     Some(bytes)
 }
 
 // A load, a packet, a moment and a packet.
 fn requests(alloc: Global) -> Result<Vec<u8>, Stop> {
-    requests_once(alloc)
-        .or_else(|| requests_once(alloc))
-        .ok_or(Stop::Wrong("requests"))
+    match requests_once(alloc) {
+        Some(requests) => Ok(requests),
+        None => requests_once(alloc).ok_or(Stop::Wrong("requests")),
+    }
 }
 
 fn room_once(alloc: Global) -> Option<Vec<u8>> {
@@ -60,9 +59,10 @@ fn room_once(alloc: Global) -> Option<Vec<u8>> {
 
 // Room for the answers: a writer that is refused none.
 fn room(alloc: Global) -> Result<Vec<u8>, Stop> {
-    room_once(alloc)
-        .or_else(|| room_once(alloc))
-        .ok_or(Stop::Wrong("room for frames"))
+    match room_once(alloc) {
+        Some(room) => Ok(room),
+        None => room_once(alloc).ok_or(Stop::Wrong("room for frames")),
+    }
 }
 
 // Where the request begins that is to be answered behind so many bytes of answers; none within a frame.
@@ -88,7 +88,18 @@ fn run_once(
     let mut reader = Pieces {
         left: left.ok_or(EdgeFault::Truncated)?,
     };
-    socket_edge::run(alloc, &mut reader, written, gateway).map(|_| ())
+    run_edge(alloc, &mut reader, written, gateway)?;
+    Ok(())
+}
+
+// The run of the edge, of which nothing here knows a clause.
+fn run_edge(
+    alloc: Global,
+    reader: &mut Pieces<'_>,
+    writer: &mut Vec<u8>,
+    gateway: &mut Trials,
+) -> Result<u64, EdgeFault> {
+    socket_edge::run(alloc, reader, writer, gateway)
 }
 
 // Where memory was refused, nothing is held, and the requests that have no answer are made again.
@@ -106,20 +117,32 @@ fn run(alloc: Global, written: &mut Vec<u8>, gateway: &mut Trials) -> Result<(),
     }
 }
 
-// The files open again, with no more than there was at the end.
-fn expect_left(alloc: Global, gateway: Trials) -> Result<(), Stop> {
-    let (rules, sessions) = see(&gateway)?.lasting();
-    let gateway = open(alloc, disk_of(gateway))?;
-    let found = see(&gateway)?.lasting();
+fn must_be_left(gateway: &Trials, most: Result<Kept, Stop>) -> Result<(), Stop> {
+    let (rules, sessions) = most?;
+    let found = lasting(gateway)?;
     must(found.0 <= rules && found.1 <= sessions, "files of a stream")
+}
+
+// The files open again, with no more than there was at the end.
+fn expect_left(alloc: Global, disk: Trial, most: Result<Kept, Stop>) -> Result<(), Stop> {
+    let gateway = open(alloc, disk)?;
+    let ended = must_be_left(&gateway, most);
+    close(gateway);
+    ended
+}
+
+fn answer_into(alloc: Global, written: &mut Vec<u8>) -> Result<(), Stop> {
+    let mut gateway = open(alloc, empty_disk(alloc)?)?;
+    let end = run(alloc, written, &mut gateway);
+    let most = lasting(&gateway);
+    expect_left(alloc, disk_of(gateway), most)?;
+    end
 }
 
 fn answer_once(alloc: Global) -> Result<Vec<u8>, Stop> {
     let mut written = room(alloc)?;
-    let mut gateway = open(alloc, empty_disk(alloc)?)?;
-    let end = run(alloc, &mut written, &mut gateway);
-    expect_left(alloc, gateway)?;
-    end.map(|()| written)
+    answer_into(alloc, &mut written)?;
+    Ok(written)
 }
 
 /// The frames that answer the requests. Where the disk was refused memory, all begins again, with another disk.

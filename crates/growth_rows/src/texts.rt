@@ -1,9 +1,10 @@
 //! Texts of rulesets, each of which takes another way through the reader.
-use crate::shared::{Stop, bounds};
+use crate::shared::{Stop, bounds, must};
 use packet::bounds::Bounds;
 use rulesyntax::fault::{Kind, LoadFault};
-use ruletext::reading::read;
+use ruletext::fault_of;
 use std::alloc::Global;
+use std::io;
 
 const TEXTS: [&str; 7] = [
     "table t { set s { type inet_service; elements = { 80, 90-99 }; }\nchain c { type nat hook prerouting priority 0; ip protocol tcp tcp dport vmap { 22 : accept, 23 : goto d }; }\nchain d { tcp dport @s dnat to 192.168.0.2; } }",
@@ -15,15 +16,18 @@ const TEXTS: [&str; 7] = [
     "table t { chain c { ip saddr 10.0.0.0/8 frop; } }",
 ];
 
-fn read_once(alloc: Global, text: &str, bounds: &Bounds) -> Result<(), LoadFault> {
-    read(alloc, text.as_bytes(), bounds).map(|_| ())
+// What is told of a text, a second time where memory was refused.
+fn read_twice(alloc: Global, text: &str, bounds: &Bounds) -> Option<LoadFault> {
+    match fault_of(alloc, text.as_bytes(), bounds) {
+        Some(fault) if fault.kind == Kind::NoMemory => fault_of(alloc, text.as_bytes(), bounds),
+        read => read,
+    }
 }
 
-// A second time where memory was refused.
-fn read_twice(alloc: Global, text: &str, bounds: &Bounds) -> Result<(), LoadFault> {
-    match read_once(alloc, text, bounds) {
-        Err(fault) if fault.kind == Kind::NoMemory => read_once(alloc, text, bounds),
-        read => read,
+fn print_read(rt: &HostRuntime, read: Option<LoadFault>) -> io::Result<()> {
+    match read {
+        None => println!(rt; "ok"),
+        Some(fault) => println!(rt; "line {}: {}", fault.line, fault.kind),
     }
 }
 
@@ -34,12 +38,9 @@ fn read_twice(alloc: Global, text: &str, bounds: &Bounds) -> Result<(), LoadFaul
 /// Where printing fails, or memory was refused more than once.
 pub fn read_each(rt: &HostRuntime) -> Result<(), Stop> {
     let bounds = bounds(rt.alloc())?;
-    for text in TEXTS {
-        match read_twice(rt.alloc(), text, &bounds) {
-            Ok(()) => println!(rt; "ok"),
-            Err(fault) => println!(rt; "line {}: {}", fault.line, fault.kind),
-        }
-        .map_err(|_| Stop::Wrong("printing"))?;
+    for text in &TEXTS {
+        let read = read_twice(rt.alloc(), text, &bounds);
+        must(print_read(rt, read).is_ok(), "printing")?;
     }
     Ok(())
 }

@@ -1,8 +1,8 @@
 //! Numbers that are drawn from a seed, and what each of them stands for.
 use crate::drawn::packets::{Peer, tcp, udp};
+use crate::words::load;
 use gateway::{Bytes, Event, Iface, What};
-use std::alloc::Global;
-use std::test::Fail;
+use std::alloc::{AllocFailed, Global};
 
 /// How many events there are.
 pub const EVENTS: usize = 1000;
@@ -34,7 +34,7 @@ pub enum Next {
 }
 
 /// As many numbers as there are events, by a linear generator.
-pub fn numbers(alloc: Global, seed: u64) -> Result<Vec<Number>, Fail> {
+pub fn numbers(alloc: Global, seed: u64) -> Result<Vec<Number>, AllocFailed<Number>> {
     let mut numbers = Vec::new(alloc);
     let mut state = seed;
     for _ in 0..EVENTS {
@@ -55,37 +55,38 @@ pub fn behind(number: &Number) -> Next {
     }
 }
 
-/// The event at this place that a number stands for. Moments lie eight seconds apart, and some of them back.
-pub fn event(alloc: Global, place: usize, number: &Number) -> Result<Event, Fail> {
+/// The event at this place that a number stands for; none where memory is refused. Moments lie eight seconds apart, and
+/// some of them back.
+pub fn event(alloc: Global, place: usize, number: &Number) -> Option<Event> {
     let back = u64::from(number[5] % 32);
     let moment = (place as u64).saturating_mul(8).saturating_add(1000);
     let what = what(alloc, number)?;
-    Ok(Event {
+    Some(Event {
         moment: moment.saturating_sub(back),
         what,
     })
 }
 
-fn what(alloc: Global, number: &Number) -> Result<What, Fail> {
+fn what(alloc: Global, number: &Number) -> Option<What> {
     let flags = flags(number);
     match number[0] {
-        0..8 => load(alloc, number),
-        8..24 => Ok(What::Moment),
-        24..104 => from_lan(udp(alloc, host(number), remote(number))?),
-        104..164 => from_lan(tcp(alloc, host(number), remote(number), flags)?),
-        164..192 => from_wan(udp(alloc, remote(number), inner(number))?),
-        192..236 => from_wan(tcp(alloc, remote(number), inner(number), flags)?),
-        236..248 => from_lan(udp(alloc, host(number), outer(number))?),
-        _ => from_lan(tcp(alloc, host(number), outer(number), flags)?),
+        0..8 => load(alloc, text(number).as_bytes()),
+        8..24 => Some(What::Moment),
+        24..104 => from_lan(udp(alloc, host(number), remote(number))),
+        104..164 => from_lan(tcp(alloc, host(number), remote(number), flags)),
+        164..192 => from_wan(udp(alloc, remote(number), inner(number))),
+        192..236 => from_wan(tcp(alloc, remote(number), inner(number), flags)),
+        236..248 => from_lan(udp(alloc, host(number), outer(number))),
+        _ => from_lan(tcp(alloc, host(number), outer(number), flags)),
     }
 }
 
-fn from_lan(packet: Bytes) -> Result<What, Fail> {
-    Ok(What::Packet(Iface::Lan, packet))
+fn from_lan(packet: Option<Bytes>) -> Option<What> {
+    Some(What::Packet(Iface::Lan, packet?))
 }
 
-fn from_wan(packet: Bytes) -> Result<What, Fail> {
-    Ok(What::Packet(Iface::Wan, packet))
+fn from_wan(packet: Option<Bytes>) -> Option<What> {
+    Some(What::Packet(Iface::Wan, packet?))
 }
 
 fn text(number: &Number) -> &'static str {
@@ -95,14 +96,6 @@ fn text(number: &Number) -> &'static str {
         176..216 => LOOP,
         _ => "",
     }
-}
-
-fn load(alloc: Global, number: &Number) -> Result<What, Fail> {
-    let text = Vec::from_slice(alloc, text(number).as_bytes())?;
-    if text.len() > 65_535 {
-        return Err(Fail::new("too long a text"));
-    }
-    Ok(What::Load(Bytes::of(text)))
 }
 
 fn flags(number: &Number) -> u8 {

@@ -1,7 +1,7 @@
 //! Packets of UDP and TCP, as words of 16 bits.
+use crate::words::body;
 use gateway::Bytes;
 use std::alloc::{AllocError, Global};
-use std::test::Fail;
 
 /// An address in two halves, and a port.
 #[derive(Clone, Copy)]
@@ -57,25 +57,18 @@ fn put_tcp(bytes: &mut Vec<u8>, src: Peer, dst: Peer, flags: u8) -> Result<(), A
     )
 }
 
-fn whole(bytes: Vec<u8>) -> Result<Bytes, Fail> {
-    if bytes.len() > 65_535 {
-        return Err(Fail::new("too many bytes"));
-    }
-    Ok(Bytes::of(bytes))
+/// A packet of UDP; none where memory is refused.
+pub fn udp(alloc: Global, src: Peer, dst: Peer) -> Option<Bytes> {
+    let mut bytes = Vec::new(alloc);
+    put_header(&mut bytes, 28, 0x4011, src, dst).ok()?;
+    put_udp(&mut bytes, src, dst).ok()?;
+    body(bytes)
 }
 
-/// A packet of UDP.
-pub fn udp(alloc: Global, src: Peer, dst: Peer) -> Result<Bytes, Fail> {
+/// A packet of TCP with these flags; none where memory is refused.
+pub fn tcp(alloc: Global, src: Peer, dst: Peer, flags: u8) -> Option<Bytes> {
     let mut bytes = Vec::new(alloc);
-    put_header(&mut bytes, 28, 0x4011, src, dst)?;
-    put_udp(&mut bytes, src, dst)?;
-    whole(bytes)
-}
-
-/// A packet of TCP with these flags.
-pub fn tcp(alloc: Global, src: Peer, dst: Peer, flags: u8) -> Result<Bytes, Fail> {
-    let mut bytes = Vec::new(alloc);
-    put_header(&mut bytes, 40, 0x4006, src, dst)?;
-    put_tcp(&mut bytes, src, dst, flags)?;
-    whole(bytes)
+    put_header(&mut bytes, 40, 0x4006, src, dst).ok()?;
+    put_tcp(&mut bytes, src, dst, flags).ok()?;
+    body(bytes)
 }

@@ -1,9 +1,11 @@
 //! The gateway over a disk that is stopped, or fails, at each of its calls, and opened again.
 use crate::drawn::events::{EVENTS, Next, Number, behind, event, numbers};
 use crate::model::{Lasting, Model};
-use crate::script::{forward, offer};
-use crate::shared::{Event, Given, Trials, Trouble, crashed, disk_of, machine};
-use crate::told::{Told, begun, do_compact, do_flush, hear, not_begun, opened_again, taken};
+use crate::script::forward;
+use crate::shared::{CHOICES, Event, Trials, Trouble, close, crashed, disk_of, machine};
+use crate::told::{
+    Told, begun, do_compact, do_flush, do_offer, hear, not_begun, opened_again, taken, with_disk,
+};
 use machine::Core;
 use std::alloc::Global;
 use std::test::*;
@@ -16,23 +18,40 @@ struct Script {
     model: Model,
 }
 
-fn go_through(alloc: Global, core: &mut Core, numbers: &[Number]) -> Result<Model, Fail> {
+// Here and below none where memory is refused.
+fn go_on(
+    alloc: Global,
+    model: &mut Model,
+    core: &mut Core,
+    place: usize,
+    number: &Number,
+) -> Option<()> {
+    model.go_on(alloc, core, event(alloc, place, number)?)
+}
+
+fn go_through(alloc: Global, core: &mut Core, numbers: &[Number]) -> Option<Model> {
     let mut model = Model::begin(alloc, core)?;
     for (place, number) in numbers.iter().enumerate() {
-        model.go_on(alloc, core, event(alloc, place, number)?)?;
+        go_on(alloc, &mut model, core, place, number)?;
     }
-    Ok(model)
+    Some(model)
+}
+
+fn run_of_machine(alloc: Global, numbers: &[Number]) -> Result<Model, Fail> {
+    let mut core = machine(alloc, 1000)?;
+    let model = go_through(alloc, &mut core, numbers);
+    drop(core);
+    Ok(model.ok_or("no memory")?)
 }
 
 fn script_of(alloc: Global, seed: u64) -> Result<Script, Fail> {
     let numbers = numbers(alloc, seed)?;
-    let mut core = machine(alloc, 1000)?;
-    let model = go_through(alloc, &mut core, numbers.as_slice())?;
+    let model = run_of_machine(alloc, numbers.as_slice())?;
     Ok(Script { numbers, model })
 }
 
 // A packet is handed in where it lies first.
-fn do_offer(
+fn do_event(
     model: &Model,
     gateway: &mut Trials,
     told: &mut Told,
@@ -41,11 +60,7 @@ fn do_offer(
     told.offered = told.offered.saturating_add(1);
     match forward(gateway, event) {
         Ok((number, answer)) => hear(model.answers.as_slice(), told, number, &answer),
-        Err(event) => match offer(gateway, event) {
-            Ok(Given::Now(number, answer)) => hear(model.answers.as_slice(), told, number, &answer),
-            Ok(Given::Held(_)) => Ok(()),
-            Err((_, fault)) => Err(fault.into()),
-        },
+        Err(event) => do_offer(model, gateway, told, event),
     }
 }
 
@@ -65,13 +80,24 @@ fn go_behind(
     }
 }
 
+fn do_number(
+    alloc: Global,
+    model: &Model,
+    gateway: &mut Trials,
+    told: &mut Told,
+    place: usize,
+    number: &Number,
+) -> Result<(), Fail> {
+    let event = event(alloc, place, number).ok_or("no memory")?;
+    do_event(model, gateway, told, event)?;
+    go_behind(model, gateway, told, number)
+}
+
 // Offers the events up to the first fault, and flushes behind the last.
 fn drive(alloc: Global, gateway: &mut Trials, script: &Script) -> Result<Told, Fail> {
     let mut told = not_begun(false);
     for (place, number) in script.numbers.iter().enumerate() {
-        let event = event(alloc, place, number)?;
-        do_offer(&script.model, gateway, &mut told, event)?;
-        go_behind(&script.model, gateway, &mut told, number)?;
+        do_number(alloc, &script.model, gateway, &mut told, place, number)?;
         if told.has_fallen {
             return Ok(told);
         }
@@ -88,8 +114,8 @@ fn drive_to_its_end(
     mut gateway: Trials,
     script: &Script,
 ) -> Result<(Trial, Told), Fail> {
-    let told = drive(alloc, &mut gateway, script)?;
-    Ok((disk_of(gateway), told))
+    let told = drive(alloc, &mut gateway, script);
+    with_disk(disk_of(gateway), told)
 }
 
 // Over files that were empty.
@@ -103,7 +129,9 @@ fn driven(alloc: Global, script: &Script, trouble: Trouble) -> Result<(Trial, To
 // What the files stand for, opened when all events are past.
 fn left(alloc: Global, disk: Trial) -> Result<Lasting, Fail> {
     let gateway = opened_again(alloc, disk, 10_000)?;
-    Lasting::of_gateway(alloc, &gateway)
+    let left = Lasting::of_gateway(alloc, &gateway);
+    close(gateway);
+    Ok(left.ok_or("no memory")?)
 }
 
 /// What was seen: how many troubles, and behind how many of them something was there that wasn't answered.
@@ -172,12 +200,12 @@ fn stop_by_choices(
     call: u64,
     seen: &mut Seen,
 ) -> Result<bool, Fail> {
-    for choice in [0, 1, 2, 3, 5, 10, drawn_choice(script, call)] {
-        if !stop(alloc, script, call, choice, seen)? {
+    for choice in &CHOICES {
+        if !stop(alloc, script, call, *choice, seen)? {
             return Ok(false);
         }
     }
-    Ok(true)
+    stop(alloc, script, call, drawn_choice(script, call), seen)
 }
 
 fn none_seen() -> Seen {
