@@ -14,122 +14,195 @@ pub enum Parsed<'a> {
     Stopped(Error),
 }
 
-fn required<'a>(alloc: Global, name: &'a str, value: &'a str, help: &'a str) -> Arg<'a> {
-    Arg::new(alloc, name)
-        .long(name)
-        .value_name(value)
-        .help(help)
-        .required(true)
-        .action(ArgAction::Set)
-}
-
-fn defaulted<'a>(
+/// The arguments of a command, as they are put in. Each is put in by a call of its own, and so is each command: a value of
+/// clap's has so many parts that a function which owns several is dear to prove.
+#[derive(Drop)]
+struct Arguments<'a> {
     alloc: Global,
-    name: &'a str,
-    value: &'a str,
-    default: &'a str,
-    help: &'a str,
-) -> Arg<'a> {
-    Arg::new(alloc, name)
-        .long(name)
-        .value_name(value)
-        .help(help)
-        .default_value(default)
-        .action(ArgAction::Set)
+    args: Vec<Arg<'a>>,
 }
 
-/// A command with the options of all.
-fn sided<'a>(alloc: Global, name: &'a str, about: &'a str) -> Result<Command<'a>, AllocError> {
-    Command::new(alloc, name)
-        .about(about)
-        .arg(defaulted(alloc, "lan", "NAME", "lan", "The inside interface"))?
-        .arg(defaulted(alloc, "wan", "NAME", "wan", "The outside interface"))?
-        .arg(required(
+impl<'a> Arguments<'a> {
+    fn new(alloc: Global) -> Arguments<'a> {
+        Arguments {
             alloc,
+            args: Vec::new(alloc),
+        }
+    }
+
+    fn add(&mut self, arg: Arg<'a>) -> Result<(), AllocError> {
+        self.args.push(arg)?;
+        Ok(())
+    }
+
+    /// One that takes a value.
+    fn valued(&self, id: &'a str, value: &'a str, help: &'a str) -> Arg<'a> {
+        Arg::new(self.alloc, id)
+            .value_name(value)
+            .help(help)
+            .action(ArgAction::Set)
+    }
+
+    fn required(&mut self, name: &'a str, value: &'a str, help: &'a str) -> Result<(), AllocError> {
+        self.add(self.valued(name, value, help).long(name).required(true))
+    }
+
+    fn defaulted(
+        &mut self,
+        name: &'a str,
+        value: &'a str,
+        default: &'a str,
+        help: &'a str,
+    ) -> Result<(), AllocError> {
+        self.add(
+            self.valued(name, value, help)
+                .long(name)
+                .default_value(default),
+        )
+    }
+
+    fn file(&mut self, help: &'a str) -> Result<(), AllocError> {
+        self.add(self.valued("FILE", "FILE", help).required(true))
+    }
+
+    fn explain(&mut self) -> Result<(), AllocError> {
+        let explain = Arg::new(self.alloc, "explain")
+            .long("explain")
+            .help(
+                "Shows on standard error the place of the fault, what stands there and what could",
+            )
+            .action(ArgAction::SetTrue);
+        self.add(explain)
+    }
+
+    fn moment(&mut self) -> Result<(), AllocError> {
+        let moment = self
+            .valued("at", "N", "The opening moment, in seconds")
+            .long("at")
+            .default_value("0")
+            .value_parser(value_parser!(u64));
+        self.add(moment)
+    }
+
+    fn connections(&mut self) -> Result<(), AllocError> {
+        let help = "How many connections are served before natgw ends";
+        let connections = self
+            .valued("connections", "N", help)
+            .long("connections")
+            .required(true)
+            .value_parser(value_parser!(u64));
+        self.add(connections)
+    }
+
+    /// The options of all commands.
+    fn sides(&mut self) -> Result<(), AllocError> {
+        self.defaulted("lan", "NAME", "lan", "The inside interface")?;
+        self.defaulted("wan", "NAME", "wan", "The outside interface")?;
+        self.required(
             "inside",
             "LIST",
             "The inside prefixes, as 192.168.0.0/16, joined by commas",
-        ))?
-        .arg(required(
-            alloc,
-            "external",
-            "ADDR",
-            "The external address, as 203.0.113.1",
-        ))
-}
+        )?;
+        self.required("external", "ADDR", "The external address, as 203.0.113.1")
+    }
 
-/// A command that opens a gateway.
-fn opens<'a>(alloc: Global, name: &'a str, about: &'a str) -> Result<Command<'a>, AllocError> {
-    let moment = defaulted(alloc, "at", "N", "0", "The opening moment, in seconds").value_parser(
-        value_parser!(u64),
-    );
-    let directory = required(
-        alloc,
-        "dir",
-        "DIR",
-        "The directory of natgw.a and natgw.b, which are made where they are missing",
-    );
-    sided(alloc, name, about)?.arg(directory)?.arg(moment)
-}
+    /// The options of the commands that open a gateway.
+    fn opening(&mut self) -> Result<(), AllocError> {
+        self.sides()?;
+        self.required(
+            "dir",
+            "DIR",
+            "The directory of natgw.a and natgw.b, which are made where they are missing",
+        )?;
+        self.moment()
+    }
 
-fn file<'a>(alloc: Global, help: &'a str) -> Arg<'a> {
-    Arg::new(alloc, "FILE")
-        .value_name("FILE")
-        .help(help)
-        .required(true)
-        .action(ArgAction::Set)
+    /// The command that has these arguments.
+    fn command(
+        self,
+        name: &'a str,
+        about: &'a str,
+        more: &'a str,
+    ) -> Result<Command<'a>, AllocError> {
+        Command::new(self.alloc, name)
+            .about(about)
+            .after_help(more)
+            .args(self.args)
+    }
 }
 
 fn check<'a>(alloc: Global) -> Result<Command<'a>, AllocError> {
-    let explain = Arg::new(alloc, "explain")
-        .long("explain")
-        .help("Shows on standard error the place of the fault, what stands there and what could")
-        .action(ArgAction::SetTrue);
-    let command = sided(alloc, "check", help::CHECK)?
-        .arg(explain)?
-        .arg(file(alloc, "The ruleset's text"))?;
-    Ok(command.after_help(help::KINDS))
+    let mut arguments = Arguments::new(alloc);
+    arguments.sides()?;
+    arguments.explain()?;
+    arguments.file("The ruleset's text")?;
+    arguments.command("check", help::CHECK, help::KINDS)
+}
+
+fn replay<'a>(alloc: Global) -> Result<Command<'a>, AllocError> {
+    let mut arguments = Arguments::new(alloc);
+    arguments.opening()?;
+    arguments.command("replay", help::REPLAY, help::FRAMES)
 }
 
 fn serve<'a>(alloc: Global) -> Result<Command<'a>, AllocError> {
-    let socket = required(
-        alloc,
+    let mut arguments = Arguments::new(alloc);
+    arguments.opening()?;
+    arguments.required(
         "socket",
         "P",
         "The path of the socket, where nothing is yet",
-    );
-    let connections = required(
-        alloc,
-        "connections",
-        "N",
-        "How many connections are served before natgw ends",
-    )
-    .value_parser(value_parser!(u64));
-    let command = opens(alloc, "serve", help::SERVE)?
-        .arg(socket)?
-        .arg(connections)?;
-    Ok(command.after_help(help::CLIENTS))
+    )?;
+    arguments.connections()?;
+    arguments.command("serve", help::SERVE, help::CLIENTS)
 }
 
 fn loop_back<'a>(alloc: Global) -> Result<Command<'a>, AllocError> {
-    let requests = file(alloc, "The request frames, at most 2048 bytes");
-    let command = opens(alloc, "loop", help::LOOP)?.arg(requests)?;
-    Ok(command.after_help(help::TRIED))
+    let mut arguments = Arguments::new(alloc);
+    arguments.opening()?;
+    arguments.file("The request frames, at most 2048 bytes")?;
+    arguments.command("loop", help::LOOP, help::TRIED)
 }
 
-fn command_line<'a>(alloc: Global) -> Result<Command<'a>, AllocError> {
+fn show<'a>(alloc: Global) -> Result<Command<'a>, AllocError> {
+    let mut arguments = Arguments::new(alloc);
+    arguments.opening()?;
+    arguments.command("show", help::SHOW, help::COLUMNS)
+}
+
+// Puts a command behind the others.
+fn add<'a>(
+    commands: &mut Vec<Command<'a>>,
+    command: Result<Command<'a>, AllocError>,
+) -> Result<(), AllocError> {
+    commands.push(command?)?;
+    Ok(())
+}
+
+fn commands<'a>(alloc: Global) -> Result<Vec<Command<'a>>, AllocError> {
+    let mut commands = Vec::new(alloc);
+    add(&mut commands, check(alloc))?;
+    add(&mut commands, replay(alloc))?;
+    add(&mut commands, serve(alloc))?;
+    add(&mut commands, loop_back(alloc))?;
+    add(&mut commands, show(alloc))?;
+    Ok(commands)
+}
+
+/// The program, without its commands.
+fn program<'a>(alloc: Global) -> Result<Command<'a>, AllocError> {
     Command::new(alloc, "natgw")
-        .bin_name("natgw")?
         .version(help::VERSION)
         .about(help::ABOUT)
         .after_help(help::OVERVIEW)
         .subcommand_required(true)
         .arg_required_else_help(true)
-        .subcommand(check(alloc)?)?
-        .subcommand(opens(alloc, "replay", help::REPLAY)?.after_help(help::FRAMES))?
-        .subcommand(serve(alloc)?)?
-        .subcommand(loop_back(alloc)?)?
-        .subcommand(opens(alloc, "show", help::SHOW)?.after_help(help::COLUMNS))
+        .bin_name("natgw")
+}
+
+fn command_line<'a>(alloc: Global) -> Result<Command<'a>, AllocError> {
+    let commands = commands(alloc)?;
+    program(alloc)?.subcommands(commands)
 }
 
 fn read_sides<'a>(matches: &ArgMatches<'a>) -> Sides<'a> {
@@ -188,6 +261,18 @@ fn read_options<'a>(name: &str, matches: &ArgMatches<'a>) -> Option<Options<'a>>
     })
 }
 
+fn run_of<'a>(matches: &ArgMatches<'a>) -> Option<Options<'a>> {
+    let (name, inner) = matches.subcommand()?;
+    read_options(name, inner)
+}
+
+fn stopped<'a>(error: Error) -> Result<Parsed<'a>, AllocError> {
+    if error.kind() == ErrorKind::OutOfMemory {
+        return Err(AllocError);
+    }
+    Ok(Parsed::Stopped(error))
+}
+
 /// Reads the command line; the first word is the program's name.
 ///
 /// # Errors
@@ -195,21 +280,11 @@ fn read_options<'a>(name: &str, matches: &ArgMatches<'a>) -> Option<Options<'a>>
 /// `AllocError` where memory is refused.
 pub fn parse<'a>(alloc: Global, words: &'a [String]) -> Result<Parsed<'a>, AllocError> {
     match command_line(alloc)?.try_get_matches_from(words) {
-        Ok(matches) => {
+        Ok(matches) => match run_of(&matches) {
+            Some(options) => Ok(Parsed::Run(options)),
             // A command line without a command is an error of clap's, so this doesn't come.
-            let Some((name, inner)) = matches.subcommand() else {
-                return Err(AllocError);
-            };
-            match read_options(name, inner) {
-                Some(options) => Ok(Parsed::Run(options)),
-                None => Err(AllocError),
-            }
-        }
-        Err(error) => {
-            if error.kind() == ErrorKind::OutOfMemory {
-                return Err(AllocError);
-            }
-            Ok(Parsed::Stopped(error))
-        }
+            None => Err(AllocError),
+        },
+        Err(error) => stopped(error),
     }
 }
