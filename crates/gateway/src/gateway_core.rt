@@ -1,7 +1,7 @@
 //! `Gateway`: a `Core`, which has all the state and does the steps (crate `machine`), a `Store`, which keeps in two
 //! files what must survive of it (crate `snapshot`), and the answers that are held between them (`Pending`).
 //!
-//! - `open`: `Store::open` reads the files, and `begin` has a core begin again from what they stood for.
+//! - `open`: `Store::open` reads the files, and `resume_core` has a core begin again from what they stood for.
 //! - `offer`: `Core::step_noted` does the step and has `Pending` note its entries; `give` answers at once, or holds.
 //! - `forward`: `Core::forward` translates a packet where it lies, if nothing has to be held or noted.
 //! - `flush`: `Store::commit` syncs the group of `Pending`, and `Pending::release` hands out what was held.
@@ -144,7 +144,7 @@ impl<D: Disk + Drop> Gateway<D> {
                     text,
                     sessions,
                 },
-            ) => match begin(
+            ) => match resume_core(
                 alloc,
                 bounds,
                 text,
@@ -253,9 +253,11 @@ impl<D: Disk + Drop> Gateway<D> {
     /// - `NumbersOut` exactly where the last number was 2^64 - 1.
     /// - `HeldFull` exactly where 64 answers are held.
     /// - `Full` only where the entries that wait, and those of this event, would end past the greatest length of a file:
-    ///   14 bytes for each session that ends, and 44 for a packet, or 5 and the text for a text that loads.
+    ///   14 bytes for each session that ends, and at most 44 for a packet, which may begin two, or 5 and the text for a
+    ///   text that loads.
     /// - `NoMemory` where memory is refused; never where nothing is held, and the event brings no text and changes
     ///   nothing that must survive.
+    #[inline(always)]
     pub fn offer(&mut self, event: Event) -> Result<Given, (Event, GatewayFault)>
         ensures disk { self.new.disk ≡ self.old.disk }
         ensures fallen { self.new.fallen ≡ self.old.fallen }
@@ -582,7 +584,7 @@ impl<D: Disk + Drop> Gateway<D> {
 }
 
 // A core that begins again from what survived, with nothing held; the next group will stand at the place.
-fn begin(
+fn resume_core(
     alloc: Global,
     bounds: Bounds,
     text: Vec<u8>,

@@ -1,5 +1,7 @@
 //! A packet whose session goes on, and is told by a first look: the short way, which nearly all go. By `goes_out` and
-//! `comes_in` it shows nothing of its session that wasn't seen before, by the other two perhaps something.
+//! `comes_in` it shows nothing of its session that wasn't seen before, by the other two perhaps something. Each of the
+//! four finds the session (`glanced_out`, `glanced_in`), asks what the packet shows of it (`shown`, `shown_again`), and has
+//! the forward chains decide (`on_out`, `on_in`).
 ghost use Rattle.std.specs.Prelude.{◌≡◌, ℕ, List, Option as Maybe, IfOk, IfSome, Some, None, bit_or, slice_index_or};
 ghost use Rattle.sessions.specs.Listing.{find, has_inside, has_outside, listing};
 ghost use Rattle.sessions.specs.Table.{at};
@@ -83,8 +85,8 @@ pub fn comes_in(
     Some(on_in(bounds, rules, &found, bits, view))
 }
 
-/// As `goes_out`, of a packet that may show something new of its session. `None` says nothing: the first look doesn't tell
-/// its session, or the packet begins it anew.
+/// As `goes_out`, of a packet that may show something new of its session. `None` says nothing: the first look doesn't
+/// tell its session, or the packet begins it anew.
 ///
 /// # Errors
 ///
@@ -108,8 +110,8 @@ pub fn goes_out_showing(
     Some(on_out(bounds, rules, &found, bits, view))
 }
 
-/// As `comes_in`, of a packet that may show something new of its session. `None` says nothing: the first look doesn't tell
-/// its session, or the packet begins it anew.
+/// As `comes_in`, of a packet that may show something new of its session. `None` says nothing: the first look doesn't
+/// tell its session, or the packet begins it anew.
 ///
 /// # Errors
 ///

@@ -6,7 +6,7 @@ ghost use Rattle.mappings.specs.Map.{times};
 ghost use Rattle.sessions.specs.Listing.{listing};
 ghost use Rattle.sessions.specs.Table.{most_sessions};
 ghost use Rattle.sessions.specs.declared.session.Session.{Session as Flow};
-ghost use Rattle.hairpin.specs.Legs.{begun_in, in_by, in_leg as in_way, inside_for};
+ghost use Rattle.hairpin.specs.Legs.{begun_in as begun_way, in_by, in_leg as in_way, inside_for};
 ghost use Rattle.hairpin.specs.Plans.{Plans};
 ghost use Rattle.hairpin.specs.Sound.{KeepBounds};
 ghost use Rattle.sessions.specs.Sound.{AreSound};
@@ -72,7 +72,7 @@ fn inside_of_new(
 }
 
 // How a packet comes in that begins a session to this inside endpoint.
-fn begins(
+fn begun_in(
     bounds: &Bounds,
     rules: &Rules,
     table: &Table,
@@ -84,7 +84,7 @@ fn begins(
     requires placed { (inside ≡ view.now.dst)
         ⊎ ((view.now.dst.addr ≡ bounds.now.external) × (0 < view.now.dst.port)) }
     ensures { Plans bounds.now.external table.now.held now result
-        (begun_in bounds.now rules.now (listing table.now.held) now view.now inside) }
+        (begun_way bounds.now rules.now (listing table.now.held) now view.now inside) }
 {
     let session = new_session(view, Opener::Remote, inside, view.dst, view.src, now);
     if table.clashes_with(&session) {
@@ -144,7 +144,7 @@ pub fn in_leg(
                 return Err(Cause::NoSession);
             }
             let inside = inside_of_new(bounds, rules, translations, view)?;
-            begins(bounds, rules, table, view, inside, now)
+            begun_in(bounds, rules, table, view, inside, now)
         }
     }
 }

@@ -16,7 +16,8 @@ pub fn is_wide(table: &Table) -> bool {
 }
 
 /// How many of these packets seem to be of an inside endpoint that has a mapping, of those whose session's slot isn't
-/// told: such a packet may begin a session. One that comes to an outside endpoint is counted by no mapping.
+/// told: such a packet may begin a session. Of a packet from wan that endpoint is an outside one, of which no map by inside
+/// endpoints tells: it isn't counted.
 pub fn count_mapped(
     table: &Table,
     translations: &Translations,

@@ -1,5 +1,12 @@
 //! `Core`: all the state of a gateway (the text in force and its rules, the sessions, the clock), and the step
 //! that an event does to it. It gives no numbers and holds nothing: that is for the crates above.
+//!
+//! - `step_noted`: `judge` reads the text of a load; `age_and_answer` ends what is alive no longer
+//!   (`Flows::expire_since`), and `answer_deed` puts rules in force (`note_load`, `put_in_force`) or asks `answer_packet`.
+//! - `answer_packet`: the short way first (`glance_showing`, `answer_going`), or else a plan (`answer_by_plan`:
+//!   `plan_for`, `answer_planned`).
+//! - `forward`: the shortest way, where the packet lies (`forward_in_place`: `glance`, `send_in_place`).
+//! - `resume`: begins again from what survived (`in_force_again`, `Flows::of`).
 ghost use Rattle.std.specs.Prelude.{◌≡◌, ◌↔◌, ◌<◌, ◌≤◌, ◌+◌, ◌*◌, ◌++◌, ◌∷◌, [], ℕ, List, length, IsErrOf, OnOk, Ok, Err, Result as Outcome, IsTrue, IfOk, IfErr, IfNone, IfSome, IsOk, IsOkAnd, OnErr, OnSome};
 ghost use Rattle.packet.specs.Config.{is_config};
 ghost use Rattle.packet.specs.Fields.{fields};
@@ -100,7 +107,7 @@ fn translate(bytes: Bytes, src: Endpoint, dst: Endpoint) -> Bytes
     Bytes::of(frame)
 }
 
-// What a plan comes to; `ready` says that there is room already.
+// What a plan comes to; `ready` says that there is room for two sessions and their entries already.
 fn answer_planned<N: Notes>(
     flows: &mut Flows,
     ready: bool,
@@ -181,7 +188,8 @@ fn plan_for(
 }
 
 // What a packet with these fields comes to, on its route, by the plan that is made for it; `ready` says that there is room
-// already. Not compiled into its caller, so that a packet whose session goes on clears no place for a plan.
+// for two sessions and their entries already. Not compiled into its caller, so that a packet whose session goes on clears
+// no place for a plan.
 #[inline(never)]
 fn answer_by_plan<N: Notes>(
     flows: &mut Flows,
@@ -299,7 +307,7 @@ fn send_in_place(flows: &mut Flows, going: &Going, packet: &mut [u8], now: u64)
     rewrite(packet, going.src, going.dst);
 }
 
-// What a packet comes to whose session goes on; `ready` says that there is room already.
+// What a packet comes to whose session goes on; `ready` says that there is room for its entry already.
 fn answer_going<N: Notes>(
     flows: &mut Flows,
     ready: bool,
@@ -386,7 +394,8 @@ fn answer_packet<N: Notes>(
 {
     bounds.facts();
     let rules = &in_force.rules;
-    match &View::read(bytes.as_slice()) {
+    let read = View::read(bytes.as_slice());
+    match &read {
         Err(fault) => Ok(drop_for(Cause::Packet(*fault))),
         Ok(view) => match bounds.route(iface, view) {
             Err(fault) => Ok(drop_for(Cause::Route(fault))),
@@ -433,7 +442,7 @@ fn forward_in_place(
     Some(going.iface)
 }
 
-// Notes that a text is loaded; `ready` says that there is room already.
+// Notes that a text is loaded; `ready` says that there is room for its entry, 5 bytes and the text, already.
 fn note_load<N: Notes>(ready: bool, text: &Bytes, notes: &mut N) -> Result<(), StepFault>
     requires { IsTrue ready → N.keeps notes.old → 5 + length text.now ≤ N.room notes.old }
     ensures keeps { N.keeps notes.old ↔ N.keeps notes.new }
@@ -708,8 +717,8 @@ impl Core {
     /// # Errors
     ///
     /// `NoMemory` where memory is refused: for a text that is read, sessions that end or begin, or entries. `Full`
-    /// only where the entries don't fit: 14 bytes for each session that ends, and 44 for a packet, or 5 and the text
-    /// for a load. The event comes back, and nothing has changed; nor has what is noted.
+    /// only where the entries don't fit: 14 bytes for each session that ends, and at most 44 for a packet, which
+    /// may begin two, or 5 and the text for a load. The event comes back, and nothing has changed; nor has what is noted.
     pub fn step_noted<N: Notes>(
         &mut self,
         event: Event,

@@ -21,7 +21,7 @@ ghost use Rattle.machine.specs.Flows.{IsDue, IsLatest, IsReady, MayJoin, adds as
 
 use crate::ahead::{count_ending, count_mapped};
 use crate::notes::{MOST_OF_PACKET, Notes, StepFault};
-use crate::noting::{entry_of, flow_of, make_room_to_note, makes_entry, note};
+use crate::noting::{entry_for, flow_of, make_room_to_note, makes_entry, note};
 use durable::Entry;
 use hairpin::translations::Translations;
 use hairpin::{Going, Plan};
@@ -364,7 +364,7 @@ impl Flows {
             self.apply(change, now);
             return;
         }
-        let entry = entry_of(&self.table, change);
+        let entry = entry_for(&self.table, change);
         self.apply(change, now);
         note(notes, entry);
     }
@@ -399,7 +399,7 @@ impl Flows {
         }
     }
 
-    // Makes room for what the plan says; `ready` says that there is room already.
+    // Makes room for what the plan says; `ready` says that there is room for two sessions and their entries already.
     fn make_room<N: Notes>(
         &mut self,
         ready: bool,

@@ -135,7 +135,7 @@ pub fn make_room_to_note<N: Notes>(
 }
 
 /// The entry that a change of a session makes, if it makes one; the table is that before the change.
-pub fn entry_of(table: &Table, change: &Change) -> Option<Entry<'static>>
+pub fn entry_for(table: &Table, change: &Change) -> Option<Entry<'static>>
     requires { (external now : ℕ) × (t : Flowing) × Gives external table.now.held now change.now t }
     ensures entry { (external now : ℕ) (t : Flowing)
         → Gives external table.now.held now change.now t

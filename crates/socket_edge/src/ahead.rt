@@ -8,7 +8,8 @@ use disk_model::Disk;
 use gateway::{Coming, Gateway, Iface, MOST_AHEAD};
 use packet::endpoint::{Endpoint, Proto};
 
-/// Where fewer of the packets at the front than this come from another flow than the one before, their sessions are near.
+/// Where fewer of the packets at the front than this come from another flow than the one before, their sessions are
+/// near.
 const FEW_APART: usize = 8;
 
 /// Where the sessions are near, it isn't looked ahead for so many frames behind the next one.

@@ -1,4 +1,5 @@
-//! The frames of answers.
+//! The frames of answers: put behind bytes (`put_frames`), written over those of their requests (`fill_frames`), or as
+//! far as a packet that lies there already (`forward_front`).
 ghost use Rattle.std.specs.Prelude.{◌≡◌, ◌+◌, ◌<◌, ◌≤◌, ℕ, List, [], ◌∷◌, ◌++◌, IfSome, IfNone, OnOk, OnErr, length, take};
 ghost use Rattle.byteorder.specs.Endian.{big_bytes};
 ghost use Rattle.machine.specs.declared.event.Answer.TheVariants.{Forward};

@@ -66,6 +66,7 @@ fn packet_from(iface: u8) -> Result<Kind, HeaderFault>
     }
 }
 
+// What kind and interface of a header announce.
 fn announced_by(kind: u8, iface: u8) -> Result<Kind, HeaderFault>
     ensures { result ≡ announced kind iface }
 {

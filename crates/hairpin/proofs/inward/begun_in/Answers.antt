@@ -8,7 +8,7 @@ use Rattle.verdict.specs.Hooks.{forward_verdict}
 use Rattle.hairpin.specs.Plans.{Plans}
 use Rattle.hairpin.specs.declared.cause.Cause.TheVariants.{Clash, Rule, TableFull}
 use Rattle.hairpin.proofs.Incoming.{begun, begun-clash, begun-dropped, begun-full, begun-passes, begun-plan, plan, way}
-use Rattle.hairpin.proofs.inward.begins.Goals as goal
+use Rattle.hairpin.proofs.inward.begun_in.Goals as goal
 
 pub returns-then-clashes_with : goal.returns-then-clashes_with
 returns-then-clashes_with c =

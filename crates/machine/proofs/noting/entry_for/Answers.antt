@@ -2,7 +2,7 @@ use Rattle.std.proofs.Common.{[], ◌∷◌, ap, sym, ◌∙◌}
 use Rattle.durable.specs.Coding.{Begin}
 use Rattle.sessions.proofs.Sets.{Apart-sound}
 use Rattle.machine.proofs.Telling.{begin-fits, begin-told, restart-told, seen-fits, seen-told}
-use Rattle.machine.proofs.noting.entry_of.Goals as goal
+use Rattle.machine.proofs.noting.entry_for.Goals as goal
 
 pub returns-in-Begin-clause-entry : goal.returns-in-Begin-clause-entry
 returns-in-Begin-clause-entry c = λ external now t gives.
