@@ -129,23 +129,42 @@ impl<'a> Arguments<'a> {
             .after_help(more)
             .args(self.args)
     }
+
+    /// Puts the command that has these arguments behind the others.
+    fn end(
+        self,
+        commands: &mut Vec<Command<'a>>,
+        name: &'a str,
+        about: &'a str,
+        more: &'a str,
+    ) -> Result<(), AllocError> {
+        match self.command(name, about, more) {
+            Ok(command) => push(commands, command),
+            Err(error) => Err(error),
+        }
+    }
 }
 
-fn check<'a>(alloc: Global) -> Result<Command<'a>, AllocError> {
+fn push<'a>(commands: &mut Vec<Command<'a>>, command: Command<'a>) -> Result<(), AllocError> {
+    commands.push(command)?;
+    Ok(())
+}
+
+fn add_check<'a>(alloc: Global, commands: &mut Vec<Command<'a>>) -> Result<(), AllocError> {
     let mut arguments = Arguments::new(alloc);
     arguments.sides()?;
     arguments.explain()?;
     arguments.file("The ruleset's text")?;
-    arguments.command("check", help::CHECK, help::KINDS)
+    arguments.end(commands, "check", help::CHECK, help::KINDS)
 }
 
-fn replay<'a>(alloc: Global) -> Result<Command<'a>, AllocError> {
+fn add_replay<'a>(alloc: Global, commands: &mut Vec<Command<'a>>) -> Result<(), AllocError> {
     let mut arguments = Arguments::new(alloc);
     arguments.opening()?;
-    arguments.command("replay", help::REPLAY, help::FRAMES)
+    arguments.end(commands, "replay", help::REPLAY, help::FRAMES)
 }
 
-fn serve<'a>(alloc: Global) -> Result<Command<'a>, AllocError> {
+fn add_serve<'a>(alloc: Global, commands: &mut Vec<Command<'a>>) -> Result<(), AllocError> {
     let mut arguments = Arguments::new(alloc);
     arguments.opening()?;
     arguments.required(
@@ -154,39 +173,29 @@ fn serve<'a>(alloc: Global) -> Result<Command<'a>, AllocError> {
         "The path of the socket, where nothing is yet",
     )?;
     arguments.connections()?;
-    arguments.command("serve", help::SERVE, help::CLIENTS)
+    arguments.end(commands, "serve", help::SERVE, help::CLIENTS)
 }
 
-fn loop_back<'a>(alloc: Global) -> Result<Command<'a>, AllocError> {
+fn add_loop<'a>(alloc: Global, commands: &mut Vec<Command<'a>>) -> Result<(), AllocError> {
     let mut arguments = Arguments::new(alloc);
     arguments.opening()?;
     arguments.file("The request frames, at most 2048 bytes")?;
-    arguments.command("loop", help::LOOP, help::TRIED)
+    arguments.end(commands, "loop", help::LOOP, help::TRIED)
 }
 
-fn show<'a>(alloc: Global) -> Result<Command<'a>, AllocError> {
+fn add_show<'a>(alloc: Global, commands: &mut Vec<Command<'a>>) -> Result<(), AllocError> {
     let mut arguments = Arguments::new(alloc);
     arguments.opening()?;
-    arguments.command("show", help::SHOW, help::COLUMNS)
+    arguments.end(commands, "show", help::SHOW, help::COLUMNS)
 }
 
-// Puts a command behind the others.
-fn add<'a>(
-    commands: &mut Vec<Command<'a>>,
-    command: Result<Command<'a>, AllocError>,
-) -> Result<(), AllocError> {
-    commands.push(command?)?;
-    Ok(())
-}
-
-fn commands<'a>(alloc: Global) -> Result<Vec<Command<'a>>, AllocError> {
-    let mut commands = Vec::new(alloc);
-    add(&mut commands, check(alloc))?;
-    add(&mut commands, replay(alloc))?;
-    add(&mut commands, serve(alloc))?;
-    add(&mut commands, loop_back(alloc))?;
-    add(&mut commands, show(alloc))?;
-    Ok(commands)
+// Puts all commands in, in the order in which help lists them.
+fn add_commands<'a>(alloc: Global, commands: &mut Vec<Command<'a>>) -> Result<(), AllocError> {
+    add_check(alloc, commands)?;
+    add_replay(alloc, commands)?;
+    add_serve(alloc, commands)?;
+    add_loop(alloc, commands)?;
+    add_show(alloc, commands)
 }
 
 /// The program, without its commands.
@@ -201,7 +210,8 @@ fn program<'a>(alloc: Global) -> Result<Command<'a>, AllocError> {
 }
 
 fn command_line<'a>(alloc: Global) -> Result<Command<'a>, AllocError> {
-    let commands = commands(alloc)?;
+    let mut commands = Vec::new(alloc);
+    add_commands(alloc, &mut commands)?;
     program(alloc)?.subcommands(commands)
 }
 
