@@ -256,6 +256,7 @@ impl<D: Disk + Drop> Gateway<D> {
     ///   14 bytes for each session that ends, and 44 for a packet, or 5 and the text for a text that loads.
     /// - `NoMemory` where memory is refused; never where nothing is held, and the event brings no text and changes
     ///   nothing that must survive.
+    #[inline(always)]
     pub fn offer(&mut self, event: Event) -> Result<Given, (Event, GatewayFault)>
         ensures disk { self.new.disk ≡ self.old.disk }
         ensures fallen { self.new.fallen ≡ self.old.fallen }

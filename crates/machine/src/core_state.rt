@@ -386,7 +386,8 @@ fn answer_packet<N: Notes>(
 {
     bounds.facts();
     let rules = &in_force.rules;
-    match &View::read(bytes.as_slice()) {
+    let read = View::read(bytes.as_slice());
+    match &read {
         Err(fault) => Ok(drop_for(Cause::Packet(*fault))),
         Ok(view) => match bounds.route(iface, view) {
             Err(fault) => Ok(drop_for(Cause::Route(fault))),
