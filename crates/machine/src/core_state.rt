@@ -2,65 +2,42 @@
 //! that an event does to it. It gives no numbers and holds nothing: that is for the crates above.
 //!
 //! - `step_noted`: `judge` reads the text of a load; `age_and_answer` ends what is alive no longer
-//!   (`Flows::expire_since`), and `answer_deed` puts rules in force (`note_load`, `put_in_force`) or asks `answer_packet`.
-//! - `answer_packet`: the short way first (`glance_showing`, `answer_going`), or else a plan (`answer_by_plan`:
-//!   `plan_for`, `answer_planned`).
-//! - `forward`: the shortest way, where the packet lies (`forward_in_place`: `glance`, `send_in_place`).
+//!   (`Flows::expire_since`), and `answer_deed` puts rules in force (`in_force`), or asks what a packet comes to
+//!   (`answering::answer_packet`).
+//! - `forward`: the shortest way of a packet, where it lies (`answering::forward_in_place`).
 //! - `resume`: begins again from what survived (`in_force_again`, `Flows::of`).
-ghost use Rattle.std.specs.Prelude.{◌≡◌, ◌↔◌, ◌<◌, ◌≤◌, ◌+◌, ◌*◌, ◌++◌, ◌∷◌, [], ℕ, List, length, IsErrOf, OnOk, Ok, Err, Result as Outcome, IsTrue, IfOk, IfErr, IfNone, IfSome, IsOk, IsOkAnd, OnErr, OnSome};
+ghost use Rattle.std.specs.Prelude.{◌≡◌, ◌↔◌, ◌<◌, ◌≤◌, ◌+◌, ◌*◌, ◌++◌, [], List, length, OnOk, Ok, Err, IsTrue, IfOk, IfErr, IfNone, IfSome, IsOk, OnErr};
 ghost use Rattle.packet.specs.Config.{is_config};
-ghost use Rattle.packet.specs.Fields.{fields};
-ghost use Rattle.packet.specs.Route.{route as route_for};
-ghost use Rattle.packet.specs.Translated.{translated};
 ghost use Rattle.sessions.specs.Listing.{listing};
 ghost use Rattle.hairpin.specs.Causes.{number};
-ghost use Rattle.hairpin.specs.Going.{IsQuiet, plan_of, planned};
-ghost use Rattle.hairpin.specs.Legs.{Passage};
-ghost use Rattle.hairpin.specs.Plans.{Plans};
-ghost use Rattle.hairpin.specs.Sound.{KeepBounds};
 ghost use Rattle.sessions.specs.Sound.{AreSound};
-ghost use Rattle.hairpin.specs.declared.cause.Cause.{Cause as Reason};
-ghost use Rattle.machine.specs.Core.{IsTransition, AddsNoSession, state_of};
+ghost use Rattle.machine.specs.Core.{state_of};
 ghost use Rattle.machine.specs.Judged.{Judged, IsJudged, IsNoLoad, bringer};
-ghost use Rattle.machine.specs.Machine.{AddsNone, EndsNone, act, aged, empty_at, later, leg, pass, sent, step};
+ghost use Rattle.machine.specs.Machine.{AddsNone, EndsNone, act, aged, empty_at, later, step};
 ghost use Rattle.durable.specs.Coding.{Entry as Recorded, Load};
-ghost use Rattle.durable.specs.Entering.{IsDurable, IsRuleset, durable};
-ghost use Rattle.machine.specs.Noted.{AreEntriesOf, AreOver, IsRestarted, ends, of_deed, of_fields, of_way};
+ghost use Rattle.durable.specs.Entering.{IsDurable, durable};
+ghost use Rattle.machine.specs.Noted.{AreEntriesOf, AreOver, IsRestarted, ends, of_deed};
 ghost use Rattle.machine.specs.Notes.{most_bytes};
 ghost use Rattle.sessions.specs.declared.session.Session.{Session as Flow};
 ghost use Rattle.machine.specs.Sound.{IsInForce, IsSound};
 ghost use Rattle.machine.specs.Flows.{IsLatest, IsReady};
-ghost use Rattle.machine.specs.declared.event.Answer.TheVariants.{Dropped, Forward};
+ghost use Rattle.machine.specs.declared.event.Answer.TheVariants.{Forward};
 ghost use Rattle.machine.specs.declared.event.What.TheVariants.{Packet};
 
 use crate::ahead::is_wide;
+use crate::answering::{answer_packet, forward_in_place};
 use crate::bytes::Bytes;
-use crate::deed::{Deed, judge, rules_of};
+use crate::deed::{Deed, judge};
 use crate::event::{Answer, Event, NoMemory, What};
 use crate::flows::Flows;
+use crate::in_force::{InForce, in_force_again, note_load, put_in_force};
 use crate::notes::{Notes, StepFault, Unkept};
-use durable::{Entry, LOAD_FRONT_LEN};
-use hairpin::{
-    Cause, Going, Plan, both, comes_in, comes_in_showing, goes_out, goes_out_showing, in_leg,
-    out_leg,
-};
 use packet::bounds::Bounds;
-use packet::endpoint::{Endpoint, Iface};
-use packet::rewriting::rewrite;
-use packet::route::Route;
-use packet::view::View;
+use packet::endpoint::Iface;
 use sessions::{Coming, MOST_AHEAD, Session};
-use sqlite_items::Boxed;
 use std::alloc::Global;
 use std::marker::Model;
 use verdict::Rules;
-
-/// The text that loaded last, and its rules.
-#[derive(Drop)]
-struct InForce {
-    text: Bytes,
-    rules: Rules,
-}
 
 /// A gateway without numbers and without a disk: its configuration, and the state that events change.
 #[derive(Drop)]
@@ -89,387 +66,6 @@ fn later_of(a: u64, b: u64) -> u64
     ensures { result ≡ later a b }
 {
     if a <= b { b } else { a }
-}
-
-fn drop_for(cause: Cause) -> Answer
-    ensures { result ≡ Dropped (number cause) }
-{
-    Answer::Dropped(cause.number())
-}
-
-// The packet with other endpoints.
-fn translate(bytes: Bytes, src: Endpoint, dst: Endpoint) -> Bytes
-    requires { IsOkAnd (fields bytes) (λ view. 2 ≤ view.ttl) }
-    ensures { result ≡ translated bytes src dst }
-{
-    let mut frame = bytes.into_vec();
-    rewrite(&mut frame, src, dst);
-    Bytes::of(frame)
-}
-
-// What a plan comes to; `ready` says that there is room for two sessions and their entries already.
-fn answer_planned<N: Notes>(
-    flows: &mut Flows,
-    ready: bool,
-    plan: &Result<Plan, Cause>,
-    bytes: Bytes,
-    now: u64,
-    notes: &mut N,
-) -> Result<Answer, (Bytes, StepFault)>
-    requires read { IsOkAnd (fields bytes) (λ view. 2 ≤ view.ttl) }
-    requires latest { IsLatest flows.old.table.held now }
-    requires ready { IsTrue ready → IsReady 2 flows.old }
-    requires room { IsTrue ready → N.keeps notes.old → 44 ≤ N.room notes.old }
-    requires planned { (way : Outcome Passage Reason)
-        × Plans flows.old.translations.external flows.old.table.held now plan.now way }
-    ensures ok { IfOk result (λ answer. (way : Outcome Passage Reason)
-        → Plans flows.old.translations.external flows.old.table.held now plan.now way
-        → IsTransition (λ s. sent s bytes way) flows.old.table.held flows.new.table.held
-        now answer) }
-    ensures err { IfErr result (λ e. (e.0 ≡ bytes)
-        × (flows.new.table.held ≡ flows.old.table.held)) }
-    ensures external { flows.new.translations.external ≡ flows.old.translations.external }
-    ensures ready { IsTrue ready → IsOk result }
-    ensures adds_none { (way : Outcome Passage Reason)
-        → Plans flows.old.translations.external flows.old.table.held now plan.now way
-        → AddsNoSession (λ s. sent s bytes way) flows.old.table.held now → N.grants notes.old
-        → IsOk result }
-    ensures keeps { N.keeps notes.old ↔ N.keeps notes.new }
-    ensures beside { N.beside notes.new ≡ N.beside notes.old }
-    ensures noted { OnOk result ((way : Outcome Passage Reason)
-        → Plans flows.old.translations.external flows.old.table.held now plan.now way
-        → N.keeps notes.old → N.noted notes.new ≡ N.noted notes.old
-        ++ of_way (listing flows.old.table.held) way) }
-    ensures err_noted { OnErr result (N.noted notes.new ≡ N.noted notes.old) }
-    ensures full { IfErr result (λ e. e.1 ≡ StepFault.Full → N.too_many notes.old 44) }
-    ensures quiet { (way : Outcome Passage Reason)
-        → Plans flows.old.translations.external flows.old.table.held now plan.now way
-        → of_way (listing flows.old.table.held) way ≡ [] → IsOk result }
-{
-    match plan {
-        Err(cause) => Ok(drop_for(*cause)),
-        Ok(plan) => {
-            flows.table().is_sound();
-            match flows.carry_out(ready, plan, now, notes) {
-                Ok(()) => Ok(Answer::Forward(plan.iface, translate(bytes, plan.src, plan.dst))),
-                Err(fault) => Err((bytes, fault)),
-            }
-        }
-    }
-}
-
-// The plan of a packet with these fields, on its route. Not compiled into its caller, it is made where it then stays.
-#[inline(never)]
-fn plan_for(
-    flows: &Flows,
-    rules: &Rules,
-    bounds: &Bounds,
-    route: Route,
-    view: &View,
-    now: u64,
-) -> Result<Plan, Cause>
-    requires external { flows.now.translations.external ≡ bounds.now.external }
-    requires sound { AreSound bounds.now (listing flows.now.table.held) }
-    requires bounded { KeepBounds bounds.now rules.now }
-    requires ports { (0 < view.now.src.port) × (0 < view.now.dst.port) }
-    requires routed { (iface : Iface) × (route_for bounds.now iface view.now ≡ Ok route) }
-    ensures { (text : List ℕ)
-        → Plans flows.now.translations.external flows.now.table.held now result
-        (leg bounds.now (state_of text rules.now flows.now.table.held now) view.now route) }
-{
-    flows.is_tied();
-    let table = flows.table();
-    let translations = flows.translations();
-    match route {
-        Route::Out => out_leg(bounds, rules, table, translations, view, now),
-        Route::In => in_leg(bounds, rules, table, translations, view, now),
-        Route::Hairpin => both(bounds, rules, table, translations, view, now),
-    }
-}
-
-// What a packet with these fields comes to, on its route, by the plan that is made for it; `ready` says that there is room
-// for two sessions and their entries already. Not compiled into its caller, so that a packet whose session goes on clears
-// no place for a plan.
-#[inline(never)]
-fn answer_by_plan<N: Notes>(
-    flows: &mut Flows,
-    rules: &Rules,
-    bounds: &Bounds,
-    ready: bool,
-    route: Route,
-    view: &View,
-    bytes: Bytes,
-    now: u64,
-    notes: &mut N,
-) -> Result<Answer, (Bytes, StepFault)>
-    requires external { flows.old.translations.external ≡ bounds.now.external }
-    requires sound { AreSound bounds.now (listing flows.old.table.held) }
-    requires bounded { KeepBounds bounds.now rules.now }
-    requires ports { (0 < view.now.src.port) × (0 < view.now.dst.port) }
-    requires routed { (iface : Iface) × (route_for bounds.now iface view.now ≡ Ok route) }
-    requires read { IsOkAnd (fields bytes) (λ view. 2 ≤ view.ttl) }
-    requires latest { IsLatest flows.old.table.held now }
-    requires ready { IsTrue ready → IsReady 2 flows.old }
-    requires room { IsTrue ready → N.keeps notes.old → 44 ≤ N.room notes.old }
-    ensures ok { IfOk result (λ answer. (text : List ℕ)
-        → IsTransition (λ s. sent s bytes (leg bounds.now
-        (state_of text rules.now flows.old.table.held now) view.now route))
-        flows.old.table.held flows.new.table.held now answer) }
-    ensures err { IfErr result (λ e. (e.0 ≡ bytes)
-        × (flows.new.table.held ≡ flows.old.table.held)) }
-    ensures external { flows.new.translations.external ≡ flows.old.translations.external }
-    ensures ready { IsTrue ready → IsOk result }
-    ensures adds_none { (text : List ℕ)
-        → let s = state_of text rules.now flows.old.table.held now in
-        AddsNone s (sent s bytes (leg bounds.now s view.now route)) → N.grants notes.old
-        → IsOk result }
-    ensures keeps { N.keeps notes.old ↔ N.keeps notes.new }
-    ensures beside { N.beside notes.new ≡ N.beside notes.old }
-    ensures noted { OnOk result ((text : List ℕ) → N.keeps notes.old
-        → N.noted notes.new ≡ N.noted notes.old ++ of_way (listing flows.old.table.held)
-        (leg bounds.now (state_of text rules.now flows.old.table.held now) view.now route)) }
-    ensures err_noted { OnErr result (N.noted notes.new ≡ N.noted notes.old) }
-    ensures full { IfErr result (λ e. e.1 ≡ StepFault.Full → N.too_many notes.old 44) }
-    ensures quiet { (text : List ℕ) → of_way (listing flows.old.table.held)
-        (leg bounds.now (state_of text rules.now flows.old.table.held now) view.now route) ≡ []
-        → IsOk result }
-{
-    let plan = plan_for(flows, rules, bounds, route, view, now);
-    answer_planned(flows, ready, &plan, bytes, now, notes)
-}
-
-// How a packet with these fields leaves, where its session goes on and the first look tells it. Compiled into its
-// callers, it needs no place for what it answers.
-#[inline(always)]
-fn glance(
-    flows: &Flows,
-    rules: &Rules,
-    bounds: &Bounds,
-    route: Route,
-    view: &View,
-) -> Option<Result<Going, Cause>>
-    ensures way { (text : List ℕ) (now : ℕ)
-        → IfSome result (λ going. Plans flows.now.translations.external flows.now.table.held now
-        (planned going)
-        (leg bounds.now (state_of text rules.now flows.now.table.held now) view.now route)) }
-    ensures quiet { IfSome result (λ going. IfOk going (IsQuiet flows.now.table)) }
-{
-    match route {
-        Route::Out => goes_out(bounds, rules, flows.table(), view),
-        Route::In => comes_in(bounds, rules, flows.table(), view),
-        Route::Hairpin => None,
-    }
-}
-
-// As `glance`, of a packet that may show something new of its session.
-#[inline(always)]
-fn glance_showing(
-    flows: &Flows,
-    rules: &Rules,
-    bounds: &Bounds,
-    route: Route,
-    view: &View,
-) -> Option<Result<Going, Cause>>
-    ensures { (text : List ℕ) (now : ℕ)
-        → IfSome result (λ going. Plans flows.now.translations.external flows.now.table.held now
-        (planned going)
-        (leg bounds.now (state_of text rules.now flows.now.table.held now) view.now route)) }
-{
-    match route {
-        Route::Out => goes_out_showing(bounds, rules, flows.table(), view),
-        Route::In => comes_in_showing(bounds, rules, flows.table(), view),
-        Route::Hairpin => None,
-    }
-}
-
-// Sends a packet on, in place, by its session, which goes on.
-#[inline(always)]
-fn send_in_place(flows: &mut Flows, going: &Going, packet: &mut [u8], now: u64)
-    requires read { IsOkAnd (fields packet.old) (λ view. 2 ≤ view.ttl) }
-    requires latest { IsLatest flows.old.table.held now }
-    requires planned { (way : Outcome Passage Reason)
-        × Plans flows.old.translations.external flows.old.table.held now
-        (Ok (plan_of going.now)) way }
-    requires quiet { IsQuiet flows.old.table going.now }
-    ensures leads { (way : Outcome Passage Reason)
-        → Plans flows.old.translations.external flows.old.table.held now
-        (Ok (plan_of going.now)) way
-        → IsTransition (λ s. sent s packet.old way) flows.old.table.held flows.new.table.held now
-        (Forward going.now.iface packet.new) }
-    ensures external { flows.new.translations.external ≡ flows.old.translations.external }
-    ensures none { (way : Outcome Passage Reason)
-        → Plans flows.old.translations.external flows.old.table.held now
-        (Ok (plan_of going.now)) way
-        → of_way (listing flows.old.table.held) way ≡ [] }
-{
-    flows.table().is_sound();
-    flows.see_going(going, now);
-    rewrite(packet, going.src, going.dst);
-}
-
-// What a packet comes to whose session goes on; `ready` says that there is room for its entry already.
-fn answer_going<N: Notes>(
-    flows: &mut Flows,
-    ready: bool,
-    going: &Result<Going, Cause>,
-    bytes: Bytes,
-    now: u64,
-    notes: &mut N,
-) -> Result<Answer, (Bytes, StepFault)>
-    requires read { IsOkAnd (fields bytes) (λ view. 2 ≤ view.ttl) }
-    requires latest { IsLatest flows.old.table.held now }
-    requires room { IsTrue ready → N.keeps notes.old → 44 ≤ N.room notes.old }
-    requires planned { (way : Outcome Passage Reason)
-        × Plans flows.old.translations.external flows.old.table.held now (planned going.now) way }
-    ensures ok { IfOk result (λ answer. (way : Outcome Passage Reason)
-        → Plans flows.old.translations.external flows.old.table.held now (planned going.now) way
-        → IsTransition (λ s. sent s bytes way) flows.old.table.held flows.new.table.held
-        now answer) }
-    ensures err { IfErr result (λ e. (e.0 ≡ bytes)
-        × (flows.new.table.held ≡ flows.old.table.held)) }
-    ensures external { flows.new.translations.external ≡ flows.old.translations.external }
-    ensures ready { IsTrue ready → IsOk result }
-    ensures grants { N.grants notes.old → IsOk result }
-    ensures keeps { N.keeps notes.old ↔ N.keeps notes.new }
-    ensures beside { N.beside notes.new ≡ N.beside notes.old }
-    ensures noted { OnOk result ((way : Outcome Passage Reason)
-        → Plans flows.old.translations.external flows.old.table.held now (planned going.now) way
-        → N.keeps notes.old → N.noted notes.new ≡ N.noted notes.old
-        ++ of_way (listing flows.old.table.held) way) }
-    ensures err_noted { OnErr result (N.noted notes.new ≡ N.noted notes.old) }
-    ensures full { IfErr result (λ e. e.1 ≡ StepFault.Full → N.too_many notes.old 44) }
-    ensures no_memory { IfErr result (λ e. e.1 ≡ StepFault.NoMemory → ¬ N.too_many notes.old 44) }
-    ensures quiet { (way : Outcome Passage Reason)
-        → Plans flows.old.translations.external flows.old.table.held now (planned going.now) way
-        → of_way (listing flows.old.table.held) way ≡ [] → IsOk result }
-{
-    match going {
-        Err(cause) => Ok(drop_for(*cause)),
-        Ok(going) => match flows.carry_out_going(ready, going, now, notes) {
-            Ok(()) => Ok(Answer::Forward(going.iface, translate(bytes, going.src, going.dst))),
-            Err(fault) => Err((bytes, fault)),
-        },
-    }
-}
-
-// What a packet comes to, at sessions that are alive.
-fn answer_packet<N: Notes>(
-    flows: &mut Flows,
-    in_force: &InForce,
-    bounds: &Bounds,
-    ready: bool,
-    iface: Iface,
-    bytes: Bytes,
-    now: u64,
-    notes: &mut N,
-) -> Result<Answer, (Bytes, StepFault)>
-    requires external { flows.old.translations.external ≡ bounds.now.external }
-    requires sound { AreSound bounds.now (listing flows.old.table.held) }
-    requires in_force { IsInForce bounds.now in_force.now.text in_force.now.rules }
-    requires latest { IsLatest flows.old.table.held now }
-    requires ready { IsTrue ready → IsReady 2 flows.old }
-    requires room { IsTrue ready → N.keeps notes.old → 44 ≤ N.room notes.old }
-    ensures ok { IfOk result (λ answer. pass bounds.now
-        (state_of in_force.now.text in_force.now.rules flows.old.table.held now) iface bytes
-        ≡ (state_of in_force.now.text in_force.now.rules flows.new.table.held now, answer)) }
-    ensures err { IfErr result (λ e. (e.0 ≡ bytes)
-        × (flows.new.table.held ≡ flows.old.table.held)) }
-    ensures external { flows.new.translations.external ≡ flows.old.translations.external }
-    ensures ready { IsTrue ready → IsOk result }
-    ensures adds_none { let s = state_of in_force.now.text in_force.now.rules
-        flows.old.table.held now in
-        AddsNone s (pass bounds.now s iface bytes) → N.grants notes.old → IsOk result }
-    ensures keeps { N.keeps notes.old ↔ N.keeps notes.new }
-    ensures beside { N.beside notes.new ≡ N.beside notes.old }
-    ensures noted { OnOk result (N.keeps notes.old → N.noted notes.new
-        ≡ N.noted notes.old ++ of_fields bounds.now
-        (state_of in_force.now.text in_force.now.rules flows.old.table.held now)
-        iface (fields bytes)) }
-    ensures err_noted { OnErr result (N.noted notes.new ≡ N.noted notes.old) }
-    ensures full { IfErr result (λ e. e.1 ≡ StepFault.Full → N.too_many notes.old 44) }
-    ensures quiet { of_fields bounds.now
-        (state_of in_force.now.text in_force.now.rules flows.old.table.held now)
-        iface (fields bytes) ≡ []
-        → IsOk result }
-{
-    bounds.facts();
-    let rules = &in_force.rules;
-    let read = View::read(bytes.as_slice());
-    match &read {
-        Err(fault) => Ok(drop_for(Cause::Packet(*fault))),
-        Ok(view) => match bounds.route(iface, view) {
-            Err(fault) => Ok(drop_for(Cause::Route(fault))),
-            Ok(route) => match glance_showing(flows, rules, bounds, route, view) {
-                Some(going) => answer_going(flows, ready, &going, bytes, now, notes),
-                None => {
-                    answer_by_plan(flows, rules, bounds, ready, route, view, bytes, now, notes)
-                }
-            },
-        },
-    }
-}
-
-// By which interface a packet leaves, translated in place, whose session goes on, at sessions that are alive.
-fn forward_in_place(
-    flows: &mut Flows,
-    rules: &Rules,
-    bounds: &Bounds,
-    iface: Iface,
-    packet: &mut [u8],
-    now: u64,
-) -> Option<Iface>
-    requires latest { IsLatest flows.old.table.held now }
-    ensures some { (text : List ℕ)
-        → IfSome result (λ out. pass bounds.now (state_of text rules.now flows.old.table.held now)
-        iface packet.old
-        ≡ (state_of text rules.now flows.new.table.held now, Forward out packet.new)) }
-    ensures external { flows.new.translations.external ≡ flows.old.translations.external }
-    ensures quiet { (text : List ℕ)
-        → OnSome result (of_fields bounds.now (state_of text rules.now flows.old.table.held now)
-        iface (fields packet.old) ≡ []) }
-    ensures none { IfNone result ((flows.new ≡ flows.old) × (packet.new ≡ packet.old)) }
-{
-    let Ok(view) = View::read(packet) else {
-        return None;
-    };
-    let Ok(route) = bounds.route(iface, &view) else {
-        return None;
-    };
-    let Some(Ok(going)) = glance(flows, rules, bounds, route, &view) else {
-        return None;
-    };
-    send_in_place(flows, &going, packet, now);
-    Some(going.iface)
-}
-
-// Notes that a text is loaded; `ready` says that there is room for its entry, 5 bytes and the text, already.
-fn note_load<N: Notes>(ready: bool, text: &Bytes, notes: &mut N) -> Result<(), StepFault>
-    requires { IsTrue ready → N.keeps notes.old → 5 + length text.now ≤ N.room notes.old }
-    ensures keeps { N.keeps notes.old ↔ N.keeps notes.new }
-    ensures beside { N.beside notes.new ≡ N.beside notes.old }
-    ensures noted { OnOk result (N.keeps notes.old
-        → N.noted notes.new ≡ N.noted notes.old ++ Load text.now ∷ []) }
-    ensures err_noted { OnErr result (N.noted notes.new ≡ N.noted notes.old) }
-    ensures full { IsErrOf result StepFault.Full → N.too_many notes.old (5 + length text.now) }
-    ensures ready { IsTrue ready → IsOk result }
-    ensures grants { N.grants notes.old → IsOk result }
-{
-    let bytes = text.as_slice();
-    if !ready {
-        notes.reserve(0, LOAD_FRONT_LEN as u64 + bytes.len() as u64)?;
-    }
-    notes.note(Entry::Load(bytes));
-    Ok(())
-}
-
-// Puts the rules of the text in force. Not compiled into its caller, so that a packet clears no room for rules.
-#[inline(never)]
-fn put_in_force(in_force: &mut InForce, text: Bytes, rules: Boxed<Rules>)
-    ensures text { in_force.new.text ≡ text }
-    ensures rules { in_force.new.rules ≡ rules }
-{
-    let rules = rules.into_inner();
-    drop(std::mem::replace(in_force, InForce { text, rules }));
 }
 
 // What is done at sessions that are alive.
@@ -578,27 +174,6 @@ fn age_and_answer<N: Notes>(
     match flows.expire_since(alloc, clock, now, deed.most_bytes(), notes) {
         Ok(ready) => answer_deed(flows, in_force, bounds, ready, deed, now, notes),
         Err(fault) => Err((deed.into_what(), fault)),
-    }
-}
-
-// The text that survived, and its rules; there are none where it is empty.
-fn in_force_again(alloc: Global, bounds: &Bounds, text: Vec<u8>) -> Result<InForce, NoMemory>
-    requires { IsRuleset bounds.now text.items }
-    ensures text { IfOk result (λ f. f.text ≡ text.items) }
-    ensures rules { IfOk result (λ f. IsInForce bounds.now text.items f.rules) }
-{
-    if text.is_empty() {
-        return Ok(InForce {
-            text: Bytes::of(text),
-            rules: Rules::none(alloc),
-        });
-    }
-    match rules_of(alloc, bounds, &text)? {
-        Some(rules) => Ok(InForce {
-            text: Bytes::of(text),
-            rules,
-        }),
-        None => unreachable!(),
     }
 }
 
@@ -717,8 +292,9 @@ impl Core {
     /// # Errors
     ///
     /// `NoMemory` where memory is refused: for a text that is read, sessions that end or begin, or entries. `Full`
-    /// only where the entries don't fit: 14 bytes for each session that ends, and at most 44 for a packet, which
-    /// may begin two, or 5 and the text for a load. The event comes back, and nothing has changed; nor has what is noted.
+    /// only where the entries don't fit: 14 bytes for each session that ends, and 44 for a packet, whatever it
+    /// needs (two that it begins need as many), or 5 and the text for a load. The event comes back, and nothing has
+    /// changed; nor has what is noted.
     pub fn step_noted<N: Notes>(
         &mut self,
         event: Event,

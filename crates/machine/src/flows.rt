@@ -21,7 +21,7 @@ ghost use Rattle.machine.specs.Flows.{IsDue, IsLatest, IsReady, MayJoin, adds as
 
 use crate::ahead::{count_ending, count_mapped};
 use crate::notes::{MOST_OF_PACKET, Notes, StepFault};
-use crate::noting::{entry_for, flow_of, make_room_to_note, makes_entry, note};
+use crate::noting::{adds_any, entry_for, flow_of, is_noted, make_room_to_note, makes_entry, note};
 use durable::Entry;
 use hairpin::translations::Translations;
 use hairpin::{Going, Plan};
@@ -721,53 +721,6 @@ impl Flows {
         }
         self.expire(alloc, now, others, notes)
     }
-}
-
-// Whether the plan makes an entry. A session that it adds makes one: of a second change the table, which is that before
-// the first, tells it only where that adds none.
-fn is_noted(table: &Table, plan: &Plan) -> bool
-    requires { (external now : ℕ) × (ts : List Flow)
-        × GiveAll external table.now.held now plan.now.first plan.now.second ts }
-    ensures { (external now : ℕ) (ts : List Flow)
-        → GiveAll external table.now.held now plan.now.first plan.now.second ts
-        → IsTrue result ↔ (noted_all ts (listing table.now.held) ≢ []) }
-{
-    table.is_sound();
-    if makes_entry(table, &plan.first) {
-        return true;
-    }
-    match &plan.second {
-        Some(second) => {
-            if adds(second) > 0 {
-                return true;
-            }
-            makes_entry(table, second)
-        }
-        None => false,
-    }
-}
-
-// How many sessions the change adds, 0 or 1.
-fn adds(change: &Change) -> usize
-    ensures { result ≡ adds_by change.now }
-{
-    match change {
-        Change::Begin(_) => 1,
-        Change::Seen(_, _) => 0,
-        Change::Restart(_, _) => 0,
-    }
-}
-
-// Whether the plan adds a session.
-fn adds_any(plan: &Plan) -> bool
-    ensures { IsTrue result ↔ (0 < adds_by plan.now.first + adds_second plan.now.second) }
-{
-    if let Some(second) = &plan.second
-        && adds(second) > 0
-    {
-        return true;
-    }
-    adds(&plan.first) > 0
 }
 
 fn watch(due: &mut Due, slot: Slot, last: u64, timeout: u64)

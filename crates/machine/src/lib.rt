@@ -8,6 +8,8 @@
 //!   the plan of its leg (crate `hairpin`).
 //! - `ahead`: among many sessions, a look at what packets and ends of sessions are going to read.
 //! - `deed`: what an event does, once its text is read.
+//! - `in_force`: the text that loaded last, with its rules.
+//! - `answering`: what a packet comes to, on its two ways: by the session that a first look tells, or by a plan.
 //! - `core_state`: `Core`, which has all the state and takes a step for each event (`step`, `step_noted`). A packet
 //!   whose session goes on it also takes where the packet lies, for which no `Event` is made (`forward`).
 //! - `notes`: where a step notes the entries by which it changes what must survive (crate `durable`).
@@ -16,11 +18,13 @@
 #![tactic(auto)]
 
 mod ahead;
+mod answering;
 mod bytes;
 mod core_state;
 mod deed;
 mod event;
 mod flows;
+mod in_force;
 pub mod laws;
 mod notes;
 mod noting;

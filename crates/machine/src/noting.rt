@@ -1,9 +1,10 @@
 //! The entries by which a change of a session is noted.
-ghost use Rattle.std.specs.Prelude.{◌≡◌, ◌≢◌, ◌↔◌, ◌+◌, ◌<◌, ◌≤◌, ◌++◌, [], ℕ, IsErrOf, IsOk, IsTrue, OnOk};
+ghost use Rattle.std.specs.Prelude.{◌≡◌, ◌≢◌, ◌↔◌, ◌+◌, ◌<◌, ◌≤◌, ◌++◌, [], ℕ, List, IsErrOf, IsOk, IsTrue, OnOk};
 ghost use Rattle.durable.specs.Coding.{AreEntries, IsFlow, IsSession};
 ghost use Rattle.durable.specs.Entering.{flow_of as flow_in};
-ghost use Rattle.hairpin.specs.Plans.{Gives};
-ghost use Rattle.machine.specs.Noted.{between as entries_between, noted};
+ghost use Rattle.hairpin.specs.Plans.{GiveAll, Gives};
+ghost use Rattle.machine.specs.Flows.{adds as adds_by, adds_second};
+ghost use Rattle.machine.specs.Noted.{between as entries_between, noted, noted_all};
 ghost use Rattle.machine.specs.Notes.{bytes_of, listed};
 ghost use Rattle.sessions.specs.Life.{IsSeen};
 ghost use Rattle.sessions.specs.Listing.{listing};
@@ -13,6 +14,7 @@ ghost use Rattle.sessions.specs.Table.{restarted, seen as seen_with};
 
 use crate::notes::{MOST_OF_PACKET, Notes, StepFault};
 use durable::{Entry, Flow, endpoint_fits};
+use hairpin::Plan;
 use sessions::{Change, Opener, Session, Table};
 
 /// The flow of a session.
@@ -179,4 +181,51 @@ pub fn note<N: Notes>(notes: &mut N, entry: Option<Entry<'_>>)
     if let Some(entry) = entry {
         notes.note(entry);
     }
+}
+
+/// Whether the plan makes an entry. A session that it adds makes one: of a second change the table, which is that before
+/// the first, tells it only where that adds none.
+pub fn is_noted(table: &Table, plan: &Plan) -> bool
+    requires { (external now : ℕ) × (ts : List Flowing)
+        × GiveAll external table.now.held now plan.now.first plan.now.second ts }
+    ensures { (external now : ℕ) (ts : List Flowing)
+        → GiveAll external table.now.held now plan.now.first plan.now.second ts
+        → IsTrue result ↔ (noted_all ts (listing table.now.held) ≢ []) }
+{
+    table.is_sound();
+    if makes_entry(table, &plan.first) {
+        return true;
+    }
+    match &plan.second {
+        Some(second) => {
+            if adds(second) > 0 {
+                return true;
+            }
+            makes_entry(table, second)
+        }
+        None => false,
+    }
+}
+
+// How many sessions the change adds, 0 or 1.
+fn adds(change: &Change) -> usize
+    ensures { result ≡ adds_by change.now }
+{
+    match change {
+        Change::Begin(_) => 1,
+        Change::Seen(_, _) => 0,
+        Change::Restart(_, _) => 0,
+    }
+}
+
+/// Whether the plan adds a session.
+pub fn adds_any(plan: &Plan) -> bool
+    ensures { IsTrue result ↔ (0 < adds_by plan.now.first + adds_second plan.now.second) }
+{
+    if let Some(second) = &plan.second
+        && adds(second) > 0
+    {
+        return true;
+    }
+    adds(&plan.first) > 0
 }

@@ -1,7 +1,7 @@
 use Rattle.packet.specs.declared.route.Route.TheVariants.{Out, In, Hairpin}
 use Rattle.packet.proofs.Routes.{routed_is_on_route}
 use Rattle.machine.proofs.Soundness.{comes-to, external-is}
-use Rattle.machine.proofs.core_state.plan_for.Goals as goal
+use Rattle.machine.proofs.answering.plan_for.Goals as goal
 
 pub out_leg-requires-clause-inside : goal.out_leg-requires-clause-inside
 out_leg-requires-clause-inside c = (routed_is_on_route c.args.bounds.now c.requires.routed.0 c.args.view.now Out (rw c.in-Out.is at c.requires.routed.1)).1.1

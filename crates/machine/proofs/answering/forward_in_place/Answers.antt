@@ -4,7 +4,7 @@ use Rattle.packet.specs.declared.view.View.{View}
 use Rattle.packet.proofs.Routes.{routed_is_on_route}
 use Rattle.machine.specs.Core.{state_of}
 use Rattle.machine.specs.Machine.{leg}
-use Rattle.machine.proofs.core_state.forward_in_place.Goals as goal
+use Rattle.machine.proofs.answering.forward_in_place.Goals as goal
 
 pub send_in_place-requires-clause-read : goal.send_in_place-requires-clause-read
 send_in_place-requires-clause-read c =

@@ -1,8 +1,8 @@
 use Rattle.std.proofs.Common.{◌≤◌, length, sym, ap, subst, arith}
 use Rattle.durable.specs.Coding.{Load, entry_bytes}
 use Rattle.machine.proofs.Costs.{cost-load}
-use Rattle.machine.proofs.core_state.note_load.Goals.{then-not-ready+in_ok-reserve, else-not-ready}
-use Rattle.machine.proofs.core_state.note_load.Goals as goal
+use Rattle.machine.proofs.in_force.note_load.Goals.{then-not-ready+in_ok-reserve, else-not-ready}
+use Rattle.machine.proofs.in_force.note_load.Goals as goal
 
 pub note-requires-clause-room : goal.note-requires-clause-room
 note-requires-clause-room g c = λ keeps.

@@ -1,5 +1,5 @@
 use Rattle.machine.proofs.Steps.{plans-few}
-use Rattle.machine.proofs.core_state.answer_planned.Goals as goal
+use Rattle.machine.proofs.answering.answer_planned.Goals as goal
 
 pub returns-in-Err-carry_out-clause-adds_none : goal.returns-in-Err-carry_out-clause-adds_none
 returns-in-Err-carry_out-clause-adds_none g c = λ way plans few granted.

@@ -4,7 +4,7 @@ use Rattle.packet.specs.declared.view.View.{View}
 use Rattle.packet.proofs.Routes.{routed_is_on_route}
 use Rattle.machine.proofs.Reading.{ports_are_some}
 use Rattle.machine.proofs.Soundness.{bounded}
-use Rattle.machine.proofs.core_state.answer_packet.Goals as goal
+use Rattle.machine.proofs.answering.answer_packet.Goals as goal
 
 pub answer_by_plan-requires-clause-bounded : goal.answer_by_plan-requires-clause-bounded
 answer_by_plan-requires-clause-bounded g c = bounded c.args.bounds.now c.args.in_force.now.text c.args.in_force.now.rules c.requires.in_force

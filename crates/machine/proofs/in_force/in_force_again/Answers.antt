@@ -1,7 +1,7 @@
 use Rattle.std.proofs.Common.{◌<◌, length, arith}
 use Rattle.std.proofs.lemmas.Grind.{common_steps}
 use Rattle.machine.proofs.Resuming.{some-loads}
-use Rattle.machine.proofs.core_state.in_force_again.Goals as goal
+use Rattle.machine.proofs.in_force.in_force_again.Goals as goal
 
 pub unreachable-requires : goal.unreachable-requires
 unreachable-requires c =

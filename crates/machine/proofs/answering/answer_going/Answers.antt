@@ -1,6 +1,6 @@
 use Rattle.hairpin.specs.Going.{plan_of}
 use Rattle.machine.proofs.Quiet.{way-gives}
-use Rattle.machine.proofs.core_state.answer_going.Goals as goal
+use Rattle.machine.proofs.answering.answer_going.Goals as goal
 
 pub carry_out_going-requires-clause-give : goal.carry_out_going-requires-clause-give
 carry_out_going-requires-clause-give g c =

@@ -1,4 +1,4 @@
-use Rattle.machine.proofs.core_state.glance_showing.Goals as goal
+use Rattle.machine.proofs.answering.glance_showing.Goals as goal
 
 pub returns-in-Out : goal.returns-in-Out
 returns-in-Out c = λ text now. rw c.in-Out.is (rw c.table.ensures at (c.goes_out_showing.ensures c.args.flows.now.translations.external now))

@@ -1,4 +1,4 @@
-use Rattle.machine.proofs.core_state.glance.Goals as goal
+use Rattle.machine.proofs.answering.glance.Goals as goal
 
 pub returns-in-Out-clause-way : goal.returns-in-Out-clause-way
 returns-in-Out-clause-way c = λ text now. rw c.in-Out.is (rw c.table.ensures at (c.goes_out.ensures.way c.args.flows.now.translations.external now))

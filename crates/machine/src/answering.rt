@@ -1,0 +1,391 @@
+//! What a packet comes to, at sessions that are alive.
+//!
+//! - `answer_packet`: the short way first (`glance_showing`, `answer_going`), or else a plan (`answer_by_plan`:
+//!   `plan_for`, `answer_planned`).
+//! - `forward_in_place`: the shortest way, where the packet lies (`glance`, `send_in_place`).
+ghost use Rattle.std.specs.Prelude.{◌≡◌, ◌↔◌, ◌<◌, ◌≤◌, ◌+◌, ◌*◌, ◌++◌, [], ℕ, List, OnOk, Ok, Err, Result as Outcome, IsTrue, IfOk, IfErr, IfNone, IfSome, IsOk, IsOkAnd, OnErr, OnSome};
+ghost use Rattle.packet.specs.Fields.{fields};
+ghost use Rattle.packet.specs.Route.{route as route_for};
+ghost use Rattle.packet.specs.Translated.{translated};
+ghost use Rattle.sessions.specs.Listing.{listing};
+ghost use Rattle.hairpin.specs.Causes.{number};
+ghost use Rattle.hairpin.specs.Going.{IsQuiet, plan_of, planned};
+ghost use Rattle.hairpin.specs.Legs.{Passage};
+ghost use Rattle.hairpin.specs.Plans.{Plans};
+ghost use Rattle.hairpin.specs.Sound.{KeepBounds};
+ghost use Rattle.sessions.specs.Sound.{AreSound};
+ghost use Rattle.hairpin.specs.declared.cause.Cause.{Cause as Reason};
+ghost use Rattle.machine.specs.Core.{IsTransition, AddsNoSession, state_of};
+ghost use Rattle.machine.specs.Machine.{AddsNone, leg, pass, sent};
+ghost use Rattle.machine.specs.Noted.{of_fields, of_way};
+ghost use Rattle.machine.specs.Sound.{IsInForce};
+ghost use Rattle.machine.specs.Flows.{IsLatest, IsReady};
+ghost use Rattle.machine.specs.declared.event.Answer.TheVariants.{Dropped, Forward};
+ghost use Rattle.machine.specs.declared.event.What.TheVariants.{Packet};
+
+use crate::bytes::Bytes;
+use crate::event::Answer;
+use crate::flows::Flows;
+use crate::in_force::InForce;
+use crate::notes::{Notes, StepFault};
+use hairpin::{
+    Cause, Going, Plan, both, comes_in, comes_in_showing, goes_out, goes_out_showing, in_leg,
+    out_leg,
+};
+use packet::bounds::Bounds;
+use packet::endpoint::{Endpoint, Iface};
+use packet::rewriting::rewrite;
+use packet::route::Route;
+use packet::view::View;
+use verdict::Rules;
+
+fn drop_for(cause: Cause) -> Answer
+    ensures { result ≡ Dropped (number cause) }
+{
+    Answer::Dropped(cause.number())
+}
+
+// The packet with other endpoints.
+fn translate(bytes: Bytes, src: Endpoint, dst: Endpoint) -> Bytes
+    requires { IsOkAnd (fields bytes) (λ view. 2 ≤ view.ttl) }
+    ensures { result ≡ translated bytes src dst }
+{
+    let mut packet = bytes.into_vec();
+    rewrite(&mut packet, src, dst);
+    Bytes::of(packet)
+}
+
+// What a plan comes to; `ready` says that there is room for two sessions and their entries already.
+fn answer_planned<N: Notes>(
+    flows: &mut Flows,
+    ready: bool,
+    plan: &Result<Plan, Cause>,
+    bytes: Bytes,
+    now: u64,
+    notes: &mut N,
+) -> Result<Answer, (Bytes, StepFault)>
+    requires read { IsOkAnd (fields bytes) (λ view. 2 ≤ view.ttl) }
+    requires latest { IsLatest flows.old.table.held now }
+    requires ready { IsTrue ready → IsReady 2 flows.old }
+    requires room { IsTrue ready → N.keeps notes.old → 44 ≤ N.room notes.old }
+    requires planned { (way : Outcome Passage Reason)
+        × Plans flows.old.translations.external flows.old.table.held now plan.now way }
+    ensures ok { IfOk result (λ answer. (way : Outcome Passage Reason)
+        → Plans flows.old.translations.external flows.old.table.held now plan.now way
+        → IsTransition (λ s. sent s bytes way) flows.old.table.held flows.new.table.held
+        now answer) }
+    ensures err { IfErr result (λ e. (e.0 ≡ bytes)
+        × (flows.new.table.held ≡ flows.old.table.held)) }
+    ensures external { flows.new.translations.external ≡ flows.old.translations.external }
+    ensures ready { IsTrue ready → IsOk result }
+    ensures adds_none { (way : Outcome Passage Reason)
+        → Plans flows.old.translations.external flows.old.table.held now plan.now way
+        → AddsNoSession (λ s. sent s bytes way) flows.old.table.held now → N.grants notes.old
+        → IsOk result }
+    ensures keeps { N.keeps notes.old ↔ N.keeps notes.new }
+    ensures beside { N.beside notes.new ≡ N.beside notes.old }
+    ensures noted { OnOk result ((way : Outcome Passage Reason)
+        → Plans flows.old.translations.external flows.old.table.held now plan.now way
+        → N.keeps notes.old → N.noted notes.new ≡ N.noted notes.old
+        ++ of_way (listing flows.old.table.held) way) }
+    ensures err_noted { OnErr result (N.noted notes.new ≡ N.noted notes.old) }
+    ensures full { IfErr result (λ e. e.1 ≡ StepFault.Full → N.too_many notes.old 44) }
+    ensures quiet { (way : Outcome Passage Reason)
+        → Plans flows.old.translations.external flows.old.table.held now plan.now way
+        → of_way (listing flows.old.table.held) way ≡ [] → IsOk result }
+{
+    match plan {
+        Err(cause) => Ok(drop_for(*cause)),
+        Ok(plan) => {
+            flows.table().is_sound();
+            match flows.carry_out(ready, plan, now, notes) {
+                Ok(()) => Ok(Answer::Forward(plan.iface, translate(bytes, plan.src, plan.dst))),
+                Err(fault) => Err((bytes, fault)),
+            }
+        }
+    }
+}
+
+// The plan of a packet with these fields, on its route. Not compiled into its caller, it is made where it then stays.
+#[inline(never)]
+fn plan_for(
+    flows: &Flows,
+    rules: &Rules,
+    bounds: &Bounds,
+    route: Route,
+    view: &View,
+    now: u64,
+) -> Result<Plan, Cause>
+    requires external { flows.now.translations.external ≡ bounds.now.external }
+    requires sound { AreSound bounds.now (listing flows.now.table.held) }
+    requires bounded { KeepBounds bounds.now rules.now }
+    requires ports { (0 < view.now.src.port) × (0 < view.now.dst.port) }
+    requires routed { (iface : Iface) × (route_for bounds.now iface view.now ≡ Ok route) }
+    ensures { (text : List ℕ)
+        → Plans flows.now.translations.external flows.now.table.held now result
+        (leg bounds.now (state_of text rules.now flows.now.table.held now) view.now route) }
+{
+    flows.is_tied();
+    let table = flows.table();
+    let translations = flows.translations();
+    match route {
+        Route::Out => out_leg(bounds, rules, table, translations, view, now),
+        Route::In => in_leg(bounds, rules, table, translations, view, now),
+        Route::Hairpin => both(bounds, rules, table, translations, view, now),
+    }
+}
+
+// What a packet with these fields comes to, on its route, by the plan that is made for it; `ready` says that there is room
+// for two sessions and their entries already. Not compiled into its caller, so that a packet whose session goes on clears
+// no place for a plan.
+#[inline(never)]
+fn answer_by_plan<N: Notes>(
+    flows: &mut Flows,
+    rules: &Rules,
+    bounds: &Bounds,
+    ready: bool,
+    route: Route,
+    view: &View,
+    bytes: Bytes,
+    now: u64,
+    notes: &mut N,
+) -> Result<Answer, (Bytes, StepFault)>
+    requires external { flows.old.translations.external ≡ bounds.now.external }
+    requires sound { AreSound bounds.now (listing flows.old.table.held) }
+    requires bounded { KeepBounds bounds.now rules.now }
+    requires ports { (0 < view.now.src.port) × (0 < view.now.dst.port) }
+    requires routed { (iface : Iface) × (route_for bounds.now iface view.now ≡ Ok route) }
+    requires read { IsOkAnd (fields bytes) (λ view. 2 ≤ view.ttl) }
+    requires latest { IsLatest flows.old.table.held now }
+    requires ready { IsTrue ready → IsReady 2 flows.old }
+    requires room { IsTrue ready → N.keeps notes.old → 44 ≤ N.room notes.old }
+    ensures ok { IfOk result (λ answer. (text : List ℕ)
+        → IsTransition (λ s. sent s bytes (leg bounds.now
+        (state_of text rules.now flows.old.table.held now) view.now route))
+        flows.old.table.held flows.new.table.held now answer) }
+    ensures err { IfErr result (λ e. (e.0 ≡ bytes)
+        × (flows.new.table.held ≡ flows.old.table.held)) }
+    ensures external { flows.new.translations.external ≡ flows.old.translations.external }
+    ensures ready { IsTrue ready → IsOk result }
+    ensures adds_none { (text : List ℕ)
+        → let s = state_of text rules.now flows.old.table.held now in
+        AddsNone s (sent s bytes (leg bounds.now s view.now route)) → N.grants notes.old
+        → IsOk result }
+    ensures keeps { N.keeps notes.old ↔ N.keeps notes.new }
+    ensures beside { N.beside notes.new ≡ N.beside notes.old }
+    ensures noted { OnOk result ((text : List ℕ) → N.keeps notes.old
+        → N.noted notes.new ≡ N.noted notes.old ++ of_way (listing flows.old.table.held)
+        (leg bounds.now (state_of text rules.now flows.old.table.held now) view.now route)) }
+    ensures err_noted { OnErr result (N.noted notes.new ≡ N.noted notes.old) }
+    ensures full { IfErr result (λ e. e.1 ≡ StepFault.Full → N.too_many notes.old 44) }
+    ensures quiet { (text : List ℕ) → of_way (listing flows.old.table.held)
+        (leg bounds.now (state_of text rules.now flows.old.table.held now) view.now route) ≡ []
+        → IsOk result }
+{
+    let plan = plan_for(flows, rules, bounds, route, view, now);
+    answer_planned(flows, ready, &plan, bytes, now, notes)
+}
+
+// How a packet with these fields leaves, where its session goes on and the first look tells it. Compiled into its
+// callers, it needs no place for what it answers.
+#[inline(always)]
+fn glance(
+    flows: &Flows,
+    rules: &Rules,
+    bounds: &Bounds,
+    route: Route,
+    view: &View,
+) -> Option<Result<Going, Cause>>
+    ensures way { (text : List ℕ) (now : ℕ)
+        → IfSome result (λ going. Plans flows.now.translations.external flows.now.table.held now
+        (planned going)
+        (leg bounds.now (state_of text rules.now flows.now.table.held now) view.now route)) }
+    ensures quiet { IfSome result (λ going. IfOk going (IsQuiet flows.now.table)) }
+{
+    match route {
+        Route::Out => goes_out(bounds, rules, flows.table(), view),
+        Route::In => comes_in(bounds, rules, flows.table(), view),
+        Route::Hairpin => None,
+    }
+}
+
+// As `glance`, of a packet that may show something new of its session.
+#[inline(always)]
+fn glance_showing(
+    flows: &Flows,
+    rules: &Rules,
+    bounds: &Bounds,
+    route: Route,
+    view: &View,
+) -> Option<Result<Going, Cause>>
+    ensures { (text : List ℕ) (now : ℕ)
+        → IfSome result (λ going. Plans flows.now.translations.external flows.now.table.held now
+        (planned going)
+        (leg bounds.now (state_of text rules.now flows.now.table.held now) view.now route)) }
+{
+    match route {
+        Route::Out => goes_out_showing(bounds, rules, flows.table(), view),
+        Route::In => comes_in_showing(bounds, rules, flows.table(), view),
+        Route::Hairpin => None,
+    }
+}
+
+// Sends a packet on, in place, by its session, which goes on.
+#[inline(always)]
+fn send_in_place(flows: &mut Flows, going: &Going, packet: &mut [u8], now: u64)
+    requires read { IsOkAnd (fields packet.old) (λ view. 2 ≤ view.ttl) }
+    requires latest { IsLatest flows.old.table.held now }
+    requires planned { (way : Outcome Passage Reason)
+        × Plans flows.old.translations.external flows.old.table.held now
+        (Ok (plan_of going.now)) way }
+    requires quiet { IsQuiet flows.old.table going.now }
+    ensures leads { (way : Outcome Passage Reason)
+        → Plans flows.old.translations.external flows.old.table.held now
+        (Ok (plan_of going.now)) way
+        → IsTransition (λ s. sent s packet.old way) flows.old.table.held flows.new.table.held now
+        (Forward going.now.iface packet.new) }
+    ensures external { flows.new.translations.external ≡ flows.old.translations.external }
+    ensures none { (way : Outcome Passage Reason)
+        → Plans flows.old.translations.external flows.old.table.held now
+        (Ok (plan_of going.now)) way
+        → of_way (listing flows.old.table.held) way ≡ [] }
+{
+    flows.table().is_sound();
+    flows.see_going(going, now);
+    rewrite(packet, going.src, going.dst);
+}
+
+// What a packet comes to whose session goes on; `ready` says that there is room for its entry already.
+fn answer_going<N: Notes>(
+    flows: &mut Flows,
+    ready: bool,
+    going: &Result<Going, Cause>,
+    bytes: Bytes,
+    now: u64,
+    notes: &mut N,
+) -> Result<Answer, (Bytes, StepFault)>
+    requires read { IsOkAnd (fields bytes) (λ view. 2 ≤ view.ttl) }
+    requires latest { IsLatest flows.old.table.held now }
+    requires room { IsTrue ready → N.keeps notes.old → 44 ≤ N.room notes.old }
+    requires planned { (way : Outcome Passage Reason)
+        × Plans flows.old.translations.external flows.old.table.held now (planned going.now) way }
+    ensures ok { IfOk result (λ answer. (way : Outcome Passage Reason)
+        → Plans flows.old.translations.external flows.old.table.held now (planned going.now) way
+        → IsTransition (λ s. sent s bytes way) flows.old.table.held flows.new.table.held
+        now answer) }
+    ensures err { IfErr result (λ e. (e.0 ≡ bytes)
+        × (flows.new.table.held ≡ flows.old.table.held)) }
+    ensures external { flows.new.translations.external ≡ flows.old.translations.external }
+    ensures ready { IsTrue ready → IsOk result }
+    ensures grants { N.grants notes.old → IsOk result }
+    ensures keeps { N.keeps notes.old ↔ N.keeps notes.new }
+    ensures beside { N.beside notes.new ≡ N.beside notes.old }
+    ensures noted { OnOk result ((way : Outcome Passage Reason)
+        → Plans flows.old.translations.external flows.old.table.held now (planned going.now) way
+        → N.keeps notes.old → N.noted notes.new ≡ N.noted notes.old
+        ++ of_way (listing flows.old.table.held) way) }
+    ensures err_noted { OnErr result (N.noted notes.new ≡ N.noted notes.old) }
+    ensures full { IfErr result (λ e. e.1 ≡ StepFault.Full → N.too_many notes.old 44) }
+    ensures no_memory { IfErr result (λ e. e.1 ≡ StepFault.NoMemory → ¬ N.too_many notes.old 44) }
+    ensures quiet { (way : Outcome Passage Reason)
+        → Plans flows.old.translations.external flows.old.table.held now (planned going.now) way
+        → of_way (listing flows.old.table.held) way ≡ [] → IsOk result }
+{
+    match going {
+        Err(cause) => Ok(drop_for(*cause)),
+        Ok(going) => match flows.carry_out_going(ready, going, now, notes) {
+            Ok(()) => Ok(Answer::Forward(going.iface, translate(bytes, going.src, going.dst))),
+            Err(fault) => Err((bytes, fault)),
+        },
+    }
+}
+
+// What a packet comes to, at sessions that are alive.
+pub(crate) fn answer_packet<N: Notes>(
+    flows: &mut Flows,
+    in_force: &InForce,
+    bounds: &Bounds,
+    ready: bool,
+    iface: Iface,
+    bytes: Bytes,
+    now: u64,
+    notes: &mut N,
+) -> Result<Answer, (Bytes, StepFault)>
+    requires external { flows.old.translations.external ≡ bounds.now.external }
+    requires sound { AreSound bounds.now (listing flows.old.table.held) }
+    requires in_force { IsInForce bounds.now in_force.now.text in_force.now.rules }
+    requires latest { IsLatest flows.old.table.held now }
+    requires ready { IsTrue ready → IsReady 2 flows.old }
+    requires room { IsTrue ready → N.keeps notes.old → 44 ≤ N.room notes.old }
+    ensures ok { IfOk result (λ answer. pass bounds.now
+        (state_of in_force.now.text in_force.now.rules flows.old.table.held now) iface bytes
+        ≡ (state_of in_force.now.text in_force.now.rules flows.new.table.held now, answer)) }
+    ensures err { IfErr result (λ e. (e.0 ≡ bytes)
+        × (flows.new.table.held ≡ flows.old.table.held)) }
+    ensures external { flows.new.translations.external ≡ flows.old.translations.external }
+    ensures ready { IsTrue ready → IsOk result }
+    ensures adds_none { let s = state_of in_force.now.text in_force.now.rules
+        flows.old.table.held now in
+        AddsNone s (pass bounds.now s iface bytes) → N.grants notes.old → IsOk result }
+    ensures keeps { N.keeps notes.old ↔ N.keeps notes.new }
+    ensures beside { N.beside notes.new ≡ N.beside notes.old }
+    ensures noted { OnOk result (N.keeps notes.old → N.noted notes.new
+        ≡ N.noted notes.old ++ of_fields bounds.now
+        (state_of in_force.now.text in_force.now.rules flows.old.table.held now)
+        iface (fields bytes)) }
+    ensures err_noted { OnErr result (N.noted notes.new ≡ N.noted notes.old) }
+    ensures full { IfErr result (λ e. e.1 ≡ StepFault.Full → N.too_many notes.old 44) }
+    ensures quiet { of_fields bounds.now
+        (state_of in_force.now.text in_force.now.rules flows.old.table.held now)
+        iface (fields bytes) ≡ []
+        → IsOk result }
+{
+    bounds.facts();
+    let rules = &in_force.rules;
+    let read = View::read(bytes.as_slice());
+    match &read {
+        Err(fault) => Ok(drop_for(Cause::Packet(*fault))),
+        Ok(view) => match bounds.route(iface, view) {
+            Err(fault) => Ok(drop_for(Cause::Route(fault))),
+            Ok(route) => match glance_showing(flows, rules, bounds, route, view) {
+                Some(going) => answer_going(flows, ready, &going, bytes, now, notes),
+                None => {
+                    answer_by_plan(flows, rules, bounds, ready, route, view, bytes, now, notes)
+                }
+            },
+        },
+    }
+}
+
+// By which interface a packet leaves, translated in place, whose session goes on, at sessions that are alive.
+pub(crate) fn forward_in_place(
+    flows: &mut Flows,
+    rules: &Rules,
+    bounds: &Bounds,
+    iface: Iface,
+    packet: &mut [u8],
+    now: u64,
+) -> Option<Iface>
+    requires latest { IsLatest flows.old.table.held now }
+    ensures some { (text : List ℕ)
+        → IfSome result (λ out. pass bounds.now (state_of text rules.now flows.old.table.held now)
+        iface packet.old
+        ≡ (state_of text rules.now flows.new.table.held now, Forward out packet.new)) }
+    ensures external { flows.new.translations.external ≡ flows.old.translations.external }
+    ensures quiet { (text : List ℕ)
+        → OnSome result (of_fields bounds.now (state_of text rules.now flows.old.table.held now)
+        iface (fields packet.old) ≡ []) }
+    ensures none { IfNone result ((flows.new ≡ flows.old) × (packet.new ≡ packet.old)) }
+{
+    let Ok(view) = View::read(packet) else {
+        return None;
+    };
+    let Ok(route) = bounds.route(iface, &view) else {
+        return None;
+    };
+    let Some(Ok(going)) = glance(flows, rules, bounds, route, &view) else {
+        return None;
+    };
+    send_in_place(flows, &going, packet, now);
+    Some(going.iface)
+}
