@@ -81,7 +81,7 @@ impl<D: Disk + Drop> Model for Gateway<D> {
 impl<D: Disk + Drop> Gateway<D> {
     /// Opens the gateway that two files keep. Nothing is held, and no number is given yet. The last packet of each
     /// session is taken to have passed at this moment, in seconds, which is the clock's. Both files are synced, then
-    /// read; where none is open, file A is made, for no text and no session.
+    /// read; where neither gate is open, file A is made, for no text and no session.
     ///
     /// # Errors
     ///
@@ -253,8 +253,8 @@ impl<D: Disk + Drop> Gateway<D> {
     /// - `NumbersOut` exactly where the last number was 2^64 - 1.
     /// - `HeldFull` exactly where 64 answers are held.
     /// - `Full` only where the entries that wait, and those of this event, would end past the greatest length of a file:
-    ///   14 bytes for each session that ends, and at most 44 for a packet, which may begin two, or 5 and the text for a
-    ///   text that loads.
+    ///   14 bytes for each session that ends, and 44 for a packet, whatever it needs (two that it begins need as many),
+    ///   or 5 and the text for a text that loads.
     /// - `NoMemory` where memory is refused; never where nothing is held, and the event brings no text and changes
     ///   nothing that must survive.
     #[inline(always)]

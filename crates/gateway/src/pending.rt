@@ -155,7 +155,7 @@ impl Notes for Pending {
 }
 
 // How many bytes the entries take, 14 for each session that ends and those of the others, if they fit the file
-// behind those that wait.
+// behind those that wait: it takes `LIMIT` bytes, 67,108,864, at most.
 fn room_for(place: u64, waiting: u64, ends: u64, others: u64) -> Option<u64>
     ensures some { IfSome result (λ bytes. (bytes ≡ 14 * ends + others)
         × (place + waiting + bytes + 6 ≤ 67108864)) }

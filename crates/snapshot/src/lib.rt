@@ -5,7 +5,7 @@
 //! defined in the crate `durable`; the clauses here say that it is kept at every moment.
 //!
 //! - `store`: the store: it is opened, commits groups, and is compacted.
-//! - `opening`: what two files hold; where none is open, file A is made.
+//! - `opening`: what two files hold; where neither gate is open, file A is made.
 //! - `remaking`: a file is made anew, in three synced writes.
 //! - `front`: what stands at the front of a file that is made anew.
 //! - `bounds`: the configuration, to be kept.

@@ -1,8 +1,8 @@
 //! What two files hold.
 //!
 //! `make_ready` syncs both files and reads them whole (`look`, by `sync_both` and `contents`). `recover_for` asks
-//! `durable::recover` what they stand for, compares the configuration, and keeps what was found (`keep`). Where no file
-//! is open, `make_first` makes file A.
+//! `durable::recover` what they stand for, compares the configuration, and keeps what was found (`keep`). Where neither
+//! gate is open, `make_first` makes file A.
 ghost use Rattle.std.specs.Prelude.{◌≡◌, ◌<◌, ◌≤◌, ◌↔◌, [], IfOk, IfSome, OnOk, OnErr, IsErrOf};
 ghost use Rattle.disk_model.specs.declared.disk.FileId.{FileId};
 ghost use Rattle.disk_model.specs.declared.disk.FileId.TheVariants.{A, B};
@@ -96,7 +96,7 @@ fn look<D: Disk>(alloc: Global, disk: &mut D) -> Result<(Vec<u8>, Vec<u8>), Open
     Ok((a, b))
 }
 
-// What was recovered from two files, for a store of these bounds.
+// What was recovered from two files, kept for the store.
 fn keep(alloc: Global, found: Recovered<'_>) -> Result<Ready, OpenFault>
     ensures ok { IfOk result (λ r. IsKept found.entry r) }
     ensures device { IsErrOf result OpenFault.Device → ⊥ }
@@ -193,7 +193,7 @@ fn make_first<D: Disk>(alloc: Global, disk: &mut D, bounds: &Bounds) -> Result<R
     })
 }
 
-/// What two files hold, for a store of these bounds, with both synced. Where none is open, file A is made.
+/// What two files hold, for a store of these bounds, with both synced. Where neither gate is open, file A is made.
 ///
 /// # Errors
 ///

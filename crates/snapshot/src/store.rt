@@ -74,8 +74,8 @@ pub struct Opened<D: Disk + Drop> {
 }
 
 impl<D: Disk + Drop> Store<D> {
-    /// Opens the store that two files hold. Both are synced, then read. Where none is open, file A is made, and holds
-    /// no text and no session; else neither is written.
+    /// Opens the store that two files hold. Both are synced, then read. Where neither gate is open, file A is made, and
+    /// holds no text and no session; else neither is written.
     ///
     /// # Errors
     ///
