@@ -1,4 +1,11 @@
 //! The sessions with their timers and mappings, which change together.
+//!
+//! - `carry_out`: what a plan says, once there is room (`make_room`): one change after the other (`apply_all`,
+//!   `apply_noted`, `apply`: `begin`, `see`, `restart`).
+//! - `carry_out_going`, `see_going`: a packet of a session that goes on, with what it shows, or with nothing new.
+//! - `expire_since`: those that are alive no longer end, with their entries (`slots_due`, `end_all`, `end_noted`, `end`).
+//! - `new`, `of`: no session, or those that survived (`place`).
+//! - `watch`, `touch`: the timers of one.
 ghost use Rattle.std.specs.Prelude.{◌≡◌, ◌≢◌, ◌↔◌, ◌+◌, ◌-◌, ◌*◌, ◌<◌, ◌≤◌, ◌++◌, ◌∷◌, [], ℕ, List, true, false, IsErrOf, IsTrue, Some, None, IfOk, OnOk, OnErr, IsOk, IfSome, IsSome, IsSomeAnd, length, map, slice_index, bit_or};
 ghost use Rattle.std.specs.List.{Contains, filter};
 ghost use Rattle.std.specs.Option.{option_map};
@@ -21,7 +28,9 @@ ghost use Rattle.machine.specs.Flows.{IsDue, IsLatest, IsReady, MayJoin, adds as
 
 use crate::ahead::{count_ending, count_mapped};
 use crate::notes::{MOST_OF_PACKET, Notes, StepFault};
-use crate::noting::{adds_any, entry_for, flow_of, is_noted, make_room_to_note, makes_entry, note};
+use crate::noting::{
+    adds_any, entry_for, flow_of, make_room_to_note, makes_entry, note, plan_makes_entry,
+};
 use durable::Entry;
 use hairpin::translations::Translations;
 use hairpin::{Going, Plan};
@@ -173,7 +182,7 @@ impl Flows {
     }
 
     /// The slots of the sessions that are alive no longer, each once.
-    fn due(&self, alloc: Global, now: u64) -> Result<Vec<Slot>, AllocError>
+    fn slots_due(&self, alloc: Global, now: u64) -> Result<Vec<Slot>, AllocError>
         requires { IsLatest self.now.table.held now }
         ensures exactly { IfOk result (λ slots. (slot : ℕ)
             → Contains slots.items slot ↔ IsSomeAnd (at self.now.table slot) (IsDue now)) }
@@ -195,7 +204,7 @@ impl Flows {
         ensures { IsTrue result
             ↔ ((s : Flow) → In s (listing self.now.table.held) → alive now s ≡ true) }
     {
-        match self.due(alloc, now) {
+        match self.slots_due(alloc, now) {
             Ok(slots) => slots.is_empty(),
             Err(_) => false,
         }
@@ -312,7 +321,7 @@ impl Flows {
         self.table.is_sound();
     }
 
-    /// Does what a change says, for which there is room. Compiled into its callers, of which one knows the kind of change.
+    /// Does what a change says, for which there is room. Compiled into its caller.
     #[inline(always)]
     fn apply(&mut self, change: &Change, now: u64)
         requires latest { IsLatest self.old.table.held now }
@@ -333,7 +342,8 @@ impl Flows {
         }
     }
 
-    /// Does what a change says, for which there is room, and notes it. Compiled into its callers as well.
+    /// Does what a change says, for which there is room, and notes it. Compiled into its callers, of which one knows the
+    /// kind of change.
     #[inline(always)]
     fn apply_noted<N: Notes>(&mut self, change: &Change, now: u64, notes: &mut N)
         requires latest { IsLatest self.old.table.held now }
@@ -437,7 +447,7 @@ impl Flows {
         if ready {
             return Ok(());
         }
-        if !is_noted(&self.table, plan) {
+        if !plan_makes_entry(&self.table, plan) {
             return Ok(());
         }
         if adds_any(plan) && self.reserve().is_err() {
@@ -666,7 +676,7 @@ impl Flows {
         ensures succeeds { ((slot : ℕ) → ¬ IsSomeAnd (at self.old.table slot) (IsDue now))
             → IsOk result }
     {
-        let slots = match self.due(alloc, now) {
+        let slots = match self.slots_due(alloc, now) {
             Ok(slots) => slots,
             Err(_) => return Err(StepFault::NoMemory),
         };

@@ -1,4 +1,9 @@
-//! The entries by which a change of a session is noted.
+//! The entries by which a change of a session is noted, or a plan of one or two changes.
+//!
+//! - Of a change: whether it makes an entry (`makes_entry`), which (`entry_for`), and room for it (`make_room_to_note`,
+//!   `note`).
+//! - Of a plan: whether it makes one (`plan_makes_entry`), and whether it adds a session (`adds_any`), which it needs room
+//!   for beside.
 ghost use Rattle.std.specs.Prelude.{◌≡◌, ◌≢◌, ◌↔◌, ◌+◌, ◌<◌, ◌≤◌, ◌++◌, [], ℕ, List, IsErrOf, IsOk, IsTrue, OnOk};
 ghost use Rattle.durable.specs.Coding.{AreEntries, IsFlow, IsSession};
 ghost use Rattle.durable.specs.Entering.{flow_of as flow_in};
@@ -77,7 +82,8 @@ fn begins_anew(session: &Session, opener: Opener) -> bool
     session.opener != opener || session.seen != 0
 }
 
-/// Whether a change of a session makes an entry; the table is that before the change.
+/// Whether a change of a session makes an entry, so that `entry_for` gives one; the table is that before the change. It
+/// is asked before an entry is made, since most changes make none.
 pub fn makes_entry(table: &Table, change: &Change) -> bool
     requires { (external now : ℕ) × (t : Flowing) × Gives external table.now.held now change.now t }
     ensures { (external now : ℕ) (t : Flowing) → Gives external table.now.held now change.now t
@@ -185,7 +191,7 @@ pub fn note<N: Notes>(notes: &mut N, entry: Option<Entry<'_>>)
 
 /// Whether the plan makes an entry. A session that it adds makes one: of a second change the table, which is that before
 /// the first, tells it only where that adds none.
-pub fn is_noted(table: &Table, plan: &Plan) -> bool
+pub fn plan_makes_entry(table: &Table, plan: &Plan) -> bool
     requires { (external now : ℕ) × (ts : List Flowing)
         × GiveAll external table.now.held now plan.now.first plan.now.second ts }
     ensures { (external now : ℕ) (ts : List Flowing)

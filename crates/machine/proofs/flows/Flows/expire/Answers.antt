@@ -15,7 +15,7 @@ returns-then-is_empty-clause-ok g c =
     let a = c.if-is_empty.true in
     let b = c.is_empty.ensures in
     let empty : length items ≡ 0 = grind (arith, common_steps) in
-    expired held held items c.args.now c.due.ensures.sound c.due.ensures.sound c.in-Ok.ensures.exactly (λ k lt. absurd (omega arith)) (λ slot not_in. refl)
+    expired held held items c.args.now c.slots_due.ensures.sound c.slots_due.ensures.sound c.in-Ok.ensures.exactly (λ k lt. absurd (omega arith)) (λ slot not_in. refl)
 
 pub returns-then-is_empty-clause-noted : goal.returns-then-is_empty-clause-noted
 returns-then-is_empty-clause-noted g c = λ keeps.
@@ -24,7 +24,7 @@ returns-then-is_empty-clause-noted g c = λ keeps.
     let a = c.if-is_empty.true in
     let b = c.is_empty.ensures in
     let empty : length items ≡ 0 = grind (arith, common_steps) in
-    ([], none-over held c.due.ensures.sound c.args.now items c.in-Ok.ensures.exactly c.in-Ok.ensures.once empty, sym (append-nil (g.N.Notes.noted c.args.notes.now)))
+    ([], none-over held c.slots_due.ensures.sound c.args.now items c.in-Ok.ensures.exactly c.in-Ok.ensures.once empty, sym (append-nil (g.N.Notes.noted c.args.notes.now)))
 
 pub returns-then-is_err-clause-succeeds : goal.returns-then-is_err-clause-succeeds
 returns-then-is_err-clause-succeeds g c = λ none.
@@ -44,7 +44,7 @@ returns-in_err-reserve-clause-full g c = λ full.
     let count : c.len.result ≡ length items = grind (arith, common_steps) in
     let many = length-at held items (some-at held c.args.now items c.in-Ok.ensures.exactly) in (
       sessions_at held items,
-      slots-over held c.due.ensures.sound c.args.now items c.in-Ok.ensures.exactly c.in-Ok.ensures.once,
+      slots-over held c.slots_due.ensures.sound c.args.now items c.in-Ok.ensures.exactly c.in-Ok.ensures.once,
       subst (λ n. g.N.Notes.too_many c.args.notes.now (14 * n + c.args.others)) (count ∙ sym many) (c.in_err-reserve.ensures.full (ap Err (sym p.2 ∙ same_error _ _ _ p.1 full))),
     )
 
@@ -64,7 +64,7 @@ returns-clause-ok g c =
     let items = c.in-Ok.slots.items in
     let ended = rw c.deref-2.ensures.value at c.end_all.ensures.ended in
     let others = rw (c.deref-2.ensures.value, same) at c.end_all.ensures.others in
-    expired held c.end_all.new.self.table.held items c.args.now c.due.ensures.sound c.end_all.ensures.sound c.in-Ok.ensures.exactly ended others
+    expired held c.end_all.new.self.table.held items c.args.now c.slots_due.ensures.sound c.end_all.ensures.sound c.in-Ok.ensures.exactly ended others
 
 pub returns-clause-noted : goal.returns-clause-noted
 returns-clause-noted g c = λ keeps.
@@ -73,6 +73,6 @@ returns-clause-noted g c = λ keeps.
     let items = c.in-Ok.slots.items in
     let noted = rw (c.deref-2.ensures.value, same) at c.end_all.ensures.noted in (
       sessions_at held items,
-      slots-over held c.due.ensures.sound c.args.now items c.in-Ok.ensures.exactly c.in-Ok.ensures.once,
+      slots-over held c.slots_due.ensures.sound c.args.now items c.in-Ok.ensures.exactly c.in-Ok.ensures.once,
       noted (c.reserve-2.ensures.keeps.0 keeps) ∙ ap (λ es. es ++ ends (sessions_at held items)) c.reserve-2.ensures.noted,
     )

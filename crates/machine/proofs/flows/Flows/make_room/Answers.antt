@@ -12,8 +12,8 @@ returns-then-ready-clause-room g c = λ ts gives keeps.
     let few = plan-few c.args.self.now.translations.external c.args.self.now.table.held c.args.now c.args.plan.now.first c.args.plan.now.second ts gives in
     omega (arith, few, c.requires.room c.if-ready.true keeps)
 
-pub returns-then-not-is_noted-clause-ready : goal.returns-then-not-is_noted-clause-ready
-returns-then-not-is_noted-clause-ready g c = λ some.
+pub returns-then-not-plan_makes_entry-clause-ready : goal.returns-then-not-plan_makes_entry-clause-ready
+returns-then-not-plan_makes_entry-clause-ready g c = λ some.
     let own = c.self.inside in
     let external = own.translations.external in
     let held = own.table.held in
@@ -21,7 +21,7 @@ returns-then-not-is_noted-clause-ready g c = λ some.
     let second = c.args.plan.now.second in
     let ts = c.requires.give.0 in
     let give = rw (← c.self.view_is) at c.requires.give.1 in
-    let none : noted_all ts (listing held) ≡ [] = nil-unless (noted_all ts (listing held)) (λ away. false≢true (sym c.if-not-is_noted.true ∙ (c.is_noted.ensures external c.args.now ts give).1 away)) in
+    let none : noted_all ts (listing held) ≡ [] = nil-unless (noted_all ts (listing held)) (λ away. false≢true (sym c.if-not-plan_makes_entry.true ∙ (c.plan_makes_entry.ensures external c.args.now ts give).1 away)) in
     absurd (omega (arith, some, quiet-adds held c.is_sound.ensures external c.args.now first second ts give none))
 
 pub returns-clause-room : goal.returns-clause-room

@@ -5,7 +5,7 @@ use Rattle.hairpin.specs.Plans.{GiveAll}
 use Rattle.machine.specs.Flows.{adds}
 use Rattle.machine.specs.Noted.{noted}
 use Rattle.machine.proofs.Telling.{begin-is-noted, both-told, nil-before, nil-unless, second-gives}
-use Rattle.machine.proofs.noting.is_noted.Goals as goal
+use Rattle.machine.proofs.noting.plan_makes_entry.Goals as goal
 
 pub makes_entry-requires-in-Some : goal.makes_entry-requires-in-Some
 makes_entry-requires-in-Some c =
