@@ -21,7 +21,6 @@ ghost use Rattle.machine.specs.Noted.{of_fields, of_way};
 ghost use Rattle.machine.specs.Sound.{IsInForce};
 ghost use Rattle.machine.specs.Flows.{IsLatest, IsReady};
 ghost use Rattle.machine.specs.declared.event.Answer.TheVariants.{Dropped, Forward};
-ghost use Rattle.machine.specs.declared.event.What.TheVariants.{Packet};
 
 use crate::bytes::Bytes;
 use crate::event::Answer;
@@ -187,7 +186,7 @@ fn answer_by_plan<N: Notes>(
 }
 
 // How a packet with these fields leaves, where its session goes on and the first look tells it. Compiled into its
-// callers, it needs no place for what it answers.
+// caller, it needs no place for what it answers.
 #[inline(always)]
 fn glance(
     flows: &Flows,

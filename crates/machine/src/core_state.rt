@@ -9,12 +9,11 @@
 ghost use Rattle.std.specs.Prelude.{◌≡◌, ◌↔◌, ◌<◌, ◌≤◌, ◌+◌, ◌*◌, ◌++◌, [], List, length, OnOk, Ok, Err, IsTrue, IfOk, IfErr, IfNone, IfSome, IsOk, OnErr};
 ghost use Rattle.packet.specs.Config.{is_config};
 ghost use Rattle.sessions.specs.Listing.{listing};
-ghost use Rattle.hairpin.specs.Causes.{number};
 ghost use Rattle.sessions.specs.Sound.{AreSound};
 ghost use Rattle.machine.specs.Core.{state_of};
 ghost use Rattle.machine.specs.Judged.{Judged, IsJudged, IsNoLoad, bringer};
 ghost use Rattle.machine.specs.Machine.{AddsNone, EndsNone, act, aged, empty_at, later, step};
-ghost use Rattle.durable.specs.Coding.{Entry as Recorded, Load};
+ghost use Rattle.durable.specs.Coding.{Entry as Recorded};
 ghost use Rattle.durable.specs.Entering.{IsDurable, durable};
 ghost use Rattle.machine.specs.Noted.{AreEntriesOf, AreOver, IsRestarted, ends, of_deed};
 ghost use Rattle.machine.specs.Notes.{most_bytes};
@@ -292,9 +291,11 @@ impl Core {
     /// # Errors
     ///
     /// `NoMemory` where memory is refused: for a text that is read, sessions that end or begin, or entries. `Full`
-    /// only where the entries don't fit: 14 bytes for each session that ends, and 44 for a packet, whatever it
-    /// needs (two that it begins need as many), or 5 and the text for a load. The event comes back, and nothing has
-    /// changed; nor has what is noted.
+    /// only where the entries don't fit: 14 bytes for each session that ends, and 44 for a packet, however few
+    /// it needs (two sessions that it begins need as many), or 5 and the text for a load. One that needs none, where none
+    /// ends, isn't refused so. The event comes back, and nothing has changed; nor has what is noted.
+    // Compiled into its callers, so that the event isn't put down in memory for it.
+    #[inline(always)]
     pub fn step_noted<N: Notes>(
         &mut self,
         event: Event,

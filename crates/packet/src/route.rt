@@ -88,6 +88,8 @@ impl Bounds {
     /// inside, or from wan that is inside or external; `NoRoute` for a destination from lan that is
     /// inside, or from wan that is neither inside nor external.
     #[tactic(auto, unfolding(crate::specs::Route::route))]
+    // Compiled into its callers, which have the fields of the packet at hand.
+    #[inline(always)]
     pub fn route(&self, from: Iface, view: &View) -> Result<Route, RouteFault>
         ensures { result ≡ route self.now from view.now }
     {
