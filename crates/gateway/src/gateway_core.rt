@@ -253,8 +253,8 @@ impl<D: Disk + Drop> Gateway<D> {
     /// - `NumbersOut` exactly where the last number was 2^64 - 1.
     /// - `HeldFull` exactly where 64 answers are held.
     /// - `Full` only where the entries that wait, and those of this event, would end past the greatest length of a file:
-    ///   14 bytes for each session that ends, and 44 for a packet, whatever it needs (two that it begins need as many),
-    ///   or 5 and the text for a text that loads.
+    ///   14 bytes for each session that ends, and 44 for a packet, however few it needs (two sessions that it begins need
+    ///   as many), or 5 and the text for a text that loads. One that needs none, where none ends, isn't refused so.
     /// - `NoMemory` where memory is refused; never where nothing is held, and the event brings no text and changes
     ///   nothing that must survive.
     #[inline(always)]

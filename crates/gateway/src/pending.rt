@@ -140,7 +140,7 @@ impl Notes for Pending {
         let Some(bytes) = room_for(self.place, self.group.len() as u64, ends as u64, others) else {
             return Err(StepFault::Full);
         };
-        if make_slots(&mut self.held).is_err() || self.group.reserve(bytes as usize).is_err() {
+        if make_all_slots(&mut self.held).is_err() || self.group.reserve(bytes as usize).is_err() {
             return Err(StepFault::NoMemory);
         }
         self.room = bytes;
@@ -172,7 +172,7 @@ fn room_for(place: u64, waiting: u64, ends: u64, others: u64) -> Option<u64>
 }
 
 // Makes room for all answers that may be held.
-fn make_slots(held: &mut Vec<(u64, Answer)>) -> Result<(), AllocError>
+fn make_all_slots(held: &mut Vec<(u64, Answer)>) -> Result<(), AllocError>
     ensures items { held.new.items ≡ held.old.items }
     ensures ok { OnOk result (64 ≤ vec_capacity held.new) }
     ensures capacity { vec_capacity held.old ≤ vec_capacity held.new }

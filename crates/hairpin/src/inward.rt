@@ -22,6 +22,47 @@ use packet::view::View;
 use sessions::{Change, MOST_SESSIONS, Opener, Table};
 use verdict::{Destination, Forwarding, Rules, State, forward, prerouting};
 
+/// How a packet comes in from a remote endpoint to an outside one (its destination), at a moment in seconds.
+///
+/// A session of the two gives the inside endpoint. Without one an inside destination is its own inside
+/// endpoint; for the external address the prerouting chains are asked, and where they don't translate, a
+/// mapping of the outside endpoint gives it, from whatever remote (RFC 4787, REQ-8; RFC 5382, REQ-3). The
+/// forward chains see the inside endpoint. Nothing is changed, and no memory taken.
+///
+/// # Errors
+///
+/// The first cause that holds, in this order: `NoSession`, `Rule` of prerouting, `NoMapping`, `Clash`, `Rule`
+/// of forward, `TableFull`. A packet of a session has `Rule` of forward alone.
+pub fn in_leg(
+    bounds: &Bounds,
+    rules: &Rules,
+    table: &Table,
+    translations: &Translations,
+    view: &View,
+    now: u64,
+) -> Result<Plan, Cause>
+    requires external { translations.now.external ≡ bounds.now.external }
+    requires counts { (p : Mapping) → times translations.now.pairs p ≡ tally p table.now.held }
+    requires sound { AreSound bounds.now (listing table.now.held) }
+    requires bounded { KeepBounds bounds.now rules.now }
+    requires ports { (0 < view.now.src.port) × (0 < view.now.dst.port) }
+    requires routed { IsTrue (is_inside bounds.now view.now.dst.addr)
+        ⊎ (view.now.dst.addr ≡ bounds.now.external) }
+    ensures { Plans bounds.now.external table.now.held now result
+        (in_way bounds.now rules.now (listing table.now.held) now view.now) }
+{
+    match held_outside(table, view.proto, view.dst, view.src) {
+        Some(found) => known_in(bounds, rules, &found, view),
+        None => {
+            if needs_session(view) {
+                return Err(Cause::NoSession);
+            }
+            let inside = inside_of_new(bounds, rules, translations, view)?;
+            begun_in(bounds, rules, table, view, inside, now)
+        }
+    }
+}
+
 // How a packet of a session comes in.
 fn known_in(bounds: &Bounds, rules: &Rules, found: &Held, view: &View) -> Result<Plan, Cause>
     ensures { (external : ℕ) (held : List (Maybe Flow)) (now : ℕ)
@@ -104,47 +145,6 @@ fn begun_in(
                 dst: inside,
                 iface: Iface::Lan,
             })
-        }
-    }
-}
-
-/// How a packet comes in from a remote endpoint to an outside one (its destination), at a moment in seconds.
-///
-/// A session of the two gives the inside endpoint. Without one an inside destination is its own inside
-/// endpoint; for the external address the prerouting chains are asked, and where they don't translate, a
-/// mapping of the outside endpoint gives it, from whatever remote (RFC 4787, REQ-8; RFC 5382, REQ-3). The
-/// forward chains see the inside endpoint. Nothing is changed, and no memory taken.
-///
-/// # Errors
-///
-/// The first cause that holds, in this order: `NoSession`, `Rule` of prerouting, `NoMapping`, `Clash`, `Rule`
-/// of forward, `TableFull`. A packet of a session has `Rule` of forward alone.
-pub fn in_leg(
-    bounds: &Bounds,
-    rules: &Rules,
-    table: &Table,
-    translations: &Translations,
-    view: &View,
-    now: u64,
-) -> Result<Plan, Cause>
-    requires external { translations.now.external ≡ bounds.now.external }
-    requires counts { (p : Mapping) → times translations.now.pairs p ≡ tally p table.now.held }
-    requires sound { AreSound bounds.now (listing table.now.held) }
-    requires bounded { KeepBounds bounds.now rules.now }
-    requires ports { (0 < view.now.src.port) × (0 < view.now.dst.port) }
-    requires routed { IsTrue (is_inside bounds.now view.now.dst.addr)
-        ⊎ (view.now.dst.addr ≡ bounds.now.external) }
-    ensures { Plans bounds.now.external table.now.held now result
-        (in_way bounds.now rules.now (listing table.now.held) now view.now) }
-{
-    match held_outside(table, view.proto, view.dst, view.src) {
-        Some(found) => known_in(bounds, rules, &found, view),
-        None => {
-            if needs_session(view) {
-                return Err(Cause::NoSession);
-            }
-            let inside = inside_of_new(bounds, rules, translations, view)?;
-            begun_in(bounds, rules, table, view, inside, now)
         }
     }
 }

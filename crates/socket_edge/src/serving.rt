@@ -35,7 +35,7 @@ const MOST_KEPT: usize = 1_024;
 /// The most bytes of memory that a kept body has.
 const LONGEST_KEPT: usize = 2_048;
 
-/// Behind so many events in a row that handed out no packet where it lay, none is hoped to leave at once.
+/// Behind so many events in a row that ended with no packet handed out, none is hoped to leave at once.
 const MOST_MISSES: usize = 4;
 
 /// Why no more frames are offered.
@@ -251,7 +251,7 @@ fn offer_next<D: Disk + Drop>(
     offer_copy(alloc, waiting, answers, bodies, gateway)
 }
 
-/// How many events in a row, up to the last one, handed out no packet where it lay, if `misses` did before that one.
+/// How many events in a row, up to the last one, ended with no packet handed out, if `misses` did before that one.
 fn misses_behind(misses: usize, forwarded: bool) -> usize {
     if forwarded {
         0
@@ -281,7 +281,7 @@ pub fn offer_all<D: Disk + Drop>(
     let most = waiting.unanswered().len();
     let mut count: usize = 0;
     // A packet that is asked for where it lies, and doesn't leave, is read twice: so none is asked for behind several
-    // events in a row that handed none out, until the next one leaves.
+    // events in a row that ended with none handed out, until the next one leaves.
     let mut misses: usize = 0;
     let mut ahead = Ahead::none();
     loop {

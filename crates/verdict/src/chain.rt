@@ -19,7 +19,7 @@ use sets::{Value as Fact, Vmap as Map};
 pub enum Outcome {
     /// A rule accepts the packet, which ends the base chain too.
     Accepts,
-    /// A rule drops the packet, which ends the whole hook.
+    /// A rule drops the packet, or the policy does: no rule of this base chain is read behind it.
     Drops,
     /// The destination is translated to this endpoint.
     To(Endpoint),
