@@ -12,7 +12,7 @@ pub record HeldAnswers : Type 0 where
   pub place : ℕ
   pub room : ℕ
 
--- the entries that a body has
+-- an entry that was read, and those behind it
 abbrev pub behind_it : (List ℕ → List Entry) → Option (Entry × List ℕ) → List Entry
 behind_it more None = []
 behind_it more (Some read) = read.0 ∷ more read.1
@@ -21,6 +21,7 @@ abbrev pub entries_at : ℕ → List ℕ → List Entry
 entries_at zero bytes = []
 entries_at (suc n) bytes = behind_it (entries_at n) (entry_at bytes)
 
+-- the entries that a body has
 abbrev pub entries_in : List ℕ → List Entry
 entries_in body = entries_at (length body) body
 

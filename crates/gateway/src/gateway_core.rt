@@ -15,6 +15,8 @@ ghost use Rattle.durable.specs.Entering.{Durable, IsDurable, durable};
 ghost use Rattle.durable.specs.Recovery.{Alike, IsConfigured, NoneOpen, Recovers};
 ghost use Rattle.snapshot.specs.Store.{RecoversEither};
 ghost use Rattle.machine.specs.Judged.{Judged, IsJudged, IsNoLoad};
+ghost use Rattle.machine.specs.Machine.{AddsNone, EndsNone, later, step};
+ghost use Rattle.machine.specs.Notes.{most_bytes};
 ghost use Rattle.machine.specs.Noted.{AreEntriesOf, HasEntry, IsRestarted, lasting};
 ghost use Rattle.machine.specs.Sound.{IsSound};
 ghost use Rattle.machine.specs.declared.event.Answer.TheVariants.{Forward};
@@ -256,7 +258,8 @@ impl<D: Disk + Drop> Gateway<D> {
     ///   14 bytes for each session that ends, and 44 for a packet, however few it needs (two sessions that it begins need
     ///   as many), or 5 and the text for a text that loads. One that needs none, where none ends, isn't refused so.
     /// - `NoMemory` where memory is refused; never where nothing is held, and the event brings no text and changes
-    ///   nothing that must survive.
+    ///   nothing that must survive. Where it brings no text, and no session ends or begins, it comes only where its
+    ///   entries fit.
     #[inline(always)]
     pub fn offer(&mut self, event: Event) -> Result<Given, (Event, GatewayFault)>
         ensures disk { self.new.disk ≡ self.old.disk }
@@ -288,6 +291,14 @@ impl<D: Disk + Drop> Gateway<D> {
         ensures full { IfErr result (λ e. e.1 ≡ GatewayFault.Full
             → IsTooMuch self.old.filled self.old.told.config self.old.told.state event) }
         ensures roomy { IsRoomy self.old.filled → IfErr result (λ e. e.1 ≢ GatewayFault.Full) }
+
+        // A full file is told as such, where memory is asked for the entries alone.
+        ensures no_memory { IsNoLoad event.what → (judged : Judged)
+            → IsJudged self.old.told.config event judged
+            → EndsNone (later self.old.told.state.clock event.moment) self.old.told.state
+            → AddsNone self.old.told.state (step self.old.told.config self.old.told.state judged)
+            → IfErr result (λ e. e.1 ≡ GatewayFault.NoMemory
+            → self.old.filled + most_bytes judged.deed + 6 ≤ 67108864) }
         ensures causes { IfErr result (λ e. (e.1 ≢ GatewayFault.Device)
             × (e.1 ≢ GatewayFault.Generations)) }
 

@@ -51,6 +51,11 @@ none-ended now sessions stay = record {
   all = λ t held over. absurd (false≢true (sym over ∙ (In-filter (alive now) sessions t (subst (In t) stay held)).1));
 }
 
+-- where there is no error, all is said of it
+pub if_err_of_ok : {T E : Type 0} (r : Result T E) (P : E → Type 0) → IsOk r → IfErr r P
+if_err_of_ok (Ok x) P is = tt
+if_err_of_ok (Err e) P is = absurd (false≢true is)
+
 -- what is said of an error, which there is only where nothing is ready
 pub if_err_unready : {T E : Type 0} (ready : Bool) (r : Result T E) (P Q : E → Type 0) → (IsTrue ready → IsOk r) → IfErr r P → (ready ≡ false → (e : E) → P e → Q e) → IfErr r Q
 if_err_unready ready (Ok x) P Q succeeds said more = tt

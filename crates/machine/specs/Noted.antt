@@ -43,11 +43,12 @@ abbrev pub ends : List Session → List Entry
 ends [] = []
 ends (t ∷ ts) = End (flow_of t) ∷ ends ts
 
--- the sessions that these slots hold
+-- the session, if there is one, in front of others
 abbrev pub with_it : Option Session → List Session → List Session
 with_it None ss = ss
 with_it (Some s) ss = s ∷ ss
 
+-- the sessions that these slots hold
 abbrev pub sessions_at : List (Option Session) → List ℕ → List Session
 sessions_at held [] = []
 sessions_at held (slot ∷ slots) = with_it (slice_index_or held slot None) (sessions_at held slots)

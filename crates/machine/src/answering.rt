@@ -89,6 +89,10 @@ fn answer_planned<N: Notes>(
         ++ of_way (listing flows.old.table.held) way) }
     ensures err_noted { OnErr result (N.noted notes.new ≡ N.noted notes.old) }
     ensures full { IfErr result (λ e. e.1 ≡ StepFault.Full → N.too_many notes.old 44) }
+    ensures no_memory { (way : Outcome Passage Reason)
+        → Plans flows.old.translations.external flows.old.table.held now plan.now way
+        → AddsNoSession (λ s. sent s bytes way) flows.old.table.held now
+        → IfErr result (λ e. e.1 ≡ StepFault.NoMemory → ¬ N.too_many notes.old 44) }
     ensures quiet { (way : Outcome Passage Reason)
         → Plans flows.old.translations.external flows.old.table.held now plan.now way
         → of_way (listing flows.old.table.held) way ≡ [] → IsOk result }
@@ -177,6 +181,10 @@ fn answer_by_plan<N: Notes>(
         (leg bounds.now (state_of text rules.now flows.old.table.held now) view.now route)) }
     ensures err_noted { OnErr result (N.noted notes.new ≡ N.noted notes.old) }
     ensures full { IfErr result (λ e. e.1 ≡ StepFault.Full → N.too_many notes.old 44) }
+    ensures no_memory { (text : List ℕ)
+        → let s = state_of text rules.now flows.old.table.held now in
+        AddsNone s (sent s bytes (leg bounds.now s view.now route))
+        → IfErr result (λ e. e.1 ≡ StepFault.NoMemory → ¬ N.too_many notes.old 44) }
     ensures quiet { (text : List ℕ) → of_way (listing flows.old.table.held)
         (leg bounds.now (state_of text rules.now flows.old.table.held now) view.now route) ≡ []
         → IsOk result }
@@ -334,6 +342,10 @@ pub(crate) fn answer_packet<N: Notes>(
         iface (fields bytes)) }
     ensures err_noted { OnErr result (N.noted notes.new ≡ N.noted notes.old) }
     ensures full { IfErr result (λ e. e.1 ≡ StepFault.Full → N.too_many notes.old 44) }
+    ensures no_memory { let s = state_of in_force.now.text in_force.now.rules
+        flows.old.table.held now in
+        AddsNone s (pass bounds.now s iface bytes)
+        → IfErr result (λ e. e.1 ≡ StepFault.NoMemory → ¬ N.too_many notes.old 44) }
     ensures quiet { of_fields bounds.now
         (state_of in_force.now.text in_force.now.rules flows.old.table.held now)
         iface (fields bytes) ≡ []

@@ -102,6 +102,10 @@ fn answer_deed<N: Notes>(
     ensures err_noted { OnErr result (N.noted notes.new ≡ N.noted notes.old) }
     ensures full { IfErr result (λ e. e.1 ≡ StepFault.Full
         → N.too_many notes.old (most_bytes deed)) }
+    ensures no_memory { let s = state_of in_force.old.text in_force.old.rules
+        flows.old.table.held now in
+        AddsNone s (act bounds.now s deed) → IfErr result (λ e. e.1 ≡ StepFault.NoMemory
+        → ¬ N.too_many notes.old (most_bytes deed)) }
     ensures quiet { of_deed bounds.now
         (state_of in_force.old.text in_force.old.rules flows.old.table.held now) deed ≡ []
         → IsOk result }
@@ -166,6 +170,11 @@ fn age_and_answer<N: Notes>(
     ensures full { IfErr result (λ e. e.1 ≡ StepFault.Full
         → (gone : List Flow) × AreOver now (listing flows.old.table.held) gone
         × N.too_many notes.old (14 * length gone + most_bytes deed)) }
+    ensures no_memory { let s = state_of in_force.old.text in_force.old.rules
+        flows.old.table.held clock in
+        EndsNone now s → AddsNone s (act bounds.now (aged now s) deed)
+        → IfErr result (λ e. e.1 ≡ StepFault.NoMemory
+        → ¬ N.too_many notes.old (most_bytes deed)) }
     ensures quiet { let s = state_of in_force.old.text in_force.old.rules
         flows.old.table.held clock in
         EndsNone now s → of_deed bounds.now (aged now s) deed ≡ [] → IsOk result }
@@ -290,10 +299,11 @@ impl Core {
     ///
     /// # Errors
     ///
-    /// `NoMemory` where memory is refused: for a text that is read, sessions that end or begin, or entries. `Full`
-    /// only where the entries don't fit: 14 bytes for each session that ends, and 44 for a packet, however few
-    /// it needs (two sessions that it begins need as many), or 5 and the text for a load. One that needs none, where none
-    /// ends, isn't refused so. The event comes back, and nothing has changed; nor has what is noted.
+    /// `NoMemory` where memory is refused: for a text that is read, sessions that end or begin, or entries; where no
+    /// text comes, and no session ends or begins, only where the entries fit. `Full` only where the entries don't fit:
+    /// 14 bytes for each session that ends, and 44 for a packet, however few it needs (two sessions that it begins need
+    /// as many), or 5 and the text for a load. One that needs none, where none ends, isn't refused so. The event comes
+    /// back, and nothing has changed; nor has what is noted.
     // Compiled into its callers, so that the event isn't put down in memory for it.
     #[inline(always)]
     pub fn step_noted<N: Notes>(
@@ -317,6 +327,12 @@ impl Core {
             × (gone : List Flow)
             × AreOver (later self.old.state.clock event.moment) self.old.state.sessions gone
             × N.too_many notes.old (14 * length gone + most_bytes judged.deed)) }
+        ensures no_memory { IsNoLoad event.what → (judged : Judged)
+            → IsJudged self.old.config event judged
+            → EndsNone (later self.old.state.clock event.moment) self.old.state
+            → AddsNone self.old.state (step self.old.config self.old.state judged)
+            → IfErr result (λ e. e.1 ≡ StepFault.NoMemory
+            → ¬ N.too_many notes.old (most_bytes judged.deed)) }
         ensures succeeds { IsNoLoad event.what → (judged : Judged)
             → IsJudged self.old.config event judged
             → EndsNone (later self.old.state.clock event.moment) self.old.state
@@ -331,7 +347,10 @@ impl Core {
         self.bounds.facts();
         let deed = match judge(self.alloc, &self.bounds, what) {
             Ok(deed) => deed,
-            Err((what, _)) => return Err((Event { moment, what }, StepFault::NoMemory)),
+            Err(text) => {
+                let what = What::Load(text);
+                return Err((Event { moment, what }, StepFault::NoMemory));
+            }
         };
         match age_and_answer(
             &mut self.flows,

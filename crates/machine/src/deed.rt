@@ -78,18 +78,18 @@ pub fn rules_of(alloc: Global, bounds: &Bounds, text: &[u8]) -> Result<Option<Ru
 
 // Reads the text. Not compiled into its caller, so that a packet clears no room for rules.
 #[inline(never)]
-fn judge_load(alloc: Global, bounds: &Bounds, text: Bytes) -> Result<Deed, (What, NoMemory)>
+fn judge_load(alloc: Global, bounds: &Bounds, text: Bytes) -> Result<Deed, Bytes>
     ensures brings { IfOk result (λ deed. What.Load text ≡ bringer deed) }
     ensures right { IfOk result (λ deed. IsRight bounds.now deed) }
-    ensures err { IfErr result (λ e. e.0 ≡ What.Load text) }
+    ensures err { IfErr result (λ e. e ≡ text) }
 {
     match rules_of(alloc, bounds, text.as_slice()) {
         Ok(Some(rules)) => match Boxed::new(alloc, rules) {
             Ok(rules) => Ok(Deed::Take(text, rules)),
-            Err(_) => Err((What::Load(text), NoMemory)),
+            Err(_) => Err(text),
         },
         Ok(None) => Ok(Deed::Refuse(text)),
-        Err(e) => Err((What::Load(text), e)),
+        Err(NoMemory) => Err(text),
     }
 }
 
@@ -97,13 +97,15 @@ fn judge_load(alloc: Global, bounds: &Bounds, text: Bytes) -> Result<Deed, (What
 ///
 /// # Errors
 ///
-/// `NoMemory` where memory to read the text is refused, with what the event brought.
-pub fn judge(alloc: Global, bounds: &Bounds, what: What) -> Result<Deed, (What, NoMemory)>
+/// The text comes back where memory to read it is refused.
+pub fn judge(alloc: Global, bounds: &Bounds, what: What) -> Result<Deed, Bytes>
     ensures brings { IfOk result (λ deed. what ≡ bringer deed) }
     ensures right { IfOk result (λ deed. IsRight bounds.now deed) }
-    ensures err { IfErr result (λ e. e.0 ≡ what) }
+    ensures err { IfErr result (λ text. What.Load text ≡ what) }
     ensures succeeds { IsNoLoad what → IsOk result }
 {
+    // The text alone comes back, and not what was brought: that would lie across the place of a packet, which a compiler
+    // would then store in pieces, for all of which whoever reads it next waits.
     match what {
         What::Load(text) => judge_load(alloc, bounds, text),
         What::Packet(iface, bytes) => Ok(Deed::Packet(iface, bytes)),

@@ -2,7 +2,9 @@
 //!
 //! - `carry_out`: what a plan says, once there is room (`make_room`): one change after the other (`apply_all`,
 //!   `apply_noted`, `apply`: `begin`, `see`, `restart`).
-//! - `carry_out_going`, `see_going`: a packet of a session that goes on, with what it shows, or with nothing new.
+//! - `carry_out_going`, `see_going`: a packet of a session that goes on, with what it shows, or with nothing new; where it
+//!   leaves the session as it is (`stays`), nothing is put down (`refresh`).
+//! - `keeps_all_since`: whether all sessions are alive still, as they have to be on the shortest way.
 //! - `expire_since`: those that are alive no longer end, with their entries (`slots_due`, `end_all`, `end_noted`, `end`).
 //! - `new`, `of`: no session, or those that survived (`place`).
 //! - `watch`, `touch`: the timers of one.
@@ -435,6 +437,8 @@ impl Flows {
         ensures beside { N.beside notes.new ≡ N.beside notes.old }
         ensures noted { N.noted notes.new ≡ N.noted notes.old }
         ensures full { IsErrOf result StepFault.Full → N.too_many notes.old 44 }
+        ensures no_memory { adds_by plan.now.first + adds_second plan.now.second ≡ 0
+            → IsErrOf result StepFault.NoMemory → ¬ N.too_many notes.old 44 }
         ensures succeeds { IsTrue ready → IsOk result }
         ensures adds_none { adds_by plan.now.first + adds_second plan.now.second ≡ 0
             → N.grants notes.old → IsOk result }
@@ -492,6 +496,8 @@ impl Flows {
             ++ noted_all ts (listing self.old.table.held)) }
         ensures err_noted { OnErr result (N.noted notes.new ≡ N.noted notes.old) }
         ensures full { IsErrOf result StepFault.Full → N.too_many notes.old 44 }
+        ensures no_memory { adds_by plan.now.first + adds_second plan.now.second ≡ 0
+            → IsErrOf result StepFault.NoMemory → ¬ N.too_many notes.old 44 }
         ensures succeeds { IsTrue ready → IsOk result }
         ensures adds_none { adds_by plan.now.first + adds_second plan.now.second ≡ 0
             → N.grants notes.old → IsOk result }

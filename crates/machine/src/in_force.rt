@@ -30,6 +30,8 @@ pub(crate) fn note_load<N: Notes>(ready: bool, text: &Bytes, notes: &mut N) -> R
         → N.noted notes.new ≡ N.noted notes.old ++ Load text.now ∷ []) }
     ensures err_noted { OnErr result (N.noted notes.new ≡ N.noted notes.old) }
     ensures full { IsErrOf result StepFault.Full → N.too_many notes.old (5 + length text.now) }
+    ensures no_memory { IsErrOf result StepFault.NoMemory
+        → ¬ N.too_many notes.old (5 + length text.now) }
     ensures ready { IsTrue ready → IsOk result }
     ensures grants { N.grants notes.old → IsOk result }
 {

@@ -9,7 +9,8 @@
 //! - `ahead`: among many sessions, a look at what packets and ends of sessions are going to read.
 //! - `deed`: what an event does, once its text is read.
 //! - `in_force`: the text that loaded last, with its rules.
-//! - `answering`: what a packet comes to, on its two ways: by the session that a first look tells, or by a plan.
+//! - `answering`: what a packet comes to: by the session that a first look tells, where it lies (the shortest way) or
+//!   with what it shows of it (the short one), or by a plan.
 //! - `core_state`: `Core`, which has all the state and takes a step for each event (`step`, `step_noted`). A packet
 //!   whose session goes on it also takes where the packet lies, for which no `Event` is made (`forward`).
 //! - `notes`: where a step notes the entries by which it changes what must survive (crate `durable`).

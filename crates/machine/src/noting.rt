@@ -190,7 +190,7 @@ pub fn note<N: Notes>(notes: &mut N, entry: Option<Entry<'_>>)
 }
 
 /// Whether the plan makes an entry. A session that it adds makes one: of a second change the table, which is that before
-/// the first, tells it only where that adds none.
+/// the first, tells it only where the second adds none.
 pub fn plan_makes_entry(table: &Table, plan: &Plan) -> bool
     requires { (external now : ℕ) × (ts : List Flowing)
         × GiveAll external table.now.held now plan.now.first plan.now.second ts }

@@ -1,6 +1,6 @@
-use Rattle.std.proofs.Common.{◌≡◌, ◌+◌, ◌*◌, ◌++◌, [], List, inl, inr, length, sym, ap, subst, ◌∙◌, append_assoc, arith}
+use Rattle.std.proofs.Common.{◌≡◌, IfErr, ◌+◌, ◌*◌, ◌++◌, [], List, inl, inr, length, sym, ap, subst, ◌∙◌, append_assoc, arith}
 use Rattle.std.specs.List.{filter}
-use Rattle.std.proofs.lemmas.Bool.{cases_Bool}
+use Rattle.std.proofs.lemmas.Bool.{cases_Bool, false≢true}
 use Rattle.std.proofs.lemmas.Result.{on_ok_weaker}
 use Rattle.sessions.specs.Life.{alive}
 use Rattle.sessions.specs.Listing.{listing}
@@ -9,8 +9,8 @@ use Rattle.machine.specs.Core.{state_of}
 use Rattle.machine.specs.Machine.{act}
 use Rattle.machine.specs.Noted.{ends, of_deed}
 use Rattle.machine.specs.Notes.{most_bytes}
-use Rattle.machine.specs.declared.notes.StepFault.TheVariants.{Full}
-use Rattle.machine.proofs.Stepping.{if_err_unready, none-ended}
+use Rattle.machine.specs.declared.notes.StepFault.TheVariants.{Full, NoMemory}
+use Rattle.machine.proofs.Stepping.{if_err_of_ok, if_err_unready, none-ended}
 use Rattle.machine.proofs.Expiry.{latest_expired, none_due}
 use Rattle.machine.proofs.Steps.{live-sound}
 use Rattle.machine.proofs.core_state.age_and_answer.Goals as goal
@@ -61,4 +61,18 @@ returns-in-Ok-clause-succeeds g c = λ none few granted.
       | inr unready ↦ c.answer_deed.ensures.adds_none (
           subst (λ (ss : List Session). length (act c.args.bounds.now (record { text = c.args.in_force.now.text; rules = c.args.in_force.now.rules; sessions = ss; clock = c.args.now }) c.args.deed).0.sessions ≡ length (listing held))
           (sym c.in-Ok.ensures.ok) (few ∙ sym (ap (λ h. length (listing h)) (c.in-Ok.ensures.none unready)))) (subst (λ n. g.N.Notes.grants n) (sym (c.in-Ok.ensures.unchanged unready)) granted)
+    ]
+
+pub returns-in-Err-clause-no_memory : goal.returns-in-Err-clause-no_memory
+returns-in-Err-clause-no_memory g c = λ none few. absurd (false≢true (c.in-Err.ensures.succeeds (none_due c.args.flows.now.table.held c.args.now none)))
+
+pub returns-in-Ok-clause-no_memory : goal.returns-in-Ok-clause-no_memory
+returns-in-Ok-clause-no_memory g c = λ none few.
+    let held = c.expire_since.new.self.table.held in
+    let most = most_bytes c.args.deed in
+    elim (cases_Bool c.in-Ok.ready) [
+      | inl ready ↦ if_err_of_ok c.answer_deed.result _ (c.answer_deed.ensures.ready ready)
+      | inr unready ↦ subst (λ n. IfErr c.answer_deed.result (λ e. e.1 ≡ NoMemory → ¬ g.N.Notes.too_many n most)) (c.in-Ok.ensures.unchanged unready) (c.answer_deed.ensures.no_memory (
+          subst (λ (ss : List Session). length (act c.args.bounds.now (record { text = c.args.in_force.now.text; rules = c.args.in_force.now.rules; sessions = ss; clock = c.args.now }) c.args.deed).0.sessions ≡ length (listing held))
+          (sym c.in-Ok.ensures.ok) (few ∙ sym (ap (λ h. length (listing h)) (c.in-Ok.ensures.none unready)))))
     ]

@@ -1,9 +1,12 @@
-use Rattle.std.proofs.Common.{◌≡◌, ◌∙◌, ◌↔◌, [], sym, subst, ap}
+use Rattle.std.proofs.Common.{◌≡◌, ◌+◌, ◌∙◌, ◌↔◌, [], inl, inr, length, sym, subst, ap}
+use Rattle.std.proofs.lemmas.Bool.{cases_lt}
 use Rattle.packet.specs.Config.{Config}
+use Rattle.durable.specs.Coding.{body_bytes}
 use Rattle.machine.specs.Besides.{Besides}
 use Rattle.machine.specs.Judged.{Judged}
 use Rattle.machine.specs.Machine.{later}
 use Rattle.machine.specs.Noted.{HasEntry}
+use Rattle.machine.specs.Notes.{most_bytes}
 use Rattle.gateway.specs.Kept.{IsNow, IsStanding}
 use Rattle.gateway.proofs.Bodies.{filled-on}
 use Rattle.gateway.proofs.Offering.{takes_in, took_in, at_once, none_of, roomy_enough}
@@ -62,3 +65,9 @@ pub returns-in-Err-clause-quiet : goal.returns-in-Err-clause-quiet
 returns-in-Err-clause-quiet g c = rw (← c.self.view_is) (λ stands last none no_load judged is_judged needless.
     c.in-Err.ensures.quiet no_load judged is_judged
     (none_of c.self.inside.core.config c.self.inside.core.state c.args.event judged c.facts.ensures.config c.facts.ensures.sound is_judged needless))
+
+pub returns-in-Err-clause-no_memory : goal.returns-in-Err-clause-no_memory
+returns-in-Err-clause-no_memory g c = rw (← c.self.view_is) (λ none judged is ends few told.
+    let within = c.in-Err.ensures.no_memory none judged is ends few (c.why_refused.ensures.no_memory.0 told) in
+    let pending = c.self.inside.pending in
+    elim (cases_lt 67108864 (pending.place + length (body_bytes pending.entries) + most_bytes judged.deed + 6)) [ inl over ↦ absurd (within over) | inr fits ↦ fits ])

@@ -1,11 +1,13 @@
-use Rattle.std.proofs.Common.{◌∙◌, ap, refl, subst, sym}
+use Rattle.std.proofs.Common.{◌≡◌, ◌∙◌, ap, refl, subst, sym}
 use Rattle.std.proofs.lemmas.Bool.{lt-ltb}
 use Rattle.machine.specs.Judged.{Judged, IsNoLoad}
 use Rattle.machine.specs.Machine.{State, EndsNone, later}
 use Rattle.machine.specs.Core.{state_of}
 use Rattle.machine.specs.Noted.{AreOver}
+use Rattle.machine.specs.Notes.{most_bytes}
 use Rattle.machine.specs.Sound.{IsSound}
 use Rattle.machine.specs.declared.event.Answer.{Answer}
+use Rattle.machine.specs.declared.notes.StepFault.TheVariants.{NoMemory}
 use Rattle.machine.proofs.Judging.{same_unread}
 use Rattle.machine.proofs.Lasting.{step-alive}
 use Rattle.machine.proofs.Stepping.{entries-of, quiet-deed, quiet-ends}
@@ -79,3 +81,15 @@ returns-in-Err-age_and_answer-clause-quiet g c =
     c.in-Err-age_and_answer.ensures.quiet (quiet-ends own.bounds old judged c.later_of-now.result now_is entries)
     (quiet-deed own.bounds old judged c.later_of-now.result c.in-Ok.deed now_is
     (same_unread own.bounds judged.deed c.in-Ok.deed (sym is.what ∙ brings) (subst IsNoLoad brings none)) entries))
+
+pub returns-in-Err-age_and_answer-clause-no_memory : goal.returns-in-Err-age_and_answer-clause-no_memory
+returns-in-Err-age_and_answer-clause-no_memory g c =
+    let own = c.self.inside in
+    let old = state_of own.in_force.text own.in_force.rules own.flows.table.held own.clock in
+    let brings = c.in-Ok.ensures.brings in
+    let now_is = c.later_of-now.ensures in
+    rw (← c.self.view_is) (λ none judged is ends few.
+    let same = same_unread own.bounds judged.deed c.in-Ok.deed (sym is.what ∙ brings) (subst IsNoLoad brings none) in
+    subst (λ d. c.in-Err-age_and_answer.fault ≡ NoMemory → ¬ g.N.Notes.too_many c.args.notes.now (most_bytes d)) (sym same) (c.in-Err-age_and_answer.ensures.no_memory
+    (subst (λ n. EndsNone n old) (sym now_is) ends)
+    (few-acts own.bounds old judged c.later_of-now.result c.in-Ok.deed (now_is ∙ ap (later own.clock) is.at) same few)))
