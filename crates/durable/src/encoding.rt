@@ -247,8 +247,8 @@ fn put_generation(out: &mut Vec<u8>, generation: u64) -> Result<(), AllocError>
     out.extend_from_slice(&generation.to_be_bytes())
 }
 
-/// Puts what stands behind the gate of a file in front of its groups behind the bytes: mark, generation, configuration,
-/// and a snapshot of the text and the sessions. Both must be fewer than 2^32.
+/// Puts a heading behind the bytes: mark, generation, configuration, and a snapshot of the text and the sessions. Both must
+/// be fewer than 2^32.
 ///
 /// # Errors
 ///

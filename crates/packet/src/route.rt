@@ -12,7 +12,7 @@ use crate::view::View;
 pub enum Route {
     /// From an inside host to wan.
     Out,
-    /// From wan to an inside host.
+    /// From wan to an inside address or to the external one.
     In,
     /// From an inside host to the external address, and back to lan (RFC 4787, section 6).
     Hairpin,

@@ -2,7 +2,7 @@
 //! holds them.
 //!
 //! - `session`: what a session is, and what a packet does to it
-//! - `life`: what its packets have shown, its phase, and how long it may be idle
+//! - `life`: what its packets show and have shown, whether one begins it anew, its phase, and how long it may be idle
 //! - `table`: the sessions that are held, each in a slot that stays until the session ends
 //! - `index`: by what a table finds its sessions
 //! - `translated`: how those of them that are translated are found, by their mappings

@@ -21,7 +21,8 @@ use Rattle.socket_edge.specs.declared.request.Head.TheVariants as head
 use Rattle.socket_edge.specs.Answering.{iface_byte}
 use Rattle.socket_edge.specs.Requests.{Next, Whole, Cut, Bad, announced, longest, head_with, head_of, what_of, with_body, next}
 use Rattle.socket_edge.specs.Framing.{Framed, whole_frames}
-use Rattle.socket_edge.specs.Streams.{AreBytes, kind_of, interface_of, request_body, longest_body, header, request, Fits, IsNoFrame, header_fault, IsFaulty, IsStream}
+use Rattle.packet.specs.Laws.{AreBytes}
+use Rattle.socket_edge.specs.Streams.{kind_of, interface_of, request_body, longest_body, header, request, Fits, IsNoFrame, header_fault, IsFaulty, IsStream}
 use Rattle.socket_edge.proofs.Frames.{framed_whole, framed_cut, framed_bad}
 use Rattle.socket_edge.proofs.Fronts.{head_stays, next_shorter}
 

@@ -128,11 +128,11 @@ end_of (halt.Bad header.TooLong) = Err TooLong
 end_of (halt.Refused fault) = Err (Gateway fault)
 
 -- the gateway refused nothing
-abbrev pub GoesOn : Step → Type 0
-GoesOn (step.Took forwarded) = Unit {0}
-GoesOn (step.Ends halt.Cut) = Unit {0}
-GoesOn (step.Ends (halt.Bad fault)) = Unit {0}
-GoesOn (step.Ends (halt.Refused fault)) = ⊥
+abbrev pub RefusesNone : Step → Type 0
+RefusesNone (step.Took forwarded) = Unit {0}
+RefusesNone (step.Ends halt.Cut) = Unit {0}
+RefusesNone (step.Ends (halt.Bad fault)) = Unit {0}
+RefusesNone (step.Ends (halt.Refused fault)) = ⊥
 
 module _ {D : Type 0} (honest : D → Type 0) (moment : D → ℕ) (left : D → ℕ → Files → Type 0)
     (failed : D → ℕ) where

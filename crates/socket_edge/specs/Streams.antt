@@ -1,5 +1,5 @@
 -- Streams in the words of the format: whole frames, and then an end.
-use Rattle.std.specs.Prelude.{◌≡◌, ◌≢◌, ◌<◌, ◌≤◌, ◌^◌, ◌==◌, ◌||◌, ◌&&◌, ◌⊎◌, ℕ, List, [], ◌∷◌, ◌++◌, length, slice_index, Option, Some, None, not, nat_lt, if◌then◌else◌}
+use Rattle.std.specs.Prelude.{◌≡◌, ◌≢◌, ◌<◌, ◌≤◌, ◌^◌, ◌==◌, ◌||◌, ◌&&◌, ◌⊎◌, ℕ, List, [], ◌∷◌, ◌++◌, length, Option, Some, None, not, nat_lt, if◌then◌else◌}
 use Rattle.std.specs.List.{flat_map, AllByRecursion}
 use Rattle.byteorder.specs.Endian.{big_bytes}
 use Rattle.rulesyntax.specs.Text.{greatest_length}
@@ -10,10 +10,6 @@ use Rattle.socket_edge.specs.declared.fault.HeaderFault.{HeaderFault}
 use Rattle.socket_edge.specs.declared.fault.HeaderFault.TheVariants.{BadKind, BadInterface, TooLong}
 use Rattle.socket_edge.specs.Answering.{iface_byte}
 use Rattle.socket_edge.specs.Framing.{Remainder, Rest, Fault, Framed}
-
--- a byte is below 256
-abbrev pub AreBytes : List ℕ → Type 0
-AreBytes bytes = (i : ℕ) → slice_index bytes i < 256
 
 -- 1 packet, 2 load, 3 moment
 abbrev pub kind_of : What → ℕ

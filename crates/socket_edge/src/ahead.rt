@@ -9,11 +9,11 @@ use gateway::{Coming, Gateway, Iface, MOST_AHEAD};
 use packet::endpoint::{Endpoint, Proto};
 
 /// Where fewer of the packets at the front than this come from another flow than the one before, their sessions are
-/// near.
+/// close together in memory.
 const FEW_APART: usize = 8;
 
-/// Where the sessions are near, it isn't looked ahead for so many frames behind the next one.
-const NEAR_FRAMES: usize = 128;
+/// Where the sessions are close together, it isn't looked ahead for so many frames behind the next one.
+const CLOSE_FRAMES: usize = 128;
 
 /// The bytes of a packet up to its ports and with them, where it has no options.
 const WITH_PORTS: usize = 24;
@@ -59,7 +59,7 @@ impl Ahead {
 // Looks ahead for the whole frames at the front, 16 at most.
 fn look_ahead<D: Disk + Drop>(bytes: &[u8], gateway: &Gateway<D>) -> Ahead {
     if !gateway.is_wide() {
-        return unasked(NEAR_FRAMES);
+        return unasked(CLOSE_FRAMES);
     }
     let mut coming = [NOTHING; MOST_AHEAD];
     let count = fill(&mut coming, bytes);
@@ -74,7 +74,7 @@ fn look_ahead<D: Disk + Drop>(bytes: &[u8], gateway: &Gateway<D>) -> Ahead {
     unasked(if count < MOST_AHEAD {
         frames
     } else {
-        NEAR_FRAMES
+        CLOSE_FRAMES
     })
 }
 
@@ -86,7 +86,7 @@ fn unasked(frames: usize) -> Ahead {
     }
 }
 
-// Puts down by what the packets at the front are looked for, as far as there are whole frames of packets. Answers how
+// Puts down by what the packets at the front are looked for, as far as there are whole frames of packets. Says how
 // many it put.
 fn fill(coming: &mut [Coming; MOST_AHEAD], bytes: &[u8]) -> usize {
     let (mut rest, mut count) = (bytes, 0usize);

@@ -176,7 +176,7 @@ fn frame_len(answer: &Answer) -> usize
     ANSWER_HEAD + body_len(answer) as usize
 }
 
-/// Writes the frame of an answer with this number over the first bytes, if it fits. Answers how many it has.
+/// Writes the frame of an answer with this number over the first bytes, if it fits. Says how many it has.
 fn fill_frame(bytes: &mut [u8], number: u64, answer: &Answer) -> Option<usize>
     ensures some { IfSome result (λ n. (n ≤ length bytes.new)
         × (take n bytes.new ≡ frame (number, answer.now))) }
@@ -191,7 +191,7 @@ fn fill_frame(bytes: &mut [u8], number: u64, answer: &Answer) -> Option<usize>
     Some(len)
 }
 
-/// Writes the frames of answers, each with its number, over the first bytes, if all fit. Answers how many they have.
+/// Writes the frames of answers, each with its number, over the first bytes, if all fit. Says how many they have.
 pub fn fill_frames(bytes: &mut [u8], answers: &[(u64, Answer)]) -> Option<usize>
     ensures some { IfSome result (λ n. (n ≤ length bytes.new)
         × (take n bytes.new ≡ frames answers.now)) }

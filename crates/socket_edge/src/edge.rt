@@ -36,7 +36,7 @@ struct Room {
     bodies: Vec<Vec<u8>>,
 }
 
-/// Offers the whole frames at the front of `waiting`, and writes their answers. Answers how many there were.
+/// Offers the whole frames at the front of `waiting`, and writes their answers. Says how many there were.
 fn answer_front<W: Write, D: Disk + Drop>(
     alloc: Global,
     writer: &mut W,

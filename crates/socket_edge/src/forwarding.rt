@@ -11,7 +11,7 @@ use gateway::running::forward;
 use gateway::{Gateway, Iface};
 
 /// Offers the packet of a request's frame to the gateway. Where it leaves at once, the frame becomes that of its
-/// answer; otherwise nothing has changed. Answers whether it left. The moment is in seconds.
+/// answer; otherwise nothing has changed. Says whether it left. The moment is in seconds.
 pub fn forward_frame<D: Disk + Drop>(
     bytes: &mut [u8],
     moment: u64,

@@ -134,7 +134,7 @@ fn copied(alloc: Global, bodies: &mut Vec<Vec<u8>>, bytes: &[u8]) -> Result<Vec<
     Ok(body)
 }
 
-/// Takes what stands at the front of the bytes. Its body is put where one of `bodies` was, if there are any.
+/// Copies what stands at the front of the bytes. Its body is put where one of `bodies` was, if there are any.
 ///
 /// # Errors
 ///

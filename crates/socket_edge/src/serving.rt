@@ -14,7 +14,7 @@ ghost use Rattle.gateway.specs.Running.{Stands};
 ghost use Rattle.machine.specs.declared.event.Answer.{Answer};
 ghost use Rattle.socket_edge.specs.Answering.{frames};
 ghost use Rattle.socket_edge.specs.Running.{CarriesBehind, BreaksBehind, Stepped, Offered, Closed};
-ghost use Rattle.socket_edge.specs.Running.{GoesOn, end_of};
+ghost use Rattle.socket_edge.specs.Running.{RefusesNone, end_of};
 
 use crate::ahead::Ahead;
 use crate::fault::{EdgeFault, HeaderFault};
@@ -193,7 +193,7 @@ fn offer_copy<D: Disk + Drop>(
         × ((before : List (ℕ × Answer)) → Stepped D.honest D.moment D.left D.failed result
         waiting.old.unanswered waiting.new.unanswered gateway.old gateway.new
         (before ++ answers.old.items) (before ++ (handed ++ answers.new.items))) }
-    ensures stands { GoesOn result → gateway.new.fallen ≡ false }
+    ensures stands { RefusesNone result → gateway.new.fallen ≡ false }
     ensures room { vec_len answers.new + length gateway.new.told.held ≤ vec_capacity answers.new }
 {
     match take_frame(alloc, bodies, waiting.unanswered()) {
@@ -239,7 +239,7 @@ fn offer_next<D: Disk + Drop>(
         × ((before : List (ℕ × Answer)) → Stepped D.honest D.moment D.left D.failed result
         waiting.old.unanswered waiting.new.unanswered gateway.old gateway.new
         (before ++ answers.old.items) (before ++ (handed ++ answers.new.items))) }
-    ensures stands { GoesOn result → gateway.new.fallen ≡ false }
+    ensures stands { RefusesNone result → gateway.new.fallen ≡ false }
     ensures room { vec_len answers.new + length gateway.new.told.held ≤ vec_capacity answers.new }
 {
     if !hopeful || !is_idle(answers.as_slice(), gateway) {

@@ -34,7 +34,7 @@ pub enum Unread {
     Failed,
 }
 
-/// The bytes that wait, seen as the list of them, and the bytes that answer what stood in front of them.
+/// The bytes that wait, and the bytes that answer what stood in front of them. Contracts see both as an `Exchange`.
 #[derive(Drop)]
 pub struct Waiting {
     bytes: Vec<u8>,
@@ -98,7 +98,7 @@ impl Waiting {
     }
 
     /// Puts the frames of the answers behind the others, if there is room for all of them in front of the bytes that
-    /// wait. Answers whether there was.
+    /// wait. Says whether there was.
     pub fn put(&mut self, answers: &[(u64, Answer)]) -> bool
         ensures put { result ≡ true
             → self.new ≡ record self.old { answered = self.old.answered ++ frames answers.now } }
@@ -120,7 +120,7 @@ impl Waiting {
     }
 
     /// Offers the packet at the front, where a whole frame of one stands there. If it leaves at once, the frame becomes
-    /// that of its answer and stands behind the other answers; otherwise nothing has changed. Answers whether it left.
+    /// that of its answer and stands behind the other answers; otherwise nothing has changed. Says whether it left.
     pub fn forward_next<D: Disk + Drop>(&mut self, gateway: &mut Gateway<D>) -> bool
         requires stands { gateway.old.fallen ≡ false }
         ensures left { result ≡ true → (event : Event) × (answer : ℕ × Answer)

@@ -1,7 +1,7 @@
 //! The idle times of sessions: which of them are alive no longer.
 //!
 //! The sessions that are watched stand in three queues, one for each timeout: 240, 300 and 7440 seconds.
-//! Moments never fall, and a session goes to the end of its queue with each packet; so a queue rises by the
+//! Moments never fall, and a session goes to the end of its queue with each later moment; so a queue rises by the
 //! last moments, and the sessions that are over are the first ones of it. To watch a session, to touch it
 //! and to watch it no longer take constant time; to tell which are over takes time by their number, and
 //! looks at no session behind the first one of each queue that is alive. A slot takes 32 bytes, whether a
