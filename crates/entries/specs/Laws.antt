@@ -45,7 +45,7 @@ EntriesAreNeeded =
     → AreEntriesOf config s judged entries
     → (entries ≡ []) ↔ ¬ HasEntry config s judged
 
--- every event has entries
+-- of every event there is a list of entries, which may be empty
 abbrev pub EntriesAreThere : Type 0
 EntriesAreThere = (config : Config) (s : State) (judged : Judged) → IsSound config s
     → (entries : List Entry) × AreEntriesOf config s judged entries

@@ -15,7 +15,7 @@ pub fn entries_are_needed()
     ensures { EntriesAreNeeded }
 {}
 
-/// Every event has entries.
+/// Of every event there is a list of entries, which may be empty.
 pub fn entries_are_there()
     ensures { EntriesAreThere }
 {}

@@ -20,7 +20,7 @@ pub record Standing : Type 0 where
   pub state : State
   pub held : ℕ
 
--- an event is taken: it is held, or answered at once where nothing is held and nothing changes that must survive
+-- an event is taken: it is held, or answered at once where nothing is held and the event has no entry
 pub record Offers (config : Config) (event : Event) (old new : Standing) : Type 0 where
   pub stays : new.first ≡ old.first
   pub judged : Judged

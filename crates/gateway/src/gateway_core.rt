@@ -243,8 +243,9 @@ impl<D: Disk + Drop> Gateway<D> {
         store.into_disk()
     }
 
-    /// Takes an event and gives it the next number. It is answered at once exactly where nothing is held and the event
-    /// changes nothing that must survive; otherwise its answer is held. No call of the disk is made.
+    /// Takes an event and gives it the next number. It is answered at once exactly where nothing is held and the event has
+    /// no entry: no session ends, no text is taken, and nothing that must survive changes; otherwise its answer is held.
+    /// No call of the disk is made.
     ///
     /// # Errors
     ///
@@ -257,8 +258,8 @@ impl<D: Disk + Drop> Gateway<D> {
     /// - `Full` only where the entries that wait, and those of this event, would end past the greatest length of a file:
     ///   14 bytes for each session that ends, and 44 for a packet, however few it needs (two sessions that it begins need
     ///   as many), or 5 and the text for a text that loads. One that needs none, where none ends, isn't refused so.
-    /// - `NoMemory` where memory is refused; never where nothing is held, and the event brings no text and changes
-    ///   nothing that must survive. Where it brings no text, and no session ends or begins, it comes only where its
+    /// - `NoMemory` where memory is refused; never where nothing is held, and the event brings no text and has no entry.
+    ///   Where it brings no text, and no session ends or begins, it comes only where its
     ///   entries fit.
     #[inline(always)]
     pub fn offer(&mut self, event: Event) -> Result<Given, (Event, GatewayFault)>
