@@ -1,6 +1,6 @@
-//! The frames of answers: put behind bytes (`put_frames`), written over those of their requests (`fill_frames`), or as
-//! far as a packet that lies there already (`forward_front`).
-ghost use Rattle.std.specs.Prelude.{◌≡◌, ◌+◌, ◌<◌, ◌≤◌, ℕ, List, [], ◌∷◌, ◌++◌, IfSome, IfNone, OnOk, OnErr, length, take};
+//! The frames of answers: written over those of their requests (`fill_frames`), or as far as a packet that lies there
+//! already (`forward_front`). Only `sending::send_all`, for other callers, puts them behind bytes (`put_frames`).
+ghost use Rattle.std.specs.Prelude.{◌≡◌, ◌+◌, ◌<◌, ◌≤◌, ◌^◌, ℕ, List, [], ◌∷◌, ◌++◌, IfSome, IfNone, OnOk, OnErr, length, take};
 ghost use Rattle.byteorder.specs.Endian.{big_bytes};
 ghost use Rattle.machine.specs.declared.event.Answer.TheVariants.{Forward};
 ghost use Rattle.socket_edge.specs.Answering.{iface_byte, kind_byte, answer_body, frame_head, frame, frames};
@@ -82,7 +82,7 @@ fn front_bytes(number: u64, answer: &Answer, first: u8) -> [u8; ANSWER_FRONT]
 
 /// All bytes in front of the packet in the frame of a packet that leaves, whose length is in bytes.
 pub fn forward_front(number: u64, iface: Iface, len: usize) -> [u8; ANSWER_FRONT]
-    requires { len ≤ 65535 }
+    requires { len < 2 ^ 31 }
     ensures { (packet : List ℕ) → length packet ≡ len
         → result ++ packet ≡ frame (number, Forward iface packet) }
 {
@@ -144,19 +144,15 @@ pub fn put_frames(out: &mut Vec<u8>, answers: &[(u64, Answer)]) -> Result<(), Al
     Ok(())
 }
 
-/// Writes a body over these bytes, which are as many.
-fn write_body_over(bytes: &mut [u8], answer: &Answer)
-    requires { length bytes.old ≡ length (answer_body answer.now) }
-    ensures { bytes.new ≡ answer_body answer.now }
+/// Writes the frame of a packet that leaves over these bytes, which are as many.
+fn write_forward_over(bytes: &mut [u8], number: u64, iface: Iface, packet: &[u8])
+    requires small { length packet.now < 2 ^ 31 }
+    requires len { length bytes.old ≡ 14 + length packet.now }
+    ensures { bytes.new ≡ frame (number, Forward iface packet.now) }
 {
-    match answer {
-        Answer::Forward(iface, packet) => {
-            bytes[0] = byte_of(*iface);
-            bytes[1..].copy_from_slice(packet.as_slice());
-        }
-        Answer::Dropped(cause) => bytes[0] = *cause,
-        _ => {}
-    }
+    let (front, body) = bytes.split_at_mut(ANSWER_FRONT);
+    front.copy_from_slice(&forward_front(number, iface, packet.len()));
+    body.copy_from_slice(packet);
 }
 
 /// Writes the frame of an answer over these bytes, which are as many.
@@ -164,9 +160,13 @@ fn write_frame_over(bytes: &mut [u8], number: u64, answer: &Answer)
     requires { length bytes.old ≡ 13 + length (answer_body answer.now) }
     ensures { bytes.new ≡ frame (number, answer.now) }
 {
-    let (head, body) = bytes.split_at_mut(ANSWER_HEAD);
-    head.copy_from_slice(&head_bytes(number, answer));
-    write_body_over(body, answer);
+    match answer {
+        Answer::Forward(iface, packet) => {
+            write_forward_over(bytes, number, *iface, packet.as_slice())
+        }
+        Answer::Dropped(cause) => bytes.copy_from_slice(&front_bytes(number, answer, *cause)),
+        _ => bytes.copy_from_slice(&head_bytes(number, answer)),
+    }
 }
 
 /// How many bytes the frame of an answer has.

@@ -1,9 +1,13 @@
-use Rattle.std.proofs.Common.{◌++◌, ap, ◌∙◌, List, ℕ}
-use Rattle.socket_edge.specs.Answering.{frame_head}
-use Rattle.socket_edge.proofs.Written.{frame_parts}
+use Rattle.std.proofs.Common.{[], ap, ◌∙◌}
+use Rattle.socket_edge.specs.Answering.{answer_body}
+use Rattle.socket_edge.proofs.Written.{frame_bare, frame_whole}
 use Rattle.socket_edge.proofs.answer.write_frame_over.Goals as goal
 
-pub returns : goal.returns
-returns c =
-    ap (λ (x : List ℕ). x ++ c.write_body_over.new.bytes) (c.copy_from_slice.ensures.after ∙ c.head_bytes.ensures) ∙ ap (λ (x : List ℕ). frame_head (c.args.number, c.args.answer.now) ++ x) c.write_body_over.ensures
-    ∙ frame_parts (c.args.number, c.args.answer.now)
+pub returns-in-Dropped : goal.returns-in-Dropped
+returns-in-Dropped c =
+    c.copy_from_slice.ensures.after ∙ c.front_bytes.ensures
+    ∙ frame_whole [] (c.args.number, c.args.answer.now) c.in-Dropped.cause (ap answer_body c.in-Dropped.is)
+
+pub returns-in_default : goal.returns-in_default
+returns-in_default c =
+    c.copy_from_slice-in_default.ensures.after ∙ c.head_bytes.ensures ∙ frame_bare (c.args.number, c.args.answer.now) c.in_default.not-Forward c.in_default.not-Dropped
