@@ -353,15 +353,16 @@ pub(crate) fn answer_packet<N: Notes>(
 {
     bounds.facts();
     let rules = &in_force.rules;
-    let read = View::read(bytes.as_slice());
-    match &read {
-        Err(fault) => Ok(drop_for(Cause::Packet(*fault))),
-        Ok(view) => match bounds.route(iface, view) {
+    match View::read(bytes.as_slice()) {
+        Err(fault) => Ok(drop_for(Cause::Packet(fault))),
+        Ok(view) => match bounds.route(iface, &view) {
             Err(fault) => Ok(drop_for(Cause::Route(fault))),
-            Ok(route) => match glance_showing(flows, rules, bounds, route, view) {
+            Ok(route) => match glance_showing(flows, rules, bounds, route, &view) {
                 Some(going) => answer_going(flows, ready, &going, bytes, now, notes),
                 None => {
-                    answer_by_plan(flows, rules, bounds, ready, route, view, bytes, now, notes)
+                    // In memory for this way alone, since a plan is made by a call.
+                    let view = view;
+                    answer_by_plan(flows, rules, bounds, ready, route, &view, bytes, now, notes)
                 }
             },
         },

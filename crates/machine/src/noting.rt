@@ -1,7 +1,7 @@
 //! The entries by which a change of a session is noted, or a plan of one or two changes.
 //!
-//! - Of a change: whether it makes an entry (`makes_entry`), which (`entry_for`), and room for it (`make_room_to_note`,
-//!   `note`).
+//! - Of a change: whether it makes an entry (`makes_entry`), which (`entry_for`, `between`), room for it
+//!   (`make_room_to_note`), and that it is noted (`note`).
 //! - Of a plan: whether it makes one (`plan_makes_entry`), and whether it adds a session (`adds_any`), which it needs room
 //!   for beside.
 ghost use Rattle.std.specs.Prelude.{◌≡◌, ◌≢◌, ◌↔◌, ◌+◌, ◌<◌, ◌≤◌, ◌++◌, [], ℕ, List, IsErrOf, IsOk, IsTrue, OnOk};
@@ -75,7 +75,7 @@ fn shows_more(session: &Session, bits: u8) -> bool
 }
 
 // Whether the session isn't as one that begins from this side.
-fn begins_anew(session: &Session, opener: Opener) -> bool
+fn restart_changes(session: &Session, opener: Opener) -> bool
     ensures { (now : ℕ) → IsTrue result
         ↔ (entries_between session.now (restarted session.now opener now) ≢ []) }
 {
@@ -97,7 +97,7 @@ pub fn makes_entry(table: &Table, change: &Change) -> bool
             None => false,
         },
         Change::Restart(slot, opener) => match table.get(*slot) {
-            Some(session) => begins_anew(&session, *opener),
+            Some(session) => restart_changes(&session, *opener),
             None => false,
         },
     }
@@ -142,7 +142,9 @@ pub fn make_room_to_note<N: Notes>(
     notes.reserve(0, MOST_OF_PACKET)
 }
 
-/// The entry that a change of a session makes, if it makes one; the table is that before the change.
+/// The entry that a change of a session makes, if it makes one; the table is that before the change. Compiled into its
+/// callers, of which one knows the kind of change.
+#[inline(always)]
 pub fn entry_for(table: &Table, change: &Change) -> Option<Entry<'static>>
     requires { (external now : ℕ) × (t : Flowing) × Gives external table.now.held now change.now t }
     ensures entry { (external now : ℕ) (t : Flowing)
@@ -173,7 +175,9 @@ pub fn entry_for(table: &Table, change: &Change) -> Option<Entry<'static>>
     }
 }
 
-/// Notes an entry if there is one, which has a code, and for which there is room.
+/// Notes an entry if there is one, which has a code, and for which there is room. Compiled into its callers, with which an
+/// entry needn't be moved.
+#[inline(always)]
 pub fn note<N: Notes>(notes: &mut N, entry: Option<Entry<'_>>)
     requires coded { AreEntries (listed entry) }
     requires room { N.keeps notes.old → bytes_of (listed entry) ≤ N.room notes.old }

@@ -22,5 +22,5 @@ pub returns-in-Some-get : goal.returns-in-Some-get
 returns-in-Some-get c = λ external now t gives.
     let held = c.args.table.now.held in
     let told = restart-told held (Apart-sound held c.is_sound.ensures) external now c.in-Restart.slot c.in-Restart.opener c.in-Some-get.session t (sym c.get-in-Restart.ensures.value ∙ c.in-Some-get.is) (rw c.in-Restart.is at gives) in
-    let tells = c.begins_anew.ensures now in
+    let tells = c.restart_changes.ensures now in
     rw told at tells
