@@ -6,7 +6,7 @@ use gateway::{GatewayFault, OpenFault};
 use refusals::Refusal;
 use socket_edge::EdgeFault;
 
-/// The refusal for a fault of the gateway. `HeldFull`, which no run ends with, counts as `Full`.
+/// The refusal for a fault of the gateway. `HeldFull` counts as `Full`; no run ends with either.
 pub(crate) fn of_gateway(fault: GatewayFault) -> Refusal
     ensures { result ≡ gateway_refusal fault }
 {

@@ -86,8 +86,8 @@ fn unsuitable(
 ///
 /// # Errors
 ///
-/// `File` where the files can't be opened, or another program has them; `Device`, `Damaged`, `ConfigDiffers` or
-/// `NoMemory` where no gateway opens over them.
+/// `File` where the files can't be opened, or another program has them; `Device`, `Damaged` or `ConfigDiffers` where no
+/// gateway opens over them; `NoMemory` where memory is refused, to the one or the other.
 pub fn open(
     rt: &HostRuntime,
     sides: &Sides<'_>,

@@ -1,4 +1,4 @@
--- What stands behind a heading, from left to right. These are tools of the proofs: contracts cite `Recovery`.
+-- What stands behind a heading, from left to right. Private contracts cite these, and public ones `Recovery`.
 use Rattle.std.specs.Prelude.{◌≡◌, ◌≢◌, ◌<◌, ◌^◌, ℕ, List, ◌∷◌, ◌++◌, length}
 use Rattle.std.specs.List.{All}
 use Rattle.packet.specs.Config.{Config}

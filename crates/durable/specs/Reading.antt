@@ -1,4 +1,5 @@
--- Reading values from the front of bytes, from left to right. These are tools of the proofs: contracts cite `Coding`.
+-- Reading values from the front of bytes, from left to right. Private contracts cite these, and what contracts see of
+-- `Pending` (`gateway/specs/HeldAnswers`); public ones cite `Coding`.
 use Rattle.std.specs.Prelude.{◌≡◌, ℕ, zero, suc, List, [], ◌∷◌, length, take, drop, Option, Some, None, Result, Ok, Err, nat_lt, nat_le, ◌==◌, if◌then◌else◌}
 use Rattle.byteorder.specs.Endian.{big_number}
 use Rattle.packet.specs.declared.endpoint.Proto.{Proto}

@@ -1,4 +1,4 @@
-//! Whether a stored configuration is one.
+//! Whether a stored configuration is one, and whether two configurations are the same.
 ghost use Rattle.std.specs.Prelude.{◌≡◌, IsTrue, IfOk, IsErrOf, string_bytes};
 ghost use Rattle.packet.specs.Config.{is_config, is_name};
 ghost use Rattle.durable.specs.Viewing.{config_view};
@@ -9,7 +9,7 @@ use packet::bounds::Bounds;
 use packet::endpoint::Prefix;
 use std::alloc::Global;
 
-// The name as a string; what is no ASCII is no name.
+// The name as a string. What isn't UTF-8 is no name; of the rest `Bounds::new` judges.
 fn string_of(alloc: Global, bytes: &[u8]) -> Result<String, DurableFault>
     ensures ok { IfOk result (λ name. string_bytes name ≡ bytes.now) }
     ensures damaged { IsErrOf result DurableFault.Damaged → ¬ IsTrue (is_name bytes.now) }

@@ -247,8 +247,8 @@ fn put_generation(out: &mut Vec<u8>, generation: u64) -> Result<(), AllocError>
     out.extend_from_slice(&generation.to_be_bytes())
 }
 
-/// Puts a heading behind the bytes: mark, generation, configuration, and a snapshot of the text and the sessions. Both must
-/// be fewer than 2^32.
+/// Puts a heading behind the bytes: mark, generation, configuration, and a snapshot of the text and the sessions. The
+/// bytes of the text are fewer than 2^32, and so are the sessions.
 ///
 /// # Errors
 ///

@@ -29,8 +29,8 @@ pub fn behind_gate(bytes: &[u8]) -> Option<&[u8]>
     Some(rest)
 }
 
-/// The text whose code is the front of the bytes, and what stands behind it.
-fn whole_text(bytes: &[u8]) -> Option<(&[u8], &[u8])>
+/// The body whose length and bytes are the front of the bytes, coded as a text is, and what stands behind it.
+fn whole_body(bytes: &[u8]) -> Option<(&[u8], &[u8])>
     ensures ok { IfSome result (λ x. Begins (λ t. length t < 2 ^ 32) (text_bytes 4) bytes.now
         x.0.now x.1.now) }
     ensures none { IfNone result (NoneBegins (λ t. length t < 2 ^ 32) (text_bytes 4) bytes.now) }
@@ -61,7 +61,7 @@ pub fn enter_groups<'a>(
     let mut present = text;
     let mut rest = bytes;
     while let Some(behind) = behind_gate(rest) {
-        let Some((body, after)) = whole_text(behind) else {
+        let Some((body, after)) = whole_body(behind) else {
             return Err(DurableFault::Damaged);
         };
         present = enter_body(alloc, bounds, present, table, body)?;

@@ -6,7 +6,7 @@
 //! - `decoding`: sessions and entries read from bytes.
 //! - `recovery`: the state that two files stand for, or why they stand for none.
 //! - `heading`: what stands behind the gate of a file: mark, generation, configuration and snapshot.
-//! - `bounds`, `texts`: whether a stored configuration is one, and whether a stored text loads under it.
+//! - `bounds`, `texts`: whether a stored configuration is one, or another, and whether a stored text loads under it.
 //! - `entering`, `groups`: entries, and groups of them, that change the state which is read.
 //! - `fields`: numbers, texts and endpoints in bytes.
 //! - `fault`: why bytes stand for nothing.

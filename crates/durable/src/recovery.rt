@@ -238,7 +238,8 @@ fn choose<'a>(
 /// What two files stand for, by their bytes: the active one with its state, or none where no file is open, which
 /// stands for the empty state.
 ///
-/// It takes time in proportion to the bytes, apart from the texts in them that are loaded.
+/// By the code, which no clause says, it goes over the bytes once, with a look-up for each entry; texts that are loaded
+/// come on top.
 ///
 /// # Errors
 ///

@@ -59,8 +59,8 @@ QuietStepsKeep =
     → lasting (step config s judged).0 ≡ lasting s
 
 -- whether an event has entries does not depend on the order that the sessions which end are told in
-abbrev pub EntriesAreOne : Type 0
-EntriesAreOne =
+abbrev pub EntriesAgreeOnNone : Type 0
+EntriesAgreeOnNone =
     (config : Config) (s : State) (judged : Judged) (entries others : List Entry)
     → AreEntriesOf config s judged entries → AreEntriesOf config s judged others
     → (entries ≡ []) ↔ (others ≡ [])

@@ -1,5 +1,5 @@
 //! What follows from the definitions: each function is proved to meet its clause.
-ghost use Rattle.entries.specs.Laws.{ChangesAreTold, DueSlotsAreOver, EntriesAreNeeded, EntriesAreOne};
+ghost use Rattle.entries.specs.Laws.{ChangesAreTold, DueSlotsAreOver, EntriesAreNeeded, EntriesAgreeOnNone};
 ghost use Rattle.entries.specs.Laws.{EntriesArePinned, EntriesAreTheStep, EntriesAreThere, FlowsAreNotedApart};
 ghost use Rattle.entries.specs.Laws.{LastingIsSound, QuietStepsKeep, RestartsAreSound, RestartsAreThere};
 ghost use Rattle.entries.specs.Laws.{RunsAreEntered, TablesTellEntries};
@@ -26,8 +26,8 @@ pub fn quiet_steps_keep()
 {}
 
 /// Of two lists of entries of an event both are empty or neither.
-pub fn entries_are_one()
-    ensures { EntriesAreOne }
+pub fn entries_agree_on_none()
+    ensures { EntriesAgreeOnNone }
 {}
 
 /// The entry that makes one session another is told by their openers and by what was seen of them.

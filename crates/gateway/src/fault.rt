@@ -1,7 +1,9 @@
 //! Why a gateway doesn't do what it was asked.
 use thiserror::Error;
 
-/// Why a gateway doesn't do what it was asked. An event that several of them refuse is refused as the first.
+/// Why a gateway doesn't do what it was asked. `Reopen`, `NumbersOut` and `HeldFull` come before the others, in this
+/// order. Where a text comes, or a session ends or begins, memory may be refused before it is seen that the file is full:
+/// then it is `NoMemory`.
 #[derive(Clone, Copy, Debug, PartialEq, Eq, Drop, Error)]
 pub enum GatewayFault {
     /// A call of the disk failed before; the gateway has to be opened again over its files.

@@ -83,7 +83,7 @@ impl<D: Disk + Drop> Model for Gateway<D> {
 impl<D: Disk + Drop> Gateway<D> {
     /// Opens the gateway that two files keep. Nothing is held, and no number is given yet. The last packet of each
     /// session is taken to have passed at this moment, in seconds, which is the clock's. Both files are synced, then
-    /// read; where neither gate is open, file A is made, for no text and no session.
+    /// read; where neither gate is open, file A is made anew, for no text and no session.
     ///
     /// # Errors
     ///
@@ -92,9 +92,11 @@ impl<D: Disk + Drop> Gateway<D> {
     /// - `Device` where a call of the disk has failed. The files stand for what they stood for.
     /// - `Damaged` only where the files, as they read, stand for no state. They are not changed.
     /// - `ConfigDiffers` only where they stand for one, and the active file has another configuration than these
-    ///   bounds. They are not changed. There the one or the other always comes, unless memory is refused or a call of
-    ///   the disk fails.
+    ///   bounds. They are not changed.
     /// - `NoMemory` where memory is refused. The files stand for what they stood for.
+    ///
+    /// Where the files stand for no state, or the active one has another configuration, `Damaged` or `ConfigDiffers`
+    /// comes, unless memory is refused or a call of the disk fails.
     pub fn open(
         alloc: Global,
         disk: D,
@@ -249,18 +251,19 @@ impl<D: Disk + Drop> Gateway<D> {
     ///
     /// # Errors
     ///
-    /// The event comes back, and nothing has changed: it has no number, the clock stays, and no session ends. In this
-    /// order:
+    /// The event comes back, and nothing has changed: it has no number, the clock stays, and no session ends. The first
+    /// three come in this order, and before the others.
     ///
     /// - `Reopen` exactly where a call of the disk has failed before.
     /// - `NumbersOut` exactly where the last number was 2^64 - 1.
     /// - `HeldFull` exactly where 64 answers are held.
-    /// - `Full` only where the entries that wait, and those of this event, would end past the greatest length of a file:
-    ///   14 bytes for each session that ends, and 44 for a packet, however few it needs (two sessions that it begins need
-    ///   as many), or 5 and the text for a text that loads. One that needs none, where none ends, isn't refused so.
+    /// - `Full` only where the entries that wait, those of this event, and 6 bytes around their group would end past the
+    ///   greatest length of a file. This event's count as 14 bytes for each session that ends, and 44 for a packet,
+    ///   however few it needs (two sessions that it begins need as many), or 5 and the text for a text that loads. An
+    ///   event that needs none, where none ends, isn't refused so; a clause says it where nothing is held.
     /// - `NoMemory` where memory is refused; never where nothing is held, and the event brings no text and has no entry.
-    ///   Where it brings no text, and no session ends or begins, it comes only where its
-    ///   entries fit.
+    ///   Where it brings no text, and no session ends or begins, it comes only where its entries fit; elsewhere it may
+    ///   come although they don't.
     #[inline(always)]
     pub fn offer(&mut self, event: Event) -> Result<Given, (Event, GatewayFault)>
         ensures disk { self.new.disk ≡ self.old.disk }

@@ -60,8 +60,8 @@ pub(crate) fn take_all<D: Disk + Drop>(
 ///
 /// # Errors
 ///
-/// The gateway's fault. The event isn't taken, and doesn't come back. What was handed out before it is behind the other
-/// answers; unless a call of the disk has failed, the gateway may go on.
+/// The gateway's fault, `HeldFull` and `Full` never. The event isn't taken, and doesn't come back. What was handed out
+/// before it is behind the other answers; unless a call of the disk has failed, the gateway may go on.
 pub fn take<D: Disk + Drop>(
     gateway: &mut Gateway<D>,
     event: Event,

@@ -11,7 +11,7 @@ use Rattle.mappings.specs.Map.{Pairs, times, pair}
 pub record Translations : Type 0 where
   pub external : ℕ
   pub pairs : Pairs
-  pub ports : ℕ
+  pub port_room : ℕ
 
 -- the endpoint at this address and port
 abbrev pub endpoint : ℕ → ℕ → Endpoint
@@ -35,4 +35,4 @@ pub record Follows (external : ℕ) (pairs : Pairs) (ports : TakenPorts) : Type 
 -- so many more pairs take no memory
 pub record HasRoom (n : ℕ) (t : Translations) : Type 0 where
   pub pairs : n ≤ t.pairs.room
-  pub ports : n ≤ t.ports
+  pub ports : n ≤ t.port_room

@@ -1,7 +1,8 @@
 //! A packet whose session goes on, and is told by a first look. By `goes_out` and `comes_in`, the shortest way, which
-//! nearly all go, it shows nothing of its session that wasn't seen before; by `goes_out_showing` and `comes_in_showing`,
-//! the short way, perhaps something. Each of the four finds the session (`glanced_out`, `glanced_in`), asks what the packet shows of it (`shown`, `shown_again`), and has
-//! the forward chains decide (`on_out`, `on_in`).
+//! nearly all go, it shows nothing of its session that wasn't seen before; by `goes_out_showing` and
+//! `comes_in_showing`, the short way, perhaps something. Each of the four finds the session (`glanced_out`,
+//! `glanced_in`), asks what the packet shows of it (`shown`, `shown_again`), and has the forward chains decide
+//! (`on_out`, `on_in`).
 ghost use Rattle.std.specs.Prelude.{◌≡◌, ℕ, List, Option as Maybe, IfOk, IfSome, Some, None, bit_or, slice_index_or};
 ghost use Rattle.sessions.specs.Listing.{find, has_inside, has_outside, listing};
 ghost use Rattle.sessions.specs.Table.{at};

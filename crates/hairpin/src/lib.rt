@@ -2,7 +2,8 @@
 //!
 //! A leg says by which sessions a packet passes and how it leaves (a `Plan`), or why it is dropped (a
 //! `Cause`). `specs/Legs` says what each comes to, over the sessions as a plain list, and `out_leg`, `in_leg`
-//! and `both` are proved to be it. So is what `going` has, the short way of a packet whose session goes on.
+//! and `both` are proved to be it. So are the four of `going`, for a packet whose session goes on: the shortest way
+//! (`goes_out`, `comes_in`) and the short one (`goes_out_showing`, `comes_in_showing`).
 //! These change nothing and take no memory: the crate `machine` does what a plan says
 //! (`Flows::carry_out`). It changes `Translations` by that, of which `new` and `reserve` alone take memory.
 //!

@@ -33,7 +33,7 @@ impl Model for Translations {
 
     ghost Value = { View };
 
-    ghost view = { λ t. record { external = t.external; pairs = t.map; ports = t.ports.room } };
+    ghost view = { λ t. record { external = t.external; pairs = t.map; port_room = t.ports.room } };
 
     ghost invariant = { λ t. Follows t.external t.map t.ports };
 }
@@ -105,8 +105,8 @@ impl Translations {
         }
     }
 
-    /// Whether a first look tells that a mapping of the outside endpoint is held. It says nothing of what is: whoever
-    /// asks of several in turn waits once for the memory that it takes to hold and to release them.
+    /// Whether a look into the map tells that a mapping of the outside endpoint is held. It says nothing of what is:
+    /// whoever asks of several in turn waits once for the memory that it takes to hold and to release them.
     pub fn seems_mapped(&self, proto: Proto, outside: Endpoint) -> bool {
         self.map.seems_held(proto, outside)
     }

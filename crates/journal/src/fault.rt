@@ -11,7 +11,7 @@ pub enum JournalFault {
     /// A call of the disk has failed.
     #[error("a call of the disk has failed")]
     Device,
-    /// The group would end past the greatest length of a file.
+    /// The group, with the closed gate behind it, would end past the greatest length of a file.
     #[error("the group would end past the greatest length of a file")]
     Full,
     /// One of the leading open groups isn't whole. Only `groups` tells it.

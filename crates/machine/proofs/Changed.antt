@@ -44,7 +44,7 @@ latest_update old new slot t now updates last latest = λ k s is. elim (cases_eq
 pub ready-fewer : (n m : ℕ) (f : Flows) → n ≤ m → IsReady m f → IsReady n f
 ready-fewer n m f le was = record {
   table = omega (arith, le, was.table);
-  watched = was.watched;
+  watchable = was.watchable;
   translations = record { pairs = omega (arith, le, was.translations.pairs); ports = omega (arith, le, was.translations.ports) };
 }
 

@@ -28,13 +28,13 @@ IsDue now s = timeout_of s ≤ now - s.last
 -- memory, and the mappings
 pub record Flows : Type 0 where
   pub table : table.Sessions
-  pub watched : ℕ
+  pub watchable : ℕ
   pub translations : Translations
 
 -- so many more sessions take no memory
 pub record IsReady (n : ℕ) (f : Flows) : Type 0 where
   pub table : n ≤ f.table.room
-  pub watched : f.table.slots ≤ f.watched
+  pub watchable : f.table.slots ≤ f.watchable
   pub translations : HasRoom n f.translations
 
 -- no session was seen after this moment

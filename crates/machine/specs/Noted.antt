@@ -124,12 +124,12 @@ HasEntry config s judged =
     EndsSome (later s.clock judged.moment) s ⊎ TakesText judged.deed
     ⊎ (lasting (step config s judged).0 ≢ lasting (aged (later s.clock judged.moment) s))
 
--- and these those of a run of events, in turn
+-- these are the entries of a run of events, in turn
 abbrev pub AreEntriesOfAll : Config → State → List Judged → List Entry → Type 0
 AreEntriesOfAll config s [] entries = entries ≡ []
 AreEntriesOfAll config s (judged ∷ more) entries =
-    (now later : List Entry) × AreEntriesOf config s judged now
-    × AreEntriesOfAll config (step config s judged).0 more later × (entries ≡ now ++ later)
+    (first rest : List Entry) × AreEntriesOf config s judged first
+    × AreEntriesOfAll config (step config s judged).0 more rest × (entries ≡ first ++ rest)
 
 -- ---- a state that is begun again from what is durable
 

@@ -35,8 +35,8 @@ pub fn count_mapped(
     count
 }
 
-/// How many of the sessions of these slots, which are going to end, seem to have their mappings still. All sessions are
-/// read before any of their mappings.
+/// How many of the sessions of the first 128 of these slots, which are going to end, seem to have their mappings still; 0
+/// where the table isn't wide. All sessions are read before any of their mappings.
 pub fn count_ending(table: &Table, translations: &Translations, slots: &[Slot]) -> usize {
     let slots = &slots[..slots.len().min(MOST_ENDING)];
     if !is_wide(table) || count_held(table, slots) == 0 {

@@ -67,7 +67,8 @@ fn later_of(a: u64, b: u64) -> u64
     if a <= b { b } else { a }
 }
 
-// What is done at sessions that are alive.
+// What is done at sessions that are alive. `ready` says that some have ended (`expire_since`): then there is room already
+// for two more sessions and for the entries of the deed, and it can't be refused.
 fn answer_deed<N: Notes>(
     flows: &mut Flows,
     in_force: &mut InForce,

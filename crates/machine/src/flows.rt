@@ -2,10 +2,11 @@
 //!
 //! - `carry_out`: what a plan says, once there is room (`make_room`): one change after the other (`apply_all`,
 //!   `apply_noted`, `apply`: `begin`, `see`, `restart`).
-//! - `carry_out_going`, `see_going`: a packet of a session that goes on, with what it shows, or with nothing new; where it
-//!   leaves the session as it is (`stays`), nothing is put down (`refresh`).
+//! - `carry_out_going`, `see_going`: a packet of a session that goes on, with what it shows, or with nothing new. Where
+//!   it leaves the session as it is (`stays`) nothing is put down; otherwise `refresh` does it.
 //! - `keeps_all_since`: whether all sessions are alive still, as they have to be on the shortest way.
-//! - `expire_since`: those that are alive no longer end, with their entries (`slots_due`, `end_all`, `end_noted`, `end`).
+//! - `expire_since`, `expire`: those that are alive no longer end, with their entries (`slots_due`, `end_all`,
+//!   `end_noted`, `end`).
 //! - `new`, `of`: no session, or those that survived (`place`).
 //! - `watch`, `touch`: the timers of one.
 ghost use Rattle.std.specs.Prelude.{◌≡◌, ◌≢◌, ◌↔◌, ◌+◌, ◌-◌, ◌*◌, ◌<◌, ◌≤◌, ◌++◌, ◌∷◌, [], ℕ, List, true, false, IsErrOf, IsTrue, Some, None, IfOk, OnOk, OnErr, IsOk, IfSome, IsSome, IsSomeAnd, length, map, slice_index, bit_or};
@@ -60,7 +61,7 @@ impl Model for Flows {
 
     ghost view = { λ f. record {
       table = f.table;
-      watched = f.due.ready;
+      watchable = f.due.ready;
       translations = f.translations;
     } };
 

@@ -19,7 +19,7 @@ pub enum StepFault {
     NoMemory,
 }
 
-/// How many bytes the entries of a packet have at most: it begins two sessions.
+/// How many bytes the entries of a packet have at most: a hairpin may begin two sessions, of 22 bytes each.
 pub(crate) const MOST_OF_PACKET: u64 = 44;
 
 /// Takes the entries of events, for which it makes room beforehand.

@@ -18,7 +18,7 @@ pairs_in [] = []
 pairs_in (None ∷ slots) = pairs_in slots
 pairs_in (Some entry ∷ slots) = entry ∷ pairs_in slots
 
--- protocol, address and port as one number
+-- protocol, address and port as one number: that of `sessions/specs/Index` too
 abbrev pub mapping_number : Proto → Endpoint → ℕ
 mapping_number proto endpoint =
     proto_number proto * 281474976710656 + endpoint.addr * 65536 + endpoint.port

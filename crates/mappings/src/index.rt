@@ -29,7 +29,7 @@ fn mapping_key(proto: Proto, endpoint: Endpoint) -> u64
     u64::from(proto.number()) * 0x1_0000_0000_0000 + addr + u64::from(endpoint.port)
 }
 
-/// Whether a first look into the map tells that it leads from this outside endpoint.
+/// Whether a look into the map tells that it leads from this outside endpoint.
 pub fn seems_held(index: &Index, proto: Proto, outside: Endpoint) -> bool {
     index.outside.seems_held(mapping_key(proto, outside))
 }

@@ -92,8 +92,8 @@ impl Map {
         find_inside(&self.index, proto, outside)
     }
 
-    /// Whether a first look tells that a pair of this outside endpoint is held. It says nothing of what is: whoever
-    /// asks of several pairs in turn waits once for the memory that it takes to hold and to release them.
+    /// Whether a look into the map tells that a pair of this outside endpoint is held. It says nothing of what is:
+    /// whoever asks of several pairs in turn waits once for the memory that it takes to hold and to release them.
     pub fn seems_held(&self, proto: Proto, outside: Endpoint) -> bool {
         seems_held(&self.index, proto, outside)
     }

@@ -24,7 +24,7 @@ pub(crate) fn first_clear_from(
     ensures none { IfNone result (AllSet words.now (64 * at + from) (64 * (end - at) - from)) }
     ensures steps { steps.new ≤ steps.old + (end - at) }
 {
-    if let Some(n) = clear_in_word(words, at, from, steps) {
+    if let Some(n) = first_clear_in_word(words, at, from, steps) {
         return Some(n);
     }
     let n = first_clear(words, at + 1, end, steps)?;
@@ -48,7 +48,7 @@ pub(crate) fn first_clear(
     ensures steps { steps.new ≤ steps.old + (high - low) }
 {
     for at in low..high {
-        if let Some(n) = clear_in_word(words, at, 0, steps) {
+        if let Some(n) = first_clear_in_word(words, at, 0, steps) {
             return Some(64 * (at - low) + n);
         }
     }
@@ -85,7 +85,7 @@ pub(crate) fn clear_bit(words: &mut [u64], at: usize, bit: u32)
 }
 
 // The first clear bit of the word at `at` from bit `from` on, counted from that bit.
-fn clear_in_word(words: &[u64], at: usize, from: u32, steps: &mut Steps) -> Option<usize>
+fn first_clear_in_word(words: &[u64], at: usize, from: u32, steps: &mut Steps) -> Option<usize>
     requires fits { at < length words.now }
     requires bit { from < 64 }
     requires few { steps.old + 1 < 2 ^ 32 }
@@ -93,7 +93,7 @@ fn clear_in_word(words: &[u64], at: usize, from: u32, steps: &mut Steps) -> Opti
     ensures none { IfNone result (AllSet words.now (64 * at + from) (64 - from)) }
     ensures steps { steps.new ≡ steps.old + 1 }
 {
-    match clear_bit_of(look(words, at, steps), from) {
+    match lowest_clear(look(words, at, steps), from) {
         Some(bit) => Some((bit - from) as usize),
         None => None,
     }
@@ -111,7 +111,7 @@ fn look(words: &[u64], at: usize, steps: &mut Steps) -> u64
 }
 
 // The lowest clear bit of a word that isn't below `from`.
-fn clear_bit_of(word: u64, from: u32) -> Option<u32>
+fn lowest_clear(word: u64, from: u32) -> Option<u32>
     requires { from < 64 }
     ensures in_range { IfSome result (λ bit. (from ≤ bit) × (bit < 64)) }
     ensures clear { IfSome result (λ bit. bit_at word bit ≡ 0) }

@@ -22,7 +22,7 @@ key_number proto near remote =
 abbrev pub AreEndpoints : Session → Type 0
 AreEndpoints s = IsEndpoint s.inside × IsEndpoint s.outside × IsEndpoint s.remote
 
--- protocol and an endpoint behind one another, a number of 56 bits
+-- protocol and an endpoint behind one another, a number of 56 bits: that of `mappings/specs/Indexed` too
 abbrev pub mapping_number : Proto → Endpoint → ℕ
 mapping_number proto near = proto_number proto * 281474976710656 + endpoint_number near
 

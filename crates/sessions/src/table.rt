@@ -207,8 +207,8 @@ impl Table {
         guess_all(&self.sessions, &self.index.hints, coming)
     }
 
-    /// Whether a first look tells that translated sessions of both endpoints are held. It says nothing of what is: whoever
-    /// asks of several in turn waits once for the memory that it takes to add and to end their sessions.
+    /// Whether a look into each map tells that translated sessions of both endpoints are held. It says nothing of what is:
+    /// whoever asks of several in turn waits once for the memory that it takes to add and to end their sessions.
     pub fn seems_mapped(&self, proto: Proto, inside: Endpoint, outside: Endpoint) -> bool {
         self.index.translated.seems_mapped(proto, inside, outside)
     }

@@ -98,7 +98,7 @@ impl Translated {
         self.firsts.get(mapping).copied()
     }
 
-    /// Whether a first look into each map tells that it leads from the endpoint on its side. Both are asked in any case.
+    /// Whether a look into each map tells that it leads from the endpoint on its side. Both are asked in any case.
     pub fn seems_mapped(&self, proto: Proto, inside: Endpoint, outside: Endpoint) -> bool {
         self.insides.seems_held(mapping_key(proto, inside))
             & self.outsides.seems_held(mapping_key(proto, outside))

@@ -28,7 +28,7 @@ pub enum CommitFault {
     /// A call of the disk has failed.
     #[error("a call of the disk has failed")]
     Device,
-    /// The group would end past the greatest length of a file.
+    /// The group, with the closed gate behind it, would end past the greatest length of a file.
     #[error("the group would end past the greatest length of a file")]
     Full,
 }

@@ -1,4 +1,4 @@
-//! The front of a file that is made anew.
+//! What stands behind the gate of a file that is made anew.
 ghost use Rattle.std.specs.Prelude.{◌≡◌, ◌≤◌, ◌∷◌, ◌++◌, [], length, IfOk};
 ghost use Rattle.durable.specs.Coding.{heading_bytes};
 ghost use Rattle.durable.specs.Entering.{durable};

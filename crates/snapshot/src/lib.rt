@@ -5,9 +5,9 @@
 //! defined in the crate `durable`; the clauses here say that it is kept at every moment.
 //!
 //! - `store`: the store: it is opened, commits groups, and is compacted.
-//! - `opening`: what two files hold; where neither gate is open, file A is made.
+//! - `opening`: what two files hold; where neither gate is open, file A is made anew.
 //! - `remaking`: a file is made anew, in three synced writes.
-//! - `front`: what stands at the front of a file that is made anew.
+//! - `front`: what stands behind the gate of a file that is made anew.
 //! - `bounds`: the configuration, to be kept.
 //! - `fault`: why a call is refused.
 #![tactic(auto)]

@@ -2,7 +2,7 @@
 //!
 //! `make_ready` syncs both files and reads them whole (`look`, by `sync_both` and `contents`). `recover_for` asks
 //! `durable::recover` what they stand for, compares the configuration, and keeps what was found (`keep`). Where neither
-//! gate is open, `make_first` makes file A.
+//! gate is open, `make_first` makes file A anew.
 ghost use Rattle.std.specs.Prelude.{◌≡◌, ◌<◌, ◌≤◌, ◌↔◌, [], IfOk, IfSome, OnOk, OnErr, IsErrOf};
 ghost use Rattle.disk_model.specs.declared.disk.FileId.{FileId};
 ghost use Rattle.disk_model.specs.declared.disk.FileId.TheVariants.{A, B};
@@ -193,7 +193,7 @@ fn make_first<D: Disk>(alloc: Global, disk: &mut D, bounds: &Bounds) -> Result<R
     })
 }
 
-/// What two files hold, for a store of these bounds, with both synced. Where neither gate is open, file A is made.
+/// What two files hold, for a store of these bounds, with both synced. Where neither gate is open, file A is made anew.
 ///
 /// # Errors
 ///

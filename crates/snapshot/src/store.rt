@@ -74,8 +74,8 @@ pub struct Opened<D: Disk + Drop> {
 }
 
 impl<D: Disk + Drop> Store<D> {
-    /// Opens the store that two files hold. Both are synced, then read. Where neither gate is open, file A is made, and
-    /// holds no text and no session; else neither is written.
+    /// Opens the store that two files hold. Both are synced, then read. Where neither gate is open, file A is made
+    /// anew, for no text and no session; otherwise neither is written.
     ///
     /// # Errors
     ///
@@ -84,9 +84,11 @@ impl<D: Disk + Drop> Store<D> {
     /// - `Device` where a call of the disk has failed. The files stand for what they stood for.
     /// - `Damaged` only where the files, as they read, stand for no state. They are not changed.
     /// - `ConfigDiffers` only where they stand for one, and the active file has another configuration than these
-    ///   bounds. They are not changed. There the one or the other always comes, unless memory is refused or a call of
-    ///   the disk fails.
+    ///   bounds. They are not changed.
     /// - `NoMemory` where memory is refused. They are not changed.
+    ///
+    /// Where the files stand for no state, or the active one has another configuration, `Damaged` or `ConfigDiffers`
+    /// comes, unless memory is refused or a call of the disk fails.
     pub fn open(alloc: Global, disk: D, bounds: &Bounds) -> Result<Opened<D>, (D, OpenFault)>
         ensures honest { MatchResult result (λ o. D.honest disk ↔ D.honest o.store.disk)
             (λ e. D.honest disk ↔ D.honest e.0) }
@@ -113,7 +115,7 @@ impl<D: Disk + Drop> Store<D> {
             (durable o.text.items o.sessions.items)) }
         ensures taken { D.honest disk → OnOk result (IsConfigured bounds.now (D.seen disk)) }
 
-        // Where no file is open, file A is made, of the first generation; else the files aren't changed.
+        // Where no file is open, file A is made anew, of the first generation; otherwise the files aren't changed.
         ensures fresh { D.honest disk → NoneOpen (D.seen disk)
             → IfOk result (λ o. IsFirst bounds.now (D.seen disk) (D.seen o.store.disk)) }
         ensures first { D.honest disk → NoneOpen (D.seen disk)
@@ -208,7 +210,8 @@ impl<D: Disk + Drop> Store<D> {
         disk
     }
 
-    /// Puts a group behind the others of the active file. It makes four calls of the disk, and takes no memory.
+    /// Puts a group behind the others of the active file. Its entries fit the state that the files stand for, one after
+    /// the other, and no call of the disk has failed. It makes four calls of the disk, and takes no memory.
     ///
     /// # Errors
     ///

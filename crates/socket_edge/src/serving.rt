@@ -52,7 +52,7 @@ pub enum Halt {
 /// What the front of the bytes came to.
 #[derive(Clone, Copy, Drop)]
 pub enum Step {
-    /// A frame was taken, and whether the last answer that was handed out with it, if any, is a packet that leaves.
+    /// A frame was taken, and whether the last of the answers that are handed out, if any, is a packet that leaves.
     Took(bool),
     /// No more frames are offered.
     Ends(Halt),
@@ -260,7 +260,7 @@ fn misses_behind(misses: usize, forwarded: bool) -> usize {
     }
 }
 
-/// Offers each whole frame at the front, and says how many there are, and why no more are offered. Answers that are
+/// Offers each whole frame at the front, and says how many were taken, and why no more are offered. Answers that are
 /// handed out are put where their requests stood, and behind them, where there is no room, into `answers`.
 pub fn offer_all<D: Disk + Drop>(
     alloc: Global,

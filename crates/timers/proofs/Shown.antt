@@ -9,22 +9,22 @@ use Rattle.timers.specs.declared.due.Idle.{Idle}
 use Rattle.timers.specs.declared.links.Link.{Link}
 use Rattle.timers.specs.declared.links.Watch.{Watch}
 use Rattle.timers.specs.Due.{Watched, at, Updates, IsOver, AreDue}
-use Rattle.timers.specs.Links.{alone, most_places, link, watch, tag_by, last, last_by, idle_of, idle_in, idles, idles_by, timeout_in, IsPut, IsRing, IsRow, IsOverAt, IsFound}
+use Rattle.timers.specs.Links.{alone, most_places, link, watch, tag_by, last, last_by, idle_by, idle_in, idles, idles_by, timeout_in, IsPut, IsRing, IsRow, IsOverAt, IsFound}
 use Rattle.timers.proofs.Held.{above_heads, tag_held, inside_row}
 
-get_or-idles_by : (links : List Link) (k j : ℕ) → get_or (idles_by links) k None ≡ option_map idle_of (get_or links k (alone j)).watch
+get_or-idles_by : (links : List Link) (k j : ℕ) → get_or (idles_by links) k None ≡ option_map idle_by (get_or links k (alone j)).watch
 get_or-idles_by [] k j = refl
 get_or-idles_by (place ∷ places) zero j = refl
 get_or-idles_by (place ∷ places) (suc k) j = get_or-idles_by places k j
 
 -- the idle time of a slot, by its place
-pub at-idles : (links : List Link) (slot : ℕ) → get_or (idles links) slot None ≡ option_map idle_of (watch links (slot + 3))
+pub at-idles : (links : List Link) (slot : ℕ) → get_or (idles links) slot None ≡ option_map idle_by (watch links (slot + 3))
 at-idles links slot =
     let three : 3 + slot ≡ slot + 3 = omega arith in
     get_or-idles_by (drop 3 links) slot (slot + 3)
-    ∙ ap (λ (l : Link). option_map idle_of l.watch) (get_or-drop 3 links slot (alone (slot + 3)) ∙ ap (λ q. get_or links q (alone (slot + 3))) three)
+    ∙ ap (λ (l : Link). option_map idle_by l.watch) (get_or-drop 3 links slot (alone (slot + 3)) ∙ ap (λ q. get_or links q (alone (slot + 3))) three)
 
-unmapped : (o : Option Watch) → IsSome (option_map idle_of o) → IsSome o
+unmapped : (o : Option Watch) → IsSome (option_map idle_by o) → IsSome o
 unmapped None is = is
 unmapped (Some w) is = is
 
@@ -35,19 +35,19 @@ held_watch links slot is = unmapped (watch links (slot + 3)) (subst IsSome (at-i
 pub held_inside : (links : List Link) (slot : ℕ) → IsSome (get_or (idles links) slot None) → slot + 3 < length links
 held_inside links slot is = inside_row links (slot + 3) (held_watch links slot is)
 
-none_unmapped : (o : Option Watch) → option_map idle_of o ≡ None → o ≡ None
+none_unmapped : (o : Option Watch) → option_map idle_by o ≡ None → o ≡ None
 none_unmapped None e = refl
-none_unmapped (Some w) e = absurd (none-some (idle_of w) (sym e))
+none_unmapped (Some w) e = absurd (none-some (idle_by w) (sym e))
 
 -- what is not shown is not watched
 pub free_watch : (links : List Link) (slot : ℕ) → get_or (idles links) slot None ≡ None → watch links (slot + 3) ≡ None
 free_watch links slot e = none_unmapped (watch links (slot + 3)) (sym (at-idles links slot) ∙ e)
 
 -- a change at one place is the change of one slot
-pub IsPut-idle : (before after : List Link) (slot : ℕ) (o : Option Watch) → IsPut (watch before) (watch after) (slot + 3) o → IsPut (idle_in before) (idle_in after) slot (option_map idle_of o)
+pub IsPut-idle : (before after : List Link) (slot : ℕ) (o : Option Watch) → IsPut (watch before) (watch after) (slot + 3) o → IsPut (idle_in before) (idle_in after) slot (option_map idle_by o)
 IsPut-idle before after slot o put = record {
-  here = ap (option_map idle_of) put.here;
-  others = λ j away. ap (option_map idle_of) (put.others (j + 3) (λ e. away (omega (arith, e))));
+  here = ap (option_map idle_by) put.here;
+  others = λ j away. ap (option_map idle_by) (put.others (j + 3) (λ e. away (omega (arith, e))));
 }
 
 -- with the seconds of the queue in place of the queue
@@ -74,7 +74,7 @@ module _ (old new : List Link) (same : (k : ℕ) → link new k ≡ link old k) 
   }
 
   pub idles-same : (slot : ℕ) → get_or (idles new) slot None ≡ get_or (idles old) slot None
-  idles-same slot = at-idles new slot ∙ ap (λ (l : Link). option_map idle_of l.watch) (same (slot + 3)) ∙ sym (at-idles old slot)
+  idles-same slot = at-idles new slot ∙ ap (λ (l : Link). option_map idle_by l.watch) (same (slot + 3)) ∙ sym (at-idles old slot)
 
 -- no place at all
 pub IsRow-none : IsRow []
@@ -97,7 +97,7 @@ latest_by : (links : List Link) (moment k : ℕ) (o : Option Watch) → IsRow li
 latest_by links moment k None row e latest = omega arith
 latest_by links moment k (Some w) row e latest =
     let here : k ≡ w.slot + 3 = sym (row.placed k w e) in
-    subst (λ o. IfSome o (λ (idle : Idle). idle.last ≤ moment)) (at-idles links w.slot ∙ ap (option_map idle_of) (ap (watch links) (sym here) ∙ e)) (latest w.slot)
+    subst (λ o. IfSome o (λ (idle : Idle). idle.last ≤ moment)) (at-idles links w.slot ∙ ap (option_map idle_by) (ap (watch links) (sym here) ∙ e)) (latest w.slot)
 
 -- no moment at a place comes after this one
 pub latest_places : (links : List Link) (moment : ℕ) → IsRow links → ((slot : ℕ) → IfSome (get_or (idles links) slot None) (λ idle. idle.last ≤ moment)) → (k : ℕ) → last links k ≤ moment
@@ -110,15 +110,15 @@ latest-cut old new at moment put latest k = elim (cases_eq k at) [
   | inr away ↦ omega (arith, ap last_by (put.others k away), latest k)
 ]
 
-mapped-over : (now : ℕ) (o : Option Watch) → IsSomeAnd o (λ w. IsOver now (idle_of w)) → IsSomeAnd (option_map idle_of o) (IsOver now)
+mapped-over : (now : ℕ) (o : Option Watch) → IsSomeAnd o (λ w. IsOver now (idle_by w)) → IsSomeAnd (option_map idle_by o) (IsOver now)
 mapped-over now None is = is
 mapped-over now (Some w) is = is
 
-over-mapped : (now : ℕ) (o : Option Watch) → IsSomeAnd (option_map idle_of o) (IsOver now) → IsSomeAnd o (λ w. IsOver now (idle_of w))
+over-mapped : (now : ℕ) (o : Option Watch) → IsSomeAnd (option_map idle_by o) (IsOver now) → IsSomeAnd o (λ w. IsOver now (idle_by w))
 over-mapped now None is = is
 over-mapped now (Some w) is = is
 
-some_over : (now : ℕ) (o : Option Watch) → IsSomeAnd o (λ w. IsOver now (idle_of w)) → IsSome o
+some_over : (now : ℕ) (o : Option Watch) → IsSomeAnd o (λ w. IsOver now (idle_by w)) → IsSome o
 some_over now None is = absurd is
 some_over now (Some w) is = refl
 

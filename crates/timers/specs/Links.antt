@@ -60,16 +60,16 @@ last_by (Some w) = w.last
 abbrev pub last : List Link → ℕ → ℕ
 last links k = last_by (watch links k)
 
-abbrev pub idle_of : Watch → Idle
-idle_of w = record { last = w.last; timeout = timeout_in w.queue }
+abbrev pub idle_by : Watch → Idle
+idle_by w = record { last = w.last; timeout = timeout_in w.queue }
 
 -- the idle time of what is watched at the place of a slot
 abbrev pub idle_in : List Link → ℕ → Option Idle
-idle_in links slot = option_map idle_of (watch links (slot + 3))
+idle_in links slot = option_map idle_by (watch links (slot + 3))
 
 abbrev pub idles_by : List Link → List (Option Idle)
 idles_by [] = []
-idles_by (place ∷ places) = option_map idle_of place.watch ∷ idles_by places
+idles_by (place ∷ places) = option_map idle_by place.watch ∷ idles_by places
 
 -- the idle time of each slot
 abbrev pub idles : List Link → List (Option Idle)
@@ -115,7 +115,7 @@ pub record IsWatchPut (old new : List Link) (at : ℕ) (value : Option Watch) : 
 
 -- what is watched at this place is alive no longer
 abbrev pub IsOverAt : List Link → ℕ → ℕ → Type 0
-IsOverAt links now k = IsSomeAnd (watch links k) (λ w. IsOver now (idle_of w))
+IsOverAt links now k = IsSomeAnd (watch links k) (λ w. IsOver now (idle_by w))
 
 -- the slots of the first queues that are alive no longer, each once
 pub record IsFound (links : List Link) (now queues : ℕ) (slots : List ℕ) : Type 0 where

@@ -1,7 +1,7 @@
 //! The walk through a queue from its front on, as far as its sessions are alive no longer.
 ghost use Rattle.std.specs.Prelude.{◌≡◌, ◌↔◌, ◌+◌, ◌-◌, ◌<◌, ℕ, IfOk, OnOk, IsOk, IsSomeAnd, IfSome, IfNone, IsTrue};
 ghost use Rattle.timers.specs.Due.{IsOver};
-ghost use Rattle.timers.specs.Links.{head_of, next, watch, IsRow, idle_of, IsOverAt, IsFound};
+ghost use Rattle.timers.specs.Links.{head_of, next, watch, IsRow, idle_by, IsOverAt, IsFound};
 
 use crate::cell::Cell;
 use crate::links::{Queue, Watch, next};
@@ -44,7 +44,7 @@ fn push_over(
 // The slot of the place, where its session is alive no longer.
 fn slot_over(links: &[Cell], place: usize, now: u64) -> Option<Slot>
     ensures over { IfSome result (λ slot. IsSomeAnd (watch links.now place) (λ w. (w.slot ≡ slot)
-        × IsOver now (idle_of w))) }
+        × IsOver now (idle_by w))) }
     ensures alive { IfNone result (¬ IsOverAt links.now now place) }
 {
     if place >= links.len() {
@@ -55,8 +55,8 @@ fn slot_over(links: &[Cell], place: usize, now: u64) -> Option<Slot>
 
 fn watch_over(watch: &Option<Watch>, now: u64) -> Option<Slot>
     ensures over { IfSome result (λ slot. IsSomeAnd watch.now (λ w. (w.slot ≡ slot)
-        × IsOver now (idle_of w))) }
-    ensures alive { IfNone result (¬ IsSomeAnd watch.now (λ w. IsOver now (idle_of w))) }
+        × IsOver now (idle_by w))) }
+    ensures alive { IfNone result (¬ IsSomeAnd watch.now (λ w. IsOver now (idle_by w))) }
 {
     match watch {
         Some(watch) if is_over(watch, now) => Some(watch.slot),
@@ -65,7 +65,7 @@ fn watch_over(watch: &Option<Watch>, now: u64) -> Option<Slot>
 }
 
 fn is_over(watch: &Watch, now: u64) -> bool
-    ensures { IsTrue result ↔ IsOver now (idle_of watch.now) }
+    ensures { IsTrue result ↔ IsOver now (idle_by watch.now) }
 {
     watch.queue.timeout() <= now.saturating_sub(watch.last)
 }

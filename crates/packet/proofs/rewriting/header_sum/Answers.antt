@@ -5,7 +5,7 @@ use Rattle.packet.proofs.rewriting.header_sum.Goals as goal
 
 pub returns : goal.returns
 returns c =
-    let b = c.args.frame.now in
+    let b = c.args.packet.now in
     let src : FitsEndpoint c.args.src = record { addr = omega arith; port = omega arith } in
     let dst : FitsEndpoint c.args.dst = record { addr = omega arith; port = omega arith } in
     header_missing b c.args.src c.args.dst _ c.requires.bytes src dst c.requires.long c.requires.ports c.requires.alive c.requires.right (omega (arith, c.updated.ensures))

@@ -7,7 +7,7 @@ use Rattle.packet.proofs.rewriting.transport_sum.Goals as goal
 
 pub returns : goal.returns
 returns c =
-    let b = c.args.frame.now in
+    let b = c.args.packet.now in
     let h = header_length b in
     let s = c.args.src in
     let d = c.args.dst in

@@ -39,4 +39,4 @@ returns-clause-latest c =
 pub returns-clause-ready : goal.returns-clause-ready
 returns-clause-ready c = λ n was.
     let before = rw (← c.self.view_is) at was in
-    record { table = omega (arith, before.table, c.add_reserved-slot.ensures.room); watched = omega (arith, before.watched, c.add_reserved-slot.ensures.slots, c.watch.ensures.ready); translations = c.hold.ensures.room n before.translations }
+    record { table = omega (arith, before.table, c.add_reserved-slot.ensures.room); watchable = omega (arith, before.watchable, c.add_reserved-slot.ensures.slots, c.watch.ensures.ready); translations = c.hold.ensures.room n before.translations }

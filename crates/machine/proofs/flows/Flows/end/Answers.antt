@@ -16,4 +16,4 @@ invariant_of-self c =
 pub returns-in-Some-clause-ready : goal.returns-in-Some-clause-ready
 returns-in-Some-clause-ready c = λ n was.
     let before = rw (← c.self.view_is) at was in
-    record { table = omega (arith, before.table); watched = omega (arith, before.watched); translations = c.release.ensures.room n before.translations }
+    record { table = omega (arith, before.table); watchable = omega (arith, before.watchable); translations = c.release.ensures.room n before.translations }

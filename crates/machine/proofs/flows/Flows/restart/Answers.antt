@@ -36,4 +36,4 @@ returns-clause-latest c =
 pub returns-clause-ready : goal.returns-clause-ready
 returns-clause-ready c = λ n was.
     let before = rw (← c.self.view_is) at was in
-    record { table = omega (arith, before.table); watched = omega (arith, before.watched); translations = before.translations }
+    record { table = omega (arith, before.table); watchable = omega (arith, before.watchable); translations = before.translations }

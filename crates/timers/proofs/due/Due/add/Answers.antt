@@ -1,7 +1,7 @@
 use Rattle.std.proofs.Common.{◌+◌, Some, Result, Ok, Err, OnErr, refl, ap, ◌∙◌, arith}
 use Rattle.std.specs.Option.{option_map}
 use Rattle.timers.specs.declared.links.Link.{Link}
-use Rattle.timers.specs.Links.{idle_in, idle_of, last_by}
+use Rattle.timers.specs.Links.{idle_in, idle_by, last_by}
 use Rattle.timers.proofs.Held.{IsPut-before}
 use Rattle.timers.proofs.Shown.{free_watch, latest_places, Updates-idle, IsRow-same, idles-same}
 use Rattle.timers.proofs.due.Due.add.Goals as goal
@@ -32,5 +32,5 @@ append-requires-clause-latest c = λ k.
 pub returns-clause-ok : goal.returns-clause-ok
 returns-clause-ok c =
     let put = IsPut-before (idle_in c.self.inside.links.items) (idle_in c.grow_past.new.links.items) (idle_in c.append.new.links.items) c.args.slot (Some _)
-    (λ k. ap (λ (l : Link). option_map idle_of l.watch) (c.grow_past.ensures.same (k + 3))) c.append.ensures.idle in
+    (λ k. ap (λ (l : Link). option_map idle_by l.watch) (c.grow_past.ensures.same (k + 3))) c.append.ensures.idle in
     rw (← c.self.view_is) (Updates-idle _ _ c.self.inside.links.items c.append.new.links.items c.args.slot (Some _) refl refl put)
