@@ -1,8 +1,7 @@
 -- Bytes that are written over others, and moved among them.
-use Rattle.std.proofs.Common.{◌≡◌, ℕ, ◌+◌, ◌-◌, ◌≤◌, List, [], ◌∷◌, ◌++◌, length, take, drop, refl, sym, ap, ◌∙◌, arith, length-append, length-drop, take-add}
-use Rattle.std.specs.Prelude.{slice_set}
+use Rattle.std.proofs.Common.{◌≡◌, ℕ, ◌+◌, ◌-◌, ◌≤◌, List, [], ◌++◌, length, take, drop, refl, sym, ap, ◌∙◌, arith, length-append, length-drop, take-add}
 use Rattle.std.specs.List.{copy_within}
-use Rattle.std.proofs.lemmas.List.{append-nil, drop_all, length-take-le, nil_from_length, take-append-le, drop-append-le, drop-take}
+use Rattle.std.proofs.lemmas.List.{append-nil, drop_all, length-take-le, take-append-le, drop-append-le, drop-take}
 use Rattle.std.proofs.Math.Seq.{take-append-add, take-length}
 use Rattle.std.specs.Prelude.{Result, Ok, Err, OnOk}
 use Rattle.std.specs.Result.{is_err}
@@ -42,15 +41,6 @@ over_more a n xs ys within as_many few =
       whole,
       ap (take (a + n)) is ∙ ap (λ (k : ℕ). take (k + n) (take a xs ++ ys)) (sym size) ∙ take-append-add (take a xs) ys n,
     )
-
--- a body: its first byte, and the others
-pub body_over : (bytes more : List ℕ) (first : ℕ) → length bytes ≡ 1 + length more → put_mid 1 (length (slice_set bytes 0 first) - 1) (slice_set bytes 0 first) more ≡ first ∷ more
-body_over [] more first size = absurd (omega (arith, size))
-body_over (x ∷ xs) more first size = over_end 1 (first ∷ xs) more
-
-pub only_over : (bytes : List ℕ) (only : ℕ) → length bytes ≡ 1 → slice_set bytes 0 only ≡ only ∷ []
-only_over [] only size = absurd (omega (arith, size))
-only_over (x ∷ xs) only size = ap (λ (zs : List ℕ). only ∷ zs) (nil_from_length xs (omega (arith, size)))
 
 -- what stands in front of a front
 pub take_front : (n m : ℕ) (xs : List ℕ) → n ≤ m → m ≤ length xs → take n xs ≡ take n (take m xs)
