@@ -1,16 +1,16 @@
-//! Looking ahead: the memory that packets and ends of sessions are going to read is asked for before, for several of them
-//! at once. Nothing rests on what is told here but time.
+//! Looking ahead: the memory that packets and ends of sessions are going to read is fetched before, for several of them
+//! at once; none is allocated. Nothing rests on what is told here but time.
 use hairpin::translations::Translations;
 use packet::endpoint::{Endpoint, Proto};
 use sessions::{Coming, MOST_AHEAD, Session, Slot, Table};
 
-/// The slots whose sessions, with all that leads to them, are too many for near memory.
+/// How many slots are too many for a processor's near caches to hold their sessions, with all that leads to them.
 const WIDE: usize = 4_096;
 
 /// For how many sessions that end it is looked ahead.
 const MOST_ENDING: usize = 128;
 
-/// Whether so many sessions have been held at once that not all of them lie in near memory.
+/// Whether so many sessions have been held at once that a processor's near caches don't hold all of them.
 pub fn is_wide(table: &Table) -> bool {
     table.slots() >= WIDE
 }

@@ -371,7 +371,7 @@ impl Core {
         }
     }
 
-    /// Whether so many sessions have been held at once that not all of them lie in near memory.
+    /// Whether so many sessions have been held at once that a processor's near caches don't hold all of them.
     pub fn is_wide(&self) -> bool {
         is_wide(self.flows.table())
     }

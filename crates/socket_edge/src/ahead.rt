@@ -1,5 +1,5 @@
-//! Looking ahead: among many sessions, the memory that the next packets' look-ups are going to read is asked for before
-//! they are taken, for several of them at once. Nothing rests on it but time.
+//! Looking ahead: among many sessions, the memory that the next packets' look-ups are going to read is fetched before
+//! they are taken, for several of them at once; none is allocated. Nothing rests on it but time.
 ghost use Rattle.std.specs.Prelude.{◌≡◌, length};
 
 use crate::request::{Head, Kind, REQUEST_HEAD, read_head};

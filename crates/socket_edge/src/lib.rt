@@ -11,8 +11,8 @@
 //! - `ahead`: among many sessions, a look at the next packets before they are taken;
 //! - `serving`: all whole frames at the front, offered in order;
 //! - `request`: what stands at the front of the bytes: a whole frame, a part of one, or a fault;
-//! - `sending`: the frames of the answers, written one by one behind what stands in the bytes of the requests, or in one
-//!   piece for whoever has the answers alone;
+//! - `sending`: what stands in the bytes of the requests is written in one piece, and behind it, one by one, the frames
+//!   of answers that had no room there; for whoever has the answers alone all their frames are written in one piece;
 //! - `answer`: the frames of answers;
 //! - `laws`: what holds of every stream of frames;
 //! - `fault`: why a run ends early.

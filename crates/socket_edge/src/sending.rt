@@ -1,4 +1,5 @@
-//! Writing the frames of answers: one by one behind other bytes, or in one piece for whoever has the answers alone.
+//! Writing the frames of answers: in one piece those that stand in bytes already, and behind them others, one by one; or
+//! all in one piece, for whoever has the answers alone.
 ghost use Rattle.std.specs.Prelude.{◌≡◌, ◌++◌, OnOk, IfErr};
 ghost use Rattle.std.specs.Io.KnownBytes.{Appends};
 ghost use Rattle.socket_edge.specs.Answering.{answer_body, frame_head, frame, frames, AppendsFront};

@@ -3,8 +3,8 @@
 //!
 //! `read` puts what comes behind the bytes that wait. A frame leaves their front by `forward_next`, which has its packet
 //! offered where it lies (`forwarding::forward_frame`) and makes its answer of it, or by `skip`, where `serving` offers
-//! a copy of it; then `put` writes the answer where the request stood (`answer::fill_frames`). `answered` is all that is
-//! to be written, and `forget_answered` lets it go behind that.
+//! a copy of it; then `put` writes the answer where the request stood (`answer::fill_frames`), if there is room there.
+//! `answered` is what stands here to be written, and `forget_answered` lets it go behind that.
 ghost use Rattle.std.specs.Prelude.{◌≡◌, ◌≢◌, ◌+◌, ◌≤◌, ◌++◌, ◌∷◌, [], ℕ, List, IfOk, OnOk, OnErr, length, take, drop, true, false};
 ghost use Rattle.std.specs.Io.KnownBytes.{Consumes, IsAtEnd};
 ghost use Rattle.gateway.specs.Running.{CarriesOn};
