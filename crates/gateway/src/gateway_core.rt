@@ -260,10 +260,10 @@ impl<D: Disk + Drop> Gateway<D> {
     /// - `Full` only where the entries that wait, those of this event, and 6 bytes around their group would end past the
     ///   greatest length of a file. This event's count as 14 bytes for each session that ends, and 44 for a packet,
     ///   however few it needs (two sessions that it begins need as many), or 5 and the text for a text that loads. An
-    ///   event that needs none, where none ends, isn't refused so; a clause says it where nothing is held.
-    /// - `NoMemory` where memory is refused; never where nothing is held, and the event brings no text and has no entry.
-    ///   Where it brings no text, and no session ends or begins, it comes only where its entries fit; elsewhere it may
-    ///   come although they don't.
+    ///   event that has no entry isn't refused so.
+    /// - `NoMemory` where memory is refused; never where the event brings no text and has no entry. Where it brings no
+    ///   text, and no session ends or begins, it comes only where its entries fit; elsewhere it may come although they
+    ///   don't.
     #[inline(always)]
     pub fn offer(&mut self, event: Event) -> Result<Given, (Event, GatewayFault)>
         ensures disk { self.new.disk ≡ self.old.disk }
@@ -306,9 +306,9 @@ impl<D: Disk + Drop> Gateway<D> {
         ensures causes { IfErr result (λ e. (e.1 ≢ GatewayFault.Device)
             × (e.1 ≢ GatewayFault.Generations)) }
 
-        // No memory is taken where nothing must be held.
+        // Where nothing must be noted an event is taken without memory, also behind answers that are held.
         ensures quiet { self.old.fallen ≡ false → self.old.told.last < 2 ^ 64 - 1
-            → self.old.told.held ≡ [] → IsNoLoad event.what
+            → length self.old.told.held < 64 → IsNoLoad event.what
             → (judged : Judged) → IsJudged self.old.told.config event judged
             → ¬ HasEntry self.old.told.config self.old.told.state judged → IsOk result }
     {
