@@ -1,7 +1,7 @@
 //! A gateway over the files of a directory, or what is the matter with them.
 //!
-//! `open` opens the two files as a disk, and a gateway over it. Why not the one is told by `unopened`, why not the other
-//! by `unsuitable`, which has `unsound` say what `diagnosis::diagnose` finds, where the files themselves are refused.
+//! `open` opens the two files as a disk, and a gateway over it. `unopened` tells why there is no disk, `unsuitable` why no
+//! gateway opens over it: where the files themselves are refused, `unsound` says what `diagnosis::diagnose` finds.
 ghost use Rattle.std.specs.Prelude.{◌≡◌, IfErr};
 ghost use Rattle.refusals.specs.Words.{IsOfPath};
 ghost use Rattle.commands.specs.Faults.{IsOfFiles};

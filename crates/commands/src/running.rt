@@ -83,7 +83,7 @@ fn run_opened(
 ) -> Result<(), Stop> {
     let mut gateway = open(rt, sides, bounds, opening)?;
     let worked = work_on(rt, opening.directory, work, requests, &mut gateway);
-    // `into_disk` lets the core go within `gateway`, so that this isn't proved here once more. Here the files go.
+    // `into_disk` drops the core within the crate `gateway`, where that is proved already. Here the files are dropped.
     drop(gateway.into_disk());
     worked
 }

@@ -66,8 +66,8 @@ fn next_client(listener: &UnixListener) -> io::Result<UnixStream> {
     off_standard_streams(stream)
 }
 
-// Serves the next client. Where the gateway stands no more behind it, that is the refusal, even if the client's own fault
-// was that it took no answer.
+// Serves the next client. Where the gateway has fallen once the client is served, the refusal says so, even if the
+// client's own fault was that it took no answer.
 fn serve_next<W: Write, D: Disk + Drop>(
     alloc: Global,
     listener: &UnixListener,

@@ -9,7 +9,7 @@ use disk_model::{Disk, DiskFault, FileId};
 use std::fs::File;
 use std::marker::Model;
 
-/// Two files of a directory, and how many calls on them have failed.
+/// Two files of a directory, how many calls were made on them, and how many of these have failed.
 ///
 /// It claims no honesty: nothing is promised of what the files keep. Each call asks one file once, with what it was
 /// asked itself, and gives what that file answered.

@@ -258,9 +258,9 @@ impl<D: Disk + Drop> Gateway<D> {
     /// - `NumbersOut` exactly where the last number was 2^64 - 1.
     /// - `HeldFull` exactly where 64 answers are held.
     /// - `Full` only where the entries that wait, those of this event, and 6 bytes around their group would end past the
-    ///   greatest length of a file. This event's count as 14 bytes for each session that ends, and 44 for a packet,
-    ///   however few it needs (two sessions that it begins need as many), or 5 and the text for a text that loads. An
-    ///   event that has no entry isn't refused so.
+    ///   greatest length of a file. The entries of this event are counted as 14 bytes for each session that ends, and 44
+    ///   for a packet, however few it needs (two sessions that it begins need as many), or 5 and the text for a text that
+    ///   loads. An event that has no entry isn't refused so.
     /// - `NoMemory` where memory is refused; never where the event brings no text and has no entry. Where it brings no
     ///   text, and no session ends or begins, it comes only where its entries fit; elsewhere it may come although they
     ///   don't.
@@ -468,6 +468,7 @@ impl<D: Disk + Drop> Gateway<D> {
         match self.store.commit(self.pending.group()) {
             Ok(()) => Ok(self.pending.release(self.store.end())),
             Err(CommitFault::Device) => Err(GatewayFault::Device),
+            // The group fits its file (`fits` of `Pending::group`).
             Err(CommitFault::Full) => unreachable!(),
         }
     }

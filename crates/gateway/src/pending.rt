@@ -25,6 +25,7 @@ pub(crate) struct Pending {
     alloc: Global,
     held: Vec<(u64, Answer)>,
     group: Group,
+    /// The place of the closed gate behind the groups of the active file, over which the group's own gate will stand.
     place: u64,
     /// How many more bytes of entries find room.
     room: u64,

@@ -60,7 +60,7 @@ SessionsAreAlive =
     → IsSound config s
     → In t (step config s judged).0.sessions → IsAlive (step config s judged).0.clock t
 
--- a packet that is dropped changes nothing: only the clock rises, and sessions that are alive no longer end
+-- a packet that is dropped changes nothing: only the clock rises, and sessions that are no longer alive end
 abbrev pub DropsChangeNothing : Type 0
 DropsChangeNothing =
     (config : Config) (s : State) (judged : Judged) (number : ℕ) → IsTrue (is_config config)
@@ -168,7 +168,7 @@ abbrev pub EventsAreJudgedOnce : Type 0
 EventsAreJudgedOnce = (config : Config) (event : Event) (a b : Judged) → IsJudged config event a
     → IsJudged config event b → a ≡ b
 
--- a load that is refused changes nothing: only the clock rises, and sessions that are alive no longer end
+-- a load that is refused changes nothing: only the clock rises, and sessions that are no longer alive end
 abbrev pub RefusalsChangeNothing : Type 0
 RefusalsChangeNothing =
     (config : Config) (s : State) (judged : Judged) (text : List ℕ) → judged.deed ≡ Refuse text

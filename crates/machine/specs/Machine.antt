@@ -44,7 +44,7 @@ empty_at moment = record { text = []; rules = no_tables; sessions = []; clock = 
 abbrev pub later : ℕ → ℕ → ℕ
 later a b = if nat_le a b then b else a
 
--- the clock has come to this moment, and the sessions that are alive no longer have ended
+-- the clock has come to this moment, and the sessions that are no longer alive have ended
 abbrev pub aged : ℕ → State → State
 aged now s = record s { sessions = filter (alive now) s.sessions; clock = now }
 
@@ -85,7 +85,7 @@ act config s (deed.Refuse text) = (s, answer.Refused)
 act config s (deed.Packet iface bytes) = pass config s iface bytes
 act config s deed.Moment = (s, answer.Ticked)
 
--- the clock rises to the event's moment, sessions that are alive no longer end, and then its deed is done
+-- the clock rises to the event's moment, the sessions that are no longer alive end, and then its deed is done
 unfoldable pub step : Config → State → Judged → State × Answer
 step config s judged = act config (aged (later s.clock judged.moment) s) judged.deed
 

@@ -1,4 +1,4 @@
-//! What a packet comes to, at sessions that are alive.
+//! What a packet comes to, once the sessions that are no longer alive have ended.
 //!
 //! - `answer_packet`: the short way first (`glance_showing`, `answer_going`), or else a plan (`answer_by_plan`:
 //!   `plan_for`, `answer_planned`).
@@ -307,7 +307,7 @@ fn answer_going<N: Notes>(
     }
 }
 
-// What a packet comes to, at sessions that are alive.
+// What a packet comes to, once the sessions that are no longer alive have ended.
 pub(crate) fn answer_packet<N: Notes>(
     flows: &mut Flows,
     in_force: &InForce,
@@ -360,7 +360,7 @@ pub(crate) fn answer_packet<N: Notes>(
             Ok(route) => match glance_showing(flows, rules, bounds, route, &view) {
                 Some(going) => answer_going(flows, ready, &going, bytes, now, notes),
                 None => {
-                    // In memory for this way alone, since a plan is made by a call.
+                    // Put down in memory on this way alone, by which the fields are borrowed.
                     let view = view;
                     answer_by_plan(flows, rules, bounds, ready, route, &view, bytes, now, notes)
                 }
@@ -369,7 +369,8 @@ pub(crate) fn answer_packet<N: Notes>(
     }
 }
 
-// By which interface a packet leaves, translated in place, whose session goes on, at sessions that are alive.
+// Translates in place a packet whose session goes on, once the sessions that are no longer alive have ended, and says by
+// which interface it leaves.
 pub(crate) fn forward_in_place(
     flows: &mut Flows,
     rules: &Rules,

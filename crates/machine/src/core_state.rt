@@ -67,8 +67,8 @@ fn later_of(a: u64, b: u64) -> u64
     if a <= b { b } else { a }
 }
 
-// What is done at sessions that are alive. `ready` says that some have ended (`expire_since`): then there is room already
-// for two more sessions and for the entries of the deed, and it can't be refused.
+// What is done once the sessions that are no longer alive have ended. `ready` says that some have (`expire_since`): then
+// there is room already for two more sessions and for the entries of the deed, and it can't be refused.
 fn answer_deed<N: Notes>(
     flows: &mut Flows,
     in_force: &mut InForce,
@@ -131,7 +131,7 @@ fn answer_deed<N: Notes>(
     }
 }
 
-// What is done, once the sessions that are alive no longer have ended.
+// What is done, once the sessions that are no longer alive have ended.
 fn age_and_answer<N: Notes>(
     flows: &mut Flows,
     in_force: &mut InForce,
@@ -269,10 +269,11 @@ impl Core {
         ensures sound { IsSound self.now.config self.now.state }
     {
         self.bounds.facts();
+        // What the flows keep is known once the field is read.
         let _flows = &self.flows;
     }
 
-    /// Does a step: the clock rises to the event's moment, the sessions that are alive no longer end, and then
+    /// Does a step: the clock rises to the event's moment, the sessions that are no longer alive end, and then
     /// the text is taken or refused, or the packet passes or is dropped.
     ///
     /// # Errors

@@ -104,8 +104,8 @@ pub fn judge(alloc: Global, bounds: &Bounds, what: What) -> Result<Deed, Bytes>
     ensures err { IfErr result (λ text. What.Load text ≡ what) }
     ensures succeeds { IsNoLoad what → IsOk result }
 {
-    // The text alone comes back, and not what was brought: that would lie across the place of a packet, which a compiler
-    // would then store in pieces, for all of which whoever reads it next waits.
+    // The text alone comes back. A fault with room for all that an event brings would lie over the packet's place: a
+    // compiler then stores the packet in pieces, and the next read of it waits for all of them.
     match what {
         What::Load(text) => judge_load(alloc, bounds, text),
         What::Packet(iface, bytes) => Ok(Deed::Packet(iface, bytes)),

@@ -5,7 +5,7 @@
 //! - `carry_out_going`, `see_going`: a packet of a session that goes on, with what it shows, or with nothing new. Where
 //!   it leaves the session as it is (`stays`) nothing is put down; otherwise `refresh` does it.
 //! - `keeps_all_since`: whether all sessions are alive still, as they have to be on the shortest way.
-//! - `expire_since`, `expire`: those that are alive no longer end, with their entries (`slots_due`, `end_all`,
+//! - `expire_since`, `expire`: those that are no longer alive end, with their entries (`slots_due`, `end_all`,
 //!   `end_noted`, `end`).
 //! - `new`, `of`: no session, or those that survived (`place`).
 //! - `watch`, `touch`: the timers of one.
@@ -247,7 +247,7 @@ impl Flows {
         ensures external { self.new.translations.external ≡ self.old.translations.external }
     {
         self.table.is_sound();
-        // Most packets come in the second of the one before, and show what was seen.
+        // Most packets come in the second of their session's packet before, and show what was seen.
         if self.stays(slot, bits, last) {
             return;
         }
@@ -645,7 +645,7 @@ impl Flows {
         self.table.is_sound();
     }
 
-    /// Ends the sessions that are alive no longer at the second `now`, notes them, and says whether there were any;
+    /// Ends the sessions that are no longer alive at the second `now`, notes them, and says whether there were any;
     /// then there is room for two more, and for so many bytes of other entries: an event whose first entries are noted
     /// can't be refused any more.
     ///

@@ -49,7 +49,7 @@ pub fn sessions_are_alive()
 {}
 
 /// A packet that is dropped changes nothing but what time changes: the clock has risen, and the sessions that
-/// are alive no longer have ended.
+/// are no longer alive have ended.
 pub fn drops_change_nothing()
     ensures { DropsChangeNothing }
 {}
@@ -81,7 +81,7 @@ pub fn events_are_judged_once()
 }
 
 /// A load that is refused changes nothing but what time changes: the clock has risen, and the sessions that are
-/// alive no longer have ended.
+/// no longer alive have ended.
 pub fn refusals_change_nothing()
     ensures { RefusalsChangeNothing }
 {}

@@ -193,8 +193,8 @@ pub fn note<N: Notes>(notes: &mut N, entry: Option<Entry<'_>>)
     }
 }
 
-/// Whether the plan makes an entry. A session that it adds makes one: of a second change the table, which is that before
-/// the first, tells it only where the second adds none.
+/// Whether the plan makes an entry. A change that adds a session makes one. Of a second change that adds none the table
+/// tells it, although it is the table before the first change.
 pub fn plan_makes_entry(table: &Table, plan: &Plan) -> bool
     requires { (external now : ℕ) × (ts : List Flowing)
         × GiveAll external table.now.held now plan.now.first plan.now.second ts }

@@ -12,7 +12,7 @@ use packet::endpoint::{Endpoint, Proto};
 /// close together in memory.
 const FEW_APART: usize = 8;
 
-/// Where the sessions are close together, it isn't looked ahead for so many frames behind the next one.
+/// Where the sessions are close together, or few, it isn't looked ahead for so many frames behind the next one.
 const CLOSE_FRAMES: usize = 128;
 
 /// The bytes of a packet up to its ports and with them, where it has no options.
@@ -28,7 +28,7 @@ const NOTHING: Coming = Coming {
 /// What a look ahead told.
 #[derive(Clone, Copy, Drop)]
 pub struct Ahead {
-    /// Behind the next frame, for so many more there is no look ahead.
+    /// For so many frames behind the one at the front there is no new look ahead.
     frames: usize,
     /// Whether one of their packets at least seems to be of a session that is held, or of an inside endpoint that has
     /// a mapping. Where that wasn't asked it is taken to be so.
