@@ -21,6 +21,10 @@ const TEXT_LIMIT: u64 = GREATEST_LENGTH as u64;
 /// The most bytes of requests that `loop` sends.
 const LOOP_LIMIT: u64 = 2_048;
 
+/// The bytes of a block that is taken and let go before a gateway opens. Twice as many are more than a compaction of
+/// 40,000 sessions takes and lets go.
+const FREED_FIRST: usize = 2_097_152;
+
 /// Runs a command, and gives the status of the program: 1 where `check` finds a fault in the text, otherwise 0.
 ///
 /// # Errors
@@ -72,6 +76,14 @@ fn run_check(
     }
 }
 
+// Has the C library keep memory that is let go, up to twice this block. Otherwise it gives back what a compaction took,
+// and the system clears each of these pages anew for the next one. (So great a block has a mapping of its own; once it
+// is freed glibc raises its thresholds, to its size and to twice that: mallopt(3), M_MMAP_THRESHOLD.)
+fn keep_freed_memory(alloc: Global) {
+    // Where memory for it is refused, that costs time alone.
+    let _ = Vec::<u8>::with_capacity(alloc, FREED_FIRST);
+}
+
 // Opens a gateway, and has it work.
 fn run_opened(
     rt: &HostRuntime,
@@ -81,6 +93,7 @@ fn run_opened(
     work: Work<'_>,
     requests: &[u8],
 ) -> Result<(), Stop> {
+    keep_freed_memory(rt.alloc());
     let mut gateway = open(rt, sides, bounds, opening)?;
     let worked = work_on(rt, opening.directory, work, requests, &mut gateway);
     // `into_disk` drops the core within the crate `gateway`, where that is proved already. Here the files are dropped.
