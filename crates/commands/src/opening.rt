@@ -2,7 +2,9 @@
 //!
 //! `open` opens the two files as a disk, and a gateway over it. `unopened` tells why there is no disk, `unsuitable` why no
 //! gateway opens over it: where the files themselves are refused, `unsound` says what `diagnosis::diagnose` finds.
-ghost use Rattle.std.specs.Prelude.{◌≡◌, IfErr};
+ghost use Rattle.std.specs.Prelude.{◌≡◌, [], IfErr, IfOk, false};
+ghost use Rattle.durable.specs.Entering.{Durable};
+ghost use Rattle.machine.specs.Noted.{IsRestarted};
 ghost use Rattle.refusals.specs.Words.{IsOfPath};
 ghost use Rattle.commands.specs.Faults.{IsOfFiles};
 
@@ -95,6 +97,13 @@ pub fn open(
     opening: Opening<'_>,
 ) -> Result<Gateway<FileDisk>, Stop>
     ensures causes { IfErr result (λ stop. IsOfFiles stop.refusal) }
+
+    // It begins again from some state that survives, at the opening's moment, and has numbered and held nothing.
+    ensures config { IfOk result (λ gateway. gateway.told.config ≡ bounds) }
+    ensures restarted { IfOk result (λ gateway. (d : Durable)
+        × IsRestarted bounds d opening.entry.moment gateway.told.state) }
+    ensures begins { IfOk result (λ gateway. (gateway.told.last ≡ 0)
+        × (gateway.told.held ≡ []) × (gateway.fallen ≡ false)) }
 {
     let alloc = rt.alloc();
     let disk = match FileDisk::open(rt, opening.directory) {

@@ -22,7 +22,7 @@ const TEXT_LIMIT: u64 = GREATEST_LENGTH as u64;
 const LOOP_LIMIT: u64 = 2_048;
 
 /// The bytes of a block that is taken and let go before a gateway opens. Twice as many are more than a compaction of
-/// 40,000 sessions takes and lets go.
+/// 40,000 sessions lets go, as measured.
 const FREED_FIRST: usize = 2_097_152;
 
 /// Runs a command, and gives the status of the program: 1 where `check` finds a fault in the text, otherwise 0.
@@ -76,9 +76,10 @@ fn run_check(
     }
 }
 
-// Has the C library keep memory that is let go, up to twice this block. Otherwise it gives back what a compaction took,
-// and the system clears each of these pages anew for the next one. (So great a block has a mapping of its own; once it
-// is freed glibc raises its thresholds, to its size and to twice that: mallopt(3), M_MMAP_THRESHOLD.)
+// Has the C library keep memory that is let go, up to twice this block, and more once a greater one is freed. Otherwise it
+// gives back what a compaction took, and the system clears each of these pages anew for the next one. (So great a block
+// has a mapping of its own; once it is freed glibc raises its thresholds, to its size and to twice that: mallopt(3),
+// M_MMAP_THRESHOLD.)
 fn keep_freed_memory(alloc: Global) {
     // Where memory for it is refused, that costs time alone.
     let _ = Vec::<u8>::with_capacity(alloc, FREED_FIRST);

@@ -126,6 +126,10 @@ impl<D: Disk + Drop> Gateway<D> {
         ensures only_looks { D.honest disk → ¬ NoneOpen (D.seen disk)
             → IfOk result (λ g. Looks D.moment D.left D.seen disk g.disk) }
         ensures config { IfOk result (λ g. g.told.config ≡ bounds) }
+
+        // Whatever the disk: the state is one that survives, begun again at the moment.
+        ensures restarted { IfOk result (λ g. (d : Durable)
+            × IsRestarted bounds d moment g.told.state) }
         ensures last { IfOk result (λ g. g.told.last ≡ 0) }
         ensures none { IfOk result (λ g. g.told.held ≡ []) }
         ensures stands { IfOk result (λ g. g.fallen ≡ false) }

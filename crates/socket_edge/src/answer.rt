@@ -155,25 +155,35 @@ fn write_forward_over(bytes: &mut [u8], number: u64, iface: Iface, packet: &[u8]
     body.copy_from_slice(packet);
 }
 
-/// Writes the frame of an answer over these bytes, which are as many.
-fn write_frame_over(bytes: &mut [u8], number: u64, answer: &Answer)
-    requires { length bytes.old ≡ 13 + length (answer_body answer.now) }
-    ensures { bytes.new ≡ frame (number, answer.now) }
+/// Writes the frame of a packet that leaves over the first bytes, if it fits. Says how many it has.
+fn fill_forward(bytes: &mut [u8], number: u64, iface: Iface, packet: &[u8]) -> Option<usize>
+    requires small { length packet.now < 2 ^ 31 }
+    ensures some { IfSome result (λ n. (n ≤ length bytes.new)
+        × (take n bytes.new ≡ frame (number, Forward iface packet.now))) }
+    ensures none { IfNone result
+        (length bytes.old < length (frame (number, Forward iface packet.now))) }
+    ensures len { length bytes.new ≡ length bytes.old }
 {
-    match answer {
-        Answer::Forward(iface, packet) => {
-            write_forward_over(bytes, number, *iface, packet.as_slice())
-        }
-        Answer::Dropped(cause) => bytes.copy_from_slice(&front_bytes(number, answer, *cause)),
-        _ => bytes.copy_from_slice(&head_bytes(number, answer)),
+    let len = ANSWER_FRONT + packet.len();
+    if bytes.len() < len {
+        return None;
     }
+    write_forward_over(&mut bytes[..len], number, iface, packet);
+    Some(len)
 }
 
-/// How many bytes the frame of an answer has.
-fn frame_len(answer: &Answer) -> usize
-    ensures { result ≡ 13 + length (answer_body answer.now) }
+/// Writes these bytes over the first ones, if they fit. Says how many they are.
+fn fill_with(bytes: &mut [u8], all: &[u8]) -> Option<usize>
+    ensures some { IfSome result (λ n. (n ≤ length bytes.new) × (take n bytes.new ≡ all.now)) }
+    ensures none { IfNone result (length bytes.old < length all.now) }
+    ensures len { length bytes.new ≡ length bytes.old }
 {
-    ANSWER_HEAD + body_len(answer) as usize
+    let len = all.len();
+    if bytes.len() < len {
+        return None;
+    }
+    bytes[..len].copy_from_slice(all);
+    Some(len)
 }
 
 /// Writes the frame of an answer with this number over the first bytes, if it fits. Says how many it has.
@@ -183,12 +193,11 @@ fn fill_frame(bytes: &mut [u8], number: u64, answer: &Answer) -> Option<usize>
     ensures none { IfNone result (length bytes.old < length (frame (number, answer.now))) }
     ensures len { length bytes.new ≡ length bytes.old }
 {
-    let len = frame_len(answer);
-    if bytes.len() < len {
-        return None;
+    match answer {
+        Answer::Forward(iface, packet) => fill_forward(bytes, number, *iface, packet.as_slice()),
+        Answer::Dropped(cause) => fill_with(bytes, &front_bytes(number, answer, *cause)),
+        _ => fill_with(bytes, &head_bytes(number, answer)),
     }
-    write_frame_over(&mut bytes[..len], number, answer);
-    Some(len)
 }
 
 /// Writes the frames of answers, each with its number, over the first bytes, if all fit. Says how many they have.

@@ -180,9 +180,9 @@ fn sum(count: u64, more: u64) -> u64
 ///   or `Full`. With `Reopen` exactly where the gateway had fallen before: then nothing is read, and nothing changes.
 ///
 /// The events that the gateway took stay taken. After `Output` a beginning of the answer frames is written,
-/// also a part of a frame; after `Gateway` the frames of a beginning of the events, and other answers are held; after
-/// any other fault the frames of all events that were read. Unless a call of the disk has failed, nothing is held where
-/// nothing was held before.
+/// also a part of a frame; after `Gateway` the frames of a beginning of the events, and other answers are held where a
+/// call of the disk has failed; after any other fault the frames of all events that were read. Unless a call of the disk
+/// has failed, nothing is held where nothing was held before.
 pub fn run<R: Read, W: Write, D: Disk + Drop>(
     alloc: Global,
     reader: &mut R,

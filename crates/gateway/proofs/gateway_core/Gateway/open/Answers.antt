@@ -23,6 +23,12 @@ invariant_of-result g c =
           (c.in-Ok.ensures.ok (c.in-Ok.ensures.honest.1 honest)).1.reads,
     )
 
+pub returns-in-Ok-resume_core-clause-restarted : goal.returns-in-Ok-resume_core-clause-restarted
+returns-in-Ok-resume_core-clause-restarted g c =
+    let text = c.in-Ok.field-0.text.items in
+    let restarted = subst (λ (ss : List Session). IsRestarted c.args.bounds (durable text ss) c.args.moment c.in-Ok-resume_core.core.state) c.as_slice.ensures.value c.in-Ok-resume_core.ensures.state in
+    (durable text c.in-Ok.field-0.sessions.items, restarted)
+
 pub returns-in-Ok-resume_core-clause-ok : goal.returns-in-Ok-resume_core-clause-ok
 returns-in-Ok-resume_core-clause-ok g c = λ honest.
     let text = c.in-Ok.field-0.text.items in
