@@ -3,7 +3,7 @@
 //! `open` opens the two files as a disk, and a gateway over it. `unopened` tells why there is no disk, `unsuitable` why no
 //! gateway opens over it: where the files themselves are refused, `unsound` says what `diagnosis::diagnose` finds.
 ghost use Rattle.std.specs.Prelude.{◌≡◌, [], IfErr, IfOk, false};
-ghost use Rattle.durable.specs.Entering.{Durable};
+ghost use Rattle.durable.specs.Entering.{Durable, IsDurable};
 ghost use Rattle.machine.specs.Noted.{IsRestarted};
 ghost use Rattle.refusals.specs.Words.{IsOfPath};
 ghost use Rattle.commands.specs.Faults.{IsOfFiles};
@@ -100,7 +100,7 @@ pub fn open(
 
     // It begins again from some state that survives, at the opening's moment, and has numbered and held nothing.
     ensures config { IfOk result (λ gateway. gateway.told.config ≡ bounds) }
-    ensures restarted { IfOk result (λ gateway. (d : Durable)
+    ensures restarted { IfOk result (λ gateway. (d : Durable) × IsDurable bounds d
         × IsRestarted bounds d opening.entry.moment gateway.told.state) }
     ensures begins { IfOk result (λ gateway. (gateway.told.last ≡ 0)
         × (gateway.told.held ≡ []) × (gateway.fallen ≡ false)) }

@@ -128,7 +128,7 @@ impl<D: Disk + Drop> Gateway<D> {
         ensures config { IfOk result (λ g. g.told.config ≡ bounds) }
 
         // Whatever the disk: the state is one that survives, begun again at the moment.
-        ensures restarted { IfOk result (λ g. (d : Durable)
+        ensures restarted { IfOk result (λ g. (d : Durable) × IsDurable bounds d
             × IsRestarted bounds d moment g.told.state) }
         ensures last { IfOk result (λ g. g.told.last ≡ 0) }
         ensures none { IfOk result (λ g. g.told.held ≡ []) }

@@ -27,7 +27,7 @@ pub returns-in-Ok-resume_core-clause-restarted : goal.returns-in-Ok-resume_core-
 returns-in-Ok-resume_core-clause-restarted g c =
     let text = c.in-Ok.field-0.text.items in
     let restarted = subst (λ (ss : List Session). IsRestarted c.args.bounds (durable text ss) c.args.moment c.in-Ok-resume_core.core.state) c.as_slice.ensures.value c.in-Ok-resume_core.ensures.state in
-    (durable text c.in-Ok.field-0.sessions.items, restarted)
+    (durable text c.in-Ok.field-0.sessions.items, c.in-Ok.ensures.sound, restarted)
 
 pub returns-in-Ok-resume_core-clause-ok : goal.returns-in-Ok-resume_core-clause-ok
 returns-in-Ok-resume_core-clause-ok g c = λ honest.
