@@ -121,8 +121,8 @@ fn open_file(rt: &HostRuntime, directory: &str, id: FileId) -> Result<File, Open
     Ok(file)
 }
 
-// Syncs a file, and asks the system to drop its copy in memory, which the system may leave undone: behind a failed sync
-// of another program that copy may differ from what the device has.
+// Syncs a file, and asks the system to drop its copy in memory, which the system may refuse or leave undone: behind a
+// failed sync of another program that copy may differ from what the device has.
 fn sync_and_uncache(file: &File) -> Result<(), OpenError> {
     file.sync_all()?;
     let refused = libc::posix_fadvise(file.as_raw_fd(), 0, 0, libc::POSIX_FADV_DONTNEED);
