@@ -59,18 +59,27 @@ module _ (config : Config) (text : List ℕ) (rules : Spelled) (held : List (Opt
       × (step config s judged ≡ (new, Forward out packet)) × AreEntriesOf config s judged []
   taken-in-place new packet out passes quiet = (judged, record { at = refl; what = refl; right = tt }, passes-at-once (new, Forward out packet) passes, quiet-at-once quiet)
 
--- what is kept when the packet has passed
+-- what is kept when a packet was answered
+pub core-after : (config : Config) (text : List ℕ) (rules : Spelled) (old new : Flows) (clock moment now : ℕ) (iface : Iface) (bytes : List ℕ) (answer : Answer)
+    → now ≡ later clock moment → IsTrue (is_config config) → IsCore config text rules old clock → new.translations.external ≡ old.translations.external
+    → pass config (aged now (state_of text rules old.table.held clock)) iface bytes ≡ (state_of text rules new.table.held now, answer)
+    → IsCore config text rules new now
+core-after config text rules old new clock moment now iface bytes answer is is_one core external passes =
+    let s = state_of text rules old.table.held clock in
+    let judged : Judged = record { moment = moment; deed = deed.Packet iface bytes } in
+    let e = step-is config s judged now _ is passes in
+    record {
+      external = external ∙ core.external;
+      sound = subst (IsSound config) (ap (λ (p : State × Answer). p.0) e) (step-sound config is_one s judged tt core.sound);
+      live = subst (λ (t : State). EndsNone t.clock t) (ap (λ (p : State × Answer). p.0) e) (λ t is. lt-ltb _ _ (step-alive config is_one s judged t core.sound is));
+    }
+
+-- and where none has ended
 pub core-stays : (config : Config) (text : List ℕ) (rules : Spelled) (old new : Flows) (clock moment now : ℕ) (iface out : Iface) (bytes packet : List ℕ)
     → now ≡ later clock moment → EndsNone now (state_of text rules old.table.held clock) → IsTrue (is_config config) → IsCore config text rules old clock
     → new.translations.external ≡ old.translations.external
     → pass config (state_of text rules old.table.held now) iface bytes ≡ (state_of text rules new.table.held now, Forward out packet)
     → IsCore config text rules new now
 core-stays config text rules old new clock moment now iface out bytes packet is live is_one core external passes =
-    let s = state_of text rules old.table.held clock in
-    let judged : Judged = record { moment = moment; deed = deed.Packet iface bytes } in
-    let e = passes-at-once config text rules old.table.held clock moment now iface bytes is live _ passes in
-    record {
-      external = external ∙ core.external;
-      sound = subst (IsSound config) (ap (λ (p : State × Answer). p.0) e) (step-sound config is_one s judged tt core.sound);
-      live = subst (λ (t : State). EndsNone t.clock t) (ap (λ (p : State × Answer). p.0) e) (λ t is. lt-ltb _ _ (step-alive config is_one s judged t core.sound is));
-    }
+    core-after config text rules old new clock moment now iface bytes (Forward out packet) is is_one core external
+    (ap (λ (t : State). pass config t iface bytes) (stays config text rules old.table.held clock moment now iface bytes is live) ∙ passes)

@@ -1,5 +1,6 @@
 pub mod Besides
 pub mod Core
+pub mod Fates
 pub mod Flows
 pub mod Judged
 pub mod Laws

@@ -3,10 +3,9 @@
 //! - `answer_packet`: the short way first (`glance_showing`, `answer_going`), or else a plan (`answer_by_plan`:
 //!   `plan_for`, `answer_planned`).
 //! - `forward_in_place`: the shortest way, where the packet lies (`glance`, `send_in_place`).
-ghost use Rattle.std.specs.Prelude.{◌≡◌, ◌↔◌, ◌<◌, ◌≤◌, ◌+◌, ◌*◌, ◌++◌, [], ℕ, List, OnOk, Ok, Err, Result as Outcome, IsTrue, IfOk, IfErr, IfNone, IfSome, IsOk, IsOkAnd, OnErr, OnSome};
+ghost use Rattle.std.specs.Prelude.{◌≡◌, ◌↔◌, ◌<◌, ◌≤◌, ◌+◌, ◌*◌, ◌++◌, [], ℕ, List, length, OnOk, Ok, Err, Result as Outcome, IsTrue, IfOk, IfErr, IfNone, IfSome, IsOk, IsOkAnd, OnErr, OnSome};
 ghost use Rattle.packet.specs.Fields.{fields};
 ghost use Rattle.packet.specs.Route.{route as route_for};
-ghost use Rattle.packet.specs.Translated.{translated};
 ghost use Rattle.sessions.specs.Listing.{listing};
 ghost use Rattle.hairpin.specs.Causes.{number};
 ghost use Rattle.hairpin.specs.Going.{IsQuiet, plan_of, planned};
@@ -16,14 +15,15 @@ ghost use Rattle.hairpin.specs.Sound.{KeepBounds};
 ghost use Rattle.sessions.specs.Sound.{AreSound};
 ghost use Rattle.hairpin.specs.declared.cause.Cause.{Cause as Reason};
 ghost use Rattle.machine.specs.Core.{IsTransition, AddsNoSession, state_of};
+ghost use Rattle.machine.specs.Fates.{answer_of};
 ghost use Rattle.machine.specs.Machine.{AddsNone, leg, pass, sent};
 ghost use Rattle.machine.specs.Noted.{of_fields, of_way};
 ghost use Rattle.machine.specs.Sound.{IsInForce};
 ghost use Rattle.machine.specs.Flows.{IsLatest, IsReady};
-ghost use Rattle.machine.specs.declared.event.Answer.TheVariants.{Dropped, Forward};
+ghost use Rattle.machine.specs.declared.event.Answer.TheVariants.{Forward};
+ghost use Rattle.machine.specs.declared.event.Fate.TheVariants.{Dropped};
 
-use crate::bytes::Bytes;
-use crate::event::Answer;
+use crate::event::Fate;
 use crate::flows::Flows;
 use crate::in_force::InForce;
 use crate::notes::{Notes, StepFault};
@@ -32,26 +32,16 @@ use hairpin::{
     out_leg,
 };
 use packet::bounds::Bounds;
-use packet::endpoint::{Endpoint, Iface};
+use packet::endpoint::Iface;
 use packet::rewriting::rewrite;
 use packet::route::Route;
 use packet::view::View;
 use verdict::Rules;
 
-fn drop_for(cause: Cause) -> Answer
+fn drop_for(cause: Cause) -> Fate
     ensures { result ≡ Dropped (number cause) }
 {
-    Answer::Dropped(cause.number())
-}
-
-// The packet with other endpoints.
-fn translate(bytes: Bytes, src: Endpoint, dst: Endpoint) -> Bytes
-    requires { IsOkAnd (fields bytes) (λ view. 2 ≤ view.ttl) }
-    ensures { result ≡ translated bytes src dst }
-{
-    let mut packet = bytes.into_vec();
-    rewrite(&mut packet, src, dst);
-    Bytes::of(packet)
+    Fate::Dropped(cause.number())
 }
 
 // What a plan comes to; `ready` says that there is room for two sessions and their entries already.
@@ -59,27 +49,28 @@ fn answer_planned<N: Notes>(
     flows: &mut Flows,
     ready: bool,
     plan: &Result<Plan, Cause>,
-    bytes: Bytes,
+    packet: &mut [u8],
     now: u64,
     notes: &mut N,
-) -> Result<Answer, (Bytes, StepFault)>
-    requires read { IsOkAnd (fields bytes) (λ view. 2 ≤ view.ttl) }
+) -> Result<Fate, StepFault>
+    requires read { IsOkAnd (fields packet.old) (λ view. 2 ≤ view.ttl) }
     requires latest { IsLatest flows.old.table.held now }
     requires ready { IsTrue ready → IsReady 2 flows.old }
     requires room { IsTrue ready → N.keeps notes.old → 44 ≤ N.room notes.old }
     requires planned { (way : Outcome Passage Reason)
         × Plans flows.old.translations.external flows.old.table.held now plan.now way }
-    ensures ok { IfOk result (λ answer. (way : Outcome Passage Reason)
+    ensures ok { IfOk result (λ fate. (way : Outcome Passage Reason)
         → Plans flows.old.translations.external flows.old.table.held now plan.now way
-        → IsTransition (λ s. sent s bytes way) flows.old.table.held flows.new.table.held
-        now answer) }
-    ensures err { IfErr result (λ e. (e.0 ≡ bytes)
+        → IsTransition (λ s. sent s packet.old way) flows.old.table.held flows.new.table.held
+        now (answer_of fate packet.new)) }
+    ensures err { OnErr result ((packet.new ≡ packet.old)
         × (flows.new.table.held ≡ flows.old.table.held)) }
+    ensures length { length packet.new ≡ length packet.old }
     ensures external { flows.new.translations.external ≡ flows.old.translations.external }
     ensures ready { IsTrue ready → IsOk result }
     ensures adds_none { (way : Outcome Passage Reason)
         → Plans flows.old.translations.external flows.old.table.held now plan.now way
-        → AddsNoSession (λ s. sent s bytes way) flows.old.table.held now → N.grants notes.old
+        → AddsNoSession (λ s. sent s packet.old way) flows.old.table.held now → N.grants notes.old
         → IsOk result }
     ensures keeps { N.keeps notes.old ↔ N.keeps notes.new }
     ensures beside { N.beside notes.new ≡ N.beside notes.old }
@@ -88,11 +79,11 @@ fn answer_planned<N: Notes>(
         → N.keeps notes.old → N.noted notes.new ≡ N.noted notes.old
         ++ of_way (listing flows.old.table.held) way) }
     ensures err_noted { OnErr result (N.noted notes.new ≡ N.noted notes.old) }
-    ensures full { IfErr result (λ e. e.1 ≡ StepFault.Full → N.too_many notes.old 44) }
+    ensures full { IfErr result (λ e. e ≡ StepFault.Full → N.too_many notes.old 44) }
     ensures no_memory { (way : Outcome Passage Reason)
         → Plans flows.old.translations.external flows.old.table.held now plan.now way
-        → AddsNoSession (λ s. sent s bytes way) flows.old.table.held now
-        → IfErr result (λ e. e.1 ≡ StepFault.NoMemory → ¬ N.too_many notes.old 44) }
+        → AddsNoSession (λ s. sent s packet.old way) flows.old.table.held now
+        → IfErr result (λ e. e ≡ StepFault.NoMemory → ¬ N.too_many notes.old 44) }
     ensures quiet { (way : Outcome Passage Reason)
         → Plans flows.old.translations.external flows.old.table.held now plan.now way
         → of_way (listing flows.old.table.held) way ≡ [] → IsOk result }
@@ -101,10 +92,9 @@ fn answer_planned<N: Notes>(
         Err(cause) => Ok(drop_for(*cause)),
         Ok(plan) => {
             flows.table().is_sound();
-            match flows.carry_out(ready, plan, now, notes) {
-                Ok(()) => Ok(Answer::Forward(plan.iface, translate(bytes, plan.src, plan.dst))),
-                Err(fault) => Err((bytes, fault)),
-            }
+            flows.carry_out(ready, plan, now, notes)?;
+            rewrite(packet, plan.src, plan.dst);
+            Ok(Fate::Leaves(plan.iface))
         }
     }
 }
@@ -149,30 +139,31 @@ fn answer_by_plan<N: Notes>(
     ready: bool,
     route: Route,
     view: &View,
-    bytes: Bytes,
+    packet: &mut [u8],
     now: u64,
     notes: &mut N,
-) -> Result<Answer, (Bytes, StepFault)>
+) -> Result<Fate, StepFault>
     requires external { flows.old.translations.external ≡ bounds.now.external }
     requires sound { AreSound bounds.now (listing flows.old.table.held) }
     requires bounded { KeepBounds bounds.now rules.now }
     requires ports { (0 < view.now.src.port) × (0 < view.now.dst.port) }
     requires routed { (iface : Iface) × (route_for bounds.now iface view.now ≡ Ok route) }
-    requires read { IsOkAnd (fields bytes) (λ view. 2 ≤ view.ttl) }
+    requires read { IsOkAnd (fields packet.old) (λ view. 2 ≤ view.ttl) }
     requires latest { IsLatest flows.old.table.held now }
     requires ready { IsTrue ready → IsReady 2 flows.old }
     requires room { IsTrue ready → N.keeps notes.old → 44 ≤ N.room notes.old }
-    ensures ok { IfOk result (λ answer. (text : List ℕ)
-        → IsTransition (λ s. sent s bytes (leg bounds.now
+    ensures ok { IfOk result (λ fate. (text : List ℕ)
+        → IsTransition (λ s. sent s packet.old (leg bounds.now
         (state_of text rules.now flows.old.table.held now) view.now route))
-        flows.old.table.held flows.new.table.held now answer) }
-    ensures err { IfErr result (λ e. (e.0 ≡ bytes)
+        flows.old.table.held flows.new.table.held now (answer_of fate packet.new)) }
+    ensures err { OnErr result ((packet.new ≡ packet.old)
         × (flows.new.table.held ≡ flows.old.table.held)) }
+    ensures length { length packet.new ≡ length packet.old }
     ensures external { flows.new.translations.external ≡ flows.old.translations.external }
     ensures ready { IsTrue ready → IsOk result }
     ensures adds_none { (text : List ℕ)
         → let s = state_of text rules.now flows.old.table.held now in
-        AddsNone s (sent s bytes (leg bounds.now s view.now route)) → N.grants notes.old
+        AddsNone s (sent s packet.old (leg bounds.now s view.now route)) → N.grants notes.old
         → IsOk result }
     ensures keeps { N.keeps notes.old ↔ N.keeps notes.new }
     ensures beside { N.beside notes.new ≡ N.beside notes.old }
@@ -180,17 +171,17 @@ fn answer_by_plan<N: Notes>(
         → N.noted notes.new ≡ N.noted notes.old ++ of_way (listing flows.old.table.held)
         (leg bounds.now (state_of text rules.now flows.old.table.held now) view.now route)) }
     ensures err_noted { OnErr result (N.noted notes.new ≡ N.noted notes.old) }
-    ensures full { IfErr result (λ e. e.1 ≡ StepFault.Full → N.too_many notes.old 44) }
+    ensures full { IfErr result (λ e. e ≡ StepFault.Full → N.too_many notes.old 44) }
     ensures no_memory { (text : List ℕ)
         → let s = state_of text rules.now flows.old.table.held now in
-        AddsNone s (sent s bytes (leg bounds.now s view.now route))
-        → IfErr result (λ e. e.1 ≡ StepFault.NoMemory → ¬ N.too_many notes.old 44) }
+        AddsNone s (sent s packet.old (leg bounds.now s view.now route))
+        → IfErr result (λ e. e ≡ StepFault.NoMemory → ¬ N.too_many notes.old 44) }
     ensures quiet { (text : List ℕ) → of_way (listing flows.old.table.held)
         (leg bounds.now (state_of text rules.now flows.old.table.held now) view.now route) ≡ []
         → IsOk result }
 {
     let plan = plan_for(flows, rules, bounds, route, view, now);
-    answer_planned(flows, ready, &plan, bytes, now, notes)
+    answer_planned(flows, ready, &plan, packet, now, notes)
 }
 
 // How a packet with these fields leaves, where its session goes on and the first look tells it. Compiled into its
@@ -267,21 +258,22 @@ fn answer_going<N: Notes>(
     flows: &mut Flows,
     ready: bool,
     going: &Result<Going, Cause>,
-    bytes: Bytes,
+    packet: &mut [u8],
     now: u64,
     notes: &mut N,
-) -> Result<Answer, (Bytes, StepFault)>
-    requires read { IsOkAnd (fields bytes) (λ view. 2 ≤ view.ttl) }
+) -> Result<Fate, StepFault>
+    requires read { IsOkAnd (fields packet.old) (λ view. 2 ≤ view.ttl) }
     requires latest { IsLatest flows.old.table.held now }
     requires room { IsTrue ready → N.keeps notes.old → 44 ≤ N.room notes.old }
     requires planned { (way : Outcome Passage Reason)
         × Plans flows.old.translations.external flows.old.table.held now (planned going.now) way }
-    ensures ok { IfOk result (λ answer. (way : Outcome Passage Reason)
+    ensures ok { IfOk result (λ fate. (way : Outcome Passage Reason)
         → Plans flows.old.translations.external flows.old.table.held now (planned going.now) way
-        → IsTransition (λ s. sent s bytes way) flows.old.table.held flows.new.table.held
-        now answer) }
-    ensures err { IfErr result (λ e. (e.0 ≡ bytes)
+        → IsTransition (λ s. sent s packet.old way) flows.old.table.held flows.new.table.held
+        now (answer_of fate packet.new)) }
+    ensures err { OnErr result ((packet.new ≡ packet.old)
         × (flows.new.table.held ≡ flows.old.table.held)) }
+    ensures length { length packet.new ≡ length packet.old }
     ensures external { flows.new.translations.external ≡ flows.old.translations.external }
     ensures ready { IsTrue ready → IsOk result }
     ensures grants { N.grants notes.old → IsOk result }
@@ -292,18 +284,19 @@ fn answer_going<N: Notes>(
         → N.keeps notes.old → N.noted notes.new ≡ N.noted notes.old
         ++ of_way (listing flows.old.table.held) way) }
     ensures err_noted { OnErr result (N.noted notes.new ≡ N.noted notes.old) }
-    ensures full { IfErr result (λ e. e.1 ≡ StepFault.Full → N.too_many notes.old 44) }
-    ensures no_memory { IfErr result (λ e. e.1 ≡ StepFault.NoMemory → ¬ N.too_many notes.old 44) }
+    ensures full { IfErr result (λ e. e ≡ StepFault.Full → N.too_many notes.old 44) }
+    ensures no_memory { IfErr result (λ e. e ≡ StepFault.NoMemory → ¬ N.too_many notes.old 44) }
     ensures quiet { (way : Outcome Passage Reason)
         → Plans flows.old.translations.external flows.old.table.held now (planned going.now) way
         → of_way (listing flows.old.table.held) way ≡ [] → IsOk result }
 {
     match going {
         Err(cause) => Ok(drop_for(*cause)),
-        Ok(going) => match flows.carry_out_going(ready, going, now, notes) {
-            Ok(()) => Ok(Answer::Forward(going.iface, translate(bytes, going.src, going.dst))),
-            Err(fault) => Err((bytes, fault)),
-        },
+        Ok(going) => {
+            flows.carry_out_going(ready, going, now, notes)?;
+            rewrite(packet, going.src, going.dst);
+            Ok(Fate::Leaves(going.iface))
+        }
     }
 }
 
@@ -314,55 +307,62 @@ pub(crate) fn answer_packet<N: Notes>(
     bounds: &Bounds,
     ready: bool,
     iface: Iface,
-    bytes: Bytes,
+    packet: &mut [u8],
     now: u64,
     notes: &mut N,
-) -> Result<Answer, (Bytes, StepFault)>
+) -> Result<Fate, StepFault>
     requires external { flows.old.translations.external ≡ bounds.now.external }
     requires sound { AreSound bounds.now (listing flows.old.table.held) }
     requires in_force { IsInForce bounds.now in_force.now.text in_force.now.rules }
     requires latest { IsLatest flows.old.table.held now }
     requires ready { IsTrue ready → IsReady 2 flows.old }
     requires room { IsTrue ready → N.keeps notes.old → 44 ≤ N.room notes.old }
-    ensures ok { IfOk result (λ answer. pass bounds.now
-        (state_of in_force.now.text in_force.now.rules flows.old.table.held now) iface bytes
-        ≡ (state_of in_force.now.text in_force.now.rules flows.new.table.held now, answer)) }
-    ensures err { IfErr result (λ e. (e.0 ≡ bytes)
+    ensures ok { IfOk result (λ fate. pass bounds.now
+        (state_of in_force.now.text in_force.now.rules flows.old.table.held now) iface
+        packet.old
+        ≡ (
+          state_of in_force.now.text in_force.now.rules flows.new.table.held now,
+          answer_of fate packet.new,
+        )) }
+    ensures err { OnErr result ((packet.new ≡ packet.old)
         × (flows.new.table.held ≡ flows.old.table.held)) }
+    ensures length { length packet.new ≡ length packet.old }
     ensures external { flows.new.translations.external ≡ flows.old.translations.external }
     ensures ready { IsTrue ready → IsOk result }
     ensures adds_none { let s = state_of in_force.now.text in_force.now.rules
         flows.old.table.held now in
-        AddsNone s (pass bounds.now s iface bytes) → N.grants notes.old → IsOk result }
+        AddsNone s (pass bounds.now s iface packet.old) → N.grants notes.old → IsOk result }
     ensures keeps { N.keeps notes.old ↔ N.keeps notes.new }
     ensures beside { N.beside notes.new ≡ N.beside notes.old }
     ensures noted { OnOk result (N.keeps notes.old → N.noted notes.new
         ≡ N.noted notes.old ++ of_fields bounds.now
         (state_of in_force.now.text in_force.now.rules flows.old.table.held now)
-        iface (fields bytes)) }
+        iface (fields packet.old)) }
     ensures err_noted { OnErr result (N.noted notes.new ≡ N.noted notes.old) }
-    ensures full { IfErr result (λ e. e.1 ≡ StepFault.Full → N.too_many notes.old 44) }
+    ensures full { IfErr result (λ e. e ≡ StepFault.Full → N.too_many notes.old 44) }
     ensures no_memory { let s = state_of in_force.now.text in_force.now.rules
         flows.old.table.held now in
-        AddsNone s (pass bounds.now s iface bytes)
-        → IfErr result (λ e. e.1 ≡ StepFault.NoMemory → ¬ N.too_many notes.old 44) }
+        AddsNone s (pass bounds.now s iface packet.old)
+        → IfErr result (λ e. e ≡ StepFault.NoMemory → ¬ N.too_many notes.old 44) }
     ensures quiet { of_fields bounds.now
         (state_of in_force.now.text in_force.now.rules flows.old.table.held now)
-        iface (fields bytes) ≡ []
+        iface (fields packet.old) ≡ []
         → IsOk result }
 {
     bounds.facts();
     let rules = &in_force.rules;
-    match View::read(bytes.as_slice()) {
+    match View::read(packet) {
         Err(fault) => Ok(drop_for(Cause::Packet(fault))),
         Ok(view) => match bounds.route(iface, &view) {
             Err(fault) => Ok(drop_for(Cause::Route(fault))),
             Ok(route) => match glance_showing(flows, rules, bounds, route, &view) {
-                Some(going) => answer_going(flows, ready, &going, bytes, now, notes),
+                Some(going) => answer_going(flows, ready, &going, packet, now, notes),
                 None => {
                     // Put down in memory on this way alone, by which the fields are borrowed.
                     let view = view;
-                    answer_by_plan(flows, rules, bounds, ready, route, &view, bytes, now, notes)
+                    answer_by_plan(
+                        flows, rules, bounds, ready, route, &view, packet, now, notes,
+                    )
                 }
             },
         },

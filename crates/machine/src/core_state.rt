@@ -4,18 +4,21 @@
 //! - `step_noted`: `judge` reads the text of a load; `age_and_answer` ends what is alive no longer
 //!   (`Flows::expire_since`), and `answer_deed` puts rules in force (`in_force`), or asks what a packet comes to
 //!   (`answering::answer_packet`).
+//! - `pass_noted`: the step of a packet, where it lies (`age_and_pass`, `answering::answer_packet`).
 //! - `forward`: the shortest way of a packet, where it lies (`answering::forward_in_place`).
 //! - `resume`: begins again from what survived (`in_force_again`, `Flows::of`).
-ghost use Rattle.std.specs.Prelude.{◌≡◌, ◌↔◌, ◌<◌, ◌≤◌, ◌+◌, ◌*◌, ◌++◌, [], List, length, OnOk, Ok, Err, IsTrue, IfOk, IfErr, IfNone, IfSome, IsOk, OnErr};
+ghost use Rattle.std.specs.Prelude.{◌≡◌, ◌↔◌, ◌<◌, ◌≤◌, ◌+◌, ◌*◌, ◌++◌, [], List, length, OnOk, Ok, Err, IsTrue, IfOk, IfErr, IfNone, IfSome, IsOk, OnErr, OnSome};
 ghost use Rattle.packet.specs.Config.{is_config};
+ghost use Rattle.packet.specs.Fields.{fields};
 ghost use Rattle.sessions.specs.Listing.{listing};
 ghost use Rattle.sessions.specs.Sound.{AreSound};
 ghost use Rattle.machine.specs.Core.{state_of};
+ghost use Rattle.machine.specs.Fates.{answer_of};
 ghost use Rattle.machine.specs.Judged.{Judged, IsJudged, IsNoLoad, bringer};
-ghost use Rattle.machine.specs.Machine.{AddsNone, EndsNone, act, aged, empty_at, later, step};
+ghost use Rattle.machine.specs.Machine.{AddsNone, EndsNone, act, aged, empty_at, later, pass, step};
 ghost use Rattle.durable.specs.Coding.{Entry as Recorded};
 ghost use Rattle.durable.specs.Entering.{IsDurable, durable};
-ghost use Rattle.machine.specs.Noted.{AreEntriesOf, AreOver, IsRestarted, ends, of_deed};
+ghost use Rattle.machine.specs.Noted.{AreEntriesOf, AreOver, IsRestarted, ends, of_deed, of_fields};
 ghost use Rattle.machine.specs.Notes.{most_bytes};
 ghost use Rattle.sessions.specs.declared.session.Session.{Session as Flow};
 ghost use Rattle.machine.specs.Sound.{IsInForce, IsSound};
@@ -27,10 +30,10 @@ use crate::ahead::is_wide;
 use crate::answering::{answer_packet, forward_in_place};
 use crate::bytes::Bytes;
 use crate::deed::{Deed, judge};
-use crate::event::{Answer, Event, NoMemory, What};
+use crate::event::{Answer, Event, Fate, NoMemory, What};
 use crate::flows::Flows;
 use crate::in_force::{InForce, in_force_again, note_load, put_in_force};
-use crate::notes::{Notes, StepFault, Unkept};
+use crate::notes::{MOST_OF_PACKET, Notes, StepFault, Unkept};
 use packet::bounds::Bounds;
 use packet::endpoint::Iface;
 use sessions::{Coming, MOST_AHEAD, Session};
@@ -123,9 +126,22 @@ fn answer_deed<N: Notes>(
         Deed::Refuse(_) => Ok(Answer::Refused),
         Deed::Moment => Ok(Answer::Ticked),
         Deed::Packet(iface, bytes) => {
-            match answer_packet(flows, in_force, bounds, ready, iface, bytes, now, notes) {
-                Ok(answer) => Ok(answer),
-                Err((bytes, e)) => Err((What::Packet(iface, bytes), e)),
+            let mut packet = bytes.into_vec();
+            let comes_to = answer_packet(
+                flows,
+                in_force,
+                bounds,
+                ready,
+                iface,
+                &mut packet,
+                now,
+                notes,
+            );
+            let bytes = Bytes::of(packet);
+            match comes_to {
+                Ok(Fate::Leaves(out)) => Ok(Answer::Forward(out, bytes)),
+                Ok(Fate::Dropped(cause)) => Ok(Answer::Dropped(cause)),
+                Err(fault) => Err((What::Packet(iface, bytes), fault)),
             }
         }
     }
@@ -184,6 +200,52 @@ fn age_and_answer<N: Notes>(
         Ok(ready) => answer_deed(flows, in_force, bounds, ready, deed, now, notes),
         Err(fault) => Err((deed.into_what(), fault)),
     }
+}
+
+// What a packet comes to, where it lies, once the sessions that are no longer alive have ended. `None` says that memory
+// or room for entries was refused, and nothing has changed: where a session has ended, there is room for the packet
+// too.
+#[inline(always)]
+fn age_and_pass<N: Notes>(
+    flows: &mut Flows,
+    in_force: &InForce,
+    alloc: Global,
+    bounds: &Bounds,
+    iface: Iface,
+    packet: &mut [u8],
+    clock: u64,
+    now: u64,
+    notes: &mut N,
+) -> Option<Fate>
+    requires external { flows.old.translations.external ≡ bounds.now.external }
+    requires sound { AreSound bounds.now (listing flows.old.table.held) }
+    requires in_force { IsInForce bounds.now in_force.now.text in_force.now.rules }
+    requires latest { IsLatest flows.old.table.held now }
+    requires live { EndsNone clock (state_of in_force.now.text in_force.now.rules
+        flows.old.table.held clock) }
+    ensures some { IfSome result (λ fate. pass bounds.now
+        (aged now (state_of in_force.now.text in_force.now.rules flows.old.table.held clock))
+        iface packet.old
+        ≡ (
+          state_of in_force.now.text in_force.now.rules flows.new.table.held now,
+          answer_of fate packet.new,
+        )) }
+    ensures none { IfNone result ((flows.new.table.held ≡ flows.old.table.held)
+        × (packet.new ≡ packet.old) × (N.noted notes.new ≡ N.noted notes.old)) }
+    ensures external { flows.new.translations.external ≡ flows.old.translations.external }
+    ensures keeps { N.keeps notes.old ↔ N.keeps notes.new }
+    ensures beside { N.beside notes.new ≡ N.beside notes.old }
+    ensures noted { OnSome result (N.keeps notes.old → (gone : List Flow)
+        × AreOver now (listing flows.old.table.held) gone
+        × (N.noted notes.new ≡ N.noted notes.old ++ (ends gone ++ of_fields bounds.now
+        (aged now (state_of in_force.now.text in_force.now.rules flows.old.table.held clock))
+        iface (fields packet.old)))) }
+    ensures length { length packet.new ≡ length packet.old }
+{
+    let Ok(ready) = flows.expire_since(alloc, clock, now, MOST_OF_PACKET, notes) else {
+        return None;
+    };
+    answer_packet(flows, in_force, bounds, ready, iface, packet, now, notes).ok()
 }
 
 impl Core {
@@ -370,6 +432,51 @@ impl Core {
             }
             Err((what, fault)) => Err((Event { moment, what }, fault)),
         }
+    }
+
+    /// Does the step of a packet's event, as `step_noted` does, where the packet lies: one that leaves is translated
+    /// there, and none of its bytes is copied. The moment is in seconds.
+    ///
+    /// `None` says nothing of the packet: nothing has changed, nor has what is noted, and `step_noted` tells what it
+    /// comes to. It comes only where memory is refused, or the entries don't fit.
+    #[inline(always)]
+    pub fn pass_noted<N: Notes>(
+        &mut self,
+        moment: u64,
+        iface: Iface,
+        packet: &mut [u8],
+        notes: &mut N,
+    ) -> Option<Fate>
+        ensures some { IfSome result (λ fate. (judged : Judged)
+            × IsJudged self.old.config
+            (record { moment = moment; what = Packet iface packet.old }) judged
+            × (step self.old.config self.old.state judged
+            ≡ (self.new.state, answer_of fate packet.new))
+            × (N.keeps notes.old → (entries : List Recorded)
+            × AreEntriesOf self.old.config self.old.state judged entries
+            × (N.noted notes.new ≡ N.noted notes.old ++ entries))) }
+        ensures none { IfNone result ((self.new ≡ self.old) × (packet.new ≡ packet.old)
+            × (N.noted notes.new ≡ N.noted notes.old)) }
+        ensures config { self.new.config ≡ self.old.config }
+        ensures keeps { N.keeps notes.old ↔ N.keeps notes.new }
+        ensures beside { N.beside notes.new ≡ N.beside notes.old }
+        ensures length { length packet.new ≡ length packet.old }
+    {
+        let now = later_of(self.clock, moment);
+        self.bounds.facts();
+        let fate = age_and_pass(
+            &mut self.flows,
+            &self.in_force,
+            self.alloc,
+            &self.bounds,
+            iface,
+            packet,
+            self.clock,
+            now,
+            notes,
+        )?;
+        self.clock = now;
+        Some(fate)
     }
 
     /// Whether so many sessions have been held at once that a processor's near caches don't hold all of them.

@@ -38,6 +38,15 @@ pub enum Answer {
     Ticked,
 }
 
+/// What a packet comes to, told without its bytes.
+#[derive(Clone, Copy, Drop)]
+pub enum Fate {
+    /// It leaves on this interface, translated.
+    Leaves(Iface),
+    /// It is dropped; the number is that of a `Cause`, 1 to 20.
+    Dropped(u8),
+}
+
 /// Memory was refused; nothing has changed.
 #[derive(Clone, Copy, Debug, PartialEq, Eq, Drop, Error)]
 #[error("no memory")]

@@ -32,7 +32,7 @@ mod noting;
 
 pub use bytes::Bytes;
 pub use core_state::Core;
-pub use event::{Answer, Event, NoMemory, What};
+pub use event::{Answer, Event, Fate, NoMemory, What};
 pub use hairpin::Cause;
 pub use notes::{Notes, StepFault, Unkept};
 pub use packet::endpoint::Iface;
