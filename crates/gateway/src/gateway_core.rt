@@ -4,16 +4,20 @@
 //! - `open`: `Store::open` reads the files, and `resume_core` has a core begin again from what they stood for.
 //! - `offer`: `Core::step_noted` does the step and has `Pending` note its entries; `give` answers at once, or holds.
 //! - `forward`: `Core::forward` translates a packet where it lies, if nothing has to be held or noted.
+//! - `pass`: `Core::pass_noted` does the step of a packet where it lies and has `Pending` note its entries; `give_copy`
+//!   answers at once, or holds a copy.
 //! - `flush`: `Store::commit` syncs the group of `Pending`, and `Pending::release` hands out what was held.
+//! - `settle`: as `flush`, and `Pending::let_go` lets go what was held.
 //! - `compact`: `Store::compact` makes a file of what must survive (`lasting_sessions`), with no groups.
 //! - `run`: `running::take_all` does these calls for a list of events.
-ghost use Rattle.std.specs.Prelude.{◌≡◌, ◌≢◌, ◌↔◌, ◌⊎◌, ◌+◌, ◌-◌, ◌^◌, ◌<◌, ◌≤◌, ◌++◌, ◌∷◌, [], ℕ, List, IfOk, IfErr, IfNone, IfSome, OnOk, OnErr, OnSome, IsOk, IsErrOf, MatchResult, IsTrue, length, map, true, false};
+ghost use Rattle.std.specs.Prelude.{◌≡◌, ◌≢◌, ◌↔◌, ◌⊎◌, ◌+◌, ◌-◌, ◌^◌, ◌<◌, ◌≤◌, ◌++◌, ◌∷◌, [], ℕ, List, IfOk, IfErr, IfNone, IfSome, OnOk, OnErr, OnSome, IsOk, IsErrOf, MatchResult, IsTrue, length, map, true, false, vec_capacity};
 ghost use Rattle.packet.specs.Config.{is_config};
 ghost use Rattle.disk_model.specs.Disk.{Leaves, LeavesNow, LeavesOnly, Looks, Called, Grew};
 ghost use Rattle.durable.specs.Coding.{Entry, body_bytes};
 ghost use Rattle.durable.specs.Entering.{Durable, IsDurable, durable};
 ghost use Rattle.durable.specs.Recovery.{Alike, IsConfigured, NoneOpen, Recovers};
 ghost use Rattle.snapshot.specs.Store.{RecoversEither};
+ghost use Rattle.machine.specs.Fates.{answer_of};
 ghost use Rattle.machine.specs.Judged.{Judged, IsJudged, IsNoLoad};
 ghost use Rattle.machine.specs.Machine.{AddsNone, EndsNone, later, step};
 ghost use Rattle.machine.specs.Notes.{most_bytes};
@@ -22,17 +26,18 @@ ghost use Rattle.machine.specs.Sound.{IsSound};
 ghost use Rattle.machine.specs.declared.event.Answer.TheVariants.{Forward};
 ghost use Rattle.machine.specs.declared.event.What.TheVariants.{Packet};
 ghost use Rattle.sessions.specs.Stilled.{stilled};
+ghost use Rattle.gateway.specs.Passing.{answered, given_by};
 ghost use Rattle.gateway.specs.Told.{Took, TookAll, TookFirst, handed, number_of};
 ghost use Rattle.gateway.specs.declared.given.Given.TheVariants.{Now};
 ghost use Rattle.gateway.specs.Kept.{HasPlaces, IsNow, IsReady, IsRoomy, IsSafe, IsTooMuch};
 ghost use Rattle.gateway.specs.Running.{StopsWithin};
 
-use crate::pending::{MOST_HELD, Pending};
+use crate::pending::{LONGEST_COPY, MOST_HELD, Pending};
 use crate::running::take_all;
-use crate::{GatewayFault, Given, OpenFault};
+use crate::{GatewayFault, Given, OpenFault, Passed};
 use disk_model::Disk;
 use machine::laws::events_are_judged_once;
-use machine::{Answer, Coming, Core, Event, Iface, MOST_AHEAD, NoMemory, StepFault};
+use machine::{Answer, Coming, Core, Event, Fate, Iface, MOST_AHEAD, NoMemory, StepFault};
 use packet::bounds::Bounds;
 use sessions::Session;
 use snapshot::{CommitFault, CompactFault, Opened, Store};
@@ -403,6 +408,66 @@ impl<D: Disk + Drop> Gateway<D> {
         Some((number, out))
     }
 
+    /// Takes a packet as `offer` does, where it lies: it is translated there, and the event is answered at once or its
+    /// answer is held. No call of the disk is made. The moment is in seconds.
+    ///
+    /// `None` says nothing of the packet: it isn't taken, nothing has changed, and `offer` tells what becomes of it. It
+    /// comes wherever `offer` refuses the event, and where memory to hold its answer is refused or the packet is long.
+    #[inline(always)]
+    pub fn pass(&mut self, moment: u64, iface: Iface, packet: &mut [u8]) -> Option<Passed>
+        ensures disk { self.new.disk ≡ self.old.disk }
+        ensures fallen { self.new.fallen ≡ self.old.fallen }
+        ensures generation { self.new.generation ≡ self.old.generation }
+        ensures grown { self.new.grown ≡ self.old.grown }
+        ensures took { IfSome result (λ passed. Took self.old.told self.new.told
+            (record { moment = moment; what = Packet iface packet.old })
+            (given_by passed packet.new)) }
+
+        // Its answer has the packet as it lies there then.
+        ensures answer { IfSome result (λ passed.
+            handed (given_by passed packet.new) ++ self.new.told.held
+            ≡ self.old.told.held ++ answered passed packet.new ∷ []) }
+        ensures now { IfSome result (λ passed. (judged : Judged)
+            → IsJudged self.old.told.config
+            (record { moment = moment; what = Packet iface packet.old }) judged
+            → IsNow (given_by passed packet.new) ↔ ((self.old.told.held ≡ [])
+            × ¬ HasEntry self.old.told.config self.old.told.state judged)) }
+
+        // What waits has grown by the entries of the event.
+        ensures filled { OnSome result ((judged : Judged) × (entries : List Entry)
+            × IsJudged self.old.told.config
+            (record { moment = moment; what = Packet iface packet.old }) judged
+            × AreEntriesOf self.old.told.config self.old.told.state judged entries
+            × (self.new.filled ≡ self.old.filled + length (body_bytes entries))) }
+        ensures stood { OnSome result (self.old.fallen ≡ false) }
+        ensures numbers_left { OnSome result (self.old.told.last < 2 ^ 64 - 1) }
+        ensures held_few { OnSome result (length self.old.told.held < 64) }
+        ensures none { IfNone result ((self.new ≡ self.old) × (packet.new ≡ packet.old)) }
+        ensures length { length packet.new ≡ length packet.old }
+    {
+        if self.why_none().is_some() {
+            return None;
+        }
+        if packet.len() > LONGEST_COPY {
+            return None;
+        }
+        // Memory for a copy is asked for before the step, since nothing may fail behind it.
+        let Some(body) = self.pending.take_body(packet.len()) else {
+            return None;
+        };
+        self.core.facts();
+        events_are_judged_once();
+        let Some(fate) = self
+            .core
+            .pass_noted(moment, iface, packet, &mut self.pending)
+        else {
+            self.pending.keep_body(body);
+            return None;
+        };
+        self.last += 1;
+        Some(give_copy(&mut self.pending, self.last, fate, packet, body))
+    }
+
     /// Whether so many sessions have been held at once that it serves to look ahead.
     pub fn is_wide(&self) -> bool {
         self.core.is_wide()
@@ -474,6 +539,69 @@ impl<D: Disk + Drop> Gateway<D> {
             Err(CommitFault::Device) => Err(GatewayFault::Device),
             // The group fits its file (`fits` of `Pending::group`).
             Err(CommitFault::Full) => unreachable!(),
+        }
+    }
+
+    /// As `flush`, for whoever has the held answers already, as `pass` told them: they are let go.
+    ///
+    /// # Errors
+    ///
+    /// The answers stay held.
+    ///
+    /// - `Reopen` exactly where a call of the disk has failed before. The disk stays.
+    /// - `Device` where a call of the disk has failed. The gateway has fallen.
+    pub fn settle(&mut self) -> Result<(), GatewayFault>
+        ensures honest { D.honest self.old.disk ↔ D.honest self.new.disk }
+
+        // A crash at any moment leaves the state that the files stood for, or the present one.
+        ensures any_moment { self.old.fallen ≡ false → D.honest self.old.disk → (first : Durable)
+            → Recovers (D.seen self.old.disk) first
+            → LeavesOnly D.moment D.left self.old.disk self.new.disk
+            (RecoversEither first (lasting self.old.told.state)) }
+        ensures configured { self.old.fallen ≡ false → D.honest self.old.disk
+            → LeavesOnly D.moment D.left self.old.disk self.new.disk
+            (IsConfigured self.old.told.config) }
+
+        // After Ok the present one is left.
+        ensures ok { D.honest self.old.disk
+            → OnOk result (LeavesNow D.moment D.left self.new.disk
+            (λ files. Recovers files (lasting self.old.told.state))) }
+        ensures reads { D.honest self.old.disk
+            → OnOk result (Recovers (D.seen self.new.disk) (lasting self.old.told.state)) }
+        ensures none { OnOk result (self.new.told ≡ record self.old.told { held = [] }) }
+        ensures generation { self.new.generation ≡ self.old.generation }
+        ensures err { OnErr result (self.new.told ≡ self.old.told) }
+        ensures reopen { IsErrOf result GatewayFault.Reopen ↔ (self.old.fallen ≡ true) }
+        ensures reopen_stays { IsErrOf result GatewayFault.Reopen → self.new ≡ self.old }
+        ensures fell { IsErrOf result GatewayFault.Device
+            ↔ ((self.old.fallen ≡ false) × (self.new.fallen ≡ true)) }
+        ensures causes { IfErr result (λ e. (e ≡ GatewayFault.Reopen) ⊎ (e ≡ GatewayFault.Device)) }
+        ensures device { IsErrOf result GatewayFault.Device
+            → Grew (D.failed self.old.disk) (D.failed self.new.disk) }
+        ensures no_failure { OnOk result (D.failed self.new.disk ≡ D.failed self.old.disk) }
+
+        // The group that was written has 5 bytes beside its entries.
+        ensures filled { D.honest self.old.disk → self.old.told.held ≢ []
+            → OnOk result (self.new.filled ≡ self.old.filled + 5) }
+        ensures idle { self.old.told.held ≡ [] → (self.new.disk ≡ self.old.disk)
+            × (self.new.filled ≡ self.old.filled) }
+        ensures called { D.honest self.old.disk → self.old.told.held ≢ []
+            → OnOk result (Called 4 (D.called self.old.disk) (D.called self.new.disk)) }
+    {
+        if self.store.has_fallen() {
+            return Err(GatewayFault::Reopen);
+        }
+        if self.pending.is_quiet() {
+            return Ok(());
+        }
+        let Err(fault) = self.store.commit(self.pending.group()) else {
+            self.pending.let_go(self.store.end());
+            return Ok(());
+        };
+        match fault {
+            CommitFault::Device => Err(GatewayFault::Device),
+            // The group fits its file, as in `flush`.
+            CommitFault::Full => unreachable!(),
         }
     }
 
@@ -677,6 +805,31 @@ fn give(pending: &mut Pending, number: u64, answer: Answer) -> Given
     }
     pending.hold(number, answer);
     Given::Held(number)
+}
+
+// Says what a packet comes to at once where no entry waits, and else holds its answer, with a copy of the packet. The
+// body is empty, and has room for it.
+fn give_copy(pending: &mut Pending, number: u64, fate: Fate, packet: &[u8], body: Vec<u8>) -> Passed
+    requires few { length pending.old.held < 64 }
+    requires short { length packet.now ≤ 2048 }
+    requires empty { body.items ≡ [] }
+    requires room { length packet.now ≤ vec_capacity body }
+    ensures order { handed (given_by result packet.now) ++ pending.new.held
+        ≡ pending.old.held ++ (number, answer_of fate packet.now) ∷ [] }
+    ensures answer { answered result packet.now ≡ (number, answer_of fate packet.now) }
+    ensures number { number_of (given_by result packet.now) ≡ number }
+    ensures now { IsNow (given_by result packet.now) ↔ (pending.old.entries ≡ []) }
+    ensures quiet { IsNow (given_by result packet.now) → pending.old.held ≡ [] }
+    ensures none { pending.new.held ≡ [] → pending.new.entries ≡ [] }
+    ensures entries { pending.new.entries ≡ pending.old.entries }
+    ensures place { pending.new.place ≡ pending.old.place }
+{
+    if !pending.is_quiet() {
+        pending.hold_copy(number, fate, packet, body);
+        return Passed::Held(number, fate);
+    }
+    pending.keep_body(body);
+    Passed::Now(number, fate)
 }
 
 // The sessions without when their last packets passed.

@@ -6,7 +6,7 @@
 //! - `given`, `fault`: what becomes of an event, and why it isn't taken.
 //! - `pending`: the answers that are held, and the entries of their events.
 //! - `gateway_core`: `Gateway`, to which events are offered. A packet whose session goes on leaves at once, translated
-//!   where it lies, if nothing is held (`forward`).
+//!   where it lies, if nothing is held (`forward`); any packet may be taken where it lies (`pass`).
 //! - `running`: a run of events over the gateway's calls, event by event.
 //! - `laws`: what holds after any of its calls.
 #![tactic(auto)]
@@ -20,8 +20,8 @@ pub mod running;
 
 pub use fault::GatewayFault;
 pub use gateway_core::Gateway;
-pub use given::Given;
+pub use given::{Given, Passed};
 pub use machine::{
-    Answer, Bytes, Cause, Coming, Event, Iface, MOST_AHEAD, NoMemory, Session, What,
+    Answer, Bytes, Cause, Coming, Event, Fate, Iface, MOST_AHEAD, NoMemory, Session, What,
 };
 pub use snapshot::OpenFault;

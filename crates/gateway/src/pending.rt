@@ -3,18 +3,25 @@
 //! A step of the core asks for room (`reserve`) and then notes its entries (`note`), which `put` makes into the bytes of
 //! a group. `Gateway::offer` has the answer held behind them (`hold`), and a flush writes the `group` and lets all of it
 //! go (`release`).
+//!
+//! `Gateway::pass` has a copy of the packet held (`hold_copy`), in memory that it asks for first (`take_body`). A
+//! settlement lets the answers go (`let_go`), and the memory of their packets is kept for others (`keep_body`).
 ghost use Rattle.std.specs.Prelude.{◌≡◌, ◌≢◌, ◌↔◌, ◌+◌, ◌*◌, ◌<◌, ◌≤◌, ◌^◌, ◌++◌, ◌∷◌, [], length, IfOk, IfSome, IfNone, OnOk, IsTrue, vec_len, vec_capacity};
 ghost use Rattle.durable.specs.Coding.{IsEntry, AreEntries, entry_bytes, body_bytes};
 ghost use Rattle.durable.specs.Viewing.{view};
+ghost use Rattle.machine.specs.Fates.{answer_of};
 
 use durable::{END_LEN, Entry, begin_code, end_code, load_front, restart_code, seen_code};
 use journal::{Group, LIMIT};
-use machine::{Answer, Notes, StepFault};
+use machine::{Answer, Bytes, Fate, Notes, StepFault};
 use std::alloc::{AllocError, Global};
 use std::marker::Model;
 
 /// The most answers that are held.
 pub(crate) const MOST_HELD: usize = 64;
+
+/// The longest packet of which a copy is held, so that the memory that is kept for copies stays bounded.
+pub(crate) const LONGEST_COPY: usize = 2048;
 
 /// The bytes around the entries of a group: its gate and its length before them, and a closed gate behind.
 const AROUND: u64 = 6;
@@ -29,6 +36,8 @@ pub(crate) struct Pending {
     place: u64,
     /// How many more bytes of entries find room.
     room: u64,
+    /// Memory for the copies of packets. What lies in it means nothing.
+    bodies: Vec<Vec<u8>>,
 }
 
 impl Model for Pending {
@@ -69,6 +78,7 @@ impl Pending {
             group,
             place,
             room: 0,
+            bodies: Vec::new(alloc),
         })
     }
 
@@ -109,6 +119,51 @@ impl Pending {
         push(&mut self.held, number, answer);
     }
 
+    /// Holds the answer to a packet behind the others, with a copy of it where it leaves. The body is empty, and has
+    /// room for it. Some entry waits, so there is room for the answer.
+    pub(crate) fn hold_copy(&mut self, number: u64, fate: Fate, packet: &[u8], body: Vec<u8>)
+        requires some { self.old.entries ≢ [] }
+        requires few { length self.old.held < 64 }
+        requires short { length packet.now ≤ 2048 }
+        requires empty { body.items ≡ [] }
+        requires room { length packet.now ≤ vec_capacity body }
+        ensures held { self.new.held ≡ self.old.held ++ (number, answer_of fate packet.now) ∷ [] }
+        ensures entries { self.new.entries ≡ self.old.entries }
+        ensures place { self.new.place ≡ self.old.place }
+    {
+        match fate {
+            Fate::Leaves(out) => self.hold(number, Answer::Forward(out, copy_of(packet, body))),
+            Fate::Dropped(cause) => {
+                self.keep_body(body);
+                self.hold(number, Answer::Dropped(cause));
+            }
+        }
+    }
+
+    /// An empty body with room for so many bytes; none where memory is refused.
+    pub(crate) fn take_body(&mut self, len: usize) -> Option<Vec<u8>>
+        ensures stays { self.new ≡ self.old }
+        ensures empty { IfSome result (λ body. body.items ≡ []) }
+        ensures room { IfSome result (λ body. len ≤ vec_capacity body) }
+    {
+        let mut body = match self.bodies.pop() {
+            Some(body) => body,
+            None => Vec::new(self.alloc),
+        };
+        body.clear();
+        if body.reserve_exact(len).is_err() {
+            return None;
+        }
+        Some(body)
+    }
+
+    /// Keeps the memory of a body for a packet to come.
+    pub(crate) fn keep_body(&mut self, body: Vec<u8>)
+        ensures { self.new ≡ self.old }
+    {
+        keep(&mut self.bodies, body);
+    }
+
     /// Gives the answers, and lets the entries go; the next group will stand at the place. It takes no memory.
     pub(crate) fn release(&mut self, place: u64) -> Vec<(u64, Answer)>
         ensures answers { result.items ≡ self.old.held }
@@ -118,6 +173,15 @@ impl Pending {
         self.place = place;
         self.group.clear();
         std::mem::replace(&mut self.held, Vec::new(self.alloc))
+    }
+
+    /// As `release`, but the answers are let go, and the memory of their packets is kept for others.
+    pub(crate) fn let_go(&mut self, place: u64)
+        ensures { self.new ≡ record { held = []; entries = []; place = place; room = 0 } }
+    {
+        let mut answers = self.release(place);
+        keep_all(&mut answers, &mut self.bodies);
+        self.held = answers;
     }
 }
 
@@ -190,6 +254,35 @@ fn push(held: &mut Vec<(u64, Answer)>, number: u64, answer: Answer)
     ensures capacity { vec_capacity held.old ≤ vec_capacity held.new }
 {
     let _ = held.push((number, answer));
+}
+
+// The packet, copied into the body, which is empty and has room for it.
+fn copy_of(packet: &[u8], mut body: Vec<u8>) -> Bytes
+    requires short { length packet.now ≤ 2048 }
+    requires empty { body.items ≡ [] }
+    requires room { length packet.now ≤ vec_capacity body }
+    ensures { result ≡ packet.now }
+{
+    let _ = body.extend_from_slice(packet);
+    Bytes::of(body)
+}
+
+// Keeps the memory of a body, if it isn't large and there aren't many; a refusal of memory lets it go too.
+fn keep(bodies: &mut Vec<Vec<u8>>, body: Vec<u8>) {
+    if bodies.len() < MOST_HELD && body.capacity() <= LONGEST_COPY {
+        let _ = bodies.push(body);
+    }
+}
+
+// Lets the answers go, and keeps the memory of their packets.
+fn keep_all(held: &mut Vec<(u64, Answer)>, bodies: &mut Vec<Vec<u8>>)
+    ensures { held.new.items ≡ [] }
+{
+    while let Some((_, answer)) = held.pop() {
+        if let Answer::Forward(_, packet) = answer {
+            keep(bodies, packet.into_vec());
+        }
+    }
 }
 
 // Puts the bytes of an entry behind the others, for which there is room.

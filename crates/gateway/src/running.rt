@@ -6,7 +6,9 @@
 //!   `Gateway::offer`, and where that refuses the event as Full, `take_behind_compaction` compacts and offers it again
 //! - `take_all`: several, and a flush behind them (`hand_out`)
 //! - `forward`: one more, if it is a packet whose session goes on, which `Gateway::forward` translates where it lies
+//! - `pass`: one more, if it is a packet, which `Gateway::pass` translates where it lies
 //! - `hand_out`: what is held is synced and handed out (`Gateway::flush`)
+//! - `settle`: what is held is synced, for those who have its answers (`Gateway::settle`)
 //! - `compact`: what is held is handed out, and the files are made short (`Gateway::compact`)
 ghost use Rattle.std.specs.Prelude.{◌≡◌, ◌≢◌, ◌↔◌, ◌+◌, ◌<◌, ◌≤◌, ◌++◌, ◌∷◌, [], ℕ, List, false, length};
 ghost use Rattle.std.specs.Prelude.{IfErr, IfNone, IfSome, IsTrue, OnErr, OnOk, vec_capacity, vec_len};
@@ -14,12 +16,13 @@ ghost use Rattle.machine.specs.declared.event.Answer.{Answer as Answered};
 ghost use Rattle.machine.specs.declared.event.Answer.TheVariants.{Forward};
 ghost use Rattle.machine.specs.declared.event.What.TheVariants.{Packet};
 ghost use Rattle.gateway.specs.Told.{handed};
-ghost use Rattle.gateway.specs.Kept.{IsRoomy};
+ghost use Rattle.gateway.specs.Kept.{IsNow, IsRoomy};
+ghost use Rattle.gateway.specs.Passing.{answered, given_by};
 ghost use Rattle.gateway.specs.Running.{BreaksOff, CarriesOn, Ends, Stands, StopsWithin};
 
 use crate::gateway_core::Gateway;
 use crate::pending::MOST_HELD;
-use crate::{GatewayFault, Given};
+use crate::{GatewayFault, Given, Passed};
 use disk_model::Disk;
 use machine::{Answer, Event, Iface};
 
@@ -114,6 +117,36 @@ pub fn forward<D: Disk + Drop>(
 {
     gateway.facts();
     gateway.forward(moment, iface, packet)
+}
+
+/// Takes a packet where it lies, as `take` takes an event: it is translated there. Its answer isn't put behind the
+/// others, but said, whether it is given at once or held. The moment is in seconds.
+///
+/// `None` says nothing of the packet: it isn't taken, nothing has changed, and `take` tells what becomes of it.
+pub fn pass<D: Disk + Drop>(
+    gateway: &mut Gateway<D>,
+    moment: u64,
+    iface: Iface,
+    packet: &mut [u8],
+) -> Option<Passed>
+    requires stands { gateway.old.fallen ≡ false }
+    ensures some { IfSome result (λ passed. (before : List (ℕ × Answered))
+        → CarriesOn D.honest D.moment D.left D.failed gateway.old gateway.new
+        (record { moment = moment; what = Packet iface packet.old } ∷ [])
+        before (before ++ handed (given_by passed packet.new))) }
+
+    // Its answer has the packet as it lies there then.
+    ensures answer { IfSome result (λ passed.
+        handed (given_by passed packet.new) ++ gateway.new.told.held
+        ≡ gateway.old.told.held ++ answered passed packet.new ∷ []) }
+    ensures now { IfSome result (λ passed. IsNow (given_by passed packet.new)
+        → gateway.old.told.held ≡ []) }
+    ensures none { IfNone result ((gateway.new ≡ gateway.old) × (packet.new ≡ packet.old)) }
+    ensures stands { gateway.new.fallen ≡ false }
+    ensures length { length packet.new ≡ length packet.old }
+{
+    gateway.facts();
+    gateway.pass(moment, iface, packet)
 }
 
 // Flushes and compacts; then there is room for the event, and it is taken.
@@ -231,6 +264,31 @@ pub fn hand_out<D: Disk + Drop>(
 {
     let held = gateway.flush()?;
     put_all(answers, held);
+    Ok(())
+}
+
+/// Flushes, for whoever has the answers that are held already, as `pass` told them.
+///
+/// # Errors
+///
+/// `Device`: a call of the disk has failed. The answers stay held.
+pub fn settle<D: Disk + Drop>(gateway: &mut Gateway<D>) -> Result<(), GatewayFault>
+    requires stands { gateway.old.fallen ≡ false }
+    ensures ok { OnOk result ((before : List (ℕ × Answered))
+        → CarriesOn D.honest D.moment D.left D.failed gateway.old gateway.new []
+        before (before ++ gateway.old.told.held)) }
+    ensures err { IfErr result (λ e. (before : List (ℕ × Answered))
+        → BreaksOff D.honest D.moment D.left D.failed gateway.old gateway.new []
+        before before e) }
+    ensures stands { OnOk result (gateway.new.fallen ≡ false) }
+    ensures state { gateway.new.told.state ≡ gateway.old.told.state }
+    ensures last { gateway.new.told.last ≡ gateway.old.told.last }
+    ensures none { OnOk result (gateway.new.told.held ≡ []) }
+    ensures stays { OnErr result (gateway.new.told.held ≡ gateway.old.told.held) }
+    ensures device { IfErr result (λ e. e ≡ GatewayFault.Device) }
+    ensures generation { gateway.new.generation ≡ gateway.old.generation }
+{
+    gateway.settle()?;
     Ok(())
 }
 

@@ -1,0 +1,18 @@
+-- What a packet that is taken where it lies is answered.
+use Rattle.std.specs.Prelude.{ℕ, List}
+use Rattle.machine.specs.Fates.{answer_of}
+use Rattle.machine.specs.declared.event.Answer.{Answer}
+use Rattle.gateway.specs.declared.given.Given.{Given}
+use Rattle.gateway.specs.declared.given.Given.TheVariants as given
+use Rattle.gateway.specs.declared.given.Passed.{Passed}
+use Rattle.gateway.specs.declared.given.Passed.TheVariants as passed
+
+-- what became of the event whose packet has these bytes then
+abbrev pub given_by : Passed → List ℕ → Given
+given_by (passed.Now number fate) packet = given.Now number (answer_of fate packet)
+given_by (passed.Held number fate) packet = given.Held number
+
+-- the numbered answer to a packet that has these bytes then
+abbrev pub answered : Passed → List ℕ → ℕ × Answer
+answered (passed.Now number fate) packet = (number, answer_of fate packet)
+answered (passed.Held number fate) packet = (number, answer_of fate packet)
