@@ -9,6 +9,7 @@ pub mod Streams
 pub mod Behind
 pub mod Tending
 pub mod Loops
+pub mod Passing
 pub mod Closing
 pub mod Runs
 pub mod Composed

@@ -1,5 +1,5 @@
 -- What the loop over the frames keeps.
-use Rattle.std.proofs.Common.{◌≡◌, Bool, ℕ, ◌+◌, ◌≤◌, List, [], ◌∷◌, ◌++◌, length, refl, sym, ap, ◌∙◌, arith, length-append, subst}
+use Rattle.std.proofs.Common.{◌≡◌, Bool, Option, ℕ, ◌+◌, ◌≤◌, List, [], ◌∷◌, ◌++◌, length, refl, sym, ap, ◌∙◌, arith, length-append, subst}
 use Rattle.std.proofs.lemmas.List.{append-nil}
 use Rattle.disk_model.specs.Disk.{Files}
 use Rattle.machine.specs.declared.event.Answer.{Answer}
@@ -9,6 +9,7 @@ use Rattle.gateway.specs.Running.{CarriesOn}
 use Rattle.gateway.proofs.Runs.{breaks-then, carries-none, carries-then}
 use Rattle.socket_edge.specs.declared.serving.Halt.{Halt}
 use Rattle.socket_edge.specs.declared.serving.Halt.TheVariants as halt
+use Rattle.socket_edge.specs.declared.serving.Step.{Step}
 use Rattle.socket_edge.specs.declared.serving.Step.TheVariants as step
 use Rattle.socket_edge.specs.Requests.{next}
 use Rattle.socket_edge.specs.Running.{Reads, Stepped, Offered}
@@ -34,9 +35,9 @@ module _ {D : Type 0} (honest : D → Type 0) (moment : D → ℕ) (left : D →
   }
 
   -- one frame more
-  pub SoFar-next : (old now new : Kept D) (bytes rest later : List ℕ) (count : ℕ) (a b c : List (ℕ × Answer)) (forwarded : Bool) → SoFar old now bytes rest count a b
-      → Stepped honest moment left failed (step.Took forwarded) rest later now new b c → SoFar old new bytes later (count + 1) a c
-  SoFar-next old now new bytes rest later count a b c forwarded s t = record {
+  pub SoFar-next : (old now new : Kept D) (bytes rest later : List ℕ) (count : ℕ) (a b c : List (ℕ × Answer)) (forwarded : Bool) (held : Option ℕ) → SoFar old now bytes rest count a b
+      → Stepped honest moment left failed (step.Took forwarded held) rest later now new b c → SoFar old new bytes later (count + 1) a c
+  SoFar-next old now new bytes rest later count a b c forwarded held s t = record {
     few = omega (arith, s.few, next_shorter rest t.0 later t.1);
     events = s.events ++ t.0 ∷ [];
     reads = Reads-whole bytes rest s.events t.0 later s.reads t.1;
@@ -58,3 +59,11 @@ module _ {D : Type 0} (honest : D → Type 0) (moment : D → ℕ) (left : D →
       (s.events, subst (Reads bytes s.events) (sym t.0) s.reads, ap next t.0 ∙ t.1, carries-still old now new s.events a b c s.carries t.2)
   SoFar-ends old now new bytes rest last count a b c (halt.Refused fault) s t =
       (s.events ++ t.0, t.1, Reads-then bytes rest t.1 s.events t.0 s.reads t.2, breaks-then honest moment left failed old now new s.events t.0 a b c fault s.carries t.3)
+
+  -- answers that were held are handed out before a step
+  pub Stepped-behind : (old now new : Kept D) (s : Step) (bytes rest : List ℕ) (a b c : List (ℕ × Answer)) → CarriesOn honest moment left failed old now [] a b
+      → Stepped honest moment left failed s bytes rest now new b c → Stepped honest moment left failed s bytes rest old new a c
+  Stepped-behind old now new (step.Took forwarded held) bytes rest a b c first t = (t.0, t.1, carries-then honest moment left failed old now new [] (t.0 ∷ []) a b c first t.2)
+  Stepped-behind old now new (step.Ends halt.Cut) bytes rest a b c first t = (t.0, t.1, carries-then honest moment left failed old now new [] [] a b c first t.2)
+  Stepped-behind old now new (step.Ends (halt.Bad fault)) bytes rest a b c first t = (t.0, t.1, carries-then honest moment left failed old now new [] [] a b c first t.2)
+  Stepped-behind old now new (step.Ends (halt.Refused fault)) bytes rest a b c first t = (t.0, t.1, t.2, breaks-then honest moment left failed old now new [] t.0 a b c fault first t.3)

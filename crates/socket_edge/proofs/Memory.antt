@@ -1,7 +1,7 @@
 -- Bytes that are written over others, and moved among them.
 use Rattle.std.proofs.Common.{◌≡◌, ℕ, ◌+◌, ◌-◌, ◌≤◌, List, [], ◌++◌, length, take, drop, refl, sym, ap, ◌∙◌, arith, length-append, length-drop, take-add}
 use Rattle.std.specs.List.{copy_within}
-use Rattle.std.proofs.lemmas.List.{append-nil, drop_all, length-take-le, take-append-le, drop-append-le, drop-take}
+use Rattle.std.proofs.lemmas.List.{append-nil, drop-drop, drop_all, length-take-le, take-append-le, drop-append-le, drop-take}
 use Rattle.std.proofs.Math.Seq.{take-append-add, take-length}
 use Rattle.std.specs.Prelude.{Result, Ok, Err, OnOk}
 use Rattle.std.specs.Result.{is_err}
@@ -119,19 +119,34 @@ pub seen_there : (w r e : ℕ) (xs : List ℕ) → r ≡ 0 → e ≤ length xs
 seen_there w r e xs zero fits =
     alike (take w xs) (drop r (take e xs)) (take w xs) (drop r (take e xs)) e (length (drop r (take e xs))) refl refl (omega (arith, zero, length-drop r (take e xs), length-take-le e xs fits))
 
--- a part was written over, and then moved behind the frames
+-- a part was written over, and its first bytes moved behind the frames
+pub seen_passed : (w r k n e : ℕ) (xs two ys : List ℕ) → w ≤ r → r + n ≤ e → e ≤ length xs → length ys ≡ n → k ≤ n
+    → take (w + k) two ≡ take w (put_mid r (r + n - r) xs ys) ++ take k (drop r (put_mid r (r + n - r) xs ys))
+    → drop (r + k) two ≡ drop (r + k) (put_mid r (r + n - r) xs ys)
+    → (take (w + k) two ≡ take w xs ++ take k ys) × (drop (r + n) (take e two) ≡ drop (r + n) (take e xs))
+seen_passed w r k n e xs two ys first then fits as_many few there behind =
+    let m : r + n - r ≡ n = omega arith in
+    let one : List ℕ = put_mid r (r + n - r) xs ys in
+    let within : r ≤ length xs = omega (arith, then, fits) in
+    let size : length one ≡ length xs = between_size r (r + n) xs ys (omega arith) (omega (arith, then, fits)) (as_many ∙ sym m) in
+    let part : take n (drop r one) ≡ ys = ap (λ (i : ℕ). take i (drop r one)) (sym m) ∙ between-put_mid r (r + n - r) xs ys (r + n) within (as_many ∙ sym m) in
+    let more : r + n ≡ r + k + (n - k) = omega (arith, few) in
+    let later : (zs : List ℕ) → drop (r + n) zs ≡ drop (n - k) (drop (r + k) zs) = λ zs. ap (λ (i : ℕ). drop i zs) more ∙ sym (drop-drop (n - k) (r + k) zs) in (
+      there ∙ ap (λ (zs : List ℕ). zs ++ take k (drop r one)) (take-put_mid_below r (r + n - r) xs ys w first within)
+          ∙ ap (λ (zs : List ℕ). take w xs ++ zs) (take_front k n (drop r one) few (omega (arith, length-drop r one, size, then, fits)) ∙ ap (take k) part),
+      sym (between_is two (r + n) e)
+          ∙ ap (take (e - (r + n))) (later two ∙ ap (drop (n - k)) behind ∙ sym (later one) ∙ drop-put_mid r (r + n - r) xs ys (r + n) (omega arith) within (as_many ∙ sym m))
+          ∙ between_is xs (r + n) e,
+    )
+
+-- all of it was moved
 pub seen_forward : (w r n e : ℕ) (xs two ys : List ℕ) → w ≤ r → r + n ≤ e → e ≤ length xs → length ys ≡ n
     → take (w + n) two ≡ take w (put_mid r (r + n - r) xs ys) ++ take n (drop r (put_mid r (r + n - r) xs ys))
     → drop (r + n) two ≡ drop (r + n) (put_mid r (r + n - r) xs ys)
     → (take (w + n) two ≡ take w xs ++ ys) × (drop (r + n) (take e two) ≡ drop (r + n) (take e xs))
 seen_forward w r n e xs two ys first then fits as_many there behind =
-    let k : r + n - r ≡ n = omega arith in
-    let one : List ℕ = put_mid r (r + n - r) xs ys in
-    let within : r ≤ length xs = omega (arith, then, fits) in (
-      there ∙ ap (λ (zs : List ℕ). zs ++ take n (drop r one)) (take-put_mid_below r (r + n - r) xs ys w first within)
-          ∙ ap (λ (zs : List ℕ). take w xs ++ zs) (ap (λ (m : ℕ). take m (drop r one)) (sym k) ∙ between-put_mid r (r + n - r) xs ys (r + n) within (as_many ∙ sym k)),
-      sym (between_is two (r + n) e) ∙ ap (take (e - (r + n))) (behind ∙ drop-put_mid r (r + n - r) xs ys (r + n) (omega arith) within (as_many ∙ sym k)) ∙ between_is xs (r + n) e,
-    )
+    let p = seen_passed w r n n e xs two ys first then fits as_many (omega arith) there behind in
+    (p.0 ∙ ap (λ (zs : List ℕ). take w xs ++ zs) (ap (λ (i : ℕ). take i ys) (sym as_many) ∙ take-length ys), p.1)
 
 -- what stands in the part behind its first bytes
 pub part_behind : (r k len e : ℕ) (xs : List ℕ) → r + (k + len) ≤ e → e ≤ length xs → drop k (take (r + (k + len) - r) (drop r xs)) ≡ take len (drop k (drop r (take e xs)))

@@ -1,5 +1,5 @@
 -- What a run does, and what its parts do.
-use Rattle.std.specs.Prelude.{◌≡◌, ◌≢◌, ◌↔◌, ◌≤◌, ℕ, List, [], ◌∷◌, ◌++◌, length, take, false, Result, Ok, Err}
+use Rattle.std.specs.Prelude.{◌≡◌, ◌≢◌, ◌↔◌, ◌≤◌, ℕ, Bool, List, [], ◌∷◌, ◌++◌, length, take, drop, false, true, Option, None, Some, Result, Ok, Err}
 use Rattle.disk_model.specs.Disk.{Files, LeavesNow, LeavesOnly}
 use Rattle.durable.specs.Recovery.{IsConfigured}
 use Rattle.machine.specs.Judged.{Judged, AreJudged}
@@ -129,13 +129,38 @@ end_of (halt.Refused fault) = Err (Gateway fault)
 
 -- the gateway refused nothing
 abbrev pub RefusesNone : Step → Type 0
-RefusesNone (step.Took forwarded) = Unit {0}
+RefusesNone (step.Took forwarded held) = Unit {0}
 RefusesNone (step.Ends halt.Cut) = Unit {0}
 RefusesNone (step.Ends (halt.Bad fault)) = Unit {0}
 RefusesNone (step.Ends (halt.Refused fault)) = ⊥
 
+-- where answers that are held stand in front, behind so many bytes of answers that are not
+abbrev pub held_behind : Step → Option ℕ
+held_behind (step.Took forwarded held) = held
+held_behind (step.Ends s) = None
+
+-- the bytes of the answers in front that are not held
+abbrev pub released : Option ℕ → List ℕ → List ℕ
+released None answered = answered
+released (Some n) answered = take n answered
+
+-- the others are the frames of all that are held
+abbrev pub AreHeld : Option ℕ → List ℕ → List (ℕ × Answer) → Type 0
+AreHeld None answered held = Unit {0}
+AreHeld (Some n) answered held = (n ≤ length answered) × (drop n answered ≡ frames held)
+    × (held ≢ [])
+
 module _ {D : Type 0} (honest : D → Type 0) (moment : D → ℕ) (left : D → ℕ → Files → Type 0)
     (failed : D → ℕ) where
+  -- a packet was taken where it lay, and its answer is held, or handed out
+  abbrev pub Passes : Bool → Kept D → Kept D → Event → ℕ × Answer → Type 0
+  Passes true old new event answer = ((before : List (ℕ × Answer))
+      → CarriesOn honest moment left failed old new (event ∷ []) before before)
+      × (new.told.held ≡ old.told.held ++ answer ∷ [])
+  Passes false old new event answer = ((before : List (ℕ × Answer))
+      → CarriesOn honest moment left failed old new (event ∷ []) before (before ++ answer ∷ []))
+      × (old.told.held ≡ []) × (new.told.held ≡ [])
+
   -- where what was read ended it the gateway stands, and a fault of the gateway has its cause
   abbrev pub Explains : EdgeFault → Kept D → Kept D → Type 0
   Explains BadKind old new = new.fallen ≡ false
@@ -162,7 +187,7 @@ module _ {D : Type 0} (honest : D → Type 0) (moment : D → ℕ) (left : D →
   -- what one frame at the front came to
   abbrev pub Stepped : Step → List ℕ → List ℕ → Kept D → Kept D → List (ℕ × Answer)
       → List (ℕ × Answer) → Type 0
-  Stepped (step.Took forwarded) bytes rest old new before out = (event : Event)
+  Stepped (step.Took forwarded held) bytes rest old new before out = (event : Event)
       × (next bytes ≡ Whole event rest)
       × CarriesOn honest moment left failed old new (event ∷ []) before out
   Stepped (step.Ends halt.Cut) bytes rest old new before out = (rest ≡ bytes) × (next bytes ≡ Cut)

@@ -2,7 +2,7 @@
 //! already (`forward_front`). Only `sending::send_all`, for other callers, puts them behind bytes (`put_frames`).
 ghost use Rattle.std.specs.Prelude.{◌≡◌, ◌+◌, ◌<◌, ◌≤◌, ◌^◌, ℕ, List, [], ◌∷◌, ◌++◌, IfSome, IfNone, OnOk, OnErr, length, take};
 ghost use Rattle.byteorder.specs.Endian.{big_bytes};
-ghost use Rattle.machine.specs.declared.event.Answer.TheVariants.{Forward};
+ghost use Rattle.machine.specs.declared.event.Answer.TheVariants.{Dropped, Forward};
 ghost use Rattle.socket_edge.specs.Answering.{iface_byte, kind_byte, answer_body, frame_head, frame, frames};
 
 use gateway::{Answer, Iface};
@@ -87,6 +87,13 @@ pub fn forward_front(number: u64, iface: Iface, len: usize) -> [u8; ANSWER_FRONT
         → result ++ packet ≡ frame (number, Forward iface packet) }
 {
     front_with(&head_with(1, number, 1 + len as u32), byte_of(iface))
+}
+
+/// The frame of a packet that is dropped, for the cause with this number.
+pub fn drop_frame(number: u64, cause: u8) -> [u8; ANSWER_FRONT]
+    ensures { result ≡ frame (number, Dropped cause) }
+{
+    front_with(&head_with(2, number, 1), cause)
 }
 
 /// Puts a frame at the end: all before a packet in one piece. An `Err` may leave a part of it there.

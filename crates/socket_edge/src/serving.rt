@@ -2,32 +2,38 @@
 //! `edge::serve` and `edge::answer_front` go it:
 //!
 //! - `empty_for`: the answers of the read before are let go, and their memory is kept for bodies (`keep_bodies`);
-//! - `offer_all`: frame after frame is offered, until a `Halt`. `offer_next` offers the one at the front where it lies
-//!   (`Waiting::forward_next`), or else a copy of it: `offer_copy` takes it (`request::take_frame`), and `offer_event`
-//!   hands its event to `gateway::running::take`. What is answered goes back into the bytes (`put_back`);
+//! - `offer_all`: frame after frame is offered, until a `Halt`. `offer_next` has a packet taken where it lies
+//!   (`Waiting::forward_next` and `pass_next`), behind others whose answers are held (`offer_behind`) until these are
+//!   synced (`gateway::running::settle`), or where none are (`offer_idle`). Of any other frame a copy is offered:
+//!   `offer_copy` takes it (`request::take_frame`), and `offer_event` hands its event to `gateway::running::take`. What
+//!   is answered goes back into the bytes (`put_back`);
 //! - `close`: what is held is synced and handed out (`give_held`, by `gateway::running::hand_out`) and put back too, and
 //!   `end_at` says what the halt means for the run. Then `edge` writes the answers (`sending::send_behind`);
 //! - `tidy`: a file that has grown is made short (`gateway::running::compact`).
-ghost use Rattle.std.specs.Prelude.{◌≡◌, ◌+◌, ◌∷◌, ◌++◌, [], ℕ, List, ◌<◌, ◌≤◌, false, length, true, IfErr, OnOk, vec_len, vec_capacity};
+ghost use Rattle.std.specs.Prelude.{◌≡◌, ◌≢◌, ◌+◌, ◌∷◌, ◌++◌, [], ℕ, List, ◌<◌, ◌≤◌, false, length, true, None, IfErr, IfNone, IfSome, OnOk, OnSome, vec_len, vec_capacity};
 ghost use Rattle.gateway.specs.Kept.{Kept};
-ghost use Rattle.gateway.specs.Running.{Stands};
+ghost use Rattle.gateway.specs.Running.{CarriesOn, Stands};
 ghost use Rattle.machine.specs.declared.event.Answer.{Answer};
-ghost use Rattle.socket_edge.specs.Answering.{frames};
+ghost use Rattle.socket_edge.specs.Answering.{frame, frames};
+ghost use Rattle.socket_edge.specs.Requests.{Whole, next};
 ghost use Rattle.socket_edge.specs.Running.{CarriesBehind, BreaksBehind, Stepped, Offered, Closed};
-ghost use Rattle.socket_edge.specs.Running.{RefusesNone, end_of};
+ghost use Rattle.socket_edge.specs.Running.{AreHeld, Passes, RefusesNone, end_of, held_behind, released};
 
 use crate::ahead::Ahead;
 use crate::fault::{EdgeFault, HeaderFault};
 use crate::request::{Taken, take_frame};
 use crate::waiting::Waiting;
 use disk_model::Disk;
-use gateway::running::{compact, hand_out, stands, take};
+use gateway::running::{compact, hand_out, settle, stands, take};
 use gateway::{Answer, Event, Gateway, GatewayFault};
 use machine::laws::events_are_judged_once;
 use std::alloc::{AllocError, Global};
 
 /// The most bytes of groups that a file keeps when what was read is answered.
 const MOST_GROWN: u64 = 1_048_576;
+
+/// The most answers that a gateway holds.
+const MOST_HELD: usize = 64;
 
 /// The most bodies that are kept, about as many as one read of short packets has.
 const MOST_KEPT: usize = 1_024;
@@ -52,8 +58,9 @@ pub enum Halt {
 /// What the front of the bytes came to.
 #[derive(Clone, Copy, Drop)]
 pub enum Step {
-    /// A frame was taken, and whether the last of the answers that are handed out, if any, is a packet that leaves.
-    Took(bool),
+    /// A frame was taken. Whether the last of the answers that are handed out, if any, is a packet that leaves; and,
+    /// where answers that are held stand in front too, how many bytes of answers that are not stand before them.
+    Took(bool, Option<usize>),
     /// No more frames are offered.
     Ends(Halt),
 }
@@ -193,6 +200,7 @@ fn offer_copy<D: Disk + Drop>(
         × ((before : List (ℕ × Answer)) → Stepped D.honest D.moment D.left D.failed result
         waiting.old.unanswered waiting.new.unanswered gateway.old gateway.new
         (before ++ answers.old.items) (before ++ (handed ++ answers.new.items))) }
+    ensures behind { held_behind result ≡ None }
     ensures stands { RefusesNone result → gateway.new.fallen ≡ false }
     ensures room { vec_len answers.new + length gateway.new.told.held ≤ vec_capacity answers.new }
 {
@@ -206,7 +214,7 @@ fn offer_copy<D: Disk + Drop>(
                 Ok(()) => {
                     let forwarded = ends_in_forward(answers.as_slice());
                     put_back(waiting, answers, bodies);
-                    Step::Took(forwarded)
+                    Step::Took(forwarded, None)
                 }
                 Err(fault) => Step::Ends(Halt::Refused(fault)),
             }
@@ -217,14 +225,34 @@ fn offer_copy<D: Disk + Drop>(
 /// Whether no answer waits, and the gateway holds none.
 fn is_idle<D: Disk + Drop>(answers: &[(u64, Answer)], gateway: &Gateway<D>) -> bool
     ensures none { result ≡ true → answers.now ≡ [] }
+    ensures held { result ≡ true → gateway.now.told.held ≡ [] }
     ensures idle { answers.now ≡ [] → gateway.now.told.held ≡ [] → result ≡ true }
 {
     answers.is_empty() && gateway.held() == 0
 }
 
-/// Offers the frame at the front: where it lies, if there is hope that it is a packet that leaves at once, and otherwise
-/// a copy of it.
-fn offer_next<D: Disk + Drop>(
+/// Has the packet at the front leave at once, where it lies, if there is hope that it does. Says whether it left.
+fn leaves_at_once<D: Disk + Drop>(
+    hopeful: bool,
+    waiting: &mut Waiting,
+    gateway: &mut Gateway<D>,
+) -> bool
+    requires stands { gateway.old.fallen ≡ false }
+    ensures left { result ≡ true → (event : Event) × (answer : ℕ × Answer)
+        × (next waiting.old.unanswered ≡ Whole event waiting.new.unanswered)
+        × (waiting.new.answered ≡ waiting.old.answered ++ frame answer)
+        × ((before : List (ℕ × Answer)) → CarriesOn D.honest D.moment D.left D.failed
+        gateway.old gateway.new (event ∷ []) before (before ++ answer ∷ [])) }
+    ensures stays { result ≡ false → (waiting.new ≡ waiting.old) × (gateway.new ≡ gateway.old) }
+    ensures held { gateway.new.told.held ≡ gateway.old.told.held }
+    ensures stands { gateway.new.fallen ≡ false }
+{
+    hopeful && waiting.forward_next(gateway)
+}
+
+/// Offers the frame at the front, where no answer that is held stands in front: where it lies, if no answer waits, and
+/// otherwise a copy of it.
+fn offer_idle<D: Disk + Drop>(
     alloc: Global,
     hopeful: bool,
     waiting: &mut Waiting,
@@ -235,20 +263,129 @@ fn offer_next<D: Disk + Drop>(
     requires stands { gateway.old.fallen ≡ false }
     requires room { vec_len answers.old + length gateway.old.told.held ≤ vec_capacity answers.old }
     ensures step { (handed : List (ℕ × Answer))
-        × (waiting.new.answered ≡ waiting.old.answered ++ frames handed)
+        × (released (held_behind result) waiting.new.answered
+        ≡ waiting.old.answered ++ frames handed)
         × ((before : List (ℕ × Answer)) → Stepped D.honest D.moment D.left D.failed result
         waiting.old.unanswered waiting.new.unanswered gateway.old gateway.new
         (before ++ answers.old.items) (before ++ (handed ++ answers.new.items))) }
+    ensures held { AreHeld (held_behind result) waiting.new.answered gateway.new.told.held }
+    ensures alone { held_behind result ≢ None
+        → (answers.new.items ≡ []) × (64 ≤ vec_capacity answers.new) }
     ensures stands { RefusesNone result → gateway.new.fallen ≡ false }
     ensures room { vec_len answers.new + length gateway.new.told.held ≤ vec_capacity answers.new }
 {
-    if !hopeful || !is_idle(answers.as_slice(), gateway) {
+    if !is_idle(answers.as_slice(), gateway) {
         return offer_copy(alloc, waiting, answers, bodies, gateway);
     }
-    if waiting.forward_next(gateway) {
-        return Step::Took(true);
+    if leaves_at_once(hopeful, waiting, gateway) {
+        return Step::Took(true, None);
     }
-    offer_copy(alloc, waiting, answers, bodies, gateway)
+    if make_slots(answers, MOST_HELD).is_err() {
+        return offer_copy(alloc, waiting, answers, bodies, gateway);
+    }
+    let front = waiting.answered().len();
+    let Some(placed) = waiting.pass_next(gateway) else {
+        return offer_copy(alloc, waiting, answers, bodies, gateway);
+    };
+    if placed.held {
+        return Step::Took(false, Some(front));
+    }
+    Step::Took(placed.leaves, None)
+}
+
+/// Has the packet at the front taken where it lies, behind answers that are held, unless no more can be. Says whether it
+/// was; its answer is held then.
+fn passes_behind<D: Disk + Drop>(waiting: &mut Waiting, gateway: &mut Gateway<D>) -> bool
+    requires stands { gateway.old.fallen ≡ false }
+    requires some { gateway.old.told.held ≢ [] }
+    ensures passed { result ≡ true → (event : Event) × (answer : ℕ × Answer)
+        × (next waiting.old.unanswered ≡ Whole event waiting.new.unanswered)
+        × (waiting.new.answered ≡ waiting.old.answered ++ frame answer)
+        × Passes D.honest D.moment D.left D.failed true gateway.old gateway.new event answer }
+    ensures stays { result ≡ false → (waiting.new ≡ waiting.old) × (gateway.new ≡ gateway.old) }
+    ensures few { length gateway.new.told.held ≤ 64 }
+    ensures stands { gateway.new.fallen ≡ false }
+{
+    if gateway.held() >= MOST_HELD {
+        return false;
+    }
+    waiting.pass_next(gateway).is_some()
+}
+
+/// Where answers that are held stand in front, behind so many bytes, has a packet taken where it lies; before any other
+/// frame, and where no more answers can be held, they are synced. `None` where no answer that is held stands in front
+/// any more, and the frame at the front is still to be offered.
+fn offer_behind<D: Disk + Drop>(
+    held: Option<usize>,
+    waiting: &mut Waiting,
+    gateway: &mut Gateway<D>,
+) -> Option<Step>
+    requires stands { gateway.old.fallen ≡ false }
+    requires held { AreHeld held waiting.old.answered gateway.old.told.held }
+    ensures some { IfSome result (λ step.
+        (released (held_behind step) waiting.new.answered ≡ released held waiting.old.answered)
+        × ((before : List (ℕ × Answer)) → Stepped D.honest D.moment D.left D.failed step
+        waiting.old.unanswered waiting.new.unanswered gateway.old gateway.new before before)) }
+    ensures held { IfSome result (λ step.
+        AreHeld (held_behind step) waiting.new.answered gateway.new.told.held) }
+    ensures stands { IfSome result (λ step. RefusesNone step → gateway.new.fallen ≡ false) }
+    ensures few { OnSome result (length gateway.new.told.held ≤ 64) }
+    ensures none { IfNone result ((handed : List (ℕ × Answer))
+        × (waiting.new ≡ record waiting.old {
+          answered = released held waiting.old.answered ++ frames handed;
+        })
+        × ((before : List (ℕ × Answer)) → CarriesOn D.honest D.moment D.left D.failed
+        gateway.old gateway.new [] before (before ++ handed))) }
+    ensures goes_on { IfNone result (gateway.new.fallen ≡ false) }
+    ensures settled { held ≢ None → IfNone result (gateway.new.told.held ≡ []) }
+    ensures unasked { held ≡ None → (result ≡ None) × (waiting.new ≡ waiting.old)
+        × (gateway.new ≡ gateway.old) }
+{
+    let Some(front) = held else {
+        return None;
+    };
+    if passes_behind(waiting, gateway) {
+        return Some(Step::Took(false, Some(front)));
+    }
+    match settle(gateway) {
+        Ok(()) => None,
+        Err(fault) => {
+            waiting.cut_answered(front);
+            Some(Step::Ends(Halt::Refused(fault)))
+        }
+    }
+}
+
+/// Offers the frame at the front, behind answers that are held, if such stand in front, behind so many bytes.
+fn offer_next<D: Disk + Drop>(
+    alloc: Global,
+    hopeful: bool,
+    held: Option<usize>,
+    waiting: &mut Waiting,
+    answers: &mut Vec<(u64, Answer)>,
+    bodies: &mut Vec<Vec<u8>>,
+    gateway: &mut Gateway<D>,
+) -> Step
+    requires stands { gateway.old.fallen ≡ false }
+    requires held { AreHeld held waiting.old.answered gateway.old.told.held }
+    requires alone { held ≢ None → (answers.old.items ≡ []) × (64 ≤ vec_capacity answers.old) }
+    requires room { vec_len answers.old + length gateway.old.told.held ≤ vec_capacity answers.old }
+    ensures step { (handed : List (ℕ × Answer))
+        × (released (held_behind result) waiting.new.answered
+        ≡ released held waiting.old.answered ++ frames handed)
+        × ((before : List (ℕ × Answer)) → Stepped D.honest D.moment D.left D.failed result
+        waiting.old.unanswered waiting.new.unanswered gateway.old gateway.new
+        (before ++ answers.old.items) (before ++ (handed ++ answers.new.items))) }
+    ensures held { AreHeld (held_behind result) waiting.new.answered gateway.new.told.held }
+    ensures alone { held_behind result ≢ None
+        → (answers.new.items ≡ []) × (64 ≤ vec_capacity answers.new) }
+    ensures stands { RefusesNone result → gateway.new.fallen ≡ false }
+    ensures room { vec_len answers.new + length gateway.new.told.held ≤ vec_capacity answers.new }
+{
+    match offer_behind(held, waiting, gateway) {
+        Some(step) => step,
+        None => offer_idle(alloc, hopeful, waiting, answers, bodies, gateway),
+    }
 }
 
 /// How many events in a row, up to the last one, ended with no packet handed out, if `misses` did before that one.
@@ -284,11 +421,13 @@ pub fn offer_all<D: Disk + Drop>(
     // events in a row that ended with none handed out, until the next one leaves.
     let mut misses: usize = 0;
     let mut ahead = Ahead::none();
+    let mut held = None;
     loop {
         ahead = ahead.next(waiting.unanswered(), gateway);
         let hopeful = ahead.is_known() && misses < MOST_MISSES;
-        match offer_next(alloc, hopeful, waiting, answers, bodies, gateway) {
-            Step::Took(forwarded) => {
+        match offer_next(alloc, hopeful, held, waiting, answers, bodies, gateway) {
+            Step::Took(forwarded, behind) => {
+                held = behind;
                 prove!(count < most);
                 count += 1;
                 misses = misses_behind(misses, forwarded);

@@ -1,20 +1,22 @@
 //! The bytes that were read and aren't answered yet, and in front of them, in the same memory, the frames of answers to
 //! those that were. The next read goes right behind them, into memory that is kept.
 //!
-//! `read` puts what comes behind the bytes that wait. A frame leaves their front by `forward_next`, which has its packet
-//! offered where it lies (`forwarding::forward_frame`) and makes its answer of it, or by `skip`, where `serving` offers
-//! a copy of it; then `put` writes the answer where the request stood (`answer::fill_frames`), if there is room there.
-//! `answered` is what stands here to be written, and `forget_answered` lets it go behind that.
-ghost use Rattle.std.specs.Prelude.{◌≡◌, ◌≢◌, ◌+◌, ◌≤◌, ◌++◌, ◌∷◌, [], ℕ, List, IfOk, OnOk, OnErr, length, take, drop, true, false};
+//! `read` puts what comes behind the bytes that wait. A frame leaves their front by `forward_next` and `pass_next`, which
+//! have its packet taken where it lies (`forwarding::forward_frame` and `pass_frame`) and make its answer of it, or by
+//! `skip`, where `serving` offers a copy of it; then `put` writes the answer where the request stood
+//! (`answer::fill_frames`), if there is room there. `answered` is what stands here to be written: `forget_answered` lets
+//! it go behind that, and `cut_answered` all whose changes could not be synced.
+ghost use Rattle.std.specs.Prelude.{◌≡◌, ◌≢◌, ◌+◌, ◌≤◌, ◌++◌, ◌∷◌, [], ℕ, List, IfNone, IfOk, IfSome, OnOk, OnErr, length, take, drop, true, false};
 ghost use Rattle.std.specs.Io.KnownBytes.{Consumes, IsAtEnd};
 ghost use Rattle.gateway.specs.Running.{CarriesOn};
 ghost use Rattle.machine.specs.declared.event.Answer.{Answer};
 ghost use Rattle.machine.specs.declared.event.Event.{Event};
 ghost use Rattle.socket_edge.specs.Answering.{frame, frames};
 ghost use Rattle.socket_edge.specs.Requests.{next, Whole};
+ghost use Rattle.socket_edge.specs.Running.{Passes};
 
 use crate::answer::fill_frames;
-use crate::forwarding::{forward_frame, move_down};
+use crate::forwarding::{Placed, forward_frame, move_down, pass_frame};
 use crate::request::{Head, Kind, REQUEST_HEAD, read_head};
 use disk_model::Disk;
 use gateway::{Answer, Gateway};
@@ -147,6 +149,43 @@ impl Waiting {
         self.answered += len;
         self.start = end;
         true
+    }
+
+    /// Has the gateway take the packet at the front, where a whole frame of one stands there. If it does, the frame of
+    /// its answer stands behind the other answers, also where the answer is held; otherwise nothing has changed.
+    pub fn pass_next<D: Disk + Drop>(&mut self, gateway: &mut Gateway<D>) -> Option<Placed>
+        requires stands { gateway.old.fallen ≡ false }
+        ensures some { IfSome result (λ placed. (event : Event) × (answer : ℕ × Answer)
+            × (next self.old.unanswered ≡ Whole event self.new.unanswered)
+            × (self.new.answered ≡ self.old.answered ++ frame answer)
+            × Passes D.honest D.moment D.left D.failed placed.held gateway.old gateway.new
+            event answer) }
+        ensures none { IfNone result ((self.new ≡ self.old) × (gateway.new ≡ gateway.old)) }
+        ensures stands { gateway.new.fallen ≡ false }
+    {
+        let Head::Frame(Kind::Packet(iface), moment, len) = read_head(self.unanswered()) else {
+            return None;
+        };
+        let len = REQUEST_HEAD + len as usize;
+        if self.unanswered().len() < len {
+            return None;
+        }
+        let (bytes, end) = (self.bytes.as_mut_slice(), self.start + len);
+        let Some(placed) = pass_frame(&mut bytes[self.start..end], moment, iface, gateway) else {
+            return None;
+        };
+        move_down(bytes, self.start, placed.size, self.answered);
+        self.answered += placed.size;
+        self.start = end;
+        Some(placed)
+    }
+
+    /// Lets the bytes of the answers behind the first `len` go.
+    pub fn cut_answered(&mut self, len: usize)
+        requires { len ≤ length self.old.answered }
+        ensures { self.new ≡ record self.old { answered = take len self.old.answered } }
+    {
+        self.answered = len;
     }
 
     /// Lets the bytes of the answers go.

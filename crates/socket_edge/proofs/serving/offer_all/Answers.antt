@@ -1,4 +1,4 @@
-use Rattle.std.proofs.Common.{◌+◌, ◌<◌, [], ◌++◌, List, ℕ, length, ap, sym, subst, ◌∙◌, append_assoc, arith}
+use Rattle.std.proofs.Common.{◌+◌, ◌<◌, [], ◌++◌, List, ℕ, length, ap, sym, subst, refl, ◌∙◌, append_assoc, arith}
 use Rattle.std.proofs.lemmas.Grind.{common_steps}
 use Rattle.std.proofs.lemmas.List.{append-nil}
 use Rattle.machine.specs.declared.event.Answer.{Answer}
@@ -17,6 +17,8 @@ loop-hopeful-init g c = (
   c.requires.stands,
   c.requires.room,
   ap length c.unanswered-most.ensures,
+  tt,
+  λ some. absurd (some refl),
 )
 
 pub loop-hopeful-preserved : goal.loop-hopeful-preserved
@@ -25,7 +27,7 @@ loop-hopeful-preserved g c =
     let t = c.in-Took.ensures.step in
     let items = c.offer_next.new.answers.items in
     let on = SoFar-next g.D.Disk.honest g.D.Disk.moment g.D.Disk.left g.D.Disk.failed c.args.gateway.now c.loop-hopeful.gateway c.offer_next.new.gateway c.args.waiting.now.unanswered c.loop-hopeful.waiting.unanswered c.offer_next.new.waiting.unanswered
-    c.loop-hopeful.count c.args.answers.now.items (i.0 ++ c.loop-hopeful.answers.items) (i.0 ++ (t.0 ++ items)) c.in-Took.forwarded i.2 (t.2 i.0) in (
+    c.loop-hopeful.count c.args.answers.now.items (i.0 ++ c.loop-hopeful.answers.items) (i.0 ++ (t.0 ++ items)) c.in-Took.forwarded c.in-Took.behind i.2 (t.2 i.0) in (
       i.0 ++ t.0,
       t.1 ∙ ap (λ (x : List ℕ). x ++ frames t.0) i.1 ∙ frames-append c.args.waiting.now.answered i.0 t.0,
       subst (λ (out : List (ℕ × Answer)). SoFar g.D.Disk.honest g.D.Disk.moment g.D.Disk.left g.D.Disk.failed c.args.gateway.now c.offer_next.new.gateway c.args.waiting.now.unanswered c.offer_next.new.waiting.unanswered (c.loop-hopeful.count + 1) c.args.answers.now.items out)
@@ -33,6 +35,8 @@ loop-hopeful-preserved g c =
       c.in-Took.ensures.stands tt,
       c.in-Took.ensures.room,
       i.5,
+      c.in-Took.ensures.held,
+      c.in-Took.ensures.alone,
     )
 
 pub prove-unreachable-requires : goal.prove-unreachable-requires
