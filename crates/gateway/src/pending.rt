@@ -13,7 +13,7 @@ ghost use Rattle.machine.specs.Fates.{answer_of};
 
 use durable::{END_LEN, Entry, begin_code, end_code, load_front, restart_code, seen_code};
 use journal::{Group, LIMIT};
-use machine::{Answer, Bytes, Fate, Notes, StepFault};
+use machine::{Answer, Bytes, Fate, Iface, Notes, StepFault};
 use std::alloc::{AllocError, Global};
 use std::marker::Model;
 
@@ -36,8 +36,8 @@ pub(crate) struct Pending {
     place: u64,
     /// How many more bytes of entries find room.
     room: u64,
-    /// Memory for the copies of packets. What lies in it means nothing.
-    bodies: Vec<Vec<u8>>,
+    /// Answers that were let go: memory for the copies of packets. What lies in it means nothing.
+    spare: Vec<(u64, Answer)>,
 }
 
 impl Model for Pending {
@@ -78,7 +78,7 @@ impl Pending {
             group,
             place,
             room: 0,
-            bodies: Vec::new(alloc),
+            spare: Vec::new(alloc),
         })
     }
 
@@ -109,6 +109,7 @@ impl Pending {
     }
 
     /// Holds an answer behind the others. Some entry waits, so there is room for it.
+    #[inline(always)]
     pub(crate) fn hold(&mut self, number: u64, answer: Answer)
         requires some { self.old.entries ≢ [] }
         requires few { length self.old.held < 64 }
@@ -121,6 +122,7 @@ impl Pending {
 
     /// Holds the answer to a packet behind the others, with a copy of it where it leaves. The body is empty, and has
     /// room for it. Some entry waits, so there is room for the answer.
+    #[inline(always)]
     pub(crate) fn hold_copy(&mut self, number: u64, fate: Fate, packet: &[u8], body: Vec<u8>)
         requires some { self.old.entries ≢ [] }
         requires few { length self.old.held < 64 }
@@ -146,10 +148,7 @@ impl Pending {
         ensures empty { IfSome result (λ body. body.items ≡ []) }
         ensures room { IfSome result (λ body. len ≤ vec_capacity body) }
     {
-        let mut body = match self.bodies.pop() {
-            Some(body) => body,
-            None => Vec::new(self.alloc),
-        };
+        let mut body = body_of(self.spare.pop(), self.alloc);
         body.clear();
         if body.reserve_exact(len).is_err() {
             return None;
@@ -157,11 +156,12 @@ impl Pending {
         Some(body)
     }
 
-    /// Keeps the memory of a body for a packet to come.
+    /// Keeps the memory of an empty body for a packet to come.
     pub(crate) fn keep_body(&mut self, body: Vec<u8>)
+        requires { body.items ≡ [] }
         ensures { self.new ≡ self.old }
     {
-        keep(&mut self.bodies, body);
+        keep(&mut self.spare, body);
     }
 
     /// Gives the answers, and lets the entries go; the next group will stand at the place. It takes no memory.
@@ -180,7 +180,7 @@ impl Pending {
         ensures { self.new ≡ record { held = []; entries = []; place = place; room = 0 } }
     {
         let mut answers = self.release(place);
-        keep_all(&mut answers, &mut self.bodies);
+        keep_all(&mut answers, &mut self.spare);
         self.held = answers;
     }
 }
@@ -267,22 +267,32 @@ fn copy_of(packet: &[u8], mut body: Vec<u8>) -> Bytes
     Bytes::of(body)
 }
 
-// Keeps the memory of a body, if it isn't large and there aren't many; a refusal of memory lets it go too.
-fn keep(bodies: &mut Vec<Vec<u8>>, body: Vec<u8>) {
-    if bodies.len() < MOST_HELD && body.capacity() <= LONGEST_COPY {
-        let _ = bodies.push(body);
+// The memory of an answer's packet, or none yet.
+#[inline(always)]
+fn body_of(spare: Option<(u64, Answer)>, alloc: Global) -> Vec<u8> {
+    match spare {
+        Some((_, Answer::Forward(_, packet))) => packet.into_vec(),
+        _ => Vec::new(alloc),
     }
 }
 
-// Lets the answers go, and keeps the memory of their packets.
-fn keep_all(held: &mut Vec<(u64, Answer)>, bodies: &mut Vec<Vec<u8>>)
+// Keeps the memory of an empty body, if there isn't much; a refusal of memory lets it go too.
+fn keep(spare: &mut Vec<(u64, Answer)>, body: Vec<u8>)
+    requires { body.items ≡ [] }
+{
+    if spare.len() < MOST_HELD {
+        let _ = spare.push((0, Answer::Forward(Iface::Lan, Bytes::of(body))));
+    }
+}
+
+// Lets the answers go, and keeps the memory of their packets: all of it at once, without a look at each.
+fn keep_all(held: &mut Vec<(u64, Answer)>, spare: &mut Vec<(u64, Answer)>)
     ensures { held.new.items ≡ [] }
 {
-    while let Some((_, answer)) = held.pop() {
-        if let Answer::Forward(_, packet) = answer {
-            keep(bodies, packet.into_vec());
-        }
+    if spare.len() < MOST_HELD {
+        let _ = spare.append(held);
     }
+    held.clear();
 }
 
 // Puts the bytes of an entry behind the others, for which there is room.
