@@ -1,4 +1,8 @@
 //! Why a gateway doesn't do what it was asked.
+ghost use Rattle.std.specs.Prelude.{◌≡◌, ◌↔◌, ◌⊎◌};
+
+use machine::StepFault;
+use snapshot::CompactFault;
 use thiserror::Error;
 
 /// Why a gateway doesn't do what it was asked. `Reopen`, `NumbersOut` and `HeldFull` come before the others, in this
@@ -27,4 +31,32 @@ pub enum GatewayFault {
     /// The active file has the greatest generation, 2^64 - 1.
     #[error("no generation is left for a file")]
     Generations,
+}
+
+// Why the step of an event was refused.
+#[inline]
+pub(crate) fn why_refused(fault: StepFault) -> GatewayFault
+    ensures full { (result ≡ GatewayFault.Full) ↔ (fault ≡ StepFault.Full) }
+    ensures no_memory { (result ≡ GatewayFault.NoMemory) ↔ (fault ≡ StepFault.NoMemory) }
+    ensures either { (result ≡ GatewayFault.Full) ⊎ (result ≡ GatewayFault.NoMemory) }
+{
+    match fault {
+        StepFault::Full => GatewayFault::Full,
+        StepFault::NoMemory => GatewayFault::NoMemory,
+    }
+}
+
+// Why a gateway was not compacted, as its store says it.
+pub(crate) fn why_not_compacted(fault: CompactFault) -> GatewayFault
+    ensures device { (result ≡ GatewayFault.Device) ↔ (fault ≡ CompactFault.Device) }
+    ensures generations { (result ≡ GatewayFault.Generations) ↔ (fault ≡ CompactFault.Generations) }
+    ensures no_memory { (result ≡ GatewayFault.NoMemory) ↔ (fault ≡ CompactFault.NoMemory) }
+    ensures causes { (result ≡ GatewayFault.NoMemory) ⊎ (result ≡ GatewayFault.Device)
+        ⊎ (result ≡ GatewayFault.Generations) }
+{
+    match fault {
+        CompactFault::NoMemory => GatewayFault::NoMemory,
+        CompactFault::Device => GatewayFault::Device,
+        CompactFault::Generations => GatewayFault::Generations,
+    }
 }

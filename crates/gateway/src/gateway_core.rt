@@ -10,14 +10,13 @@
 //! - `settle`: as `flush`, and `Pending::let_go` lets go what was held.
 //! - `compact`: `Store::compact` makes a file of what must survive (`lasting_sessions`), with no groups.
 //! - `run`: `running::take_all` does these calls for a list of events.
-ghost use Rattle.std.specs.Prelude.{◌≡◌, ◌≢◌, ◌↔◌, ◌⊎◌, ◌+◌, ◌-◌, ◌^◌, ◌<◌, ◌≤◌, ◌++◌, ◌∷◌, [], ℕ, List, IfOk, IfErr, IfNone, IfSome, OnOk, OnErr, OnSome, IsOk, IsErrOf, MatchResult, IsTrue, length, map, true, false, vec_capacity};
+ghost use Rattle.std.specs.Prelude.{◌≡◌, ◌≢◌, ◌↔◌, ◌⊎◌, ◌+◌, ◌-◌, ◌^◌, ◌<◌, ◌≤◌, ◌++◌, ◌∷◌, [], ℕ, List, IfOk, IfErr, IfNone, IfSome, OnOk, OnErr, OnSome, IsOk, IsErrOf, MatchResult, IsTrue, length, map, true, false};
 ghost use Rattle.packet.specs.Config.{is_config};
 ghost use Rattle.disk_model.specs.Disk.{Leaves, LeavesNow, LeavesOnly, Looks, Called, Grew};
 ghost use Rattle.durable.specs.Coding.{Entry, body_bytes};
 ghost use Rattle.durable.specs.Entering.{Durable, IsDurable, durable};
 ghost use Rattle.durable.specs.Recovery.{Alike, IsConfigured, NoneOpen, Recovers};
 ghost use Rattle.snapshot.specs.Store.{RecoversEither};
-ghost use Rattle.machine.specs.Fates.{answer_of};
 ghost use Rattle.machine.specs.Judged.{Judged, IsJudged, IsNoLoad};
 ghost use Rattle.machine.specs.Machine.{AddsNone, EndsNone, later, step};
 ghost use Rattle.machine.specs.Notes.{most_bytes};
@@ -27,20 +26,22 @@ ghost use Rattle.machine.specs.declared.event.Answer.TheVariants.{Forward};
 ghost use Rattle.machine.specs.declared.event.What.TheVariants.{Packet};
 ghost use Rattle.sessions.specs.Stilled.{stilled};
 ghost use Rattle.gateway.specs.Passing.{answered, given_by};
-ghost use Rattle.gateway.specs.Told.{Took, TookAll, TookFirst, handed, number_of};
+ghost use Rattle.gateway.specs.Told.{Took, TookAll, TookFirst, handed};
 ghost use Rattle.gateway.specs.declared.given.Given.TheVariants.{Now};
 ghost use Rattle.gateway.specs.Kept.{HasPlaces, IsNow, IsReady, IsRoomy, IsSafe, IsTooMuch};
 ghost use Rattle.gateway.specs.Running.{StopsWithin};
 
+use crate::fault::{why_not_compacted, why_refused};
+use crate::given::{give, give_copy};
 use crate::pending::{LONGEST_COPY, MOST_HELD, Pending};
 use crate::running::take_all;
 use crate::{GatewayFault, Given, OpenFault, Passed};
 use disk_model::Disk;
 use machine::laws::events_are_judged_once;
-use machine::{Answer, Coming, Core, Event, Fate, Iface, MOST_AHEAD, NoMemory, StepFault};
+use machine::{Answer, Coming, Core, Event, Iface, MOST_AHEAD, NoMemory};
 use packet::bounds::Bounds;
 use sessions::Session;
-use snapshot::{CommitFault, CompactFault, Opened, Store};
+use snapshot::{CommitFault, Opened, Store};
 use std::alloc::Global;
 use std::marker::Model;
 
@@ -759,77 +760,6 @@ fn resume_core(
         Ok(core) => Ok((core, pending)),
         Err(fault) => Err(fault),
     }
-}
-
-// Why the step of an event was refused.
-#[inline]
-fn why_refused(fault: StepFault) -> GatewayFault
-    ensures full { (result ≡ GatewayFault.Full) ↔ (fault ≡ StepFault.Full) }
-    ensures no_memory { (result ≡ GatewayFault.NoMemory) ↔ (fault ≡ StepFault.NoMemory) }
-    ensures either { (result ≡ GatewayFault.Full) ⊎ (result ≡ GatewayFault.NoMemory) }
-{
-    match fault {
-        StepFault::Full => GatewayFault::Full,
-        StepFault::NoMemory => GatewayFault::NoMemory,
-    }
-}
-
-// Why a gateway was not compacted, as its store says it.
-fn why_not_compacted(fault: CompactFault) -> GatewayFault
-    ensures device { (result ≡ GatewayFault.Device) ↔ (fault ≡ CompactFault.Device) }
-    ensures generations { (result ≡ GatewayFault.Generations) ↔ (fault ≡ CompactFault.Generations) }
-    ensures no_memory { (result ≡ GatewayFault.NoMemory) ↔ (fault ≡ CompactFault.NoMemory) }
-    ensures causes { (result ≡ GatewayFault.NoMemory) ⊎ (result ≡ GatewayFault.Device)
-        ⊎ (result ≡ GatewayFault.Generations) }
-{
-    match fault {
-        CompactFault::NoMemory => GatewayFault::NoMemory,
-        CompactFault::Device => GatewayFault::Device,
-        CompactFault::Generations => GatewayFault::Generations,
-    }
-}
-
-// Hands out an answer at once where no entry waits, and holds it otherwise.
-fn give(pending: &mut Pending, number: u64, answer: Answer) -> Given
-    requires few { length pending.old.held < 64 }
-    ensures order { handed result ++ pending.new.held ≡ pending.old.held ++ (number, answer) ∷ [] }
-    ensures number { number_of result ≡ number }
-    ensures now { IsNow result ↔ (pending.old.entries ≡ []) }
-    ensures quiet { IsNow result → pending.old.held ≡ [] }
-    ensures none { pending.new.held ≡ [] → pending.new.entries ≡ [] }
-    ensures entries { pending.new.entries ≡ pending.old.entries }
-    ensures place { pending.new.place ≡ pending.old.place }
-{
-    if pending.is_quiet() {
-        return Given::Now(number, answer);
-    }
-    pending.hold(number, answer);
-    Given::Held(number)
-}
-
-// Says what a packet comes to at once where no entry waits, and else holds its answer, with a copy of the packet. The
-// body is empty, and has room for it.
-fn give_copy(pending: &mut Pending, number: u64, fate: Fate, packet: &[u8], body: Vec<u8>) -> Passed
-    requires few { length pending.old.held < 64 }
-    requires short { length packet.now ≤ 2048 }
-    requires empty { body.items ≡ [] }
-    requires room { length packet.now ≤ vec_capacity body }
-    ensures order { handed (given_by result packet.now) ++ pending.new.held
-        ≡ pending.old.held ++ (number, answer_of fate packet.now) ∷ [] }
-    ensures answer { answered result packet.now ≡ (number, answer_of fate packet.now) }
-    ensures number { number_of (given_by result packet.now) ≡ number }
-    ensures now { IsNow (given_by result packet.now) ↔ (pending.old.entries ≡ []) }
-    ensures quiet { IsNow (given_by result packet.now) → pending.old.held ≡ [] }
-    ensures none { pending.new.held ≡ [] → pending.new.entries ≡ [] }
-    ensures entries { pending.new.entries ≡ pending.old.entries }
-    ensures place { pending.new.place ≡ pending.old.place }
-{
-    if !pending.is_quiet() {
-        pending.hold_copy(number, fate, packet, body);
-        return Passed::Held(number, fate);
-    }
-    pending.keep_body(body);
-    Passed::Now(number, fate)
 }
 
 // The sessions without when their last packets passed.

@@ -1,4 +1,11 @@
-//! What became of an event that was taken.
+//! What became of an event that was taken: its answer is handed out at once, or held (`give`, `give_copy`).
+ghost use Rattle.std.specs.Prelude.{◌≡◌, ◌↔◌, ◌<◌, ◌≤◌, ◌++◌, ◌∷◌, [], length, vec_capacity};
+ghost use Rattle.machine.specs.Fates.{answer_of};
+ghost use Rattle.gateway.specs.Kept.{IsNow};
+ghost use Rattle.gateway.specs.Passing.{answered, given_by};
+ghost use Rattle.gateway.specs.Told.{handed, number_of};
+
+use crate::pending::Pending;
 use machine::{Answer, Fate};
 
 /// What became of an event that was taken, with its number.
@@ -17,4 +24,53 @@ pub enum Passed {
     Now(u64, Fate),
     /// The next flush that succeeds hands out its answer.
     Held(u64, Fate),
+}
+
+// Hands out an answer at once where no entry waits, and holds it otherwise.
+pub(crate) fn give(pending: &mut Pending, number: u64, answer: Answer) -> Given
+    requires few { length pending.old.held < 64 }
+    ensures order { handed result ++ pending.new.held ≡ pending.old.held ++ (number, answer) ∷ [] }
+    ensures number { number_of result ≡ number }
+    ensures now { IsNow result ↔ (pending.old.entries ≡ []) }
+    ensures quiet { IsNow result → pending.old.held ≡ [] }
+    ensures none { pending.new.held ≡ [] → pending.new.entries ≡ [] }
+    ensures entries { pending.new.entries ≡ pending.old.entries }
+    ensures place { pending.new.place ≡ pending.old.place }
+{
+    if pending.is_quiet() {
+        return Given::Now(number, answer);
+    }
+    pending.hold(number, answer);
+    Given::Held(number)
+}
+
+// Says what a packet comes to at once where no entry waits, and else holds its answer, with a copy of the packet. The
+// body is empty, and has room for it.
+pub(crate) fn give_copy(
+    pending: &mut Pending,
+    number: u64,
+    fate: Fate,
+    packet: &[u8],
+    body: Vec<u8>,
+) -> Passed
+    requires few { length pending.old.held < 64 }
+    requires short { length packet.now ≤ 2048 }
+    requires empty { body.items ≡ [] }
+    requires room { length packet.now ≤ vec_capacity body }
+    ensures order { handed (given_by result packet.now) ++ pending.new.held
+        ≡ pending.old.held ++ (number, answer_of fate packet.now) ∷ [] }
+    ensures answer { answered result packet.now ≡ (number, answer_of fate packet.now) }
+    ensures number { number_of (given_by result packet.now) ≡ number }
+    ensures now { IsNow (given_by result packet.now) ↔ (pending.old.entries ≡ []) }
+    ensures quiet { IsNow (given_by result packet.now) → pending.old.held ≡ [] }
+    ensures none { pending.new.held ≡ [] → pending.new.entries ≡ [] }
+    ensures entries { pending.new.entries ≡ pending.old.entries }
+    ensures place { pending.new.place ≡ pending.old.place }
+{
+    if !pending.is_quiet() {
+        pending.hold_copy(number, fate, packet, body);
+        return Passed::Held(number, fate);
+    }
+    pending.keep_body(body);
+    Passed::Now(number, fate)
 }
