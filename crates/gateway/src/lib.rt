@@ -24,4 +24,5 @@ pub use given::{Given, Passed};
 pub use machine::{
     Answer, Bytes, Cause, Coming, Event, Fate, Iface, MOST_AHEAD, NoMemory, Session, What,
 };
+pub use pending::MOST_HELD;
 pub use snapshot::OpenFault;

@@ -17,8 +17,8 @@ use machine::{Answer, Bytes, Fate, Iface, Notes, StepFault};
 use std::alloc::{AllocError, Global};
 use std::marker::Model;
 
-/// The most answers that are held.
-pub(crate) const MOST_HELD: usize = 64;
+/// The most answers that a gateway holds.
+pub const MOST_HELD: usize = 64;
 
 /// The longest packet of which a copy is held, so that the memory that is kept for copies stays bounded.
 pub(crate) const LONGEST_COPY: usize = 2048;

@@ -149,7 +149,7 @@ seen_forward w r n e xs two ys first then fits as_many there behind =
     (p.0 ∙ ap (λ (zs : List ℕ). take w xs ++ zs) (ap (λ (i : ℕ). take i ys) (sym as_many) ∙ take-length ys), p.1)
 
 -- what stands in the part behind its first bytes
-pub part_behind : (r k len e : ℕ) (xs : List ℕ) → r + (k + len) ≤ e → e ≤ length xs → drop k (take (r + (k + len) - r) (drop r xs)) ≡ take len (drop k (drop r (take e xs)))
+part_behind : (r k len e : ℕ) (xs : List ℕ) → r + (k + len) ≤ e → e ≤ length xs → drop k (take (r + (k + len) - r) (drop r xs)) ≡ take len (drop k (drop r (take e xs)))
 part_behind r k len e xs within fits =
     let ys : List ℕ = drop r xs in
     let m = e - r - k in
@@ -158,6 +158,14 @@ part_behind r k len e xs within fits =
     ap (λ (n : ℕ). drop k (take n ys)) whole ∙ drop-take k len ys
     ∙ take_front len m (drop k ys) (omega (arith, within)) (omega (arith, within, fits, length-drop k ys, length-drop r xs))
     ∙ ap (take len) (sym (drop-take k m ys) ∙ ap (λ (n : ℕ). drop k (take n ys)) more ∙ ap (drop k) (between_is xs r e))
+
+-- the packet of a frame that stands in front of those that wait
+pub packet_in : (r len e : ℕ) (xs bytes : List ℕ) → 14 ≤ len → r + len ≤ e → e ≤ length xs → drop r (take e xs) ≡ bytes
+    → drop 14 (take (r + len - r) (drop r xs)) ≡ take (len - 14) (drop 14 bytes)
+packet_in r len e xs bytes some within fits waits =
+    let whole : len ≡ 14 + (len - 14) = omega (arith, some) in
+    ap (λ (m : ℕ). drop 14 (take (r + m - r) (drop r xs))) whole ∙ part_behind r 14 (len - 14) e xs (omega (arith, within, whole)) fits
+    ∙ ap (λ (zs : List ℕ). take (len - 14) (drop 14 zs)) waits
 
 -- so many bytes wait
 pub ends_within : (r e n : ℕ) (xs bytes : List ℕ) → r ≤ e → e ≤ length xs → bytes ≡ drop r (take e xs) → n ≤ length bytes → r + n ≤ e

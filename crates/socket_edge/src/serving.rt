@@ -25,15 +25,12 @@ use crate::request::{Taken, take_frame};
 use crate::waiting::Waiting;
 use disk_model::Disk;
 use gateway::running::{compact, hand_out, settle, stands, take};
-use gateway::{Answer, Event, Gateway, GatewayFault};
+use gateway::{Answer, Event, Gateway, GatewayFault, MOST_HELD};
 use machine::laws::events_are_judged_once;
 use std::alloc::{AllocError, Global};
 
 /// The most bytes of groups that a file keeps when what was read is answered.
 const MOST_GROWN: u64 = 1_048_576;
-
-/// The most answers that a gateway holds.
-const MOST_HELD: usize = 64;
 
 /// The most bodies that are kept, about as many as one read of short packets has.
 const MOST_KEPT: usize = 1_024;

@@ -6,11 +6,12 @@
 //! `skip`, where `serving` offers a copy of it; then `put` writes the answer where the request stood
 //! (`answer::fill_frames`), if there is room there. `answered` is what stands here to be written: `forget_answered` lets
 //! it go behind that, and `cut_answered` all whose changes could not be synced.
-ghost use Rattle.std.specs.Prelude.{◌≡◌, ◌≢◌, ◌+◌, ◌≤◌, ◌++◌, ◌∷◌, [], ℕ, List, IfNone, IfOk, IfSome, OnOk, OnErr, length, take, drop, true, false};
+ghost use Rattle.std.specs.Prelude.{◌≡◌, ◌≢◌, ◌+◌, ◌-◌, ◌≤◌, ◌++◌, ◌∷◌, [], ℕ, List, IfNone, IfOk, IfSome, OnOk, OnErr, length, take, drop, true, false};
 ghost use Rattle.std.specs.Io.KnownBytes.{Consumes, IsAtEnd};
 ghost use Rattle.gateway.specs.Running.{CarriesOn};
 ghost use Rattle.machine.specs.declared.event.Answer.{Answer};
 ghost use Rattle.machine.specs.declared.event.Event.{Event};
+ghost use Rattle.machine.specs.declared.event.What.TheVariants.{Packet};
 ghost use Rattle.socket_edge.specs.Answering.{frame, frames};
 ghost use Rattle.socket_edge.specs.Requests.{next, Whole};
 ghost use Rattle.socket_edge.specs.Running.{Passes};
@@ -19,7 +20,7 @@ use crate::answer::fill_frames;
 use crate::forwarding::{Placed, forward_frame, move_down, pass_frame};
 use crate::request::{Head, Kind, REQUEST_HEAD, read_head};
 use disk_model::Disk;
-use gateway::{Answer, Gateway};
+use gateway::{Answer, Gateway, Iface};
 use std::alloc::{AllocError, Global};
 use std::io::Read;
 use std::marker::Model;
@@ -121,6 +122,28 @@ impl Waiting {
         }
     }
 
+    // The packet at the front, where a whole frame of one stands there: its interface, its moment in seconds, and how many
+    // bytes the frame has.
+    #[inline(always)]
+    fn front_packet(&self) -> Option<(Iface, u64, usize)>
+        ensures some { IfSome result (λ front. next self.now.unanswered
+            ≡ Whole (record {
+              moment = front.1;
+              what = Packet front.0 (take (front.2 - 14) (drop 14 self.now.unanswered));
+            }) (drop front.2 self.now.unanswered)) }
+        ensures whole { IfSome result (λ front. front.2 ≤ length self.now.unanswered) }
+        ensures size { IfSome result (λ front. (14 ≤ front.2) × (front.2 ≤ 14 + 65535)) }
+    {
+        let Head::Frame(Kind::Packet(iface), moment, len) = read_head(self.unanswered()) else {
+            return None;
+        };
+        let len = REQUEST_HEAD + len as usize;
+        if self.unanswered().len() < len {
+            return None;
+        }
+        Some((iface, moment, len))
+    }
+
     /// Offers the packet at the front, where a whole frame of one stands there. If it leaves at once, the frame becomes
     /// that of its answer and stands behind the other answers; otherwise nothing has changed. Says whether it left.
     pub fn forward_next<D: Disk + Drop>(&mut self, gateway: &mut Gateway<D>) -> bool
@@ -134,13 +157,9 @@ impl Waiting {
         ensures held { gateway.new.told.held ≡ gateway.old.told.held }
         ensures stands { gateway.new.fallen ≡ false }
     {
-        let Head::Frame(Kind::Packet(iface), moment, len) = read_head(self.unanswered()) else {
+        let Some((iface, moment, len)) = self.front_packet() else {
             return false;
         };
-        let len = REQUEST_HEAD + len as usize;
-        if self.unanswered().len() < len {
-            return false;
-        }
         let (bytes, end) = (self.bytes.as_mut_slice(), self.start + len);
         if !forward_frame(&mut bytes[self.start..end], moment, iface, gateway) {
             return false;
@@ -163,13 +182,9 @@ impl Waiting {
         ensures none { IfNone result ((self.new ≡ self.old) × (gateway.new ≡ gateway.old)) }
         ensures stands { gateway.new.fallen ≡ false }
     {
-        let Head::Frame(Kind::Packet(iface), moment, len) = read_head(self.unanswered()) else {
+        let Some((iface, moment, len)) = self.front_packet() else {
             return None;
         };
-        let len = REQUEST_HEAD + len as usize;
-        if self.unanswered().len() < len {
-            return None;
-        }
         let (bytes, end) = (self.bytes.as_mut_slice(), self.start + len);
         let Some(placed) = pass_frame(&mut bytes[self.start..end], moment, iface, gateway) else {
             return None;
