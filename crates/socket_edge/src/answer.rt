@@ -73,13 +73,6 @@ fn front_with(head: &[u8; ANSWER_HEAD], first: u8) -> [u8; ANSWER_FRONT]
     bytes
 }
 
-/// The bytes of an answer's frame up to the first one of its body.
-fn front_bytes(number: u64, answer: &Answer, first: u8) -> [u8; ANSWER_FRONT]
-    ensures { result ≡ frame_head (number, answer.now) ++ first ∷ [] }
-{
-    front_with(&head_bytes(number, answer), first)
-}
-
 /// All bytes in front of the packet in the frame of a packet that leaves, whose length is in bytes.
 pub fn forward_front(number: u64, iface: Iface, len: usize) -> [u8; ANSWER_FRONT]
     requires { len < 2 ^ 31 }
@@ -103,12 +96,13 @@ fn put_parts(out: &mut Vec<u8>, number: u64, answer: &Answer) -> Result<(), Allo
 {
     match answer {
         Answer::Forward(iface, packet) => {
-            out.extend_from_slice(&front_bytes(number, answer, byte_of(*iface)))?;
-            out.extend_from_slice(packet.as_slice())?;
+            let packet = packet.as_slice();
+            out.extend_from_slice(&forward_front(number, *iface, packet.len()))?;
+            out.extend_from_slice(packet)?;
             Ok(())
         }
         Answer::Dropped(cause) => {
-            out.extend_from_slice(&front_bytes(number, answer, *cause))?;
+            out.extend_from_slice(&drop_frame(number, *cause))?;
             Ok(())
         }
         _ => {
@@ -202,7 +196,7 @@ fn fill_frame(bytes: &mut [u8], number: u64, answer: &Answer) -> Option<usize>
 {
     match answer {
         Answer::Forward(iface, packet) => fill_forward(bytes, number, *iface, packet.as_slice()),
-        Answer::Dropped(cause) => fill_with(bytes, &front_bytes(number, answer, *cause)),
+        Answer::Dropped(cause) => fill_with(bytes, &drop_frame(number, *cause)),
         _ => fill_with(bytes, &head_bytes(number, answer)),
     }
 }

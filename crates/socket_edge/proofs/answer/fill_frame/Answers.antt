@@ -1,16 +1,17 @@
-use Rattle.std.proofs.Common.{◌≡◌, ◌<◌, ◌≤◌, ℕ, List, [], IfSome, IfNone, length, take, ap, subst, ◌∙◌}
-use Rattle.socket_edge.specs.Answering.{answer_body}
-use Rattle.socket_edge.proofs.Written.{frame_bare, frame_whole}
+use Rattle.std.proofs.Common.{◌≡◌, ◌<◌, ◌≤◌, ℕ, List, IfSome, IfNone, length, take, ap, sym, subst, ◌∙◌}
+use Rattle.machine.specs.declared.event.Answer.{Answer}
+use Rattle.socket_edge.specs.Answering.{frame}
+use Rattle.socket_edge.proofs.Written.{frame_bare}
 use Rattle.socket_edge.proofs.answer.fill_frame.Goals as goal
 
 pub returns-in-Dropped-clause-some : goal.returns-in-Dropped-clause-some
 returns-in-Dropped-clause-some c =
-    let is = c.front_bytes.ensures ∙ frame_whole [] (c.args.number, c.args.answer.now) c.in-Dropped.cause (ap answer_body c.in-Dropped.is) in
+    let is = c.drop_frame.ensures ∙ ap (λ (a : Answer). frame (c.args.number, a)) (sym c.in-Dropped.is) in
     subst (λ (all : List ℕ). IfSome c.fill_with.result (λ (n : ℕ). (n ≤ length c.fill_with.new.bytes) × (take n c.fill_with.new.bytes ≡ all))) is c.fill_with.ensures.some
 
 pub returns-in-Dropped-clause-none : goal.returns-in-Dropped-clause-none
 returns-in-Dropped-clause-none c =
-    let is = c.front_bytes.ensures ∙ frame_whole [] (c.args.number, c.args.answer.now) c.in-Dropped.cause (ap answer_body c.in-Dropped.is) in
+    let is = c.drop_frame.ensures ∙ ap (λ (a : Answer). frame (c.args.number, a)) (sym c.in-Dropped.is) in
     subst (λ (all : List ℕ). IfNone c.fill_with.result (length c.args.bytes.now < length all)) is c.fill_with.ensures.none
 
 pub returns-in_default : goal.returns-in_default
