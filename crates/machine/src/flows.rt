@@ -701,6 +701,7 @@ impl Flows {
 
     /// As `expire`, where all sessions were alive at the second `clock`: before the clock rises none ends, and nothing
     /// is looked at.
+    #[inline(always)]
     pub fn expire_since<N: Notes>(
         &mut self,
         alloc: Global,
