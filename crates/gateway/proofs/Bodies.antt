@@ -65,7 +65,7 @@ one_more body new spare new_spare capacity held place room left e was is le put 
       coded = more_coded was.entries e was.coded is;
       are = put ∙ ap (λ (l : List ℕ). l ++ entry_bytes e) was.are ∙ sym (more_bytes was.entries e);
       has_room = let spare_was = was.has_room in omega (arith, spare_was, less, rest, long);
-      has_slots = λ used. was.has_slots (inl (omega (arith, le, more)));
+      has_places = λ used. was.has_places (inl (omega (arith, le, more)));
       fits = λ some. let fit = was.fits (omega (arith, le, more)) in omega (arith, fit, rest);
       few = was.few;
       needed = λ _ none. let is_none = ap length none in omega (arith, is_none, long, more);

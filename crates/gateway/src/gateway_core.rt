@@ -33,8 +33,9 @@ ghost use Rattle.gateway.specs.Running.{StopsWithin};
 
 use crate::fault::{why_not_compacted, why_refused};
 use crate::given::{give, give_copy};
-use crate::pending::{LONGEST_COPY, MOST_HELD, Pending};
+use crate::pending::{MOST_HELD, Pending};
 use crate::running::take_all;
+use crate::slot::LONGEST_COPY;
 use crate::{GatewayFault, Given, OpenFault, Passed};
 use disk_model::Disk;
 use machine::laws::events_are_judged_once;
@@ -413,7 +414,7 @@ impl<D: Disk + Drop> Gateway<D> {
     /// answer is held. No call of the disk is made. The moment is in seconds.
     ///
     /// `None` says nothing of the packet: it isn't taken, nothing has changed, and `offer` tells what becomes of it. It
-    /// comes wherever `offer` refuses the event, and where memory to hold its answer is refused or the packet is long.
+    /// comes wherever `offer` refuses the event, and where the packet is long.
     #[inline(always)]
     pub fn pass(&mut self, moment: u64, iface: Iface, packet: &mut [u8]) -> Option<Passed>
         ensures disk { self.new.disk ≡ self.old.disk }
@@ -452,21 +453,16 @@ impl<D: Disk + Drop> Gateway<D> {
         if packet.len() > LONGEST_COPY {
             return None;
         }
-        // Memory for a copy is asked for before the step, since nothing may fail behind it.
-        let Some(body) = self.pending.take_body(packet.len()) else {
-            return None;
-        };
         self.core.facts();
         events_are_judged_once();
         let Some(fate) = self
             .core
             .pass_noted(moment, iface, packet, &mut self.pending)
         else {
-            self.pending.keep_body(body);
             return None;
         };
         self.last += 1;
-        Some(give_copy(&mut self.pending, self.last, fate, packet, body))
+        Some(give_copy(&mut self.pending, self.last, fate, packet))
     }
 
     /// Whether so many sessions have been held at once that it serves to look ahead.

@@ -1,5 +1,5 @@
 //! What became of an event that was taken: its answer is handed out at once, or held (`give`, `give_copy`).
-ghost use Rattle.std.specs.Prelude.{◌≡◌, ◌↔◌, ◌<◌, ◌≤◌, ◌++◌, ◌∷◌, [], length, vec_capacity};
+ghost use Rattle.std.specs.Prelude.{◌≡◌, ◌↔◌, ◌<◌, ◌≤◌, ◌++◌, ◌∷◌, [], length};
 ghost use Rattle.machine.specs.Fates.{answer_of};
 ghost use Rattle.gateway.specs.Kept.{IsNow};
 ghost use Rattle.gateway.specs.Passing.{answered, given_by};
@@ -44,19 +44,10 @@ pub(crate) fn give(pending: &mut Pending, number: u64, answer: Answer) -> Given
     Given::Held(number)
 }
 
-// Says what a packet comes to at once where no entry waits, and else holds its answer, with a copy of the packet. The
-// body is empty, and has room for it.
-pub(crate) fn give_copy(
-    pending: &mut Pending,
-    number: u64,
-    fate: Fate,
-    packet: &[u8],
-    body: Vec<u8>,
-) -> Passed
+// Says what a packet comes to at once where no entry waits, and else holds its answer, with a copy of the packet.
+pub(crate) fn give_copy(pending: &mut Pending, number: u64, fate: Fate, packet: &[u8]) -> Passed
     requires few { length pending.old.held < 64 }
     requires short { length packet.now ≤ 2048 }
-    requires empty { body.items ≡ [] }
-    requires room { length packet.now ≤ vec_capacity body }
     ensures order { handed (given_by result packet.now) ++ pending.new.held
         ≡ pending.old.held ++ (number, answer_of fate packet.now) ∷ [] }
     ensures answer { answered result packet.now ≡ (number, answer_of fate packet.now) }
@@ -68,9 +59,8 @@ pub(crate) fn give_copy(
     ensures place { pending.new.place ≡ pending.old.place }
 {
     if !pending.is_quiet() {
-        pending.hold_copy(number, fate, packet, body);
+        pending.hold_copy(number, fate, packet);
         return Passed::Held(number, fate);
     }
-    pending.keep_body(body);
     Passed::Now(number, fate)
 }

@@ -4,7 +4,7 @@
 //! lie synced in a file (crate `snapshot`); one whose event has none is handed out at once, if none is held before it.
 //!
 //! - `given`, `fault`: what becomes of an event, and why it isn't taken.
-//! - `pending`: the answers that are held, and the entries of their events.
+//! - `pending`, `slot`: the answers that are held, and the entries of their events.
 //! - `gateway_core`: `Gateway`, to which events are offered. A packet whose session goes on leaves at once, translated
 //!   where it lies, if nothing is held (`forward`); any packet may be taken where it lies (`pass`).
 //! - `running`: a run of events over the gateway's calls, event by event.
@@ -17,6 +17,7 @@ mod given;
 pub mod laws;
 mod pending;
 pub mod running;
+mod slot;
 
 pub use fault::GatewayFault;
 pub use gateway_core::Gateway;

@@ -4,24 +4,23 @@
 //! a group. `Gateway::offer` has the answer held behind them (`hold`), and a flush writes the `group` and lets all of it
 //! go (`release`).
 //!
-//! `Gateway::pass` has a copy of the packet held (`hold_copy`), in memory that it asks for first (`take_body`). A
-//! settlement lets the answers go (`let_go`), and the memory of their packets is kept for others (`keep_body`).
-ghost use Rattle.std.specs.Prelude.{◌≡◌, ◌≢◌, ◌↔◌, ◌+◌, ◌*◌, ◌<◌, ◌≤◌, ◌^◌, ◌++◌, ◌∷◌, [], length, IfOk, IfSome, IfNone, OnOk, IsTrue, vec_len, vec_capacity};
+//! `Gateway::pass` has a copy of the packet held (`hold_copy`), in a slot that stands ready since `reserve`. A settlement
+//! lets the answers go (`let_go`), and their slots hold others. Where answers are handed out, or one comes that isn't
+//! copied, those in slots are made into such as the others (`move_out`).
+ghost use Rattle.std.specs.Prelude.{◌≡◌, ◌≢◌, ◌↔◌, ◌+◌, ◌*◌, ◌<◌, ◌≤◌, ◌^◌, ◌++◌, ◌∷◌, [], length, take, drop, IfOk, IfSome, IfNone, OnOk, IsTrue, vec_len, vec_capacity};
 ghost use Rattle.durable.specs.Coding.{IsEntry, AreEntries, entry_bytes, body_bytes};
 ghost use Rattle.durable.specs.Viewing.{view};
 ghost use Rattle.machine.specs.Fates.{answer_of};
 
+use crate::slot::Slot;
 use durable::{END_LEN, Entry, begin_code, end_code, load_front, restart_code, seen_code};
 use journal::{Group, LIMIT};
-use machine::{Answer, Bytes, Fate, Iface, Notes, StepFault};
+use machine::{Answer, Fate, Notes, StepFault};
 use std::alloc::{AllocError, Global};
 use std::marker::Model;
 
 /// The most answers that a gateway holds.
 pub const MOST_HELD: usize = 64;
-
-/// The longest packet of which a copy is held, so that the memory that is kept for copies stays bounded.
-pub(crate) const LONGEST_COPY: usize = 2048;
 
 /// The bytes around the entries of a group: its gate and its length before them, and a closed gate behind.
 const AROUND: u64 = 6;
@@ -31,30 +30,33 @@ const AROUND: u64 = 6;
 pub(crate) struct Pending {
     alloc: Global,
     held: Vec<(u64, Answer)>,
+    /// Answers that are held behind these, and behind them slots for others.
+    slots: Vec<Slot>,
+    /// How many of the slots hold an answer.
+    used: usize,
     group: Group,
     /// The place of the closed gate behind the groups of the active file, over which the group's own gate will stand.
     place: u64,
     /// How many more bytes of entries find room.
     room: u64,
-    /// Answers that were let go: memory for the copies of packets. What lies in it means nothing.
-    spare: Vec<(u64, Answer)>,
 }
 
 impl Model for Pending {
     ghost use Rattle.std.specs.Prelude.{vec_capacity};
-    ghost use Rattle.gateway.specs.HeldAnswers.{HeldAnswers, IsPending, entries_in};
+    ghost use Rattle.gateway.specs.HeldAnswers.{HeldAnswers, IsPending, HasSlots, entries_in, held_in};
 
     ghost Value = { HeldAnswers };
 
     ghost view = { λ p. record {
-      held = p.held.items;
+      held = held_in p.held.items p.slots.items p.used;
       entries = entries_in p.group.body;
       place = p.place;
       room = p.room;
     } };
 
-    ghost invariant = { λ p. IsPending p.group.body p.group.room (vec_capacity p.held) p.held.items
-        p.place p.room };
+    ghost invariant = { λ p. IsPending p.group.body p.group.room (vec_capacity p.held)
+        (held_in p.held.items p.slots.items p.used) p.place p.room
+        × HasSlots p.group.body p.room p.held.items p.slots.items p.used };
 }
 
 impl Pending {
@@ -75,10 +77,11 @@ impl Pending {
         Ok(Pending {
             alloc,
             held: Vec::new(alloc),
+            slots: Vec::new(alloc),
+            used: 0,
             group,
             place,
             room: 0,
-            spare: Vec::new(alloc),
         })
     }
 
@@ -87,7 +90,7 @@ impl Pending {
         ensures value { result ≡ length self.now.held }
         ensures few { result ≤ 64 }
     {
-        self.held.as_slice().len()
+        self.held.len() + self.used
     }
 
     /// Whether no entry waits.
@@ -117,51 +120,23 @@ impl Pending {
         ensures entries { self.new.entries ≡ self.old.entries }
         ensures place { self.new.place ≡ self.old.place }
     {
+        move_out(&mut self.held, &mut self.slots, self.used);
+        self.used = 0;
         push(&mut self.held, number, answer);
     }
 
-    /// Holds the answer to a packet behind the others, with a copy of it where it leaves. The body is empty, and has
-    /// room for it. Some entry waits, so there is room for the answer.
+    /// Holds the answer to a packet behind the others, with a copy of it. Some entry waits, so there is a slot for it.
     #[inline(always)]
-    pub(crate) fn hold_copy(&mut self, number: u64, fate: Fate, packet: &[u8], body: Vec<u8>)
+    pub(crate) fn hold_copy(&mut self, number: u64, fate: Fate, packet: &[u8])
         requires some { self.old.entries ≢ [] }
         requires few { length self.old.held < 64 }
         requires short { length packet.now ≤ 2048 }
-        requires empty { body.items ≡ [] }
-        requires room { length packet.now ≤ vec_capacity body }
         ensures held { self.new.held ≡ self.old.held ++ (number, answer_of fate packet.now) ∷ [] }
         ensures entries { self.new.entries ≡ self.old.entries }
         ensures place { self.new.place ≡ self.old.place }
     {
-        match fate {
-            Fate::Leaves(out) => self.hold(number, Answer::Forward(out, copy_of(packet, body))),
-            Fate::Dropped(cause) => {
-                self.keep_body(body);
-                self.hold(number, Answer::Dropped(cause));
-            }
-        }
-    }
-
-    /// An empty body with room for so many bytes; none where memory is refused.
-    pub(crate) fn take_body(&mut self, len: usize) -> Option<Vec<u8>>
-        ensures stays { self.new ≡ self.old }
-        ensures empty { IfSome result (λ body. body.items ≡ []) }
-        ensures room { IfSome result (λ body. len ≤ vec_capacity body) }
-    {
-        let mut body = body_of(self.spare.pop(), self.alloc);
-        body.clear();
-        if body.reserve_exact(len).is_err() {
-            return None;
-        }
-        Some(body)
-    }
-
-    /// Keeps the memory of an empty body for a packet to come.
-    pub(crate) fn keep_body(&mut self, body: Vec<u8>)
-        requires { body.items ≡ [] }
-        ensures { self.new ≡ self.old }
-    {
-        keep(&mut self.spare, body);
+        self.slots[self.used].put(number, fate, packet);
+        self.used += 1;
     }
 
     /// Gives the answers, and lets the entries go; the next group will stand at the place. It takes no memory.
@@ -172,16 +147,20 @@ impl Pending {
         self.room = 0;
         self.place = place;
         self.group.clear();
+        move_out(&mut self.held, &mut self.slots, self.used);
+        self.used = 0;
         std::mem::replace(&mut self.held, Vec::new(self.alloc))
     }
 
-    /// As `release`, but the answers are let go, and the memory of their packets is kept for others.
+    /// As `release`, but the answers are let go, and their slots hold others.
     pub(crate) fn let_go(&mut self, place: u64)
         ensures { self.new ≡ record { held = []; entries = []; place = place; room = 0 } }
     {
-        let mut answers = self.release(place);
-        keep_all(&mut answers, &mut self.spare);
-        self.held = answers;
+        self.room = 0;
+        self.place = place;
+        self.group.clear();
+        self.held.clear();
+        self.used = 0;
     }
 }
 
@@ -205,7 +184,10 @@ impl Notes for Pending {
         let Some(bytes) = room_for(self.place, self.group.len() as u64, ends as u64, others) else {
             return Err(StepFault::Full);
         };
-        if make_all_slots(&mut self.held).is_err() || self.group.reserve(bytes as usize).is_err() {
+        if make_places(&mut self.held).is_err()
+            || make_slots(self.alloc, &mut self.slots).is_err()
+            || self.group.reserve(bytes as usize).is_err()
+        {
             return Err(StepFault::NoMemory);
         }
         self.room = bytes;
@@ -237,7 +219,7 @@ fn room_for(place: u64, waiting: u64, ends: u64, others: u64) -> Option<u64>
 }
 
 // Makes room for all answers that may be held.
-fn make_all_slots(held: &mut Vec<(u64, Answer)>) -> Result<(), AllocError>
+fn make_places(held: &mut Vec<(u64, Answer)>) -> Result<(), AllocError>
     ensures items { held.new.items ≡ held.old.items }
     ensures ok { OnOk result (64 ≤ vec_capacity held.new) }
     ensures capacity { vec_capacity held.old ≤ vec_capacity held.new }
@@ -256,43 +238,32 @@ fn push(held: &mut Vec<(u64, Answer)>, number: u64, answer: Answer)
     let _ = held.push((number, answer));
 }
 
-// The packet, copied into the body, which is empty and has room for it.
-fn copy_of(packet: &[u8], mut body: Vec<u8>) -> Bytes
-    requires short { length packet.now ≤ 2048 }
-    requires empty { body.items ≡ [] }
-    requires room { length packet.now ≤ vec_capacity body }
-    ensures { result ≡ packet.now }
+// Makes slots for all answers that may be held, behind those that there are.
+fn make_slots(alloc: Global, slots: &mut Vec<Slot>) -> Result<(), AllocError>
+    ensures ok { OnOk result (64 ≤ length slots.new.items) }
+    ensures kept { take (length slots.old.items) slots.new.items ≡ slots.old.items }
 {
-    let _ = body.extend_from_slice(packet);
-    Bytes::of(body)
+    for _ in slots.len()..MOST_HELD {
+        let slot = Slot::new(alloc)?;
+        if slots.push(slot).is_err() {
+            return Err(AllocError);
+        }
+    }
+    Ok(())
 }
 
-// The memory of an answer's packet, or none yet.
-#[inline(always)]
-fn body_of(spare: Option<(u64, Answer)>, alloc: Global) -> Vec<u8> {
-    match spare {
-        Some((_, Answer::Forward(_, packet))) => packet.into_vec(),
-        _ => Vec::new(alloc),
-    }
-}
-
-// Keeps the memory of an empty body, if there isn't much; a refusal of memory lets it go too.
-fn keep(spare: &mut Vec<(u64, Answer)>, body: Vec<u8>)
-    requires { body.items ≡ [] }
+// Makes the answers in the slots that are used into such as the others, and puts them behind these.
+fn move_out(held: &mut Vec<(u64, Answer)>, slots: &mut Vec<Slot>, used: usize)
+    requires within { used ≤ length slots.old.items }
+    requires room { length held.old.items + used ≤ vec_capacity held.old }
+    ensures held { held.new.items ≡ held.old.items ++ take used slots.old.items }
+    ensures slots { slots.new.items ≡ drop used slots.old.items }
+    ensures capacity { vec_capacity held.old ≤ vec_capacity held.new }
 {
-    if spare.len() < MOST_HELD {
-        let _ = spare.push((0, Answer::Forward(Iface::Lan, Bytes::of(body))));
+    for _ in 0..used {
+        let (number, answer) = slots.remove(0).into_answer();
+        push(held, number, answer);
     }
-}
-
-// Lets the answers go, and keeps the memory of their packets: all of it at once, without a look at each.
-fn keep_all(held: &mut Vec<(u64, Answer)>, spare: &mut Vec<(u64, Answer)>)
-    ensures { held.new.items ≡ [] }
-{
-    if spare.len() < MOST_HELD {
-        let _ = spare.append(held);
-    }
-    held.clear();
 }
 
 // Puts the bytes of an entry behind the others, for which there is room.

@@ -6,8 +6,8 @@ use Rattle.gateway.proofs.pending.Pending.is_quiet.Goals as goal
 
 pub returns-clause-value : goal.returns-clause-value
 returns-clause-value c = rw (← c.self.view_is) (
-  λ yes. none_where_empty c.self.inside.group.body c.self.invariant.entries c.self.invariant.coded c.self.invariant.are
+  λ yes. none_where_empty c.self.inside.group.body c.self.invariant.0.entries c.self.invariant.0.coded c.self.invariant.0.are
       (nil_from_length c.self.inside.group.body (eqb-true (length c.self.inside.group.body) 0 (sym c.is_empty.ensures ∙ yes))),
   λ none. c.is_empty.ensures ∙ ap (λ (l : List ℕ). nat_eq (length l) 0)
-      (empty_where_none c.self.inside.group.body c.self.invariant.entries c.self.invariant.coded c.self.invariant.are none),
+      (empty_where_none c.self.inside.group.body c.self.invariant.0.entries c.self.invariant.0.coded c.self.invariant.0.are none),
 )
