@@ -239,9 +239,26 @@ fn push(held: &mut Vec<(u64, Answer)>, number: u64, answer: Answer)
 }
 
 // Makes slots for all answers that may be held, behind those that there are.
+#[inline(always)]
 fn make_slots(alloc: Global, slots: &mut Vec<Slot>) -> Result<(), AllocError>
-    ensures ok { OnOk result (64 ≤ length slots.new.items) }
+    requires { length slots.old.items ≤ 64 }
+    ensures ok { OnOk result (length slots.new.items ≡ 64) }
     ensures kept { take (length slots.old.items) slots.new.items ≡ slots.old.items }
+    ensures most { length slots.new.items ≤ 64 }
+{
+    if slots.len() >= MOST_HELD {
+        return Ok(());
+    }
+    make_more_slots(alloc, slots)
+}
+
+// As `make_slots`, where there are too few.
+#[inline(never)]
+fn make_more_slots(alloc: Global, slots: &mut Vec<Slot>) -> Result<(), AllocError>
+    requires { length slots.old.items ≤ 64 }
+    ensures ok { OnOk result (length slots.new.items ≡ 64) }
+    ensures kept { take (length slots.old.items) slots.new.items ≡ slots.old.items }
+    ensures most { length slots.new.items ≤ 64 }
 {
     for _ in slots.len()..MOST_HELD {
         let slot = Slot::new(alloc)?;

@@ -123,6 +123,7 @@ pub fn forward<D: Disk + Drop>(
 /// others, but said, whether it is given at once or held. The moment is in seconds.
 ///
 /// `None` says nothing of the packet: it isn't taken, nothing has changed, and `take` tells what becomes of it.
+#[inline(always)]
 pub fn pass<D: Disk + Drop>(
     gateway: &mut Gateway<D>,
     moment: u64,

@@ -1,5 +1,5 @@
 //! A slot for one answer to a packet: memory that the copies of packets use one after the other.
-ghost use Rattle.std.specs.Prelude.{◌≡◌, ◌≤◌, length};
+ghost use Rattle.std.specs.Prelude.{◌≡◌, ◌≤◌, length, take};
 ghost use Rattle.machine.specs.Fates.{answer_of};
 
 use machine::{Answer, Bytes, Fate};
@@ -14,19 +14,22 @@ pub(crate) const LONGEST_COPY: usize = 2048;
 pub(crate) struct Slot {
     number: u64,
     fate: Fate,
-    packet: Vec<u8>,
+    /// How many bytes the packet has.
+    len: usize,
+    /// The packet, and behind it bytes that mean nothing.
+    bytes: Vec<u8>,
 }
 
 impl Model for Slot {
-    ghost use Rattle.std.specs.Prelude.{ℕ, ◌≤◌, length, vec_capacity};
+    ghost use Rattle.std.specs.Prelude.{◌≡◌, ℕ, ◌≤◌, length, take};
     ghost use Rattle.machine.specs.Fates.{answer_of};
     ghost use Rattle.machine.specs.declared.event.Answer.{Answer};
 
     ghost Value = { ℕ × Answer };
 
-    ghost view = { λ s. (s.number, answer_of s.fate s.packet.items) };
+    ghost view = { λ s. (s.number, answer_of s.fate (take s.len s.bytes.items)) };
 
-    ghost invariant = { λ s. (length s.packet.items ≤ 2048) × (2048 ≤ vec_capacity s.packet) };
+    ghost invariant = { λ s. (s.len ≤ 2048) × (length s.bytes.items ≡ 2048) };
 }
 
 impl Slot {
@@ -39,7 +42,8 @@ impl Slot {
         Ok(Slot {
             number: 0,
             fate: Fate::Dropped(0),
-            packet: Vec::with_capacity(alloc, LONGEST_COPY)?,
+            len: 0,
+            bytes: Vec::from_elem(alloc, 0, LONGEST_COPY)?,
         })
     }
 
@@ -51,8 +55,8 @@ impl Slot {
     {
         self.number = number;
         self.fate = fate;
-        self.packet.clear();
-        let _ = self.packet.extend_from_slice(packet);
+        self.len = packet.len();
+        copy_to_front(self.bytes.as_mut_slice(), packet);
     }
 
     /// The numbered answer, in the memory of the slot.
@@ -62,11 +66,25 @@ impl Slot {
         let Slot {
             number,
             fate,
-            packet,
+            len,
+            mut bytes,
         } = self;
         match fate {
-            Fate::Leaves(out) => (number, Answer::Forward(out, Bytes::of(packet))),
+            Fate::Leaves(out) => {
+                bytes.truncate(len);
+                (number, Answer::Forward(out, Bytes::of(bytes)))
+            }
             Fate::Dropped(cause) => (number, Answer::Dropped(cause)),
         }
     }
+}
+
+// Copies the packet over the first bytes.
+#[inline(always)]
+fn copy_to_front(bytes: &mut [u8], packet: &[u8])
+    requires { length packet.now ≤ length bytes.old }
+    ensures front { take (length packet.now) bytes.new ≡ packet.now }
+    ensures size { length bytes.new ≡ length bytes.old }
+{
+    bytes[..packet.len()].copy_from_slice(packet);
 }

@@ -20,6 +20,7 @@ invariant_of-self c =
           (let before = c.len-before.ensures in let after = c.len.ensures in omega (arith, before, after, long, le)),
       record {
         within = c.self.invariant.1.within;
+        most = c.self.invariant.1.most;
         enough = λ _. c.self.invariant.1.enough (inl (omega (arith, le, some)));
       },
     )
