@@ -88,6 +88,7 @@ fn write_front(front: &mut [u8], number: u64, fate: Fate, len: usize, held: bool
 
 /// Has the gateway take the packet of a request's frame, where it lies. Where it does, the first bytes become the frame
 /// of the answer, which is held or handed out; otherwise nothing has changed. The moment is in seconds.
+#[inline(always)]
 pub fn pass_frame<D: Disk + Drop>(
     bytes: &mut [u8],
     moment: u64,

@@ -309,9 +309,15 @@ fn passes_behind<D: Disk + Drop>(waiting: &mut Waiting, gateway: &mut Gateway<D>
     waiting.pass_next(gateway).is_some()
 }
 
-/// Where answers that are held stand in front, behind so many bytes, has a packet taken where it lies; before any other
-/// frame, and where no more answers can be held, they are synced. `None` where no answer that is held stands in front
-/// any more, and the frame at the front is still to be offered.
+/// Whether a whole frame stands at the front, whose answer may be held behind the others.
+fn joins<D: Disk + Drop>(waiting: &Waiting, gateway: &Gateway<D>) -> bool {
+    gateway.held() < MOST_HELD && waiting.has_frame()
+}
+
+/// Where answers that are held stand in front, behind so many bytes, has a packet taken where it lies. Before any other
+/// frame these answers no longer stand there: the gateway has them too, and hands them out with that of the frame. Where
+/// there is no whole frame, or no more answers can be held, they are synced. `None` where no answer that is held stands in
+/// front any more, and the frame at the front is still to be offered.
 fn offer_behind<D: Disk + Drop>(
     held: Option<usize>,
     waiting: &mut Waiting,
@@ -334,7 +340,7 @@ fn offer_behind<D: Disk + Drop>(
         × ((before : List (ℕ × Answer)) → CarriesOn D.honest D.moment D.left D.failed
         gateway.old gateway.new [] before (before ++ handed))) }
     ensures goes_on { IfNone result (gateway.new.fallen ≡ false) }
-    ensures settled { held ≢ None → IfNone result (gateway.new.told.held ≡ []) }
+    ensures few_left { held ≢ None → IfNone result (length gateway.new.told.held ≤ 64) }
     ensures unasked { held ≡ None → (result ≡ None) × (waiting.new ≡ waiting.old)
         × (gateway.new ≡ gateway.old) }
 {
@@ -343,6 +349,10 @@ fn offer_behind<D: Disk + Drop>(
     };
     if passes_behind(waiting, gateway) {
         return Some(Step::Took(false, Some(front)));
+    }
+    if joins(waiting, gateway) {
+        waiting.cut_answered(front);
+        return None;
     }
     match settle(gateway) {
         Ok(()) => None,

@@ -92,6 +92,14 @@ impl Waiting {
         &self.bytes.as_slice()[..self.answered]
     }
 
+    /// Whether a whole frame stands at the front.
+    pub fn has_frame(&self) -> bool {
+        match read_head(self.unanswered()) {
+            Head::Frame(_, _, len) => self.unanswered().len() >= REQUEST_HEAD + len as usize,
+            Head::Cut | Head::Bad(_) => false,
+        }
+    }
+
     /// Takes the first `count` bytes that wait away.
     pub fn skip(&mut self, count: usize)
         requires { count ≤ length self.old.unanswered }
@@ -172,6 +180,7 @@ impl Waiting {
 
     /// Has the gateway take the packet at the front, where a whole frame of one stands there. If it does, the frame of
     /// its answer stands behind the other answers, also where the answer is held; otherwise nothing has changed.
+    #[inline(always)]
     pub fn pass_next<D: Disk + Drop>(&mut self, gateway: &mut Gateway<D>) -> Option<Placed>
         requires stands { gateway.old.fallen ≡ false }
         ensures some { IfSome result (λ placed. (event : Event) × (answer : ℕ × Answer)
