@@ -472,6 +472,7 @@ impl<D: Disk + Drop> Gateway<D> {
 
     /// How many of these packets seem to be of sessions that are held, or of an inside endpoint that has a mapping. It
     /// says nothing of what is: whoever asks before they are offered waits once for the memory that they will need.
+    #[inline(never)]
     pub fn look_ahead(&self, coming: &[Coming; MOST_AHEAD]) -> usize {
         self.core.look_ahead(coming)
     }

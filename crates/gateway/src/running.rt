@@ -273,6 +273,7 @@ pub fn hand_out<D: Disk + Drop>(
 /// # Errors
 ///
 /// `Device`: a call of the disk has failed. The answers stay held.
+#[inline(never)]
 pub fn settle<D: Disk + Drop>(gateway: &mut Gateway<D>) -> Result<(), GatewayFault>
     requires stands { gateway.old.fallen ≡ false }
     ensures ok { OnOk result ((before : List (ℕ × Answered))

@@ -57,6 +57,7 @@ impl Ahead {
 }
 
 // Looks ahead for the whole frames at the front, 16 at most.
+#[inline(never)]
 fn look_ahead<D: Disk + Drop>(bytes: &[u8], gateway: &Gateway<D>) -> Ahead {
     if !gateway.is_wide() {
         return unasked(CLOSE_FRAMES);
