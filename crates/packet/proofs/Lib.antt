@@ -14,3 +14,4 @@ pub mod Names
 pub mod SameLemmas
 pub mod Routes
 pub mod Configs
+pub mod Controls
