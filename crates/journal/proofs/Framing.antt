@@ -3,7 +3,6 @@ use Rattle.std.proofs.Common.{◌≡◌, ℕ, ◌+◌, ◌-◌, ◌<◌, ◌≤�
 use Rattle.std.proofs.lemmas.List.{take_at, drop_at, take-take, drop-take, drop-append-le, take-append-le, length-take-le}
 use Rattle.byteorder.specs.Endian.{big_bytes}
 use Rattle.byteorder.specs.Numbers.{length-bytes_high_first}
-use Rattle.disk_model.specs.Disk.{put}
 use Rattle.journal.specs.Groups.{framed, body_of, IsFramed}
 use Rattle.journal.proofs.Behind.{length-framed}
 
@@ -33,22 +32,17 @@ sealed bytes count long is =
     ∙ ap (λ n. big_bytes 4 n ++ (body_of bytes ++ 0 ∷ [])) (is ∙ sym (length-body_of bytes long))
 
 -- an entry behind the body, where the 0 stood
-pub grown : (bytes entry : List ℕ) → 5 ≤ length bytes → body_of (put (length bytes - 1) entry (bytes ++ entry)) ≡ body_of bytes ++ entry
+pub grown : (bytes entry : List ℕ) → 5 ≤ length bytes → body_of (take (length bytes - 1) bytes ++ (entry ++ 0 ∷ [])) ≡ body_of bytes ++ entry
 grown bytes entry long =
-    let n = length bytes - 1 in
-    let rest = drop (n + length entry) (bytes ++ entry) in
-    let front = take n bytes in
-    let size : length front ≡ n = length-take-le n bytes (omega arith) in
-    let is : put n entry (bytes ++ entry) ≡ front ++ (entry ++ rest) =
-    ap (λ l. l ++ entry ++ rest) (take-append-le n bytes entry (omega arith)) ∙ append_assoc front entry rest in
-    let one : length rest ≡ 1 = omega (arith, long, length-drop (n + length entry) (bytes ++ entry), length-append bytes entry) in
-    let whole : length (front ++ (entry ++ rest)) ≡ length bytes + length entry = omega (arith, long, length-append front (entry ++ rest), length-append entry rest, size, one) in
-    let behind : drop 4 (front ++ (entry ++ rest)) ≡ (body_of bytes ++ entry) ++ rest =
-    drop-append-le 4 front (entry ++ rest) (omega (arith, size, long)) ∙ ap (λ l. l ++ (entry ++ rest)) (body_behind bytes long) ∙ sym (append_assoc (body_of bytes) entry rest) in
-    ap body_of is
-    ∙ ap (λ k. take (k - 5) (drop 4 (front ++ (entry ++ rest)))) whole
+    let front = take (length bytes - 1) bytes in
+    let all = front ++ (entry ++ 0 ∷ []) in
+    let size : length front ≡ length bytes - 1 = length-take-le (length bytes - 1) bytes (omega arith) in
+    let whole : length all ≡ length bytes + length entry = omega (arith, long, length-append front (entry ++ 0 ∷ []), length-append entry (0 ∷ []), size) in
+    let behind : drop 4 all ≡ (body_of bytes ++ entry) ++ 0 ∷ [] =
+    drop-append-le 4 front (entry ++ 0 ∷ []) (omega (arith, size, long)) ∙ ap (λ l. l ++ (entry ++ 0 ∷ [])) (body_behind bytes long) ∙ sym (append_assoc (body_of bytes) entry (0 ∷ [])) in
+    ap (λ k. take (k - 5) (drop 4 all)) whole
     ∙ ap (λ l. take (length bytes + length entry - 5) l) behind
-    ∙ take_at (body_of bytes ++ entry) rest (length bytes + length entry - 5) (omega (arith, long, length-append (body_of bytes) entry, length-body_of bytes long))
+    ∙ take_at (body_of bytes ++ entry) (0 ∷ []) (length bytes + length entry - 5) (omega (arith, long, length-append (body_of bytes) entry, length-body_of bytes long))
 
 -- the first bytes of the body
 pub cut : (bytes : List ℕ) (n : ℕ) → n + 5 ≤ length bytes → body_of (take (n + 5) bytes) ≡ take n (body_of bytes)

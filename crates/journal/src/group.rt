@@ -1,7 +1,6 @@
 //! The buffer in which the body of a group grows.
 ghost use Rattle.std.specs.Prelude.{◌≡◌, ◌+◌, ◌-◌, ◌<◌, ◌≤◌, ◌^◌, [], ◌∷◌, ◌++◌, length, take, drop, IfOk, OnOk, OnErr, IsOk, nat_eq, vec_capacity};
 ghost use Rattle.byteorder.specs.Endian.{big_bytes};
-ghost use Rattle.disk_model.specs.Disk.{put};
 ghost use Rattle.journal.specs.Groups.{body_of, framed, IsFramed};
 
 use byteorder::{BigEndian, ByteOrder};
@@ -135,27 +134,23 @@ fn grow(bytes: &mut Vec<u8>, entry: &[u8]) -> Result<(), AllocError>
     ensures capacity { vec_capacity bytes.old ≤ vec_capacity bytes.new }
     ensures len { OnOk result (length bytes.new.items ≡ length bytes.old.items + length entry.now) }
 {
-    let end = bytes.len() - 1;
-    bytes.extend_from_slice(entry)?;
-    put_and_seal(bytes, end, entry);
+    bytes.reserve(entry.len())?;
+    put_before_last(bytes, entry);
+    seal(bytes);
     Ok(())
 }
 
-fn put_and_seal(bytes: &mut [u8], end: usize, entry: &[u8])
-    requires end { end + 1 + length entry.now ≡ length bytes.old }
-    requires framed { 4 ≤ end }
-    requires fits { length bytes.old < 2 ^ 32 + 5 }
-    ensures { bytes.new ≡ framed (body_of (put end entry.now bytes.old)) }
+// Puts bytes, for which there is room, in front of the last one, which becomes 00.
+fn put_before_last(bytes: &mut Vec<u8>, entry: &[u8])
+    requires some { 1 ≤ length bytes.old.items }
+    requires room { length bytes.old.items + length entry.now ≤ vec_capacity bytes.old }
+    ensures items { bytes.new.items
+        ≡ take (length bytes.old.items - 1) bytes.old.items ++ (entry.now ++ 0 ∷ []) }
+    ensures capacity { vec_capacity bytes.old ≤ vec_capacity bytes.new }
 {
-    overwrite(bytes, end, entry);
-    seal(bytes);
-}
-
-fn overwrite(bytes: &mut [u8], at: usize, entry: &[u8])
-    requires { at + length entry.now ≤ length bytes.old }
-    ensures { bytes.new ≡ put at entry.now bytes.old }
-{
-    bytes[at..at + entry.len()].copy_from_slice(entry);
+    bytes.truncate(bytes.len() - 1);
+    let _ = bytes.extend_from_slice(entry);
+    let _ = bytes.push(0);
 }
 
 // Writes the length before the body, and the 00 behind it.
