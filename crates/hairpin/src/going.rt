@@ -144,13 +144,8 @@ fn glanced_out(table: &Table, view: &View) -> Option<Held>
     ensures slot { IfSome result (λ h. at table.now h.slot ≡ Some h.session) }
 {
     table.is_sound();
-    match table.glance_inside(view.proto, view.src, view.dst) {
-        Some(slot) => match table.get(slot) {
-            Some(session) => Some(Held { slot, session }),
-            None => None,
-        },
-        None => None,
-    }
+    let (slot, session) = table.glance_inside(view.proto, view.src, view.dst)?;
+    Some(Held { slot, session })
 }
 
 // The session of a packet from outside, where the first look tells it.
@@ -162,13 +157,8 @@ fn glanced_in(table: &Table, view: &View) -> Option<Held>
     ensures slot { IfSome result (λ h. at table.now h.slot ≡ Some h.session) }
 {
     table.is_sound();
-    match table.glance_outside(view.proto, view.dst, view.src) {
-        Some(slot) => match table.get(slot) {
-            Some(session) => Some(Held { slot, session }),
-            None => None,
-        },
-        None => None,
-    }
+    let (slot, session) = table.glance_outside(view.proto, view.dst, view.src)?;
+    Some(Held { slot, session })
 }
 
 // What a packet from this side shows of a session that it doesn't begin anew.

@@ -154,21 +154,22 @@ fn take(row: &mut Rows, name: Option<u128>)
     }
 }
 
-/// The slot of the session of this protocol, inside and remote endpoint, if it is the one that is guessed.
+/// The session of this protocol, inside and remote endpoint, and its slot, if it is the one that is guessed.
 pub fn guess_inside(
     sessions: &Slab<Session>,
     index: &Index,
     proto: Proto,
     inside: Endpoint,
     remote: Endpoint,
-) -> Option<usize>
-    ensures { IfSome result (IsAt sessions.now.slots (HasInside proto inside remote)) }
+) -> Option<(usize, Session)>
+    ensures held { IfSome result (λ it. slice_index_or sessions.now.slots it.0 None ≡ Some it.1) }
+    ensures session { IfSome result (λ it. HasInside proto inside remote it.1) }
 {
     let slot = index.hints.guess(proto, inside.port, remote);
-    if is_inside(sessions, slot, proto, inside, remote) {
-        return Some(slot);
+    match sessions.get(slot) {
+        Some(session) if session.has_inside(proto, inside, remote) => Some((slot, *session)),
+        _ => None,
     }
-    None
 }
 
 /// The slot of the session of this protocol, inside and remote endpoint.
@@ -210,21 +211,22 @@ fn seek_inside(
     find_untranslated(&index.untranslated, proto, inside, remote)
 }
 
-/// The slot of the session of this protocol, outside and remote endpoint, if it is the one that is guessed.
+/// The session of this protocol, outside and remote endpoint, and its slot, if it is the one that is guessed.
 pub fn guess_outside(
     sessions: &Slab<Session>,
     index: &Index,
     proto: Proto,
     outside: Endpoint,
     remote: Endpoint,
-) -> Option<usize>
-    ensures { IfSome result (IsAt sessions.now.slots (HasOutside proto outside remote)) }
+) -> Option<(usize, Session)>
+    ensures held { IfSome result (λ it. slice_index_or sessions.now.slots it.0 None ≡ Some it.1) }
+    ensures session { IfSome result (λ it. HasOutside proto outside remote it.1) }
 {
     let slot = index.hints.guess(proto, outside.port, remote);
-    if is_outside(sessions, slot, proto, outside, remote) {
-        return Some(slot);
+    match sessions.get(slot) {
+        Some(session) if session.has_outside(proto, outside, remote) => Some((slot, *session)),
+        _ => None,
     }
-    None
 }
 
 /// The slot of the session of this protocol, outside and remote endpoint.

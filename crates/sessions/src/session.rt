@@ -3,7 +3,7 @@ ghost use Rattle.std.specs.Prelude.{◌≡◌, ◌≢◌, ◌↔◌, IfSome, IfN
 ghost use Rattle.sessions.specs.Life.{opener_code};
 ghost use Rattle.sessions.specs.Listing.{breaks_mapping as are_breaking, is_translated, key, order};
 ghost use Rattle.sessions.specs.Sound.{IsPlaced};
-ghost use Rattle.sessions.specs.Table.{Clash};
+ghost use Rattle.sessions.specs.Table.{Clash, HasInside, HasOutside};
 
 use crate::table::Slot;
 use packet::bounds::Bounds;
@@ -72,6 +72,20 @@ impl Session {
         ensures { result ≡ is_translated self.now }
     {
         self.inside != self.outside
+    }
+
+    /// Whether it has this protocol, inside and remote endpoint.
+    pub fn has_inside(&self, proto: Proto, inside: Endpoint, remote: Endpoint) -> bool
+        ensures { IsTrue result ↔ HasInside proto inside remote self.now }
+    {
+        self.proto == proto && self.inside == inside && self.remote == remote
+    }
+
+    /// Whether it has this protocol, outside and remote endpoint.
+    pub fn has_outside(&self, proto: Proto, outside: Endpoint, remote: Endpoint) -> bool
+        ensures { IsTrue result ↔ HasOutside proto outside remote self.now }
+    {
+        self.proto == proto && self.outside == outside && self.remote == remote
     }
 
     /// Whether a gateway between these bounds may hold the session: its inside endpoint is inside, its

@@ -181,23 +181,33 @@ impl Table {
         mapped_outside(&self.sessions, &self.index, proto, inside)
     }
 
-    /// The slot of the session of this protocol, inside and remote endpoint, where the first look tells it. `None`
+    /// The session of this protocol, inside and remote endpoint, and its slot, where the first look tells it. `None`
     /// says nothing of whether it is held. However many sessions are held, this reads two places of memory.
-    pub fn glance_inside(&self, proto: Proto, inside: Endpoint, remote: Endpoint) -> Option<Slot>
-        ensures { IfSome result (λ slot. IsSomeAnd (at self.now slot)
-            (HasInside proto inside remote)) }
+    pub fn glance_inside(
+        &self,
+        proto: Proto,
+        inside: Endpoint,
+        remote: Endpoint,
+    ) -> Option<(Slot, Session)>
+        ensures held { IfSome result (λ it. at self.now it.0 ≡ Some it.1) }
+        ensures session { IfSome result (λ it. HasInside proto inside remote it.1) }
     {
-        let slot = guess_inside(&self.sessions, &self.index, proto, inside, remote)?;
-        Some(Slot(slot))
+        let (slot, session) = guess_inside(&self.sessions, &self.index, proto, inside, remote)?;
+        Some((Slot(slot), session))
     }
 
     /// As `glance_inside`, of the session of this protocol, outside and remote endpoint.
-    pub fn glance_outside(&self, proto: Proto, outside: Endpoint, remote: Endpoint) -> Option<Slot>
-        ensures { IfSome result (λ slot. IsSomeAnd (at self.now slot)
-            (HasOutside proto outside remote)) }
+    pub fn glance_outside(
+        &self,
+        proto: Proto,
+        outside: Endpoint,
+        remote: Endpoint,
+    ) -> Option<(Slot, Session)>
+        ensures held { IfSome result (λ it. at self.now it.0 ≡ Some it.1) }
+        ensures session { IfSome result (λ it. HasOutside proto outside remote it.1) }
     {
-        let slot = guess_outside(&self.sessions, &self.index, proto, outside, remote)?;
-        Some(Slot(slot))
+        let (slot, session) = guess_outside(&self.sessions, &self.index, proto, outside, remote)?;
+        Some((Slot(slot), session))
     }
 
     /// The numbers of the slots that seem to hold the sessions of these packets, each where its packet stands, and

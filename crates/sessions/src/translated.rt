@@ -344,7 +344,7 @@ pub fn is_inside(
     ensures { IsTrue result ↔ IsAt sessions.now.slots (HasInside proto inside remote) slot }
 {
     match sessions.get(slot) {
-        Some(held) => held.proto == proto && held.inside == inside && held.remote == remote,
+        Some(held) => held.has_inside(proto, inside, remote),
         None => false,
     }
 }
@@ -360,7 +360,7 @@ pub fn is_outside(
     ensures { IsTrue result ↔ IsAt sessions.now.slots (HasOutside proto outside remote) slot }
 {
     match sessions.get(slot) {
-        Some(held) => held.proto == proto && held.outside == outside && held.remote == remote,
+        Some(held) => held.has_outside(proto, outside, remote),
         None => false,
     }
 }
