@@ -32,7 +32,7 @@ ghost use Rattle.machine.specs.Flows.{IsDue, IsLatest, IsReady, MayJoin, adds as
 use crate::ahead::{count_ending, count_mapped};
 use crate::notes::{MOST_OF_PACKET, Notes, StepFault};
 use crate::noting::{
-    adds_any, entry_for, flow_of, make_room_to_note, makes_entry, note, plan_makes_entry,
+    adds_any, entry_for, flow_of, make_room_for_packet, makes_entry, note, plan_makes_entry,
 };
 use durable::Entry;
 use hairpin::translations::Translations;
@@ -377,6 +377,36 @@ impl Flows {
             self.apply(change, now);
             return;
         }
+        self.apply_and_note(change, now, notes);
+    }
+
+    /// As `apply_noted`, of a change that makes an entry.
+    #[inline(always)]
+    fn apply_and_note<N: Notes>(&mut self, change: &Change, now: u64, notes: &mut N)
+        requires latest { IsLatest self.old.table.held now }
+        requires gives { (t : Flow)
+            × Gives self.old.translations.external self.old.table.held now change.now t
+            × (N.keeps notes.old → bytes_of (noted (listing self.old.table.held) t)
+            ≤ N.room notes.old) }
+        requires ready { 0 < adds_by change.now → IsReady 1 self.old }
+        ensures became { (t : Flow)
+            → Gives self.old.translations.external self.old.table.held now change.now t
+            → Became self.old.table.held change.now t self.new.table.held }
+        ensures latest { IsLatest self.new.table.held now }
+        ensures ready { (n : ℕ) → IsReady (n + adds_by change.now) self.old → IsReady n self.new }
+        ensures external { self.new.translations.external ≡ self.old.translations.external }
+        ensures keeps { N.keeps notes.old ↔ N.keeps notes.new }
+        ensures beside { N.beside notes.new ≡ N.beside notes.old }
+        ensures noted { (t : Flow)
+            → Gives self.old.translations.external self.old.table.held now change.now t
+            → N.keeps notes.old
+            → N.noted notes.new ≡ N.noted notes.old ++ noted (listing self.old.table.held) t }
+        ensures room { (t : Flow)
+            → Gives self.old.translations.external self.old.table.held now change.now t
+            → N.keeps notes.old
+            → N.room notes.old ≤ N.room notes.new
+            + bytes_of (noted (listing self.old.table.held) t) }
+    {
         let entry = entry_for(&self.table, change);
         self.apply(change, now);
         note(notes, entry);
@@ -559,13 +589,13 @@ impl Flows {
             → noted_all ts (listing self.old.table.held) ≡ [] → IsOk result }
     {
         let change = Change::Seen(going.slot, going.bits);
-        match make_room_to_note(&self.table, ready, &change, notes) {
-            Ok(()) => {
-                self.apply_noted(&change, now, notes);
-                Ok(())
-            }
-            Err(fault) => Err(fault),
+        if !makes_entry(&self.table, &change) {
+            self.apply(&change, now);
+            return Ok(());
         }
+        make_room_for_packet(ready, notes)?;
+        self.apply_and_note(&change, now, notes);
+        Ok(())
     }
 
     /// A packet passed whose session goes on, at the second `now`, and that shows nothing new of it.

@@ -1,7 +1,7 @@
 //! The entries by which a change of a session is noted, or a plan of one or two changes.
 //!
 //! - Of a change: whether it makes an entry (`makes_entry`), which (`entry_for`, `between`), room for it
-//!   (`make_room_to_note`), and that it is noted (`note`).
+//!   (`make_room_for_packet`), and that it is noted (`note`).
 //! - Of a plan: whether it makes one (`plan_makes_entry`), and whether it adds a session (`adds_any`), which it needs room
 //!   for beside.
 ghost use Rattle.std.specs.Prelude.{◌≡◌, ◌≢◌, ◌↔◌, ◌+◌, ◌<◌, ◌≤◌, ◌++◌, [], ℕ, List, IsErrOf, IsOk, IsTrue, OnOk};
@@ -103,25 +103,15 @@ pub fn makes_entry(table: &Table, change: &Change) -> bool
     }
 }
 
-/// Makes room for the entry of a change, if it makes one; the table is that before the change. `ready` says that there
-/// is room already.
+/// Makes room for the entries of a packet, which are 44 bytes at most; `ready` says that there is room already.
 ///
 /// # Errors
 ///
 /// `Full` only where 44 bytes of entries don't fit; `NoMemory` only where they do, and memory is refused. What is noted
 /// stays.
-pub fn make_room_to_note<N: Notes>(
-    table: &Table,
-    ready: bool,
-    change: &Change,
-    notes: &mut N,
-) -> Result<(), StepFault>
-    requires gives { (external now : ℕ) × (t : Flowing)
-        × Gives external table.now.held now change.now t }
+pub fn make_room_for_packet<N: Notes>(ready: bool, notes: &mut N) -> Result<(), StepFault>
     requires room { IsTrue ready → N.keeps notes.old → 44 ≤ N.room notes.old }
-    ensures room { OnOk result ((external now : ℕ) (t : Flowing)
-        → Gives external table.now.held now change.now t
-        → N.keeps notes.old → bytes_of (noted (listing table.now.held) t) ≤ N.room notes.new) }
+    ensures room { OnOk result (N.keeps notes.old → 44 ≤ N.room notes.new) }
     ensures keeps { N.keeps notes.old ↔ N.keeps notes.new }
     ensures beside { N.beside notes.new ≡ N.beside notes.old }
     ensures noted { N.noted notes.new ≡ N.noted notes.old }
@@ -129,14 +119,8 @@ pub fn make_room_to_note<N: Notes>(
     ensures no_memory { IsErrOf result StepFault.NoMemory → ¬ N.too_many notes.old 44 }
     ensures succeeds { IsTrue ready → IsOk result }
     ensures grants { N.grants notes.old → IsOk result }
-    ensures quiet { (external now : ℕ) (t : Flowing)
-        → Gives external table.now.held now change.now t
-        → noted (listing table.now.held) t ≡ [] → IsOk result }
 {
     if ready {
-        return Ok(());
-    }
-    if !makes_entry(table, change) {
         return Ok(());
     }
     notes.reserve(0, MOST_OF_PACKET)

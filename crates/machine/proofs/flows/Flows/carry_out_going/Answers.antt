@@ -1,22 +1,33 @@
-use Rattle.std.proofs.Common.{[], sym, ap, ◌∙◌}
-use Rattle.sessions.specs.Listing.{listing}
+use Rattle.std.proofs.Common.{◌≡◌, ◌++◌, [], ap, sym, ◌∙◌, arith}
+use Rattle.std.proofs.lemmas.Bool.{false≢true}
+use Rattle.std.proofs.lemmas.List.{append-nil}
+use Rattle.sessions.specs.Listing.{find, listing, same_flow}
 use Rattle.machine.specs.Noted.{noted, noted_all}
-use Rattle.machine.proofs.Telling.{nil-before}
+use Rattle.machine.proofs.Costs.{noted-few}
+use Rattle.machine.proofs.Telling.{nil-before, nil-unless}
 use Rattle.machine.proofs.flows.Flows.carry_out_going.Goals as goal
 
-pub make_room_to_note-requires-clause-gives : goal.make_room_to_note-requires-clause-gives
-make_room_to_note-requires-clause-gives g c =
+pub makes_entry-requires : goal.makes_entry-requires
+makes_entry-requires g c =
     let give = rw (← c.self.view_is) at c.requires.give.1 in
     (c.self.inside.translations.external, c.args.now, give.0, give.1)
 
-pub apply_noted-requires-clause-gives : goal.apply_noted-requires-clause-gives
-apply_noted-requires-clause-gives g c =
-    rw (← c.self.view_is) (
-    let give = rw (← c.self.view_is) at c.requires.give.1 in
-    (give.0, give.1, λ keeps. c.in-Ok.ensures.room c.self.inside.translations.external c.args.now give.0 give.1 (c.make_room_to_note.ensures.keeps.1 keeps)))
+pub returns-then-not-makes_entry-clause-noted : goal.returns-then-not-makes_entry-clause-noted
+returns-then-not-makes_entry-clause-noted g c = rw (← c.self.view_is) (λ ts all keeps.
+    let sessions = listing c.self.inside.table.held in
+    let before = g.N.Notes.noted c.args.notes.now in
+    let none : noted sessions all.0 ≡ [] = nil-unless (noted sessions all.0)
+    (λ away. false≢true (sym c.if-not-makes_entry.true ∙ (c.makes_entry.ensures c.self.inside.translations.external c.args.now all.0 all.1).1 away)) in
+    sym (append-nil before) ∙ ap (λ es. before ++ es) (sym (ap (λ us. noted_all us sessions) all.2 ∙ append-nil (noted sessions all.0) ∙ none)))
 
-pub returns-in-Err-clause-quiet : goal.returns-in-Err-clause-quiet
-returns-in-Err-clause-quiet g c = rw (← c.self.view_is) (λ ts all none.
-    let held = c.self.inside.table.held in
-    let nil = nil-before (noted (listing held) all.0) [] (sym (ap (λ us. noted_all us (listing held)) all.2) ∙ none) in
-    c.in-Err.ensures.quiet c.self.inside.translations.external c.args.now all.0 all.1 nil)
+pub returns-in_err-make_room_for_packet-clause-quiet : goal.returns-in_err-make_room_for_packet-clause-quiet
+returns-in_err-make_room_for_packet-clause-quiet g c = rw (← c.self.view_is) (λ ts all none.
+    let sessions = listing c.self.inside.table.held in
+    let nil = nil-before (noted sessions all.0) [] (sym (ap (λ us. noted_all us sessions) all.2) ∙ none) in
+    absurd ((c.makes_entry.ensures c.self.inside.translations.external c.args.now all.0 all.1).0 c.if-not-makes_entry.false nil))
+
+pub apply_and_note-requires-clause-gives : goal.apply_and_note-requires-clause-gives
+apply_and_note-requires-clause-gives g c = rw (← c.self.view_is) (
+    let give = rw (← c.self.view_is) at c.requires.give.1 in
+    let sessions = listing c.self.inside.table.held in
+    (give.0, give.1, λ keeps. omega (arith, noted-few (find (same_flow give.0) sessions) give.0, c.in_ok-make_room_for_packet.ensures.room (c.make_room_for_packet.ensures.keeps.1 keeps))))
