@@ -26,4 +26,5 @@ pub use machine::{
     Answer, Bytes, Cause, Coming, Event, Fate, Iface, MOST_AHEAD, NoMemory, Session, What,
 };
 pub use pending::MOST_HELD;
+pub use slot::LONGEST_COPY;
 pub use snapshot::OpenFault;

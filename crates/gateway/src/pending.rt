@@ -180,6 +180,7 @@ impl Notes for Pending {
 
     ghost too_many = { λ p bytes. 67108864 < p.place + length (body_bytes p.entries) + bytes + 6 };
 
+    #[inline(always)]
     fn reserve(&mut self, ends: usize, others: u64) -> Result<(), StepFault> {
         let Some(bytes) = room_for(self.place, self.group.len() as u64, ends as u64, others) else {
             return Err(StepFault::Full);
