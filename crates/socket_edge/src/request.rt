@@ -11,6 +11,9 @@ use std::alloc::{AllocError, Global};
 /// The bytes of a request's frame before its body.
 pub const REQUEST_HEAD: usize = 14;
 
+/// The most bytes of a packet.
+pub const LONGEST_PACKET: usize = 65_535;
+
 /// What a request's kind and interface announce.
 #[derive(Clone, Copy, Drop)]
 pub enum Kind {
@@ -85,10 +88,19 @@ fn longest_of(kind: Kind) -> u32
     ensures { result ≡ longest kind }
 {
     match kind {
-        Kind::Packet(_) => 65_535,
+        Kind::Packet(_) => LONGEST_PACKET as u32,
         Kind::Load => GREATEST_LENGTH as u32,
         Kind::Moment => 0,
     }
+}
+
+/// Whether a header at the front announces a packet of at most so many bytes. Where it doesn't, no more of it needs to be
+/// read to tell that.
+#[inline(always)]
+pub fn announces_packet(bytes: &[u8], most: usize) -> bool {
+    bytes.len() >= REQUEST_HEAD
+        && bytes[0] == 1
+        && BigEndian::read_u32(&bytes[2..]) as usize <= most
 }
 
 /// The header at the front, tested once its 14 bytes are there.

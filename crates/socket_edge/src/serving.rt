@@ -4,9 +4,9 @@
 //! - `empty_for`: the answers of the read before are let go, and their memory is kept for bodies (`keep_bodies`);
 //! - `offer_all`: frame after frame is offered, until a `Halt`. `offer_next` has a packet taken where it lies
 //!   (`Waiting::forward_next` and `pass_next`), behind others whose answers are held (`offer_behind`) until these are
-//!   synced (`gateway::running::settle`), or where none are (`offer_idle`). Of any other frame a copy is offered:
-//!   `offer_copy` takes it (`request::take_frame`), and `offer_event` hands its event to `gateway::running::take`. What
-//!   is answered goes back into the bytes (`put_back`);
+//!   synced (`gateway::running::settle`), or where none are (`offer_idle`). Of any other frame a copy is offered, before
+//!   which the frames of held answers make way (`make_way`): `offer_copy` takes it (`request::take_frame`), and
+//!   `offer_event` hands its event to `gateway::running::take`. What is answered goes back into the bytes (`put_back`);
 //! - `close`: what is held is synced and handed out (`give_held`, by `gateway::running::hand_out`) and put back too, and
 //!   `end_at` says what the halt means for the run. Then `edge` writes the answers (`sending::send_behind`);
 //! - `tidy`: a file that has grown is made short (`gateway::running::compact`).
@@ -309,15 +309,9 @@ fn passes_behind<D: Disk + Drop>(waiting: &mut Waiting, gateway: &mut Gateway<D>
     waiting.pass_next(gateway).is_some()
 }
 
-/// Whether a whole frame stands at the front, whose answer may be held behind the others.
-fn joins<D: Disk + Drop>(waiting: &Waiting, gateway: &Gateway<D>) -> bool {
-    gateway.held() < MOST_HELD && waiting.has_frame()
-}
-
-/// Where answers that are held stand in front, behind so many bytes, has a packet taken where it lies. Before any other
-/// frame these answers no longer stand there: the gateway has them too, and hands them out with that of the frame. Where
-/// there is no whole frame, or no more answers can be held, they are synced. `None` where no answer that is held stands in
-/// front any more, and the frame at the front is still to be offered.
+/// Where answers that are held stand in front, behind so many bytes, has a packet taken where it lies; before any other
+/// frame, and where no more answers can be held, they are synced. `None` where no answer that is held stands in front
+/// any more, and the frame at the front is still to be offered.
 fn offer_behind<D: Disk + Drop>(
     held: Option<usize>,
     waiting: &mut Waiting,
@@ -340,7 +334,7 @@ fn offer_behind<D: Disk + Drop>(
         × ((before : List (ℕ × Answer)) → CarriesOn D.honest D.moment D.left D.failed
         gateway.old gateway.new [] before (before ++ handed))) }
     ensures goes_on { IfNone result (gateway.new.fallen ≡ false) }
-    ensures few_left { held ≢ None → IfNone result (length gateway.new.told.held ≤ 64) }
+    ensures settled { held ≢ None → IfNone result (gateway.new.told.held ≡ []) }
     ensures unasked { held ≡ None → (result ≡ None) × (waiting.new ≡ waiting.old)
         × (gateway.new ≡ gateway.old) }
 {
@@ -350,10 +344,6 @@ fn offer_behind<D: Disk + Drop>(
     if passes_behind(waiting, gateway) {
         return Some(Step::Took(false, Some(front)));
     }
-    if joins(waiting, gateway) {
-        waiting.cut_answered(front);
-        return None;
-    }
     match settle(gateway) {
         Ok(()) => None,
         Err(fault) => {
@@ -361,6 +351,32 @@ fn offer_behind<D: Disk + Drop>(
             Some(Step::Ends(Halt::Refused(fault)))
         }
     }
+}
+
+/// Where answers that are held stand in front, behind so many bytes, and a frame comes that is never taken where it lies,
+/// lets their frames go, unless no more can be held: the gateway has the answers too, and hands them out with that of the
+/// frame, so that they needn't be synced before it. Says behind how many bytes such answers stand then, if there are any.
+#[inline(always)]
+fn make_way<D: Disk + Drop>(
+    held: Option<usize>,
+    waiting: &mut Waiting,
+    gateway: &Gateway<D>,
+) -> Option<usize>
+    requires held { AreHeld held waiting.old.answered gateway.now.told.held }
+    ensures held { AreHeld result waiting.new.answered gateway.now.told.held }
+    ensures released { released result waiting.new.answered
+        ≡ released held waiting.old.answered }
+    ensures rest { waiting.new.unanswered ≡ waiting.old.unanswered }
+    ensures some { result ≢ None → held ≢ None }
+{
+    let Some(front) = held else {
+        return None;
+    };
+    if waiting.wants_copy() && gateway.held() < MOST_HELD {
+        waiting.cut_answered(front);
+        return None;
+    }
+    held
 }
 
 /// Offers the frame at the front, behind answers that are held, if such stand in front, behind so many bytes.
@@ -389,6 +405,7 @@ fn offer_next<D: Disk + Drop>(
     ensures stands { RefusesNone result → gateway.new.fallen ≡ false }
     ensures room { vec_len answers.new + length gateway.new.told.held ≤ vec_capacity answers.new }
 {
+    let held = make_way(held, waiting, gateway);
     match offer_behind(held, waiting, gateway) {
         Some(step) => step,
         None => offer_idle(alloc, hopeful, waiting, answers, bodies, gateway),

@@ -18,9 +18,9 @@ ghost use Rattle.socket_edge.specs.Running.{Passes};
 
 use crate::answer::fill_frames;
 use crate::forwarding::{Placed, forward_frame, move_down, pass_frame};
-use crate::request::{Head, Kind, REQUEST_HEAD, read_head};
+use crate::request::{Head, Kind, LONGEST_PACKET, REQUEST_HEAD, announces_packet, read_head};
 use disk_model::Disk;
-use gateway::{Answer, Gateway, Iface};
+use gateway::{Answer, Gateway, Iface, LONGEST_COPY};
 use std::alloc::{AllocError, Global};
 use std::io::Read;
 use std::marker::Model;
@@ -92,10 +92,19 @@ impl Waiting {
         &self.bytes.as_slice()[..self.answered]
     }
 
-    /// Whether a whole frame stands at the front.
-    pub fn has_frame(&self) -> bool {
-        match read_head(self.unanswered()) {
-            Head::Frame(_, _, len) => self.unanswered().len() >= REQUEST_HEAD + len as usize,
+    /// Whether a whole frame stands at the front that no gateway takes where it lies: a load, a moment, or a packet of more
+    /// than 2,048 bytes.
+    #[inline(always)]
+    pub fn wants_copy(&self) -> bool
+        ensures { result ≡ true → (event : Event) × (rest : List ℕ)
+            × (next self.now.unanswered ≡ Whole event rest) }
+    {
+        let bytes = self.unanswered();
+        if announces_packet(bytes, LONGEST_COPY) {
+            return false;
+        }
+        match read_head(bytes) {
+            Head::Frame(_, _, len) => bytes.len() >= REQUEST_HEAD + len as usize,
             Head::Cut | Head::Bad(_) => false,
         }
     }
@@ -142,11 +151,15 @@ impl Waiting {
         ensures whole { IfSome result (λ front. front.2 ≤ length self.now.unanswered) }
         ensures size { IfSome result (λ front. (14 ≤ front.2) × (front.2 ≤ 14 + 65535)) }
     {
-        let Head::Frame(Kind::Packet(iface), moment, len) = read_head(self.unanswered()) else {
+        let bytes = self.unanswered();
+        if !announces_packet(bytes, LONGEST_PACKET) {
+            return None;
+        }
+        let Head::Frame(Kind::Packet(iface), moment, len) = read_head(bytes) else {
             return None;
         };
         let len = REQUEST_HEAD + len as usize;
-        if self.unanswered().len() < len {
+        if bytes.len() < len {
             return None;
         }
         Some((iface, moment, len))
