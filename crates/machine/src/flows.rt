@@ -346,43 +346,9 @@ impl Flows {
     }
 
     /// Does what a change says, for which there is room, and notes it. Compiled into its callers, of which one knows the
-    /// kind of change.
+    /// kind of change, and that it makes an entry.
     #[inline(always)]
     fn apply_noted<N: Notes>(&mut self, change: &Change, now: u64, notes: &mut N)
-        requires latest { IsLatest self.old.table.held now }
-        requires gives { (t : Flow)
-            × Gives self.old.translations.external self.old.table.held now change.now t
-            × (N.keeps notes.old → bytes_of (noted (listing self.old.table.held) t)
-            ≤ N.room notes.old) }
-        requires ready { 0 < adds_by change.now → IsReady 1 self.old }
-        ensures became { (t : Flow)
-            → Gives self.old.translations.external self.old.table.held now change.now t
-            → Became self.old.table.held change.now t self.new.table.held }
-        ensures latest { IsLatest self.new.table.held now }
-        ensures ready { (n : ℕ) → IsReady (n + adds_by change.now) self.old → IsReady n self.new }
-        ensures external { self.new.translations.external ≡ self.old.translations.external }
-        ensures keeps { N.keeps notes.old ↔ N.keeps notes.new }
-        ensures beside { N.beside notes.new ≡ N.beside notes.old }
-        ensures noted { (t : Flow)
-            → Gives self.old.translations.external self.old.table.held now change.now t
-            → N.keeps notes.old
-            → N.noted notes.new ≡ N.noted notes.old ++ noted (listing self.old.table.held) t }
-        ensures room { (t : Flow)
-            → Gives self.old.translations.external self.old.table.held now change.now t
-            → N.keeps notes.old
-            → N.room notes.old ≤ N.room notes.new
-            + bytes_of (noted (listing self.old.table.held) t) }
-    {
-        if !makes_entry(&self.table, change) {
-            self.apply(change, now);
-            return;
-        }
-        self.apply_and_note(change, now, notes);
-    }
-
-    /// As `apply_noted`, of a change that makes an entry.
-    #[inline(always)]
-    fn apply_and_note<N: Notes>(&mut self, change: &Change, now: u64, notes: &mut N)
         requires latest { IsLatest self.old.table.held now }
         requires gives { (t : Flow)
             × Gives self.old.translations.external self.old.table.held now change.now t
@@ -594,7 +560,7 @@ impl Flows {
             return Ok(());
         }
         make_room_for_packet(ready, notes)?;
-        self.apply_and_note(&change, now, notes);
+        self.apply_noted(&change, now, notes);
         Ok(())
     }
 

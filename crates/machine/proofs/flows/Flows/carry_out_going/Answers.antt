@@ -26,8 +26,8 @@ returns-in_err-make_room_for_packet-clause-quiet g c = rw (← c.self.view_is) (
     let nil = nil-before (noted sessions all.0) [] (sym (ap (λ us. noted_all us sessions) all.2) ∙ none) in
     absurd ((c.makes_entry.ensures c.self.inside.translations.external c.args.now all.0 all.1).0 c.if-not-makes_entry.false nil))
 
-pub apply_and_note-requires-clause-gives : goal.apply_and_note-requires-clause-gives
-apply_and_note-requires-clause-gives g c = rw (← c.self.view_is) (
+pub apply_noted-requires-clause-gives : goal.apply_noted-requires-clause-gives
+apply_noted-requires-clause-gives g c = rw (← c.self.view_is) (
     let give = rw (← c.self.view_is) at c.requires.give.1 in
     let sessions = listing c.self.inside.table.held in
     (give.0, give.1, λ keeps. omega (arith, noted-few (find (same_flow give.0) sessions) give.0, c.in_ok-make_room_for_packet.ensures.room (c.make_room_for_packet.ensures.keeps.1 keeps))))

@@ -1,6 +1,6 @@
 use Rattle.std.proofs.Common.{◌++◌, ap, ◌∙◌, arith}
 use Rattle.machine.specs.Notes.{bytes_of}
-use Rattle.machine.proofs.flows.Flows.apply_and_note.Goals as goal
+use Rattle.machine.proofs.flows.Flows.apply_noted.Goals as goal
 
 pub returns-clause-noted : goal.returns-clause-noted
 returns-clause-noted g c = rw (← c.self.view_is) (λ t gives keeps.
