@@ -1,9 +1,10 @@
 //! The entries by which a change of a session is noted, or a plan of one or two changes.
 //!
-//! - Of a change: whether it makes an entry (`makes_entry`), which (`entry_for`, `between`), room for it
-//!   (`make_room_for_packet`), and that it is noted (`note`).
+//! - Of a change: whether it makes an entry (`makes_entry`), which (`entry_for`, `between`), and that it is noted
+//!   (`note`).
 //! - Of a plan: whether it makes one (`plan_makes_entry`), and whether it adds a session (`adds_any`), which it needs room
 //!   for beside.
+//! - Of a packet: room for all its entries (`make_room_for_packet`).
 ghost use Rattle.std.specs.Prelude.{◌≡◌, ◌≢◌, ◌↔◌, ◌+◌, ◌<◌, ◌≤◌, ◌++◌, [], ℕ, List, IsErrOf, IsOk, IsTrue, OnOk};
 ghost use Rattle.durable.specs.Coding.{AreEntries, IsFlow, IsSession};
 ghost use Rattle.durable.specs.Entering.{flow_of as flow_in};
@@ -82,8 +83,8 @@ fn restart_changes(session: &Session, opener: Opener) -> bool
     session.opener != opener || session.seen != 0
 }
 
-/// Whether a change of a session makes an entry, so that `entry_for` gives one; the table is that before the change. It
-/// is asked before an entry is made, since most changes make none.
+/// Whether a change of a session makes an entry, so that `entry_for` gives one; the table is that before the change.
+/// Of most packets it tells that none has to be made.
 pub fn makes_entry(table: &Table, change: &Change) -> bool
     requires { (external now : ℕ) × (t : Flowing) × Gives external table.now.held now change.now t }
     ensures { (external now : ℕ) (t : Flowing) → Gives external table.now.held now change.now t

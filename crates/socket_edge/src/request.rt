@@ -94,8 +94,8 @@ fn longest_of(kind: Kind) -> u32
     }
 }
 
-/// Whether a header at the front announces a packet of at most so many bytes. Where it doesn't, no more of it needs to be
-/// read to tell that.
+/// Whether a header stands at the front that has the kind of a packet, and a length of at most `most` bytes. Its interface
+/// may be faulty.
 #[inline(always)]
 pub fn announces_packet(bytes: &[u8], most: usize) -> bool {
     bytes.len() >= REQUEST_HEAD

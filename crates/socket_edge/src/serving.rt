@@ -4,9 +4,10 @@
 //! - `empty_for`: the answers of the read before are let go, and their memory is kept for bodies (`keep_bodies`);
 //! - `offer_all`: frame after frame is offered, until a `Halt`. `offer_next` has a packet taken where it lies
 //!   (`Waiting::forward_next` and `pass_next`), behind others whose answers are held (`offer_behind`) until these are
-//!   synced (`gateway::running::settle`), or where none are (`offer_idle`). Of any other frame a copy is offered, before
-//!   which the frames of held answers make way (`make_way`): `offer_copy` takes it (`request::take_frame`), and
-//!   `offer_event` hands its event to `gateway::running::take`. What is answered goes back into the bytes (`put_back`);
+//!   synced (`gateway::running::settle`), or where none are (`offer_idle`). Of any other frame a copy is offered:
+//!   `offer_copy` takes it (`request::take_frame`), and `offer_event` hands its event to `gateway::running::take`. Before
+//!   one that is never taken so, the frames of held answers make way (`make_way`). What is answered goes back into the
+//!   bytes (`put_back`);
 //! - `close`: what is held is synced and handed out (`give_held`, by `gateway::running::hand_out`) and put back too, and
 //!   `end_at` says what the halt means for the run. Then `edge` writes the answers (`sending::send_behind`);
 //! - `tidy`: a file that has grown is made short (`gateway::running::compact`).
@@ -353,7 +354,7 @@ fn offer_behind<D: Disk + Drop>(
     }
 }
 
-/// Where answers that are held stand in front, behind so many bytes, and a frame comes that is never taken where it lies,
+/// Where answers that are held stand in front, behind so many bytes, and a frame comes that `Gateway::pass` never takes,
 /// lets their frames go, unless no more can be held: the gateway has the answers too, and hands them out with that of the
 /// frame, so that they needn't be synced before it. Says behind how many bytes such answers stand then, if there are any.
 #[inline(always)]

@@ -92,8 +92,8 @@ impl Waiting {
         &self.bytes.as_slice()[..self.answered]
     }
 
-    /// Whether a whole frame stands at the front that no gateway takes where it lies: a load, a moment, or a packet of more
-    /// than 2,048 bytes.
+    /// Whether a whole frame stands at the front that `Gateway::pass` never takes: a load, a moment, or a packet of more than
+    /// 2,048 bytes.
     #[inline(always)]
     pub fn wants_copy(&self) -> bool
         ensures { result ≡ true → (event : Event) × (rest : List ℕ)
