@@ -1,6 +1,6 @@
 -- The body of a framed buffer.
 use Rattle.std.proofs.Common.{◌≡◌, ℕ, ◌+◌, ◌-◌, ◌<◌, ◌≤◌, ◌^◌, List, [], ◌∷◌, ◌++◌, length, take, drop, sym, ◌∙◌, ap, subst, arith, length-append, length-drop, append_assoc}
-use Rattle.std.proofs.lemmas.List.{take_at, drop_at, take-take, drop-take, drop-append-le, take-append-le, length-take-le}
+use Rattle.std.proofs.lemmas.List.{take_at, drop_at, take-take, drop-take, drop-append-le, length-take-le}
 use Rattle.byteorder.specs.Endian.{big_bytes}
 use Rattle.byteorder.specs.Numbers.{length-bytes_high_first}
 use Rattle.journal.specs.Groups.{framed, body_of, IsFramed}

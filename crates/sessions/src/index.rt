@@ -16,7 +16,7 @@ use crate::Session;
 use crate::hints::Hints;
 use crate::keys::{has_endpoints, key, untranslated_key};
 use crate::session::clash;
-use crate::translated::{Translated, is_empty, is_inside, is_outside};
+use crate::translated::{Translated, is_empty};
 use packet::endpoint::{Endpoint, Proto};
 use rows::Rows;
 use slab::Slab;

@@ -334,7 +334,7 @@ fn is_of(sessions: &Slab<Session>, slot: usize, proto: Proto, inside: Endpoint) 
 }
 
 /// Whether the slot holds the session of this protocol, inside and remote endpoint.
-pub fn is_inside(
+fn is_inside(
     sessions: &Slab<Session>,
     slot: usize,
     proto: Proto,
@@ -350,7 +350,7 @@ pub fn is_inside(
 }
 
 /// Whether the slot holds the session of this protocol, outside and remote endpoint.
-pub fn is_outside(
+fn is_outside(
     sessions: &Slab<Session>,
     slot: usize,
     proto: Proto,
