@@ -7,7 +7,7 @@
 //! - `pass`: `Core::pass_noted` does the step of a packet where it lies and has `Pending` note its entries; `give_copy`
 //!   answers at once, or holds a copy.
 //! - `flush`: `Store::commit` syncs the group of `Pending`, and `Pending::release` hands out what was held.
-//! - `settle`: as `flush`, and `Pending::let_go` lets go what was held.
+//! - `settle`: as `flush`, but `Pending::let_go` lets go what was held: its caller has it already.
 //! - `compact`: `Store::compact` makes a file of what must survive (`lasting_sessions`), with no groups.
 //! - `run`: `running::take_all` does these calls for a list of events.
 ghost use Rattle.std.specs.Prelude.{◌≡◌, ◌≢◌, ◌↔◌, ◌⊎◌, ◌+◌, ◌-◌, ◌^◌, ◌<◌, ◌≤◌, ◌++◌, ◌∷◌, [], ℕ, List, IfOk, IfErr, IfNone, IfSome, OnOk, OnErr, OnSome, IsOk, IsErrOf, MatchResult, IsTrue, length, map, true, false};
@@ -414,7 +414,7 @@ impl<D: Disk + Drop> Gateway<D> {
     /// answer is held. No call of the disk is made. The moment is in seconds.
     ///
     /// `None` says nothing of the packet: it isn't taken, nothing has changed, and `offer` tells what becomes of it. It
-    /// comes wherever `offer` refuses the event, and where the packet is long.
+    /// comes wherever `offer` refuses the event, and where the packet has more than 2,048 bytes (`LONGEST_COPY`).
     #[inline(always)]
     pub fn pass(&mut self, moment: u64, iface: Iface, packet: &mut [u8]) -> Option<Passed>
         ensures disk { self.new.disk ≡ self.old.disk }

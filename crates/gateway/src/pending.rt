@@ -195,6 +195,8 @@ impl Notes for Pending {
         Ok(())
     }
 
+    // Compiled into its callers, each of which has an entry of one kind.
+    #[inline(always)]
     fn note(&mut self, entry: Entry<'_>) {
         let before = self.group.len();
         put(&mut self.group, entry);
@@ -285,6 +287,7 @@ fn move_out(held: &mut Vec<(u64, Answer)>, slots: &mut Vec<Slot>, used: usize)
 }
 
 // Puts the bytes of an entry behind the others, for which there is room.
+#[inline(always)]
 fn put(group: &mut Group, entry: Entry<'_>)
     requires coded { IsEntry (view entry) }
     requires room { length (entry_bytes (view entry)) ≤ group.old.room }

@@ -36,6 +36,7 @@ use packet::endpoint::Iface;
 use packet::rewriting::rewrite;
 use packet::route::Route;
 use packet::view::View;
+use sessions::is_syn_alone;
 use verdict::Rules;
 
 fn drop_for(cause: Cause) -> Fate
@@ -207,7 +208,8 @@ fn glance(
     }
 }
 
-// As `glance`, of a packet that may show something new of its session.
+// As `glance`, of a packet that may show something new of its session. One that asks for a new connection isn't looked for
+// so: it seldom has a session, and the look would wait for memory.
 #[inline(always)]
 fn glance_showing(
     flows: &Flows,
@@ -221,6 +223,9 @@ fn glance_showing(
         (planned going)
         (leg bounds.now (state_of text rules.now flows.now.table.held now) view.now route)) }
 {
+    if is_syn_alone(view.flags) {
+        return None;
+    }
     match route {
         Route::Out => goes_out_showing(bounds, rules, flows.table(), view),
         Route::In => comes_in_showing(bounds, rules, flows.table(), view),

@@ -649,7 +649,7 @@ impl Flows {
     ///
     /// `NoMemory` where there are any and memory is refused; `Full` only where the entries don't fit. The sessions
     /// stay as they are, and what is noted too.
-    pub fn expire<N: Notes>(
+    fn expire<N: Notes>(
         &mut self,
         alloc: Global,
         now: u64,

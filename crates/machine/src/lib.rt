@@ -11,8 +11,9 @@
 //! - `in_force`: the text that loaded last, with its rules.
 //! - `answering`: what a packet comes to: by the session that a first look tells, where it lies (the shortest way) or
 //!   with what it shows of it (the short one), or by a plan.
-//! - `core_state`: `Core`, which has all the state and takes a step for each event (`step`, `step_noted`). A packet
-//!   whose session goes on it also takes where the packet lies, for which no `Event` is made (`forward`).
+//! - `core_state`: `Core`, which has all the state and takes a step for each event (`step`, `step_noted`). Any packet it
+//!   also takes where the packet lies, for which no `Event` is made (`pass_noted`), and one whose session goes on by the
+//!   shortest way (`forward`).
 //! - `notes`: where a step notes the entries by which it changes what must survive (crate `durable`).
 //! - `noting`: the entries of changes. `specs/Noted` says which an event has, `specs/Notes` how many bytes.
 //! - `laws`: what holds of every step, and of every state that is reached.

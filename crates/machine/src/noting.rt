@@ -38,7 +38,7 @@ pub fn flow_of(session: &Session) -> Flow
 }
 
 /// The session without the moment of its last packet.
-pub fn stilled(session: &Session) -> Session
+fn stilled(session: &Session) -> Session
     ensures value { result ≡ without_moment session.now }
     ensures coded { IsSeen session.now.proto session.now.seen → IsSession result }
 {
@@ -53,7 +53,7 @@ pub fn stilled(session: &Session) -> Session
 
 /// The entry that makes the one session the other, which is of the same flow and outside endpoint; none where they
 /// differ at most in their moments.
-pub fn between(old: &Session, new: &Session) -> Option<Entry<'static>>
+fn between(old: &Session, new: &Session) -> Option<Entry<'static>>
     requires { IsSeen new.now.proto new.now.seen }
     ensures entry { listed result ≡ entries_between old.now new.now }
     ensures coded { AreEntries (listed result) }

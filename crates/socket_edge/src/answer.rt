@@ -117,7 +117,7 @@ fn put_parts(out: &mut Vec<u8>, number: u64, answer: &Answer) -> Result<(), Allo
 /// # Errors
 ///
 /// `AllocError` where memory is refused. The bytes stay as they were.
-pub fn put_frame(out: &mut Vec<u8>, number: u64, answer: &Answer) -> Result<(), AllocError>
+fn put_frame(out: &mut Vec<u8>, number: u64, answer: &Answer) -> Result<(), AllocError>
     ensures ok { OnOk result (out.new.items ≡ out.old.items ++ frame (number, answer.now)) }
     ensures err { OnErr result (out.new.items ≡ out.old.items) }
 {

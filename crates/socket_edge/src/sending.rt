@@ -10,7 +10,7 @@ use gateway::Answer;
 use std::alloc::Global;
 use std::io::Write;
 
-/// Writes the bytes.
+/// Writes all of the bytes, in as many calls as the writer needs.
 fn write_out<W: Write>(writer: &mut W, bytes: &[u8]) -> Result<(), EdgeFault>
     ensures ok { OnOk result (Appends (W.contents writer.old) (W.contents writer.new) bytes.now) }
     ensures err { IfErr result (λ e. (e ≡ EdgeFault.Output)

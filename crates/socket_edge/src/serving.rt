@@ -49,15 +49,15 @@ pub enum Halt {
     Cut,
     /// The next header is faulty.
     Bad(HeaderFault),
-    /// The gateway took no more, or memory for the next frame was refused.
+    /// The gateway took no more, or memory for the next frame or for its answers was refused.
     Refused(GatewayFault),
 }
 
 /// What the front of the bytes came to.
 #[derive(Clone, Copy, Drop)]
 pub enum Step {
-    /// A frame was taken. Whether the last of the answers that are handed out, if any, is a packet that leaves; and,
-    /// where answers that are held stand in front too, how many bytes of answers that are not stand before them.
+    /// A frame was taken. First, whether a packet that leaves is the last of the answers that are handed out. Second, where
+    /// answers that are held stand in front, how many bytes of other answers stand before them.
     Took(bool, Option<usize>),
     /// No more frames are offered.
     Ends(Halt),
@@ -154,7 +154,7 @@ fn put_some_back(waiting: &mut Waiting, answers: &mut Vec<(u64, Answer)>, bodies
     }
 }
 
-/// Offers an event.
+/// Makes room for the answers that may come, and hands the event to `gateway::running::take`.
 fn offer_event<D: Disk + Drop>(
     event: Event,
     answers: &mut Vec<(u64, Answer)>,
@@ -248,8 +248,9 @@ fn leaves_at_once<D: Disk + Drop>(
     hopeful && waiting.forward_next(gateway)
 }
 
-/// Offers the frame at the front, where no answer that is held stands in front: where it lies, if no answer waits, and
-/// otherwise a copy of it.
+/// Offers the frame at the front, where no answer that is held stands in front: where it lies, if no answer waits and the
+/// gateway holds none. Otherwise a copy of it, and also where memory for 64 answers is refused, or the gateway doesn't take
+/// it where it lies.
 fn offer_idle<D: Disk + Drop>(
     alloc: Global,
     hopeful: bool,
@@ -310,9 +311,10 @@ fn passes_behind<D: Disk + Drop>(waiting: &mut Waiting, gateway: &mut Gateway<D>
     waiting.pass_next(gateway).is_some()
 }
 
-/// Where answers that are held stand in front, behind so many bytes, has a packet taken where it lies; before any other
-/// frame, and where no more answers can be held, they are synced. `None` where no answer that is held stands in front
-/// any more, and the frame at the front is still to be offered.
+/// Where answers that are held stand in front, behind so many bytes, has the packet at the front taken where it lies. If it
+/// isn't, they are synced: where 64 are held, where `Gateway::pass` doesn't take it, and where no whole frame is left or a
+/// header is faulty, as behind the last frame of each read. `None` where no answer that is held stands in front any more,
+/// and what is at the front is still to be offered.
 fn offer_behind<D: Disk + Drop>(
     held: Option<usize>,
     waiting: &mut Waiting,

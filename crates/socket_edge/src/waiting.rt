@@ -5,7 +5,8 @@
 //! have its packet taken where it lies (`forwarding::forward_frame` and `pass_frame`) and make its answer of it, or by
 //! `skip`, where `serving` offers a copy of it; then `put` writes the answer where the request stood
 //! (`answer::fill_frames`), if there is room there. `answered` is what stands here to be written: `forget_answered` lets
-//! it go behind that, and `cut_answered` all whose changes could not be synced.
+//! it go behind that. `cut_answered` takes the frames of held answers away: where their changes could not be synced, or
+//! where they make way for a frame that is offered as a copy (`serving::make_way`).
 ghost use Rattle.std.specs.Prelude.{◌≡◌, ◌≢◌, ◌+◌, ◌-◌, ◌≤◌, ◌++◌, ◌∷◌, [], ℕ, List, IfNone, IfOk, IfSome, OnOk, OnErr, length, take, drop, true, false};
 ghost use Rattle.std.specs.Io.KnownBytes.{Consumes, IsAtEnd};
 ghost use Rattle.gateway.specs.Running.{CarriesOn};
@@ -139,10 +140,10 @@ impl Waiting {
         }
     }
 
-    // The packet at the front, where a whole frame of one stands there: its interface, its moment in seconds, and how many
-    // bytes the frame has.
+    // The packet at the front, where a whole frame of one stands there that has at most `most` bytes: its interface, its
+    // moment in seconds, and how many bytes the frame has.
     #[inline(always)]
-    fn front_packet(&self) -> Option<(Iface, u64, usize)>
+    fn front_packet(&self, most: usize) -> Option<(Iface, u64, usize)>
         ensures some { IfSome result (λ front. next self.now.unanswered
             ≡ Whole (record {
               moment = front.1;
@@ -152,7 +153,7 @@ impl Waiting {
         ensures size { IfSome result (λ front. (14 ≤ front.2) × (front.2 ≤ 14 + 65535)) }
     {
         let bytes = self.unanswered();
-        if !announces_packet(bytes, LONGEST_PACKET) {
+        if !announces_packet(bytes, most) {
             return None;
         }
         let Head::Frame(Kind::Packet(iface), moment, len) = read_head(bytes) else {
@@ -178,7 +179,7 @@ impl Waiting {
         ensures held { gateway.new.told.held ≡ gateway.old.told.held }
         ensures stands { gateway.new.fallen ≡ false }
     {
-        let Some((iface, moment, len)) = self.front_packet() else {
+        let Some((iface, moment, len)) = self.front_packet(LONGEST_PACKET) else {
             return false;
         };
         let (bytes, end) = (self.bytes.as_mut_slice(), self.start + len);
@@ -204,7 +205,7 @@ impl Waiting {
         ensures none { IfNone result ((self.new ≡ self.old) × (gateway.new ≡ gateway.old)) }
         ensures stands { gateway.new.fallen ≡ false }
     {
-        let Some((iface, moment, len)) = self.front_packet() else {
+        let Some((iface, moment, len)) = self.front_packet(LONGEST_COPY) else {
             return None;
         };
         let (bytes, end) = (self.bytes.as_mut_slice(), self.start + len);
