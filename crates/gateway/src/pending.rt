@@ -195,7 +195,7 @@ impl Notes for Pending {
         Ok(())
     }
 
-    // Compiled into its callers, each of which has an entry of one kind.
+    // Compiled into its callers, which know the kind of the entry, or that it is one of a few.
     #[inline(always)]
     fn note(&mut self, entry: Entry<'_>) {
         let before = self.group.len();

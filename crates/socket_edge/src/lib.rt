@@ -7,7 +7,7 @@
 //! answers, in whatever pieces the bytes come and go. The modules:
 //! - `edge`: the run, one read after the other;
 //! - `waiting`: the bytes that were read and aren't answered yet, and the answers in front of them;
-//! - `forwarding`: a packet that is answered in the bytes of its request: one that leaves at once, or any;
+//! - `forwarding`: a packet that is answered in the bytes of its request: one that leaves at once, or any short one;
 //! - `ahead`: among many sessions, a look at the next packets before they are taken;
 //! - `serving`: all whole frames at the front, offered in order;
 //! - `request`: what stands at the front of the bytes: a whole frame, a part of one, or a fault;

@@ -192,7 +192,7 @@ impl Waiting {
         true
     }
 
-    /// Has the gateway take the packet at the front, where a whole frame of one stands there. If it does, the frame of
+    /// Has the gateway take the packet at the front, where a whole frame of a short one stands there. If it does, the frame of
     /// its answer stands behind the other answers, also where the answer is held; otherwise nothing has changed.
     #[inline(always)]
     pub fn pass_next<D: Disk + Drop>(&mut self, gateway: &mut Gateway<D>) -> Option<Placed>
