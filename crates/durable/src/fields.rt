@@ -17,7 +17,7 @@ pub fn byte_of(bytes: &[u8]) -> Option<(u8, &[u8])>
 }
 
 #[tactic(auto, unfolding(crate::specs::Reading::number_at))]
-pub fn u16_of(bytes: &[u8]) -> Option<(u16, &[u8])>
+fn u16_of(bytes: &[u8]) -> Option<(u16, &[u8])>
     ensures { Gives (λ x. (x.0, x.1.now)) result (number_at 2 bytes.now) }
 {
     if bytes.len() < 2 {

@@ -1,6 +1,8 @@
 //! A packet's session, held or new, and what the rules are asked about the packet.
-ghost use Rattle.std.specs.Prelude.{◌≡◌, ℕ, List, IfSome, Option as Maybe, Some, None, slice_index_or};
+ghost use Rattle.std.specs.Prelude.{◌≡◌, ℕ, List, IfOk, IfErr, IfSome, IfNone, Option as Maybe, Some, None, slice_index_or};
 ghost use Rattle.std.specs.Option.{option_map};
+ghost use Rattle.packet.specs.declared.endpoint.Endpoint.{Endpoint as Place};
+ghost use Rattle.sessions.specs.Laws.{IsMapping};
 ghost use Rattle.sessions.specs.Listing.{find, has_inside, has_outside, listing};
 ghost use Rattle.sessions.specs.Table.{at};
 ghost use Rattle.sessions.specs.declared.session.Session.{Session as Flow};
@@ -35,6 +37,34 @@ pub fn held_inside(table: &Table, proto: Proto, inside: Endpoint, remote: Endpoi
             None => None,
         },
         None => None,
+    }
+}
+
+/// As `held_inside`; where no session is held, the error is the outside endpoint of the sessions of the inside endpoint
+/// with others (RFC 4787, REQ-1), where one is.
+pub fn held_or_mapped(
+    table: &Table,
+    proto: Proto,
+    inside: Endpoint,
+    remote: Endpoint,
+) -> Result<Held, Option<Endpoint>>
+    ensures session { IfOk result (λ h. find (has_inside proto inside remote) (listing table.now.held)
+        ≡ Some h.session) }
+    ensures slot { IfOk result (λ h. at table.now h.slot ≡ Some h.session) }
+    ensures none { IfErr result (λ mapped. find (has_inside proto inside remote)
+        (listing table.now.held) ≡ None) }
+    ensures mapped { IfErr result (λ mapped. IfSome mapped
+        (IsMapping (listing table.now.held) proto inside)) }
+    ensures unmapped { IfErr result (λ mapped. IfNone mapped ((outside : Place)
+        → ¬ IsMapping (listing table.now.held) proto inside outside)) }
+{
+    table.is_sound();
+    match table.by_inside_or_mapped(proto, inside, remote) {
+        Ok(slot) => match table.get(slot) {
+            Some(session) => Ok(Held { slot, session }),
+            None => Err(None),
+        },
+        Err(mapped) => Err(mapped),
     }
 }
 

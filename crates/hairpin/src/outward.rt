@@ -1,8 +1,10 @@
 //! The leg of a packet from an inside endpoint to a remote one.
-ghost use Rattle.std.specs.Prelude.{◌≡◌, ◌<◌, ℕ, List, IsTrue, Option as Maybe, Some, None, Ok, slice_index_or};
+ghost use Rattle.std.specs.Prelude.{◌≡◌, ◌<◌, ℕ, List, IsTrue, IfSome, IfNone, Option as Maybe, Some, None, Ok, slice_index_or};
 ghost use Rattle.packet.specs.Config.{is_inside};
+ghost use Rattle.packet.specs.declared.endpoint.Endpoint.{Endpoint as Place};
 ghost use Rattle.mappings.specs.declared.map.Pair.{Pair as Mapping};
 ghost use Rattle.mappings.specs.Map.{times};
+ghost use Rattle.sessions.specs.Laws.{IsMapping};
 ghost use Rattle.sessions.specs.Listing.{find, has_inside, listing};
 ghost use Rattle.sessions.specs.declared.session.Session.{Session as Flow};
 ghost use Rattle.hairpin.specs.Legs.{begun_out as begun_way, maps_inside, out_by, out_leg as out_way, outside_for, outward, passed_by};
@@ -12,7 +14,9 @@ ghost use Rattle.sessions.specs.Sound.{AreSound};
 ghost use Rattle.hairpin.specs.Tallies.{AreOf, tally};
 
 use crate::cause::Cause;
-use crate::held::{Held, change_of, facts_of, held_inside, needs_session, new_session, state_of};
+use crate::held::{
+    Held, change_of, facts_of, held_or_mapped, needs_session, new_session, state_of,
+};
 use crate::plan::Plan;
 use crate::translations::Translations;
 use packet::bounds::Bounds;
@@ -48,9 +52,9 @@ pub fn out_leg(
     ensures { Plans bounds.now.external table.now.held now result
         (out_way bounds.now rules.now (listing table.now.held) now view.now) }
 {
-    match held_inside(table, view.proto, view.src, view.dst) {
-        Some(found) => known_out(bounds, rules, &found, view),
-        None => new_out(bounds, rules, table, translations, view, now),
+    match held_or_mapped(table, view.proto, view.src, view.dst) {
+        Ok(found) => known_out(bounds, rules, &found, view),
+        Err(mapped) => new_out(bounds, rules, table, translations, mapped, view, now),
     }
 }
 
@@ -74,6 +78,7 @@ fn new_out(
     rules: &Rules,
     table: &Table,
     translations: &Translations,
+    mapped: Option<Endpoint>,
     view: &View,
     now: u64,
 ) -> Result<Plan, Cause>
@@ -81,6 +86,10 @@ fn new_out(
     requires bounded { KeepBounds bounds.now rules.now }
     requires inside { IsTrue (is_inside bounds.now view.now.src.addr) }
     requires port { 0 < view.now.src.port }
+    requires mapped { IfSome mapped
+        (IsMapping (listing table.now.held) view.now.proto view.now.src) }
+    requires unmapped { IfNone mapped ((outside : Place)
+        → ¬ IsMapping (listing table.now.held) view.now.proto view.now.src outside) }
     requires none { find (has_inside view.now.proto view.now.src view.now.dst)
         (listing table.now.held) ≡ None }
     ensures { Plans bounds.now.external table.now.held now result
@@ -91,7 +100,7 @@ fn new_out(
     }
     match forward(rules, bounds, &facts_out(view, State::New)) {
         Forwarding::Drop => Err(Cause::Rule),
-        Forwarding::Pass => begun_out(bounds, rules, table, translations, view, now),
+        Forwarding::Pass => begun_out(bounds, rules, table, translations, mapped, view, now),
     }
 }
 
@@ -101,6 +110,7 @@ fn begun_out(
     rules: &Rules,
     table: &Table,
     translations: &Translations,
+    mapped: Option<Endpoint>,
     view: &View,
     now: u64,
 ) -> Result<Plan, Cause>
@@ -108,13 +118,17 @@ fn begun_out(
     requires bounded { KeepBounds bounds.now rules.now }
     requires inside { IsTrue (is_inside bounds.now view.now.src.addr) }
     requires port { 0 < view.now.src.port }
+    requires mapped { IfSome mapped
+        (IsMapping (listing table.now.held) view.now.proto view.now.src) }
+    requires unmapped { IfNone mapped ((outside : Place)
+        → ¬ IsMapping (listing table.now.held) view.now.proto view.now.src outside) }
     requires none { find (has_inside view.now.proto view.now.src view.now.dst)
         (listing table.now.held) ≡ None }
     ensures { Plans bounds.now.external table.now.held now result
         (begun_way bounds.now rules.now (listing table.now.held) now view.now) }
 {
     bounds.facts();
-    match outside_of_new(bounds, rules, table, translations, view) {
+    match outside_of_new(bounds, rules, table, translations, mapped, view) {
         Err(cause) => Err(cause),
         Ok(outside) => {
             if table.count() == MOST_SESSIONS {
@@ -132,17 +146,22 @@ fn outside_of_new(
     rules: &Rules,
     table: &Table,
     translations: &Translations,
+    mapped: Option<Endpoint>,
     view: &View,
 ) -> Result<Endpoint, Cause>
     requires translations { AreOf bounds.now table.now.held translations.now }
     requires bounded { KeepBounds bounds.now rules.now }
+    requires mapped { IfSome mapped
+        (IsMapping (listing table.now.held) view.now.proto view.now.src) }
+    requires unmapped { IfNone mapped ((outside : Place)
+        → ¬ IsMapping (listing table.now.held) view.now.proto view.now.src outside) }
     requires port { 0 < view.now.src.port }
     ensures { (now : ℕ) → let sessions = listing table.now.held in
         result ≡ outside_for bounds.now rules.now sessions now view.now
         (find (maps_inside view.now.proto view.now.src) sessions) }
 {
-    match table.outside_of(view.proto, view.src) {
-        Some(mapped) => Ok(mapped),
+    match mapped {
+        Some(outside) => Ok(outside),
         None => outside_by_rules(bounds, rules, table, translations, view),
     }
 }

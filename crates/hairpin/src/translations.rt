@@ -114,6 +114,7 @@ impl Translations {
     /// The first free endpoint of the external address for a port of 1 to 65,535, counted from the port on
     /// in its class and parity (RFC 4787, REQ-3a and REQ-4); none where all of these are taken. Any test
     /// that tells which ports are taken leads to the same choice.
+    #[inline(always)]
     pub fn choose(&self, proto: Proto, port: u16) -> Option<Endpoint>
         requires { 0 < port }
         ensures { (taken : ℕ → Bool)

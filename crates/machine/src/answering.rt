@@ -100,8 +100,8 @@ fn answer_planned<N: Notes>(
     }
 }
 
-// The plan of a packet with these fields, on its route. Not compiled into its caller, it is made where it then stays.
-#[inline(never)]
+// The plan of a packet with these fields, on its route. Compiled into its caller, most of it stays in registers.
+#[inline(always)]
 fn plan_for(
     flows: &Flows,
     rules: &Rules,

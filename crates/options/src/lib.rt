@@ -61,7 +61,7 @@ pub enum Work<'a> {
     Serve {
         /// The path of the socket.
         socket: &'a str,
-        /// How many of them.
+        /// How many connections.
         connections: u64,
     },
     /// It answers the requests of a file, through a Unix socket of its own.

@@ -125,6 +125,7 @@ impl Rows {
     ///
     /// `AllocError` where memory is refused, and never where there is room for two already. The same
     /// entries are held in any case, and no room is lost.
+    #[inline(always)]
     pub fn reserve(&mut self) -> Result<(), AllocError>
         ensures ok { OnOk result (2 ≤ self.new.room) }
         ensures succeeds { 2 ≤ self.old.room → IsOk result }

@@ -12,8 +12,8 @@ use rulesyntax::line::Line;
 use rulesyntax::tree::{Chain, Table};
 use std::alloc::{AllocError, Global};
 
-/// Whether some chain of a table reaches itself.
-pub fn is_looped(alloc: Global, chains: &[Chain]) -> Result<bool, AllocError>
+// Whether some chain of a table reaches itself.
+fn is_looped(alloc: Global, chains: &[Chain]) -> Result<bool, AllocError>
     requires { has_twice (chain_names chains.now) ≡ false }
     ensures { IfOk result (λ yes. IsTrue yes ↔ IsLooped chains.now) }
 {
@@ -21,8 +21,8 @@ pub fn is_looped(alloc: Global, chains: &[Chain]) -> Result<bool, AllocError>
     has_loop(alloc, rows.as_slice())
 }
 
-/// Whether some path of a table has more than 16 jumps and gotos.
-pub fn has_long_path(alloc: Global, chains: &[Chain]) -> Result<bool, AllocError>
+// Whether some path of a table has more than 16 jumps and gotos.
+fn has_long_path(alloc: Global, chains: &[Chain]) -> Result<bool, AllocError>
     requires { has_twice (chain_names chains.now) ≡ false }
     ensures { IfOk result (λ yes. IsTrue yes ↔ IsDeep chains.now) }
 {

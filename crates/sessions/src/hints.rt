@@ -64,6 +64,7 @@ impl Hints {
     }
 
     /// Puts both guesses of a session, which are one where its outside port is its inside one.
+    #[inline(always)]
     pub fn put_both(&mut self, session: &Session, slot: usize) {
         let (proto, remote) = (session.proto, session.remote);
         self.put(proto, session.inside.port, remote, slot);

@@ -2,7 +2,7 @@
 //!
 //! A session that isn't translated is called the same on both sides and stands in a row of its like. The
 //! translated ones are found by their mappings (`translated`).
-ghost use Rattle.std.specs.Prelude.{◌≡◌, ◌↔◌, ◌+◌, ◌<◌, ◌≤◌, ℕ, IsTrue, IsOk, true, None, Some, IfSome, IfNone, OnOk, slice_index_or};
+ghost use Rattle.std.specs.Prelude.{◌≡◌, ◌↔◌, ◌+◌, ◌<◌, ◌≤◌, ℕ, IsTrue, IsOk, true, None, Some, IfSome, IfNone, IfOk, IfErr, OnOk, slice_index_or};
 ghost use Rattle.packet.specs.declared.endpoint.Endpoint.{Endpoint as Place};
 ghost use Rattle.rows.specs.Held.{at};
 ghost use Rattle.sessions.specs.Index.{ClashesAt, IsAt, IsNowhere, LacksName, PutsName, key_number, untranslated_name};
@@ -189,6 +189,7 @@ pub fn find_inside(
 }
 
 // As `find_inside`, where the first translated session of the inside endpoint is known.
+#[inline(always)]
 fn seek_inside(
     sessions: &Slab<Session>,
     index: &Index,
@@ -295,9 +296,54 @@ pub fn mapped_outside(
     ensures absent { IfNone result ((outside : Place)
         → ¬ IsMapping (listing sessions.now.slots) proto inside outside) }
 {
-    let first = index.translated.first_inside(proto, inside)?;
-    let session = sessions.get(first)?;
+    let first = index.translated.first_inside(proto, inside);
+    mapped_by(sessions, index, first, proto, inside)
+}
+
+// As `mapped_outside`, where the first translated session of the inside endpoint is known.
+fn mapped_by(
+    sessions: &Slab<Session>,
+    index: &Index,
+    first: Option<usize>,
+    proto: Proto,
+    inside: Endpoint,
+) -> Option<Endpoint>
+    requires indexed { IsIndexed sessions.now.slots index.now }
+    requires first { first ≡ first_by_inside index.now.translated proto inside }
+    ensures found { IfSome result (IsMapping (listing sessions.now.slots) proto inside) }
+    ensures absent { IfNone result ((outside : Place)
+        → ¬ IsMapping (listing sessions.now.slots) proto inside outside) }
+{
+    let Some(slot) = first else {
+        return None;
+    };
+    let session = sessions.get(slot)?;
     Some(session.outside)
+}
+
+/// As `find_inside`; where no session is, what `mapped_outside` tells. One look for the first translated session of the
+/// inside endpoint serves both.
+pub fn find_or_mapped(
+    sessions: &Slab<Session>,
+    index: &Index,
+    proto: Proto,
+    inside: Endpoint,
+    remote: Endpoint,
+) -> Result<usize, Option<Endpoint>>
+    requires { IsIndexed sessions.now.slots index.now }
+    ensures found { IfOk result (IsAt sessions.now.slots (HasInside proto inside remote)) }
+    ensures absent { IfErr result (λ mapped. IsNowhere sessions.now.slots
+        (HasInside proto inside remote)) }
+    ensures mapped { IfErr result (λ mapped. IfSome mapped
+        (IsMapping (listing sessions.now.slots) proto inside)) }
+    ensures unmapped { IfErr result (λ mapped. IfNone mapped ((outside : Place)
+        → ¬ IsMapping (listing sessions.now.slots) proto inside outside)) }
+{
+    let first = index.translated.first_inside(proto, inside);
+    match seek_inside(sessions, index, first, proto, inside, remote) {
+        Some(slot) => Ok(slot),
+        None => Err(mapped_by(sessions, index, first, proto, inside)),
+    }
 }
 
 /// Whether some session clashes with this one. The first sessions of its endpoints serve all that is asked.

@@ -1,5 +1,5 @@
 //! The table of the sessions that live.
-ghost use Rattle.std.specs.Prelude.{◌≡◌, ◌↔◌, ◌+◌, ◌<◌, ◌≤◌, ℕ, IsTrue, Some, None, Err, IfOk, OnOk, OnErr, IsOk, IfSome, IfNone, IsSome, IsSomeAnd};
+ghost use Rattle.std.specs.Prelude.{◌≡◌, ◌↔◌, ◌+◌, ◌<◌, ◌≤◌, ℕ, IsTrue, Some, None, Err, IfOk, IfErr, OnOk, OnErr, IsOk, IfSome, IfNone, IsSome, IsSomeAnd};
 ghost use Rattle.std.specs.Option.{option_map};
 ghost use Rattle.packet.specs.declared.endpoint.Endpoint.{Endpoint as Place};
 ghost use Rattle.slab.specs.Slab.{HasRoomFor};
@@ -11,7 +11,8 @@ ghost use Rattle.sessions.specs.Table.{at, count, most_sessions, Updates, HasIns
 use crate::ahead::{Coming, MOST_AHEAD, guess_all};
 use crate::hints::Hints;
 use crate::index::{
-    Index, clashes, find_inside, find_outside, guess_inside, guess_outside, mapped_outside,
+    Index, clashes, find_inside, find_or_mapped, find_outside, guess_inside, guess_outside,
+    mapped_outside,
 };
 use crate::keys::has_endpoints;
 use crate::listing::sorted;
@@ -181,6 +182,32 @@ impl Table {
         mapped_outside(&self.sessions, &self.index, proto, inside)
     }
 
+    /// As `by_inside`; where no session is held, the error is what `outside_of` tells. One look-up serves both.
+    ///
+    /// # Errors
+    ///
+    /// The outside endpoint of the translated sessions of this protocol and inside endpoint, where one is held.
+    pub fn by_inside_or_mapped(
+        &self,
+        proto: Proto,
+        inside: Endpoint,
+        remote: Endpoint,
+    ) -> Result<Slot, Option<Endpoint>>
+        ensures found { IfOk result (λ slot. IsSomeAnd (at self.now slot)
+            (HasInside proto inside remote)) }
+        ensures absent { IfErr result (λ mapped. (slot : ℕ)
+            → IfSome (at self.now slot) (λ s. ¬ HasInside proto inside remote s)) }
+        ensures mapped { IfErr result (λ mapped. IfSome mapped
+            (IsMapping (listing self.now.held) proto inside)) }
+        ensures unmapped { IfErr result (λ mapped. IfNone mapped ((outside : Place)
+            → ¬ IsMapping (listing self.now.held) proto inside outside)) }
+    {
+        match find_or_mapped(&self.sessions, &self.index, proto, inside, remote) {
+            Ok(slot) => Ok(Slot(slot)),
+            Err(mapped) => Err(mapped),
+        }
+    }
+
     /// The session of this protocol, inside and remote endpoint, and its slot, where the first look tells it. `None`
     /// says nothing of whether it is held. However many sessions are held, this reads two places of memory.
     pub fn glance_inside(
@@ -288,6 +315,7 @@ impl Table {
 
     /// Takes a session that clashes with none into a slot that holds none, where there is room for it, fewer
     /// than 65,536 are held, and what it has seen is bits of its protocol. This takes no memory.
+    #[inline(always)]
     pub fn add_reserved(&mut self, session: Session) -> Slot
         requires seen { IsSeen session.proto session.seen }
         requires apart { ¬ ClashesWith self.old session }

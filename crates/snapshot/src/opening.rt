@@ -7,7 +7,7 @@ ghost use Rattle.std.specs.Prelude.{◌≡◌, ◌<◌, ◌≤◌, ◌↔◌, []
 ghost use Rattle.disk_model.specs.declared.disk.FileId.{FileId};
 ghost use Rattle.disk_model.specs.declared.disk.FileId.TheVariants.{A, B};
 ghost use Rattle.disk_model.specs.Disk.{Same, Leaves, LeavesNow, LeavesOnly, Looks, Synced, Grew, HasCause, pair};
-ghost use Rattle.durable.specs.Entering.{Durable, IsDurable, durable, empty};
+ghost use Rattle.durable.specs.Entering.{Durable, IsDurable, empty};
 ghost use Rattle.durable.specs.Recovery.{Alike, IsConfigured, NoneOpen, Recovers};
 ghost use Rattle.snapshot.specs.Opening.{IsReady, IsRecovered, IsKept, state_of};
 ghost use Rattle.snapshot.specs.Store.{IsFirst};

@@ -198,6 +198,25 @@ fn mappings_are_told(rt: HostRuntime) -> Result<(), Fail> {
     Ok(())
 }
 
+// What is held of this inside endpoint that sends to this remote one by UDP.
+fn assert_held(
+    rt: &impl Abort,
+    table: &Table,
+    (inside, remote): (Endpoint, Endpoint),
+    expected: Result<Slot, Option<Endpoint>>,
+) {
+    assert!(rt; table.by_inside_or_mapped(Proto::Udp, inside, remote) == expected);
+}
+
+#[test]
+fn session_or_mapping_is_told(rt: HostRuntime) -> Result<(), Fail> {
+    let (table, slot) = two_sessions(rt.alloc())?;
+    assert_held(&rt, &table, (HOST, SERVER), Ok(slot));
+    assert_held(&rt, &table, (HOST, OUTSIDE), Err(Some(OUTSIDE)));
+    assert_held(&rt, &table, (OUTSIDE, SERVER), Err(None));
+    Ok(())
+}
+
 // A table of a query alone, and its slot.
 fn one_query(alloc: Global) -> Result<(Box<Table>, Slot), Fail> {
     let mut table = Box::new(alloc, Table::new(alloc))?;
