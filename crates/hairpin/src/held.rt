@@ -40,8 +40,8 @@ pub fn held_inside(table: &Table, proto: Proto, inside: Endpoint, remote: Endpoi
     }
 }
 
-/// As `held_inside`; where no session is held, the error is the outside endpoint of the sessions of the inside endpoint
-/// with others (RFC 4787, REQ-1), where one is.
+/// As `held_inside`; where no session is held, the error is the outside endpoint that the translated sessions of the
+/// inside endpoint have (RFC 4787, REQ-1), where there are any.
 pub fn held_or_mapped(
     table: &Table,
     proto: Proto,

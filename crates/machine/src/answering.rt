@@ -100,7 +100,7 @@ fn answer_planned<N: Notes>(
     }
 }
 
-// The plan of a packet with these fields, on its route. Compiled into its caller, most of it stays in registers.
+// The plan of a packet with these fields, on its route. Compiled into its caller, it took fewer instructions.
 #[inline(always)]
 fn plan_for(
     flows: &Flows,
