@@ -7,13 +7,12 @@ A line tells of each crate as it is done. What is done stays done: after Ctrl-C,
 there, and where nothing is left to do a call takes half a minute. With CRATE, the name of a library, that one is built in
 the place of natgw.
 
-As many crates are proved at once as there are processors, and fewer where memory is short. The one with the longest chain
-of crates above it is proved by several jobs, and by more where there are fewer crates than processors, the others by one
-each: jobs of one crate do some work twice, two of rulesyntax 17 in a hundred more and four 37. These are more jobs than
-there are processors, since a part of each proof is one job's alone. A crate gives way to those with longer chains above
-them. Each is proved as the gate proves it: over what the crates below state, without their proofs, which takes about half
-of the time that `rt lib` takes. It is rtlib.py of the kit that does it; others are kept out of all the crates until it
-has ended. The program itself is built by `rt run`.
+As many crates are proved at once as there are processors, and fewer where memory is short: the one with the longest chain
+of crates above it by several jobs, the next by half as many, and so on, since jobs of one crate do some work twice. These
+are more jobs than there are processors, since a part of each proof is one job's alone. A crate gives way to those with
+longer chains above them. Each is proved as the gate proves it: over what the crates below state, without their proofs,
+which takes about half of the time that `rt lib` takes. It is rtlib.py of the kit that does it; others are kept out of all
+the crates until it has ended. The program itself is built by `rt run`.
 """
 import importlib.util
 import os
@@ -62,13 +61,10 @@ def most_crates(rtlib):
     return crates
 
 
-def jobs_of(rank, at_hand):
-    """Returns the jobs of a crate that so many with longer chains above them are proved beside, of so many at hand."""
-    processors = len(os.sched_getaffinity(0))
-    most = min(processors, MOST)
-    if rank:
-        return 1
-    return most if at_hand < processors else max(most // 2, 1)
+def jobs_of(rank):
+    """Returns the jobs of a crate that so many with longer chains above them are proved beside."""
+    most = min(len(os.sched_getaffinity(0)), MOST)
+    return max(most >> rank, 1)
 
 
 def lines_behind(crates):
@@ -80,12 +76,12 @@ def lines_behind(crates):
     return behind
 
 
-def prove(rtlib, crate, rank, jobs):
+def prove(rtlib, crate, rank):
     """Proves a library and writes what it states, and beside it the sum of what that was made from. Returns the status."""
     stamp, made = crate.stamp(), os.path.dirname(crate.rlib)
     shutil.rmtree(made, ignore_errors=True)
     os.makedirs(made)
-    words = [*crate.words(["--jobs", str(jobs)], keeps=False), "--statements", "-o", crate.rlib]
+    words = [*crate.words(["--jobs", str(jobs_of(rank))], keeps=False), "--statements", "-o", crate.rlib]
     status = crate.call("nice", "-n", str(STEP * rank), rtlib.RATTLE, "build", *words)
     if status == 0 and stamp == crate.stamp():
         with open(f"{made}/stamp", "w", encoding="utf-8") as it:
@@ -93,12 +89,12 @@ def prove(rtlib, crate, rank, jobs):
     return status
 
 
-def build(rtlib, crate, rank, jobs):
+def build(rtlib, crate, rank):
     """Builds a library. Returns whether it is proved, what was said, and the seconds that it took."""
     began = time.monotonic()
     with tempfile.TemporaryFile("w+", errors="replace") as crate.out:
         try:
-            status = prove(rtlib, crate, rank, jobs)
+            status = prove(rtlib, crate, rank)
         except SystemExit:
             status = 2
         crate.out.seek(0)
@@ -114,11 +110,10 @@ def build_libraries(rtlib, left, most, tell):
         while running or (left and not failed):
             waited_for = {*left, *running.values()}
             ready = [it for it in left if waited_for.isdisjoint(it.below())]
-            at_hand = len(ready) + len(running)
             for crate in ready[: 0 if failed else most - len(running)]:
                 left.remove(crate)
                 rank = sum(behind[it] > behind[crate] for it in running.values())
-                running[pool.submit(build, rtlib, crate, rank, jobs_of(rank, at_hand))] = crate
+                running[pool.submit(build, rtlib, crate, rank)] = crate
             for it in wait(running, return_when=FIRST_COMPLETED).done:
                 crate = running.pop(it)
                 is_proved, said, seconds = it.result()
