@@ -1,5 +1,5 @@
 -- Entries of which each key has one place: what a look-up gives, and what a change of one place makes of it.
-use Rattle.std.proofs.Common.{Bool, true, false, ◌≡◌, ◌≢◌, ℕ, ◌<◌, ◌≤◌, List, cond, length, get_or, Option, Some, None, refl, sym, ap, ◌∙◌, subst, inl, inr, ◌⊎◌, arith}
+use Rattle.std.proofs.Common.{Bool, true, ◌≡◌, ◌≢◌, ℕ, ◌<◌, ◌≤◌, List, cond, length, get_or, Option, Some, None, refl, sym, ap, ◌∙◌, subst, inl, inr, ◌⊎◌, arith}
 use Rattle.std.proofs.lemmas.Bool.{cases_eq, eq-eqb, ne_eqb}
 use Rattle.std.proofs.lemmas.List.{get_or_default}
 use Rattle.std.proofs.lemmas.Option.{none-some, same_Some}
@@ -8,9 +8,9 @@ use Rattle.std.specs.Prelude.{IsSomeAnd}
 use Rattle.std.specs.Option.{option_map}
 use Rattle.rows.specs.declared.Entry.{Entry}
 use Rattle.rows.specs.Held.{value_at, Puts}
-use Rattle.buckets.specs.Places.{all_in, Stands, HasKey, HasNowhere, AreApart, IsSetTo}
-use Rattle.buckets.specs.ByPort.{AreAtHome, AreFree, ArePlaced, place_of}
-use Rattle.buckets.proofs.Values.{vals, either, nowhere-none, some-stands, has-stands, stands-some, stands-inside, same-vals, all-both, all-some, all-none, all-nowhere, nowhere-all}
+use Rattle.buckets.specs.Places.{all_in, Stands, HasKey, HasNowhere, AreApart, IsExtended, IsSetTo}
+use Rattle.buckets.specs.ByPort.{AreAtHome, ArePlaced, place_of}
+use Rattle.buckets.proofs.Values.{vals, either, some-stands, has-stands, stands-some, stands-inside, same-vals, all-both, all-some, all-none, all-nowhere, nowhere-all}
 
 -- each key stands once
 pub home-apart : (ps : List (Option Entry)) → AreAtHome ps → AreApart ps
@@ -129,16 +129,14 @@ none-gone ps over key none other = elim (cases_eq other key) [
   | inr away ↦ rw (ne_eqb other key away) refl
 ]
 
--- ---- places that are made
+-- ---- free places more
 
-pub free-all : (ps : List (Option Entry)) (over : List Entry) (key : ℕ) → AreFree ps → value_at (all_in ps over) key ≡ value_at over key
-free-all ps over key free = nowhere-all ps over key (λ i e is. absurd (none-some e (sym (free i) ∙ is)))
+module _ (old new : List (Option Entry)) (over : List Entry) (same : IsExtended old new) (home : AreAtHome old) where
+  pub extended-home : AreAtHome new
+  extended-home i e is = home i e (sym (same i) ∙ is)
 
-pub empty-all : (ps : List (Option Entry)) (over : List Entry) (key : ℕ) → length ps ≡ 0 → value_at (all_in ps over) key ≡ value_at over key
-empty-all ps over key empty = nowhere-all ps over key (λ i e is. let inside = stands-inside ps i e is in absurd (omega (arith, inside, empty)))
+  pub extended-values : (key : ℕ) → value_at (all_in new over) key ≡ value_at (all_in old over) key
+  extended-values key = all-both new over key ∙ ap (λ o. either o (value_at over key)) (same-vals old new key (home-apart new extended-home) (λ i e _ is. same i ∙ is) (λ i e _ is. sym (same i) ∙ is)) ∙ sym (all-both old over key)
 
-pub made-same : (ps qs : List (Option Entry)) (old new : List Entry) (key : ℕ) → (qs ≡ ps) ⊎ ((length ps ≡ 0) × AreFree qs) → value_at new key ≡ value_at old key → value_at (all_in qs new) key ≡ value_at (all_in ps old) key
-made-same ps qs old new key made same = elim made [
-  | inl kept ↦ others-same ps qs old new key kept same
-  | inr fresh ↦ free-all qs new key fresh.1 ∙ same ∙ sym (empty-all ps old key fresh.0)
-]
+  pub extended-placed : (has_others : Bool) → ((i : ℕ) (e : Entry) → Stands old i e → value_at over e.key ≡ None) → OnFalse has_others ((key : ℕ) → value_at over key ≡ None) → ArePlaced new over has_others
+  extended-placed has_others once none = record { home = extended-home; once = λ i e is. once i e (sym (same i) ∙ is); none = none }

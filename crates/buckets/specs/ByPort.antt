@@ -1,5 +1,5 @@
 -- How the entries lie where a key has one place. No public clause cites this module.
-use Rattle.std.specs.Prelude.{◌≡◌, ℕ, ◌+◌, ◌*◌, ◌/◌, ◌%◌, List, Bool, Option, None, slice_index_or}
+use Rattle.std.specs.Prelude.{◌≡◌, ℕ, ◌+◌, ◌*◌, ◌/◌, ◌%◌, List, Bool, Option, None}
 use Rattle.std.specs.Bool.{OnFalse}
 use Rattle.rows.specs.declared.Entry.{Entry}
 use Rattle.rows.specs.Held.{value_at}
@@ -14,10 +14,6 @@ place_of key = key / 281474976710656 % 2 * 65536 + key % 65536
 abbrev pub AreAtHome : List (Option Entry) → Type 0
 AreAtHome places = (place : ℕ) (entry : Entry) → Stands places place entry
     → place ≡ place_of entry.key
-
--- no place has an entry
-abbrev pub AreFree : List (Option Entry) → Type 0
-AreFree places = (place : ℕ) → slice_index_or places place None ≡ None
 
 -- each entry of a place is at home there and not among the others, of which there are none where it is told so
 pub record ArePlaced (places : List (Option Entry)) (others : List Entry)

@@ -45,6 +45,11 @@ plain_in (entry ∷ entries) =
 abbrev pub AreNumbered : List Entry → Type 0
 AreNumbered rows = (n : ℕ) → value_at rows n ≢ None → n ≡ number (n % 18446744073709551616)
 
+-- at each place stands what stood there: what is new at the end is free
+abbrev pub IsExtended : List (Option Entry) → List (Option Entry) → Type 0
+IsExtended old new = (place : ℕ) → slice_index_or new place None
+    ≡ slice_index_or old place None
+
 -- an entry with the key stands at this place
 abbrev pub HasKey : List (Option Entry) → ℕ → ℕ → Type 0
 HasKey places key place = IsSomeAnd (slice_index_or places place None) (λ entry. entry.key ≡ key)

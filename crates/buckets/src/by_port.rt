@@ -1,35 +1,38 @@
 //! A map in which a key has one place, said by its port and protocol: for endpoints of one address, of which each has a
 //! port of its own.
-ghost use Rattle.std.specs.Prelude.{◌≡◌, ◌⊎◌, ◌+◌, ◌<◌, ◌≤◌, ℕ, None, Some, IsOk, IsSome, IfOk, IfSome, IfNone, OnOk, OnErr, length, slice_index_or};
+ghost use Rattle.std.specs.Prelude.{◌≡◌, ◌+◌, ◌<◌, ◌≤◌, ℕ, None, Some, IsOk, IsSome, IfOk, IfSome, IfNone, OnOk, OnErr, length, slice_index_or};
 ghost use Rattle.std.specs.Bool.{OnTrue, OnFalse};
 ghost use Rattle.rows.specs.Held.{at, value_at, Puts};
-ghost use Rattle.buckets.specs.ByPort.{AreAtHome, AreFree, ArePlaced, place_of};
+ghost use Rattle.buckets.specs.ByPort.{AreAtHome, ArePlaced, place_of};
 ghost use Rattle.buckets.specs.Held.{KeepsAll};
-ghost use Rattle.buckets.specs.Places.{all_in, entries_in, HasKey, HasNowhere, IsSetTo};
+ghost use Rattle.buckets.specs.Places.{all_in, entries_in, HasKey, HasNowhere, IsExtended, IsSetTo};
 
 use crate::Buckets;
 use crate::place::Place;
-use crate::places::free_places;
+use crate::places::add_free;
 use std::alloc::{AllocError, Global};
 use std::marker::Model;
 
 // A place for each port of each of two protocols.
 const PLACES: usize = 131_072;
 
+// So many places more than were asked for are made, if there are so many ports.
+const SPARE: usize = 4_096;
+
 /// Entries, each key at most once, in no order. A key's place is said by its lowest 16 bits, the port of an endpoint,
 /// and by bit 48, in which the numbers of TCP and UDP differ. An entry that finds no free place there, or whose value is
 /// too great for one, lies in `Buckets`, and stays: so nothing rests on how keys differ but time.
 ///
-/// A place takes 12 bytes, and there are 131,072 of them from the first `reserve` on, if memory is granted then.
+/// A place takes 12 bytes. An insertion makes its key's place, if memory is granted, and those below it; the places of
+/// TCP's ports lie below those of UDP's. There are never more than 131,072.
 #[derive(Drop)]
 pub struct ByPort {
-    alloc: Global,
     places: Vec<Place>,
     others: Buckets,
     // Whether an entry has ever come to the others.
     has_others: bool,
-    // Whether memory for the places was asked for. It is once: a refusal costs no later call anything.
-    has_asked: bool,
+    // Whether memory for places was refused. It isn't asked for again: so a refusal costs no later call anything.
+    is_refused: bool,
 }
 
 impl Model for ByPort {
@@ -53,11 +56,10 @@ impl ByPort {
         ensures { (key : ℕ) → at result key ≡ None }
     {
         ByPort {
-            alloc,
             places: Vec::new(alloc),
             others: Buckets::new(alloc),
             has_others: false,
-            has_asked: false,
+            is_refused: false,
         }
     }
 
@@ -98,6 +100,7 @@ impl ByPort {
             &mut self.places,
             &mut self.others,
             &mut self.has_others,
+            &mut self.is_refused,
             key,
             value,
         )
@@ -151,9 +154,7 @@ impl ByPort {
         ensures same { KeepsAll self.old self.new }
         ensures room { self.old.room ≤ self.new.room }
     {
-        self.others.reserve()?;
-        make_places(self.alloc, &mut self.places, &mut self.has_asked);
-        Ok(())
+        self.others.reserve()
     }
 
     /// Makes room for one more entry, as `reserve` does for two.
@@ -167,30 +168,7 @@ impl ByPort {
         ensures same { KeepsAll self.old self.new }
         ensures room { self.old.room ≤ self.new.room }
     {
-        self.others.reserve_one()?;
-        make_places(self.alloc, &mut self.places, &mut self.has_asked);
-        Ok(())
-    }
-}
-
-// Makes the places, if there are none, and they weren't asked for before.
-fn make_places(alloc: Global, places: &mut Vec<Place>, has_asked: &mut bool)
-    ensures { (places.new.items ≡ places.old.items)
-        ⊎ ((length places.old.items ≡ 0) × AreFree places.new.items) }
-{
-    if places.is_empty() && !*has_asked {
-        *has_asked = true;
-        put_places(alloc, places);
-    }
-}
-
-// Makes the places, if memory is granted. This is done once, and not compiled into its caller.
-#[inline(never)]
-fn put_places(alloc: Global, places: &mut Vec<Place>)
-    ensures { (places.new.items ≡ places.old.items) ⊎ AreFree places.new.items }
-{
-    if let Ok(fresh) = free_places(alloc, PLACES) {
-        *places = fresh;
+        self.others.reserve_one()
     }
 }
 
@@ -255,6 +233,51 @@ fn find_other(others: &Buckets, has_others: bool, key: u64) -> Option<usize>
 // Puts an entry in, whose key no other has.
 #[inline(always)]
 fn add(
+    places: &mut Vec<Place>,
+    others: &mut Buckets,
+    has_others: &mut bool,
+    is_refused: &mut bool,
+    key: u64,
+    value: usize,
+) -> Result<(), AllocError>
+    requires placed { ArePlaced places.old.items others.old.held has_others.old }
+    requires absent { value_at (all_in places.old.items others.old.held) key ≡ None }
+    ensures placed { ArePlaced places.new.items others.new.held has_others.new }
+    ensures ok { OnOk result (Puts (all_in places.old.items others.old.held)
+        (all_in places.new.items others.new.held) key (Some value)) }
+    ensures err { OnErr result ((other : ℕ) → value_at (all_in places.new.items others.new.held) other
+        ≡ value_at (all_in places.old.items others.old.held) other) }
+    ensures succeeds { 0 < others.old.room → IsOk result }
+    ensures room_ok { OnOk result (others.old.room ≤ others.new.room + 1) }
+    ensures room_err { OnErr result (others.old.room ≤ others.new.room) }
+{
+    make_place(places, is_refused, place_of(key));
+    put_in(places, others, has_others, key, value)
+}
+
+// Makes the place, if it isn't there, unless memory for one was refused.
+#[inline(always)]
+fn make_place(places: &mut Vec<Place>, is_refused: &mut bool, place: usize)
+    ensures { IsExtended places.old.items places.new.items }
+{
+    if place >= places.len() && !*is_refused {
+        *is_refused = lengthen(places, place).is_err();
+    }
+}
+
+// Makes the places up to this one and some more, and twice as many as there are: so entries are seldom moved.
+#[inline(never)]
+fn lengthen(places: &mut Vec<Place>, place: usize) -> Result<(), AllocError>
+    ensures { IsExtended places.old.items places.new.items }
+{
+    let twice = places.len().saturating_mul(2);
+    let wanted = place.saturating_add(SPARE).max(twice).min(PLACES);
+    add_free(places, wanted.saturating_sub(places.len()))
+}
+
+// Puts an entry in, whose key no other has, into its place or among the others.
+#[inline(always)]
+fn put_in(
     places: &mut [Place],
     others: &mut Buckets,
     has_others: &mut bool,

@@ -5,7 +5,7 @@ ghost use Rattle.std.specs.Option.{option_map};
 ghost use Rattle.rows.specs.Held.{value_at, Puts};
 ghost use Rattle.std.specs.Prelude.{IfOk};
 ghost use Rattle.rows.specs.declared.Entry.{Entry as KeyValue};
-ghost use Rattle.buckets.specs.Places.{all_in, bucket_of, number, Stands, HasKey, HasNowhere, AreHome, AreInFront, AreApart, AreSound, IsFreeFor, IsNextFor, EndsSearch, IsFull, IsFilled, ArePacked, ArePackedBut, IsClosed, IsCopied, HaveSame, IsSetTo};
+ghost use Rattle.buckets.specs.Places.{all_in, bucket_of, number, Stands, HasKey, HasNowhere, AreHome, AreInFront, AreApart, AreSound, IsFreeFor, IsNextFor, EndsSearch, IsFull, IsFilled, ArePacked, ArePackedBut, IsClosed, IsCopied, HaveSame, IsExtended, IsSetTo};
 
 use crate::overflow::{Overflow, number, spread};
 use crate::place::Place;
@@ -483,15 +483,24 @@ fn moved(alloc: Global, places: &[Place]) -> Option<Vec<Place>>
     Some(fresh)
 }
 
-/// So many free places.
-pub fn free_places(alloc: Global, count: usize) -> Result<Vec<Place>, AllocError>
+// So many free places.
+fn free_places(alloc: Global, count: usize) -> Result<Vec<Place>, AllocError>
     ensures { IfOk result (λ places. (k : ℕ) → slice_index_or places.items k None ≡ None) }
 {
-    let mut places = Vec::with_capacity(alloc, count)?;
+    let mut places = Vec::new(alloc);
+    add_free(&mut places, count)?;
+    Ok(places)
+}
+
+/// Makes so many free places behind those that are there.
+pub fn add_free(places: &mut Vec<Place>, count: usize) -> Result<(), AllocError>
+    ensures { IsExtended places.old.items places.new.items }
+{
+    places.reserve_exact(count)?;
     for _ in 0..count {
         places.push(Place::empty())?;
     }
-    Ok(places)
+    Ok(())
 }
 
 // Puts each entry of the old places into the first free one of its bucket. Whether there was one for each.

@@ -29,9 +29,9 @@ const TCP: u8 = 6;
 
 const UDP: u8 = 17;
 
-// Endpoints that have places of their own; one whose place is taken by the first; a key that is no endpoint's; and a
-// value that is too great for a place.
-fn entries() -> [(u64, usize); 6] {
+// Endpoints that have places of their own; one whose place is taken by the first; a key that is no endpoint's; a value
+// that is too great for a place; and the endpoint of the last place.
+fn entries() -> [(u64, usize); 7] {
     [
         (key(UDP, EXTERNAL, 53), 1),
         (key(TCP, EXTERNAL, 53), 2),
@@ -39,6 +39,7 @@ fn entries() -> [(u64, usize); 6] {
         (key(UDP, ANOTHER, 53), 4),
         (u64::MAX, 5),
         (key(UDP, EXTERNAL, 54), usize::MAX),
+        (key(UDP, EXTERNAL, 65_535), 6),
     ]
 }
 
@@ -61,6 +62,13 @@ fn put_entries(rt: &impl Abort, map: &mut ByPort) -> Result<(), AllocError> {
 fn assert_have(rt: &impl Abort, map: &ByPort) {
     for (key, value) in entries() {
         assert_has(rt, map, key, Some(value));
+    }
+}
+
+fn assert_have_up_to(rt: &impl Abort, map: &ByPort, ports: &[u16], most: u16) {
+    for &port in ports {
+        let expected = (port <= most).then_some(usize::from(port));
+        assert_has(rt, map, key(TCP, EXTERNAL, port), expected);
     }
 }
 
@@ -97,14 +105,18 @@ fn endpoints_go_in_and_out(rt: HostRuntime) -> Result<(), AllocError> {
     Ok(())
 }
 
-// Entries that went in before there were places stay where they were, and are found.
+// Each greater port makes the places more: what went in before stays where it was, and is found.
 #[test]
-fn endpoints_are_found_from_before_the_places(rt: HostRuntime) -> Result<(), AllocError> {
+fn endpoints_are_found_when_places_become_more(rt: HostRuntime) -> Result<(), AllocError> {
     let mut map = empty(rt.alloc())?;
+    let ports = [1_u16, 5_000, 20_000, 65_535];
+    for port in ports {
+        put(&rt, &mut map, key(TCP, EXTERNAL, port), usize::from(port))?;
+        assert_have_up_to(&rt, &map, &ports, port);
+    }
     put_entries(&rt, &mut map)?;
-    reserve(&mut map)?;
+    assert_have_up_to(&rt, &map, &ports, 65_535);
     assert_have(&rt, &map);
-    take_entries(&rt, &mut map);
     Ok(())
 }
 

@@ -1,4 +1,4 @@
-use Rattle.std.proofs.Common.{Some, sym, ◌∙◌}
+use Rattle.std.proofs.Common.{sym, ◌∙◌}
 use Rattle.buckets.proofs.Values.{all-some, all-none}
 use Rattle.buckets.proofs.by_port.find.Goals as goal
 
