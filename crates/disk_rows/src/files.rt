@@ -17,9 +17,16 @@ fn disk_of(rt: &HostRuntime, directory: &str) -> Result<Box<FileDisk>, Fail> {
     Ok(Box::new(rt.alloc(), FileDisk::open(rt, directory)?)?)
 }
 
+// The length of a new file.
+const ROOM: u64 = 1_048_576;
+
+// Whether a file begins with these bytes, and has zeros behind them up to its first length.
 fn is_file(rt: &HostRuntime, path: &str, expected: &[u8]) -> Result<bool, Fail> {
     let bytes = fs::read(rt, path)?;
-    Ok(bytes.as_slice() == expected)
+    let Some(behind) = bytes.as_slice().strip_prefix(expected) else {
+        return Ok(false);
+    };
+    Ok(bytes.len() as u64 == ROOM && behind.iter().all(|byte| *byte == 0))
 }
 
 fn put(disk: &mut FileDisk, file: FileId, at: u64, bytes: &[u8]) -> Result<(), DiskFault> {
@@ -54,8 +61,8 @@ fn write_both(disk: &mut FileDisk) -> Result<(), DiskFault> {
 fn written(rt: &HostRuntime, directory: &str) -> Result<(), Fail> {
     fresh(rt, directory)?;
     let mut disk = disk_of(rt, directory)?;
-    if lengths(&mut disk)? != (0, 0) {
-        return Err("the new files have bytes".into());
+    if lengths(&mut disk)? != (ROOM, ROOM) {
+        return Err("the new files have another length".into());
     }
     write_both(&mut disk)?;
     Ok(())
@@ -69,7 +76,7 @@ fn middle(disk: &mut FileDisk) -> Result<[u8; 8], DiskFault> {
 }
 
 fn assert_kept(rt: &impl Abort, disk: &mut FileDisk) -> Result<(), Fail> {
-    assert!(rt; lengths(disk)? == (18, 6));
+    assert!(rt; lengths(disk)? == (ROOM, ROOM));
     assert!(rt; middle(disk)? == *b"t FILE, ");
     assert!(rt; disk.failures() == 0);
     Ok(())
@@ -123,11 +130,11 @@ fn three(disk: &mut FileDisk, at: u64) -> (Option<[u8; 3]>, u64) {
 }
 
 fn read_past_the_end(rt: &impl Abort, disk: &mut FileDisk) -> Result<(), Fail> {
-    put(disk, FileId::B, 2, b"xy")?;
-    for (at, expected) in [(2, None), (1, Some(*b"\0xy"))] {
+    put(disk, FileId::B, ROOM + 2, b"xy")?;
+    for (at, expected) in [(ROOM + 2, None), (ROOM + 1, Some(*b"\0xy"))] {
         assert!(rt; three(disk, at) == (expected, 1), "{at}");
     }
-    get(disk, FileId::B, 4, &mut [])?;
+    get(disk, FileId::B, ROOM + 4, &mut [])?;
     assert!(rt; disk.failures() == 1);
     Ok(())
 }
@@ -145,7 +152,7 @@ fn length_of(rt: &HostRuntime, path: &str) -> Result<u64, Fail> {
 }
 
 fn write_past_all_places(rt: &impl Abort, disk: &mut FileDisk) -> Result<(), Fail> {
-    put(disk, FileId::B, 2, b"xy")?;
+    put(disk, FileId::B, ROOM + 2, b"xy")?;
     assert!(rt; put(disk, FileId::B, u64::MAX, b"z").is_err());
     assert!(rt; disk.failures() == 1);
     Ok(())
@@ -157,7 +164,19 @@ fn past_all_places(rt: HostRuntime) -> Result<(), Fail> {
     let mut disk = disk_of(&rt, "places")?;
     write_past_all_places(&rt, &mut disk)?;
     drop(disk);
-    for (path, expected) in &[("places/natgw.b", 4), ("places/natgw.a", 0)] {
+    for (path, expected) in &[("places/natgw.b", ROOM + 4), ("places/natgw.a", ROOM)] {
+        assert!(rt; length_of(&rt, path)? == *expected, "{path}");
+    }
+    Ok(())
+}
+
+// A file that has bytes keeps them alone.
+#[test]
+fn old_files_stay_as_long(rt: HostRuntime) -> Result<(), Fail> {
+    fresh(&rt, "old")?;
+    fs::write(&rt, "old/natgw.a", b"old".as_slice())?;
+    drop(disk_of(&rt, "old")?);
+    for (path, expected) in &[("old/natgw.a", 3), ("old/natgw.b", ROOM)] {
         assert!(rt; length_of(&rt, path)? == *expected, "{path}");
     }
     Ok(())

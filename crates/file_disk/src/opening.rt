@@ -121,6 +121,18 @@ fn open_file(rt: &HostRuntime, directory: &str, id: FileId) -> Result<File, Open
     Ok(file)
 }
 
+// So many bytes a file has from the start: about as many as its groups take before the other one is made anew.
+const ROOM: u64 = 1_048_576;
+
+// Makes an empty file long, in zeros, by which no gate is open. A write that makes a file longer has its sync keep the new
+// length as well, which takes the device another write.
+fn make_room(file: &File) -> Result<(), OpenError> {
+    if file.metadata()?.len() == 0 {
+        file.set_len(ROOM)?;
+    }
+    Ok(())
+}
+
 // Syncs a file, and asks the system to drop its copy in memory, which the system may refuse or leave undone: behind a
 // failed sync of another program that copy may differ from what the device has.
 fn sync_and_uncache(file: &File) -> Result<(), OpenError> {
@@ -132,9 +144,10 @@ fn sync_and_uncache(file: &File) -> Result<(), OpenError> {
     Ok(())
 }
 
-// One of the files, opened and synced.
+// One of the files, opened, long and synced.
 fn synced_file(rt: &HostRuntime, directory: &str, id: FileId) -> Result<File, OpenError> {
     let file = open_file(rt, directory, id)?;
+    make_room(&file)?;
     sync_and_uncache(&file)?;
     Ok(file)
 }
@@ -149,8 +162,8 @@ fn file_in(rt: &HostRuntime, directory: &str, id: FileId) -> Result<File, OpenEr
 
 impl FileDisk<File> {
     /// Opens the files `natgw.a` and `natgw.b` of a directory, makes those that are missing, with access for their
-    /// owner alone, and locks both until the disk is dropped. Both and the directory are synced, so that a loss of power
-    /// leaves no file without its name.
+    /// owner alone, and locks both until the disk is dropped. A file that is made, or is empty, has 1,048,576 zeros then.
+    /// Both and the directory are synced, so that a loss of power leaves no file without its name.
     ///
     /// # Errors
     ///

@@ -127,14 +127,13 @@ near_chosen config rules held pairs counts is_one sound now view external o same
 
 -- ---- a session that begins
 
-pub first-none : (config : Config) (rules : Spelled) (sessions : List Session) (now : ℕ) (view : View) (b : Option Held) → b ≡ None → needs_session view ≡ false
+pub first-none : (config : Config) (rules : Spelled) (sessions : List Session) (now : ℕ) (view : View) → needs_session view ≡ false
     → (r : Result Endpoint Cause) → r ≡ outside_near config rules sessions now view (find (maps_inside view.proto view.src) sessions)
-    → then_with r (λ outside. Ok (new_session config rules sessions now view Inside view.src outside view.dst)) ≡ first_by config rules sessions now view (option_map (λ (h : Held). h.session) b)
-first-none config rules sessions now view b none needs r e =
+    → then_with r (λ outside. Ok (new_session config rules sessions now view Inside view.src outside view.dst)) ≡ first_by config rules sessions now view None
+first-none config rules sessions now view needs r e =
     let next : Endpoint → Result Session Cause = λ outside. Ok (new_session config rules sessions now view Inside view.src outside view.dst) in
     ap (λ x. then_with x next) e
     ∙ sym (ap (λ c. if c then Err NoSession else then_with (outside_near config rules sessions now view (find (maps_inside view.proto view.src) sessions)) next) needs)
-    ∙ ap (λ o. first_by config rules sessions now view (option_map (λ (h : Held). h.session) o)) (sym none)
 
 pub second-none : (config : Config) (rules : Spelled) (sessions : List Session) (now : ℕ) (view : View) (first : Session) → ((u : Session) → In u sessions → same_flow first u ≡ true → u.outside ≡ first.outside)
     → first.outside ≢ view.dst → needs_session view ≡ false

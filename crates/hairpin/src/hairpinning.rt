@@ -1,14 +1,17 @@
 //! Both legs of a packet from an inside endpoint to an outside endpoint of the gateway.
 //!
-//! `both` asks `first_session` for the session that the packet goes out by, held or new, and `after_first` for the rest:
-//! the session that it comes in by (`second_leg`: one that is held, or a new one of `second_session`, to the inside
-//! endpoint that the prerouting chains or a mapping tell, `inside_far`), the forward chains (`is_forwarded`), the plan.
+//! `both` asks `first_leg` for the session that the packet goes out by (one that is held, or a new one of `first_session`),
+//! and `after_first` for the rest: the session that it comes in by (`second_leg`: one that is held, or a new one of
+//! `second_session`, to the inside endpoint that the prerouting chains or a mapping tell, `inside_far`), the forward
+//! chains (`is_forwarded`), the plan.
 ghost use Rattle.std.specs.Prelude.{◌≡◌, ◌≢◌, ◌↔◌, ◌<◌, ◌≤◌, ◌+◌, ℕ, List, Option as Maybe, IsTrue, IfErr, IfOk, IfSome, IfNone, Some, None, Ok, Err, slice_index_or, true};
 ghost use Rattle.std.specs.Option.{option_map, option_map_or};
 ghost use Rattle.packet.specs.Config.{Config, is_inside};
+ghost use Rattle.packet.specs.declared.endpoint.Endpoint.{Endpoint as Place};
 ghost use Rattle.mappings.specs.declared.map.Pair.{Pair as Mapping};
 ghost use Rattle.mappings.specs.Map.{times};
 ghost use Rattle.rulesyntax.specs.declared.tree.Spelled.{Spelled};
+ghost use Rattle.sessions.specs.Laws.{IsMapping};
 ghost use Rattle.sessions.specs.Listing.{In, find, has_inside, has_outside, listing, put, same_flow};
 ghost use Rattle.sessions.specs.Table.{at, count};
 ghost use Rattle.sessions.specs.declared.session.Session.{Session as Flow};
@@ -22,7 +25,7 @@ ghost use Rattle.hairpin.specs.declared.held.Held.{Held as Known};
 
 use crate::cause::Cause;
 use crate::held::{
-    Held, change_of, facts_of, held_inside, held_outside, needs_session, new_session, state_of,
+    Held, change_of, facts_of, held_or_mapped, held_outside, needs_session, new_session, state_of,
 };
 use crate::plan::Plan;
 use crate::translations::Translations;
@@ -63,12 +66,10 @@ pub fn both(
     ensures { Plans bounds.now.external table.now.held now result
         (hairpin_way bounds.now rules.now (listing table.now.held) now view.now) }
 {
-    let before = held_inside(table, view.proto, view.src, view.dst);
-    let session = match first_session(bounds, table, translations, view, &before, now) {
-        Ok(session) => session,
+    let first = match first_leg(bounds, table, translations, view, now) {
+        Ok(leg) => leg,
         Err(cause) => return Err(cause),
     };
-    let first = Leg { session, before };
     after_first(bounds, rules, table, translations, view, &first, now)
 }
 
@@ -131,9 +132,14 @@ fn outside_near(
     bounds: &Bounds,
     table: &Table,
     translations: &Translations,
+    mapped: Option<Endpoint>,
     view: &View,
 ) -> Result<Endpoint, Cause>
     requires translations { AreOf bounds.now table.now.held translations.now }
+    requires mapped { IfSome mapped
+        (IsMapping (listing table.now.held) view.now.proto view.now.src) }
+    requires unmapped { IfNone mapped ((outside : Place)
+        → ¬ IsMapping (listing table.now.held) view.now.proto view.now.src outside) }
     requires port { 0 < view.now.src.port }
     requires external_destination { view.now.dst.addr ≡ bounds.now.external }
     ensures { (rules : Spelled) (now : ℕ) → let sessions = listing table.now.held in
@@ -141,8 +147,8 @@ fn outside_near(
         (find (maps_inside view.now.proto view.now.src) sessions) }
 {
     bounds.facts();
-    match table.outside_of(view.proto, view.src) {
-        Some(mapped) => Ok(mapped),
+    match mapped {
+        Some(outside) => Ok(outside),
         None => match translations.choose(view.proto, view.src.port) {
             Some(outside) => Ok(outside),
             None => Err(Cause::NoPort),
@@ -150,40 +156,70 @@ fn outside_near(
     }
 }
 
-// The session that the packet goes out by: as it is once the packet has passed, where one was held, and else a new one.
+// A new session that the packet goes out by, where none is held.
 fn first_session(
     bounds: &Bounds,
     table: &Table,
     translations: &Translations,
+    mapped: Option<Endpoint>,
     view: &View,
-    before: &Option<Held>,
     now: u64,
 ) -> Result<Session, Cause>
     requires translations { AreOf bounds.now table.now.held translations.now }
+    requires mapped { IfSome mapped
+        (IsMapping (listing table.now.held) view.now.proto view.now.src) }
+    requires unmapped { IfNone mapped ((outside : Place)
+        → ¬ IsMapping (listing table.now.held) view.now.proto view.now.src outside) }
     requires port { 0 < view.now.src.port }
     requires external_destination { view.now.dst.addr ≡ bounds.now.external }
     ensures { (rules : Spelled)
-        → result ≡ first_by bounds.now rules (listing table.now.held) now view.now
-        (option_map (λ (h : Known). h.session) before.now) }
+        → result ≡ first_by bounds.now rules (listing table.now.held) now view.now None }
 {
-    match before {
-        Some(held) => Ok(passed(&held.session, Opener::Inside, view.flags, now)),
-        None => {
-            if needs_session(view) {
-                return Err(Cause::NoSession);
-            }
-            match outside_near(bounds, table, translations, view) {
-                Ok(outside) => Ok(new_session(
-                    view,
-                    Opener::Inside,
-                    view.src,
-                    outside,
-                    view.dst,
-                    now,
-                )),
-                Err(cause) => Err(cause),
-            }
-        }
+    if needs_session(view) {
+        return Err(Cause::NoSession);
+    }
+    match outside_near(bounds, table, translations, mapped, view) {
+        Ok(outside) => Ok(new_session(view, Opener::Inside, view.src, outside, view.dst, now)),
+        Err(cause) => Err(cause),
+    }
+}
+
+// The session that the packet goes out by, held or new.
+fn first_leg(
+    bounds: &Bounds,
+    table: &Table,
+    translations: &Translations,
+    view: &View,
+    now: u64,
+) -> Result<Leg, Cause>
+    requires translations { AreOf bounds.now table.now.held translations.now }
+    requires port { 0 < view.now.src.port }
+    requires external_destination { view.now.dst.addr ≡ bounds.now.external }
+    ensures session { let sessions = listing table.now.held in
+        (rules : Spelled) → IfOk result (λ leg. first_by bounds.now rules sessions now view.now
+        (find (has_inside view.now.proto view.now.src view.now.dst) sessions)
+        ≡ Ok leg.session) }
+    ensures cause { let sessions = listing table.now.held in
+        (rules : Spelled) → IfErr result (λ cause. first_by bounds.now rules sessions now view.now
+        (find (has_inside view.now.proto view.now.src view.now.dst) sessions)
+        ≡ Err cause) }
+    ensures before { IfOk result (λ leg. option_map (λ (h : Known). h.session) leg.before
+        ≡ find (has_inside view.now.proto view.now.src view.now.dst) (listing table.now.held)) }
+    ensures slot { IfOk result (λ leg. IfSome leg.before (λ h. at table.now h.slot
+        ≡ Some h.session)) }
+{
+    match held_or_mapped(table, view.proto, view.src, view.dst) {
+        Ok(held) => Ok(Leg {
+            session: passed(&held.session, Opener::Inside, view.flags, now),
+            before: Some(held),
+        }),
+        Err(mapped) => match first_session(bounds, table, translations, mapped, view, now) {
+            Ok(session) => Ok(Leg {
+                session,
+                before: None,
+            }),
+            Err(cause) => Err(cause),
+        },
     }
 }
 

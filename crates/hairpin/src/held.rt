@@ -24,24 +24,8 @@ pub struct Held {
     pub session: Session,
 }
 
-/// The session of this inside endpoint and this remote one.
-pub fn held_inside(table: &Table, proto: Proto, inside: Endpoint, remote: Endpoint) -> Option<Held>
-    ensures session { option_map (λ (h : Known). h.session) result
-        ≡ find (has_inside proto inside remote) (listing table.now.held) }
-    ensures slot { IfSome result (λ h. at table.now h.slot ≡ Some h.session) }
-{
-    table.is_sound();
-    match table.by_inside(proto, inside, remote) {
-        Some(slot) => match table.get(slot) {
-            Some(session) => Some(Held { slot, session }),
-            None => None,
-        },
-        None => None,
-    }
-}
-
-/// As `held_inside`; where no session is held, the error is the outside endpoint that the translated sessions of the
-/// inside endpoint have (RFC 4787, REQ-1), where there are any.
+/// The session of this inside endpoint and this remote one. Where none is held, the error is the outside endpoint that the
+/// translated sessions of the inside endpoint have (RFC 4787, REQ-1), where there are any.
 pub fn held_or_mapped(
     table: &Table,
     proto: Proto,

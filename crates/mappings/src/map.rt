@@ -35,7 +35,7 @@ const _: () = prove!(size_of::<Counted>() == 24);
 /// The pairs that are held.
 ///
 /// A look-up by an outside endpoint reads one place, which its protocol and port say, and one slot. A pair takes 32 bytes
-/// in its slot, and the places take 1.5 MiB (`ByPort`), however many pairs there are.
+/// in its slot, and the places take up to 1.5 MiB (`ByPort`), however many pairs there are.
 #[derive(Drop)]
 pub struct Map {
     index: Index,

@@ -283,24 +283,7 @@ fn find_untranslated(row: &Rows, proto: Proto, near: Endpoint, remote: Endpoint)
     row.get(key(proto, near, remote))
 }
 
-/// The outside endpoint that the translated sessions of this protocol and inside endpoint have: the first of them
-/// tells it.
-pub fn mapped_outside(
-    sessions: &Slab<Session>,
-    index: &Index,
-    proto: Proto,
-    inside: Endpoint,
-) -> Option<Endpoint>
-    requires { IsIndexed sessions.now.slots index.now }
-    ensures found { IfSome result (IsMapping (listing sessions.now.slots) proto inside) }
-    ensures absent { IfNone result ((outside : Place)
-        → ¬ IsMapping (listing sessions.now.slots) proto inside outside) }
-{
-    let first = index.translated.first_inside(proto, inside);
-    mapped_by(sessions, index, first, proto, inside)
-}
-
-// As `mapped_outside`, where the first translated session of the inside endpoint is known.
+// The outside endpoint that the translated sessions of this protocol and inside endpoint have: the first of them tells it.
 fn mapped_by(
     sessions: &Slab<Session>,
     index: &Index,
@@ -321,8 +304,8 @@ fn mapped_by(
     Some(session.outside)
 }
 
-/// As `find_inside`; where no session is, what `mapped_outside` tells. One look for the first translated session of the
-/// inside endpoint serves both.
+/// As `find_inside`; where no session is, the outside endpoint that the translated ones of the inside endpoint have. One
+/// look for the first of them serves both.
 pub fn find_or_mapped(
     sessions: &Slab<Session>,
     index: &Index,

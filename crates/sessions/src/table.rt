@@ -12,7 +12,6 @@ use crate::ahead::{Coming, MOST_AHEAD, guess_all};
 use crate::hints::Hints;
 use crate::index::{
     Index, clashes, find_inside, find_or_mapped, find_outside, guess_inside, guess_outside,
-    mapped_outside,
 };
 use crate::keys::has_endpoints;
 use crate::listing::sorted;
@@ -172,21 +171,12 @@ impl Table {
         Some(Slot(slot))
     }
 
-    /// The outside endpoint of the translated sessions of this protocol and inside endpoint, where one is held: they
-    /// have one for all remote endpoints (RFC 4787, REQ-1). It takes one look-up in a map.
-    pub fn outside_of(&self, proto: Proto, inside: Endpoint) -> Option<Endpoint>
-        ensures found { IfSome result (IsMapping (listing self.now.held) proto inside) }
-        ensures absent { IfNone result ((outside : Place)
-            → ¬ IsMapping (listing self.now.held) proto inside outside) }
-    {
-        mapped_outside(&self.sessions, &self.index, proto, inside)
-    }
-
-    /// As `by_inside`; where no session is held, the error is what `outside_of` tells. One look-up serves both.
+    /// As `by_inside`; where no session is held, the same look-up tells which outside endpoint a new one has to share.
     ///
     /// # Errors
     ///
-    /// The outside endpoint of the translated sessions of this protocol and inside endpoint, where one is held.
+    /// The outside endpoint of the translated sessions of this protocol and inside endpoint, where one is held: they have
+    /// one for all remote endpoints (RFC 4787, REQ-1).
     pub fn by_inside_or_mapped(
         &self,
         proto: Proto,

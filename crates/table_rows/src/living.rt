@@ -185,19 +185,6 @@ fn sessions_are_found(rt: HostRuntime) -> Result<(), Fail> {
     Ok(())
 }
 
-// The outside endpoint that the sessions of this inside endpoint have by UDP.
-fn assert_outside(rt: &impl Abort, table: &Table, inside: Endpoint, expected: Option<Endpoint>) {
-    assert_eq!(rt; table.outside_of(Proto::Udp, inside), expected);
-}
-
-#[test]
-fn mappings_are_told(rt: HostRuntime) -> Result<(), Fail> {
-    let (table, _) = two_sessions(rt.alloc())?;
-    assert_outside(&rt, &table, HOST, Some(OUTSIDE));
-    assert_outside(&rt, &table, OUTSIDE, None);
-    Ok(())
-}
-
 // What is held of this inside endpoint that sends to this remote one by UDP.
 fn assert_held(
     rt: &impl Abort,

@@ -1,4 +1,6 @@
-use Rattle.std.proofs.Common.{Ok, sym, ap, ◌∙◌}
+use Rattle.std.proofs.Common.{IfSome, IfNone, Ok, sym, subst, ap, ◌∙◌}
+use Rattle.packet.specs.declared.endpoint.Endpoint.{Endpoint}
+use Rattle.sessions.specs.Laws.{IsMapping}
 use Rattle.sessions.specs.Listing.{listing}
 use Rattle.hairpin.specs.Legs.{or_no_port, outside_near}
 use Rattle.hairpin.proofs.Mapped.{mapped}
@@ -9,15 +11,21 @@ pub returns-in-Some : goal.returns-in-Some
 returns-in-Some c = λ rules now.
     let view = c.args.view.now in
     let held = c.args.table.now.held in
-    let m = mapped c.args.bounds.now (listing held) c.requires.translations.sound view.proto view.src c.in-Some.mapped c.in-Some.ensures.found in
+    let m = mapped c.args.bounds.now (listing held) c.requires.translations.sound view.proto view.src c.in-Some.outside (subst (λ o. IfSome o (IsMapping (listing held) view.proto view.src)) c.in-Some.is c.requires.mapped) in
     sym (ap (outside_near c.args.bounds.now rules (listing held) now view) m.1 ∙ ap (λ e. Ok e) m.2)
 
 pub returns-in-Some-choose : goal.returns-in-Some-choose
 returns-in-Some-choose c = λ rules now.
+    let held = c.args.table.now.held in
+    let view = c.args.view.now in
+    let absent = subst (λ o. IfNone o ((outside : Endpoint) → ¬ IsMapping (listing held) view.proto view.src outside)) c.in-None.is c.requires.unmapped in
     ap or_no_port (sym c.in-Some-choose.is)
-    ∙ near_chosen c.args.bounds.now rules c.args.table.now.held c.args.translations.now.pairs c.requires.translations.counts c.facts.ensures.valid c.requires.translations.sound now c.args.view.now c.args.translations.now.external c.choose.result c.requires.translations.external c.requires.external_destination c.in-None.ensures.absent c.choose.ensures
+    ∙ near_chosen c.args.bounds.now rules held c.args.translations.now.pairs c.requires.translations.counts c.facts.ensures.valid c.requires.translations.sound now view c.args.translations.now.external c.choose.result c.requires.translations.external c.requires.external_destination absent c.choose.ensures
 
 pub returns-in-None-choose : goal.returns-in-None-choose
 returns-in-None-choose c = λ rules now.
+    let held = c.args.table.now.held in
+    let view = c.args.view.now in
+    let absent = subst (λ o. IfNone o ((outside : Endpoint) → ¬ IsMapping (listing held) view.proto view.src outside)) c.in-None.is c.requires.unmapped in
     ap or_no_port (sym c.in-None-choose.is)
-    ∙ near_chosen c.args.bounds.now rules c.args.table.now.held c.args.translations.now.pairs c.requires.translations.counts c.facts.ensures.valid c.requires.translations.sound now c.args.view.now c.args.translations.now.external c.choose.result c.requires.translations.external c.requires.external_destination c.in-None.ensures.absent c.choose.ensures
+    ∙ near_chosen c.args.bounds.now rules held c.args.translations.now.pairs c.requires.translations.counts c.facts.ensures.valid c.requires.translations.sound now view c.args.translations.now.external c.choose.result c.requires.translations.external c.requires.external_destination absent c.choose.ensures
