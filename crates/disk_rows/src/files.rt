@@ -18,7 +18,7 @@ fn disk_of(rt: &HostRuntime, directory: &str) -> Result<Box<FileDisk>, Fail> {
 }
 
 // The length of a new file.
-const ROOM: u64 = 1_048_576;
+const ROOM: u64 = 524_288;
 
 // Whether a file begins with these bytes, and has zeros behind them up to its first length.
 fn is_file(rt: &HostRuntime, path: &str, expected: &[u8]) -> Result<bool, Fail> {

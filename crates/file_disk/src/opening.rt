@@ -121,8 +121,9 @@ fn open_file(rt: &HostRuntime, directory: &str, id: FileId) -> Result<File, Open
     Ok(file)
 }
 
-// So many bytes a file has from the start: about as many as its groups take before the other one is made anew.
-const ROOM: u64 = 1_048_576;
+// So many bytes a file has from the start: half as many as its groups take before the other one is made anew. Each byte
+// is read once, by an opening.
+const ROOM: u64 = 524_288;
 
 // Makes an empty file long, in zeros, by which no gate is open. A write that makes a file longer has its sync keep the new
 // length as well, which takes the device another write.
@@ -162,7 +163,7 @@ fn file_in(rt: &HostRuntime, directory: &str, id: FileId) -> Result<File, OpenEr
 
 impl FileDisk<File> {
     /// Opens the files `natgw.a` and `natgw.b` of a directory, makes those that are missing, with access for their
-    /// owner alone, and locks both until the disk is dropped. A file that is made, or is empty, has 1,048,576 zeros then.
+    /// owner alone, and locks both until the disk is dropped. A file that is made, or is empty, has 524,288 zeros then.
     /// Both and the directory are synced, so that a loss of power leaves no file without its name.
     ///
     /// # Errors
