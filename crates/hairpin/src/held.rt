@@ -26,6 +26,7 @@ pub struct Held {
 
 /// The session of this inside endpoint and this remote one. Where none is held, the error is the outside endpoint that the
 /// translated sessions of the inside endpoint have (RFC 4787, REQ-1), where there are any.
+#[inline(always)]
 pub fn held_or_mapped(
     table: &Table,
     proto: Proto,
