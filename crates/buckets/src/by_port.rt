@@ -16,23 +16,23 @@ use std::marker::Model;
 // A place for each port of each of two protocols.
 const PLACES: usize = 131_072;
 
-// So many places more than were asked for are made, if there are so many ports.
+// So many places are made behind the one that is asked for, if there are so many.
 const SPARE: usize = 4_096;
 
 /// Entries, each key at most once, in no order. A key's place is said by its lowest 16 bits, the port of an endpoint,
 /// and by bit 48, in which the numbers of TCP and UDP differ. An entry that finds no free place there, or whose value is
 /// too great for one, lies in `Buckets`, and stays: so nothing rests on how keys differ but time.
 ///
-/// A place takes 12 bytes. An insertion makes its key's place, if memory is granted, and those below it; the places of
-/// TCP's ports lie below those of UDP's. There are never more than 131,072.
+/// A place takes 12 bytes, and memory for 131,072 of them is asked for once, by the first `reserve`. An insertion whose
+/// place isn't made yet makes it there, and those below it: so memory of places that no entry comes to stays untouched.
 #[derive(Drop)]
 pub struct ByPort {
     places: Vec<Place>,
     others: Buckets,
     // Whether an entry has ever come to the others.
     has_others: bool,
-    // Whether memory for places was refused. It isn't asked for again: so a refusal costs no later call anything.
-    is_refused: bool,
+    // Whether memory for the places was asked for. It is once: a refusal costs no later call anything.
+    has_asked: bool,
 }
 
 impl Model for ByPort {
@@ -59,7 +59,7 @@ impl ByPort {
             places: Vec::new(alloc),
             others: Buckets::new(alloc),
             has_others: false,
-            is_refused: false,
+            has_asked: false,
         }
     }
 
@@ -100,7 +100,6 @@ impl ByPort {
             &mut self.places,
             &mut self.others,
             &mut self.has_others,
-            &mut self.is_refused,
             key,
             value,
         )
@@ -154,7 +153,9 @@ impl ByPort {
         ensures same { KeepsAll self.old self.new }
         ensures room { self.old.room ≤ self.new.room }
     {
-        self.others.reserve()
+        self.others.reserve()?;
+        ask_for_places(&mut self.places, &mut self.has_asked);
+        Ok(())
     }
 
     /// Makes room for one more entry, as `reserve` does for two.
@@ -168,7 +169,19 @@ impl ByPort {
         ensures same { KeepsAll self.old self.new }
         ensures room { self.old.room ≤ self.new.room }
     {
-        self.others.reserve_one()
+        self.others.reserve_one()?;
+        ask_for_places(&mut self.places, &mut self.has_asked);
+        Ok(())
+    }
+}
+
+// Asks for memory for all places, if that wasn't done before.
+fn ask_for_places(places: &mut Vec<Place>, has_asked: &mut bool)
+    ensures { places.new.items ≡ places.old.items }
+{
+    if !*has_asked {
+        *has_asked = true;
+        let _ = places.reserve_exact(PLACES);
     }
 }
 
@@ -236,7 +249,6 @@ fn add(
     places: &mut Vec<Place>,
     others: &mut Buckets,
     has_others: &mut bool,
-    is_refused: &mut bool,
     key: u64,
     value: usize,
 ) -> Result<(), AllocError>
@@ -251,28 +263,27 @@ fn add(
     ensures room_ok { OnOk result (others.old.room ≤ others.new.room + 1) }
     ensures room_err { OnErr result (others.old.room ≤ others.new.room) }
 {
-    make_place(places, is_refused, place_of(key));
+    make_place(places, place_of(key));
     put_in(places, others, has_others, key, value)
 }
 
-// Makes the place, if it isn't there, unless memory for one was refused.
+// Makes the place, if it isn't made yet and has memory.
 #[inline(always)]
-fn make_place(places: &mut Vec<Place>, is_refused: &mut bool, place: usize)
+fn make_place(places: &mut Vec<Place>, place: usize)
     ensures { IsExtended places.old.items places.new.items }
 {
-    if place >= places.len() && !*is_refused {
-        *is_refused = lengthen(places, place).is_err();
+    if place >= places.len() {
+        lengthen(places, place);
     }
 }
 
-// Makes the places up to this one and some more, and twice as many as there are: so entries are seldom moved.
+// Makes the places up to this one and some more, as far as they have memory: none is asked for.
 #[inline(never)]
-fn lengthen(places: &mut Vec<Place>, place: usize) -> Result<(), AllocError>
+fn lengthen(places: &mut Vec<Place>, place: usize)
     ensures { IsExtended places.old.items places.new.items }
 {
-    let twice = places.len().saturating_mul(2);
-    let wanted = place.saturating_add(SPARE).max(twice).min(PLACES);
-    add_free(places, wanted.saturating_sub(places.len()))
+    let wanted = place.saturating_add(SPARE).min(places.capacity());
+    let _ = add_free(places, wanted);
 }
 
 // Puts an entry in, whose key no other has, into its place or among the others.

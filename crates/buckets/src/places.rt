@@ -487,17 +487,16 @@ fn moved(alloc: Global, places: &[Place]) -> Option<Vec<Place>>
 fn free_places(alloc: Global, count: usize) -> Result<Vec<Place>, AllocError>
     ensures { IfOk result (λ places. (k : ℕ) → slice_index_or places.items k None ≡ None) }
 {
-    let mut places = Vec::new(alloc);
+    let mut places = Vec::with_capacity(alloc, count)?;
     add_free(&mut places, count)?;
     Ok(places)
 }
 
-/// Makes so many free places behind those that are there.
+/// Makes free places behind those that are there, until there are so many.
 pub fn add_free(places: &mut Vec<Place>, count: usize) -> Result<(), AllocError>
     ensures { IsExtended places.old.items places.new.items }
 {
-    places.reserve_exact(count)?;
-    for _ in 0..count {
+    for _ in places.len()..count {
         places.push(Place::empty())?;
     }
     Ok(())

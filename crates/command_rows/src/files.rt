@@ -15,13 +15,13 @@ const FRESH: [u8; 40] = [
     0x00, 0x00, 0x00, 0x00, 0x00, 0x00, 0x00, 0x00,
 ];
 
-// Whether a new file begins with these bytes, and has zeros alone behind them.
+// Whether a new file begins with these bytes, and has zeros behind them up to its first length.
 fn is_new(rt: &HostRuntime, path: &str, expected: &[u8]) -> Result<bool, Fail> {
     let bytes = fs::read(rt, path)?;
     let Some(behind) = bytes.as_slice().strip_prefix(expected) else {
         return Ok(false);
     };
-    Ok(behind.iter().all(|byte| *byte == 0))
+    Ok(bytes.len() == 524_288 && behind.iter().all(|byte| *byte == 0))
 }
 
 // Whether the directory is refused with this word and second line.

@@ -121,12 +121,11 @@ fn open_file(rt: &HostRuntime, directory: &str, id: FileId) -> Result<File, Open
     Ok(file)
 }
 
-// So many bytes a file has from the start: half as many as its groups take before the other one is made anew. Each byte
-// is read once, by an opening.
+// So many bytes a new file has: half as many as its groups take before the other one is made anew. An opening reads them.
 const ROOM: u64 = 524_288;
 
 // Makes an empty file long, in zeros, by which no gate is open. A write that makes a file longer has its sync keep the new
-// length as well, which takes the device another write.
+// length as well, which costs the device another write.
 fn make_room(file: &File) -> Result<(), OpenError> {
     if file.metadata()?.len() == 0 {
         file.set_len(ROOM)?;
@@ -145,7 +144,7 @@ fn sync_and_uncache(file: &File) -> Result<(), OpenError> {
     Ok(())
 }
 
-// One of the files, opened, long and synced.
+// One of the files, opened, made long where it is empty, and synced.
 fn synced_file(rt: &HostRuntime, directory: &str, id: FileId) -> Result<File, OpenError> {
     let file = open_file(rt, directory, id)?;
     make_room(&file)?;

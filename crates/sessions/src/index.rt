@@ -306,6 +306,7 @@ fn mapped_by(
 
 /// As `find_inside`; where no session is, the outside endpoint that the translated ones of the inside endpoint have. One
 /// look for the first of them serves both.
+#[inline(always)]
 pub fn find_or_mapped(
     sessions: &Slab<Session>,
     index: &Index,

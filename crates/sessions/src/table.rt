@@ -177,6 +177,7 @@ impl Table {
     ///
     /// The outside endpoint of the translated sessions of this protocol and inside endpoint, where one is held: they have
     /// one for all remote endpoints (RFC 4787, REQ-1).
+    #[inline(always)]
     pub fn by_inside_or_mapped(
         &self,
         proto: Proto,

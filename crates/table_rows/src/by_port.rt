@@ -105,10 +105,22 @@ fn endpoints_go_in_and_out(rt: HostRuntime) -> Result<(), AllocError> {
     Ok(())
 }
 
-// Each greater port makes the places more: what went in before stays where it was, and is found.
+// Entries that went in before there was memory for places stay where they were, and are found.
+#[test]
+fn endpoints_are_found_from_before_the_places(rt: HostRuntime) -> Result<(), AllocError> {
+    let mut map = empty(rt.alloc())?;
+    put_entries(&rt, &mut map)?;
+    reserve(&mut map)?;
+    assert_have(&rt, &map);
+    take_entries(&rt, &mut map);
+    Ok(())
+}
+
+// A greater port has more places made: what went in before is found, and goes out.
 #[test]
 fn endpoints_are_found_when_places_become_more(rt: HostRuntime) -> Result<(), AllocError> {
     let mut map = empty(rt.alloc())?;
+    reserve(&mut map)?;
     let ports = [1_u16, 5_000, 20_000, 65_535];
     for port in ports {
         put(&rt, &mut map, key(TCP, EXTERNAL, port), usize::from(port))?;
@@ -117,6 +129,15 @@ fn endpoints_are_found_when_places_become_more(rt: HostRuntime) -> Result<(), Al
     put_entries(&rt, &mut map)?;
     assert_have_up_to(&rt, &map, &ports, 65_535);
     assert_have(&rt, &map);
+    take_entries(&rt, &mut map);
+    for port in ports {
+        assert_gives(
+            &rt,
+            &mut map,
+            key(TCP, EXTERNAL, port),
+            Some(usize::from(port)),
+        );
+    }
     Ok(())
 }
 
