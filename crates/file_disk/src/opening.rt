@@ -10,7 +10,7 @@ use std::alloc::AllocError;
 use std::fs::{self, File, OpenOptions, TryLockError};
 use std::io::{self, ErrorKind};
 use std::os::fd::AsRawFd;
-use std::os::unix::fs::OpenOptionsExt;
+use std::os::unix::fs::{FileExt, OpenOptionsExt};
 
 /// Why the files of a directory can't be had.
 #[derive(Clone, Copy, Debug, Drop, thiserror::Error)]
@@ -124,10 +124,13 @@ fn open_file(rt: &HostRuntime, directory: &str, id: FileId) -> Result<File, Open
 // So many bytes a new file has: half as many as its groups take before the other one is made anew. An opening reads them.
 const ROOM: u64 = 524_288;
 
-// Makes an empty file long, in zeros, by which no gate is open. A write that makes a file longer has its sync keep the new
-// length as well, which costs the device another write.
+// Makes an empty file long, in zeros: a write that makes a file longer has its sync keep the new length as well, which
+// costs the device another write. The first byte is kept before, so that the file's gate is closed whatever a loss of power
+// leaves behind it.
 fn make_room(file: &File) -> Result<(), OpenError> {
     if file.metadata()?.len() == 0 {
+        file.write_all_at(&[0], 0)?;
+        file.sync_data()?;
         file.set_len(ROOM)?;
     }
     Ok(())
