@@ -16,22 +16,23 @@ use std::marker::Model;
 // A place for each port of each of two protocols.
 const PLACES: usize = 131_072;
 
-// So many places are made behind the one that is asked for, if there are so many.
+// So many places are made at once, if there is memory for them: the one that is asked for, and those behind it.
 const SPARE: usize = 4_096;
 
 /// Entries, each key at most once, in no order. A key's place is said by its lowest 16 bits, the port of an endpoint,
 /// and by bit 48, in which the numbers of TCP and UDP differ. An entry that finds no free place there, or whose value is
 /// too great for one, lies in `Buckets`, and stays: so nothing rests on how keys differ but time.
 ///
-/// A place takes 12 bytes, and memory for 131,072 of them is asked for once, by the first `reserve`. An insertion whose
-/// place isn't made yet makes it there, and those below it: so memory of places that no entry comes to stays untouched.
+/// A place takes 12 bytes, and memory for 131,072 of them is asked for once, by the first `reserve` or `reserve_one`
+/// that is granted. An insertion whose place isn't made yet makes it there, those below it, and a few above: so memory
+/// of greater places stays untouched.
 #[derive(Drop)]
 pub struct ByPort {
     places: Vec<Place>,
     others: Buckets,
     // Whether an entry has ever come to the others.
     has_others: bool,
-    // Whether memory for the places was asked for. It is once: a refusal costs no later call anything.
+    // Whether memory for the places was asked for. It is asked for once.
     has_asked: bool,
 }
 
