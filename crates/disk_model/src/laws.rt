@@ -1,7 +1,6 @@
-//! What follows for every disk from the clauses of its calls, and what the meter of the disk in memory counts. Each
-//! function does nothing: its clause is a theorem, which is proved.
+//! What follows for every disk from the clauses of its calls. Each function does nothing: its clause is a theorem, which
+//! is proved.
 ghost use Rattle.disk_model.specs.Laws.{StaysSynced, StaysSyncedElsewhere, OnlyWidens};
-ghost use Rattle.disk_model.specs.Metered.{FuseBlows, FailsOnce};
 
 use crate::Disk;
 
@@ -19,14 +18,4 @@ pub fn synced_elsewhere<D: Disk>(_: &D)
 /// and of two moments the earlier has all that the later has.
 pub fn only_widens<D: Disk>(_: &D)
     ensures { OnlyWidens D.honest D.moment D.left }
-{}
-
-/// After `SimDisk::fuse_after(k)`, where no single call is set to fail, exactly the first `k` calls pass.
-pub fn fuse_blows()
-    ensures { FuseBlows }
-{}
-
-/// After `SimDisk::fail_once(k)`, where no fuse is set, each call passes but the one behind the first `k`.
-pub fn fails_once()
-    ensures { FailsOnce }
 {}

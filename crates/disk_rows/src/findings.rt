@@ -1,11 +1,11 @@
 //! What is found in whole, cut and changed files, and what is said of it. The bytes follow the rules of the format.
 use diagnosis::{Fault, Finding, Held, Reading, diagnose, examine};
-use disk_model::SimDisk;
 use packet::bounds::Bounds;
 use packet::endpoint::Prefix;
 use std::alloc::{AllocError, Global};
 use std::process::Abort;
 use std::test::Fail;
+use trial_disk::SimDisk;
 
 // A file that was just made: gate, mark, generation 1, `lan`, `wan`, 192.168.0.0/16, 203.0.113.1, no text, no session,
 // and a closed gate.

@@ -2,11 +2,12 @@
 ghost use Rattle.std.specs.Prelude.{◌<◌, ◌^◌, length};
 ghost use Rattle.journal.specs.Groups.{Resting};
 
-use disk_model::{Disk, DiskFault, FileId, SimDisk};
+use disk_model::{Disk, DiskFault, FileId};
 use journal::{Group, JournalFault, append, groups};
 use std::alloc::{AllocError, Global};
 use std::process::Abort;
 use std::test::Fail;
+use trial_disk::SimDisk;
 
 const FIRST: &[u8] = b"first entries";
 

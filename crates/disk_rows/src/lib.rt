@@ -2,7 +2,7 @@
 //!
 //! The rows stand above the crates that they try, so that each of these is proved once, without them.
 //!
-//! - `sim`: what a crash leaves of a disk in memory (`disk_model`);
+//! - `sim`: what a crash leaves of a disk in memory (`trial_disk`);
 //! - `groups`: groups of records and their gates, byte for byte (`journal`);
 //! - `trial`: a disk that claims nothing of what it keeps (`trial_disk`);
 //! - `files`: two files in a directory, and their locks (`file_disk`);

@@ -1,10 +1,11 @@
 //! What each choice of a crash leaves, and which calls fail.
 ghost use Rattle.std.specs.Prelude.{◌≤◌};
 
-use disk_model::{Disk, DiskFault, FileId, SimDisk};
+use disk_model::{Disk, DiskFault, FileId};
 use std::alloc::Global;
 use std::process::Abort;
 use std::test::Fail;
+use trial_disk::SimDisk;
 
 fn disk_of(alloc: Global, a: &[u8], b: &[u8]) -> Result<Box<SimDisk>, Fail> {
     Ok(Box::new(alloc, SimDisk::of(alloc, a, b)?)?)

@@ -1,10 +1,11 @@
 //! `Trial`: the disk in memory, with no promise.
 ghost use Rattle.std.specs.Prelude.{◌≡◌, ◌+◌, ◌≤◌, length, IfOk, OnOk, OnErr, IsTrue, Some, None, ⊤, []};
 ghost use Rattle.disk_model.specs.Disk.{HasCause};
-ghost use Rattle.disk_model.specs.Simulated.{seen_of};
+ghost use Rattle.trial_disk.specs.Simulated.{seen_of};
 
+use crate::sim::SimDisk;
 use crate::turns::{Turn, Turns};
-use disk_model::{Disk, DiskFault, FileId, SimDisk};
+use disk_model::{Disk, DiskFault, FileId};
 use std::alloc::{AllocError, Global};
 use std::marker::Model;
 
@@ -20,7 +21,7 @@ pub struct Trial {
 }
 
 impl Model for Trial {
-    ghost use Rattle.disk_model.specs.Metered.{Metered};
+    ghost use Rattle.trial_disk.specs.Metered.{Metered};
 
     ghost Value = { Metered };
 

@@ -1,8 +1,0 @@
--- The calls of a record, as a history tells them.
-use Rattle.disk_model.specs.Recorded.{Done, Wrote, Synced}
-use Rattle.disk_model.specs.declared.call.Call.{Call}
-use Rattle.disk_model.specs.declared.call.Call.TheVariants.{Write, Sync}
-
-abbrev pub done_of : Call → Done
-done_of (Write file at bytes) = Wrote file at bytes.items
-done_of (Sync file) = Synced file
