@@ -16,9 +16,11 @@ module _ {D : Type 0} (honest : D → Type 0) (seen : D → Files) (moment : D �
       let there = still is in
       looks_on moment left seen first old new (λ s t files le since. earlier old s t files there le since) (looked is) (look.stays there) (look.goes there)
 
+  pub looks_once : (d0 d1 : D) → Look d0 d1 → honest d0 → Looks moment left seen d0 d1
+  looks_once d0 d1 first is = look_on d0 d0 d1 (λ i. not_yet moment left seen d0) (λ i. i) first is
+
   pub looks_twice : (d0 d1 d2 : D) → Look d0 d1 → Look d1 d2 → honest d0 → Looks moment left seen d0 d2
-  looks_twice d0 d1 d2 first second is =
-      look_on d0 d1 d2 (λ h. look_on d0 d0 d1 (λ i. not_yet moment left seen d0) (λ i. i) first h) first.honest_on.0 second is
+  looks_twice d0 d1 d2 first second is = look_on d0 d1 d2 (λ h. looks_once d0 d1 first h) first.honest_on.0 second is
 
   pub looks_thrice : (d0 d1 d2 d3 : D) → Look d0 d1 → Look d1 d2 → Look d2 d3 → honest d0 → Looks moment left seen d0 d3
   looks_thrice d0 d1 d2 d3 first second third is =

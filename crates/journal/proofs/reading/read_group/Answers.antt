@@ -1,8 +1,23 @@
-use Rattle.std.proofs.Common.{◌≡◌, ◌+◌, ◌∙◌, ap, arith, take, drop, length}
+use Rattle.std.proofs.Common.{◌≡◌, ◌+◌, ◌∙◌, ℕ, sym, ap, arith, take, drop, length, length-take}
 use Rattle.std.proofs.lemmas.List.{take_at}
-use Rattle.journal.proofs.Whole.{too_long, whole, gate_is}
-use Rattle.journal.proofs.Looking.{looks_twice, looks_thrice}
+use Rattle.journal.proofs.Whole.{too_long, whole, gate_is, same_gate}
+use Rattle.journal.proofs.Looking.{looks_once, looks_twice, looks_thrice}
 use Rattle.journal.proofs.reading.read_group.Goals as goal
+
+pub returns-in_err-read_at-clause-looks : goal.returns-in_err-read_at-clause-looks
+returns-in_err-read_at-clause-looks g c =
+    looks_once g.D.Disk.honest g.D.Disk.seen g.D.Disk.moment g.D.Disk.left g.met.D.Disk.earlier _ _
+    (record { honest_on = c.read_at.ensures.honest; stays = c.read_at.ensures.seen; goes = c.read_at.ensures.crash })
+
+pub returns-then-gate-ne1-clause-looks : goal.returns-then-gate-ne1-clause-looks
+returns-then-gate-ne1-clause-looks g c =
+    looks_once g.D.Disk.honest g.D.Disk.seen g.D.Disk.moment g.D.Disk.left g.met.D.Disk.earlier _ _
+    (record { honest_on = c.read_at.ensures.honest; stays = c.read_at.ensures.seen; goes = c.read_at.ensures.crash })
+
+pub returns-then-at-end-clause-looks : goal.returns-then-at-end-clause-looks
+returns-then-at-end-clause-looks g c =
+    looks_once g.D.Disk.honest g.D.Disk.seen g.D.Disk.moment g.D.Disk.left g.met.D.Disk.earlier _ _
+    (record { honest_on = c.read_at.ensures.honest; stays = c.read_at.ensures.seen; goes = c.read_at.ensures.crash })
 
 pub returns-in_err-read_at-2-clause-looks : goal.returns-in_err-read_at-2-clause-looks
 returns-in_err-read_at-2-clause-looks g c =
@@ -36,6 +51,20 @@ returns-clause-looks g c =
     (record { honest_on = c.read_at-2.ensures.honest; stays = c.read_at-2.ensures.seen; goes = c.read_at-2.ensures.crash })
     (record { honest_on = c.read_at-3.ensures.honest; stays = c.read_at-3.ensures.seen; goes = c.read_at-3.ensures.crash })
 
+pub returns-then-gate-ne1-clause-ok : goal.returns-then-gate-ne1-clause-ok
+returns-then-gate-ne1-clause-ok g c = λ h0.
+    let file = g.D.Disk.seen c.args.disk.now c.args.file in
+    let same = same_gate file c.read_at.new.bytes c.args.at (c.in_ok-read_at.ensures.read h0) in
+    (omega (arith, c.requires.size h0, c.requires.within h0), λ is. c.if-gate-ne1.true (sym same ∙ is))
+
+pub returns-then-at-end-clause-torn : goal.returns-then-at-end-clause-torn
+returns-then-at-end-clause-torn g c = λ h0 damaged.
+    let file = g.D.Disk.seen c.args.disk.now c.args.file in
+    record {
+      open_gate = gate_is file c.read_at.new.bytes c.args.at (c.in_ok-read_at.ensures.read h0) c.if-gate-ne1.false;
+      no_group = λ body group. omega (arith, group.within, c.requires.size h0);
+    }
+
 pub returns-then-end-at-clause-torn : goal.returns-then-end-at-clause-torn
 returns-then-end-at-clause-torn g c = λ h0 damaged.
     let h1 = c.read_at.ensures.honest.0 h0 in
@@ -62,3 +91,6 @@ returns-clause-ok g c = λ h0.
     let read = c.in_ok-read_at-3.ensures.read h2 ∙ ap (λ l. take (length c.deref_mut.result.now) (drop (c.args.at + 5) l)) same2 ∙ ap (λ k. take k (drop (c.args.at + 5) file)) count in
     let body = take_at c.read_at-3.new.bytes (drop (length c.read_at-3.new.bytes) c.in_ok-body.body.items) c.in_ok-body.body.len (omega (arith, c.read_at-3.auto.bytes, c.deref_mut.ensures.len)) in
     whole file _ c.args.at c.number_of-count.result gate size (omega arith) (omega (arith, c.requires.size h0, c.from.ensures)) (body ∙ read)
+
+pub returns-clause-within : goal.returns-clause-within
+returns-clause-within g c = omega (arith, length-take {A = ℕ}, c.in_ok-body.ensures.len, c.from.ensures)
