@@ -8,11 +8,11 @@ there, and where nothing is left to do a call takes half a minute. With CRATE, t
 the place of natgw.
 
 As many crates are proved at once as there are processors, and fewer where memory is short: the one with the longest chain
-of crates above it by several jobs, the next by half as many, and so on, since jobs of one crate do some work twice. These
-are more jobs than there are processors, since a part of each proof is one job's alone. A crate gives way to those with
-longer chains above them. Each is proved as the gate proves it: over what the crates below state, without their proofs,
-which takes about half of the time that `rt lib` takes. It is rtlib.py of the kit that does it; others are kept out of all
-the crates until it has ended. The program itself is built by `rt run`.
+of crates above it by four jobs, the others by one. Two jobs or more of one crate do two fifths of its work twice, so they
+are for the crate that others wait for. These are more jobs than there are processors, since a part of each proof is one
+job's alone. A crate gives way to those with longer chains above them. Each is proved as the gate proves it: over what the
+crates below state, without their proofs, which takes about half of the time that `rt lib` takes. It is rtlib.py of the kit
+that does it; others are kept out of all the crates until it has ended. The program itself is built by `rt run`.
 """
 import importlib.util
 import os
@@ -31,9 +31,17 @@ MEMORY = 4_000_000_000
 # More jobs than these don't make the check of one crate faster.
 MOST = 4
 # So many steps of nice a crate stands behind each one that has a longer chain above it.
-STEP = 5
-# What a crate takes beside its own lines, in lines: this one makes a library's macros into code.
-BESIDE = {"command_line": 2_000}
+STEP = 2
+# The seconds of a proof by one job, of which only their order and proportions count; `tools/proof-costs` tells them anew.
+SECONDS = {
+    "buckets": 72, "checking": 33, "command_line": 76, "commands": 70, "diagnosis": 67, "digraph": 32, "disk_model": 57,
+    "durable": 120, "entries": 7, "file_disk": 44, "gateway": 163, "hairpin": 54, "journal": 54, "machine": 154,
+    "mappings": 21, "options": 4, "packet": 58, "portpick": 45, "refusals": 22, "rows": 50, "ruletext": 172,
+    "ruletokens": 34, "rulesyntax": 167, "session_lines": 29, "sessions": 109, "sets": 35, "snapshot": 68,
+    "socket_edge": 147, "text_marks": 63, "timers": 39, "verdict": 137,
+}
+# Those of a crate that isn't among them, for each of its lines.
+SECONDS_A_LINE = 0.06
 
 
 def load_rtlib():
@@ -63,16 +71,15 @@ def most_crates(rtlib):
 
 def jobs_of(rank):
     """Returns the jobs of a crate that so many with longer chains above them are proved beside."""
-    most = min(len(os.sched_getaffinity(0)), MOST)
-    return max(most >> rank, 1)
+    return 1 if rank else min(len(os.sched_getaffinity(0)), MOST)
 
 
-def lines_behind(crates):
-    """Returns for each crate the lines of the longest chain of crates that begins with it and goes up."""
+def seconds_behind(crates):
+    """Returns for each crate the seconds of the longest chain of crates that begins with it and goes up."""
     behind = {}
     for crate in reversed(crates):
-        above = [behind[it] for it in behind if crate in it.below()]
-        behind[crate] = crate.count(rb"\n") + BESIDE.get(crate.name, 0) + max(above, default=0)
+        own = SECONDS.get(crate.name) or crate.count(rb"\n") * SECONDS_A_LINE
+        behind[crate] = own + max((behind[it] for it in behind if crate in it.below()), default=0)
     return behind
 
 
@@ -103,7 +110,7 @@ def build(rtlib, crate, rank):
 
 def build_libraries(rtlib, left, most, tell):
     """Builds libraries, at most so many at once, each once those below it are there. Returns whether all are proved."""
-    behind = lines_behind(left)
+    behind = seconds_behind(left)
     left = sorted(left, key=lambda it: -behind[it])
     running, failed = {}, False
     with ThreadPoolExecutor(most) as pool:
