@@ -258,7 +258,8 @@ fn add(
     ensures placed { ArePlaced places.new.items others.new.held has_others.new }
     ensures ok { OnOk result (Puts (all_in places.old.items others.old.held)
         (all_in places.new.items others.new.held) key (Some value)) }
-    ensures err { OnErr result ((other : ℕ) → value_at (all_in places.new.items others.new.held) other
+    ensures err { OnErr result ((other : ℕ)
+        → value_at (all_in places.new.items others.new.held) other
         ≡ value_at (all_in places.old.items others.old.held) other) }
     ensures succeeds { 0 < others.old.room → IsOk result }
     ensures room_ok { OnOk result (others.old.room ≤ others.new.room + 1) }

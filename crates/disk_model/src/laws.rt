@@ -1,5 +1,5 @@
-//! What follows for every disk from the clauses of its calls. Each function does nothing: its clause is a theorem, which
-//! is proved.
+//! What follows for every disk from the clauses of its calls. Each function does nothing: its clause is a theorem,
+//! which is proved.
 ghost use Rattle.disk_model.specs.Laws.{StaysSynced, StaysSyncedElsewhere, OnlyWidens};
 
 use crate::Disk;

@@ -4,8 +4,8 @@
 //! - `synced_write`: a write that is synced (`write_synced`).
 //! - `laws`: what follows for every disk.
 //!
-//! In `specs/`, `Disk` has the words of the model and `Laws` those of its laws. A disk in memory that meets the model is
-//! `SimDisk`, in the crate `trial_disk`.
+//! In `specs/`, `Disk` has the words of the model and `Laws` those of its laws. A disk in memory that meets the model
+//! is `SimDisk`, in the crate `trial_disk`.
 #![tactic(auto)]
 
 mod disk;

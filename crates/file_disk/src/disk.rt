@@ -102,8 +102,8 @@ impl<F: DiskFile + Drop> Disk for FileDisk<F> {
     }
 
     fn write_at(&mut self, file: FileId, at: u64, bytes: &[u8]) -> Result<(), DiskFault>
-        ensures asked { Asks (λ old new. F.answers_write old new at bytes.now result) file self.old.files
-            self.new.files }
+        ensures asked { Asks (λ old new. F.answers_write old new at bytes.now result) file
+            self.old.files self.new.files }
         ensures called { Called 1 self.old.calls self.new.calls }
         ensures cause { HasCause self.old.failures self.new.failures result }
     {

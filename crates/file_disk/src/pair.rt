@@ -62,7 +62,8 @@ impl<F: DiskFile + Drop> Pair<F> {
         at: u64,
         bytes: &[u8],
     ) -> Result<(), DiskFault>
-        ensures { Asks (λ old new. F.answers_write old new at bytes.now result) file self.old self.new }
+        ensures { Asks (λ old new. F.answers_write old new at bytes.now result) file
+            self.old self.new }
     {
         match file {
             FileId::A => self.a.write_fully(at, bytes),

@@ -33,8 +33,8 @@ pub fn held_or_mapped(
     inside: Endpoint,
     remote: Endpoint,
 ) -> Result<Held, Option<Endpoint>>
-    ensures session { IfOk result (λ h. find (has_inside proto inside remote) (listing table.now.held)
-        ≡ Some h.session) }
+    ensures session { IfOk result (λ h.
+        find (has_inside proto inside remote) (listing table.now.held) ≡ Some h.session) }
     ensures slot { IfOk result (λ h. at table.now h.slot ≡ Some h.session) }
     ensures none { IfErr result (λ mapped. find (has_inside proto inside remote)
         (listing table.now.held) ≡ None) }

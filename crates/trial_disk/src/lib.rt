@@ -5,13 +5,13 @@
 //!   (`record`, `call`), from which follows what a crash may leave, and fails where it is told to (`meter`).
 //! - `replay`: what a crash of it leaves; `place`: how a write or a crash puts bytes into its files.
 //! - `laws`: which of its calls the meter lets fail.
-//! - `wrapped`: `Trial`, a `SimDisk` with no promise. A caller of `SimDisk` has to prove what its files hold after each
-//!   call. Tests look at the bytes instead, and over `Trial` there is nothing to prove. It behaves as the model says all
-//!   the same.
+//! - `wrapped`: `Trial`, a `SimDisk` with no promise. A caller of `SimDisk` has to prove what its files hold after
+//!   each call. Tests look at the bytes instead, and over `Trial` there is nothing to prove. It behaves as the model
+//!   says all the same.
 //! - `turns`: which calls of a `Trial` fail.
 //!
-//! The words of `specs/` say what a record tells of two files, the outcomes that a crash chooses from, and the calls that
-//! fail. The model itself is the crate `disk_model`.
+//! The words of `specs/` say what a record tells of two files, the outcomes that a crash chooses from, and the calls
+//! that fail. The model itself is the crate `disk_model`.
 #![tactic(auto)]
 
 mod call;

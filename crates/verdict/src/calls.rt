@@ -13,7 +13,8 @@ fn is_call(verdict: &Verdict) -> bool
 }
 
 fn any_is_call(pairs: &[Pair]) -> bool
-    ensures { result ≡ false → OfEach (TargetHas (λ name. ⊥)) (map (λ pair. pair.verdict) pairs.now) }
+    ensures { result ≡ false
+        → OfEach (TargetHas (λ name. ⊥)) (map (λ pair. pair.verdict) pairs.now) }
 {
     let mut rest = pairs;
     while let [pair, tail @ ..] = rest {

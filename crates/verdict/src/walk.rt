@@ -227,7 +227,8 @@ fn candidate(
     requires keys { AreKeys lines.now keys.now }
     ensures from { from ≤ result }
     ensures to { result ≤ end }
-    ensures skipped { (i : ℕ) (line : LineOf) → from ≤ i → i < result → slice_get lines.now i ≡ Some line
+    ensures skipped { (i : ℕ) (line : LineOf) → from ≤ i → i < result
+        → slice_get lines.now i ≡ Some line
         → line_may_hold (numbers_of_facts facts.now) line.probe ≡ false }
     ensures found { result < end → steps.new + from ≡ steps.old + result + 1 }
     ensures none { result ≡ end → steps.new + from ≡ steps.old + end }
@@ -488,7 +489,8 @@ fn walked_from(
     requires reading { Reading table.now.chains known.old here (behind ∷ []) }
     requires room { steps.old + unread table.now.chains known.old
         < 2 ^ 32 + read_at (here ∷ behind ∷ []) }
-    ensures outcome { result ≡ whole bounds.now facts.now table.now outcomes.Ends (here ∷ behind ∷ []) }
+    ensures outcome { result
+        ≡ whole bounds.now facts.now table.now outcomes.Ends (here ∷ behind ∷ []) }
     ensures still_known { AreKnown bounds.now facts.now table.now known.new }
     ensures still_roomy { length table.now.chains ≤ length known.new }
     ensures spent { steps.new + unread table.now.chains known.new + read_at (here ∷ behind ∷ [])
