@@ -1,13 +1,36 @@
 -- Texts that grow at their ends.
-use Rattle.std.proofs.Common.{◌≡◌, ◌∙◌, ℕ, ◌+◌, ◌-◌, List, [], ◌++◌, length, take, drop, replicate, sym, ap, append_assoc, append-nil, length-append, arith}
+use Rattle.std.proofs.Common.{◌≡◌, ◌<◌, ◌∙◌, ℕ, ◌+◌, ◌-◌, List, [], ◌++◌, length, get_or, take, drop, replicate}
+use Rattle.std.proofs.Common.{sym, ap, append_assoc, append-nil, length-append, arith}
+use Rattle.std.specs.Prelude.{Result, Ok, Err, OnErr}
+use Rattle.std.specs.List.{flat_map}
 use Rattle.std.proofs.Math.Seq.{take-append_seam}
-use Rattle.std.proofs.lemmas.List.{take-append-drop}
+use Rattle.std.proofs.lemmas.List.{flat_map_more, take-append-drop, take_more}
 
 -- what stood before a text that is kept is kept
 pub kept_before : (old mid out text : List ℕ) → mid ≡ old ++ text → take (length mid) out ≡ mid → take (length old) out ≡ old
 kept_before old mid out text grown kept =
     let whole : out ≡ old ++ (text ++ drop (length mid) out) = sym (take-append-drop (length mid) out) ∙ ap (λ t. t ++ drop (length mid) out) (kept ∙ grown) ∙ append_assoc old text (drop (length mid) out) in
     ap (λ t. take (length old) t) whole ∙ take-append_seam old (text ++ drop (length mid) out)
+
+-- and so is what stood before two texts
+pub kept_before_both :
+    (old mid out one two : List ℕ) → mid ≡ old ++ one ++ two → take (length mid) out ≡ mid → take (length old) out ≡ old
+kept_before_both old mid out one two grown kept =
+    kept_before old mid out (one ++ two) (grown ∙ append_assoc old one two) kept
+
+-- what holds whatever is answered holds at an error
+pub on_err : {T E P : Type 0} (r : Result T E) → P → OnErr r P
+on_err (Ok x) p = tt
+on_err (Err e) p = p
+
+-- the text of one item more
+pub one_more :
+    {X : Type 0} (f : X → List ℕ) (old mid new : List ℕ) (xs : List X) (i : ℕ) (x : X)
+    → i < length xs → mid ≡ old ++ flat_map f (take i xs) → new ≡ mid ++ f (get_or xs i x)
+    → new ≡ old ++ flat_map f (take (i + 1) xs)
+one_more f old mid new xs i x within before grown =
+    grown ∙ ap (λ t. t ++ f (get_or xs i x)) before ∙ flat_map_more f old (take i xs) (get_or xs i x)
+    ∙ ap (λ l. old ++ flat_map f l) (sym (take_more xs i x within))
 
 -- the four octets, put one after the other
 pub four_octets :
