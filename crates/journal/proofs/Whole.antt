@@ -41,11 +41,6 @@ whole file body at count open_gate number fits within body_is =
       fits = omega (arith, long, fits);
     }
 
--- the first of one byte that is read
-pub same_gate : (file bytes : List ℕ) (at : ℕ) → bytes ≡ take 1 (drop at file) → get_or file at 0 ≡ get_or bytes 0 0
-same_gate file bytes at is =
-    ap (λ k. get_or file k 0) (omega arith) ∙ sym (get_or-drop at file 0 0)
-    ∙ sym (get_or-take 1 (drop at file) 0 0 (omega arith)) ∙ sym (ap (λ l. get_or l 0 0) is)
-
 pub gate_is : (file bytes : List ℕ) (at : ℕ) → bytes ≡ take 1 (drop at file) → get_or bytes 0 0 ≡ 1 → get_or file at 0 ≡ 1
-gate_is file bytes at is open_gate = same_gate file bytes at is ∙ open_gate
+gate_is file bytes at is open_gate =
+    ap (λ k. get_or file k 0) (omega arith) ∙ sym (get_or-drop at file 0 0) ∙ sym (get_or-take 1 (drop at file) 0 0 (omega arith)) ∙ sym (ap (λ l. get_or l 0 0) is) ∙ open_gate

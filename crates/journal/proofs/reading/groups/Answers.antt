@@ -1,11 +1,11 @@
-use Rattle.std.proofs.Common.{◌≡◌, ◌≢◌, ◌+◌, ◌∙◌, ℕ, List, get_or, sym, ap, subst, arith}
+use Rattle.std.proofs.Common.{◌≡◌, ◌+◌, ◌∙◌, ℕ, List, get_or, sym, ap, subst, arith}
 use borrow.Author.Rules.{rules}
 use Rattle.std.proofs.lemmas.List.{map_push}
 use Rattle.std.proofs.lemmas.Result.{err_from_is_err_and}
-use Rattle.std.specs.Prelude.{Result, Ok, Err, None}
+use Rattle.std.specs.Prelude.{Result, Ok, Err}
 use Rattle.disk_model.proofs.Moments.{looks_then}
 use Rattle.journal.specs.Groups.{bodies_of, IsRead, IsTornAt, GroupAt}
-use Rattle.journal.proofs.Leading.{Read, no_more, read_on, read_all, torn_there, first_byte, first_open}
+use Rattle.journal.proofs.Leading.{Read, no_more, read_on, torn_there, first_byte, first_open}
 use Rattle.journal.proofs.Looking.{looks_once}
 use Rattle.journal.proofs.reading.groups.Goals as goal
 
@@ -61,16 +61,6 @@ returns-in_err-push-clause-memory g c = λ h0 memory.
     let group : GroupAt (g.D.Disk.seen c.loop-bodies.disk file) c.loop-bodies.place c.in-Some.body.items = subst (λ o. IsRead (g.D.Disk.seen c.loop-bodies.disk file) c.loop-bodies.place o) c.in-Some.is (c.in_ok-body.ensures.ok h) in
     let here = subst (λ l. GroupAt l c.loop-bodies.place c.in-Some.body.items) ((c.loop-bodies.invariant.looks h0).stays file) group in
     first_open _ c.args.at c.loop-bodies.place _ (c.loop-bodies.invariant.read h0) (first_byte _ c.loop-bodies.place 1 _ here.split)
-
-pub returns-clause-ok : goal.returns-clause-ok
-returns-clause-ok g c = λ h0.
-    let h = c.loop-bodies.invariant.honest.0 h0 in
-    let file = g.D.Disk.seen c.loop-bodies.disk c.args.file in
-    let place = c.loop-bodies.place in
-    let last : IsRead file place None = subst (λ o. IsRead file place o) c.in_default.is (c.in_ok-body.ensures.ok h) in
-    let stays = (c.loop-bodies.invariant.looks h0).stays c.args.file in
-    let shut = subst (λ (l : List ℕ). get_or l place 0 ≢ 1) stays last.1 in
-    read_all _ c.args.at place _ (c.loop-bodies.invariant.read h0) shut
 
 pub loop-bodies-init : goal.loop-bodies-init
 loop-bodies-init g c = record {

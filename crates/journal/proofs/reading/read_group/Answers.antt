@@ -1,6 +1,6 @@
-use Rattle.std.proofs.Common.{◌≡◌, ◌+◌, ◌∙◌, ℕ, sym, ap, arith, take, drop, length, length-take}
+use Rattle.std.proofs.Common.{◌≡◌, ◌+◌, ◌∙◌, ℕ, ap, arith, take, drop, length, length-take}
 use Rattle.std.proofs.lemmas.List.{take_at}
-use Rattle.journal.proofs.Whole.{too_long, whole, gate_is, same_gate}
+use Rattle.journal.proofs.Whole.{too_long, whole, gate_is}
 use Rattle.journal.proofs.Looking.{looks_once, looks_twice, looks_thrice}
 use Rattle.journal.proofs.reading.read_group.Goals as goal
 
@@ -50,12 +50,6 @@ returns-clause-looks g c =
     (record { honest_on = c.read_at.ensures.honest; stays = c.read_at.ensures.seen; goes = c.read_at.ensures.crash })
     (record { honest_on = c.read_at-2.ensures.honest; stays = c.read_at-2.ensures.seen; goes = c.read_at-2.ensures.crash })
     (record { honest_on = c.read_at-3.ensures.honest; stays = c.read_at-3.ensures.seen; goes = c.read_at-3.ensures.crash })
-
-pub returns-then-gate-ne1-clause-ok : goal.returns-then-gate-ne1-clause-ok
-returns-then-gate-ne1-clause-ok g c = λ h0.
-    let file = g.D.Disk.seen c.args.disk.now c.args.file in
-    let same = same_gate file c.read_at.new.bytes c.args.at (c.in_ok-read_at.ensures.read h0) in
-    (omega (arith, c.requires.size h0, c.requires.within h0), λ is. c.if-gate-ne1.true (sym same ∙ is))
 
 pub returns-then-at-end-clause-torn : goal.returns-then-at-end-clause-torn
 returns-then-at-end-clause-torn g c = λ h0 damaged.
