@@ -7,12 +7,13 @@ A line tells of each crate as it is done. What is done stays done: after Ctrl-C,
 there, and where nothing is left to do a call takes half a minute. With CRATE, the name of a library, that one is built in
 the place of natgw.
 
-As many crates are proved at once as there are processors, and fewer where memory is short: the one with the longest chain
-of crates above it by four jobs, the others by one. Two jobs or more of one crate do two fifths of its work twice, so they
-are for the crate that others wait for. These are more jobs than there are processors, since a part of each proof is one
-job's alone. A crate gives way to those with longer chains above them. Each is proved as the gate proves it: over what the
-crates below state, without their proofs, which takes about half of the time that `rt lib` takes. It is rtlib.py of the kit
-that does it; others are kept out of all the crates until it has ended. The program itself is built by `rt run`.
+As many crates are proved at once as there are processors, and fewer where memory is short: one of each four of them by
+four jobs, the one that has the longest chain of crates above it when it begins, and the others by one. Two jobs or more of
+one crate do up to two fifths of its work twice, so they are for the crate that others wait for. These are more jobs than
+there are processors, since a part of each proof is one job's alone. A crate gives way to those with longer chains above
+them. Each is proved as the gate proves it: over what the crates below state, without their proofs, which takes about half
+of the time that `rt lib` takes. It is rtlib.py of the kit that does it; others are kept out of all the crates until the
+libraries are done. The program itself is built by `rt run`.
 """
 import importlib.util
 import os
@@ -32,16 +33,17 @@ MEMORY = 4_000_000_000
 MOST = 4
 # So many steps of nice a crate stands behind each one that has a longer chain above it.
 STEP = 2
-# The seconds of a proof by one job, of which only their order and proportions count; `tools/proof-costs` tells them anew.
+# The processor seconds of each proof by one job, of which only the proportions count. `.ci/run tools/gate-costs` tells what
+# they are elsewhere.
 SECONDS = {
-    "buckets": 72, "checking": 33, "command_line": 76, "commands": 70, "diagnosis": 67, "digraph": 32, "disk_model": 57,
-    "durable": 120, "entries": 7, "file_disk": 44, "gateway": 163, "hairpin": 54, "journal": 54, "machine": 154,
+    "buckets": 72, "checking": 33, "command_line": 76, "commands": 70, "diagnosis": 67, "digraph": 32, "disk_model": 18,
+    "durable": 120, "entries": 7, "file_disk": 44, "gateway": 163, "hairpin": 54, "journal": 45, "machine": 154,
     "mappings": 21, "options": 4, "packet": 58, "portpick": 45, "refusals": 22, "rows": 50, "ruletext": 172,
-    "ruletokens": 34, "rulesyntax": 167, "session_lines": 29, "sessions": 109, "sets": 35, "snapshot": 68,
+    "ruletokens": 34, "rulesyntax": 167, "session_lines": 23, "sessions": 109, "sets": 35, "snapshot": 68,
     "socket_edge": 147, "text_marks": 63, "timers": 39, "verdict": 137,
 }
 # Those of a crate that isn't among them, for each of its lines.
-SECONDS_A_LINE = 0.06
+SECONDS_A_LINE = 0.07
 
 
 def load_rtlib():
@@ -71,7 +73,9 @@ def most_crates(rtlib):
 
 def jobs_of(rank):
     """Returns the jobs of a crate that so many with longer chains above them are proved beside."""
-    return 1 if rank else min(len(os.sched_getaffinity(0)), MOST)
+    processors = len(os.sched_getaffinity(0))
+    several = processors > 2 and rank < max(processors // MOST, 1)
+    return min(processors, MOST) if several else 1
 
 
 def seconds_behind(crates):

@@ -76,7 +76,8 @@ fn serve<W: Write, D: Disk + Drop>(
     requires stands { gateway.old.fallen ≡ false }
     requires sent { waiting.old.answered ≡ [] }
     ensures served { (sent : List ℕ) × Appends (W.contents writer.old) (W.contents writer.new) sent
-        × Came result gateway.old.told gateway.new.told waiting.old.unanswered waiting.new.unanswered sent
+        × Came result gateway.old.told gateway.new.told
+        waiting.old.unanswered waiting.new.unanswered sent
         × Fares D.honest D.moment D.left gateway.old gateway.new
         (events_in waiting.old.unanswered) sent }
     ensures why { IfErr result (λ e. Explains D.honest D.moment D.left D.failed e gateway.old

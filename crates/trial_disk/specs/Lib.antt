@@ -1,4 +1,4 @@
--- The disk in memory: what its record of calls says, which outcomes a crash chooses, and which calls fail. Its contract
+-- `SimDisk`: what its record of calls says, which outcomes a crash chooses, and which calls fail. Its contract
 -- is the model's; these words say besides what exactly it does.
 pub mod Recorded
 pub mod Choices
