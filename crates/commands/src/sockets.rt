@@ -67,7 +67,7 @@ fn next_client(listener: &UnixListener) -> io::Result<UnixStream> {
 }
 
 // Serves the next client. Where the gateway has fallen once the client is served, the refusal says so, even if the
-// client's own fault was that it took no answer.
+// client's own fault was that it took no answer; but not where the word of that fault can't be told.
 fn serve_next<W: Write, D: Disk + Drop>(
     alloc: Global,
     listener: &UnixListener,

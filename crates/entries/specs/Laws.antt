@@ -131,7 +131,8 @@ abbrev pub RestartsAreThere : Type 0
 RestartsAreThere = (config : Config) (d : Durable) (moment : ℕ) → IsDurable config d
     → (s : State) × IsRestarted config d moment s
 
--- a state that is begun again is sound, and just what it was begun from must survive of it
+-- a state that is begun again is sound, and just what it was begun from must survive of it, where no session of that
+-- has a moment
 abbrev pub RestartsAreSound : Type 0
 RestartsAreSound =
     (config : Config) (d : Durable) (moment : ℕ) (s : State) → IsDurable config d

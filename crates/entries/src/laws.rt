@@ -70,7 +70,8 @@ pub fn restarts_are_there()
     ensures { RestartsAreThere }
 {}
 
-/// A state that is begun again is sound, and just what it was begun from must survive of it.
+/// A state that is begun again is sound, and just what it was begun from must survive of it, where no session of that
+/// has a moment.
 pub fn restarts_are_sound()
     ensures { RestartsAreSound }
 {}

@@ -48,8 +48,9 @@ use std::marker::Model;
 
 /// The gateway. Events that are taken have the numbers 1, 2, .. since it was opened. Moments are in seconds.
 ///
-/// What must survive is the text that loaded last, and the sessions without when their last packets passed. An event
-/// that changes it is answered by the `flush` that has synced the change.
+/// What must survive is the text that loaded last, and the sessions without when their last packets passed. The answer
+/// of an event that changes it is held until a `flush` has synced the change and hands it out, or a `settle` has synced
+/// it and lets it go.
 #[derive(Drop)]
 pub struct Gateway<D: Disk + Drop> {
     alloc: Global,
@@ -224,7 +225,7 @@ impl<D: Disk + Drop> Gateway<D> {
         self.store.grown()
     }
 
-    /// Whether a call of the disk has failed. Then the gateway can only give its disk back (`into_disk`).
+    /// Whether a call of the disk has failed. Then nothing changes any more; `into_disk` gives the disk back.
     pub fn has_fallen(&self) -> bool
         ensures value { result ≡ self.now.fallen }
 

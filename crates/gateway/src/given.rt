@@ -13,7 +13,7 @@ use machine::{Answer, Fate};
 pub enum Given {
     /// It is answered.
     Now(u64, Answer),
-    /// The next flush that succeeds hands out its answer.
+    /// Its answer is held: the next `flush` that succeeds hands it out, or `settle` lets it go.
     Held(u64),
 }
 
@@ -22,7 +22,7 @@ pub enum Given {
 pub enum Passed {
     /// It is answered.
     Now(u64, Fate),
-    /// The next flush that succeeds hands out its answer.
+    /// Its answer is held: the next `flush` that succeeds hands it out, or `settle` lets it go.
     Held(u64, Fate),
 }
 

@@ -1,4 +1,4 @@
-//! What follows from the contracts of the calls: each function is proved to meet its clause.
+//! What follows from the definitions of `specs/Standing`: each function is proved to meet its clause.
 //! Beside these stand the laws of every step (crate `machine`).
 ghost use Rattle.gateway.specs.Standing.{CallsStandForTheModel};
 
@@ -9,8 +9,10 @@ pub use machine::laws::{
     sessions_are_alive, sessions_go_out, steps_keep_sound,
 };
 
-/// After any list of offers, flushes and compactions, none of which a device fault ended, the files stand for what the
-/// model has after the events that were answered, and the present state is the model's after all that were taken.
+/// From a sound state, nothing held and files that stand for it: after any list of steps that are as `specs/Standing`
+/// defines an offer, a flush and a compaction, none of which a device fault ended, the files stand for what the model has
+/// after the events that were answered, and the present state is the model's after all that were taken. Of the calls of
+/// `Gateway` itself `Rests` (`specs/Running`) says as much.
 pub fn calls_stand_for_the_model()
     ensures { CallsStandForTheModel }
 {}

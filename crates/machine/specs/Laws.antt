@@ -114,8 +114,8 @@ LetsPass config s view iif oif src dst connection =
     }) s.rules
     ≡ Pass
 
--- while a session is alive, what its remote endpoint sends to its outside endpoint comes to its inside endpoint, if
--- the forward chains let it
+-- while a session is alive, a packet from wan with the route in, from its remote endpoint to its outside one, comes to
+-- its inside endpoint, if the forward chains let it
 abbrev pub AnswersComeIn : Type 0
 AnswersComeIn =
     (config : Config) (s : State) (judged : Judged) (bytes : List ℕ) (view : View) (t : Session)
@@ -126,7 +126,7 @@ AnswersComeIn =
     → LetsPass config s view Wan Lan view.src t.inside (state_of t Remote view.flags)
     → (step config s judged).1 ≡ Forward Lan (translated bytes t.remote t.inside)
 
--- and what its inside endpoint sends to its remote endpoint goes out from its outside endpoint
+-- and a packet from lan with the route out, from its inside endpoint to its remote one, goes out from its outside one
 abbrev pub SessionsGoOut : Type 0
 SessionsGoOut =
     (config : Config) (s : State) (judged : Judged) (bytes : List ℕ) (view : View) (t : Session)

@@ -54,14 +54,14 @@ pub fn drops_change_nothing()
     ensures { DropsChangeNothing }
 {}
 
-/// While a session is alive, what its remote endpoint sends to its outside endpoint comes to its inside
-/// endpoint, if the forward chains let it.
+/// While a session is alive, a packet from wan with the route in, from its remote endpoint to its outside one,
+/// comes to its inside endpoint, if the forward chains let it.
 pub fn answers_come_in()
     ensures { AnswersComeIn }
 {}
 
-/// While a session is alive, what its inside endpoint sends to its remote endpoint goes out from its outside
-/// endpoint, if the forward chains let it.
+/// While a session is alive, a packet from lan with the route out, from its inside endpoint to its remote one,
+/// goes out from its outside endpoint, if the forward chains let it.
 pub fn sessions_go_out()
     ensures { SessionsGoOut }
 {}

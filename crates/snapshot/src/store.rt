@@ -168,7 +168,7 @@ impl<D: Disk + Drop> Store<D> {
         }
     }
 
-    /// Whether a call of the disk has failed. Then the store can only give its disk back (`into_disk`).
+    /// Whether a call of the disk has failed. Then nothing changes any more; `into_disk` gives the disk back.
     pub fn has_fallen(&self) -> bool
         ensures value { result ≡ self.now.fallen }
 
