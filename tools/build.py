@@ -9,7 +9,7 @@ the place of natgw.
 
 As many crates are proved at once as there are processors, and fewer where memory is short: one of each four of them by
 four jobs, the one that has the longest chain of crates above it when it begins, and the others by one. Two jobs or more of
-one crate do up to two fifths of its work twice, so they are for the crate that others wait for. These are more jobs than
+one crate do a sixth to a half of its work twice, so they are for the crate that others wait for. These are more jobs than
 there are processors, since a part of each proof is one job's alone. A crate gives way to those with longer chains above
 them. Each is proved as the gate proves it: over what the crates below state, without their proofs, which takes about half
 of the time that `rt lib` takes. It is rtlib.py of the kit that does it; others are kept out of all the crates until the
