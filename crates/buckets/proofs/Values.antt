@@ -9,7 +9,19 @@ use Rattle.std.specs.Bool.{OnTrue}
 use Rattle.std.proofs.Math.Nat.{mul-le-mul_right}
 use Rattle.rows.specs.declared.Entry.{Entry}
 use Rattle.rows.specs.Held.{value_at, Puts}
-use Rattle.buckets.specs.Places.{entries_in, all_in, Stands, HasKey, HasNowhere, AreHome, AreApart, AreSound, IsHome, AreInFront, IsFreeFor, IsNextFor, EndsSearch, IsLast, IsClosed, IsFull, IsFilled, ArePacked, ArePackedBut, ArePackedBelow, IsNext, IsPast, bucket_of, spread, number, IsSetTo, IsCopied, IsMoved, HaveSame}
+use Rattle.buckets.specs.Places.{entries_in, all_in, Stands, HasKey, HasNowhere, AreHome, AreApart, AreSound, IsHome, AreInFront, IsFreeFor, IsNextFor, EndsSearch, IsClosed, IsFull, IsFilled, ArePacked, ArePackedBut, IsNext, IsPast, bucket_of, spread, number, IsSetTo, IsCopied, IsMoved, HaveSame}
+
+-- the place has the last entry in the bucket of the key
+pub record IsLast (places : List (Option Entry)) (key place : ℕ) : Type 0 where
+  pub in_range : place < length places
+  pub home : IsHome (length places) key place
+  pub filled : slice_index_or places place None ≢ None
+  pub behind : (k : ℕ) → place < k → k / 8 ≡ place / 8 → slice_index_or places k None ≡ None
+
+-- each entry of the overflow whose number is below this one has a full bucket
+abbrev pub ArePackedBelow : List (Option Entry) → List Entry → ℕ → Type 0
+ArePackedBelow places overflow from = (key place : ℕ) → number key < from
+    → IsFreeFor places key place → value_at overflow key ≡ None
 
 -- ---- one list of entries behind another
 

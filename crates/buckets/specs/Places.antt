@@ -98,13 +98,6 @@ abbrev pub EndsSearch : List (Option Entry) → ℕ → ℕ → Type 0
 EndsSearch places key place = HasKey places key place
     ⊎ (IsFreeFor places key place × HasNowhere places key)
 
--- the place has the last entry in the bucket of the key
-pub record IsLast (places : List (Option Entry)) (key place : ℕ) : Type 0 where
-  pub in_range : place < length places
-  pub home : IsHome (length places) key place
-  pub filled : slice_index_or places place None ≢ None
-  pub behind : (k : ℕ) → place < k → k / 8 ≡ place / 8 → slice_index_or places k None ≡ None
-
 -- no place is free for the key
 abbrev pub IsFull : List (Option Entry) → ℕ → Type 0
 IsFull places key = (place : ℕ) → place < length places → IsHome (length places) key place
@@ -119,11 +112,6 @@ ArePacked places overflow = (key place : ℕ) → IsFreeFor places key place
 abbrev pub ArePackedBut : List (Option Entry) → List Entry → ℕ → Type 0
 ArePackedBut places overflow hole = (key place : ℕ) → place ≢ hole → IsFreeFor places key place
     → value_at overflow key ≡ None
-
--- each entry of the overflow whose number is below this one has a full bucket
-abbrev pub ArePackedBelow : List (Option Entry) → List Entry → ℕ → Type 0
-ArePackedBelow places overflow from = (key place : ℕ) → number key < from
-    → IsFreeFor places key place → value_at overflow key ≡ None
 
 -- what a map of keys to slots keeps
 pub record AreKept (places : List (Option Entry)) (overflow : List Entry)

@@ -130,7 +130,7 @@ impl Overflow {
         ensures next { IfSome result (IsNext self.now.held from) }
         ensures past { IfNone result (IsPast self.now.held from) }
     {
-        self.rows.is_rising();
+        self.rows.facts();
         let entry = self.rows.iter_from(from).next()?;
         Some((entry.key % WORD) as u64)
     }

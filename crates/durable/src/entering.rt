@@ -32,10 +32,10 @@ pub fn begin(bounds: &Bounds, table: &mut Table, session: Session) -> Result<(),
     if !session.is_placed(bounds) {
         return Err(DurableFault::Damaged);
     }
-    table.is_sound();
+    table.facts();
     match table.add(session) {
         Ok(_) => {
-            table.is_sound();
+            table.facts();
             Ok(())
         }
         Err(AddFault::NoMemory) => Err(DurableFault::NoMemory),
@@ -53,7 +53,7 @@ fn see(bounds: &Bounds, table: &mut Table, flow: Flow, seen: u8) -> bool
         ≡ changed flow (seen_so seen) (listing table.old.held) }
     ensures sound { IsTrue result → AreSound bounds.now (listing table.new.held) }
 {
-    table.is_sound();
+    table.facts();
     let Some(slot) = table.by_inside(flow.proto, flow.inside, flow.remote) else {
         return false;
     };
@@ -61,7 +61,7 @@ fn see(bounds: &Bounds, table: &mut Table, flow: Flow, seen: u8) -> bool
         return false;
     };
     table.amend(slot, session.opener, seen);
-    table.is_sound();
+    table.facts();
     true
 }
 
@@ -74,12 +74,12 @@ fn restart(bounds: &Bounds, table: &mut Table, flow: Flow, opener: Opener, seen:
         ≡ changed flow (begun_anew opener seen) (listing table.old.held) }
     ensures sound { IsTrue result → AreSound bounds.now (listing table.new.held) }
 {
-    table.is_sound();
+    table.facts();
     let Some(slot) = table.by_inside(flow.proto, flow.inside, flow.remote) else {
         return false;
     };
     table.amend(slot, opener, seen);
-    table.is_sound();
+    table.facts();
     true
 }
 
@@ -90,12 +90,12 @@ fn end(bounds: &Bounds, table: &mut Table, flow: Flow) -> bool
     ensures ended { IsTrue result → listing table.new.held ≡ ended flow (listing table.old.held) }
     ensures sound { IsTrue result → AreSound bounds.now (listing table.new.held) }
 {
-    table.is_sound();
+    table.facts();
     let Some(slot) = table.by_inside(flow.proto, flow.inside, flow.remote) else {
         return false;
     };
     table.end(slot);
-    table.is_sound();
+    table.facts();
     true
 }
 

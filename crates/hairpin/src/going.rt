@@ -143,7 +143,7 @@ fn glanced_out(table: &Table, view: &View) -> Option<Held>
         (listing table.now.held) ≡ Some h.session) }
     ensures slot { IfSome result (λ h. at table.now h.slot ≡ Some h.session) }
 {
-    table.is_sound();
+    table.facts();
     let (slot, session) = table.glance_inside(view.proto, view.src, view.dst)?;
     Some(Held { slot, session })
 }
@@ -156,7 +156,7 @@ fn glanced_in(table: &Table, view: &View) -> Option<Held>
         (listing table.now.held) ≡ Some h.session) }
     ensures slot { IfSome result (λ h. at table.now h.slot ≡ Some h.session) }
 {
-    table.is_sound();
+    table.facts();
     let (slot, session) = table.glance_outside(view.proto, view.dst, view.src)?;
     Some(Held { slot, session })
 }

@@ -387,7 +387,7 @@ fn sessions_after(table: &Table, first: &Leg, second: &Leg) -> usize
     ensures { result ≡ count table.now + option_map_or (λ (h : Known). 0) first.now.before 1
         + option_map_or (λ (h : Known). 0) second.now.before 1 }
 {
-    table.is_sound();
+    table.facts();
     table.count() + news(first) + news(second)
 }
 

@@ -43,7 +43,7 @@ pub fn held_or_mapped(
     ensures unmapped { IfErr result (λ mapped. IfNone mapped ((outside : Place)
         → ¬ IsMapping (listing table.now.held) proto inside outside)) }
 {
-    table.is_sound();
+    table.facts();
     match table.by_inside_or_mapped(proto, inside, remote) {
         Ok(slot) => match table.get(slot) {
             Some(session) => Ok(Held { slot, session }),
@@ -64,7 +64,7 @@ pub fn held_outside(
         ≡ find (has_outside proto outside remote) (listing table.now.held) }
     ensures slot { IfSome result (λ h. at table.now h.slot ≡ Some h.session) }
 {
-    table.is_sound();
+    table.facts();
     match table.by_outside(proto, outside, remote) {
         Some(slot) => match table.get(slot) {
             Some(session) => Some(Held { slot, session }),

@@ -92,7 +92,7 @@ fn answer_planned<N: Notes>(
     match plan {
         Err(cause) => Ok(drop_for(*cause)),
         Ok(plan) => {
-            flows.table().is_sound();
+            flows.table().facts();
             flows.carry_out(ready, plan, now, notes)?;
             rewrite(packet, plan.src, plan.dst);
             Ok(Fate::Leaves(plan.iface))
@@ -119,7 +119,7 @@ fn plan_for(
         → Plans flows.now.translations.external flows.now.table.held now result
         (leg bounds.now (state_of text rules.now flows.now.table.held now) view.now route) }
 {
-    flows.is_tied();
+    flows.facts();
     let table = flows.table();
     let translations = flows.translations();
     match route {
@@ -253,7 +253,7 @@ fn send_in_place(flows: &mut Flows, going: &Going, packet: &mut [u8], now: u64)
         (Ok (plan_of going.now)) way
         → of_way (listing flows.old.table.held) way ≡ [] }
 {
-    flows.table().is_sound();
+    flows.table().facts();
     flows.see_going(going, now);
     rewrite(packet, going.src, going.dst);
 }

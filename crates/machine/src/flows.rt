@@ -135,7 +135,7 @@ impl Flows {
     }
 
     /// What the flows always keep: each mapping is held as often as sessions have it.
-    pub fn is_tied(&self)
+    pub fn facts(&self)
         ensures counts { (p : Mapping) → times self.now.translations.pairs p
             ≡ tally p self.now.table.held }
     {
@@ -195,7 +195,7 @@ impl Flows {
         ensures succeeds { ((slot : ℕ) → ¬ IsSomeAnd (at self.now.table slot) (IsDue now))
             → IsOk result }
     {
-        self.table.is_sound();
+        self.table.facts();
         self.due.due(alloc, now)
     }
 
@@ -246,7 +246,7 @@ impl Flows {
         ensures ready { (n : ℕ) → IsReady n self.old → IsReady n self.new }
         ensures external { self.new.translations.external ≡ self.old.translations.external }
     {
-        self.table.is_sound();
+        self.table.facts();
         // Most packets come in the second of their session's packet before, and show what was seen.
         if self.stays(slot, bits, last) {
             return;
@@ -266,10 +266,10 @@ impl Flows {
         ensures ready { (n : ℕ) → IsReady n self.old → IsReady n self.new }
         ensures external { self.new.translations.external ≡ self.old.translations.external }
     {
-        self.table.is_sound();
+        self.table.facts();
         self.table.see(slot, bits, last);
         touch(&self.table, &mut self.due, slot, last);
-        self.table.is_sound();
+        self.table.facts();
     }
 
     /// Begins the session of the slot anew.
@@ -283,10 +283,10 @@ impl Flows {
         ensures ready { (n : ℕ) → IsReady n self.old → IsReady n self.new }
         ensures external { self.new.translations.external ≡ self.old.translations.external }
     {
-        self.table.is_sound();
+        self.table.facts();
         self.table.restart(slot, opener, last);
         touch(&self.table, &mut self.due, slot, last);
-        self.table.is_sound();
+        self.table.facts();
     }
 
     /// Takes the session.
@@ -317,11 +317,11 @@ impl Flows {
         ensures ready { (n : ℕ) → IsReady (n + 1) self.old → IsReady n self.new }
         ensures external { self.new.translations.external ≡ self.old.translations.external }
     {
-        self.table.is_sound();
+        self.table.facts();
         let slot = self.table.add_reserved(session);
         watch(&mut self.due, slot, session.last, session.timeout());
         self.translations.hold(&session);
-        self.table.is_sound();
+        self.table.facts();
     }
 
     /// Does what a change says, for which there is room. Compiled into its caller.
@@ -444,7 +444,7 @@ impl Flows {
             plan.now.second ts
             → noted_all ts (listing self.old.table.held) ≡ [] → IsOk result }
     {
-        self.table.is_sound();
+        self.table.facts();
         if ready {
             return Ok(());
         }
@@ -638,7 +638,7 @@ impl Flows {
         for slot in slots {
             self.end_noted(*slot, notes);
         }
-        self.table.is_sound();
+        self.table.facts();
     }
 
     /// Ends the sessions that are no longer alive at the second `now`, notes them, and says whether there were any;

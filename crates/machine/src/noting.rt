@@ -90,7 +90,7 @@ pub fn makes_entry(table: &Table, change: &Change) -> bool
     ensures { (external now : ℕ) (t : Flowing) → Gives external table.now.held now change.now t
         → IsTrue result ↔ (noted (listing table.now.held) t ≢ []) }
 {
-    table.is_sound();
+    table.facts();
     match change {
         Change::Begin(_) => true,
         Change::Seen(slot, bits) => match table.get(*slot) {
@@ -137,7 +137,7 @@ pub fn entry_for(table: &Table, change: &Change) -> Option<Entry<'static>>
         → listed result ≡ noted (listing table.now.held) t }
     ensures coded { AreEntries (listed result) }
 {
-    table.is_sound();
+    table.facts();
     match change {
         Change::Begin(session) => Some(Entry::Begin(stilled(session))),
         Change::Seen(slot, bits) => {
@@ -187,7 +187,7 @@ pub fn plan_makes_entry(table: &Table, plan: &Plan) -> bool
         → GiveAll external table.now.held now plan.now.first plan.now.second ts
         → IsTrue result ↔ (noted_all ts (listing table.now.held) ≢ []) }
 {
-    table.is_sound();
+    table.facts();
     if makes_entry(table, &plan.first) {
         return true;
     }

@@ -147,7 +147,7 @@ impl Map {
 
     /// What every map keeps: no two pairs of a protocol share an outside endpoint, nor an inside endpoint.
     /// It does nothing but carry this.
-    pub fn is_one_to_one(&self)
+    pub fn facts(&self)
         ensures { IsOneToOne self.now }
     {
         let _index = &self.index;

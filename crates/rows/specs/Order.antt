@@ -74,13 +74,6 @@ abbrev pub KeepsSound : Vec Run Global → Vec Run Global → Type 0
 KeepsSound old new = (spare : Vec (Vec Entry Global) Global) → AreSound old spare
     → AreSound new spare
 
--- an entry goes in between: a part of the list stays before it and the rest after it
-pub record Inserts (entry : Entry) (old new : List Entry) : Type 0 where
-  pub front : List Entry
-  pub back : List Entry
-  pub old_is : old ≡ front ++ back
-  pub new_is : new ≡ front ++ entry ∷ back
-
 -- the run of this number is cut in two, with its higher half behind it
 pub record IsCut (old new : List Run) (number : ℕ) : Type 0 where
   pub front : List Run

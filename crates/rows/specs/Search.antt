@@ -1,4 +1,4 @@
--- What a test of an item answers.
+-- What a test of an item answers. No public clause cites this module.
 use Rattle.std.specs.Prelude.{◌≡◌, Bool}
 use denote.Ref.{Bor}
 use Rattle.std.specs.Fn.{FnReturnsAt, Shared}

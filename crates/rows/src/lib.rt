@@ -177,7 +177,7 @@ impl Rows {
     }
 
     /// What all rows keep: the keys rise.
-    pub fn is_rising(&self)
+    pub fn facts(&self)
         ensures { AreRising self.now.held }
     {
         // What rows keep is known once a field of them is read.

@@ -41,7 +41,7 @@ impl Ruleset {
 
     /// What every ruleset keeps: none of the faults that a text has under whatever bounds. It does nothing
     /// but carry this.
-    pub fn is_runnable(&self)
+    pub fn facts(&self)
         ensures { IsRunnable self.now }
     {
         let _text = &self.text;

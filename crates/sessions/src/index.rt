@@ -14,7 +14,7 @@ ghost use Rattle.sessions.specs.Translated.{IsTold, LacksMapping, first_by_insid
 
 use crate::Session;
 use crate::hints::Hints;
-use crate::keys::{has_endpoints, key, untranslated_key};
+use crate::keys::{endpoint_facts, key, untranslated_key};
 use crate::session::clash;
 use crate::translated::{Translated, is_empty};
 use packet::endpoint::{Endpoint, Proto};
@@ -363,7 +363,7 @@ fn clashes_with_firsts(
     ensures broken { IsTrue result → AnyClash sessions.now.slots session.now }
     ensures kept { ¬ IsTrue result → IsNowhere sessions.now.slots (BreakMapping session.now) }
 {
-    has_endpoints(session);
+    endpoint_facts(session);
     clashes_at(sessions, by_inside, session) || clashes_at(sessions, by_outside, session)
 }
 

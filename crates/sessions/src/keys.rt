@@ -48,7 +48,7 @@ pub fn mapping_key(proto: Proto, near: Endpoint) -> u64
 }
 
 /// The addresses and ports of a session are numbers of 32 and of 16 bits.
-pub fn has_endpoints(session: &Session)
+pub fn endpoint_facts(session: &Session)
     ensures { AreEndpoints session.now }
 {
     number_of(session.inside);

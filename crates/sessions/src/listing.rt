@@ -8,7 +8,7 @@ ghost use Rattle.sessions.specs.Listing.{IsSetOf};
 ghost use Rattle.sessions.specs.Table.{IsSound};
 
 use crate::Session;
-use crate::keys::{has_endpoints, key, mapping_key};
+use crate::keys::{endpoint_facts, key, mapping_key};
 use slab::Slab;
 use std::alloc::{AllocError, Global};
 
@@ -46,7 +46,7 @@ fn collected(alloc: Global, sessions: &Slab<Session>) -> Result<Vec<Session>, Al
 {
     let mut collected = Vec::with_capacity(alloc, sessions.len())?;
     for (_, session) in sessions {
-        has_endpoints(session);
+        endpoint_facts(session);
         collected.push(*session)?;
     }
     Ok(collected)

@@ -13,7 +13,7 @@ use crate::hints::Hints;
 use crate::index::{
     Index, clashes, find_inside, find_or_mapped, find_outside, guess_inside, guess_outside,
 };
-use crate::keys::has_endpoints;
+use crate::keys::endpoint_facts;
 use crate::listing::sorted;
 use crate::{Opener, Session};
 use packet::endpoint::{Endpoint, Proto};
@@ -135,7 +135,7 @@ impl Table {
 
     /// What every table keeps: no two sessions clash, they aren't too many, and each has seen bits of
     /// its protocol alone.
-    pub fn is_sound(&self)
+    pub fn facts(&self)
         ensures { IsSound self.now.held }
     {
         // What a table keeps is known once a field of it is read.
@@ -319,7 +319,7 @@ impl Table {
         ensures in_slots { result < self.new.slots }
         ensures slots { self.new.slots ≡ self.old.slots }
     {
-        has_endpoints(&session);
+        endpoint_facts(&session);
         let slot = self.sessions.insert_reserved(session);
         self.index.insert(&session, slot);
         Slot(slot)

@@ -14,7 +14,7 @@ ghost use Rattle.sessions.specs.Table.{HasInside, HasOutside};
 ghost use Rattle.sessions.specs.Translated.{Finishes, HasNoHeir, IsHeir, IsNowhereTranslated, IsTold, LacksMapping, Once, Passes, TakesIn, first_by_inside, first_by_outside, room_in};
 
 use crate::Session;
-use crate::keys::{has_endpoints, key, mapping_key};
+use crate::keys::{endpoint_facts, key, mapping_key};
 use buckets::Buckets;
 use buckets::by_port::ByPort;
 use packet::endpoint::{Endpoint, Proto};
@@ -239,7 +239,7 @@ impl Translated {
             (IsHeir self.now session.now slot) slot) }
         ensures none { IfNone result (HasNoHeir sessions.now.slots self.now session.now) }
     {
-        has_endpoints(session);
+        endpoint_facts(session);
         let least = Endpoint { addr: 0, port: 0 };
         let slot = first_from(&self.others, key(session.proto, session.inside, least))?;
         if !is_of(sessions, slot, session.proto, session.inside) {
@@ -315,7 +315,7 @@ fn first_from(row: &Rows, from: u128) -> Option<usize>
     ensures value { result ≡ first_value (entries_from from row.now.held) }
     ensures rising { AreRising row.now.held }
 {
-    row.is_rising();
+    row.facts();
     match row.iter_from(from).next() {
         Some(entry) => Some(entry.value),
         None => None,

@@ -1,4 +1,4 @@
--- What an element and the next one in order come to where they touch.
+-- What an element and the next one in order come to where they touch. No public clause cites this module.
 use Rattle.std.specs.Prelude.{◌≡◌, ◌⊎◌, ◌↔◌}
 use Rattle.sets.specs.declared.element.Element.{Element}
 use Rattle.sets.specs.declared.joining.Join.{Join}

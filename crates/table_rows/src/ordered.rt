@@ -58,7 +58,7 @@ fn goes_over(mut walk: Walk<'_>, entries: &[(u128, usize)]) -> bool {
 #[test]
 fn entries_rise(rt: HostRuntime) -> Result<(), AllocError> {
     let rows = three(&rt, rt.alloc())?;
-    rows.is_rising();
+    rows.facts();
     assert!(rt; goes_over(rows.iter(), &[(0, 3), (7, 2), (HIGH, 1)]));
     assert!(rt; goes_over(rows.iter_from(1), &[(7, 2), (HIGH, 1)]));
     Ok(())

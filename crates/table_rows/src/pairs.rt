@@ -91,7 +91,7 @@ fn goes_with_its_last_hold(rt: &impl Abort, map: &mut Map) -> Result<(), AllocEr
         outside: OUTSIDE,
     };
     hold(rt, map, udp)?;
-    map.is_one_to_one();
+    map.facts();
     hold(rt, map, udp)?;
     assert_led(rt, map, true);
     assert_led_by_udp_alone(rt, map);

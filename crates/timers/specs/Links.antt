@@ -128,19 +128,3 @@ pub record IsFound (links : List Link) (now queues : ℕ) (slots : List ℕ) : T
 -- the place is the head of this queue, or that of one of these slots
 abbrev pub IsPassed : List ℕ → ℕ → ℕ → Type 0
 IsPassed slots head k = (k ≡ head) ⊎ ((3 ≤ k) × Contains slots (k - 3))
-
--- the walk through the queue with this head has come to this place: the slots of the queues before it
--- and of the places before this one are found, as far as they are alive no longer
-pub record IsWalked (links : List Link) (now head at : ℕ) (slots : List ℕ) : Type 0 where
-  pub here : tag links at ≡ head
-  pub all : (slot : ℕ) → tag links (slot + 3) < head → IsOverAt links now (slot + 3)
-      → Contains slots slot
-  pub led : (slot : ℕ) → tag links (slot + 3) ≡ head
-      → IsPassed slots head (previous links (slot + 3)) → (slot + 3 ≡ at) ⊎ Contains slots slot
-  pub each : (slot : ℕ) → Contains slots slot → (tag links (slot + 3) ≤ head)
-      × IsOverAt links now (slot + 3)
-  pub before : (rank : ℕ → ℕ)
-      → ((k : ℕ) → tag links k < 3 → 3 ≤ k → 3 ≤ next links k → rank k < rank (next links k))
-      → (slot : ℕ) → Contains slots slot
-      → tag links (slot + 3) ≡ head → 3 ≤ at → rank (slot + 3) < rank at
-  pub once : (i j : ℕ) → i < j → j < length slots → slice_index slots i ≢ slice_index slots j

@@ -293,7 +293,7 @@ fn asked_outcome(rules: &Rules, bounds: &Bounds, facts: &Facts, hook: Hook) -> (
     ensures outcome { result.0 ≡ outcome_of_hook bounds.now facts.now hook rules.now }
     ensures steps { result.1 ≤ rules_in_force rules.now }
 {
-    rules.is_runnable();
+    rules.facts();
     let (first, steps) = final_of_all(
         bounds,
         facts,
@@ -344,7 +344,7 @@ fn lone_outcome(
     ensures outcome { result.0 ≡ outcome_of_hook bounds.now facts.now hook rules.now }
     ensures steps { result.1 ≤ rules_in_force rules.now }
 {
-    rules.is_runnable();
+    rules.facts();
     let table = &rules.text().tables.as_slice()[spot.table];
     let laid = &rules.rows()[spot.table];
     lone_in_table(bounds, facts, hook, table, laid, spot.place)

@@ -55,7 +55,7 @@ impl Rules {
     pub fn of(alloc: Global, loaded: Ruleset) -> Result<Rules, AllocError>
         ensures { IfOk result (λ rules. rules ≡ loaded) }
     {
-        loaded.is_runnable();
+        loaded.facts();
         let rows = lay_all(alloc, loaded.text().tables.as_slice())?;
         let asked = asked_by_hook(loaded.text().tables.as_slice());
         Ok(Rules {
@@ -74,7 +74,7 @@ impl Rules {
 
     /// What all rules keep: none of the faults for which a text is refused whatever the configuration, such as
     /// a name that is unknown or a loop. It does nothing but carry this fact.
-    pub fn is_runnable(&self)
+    pub fn facts(&self)
         ensures { IsRunnable self.now }
     {
         let _text = &self.text;

@@ -1,6 +1,6 @@
 use Rattle.std.proofs.Common.{◌≡◌, ◌+◌, sym, ◌∙◌, subst, arith}
-use Rattle.buckets.specs.Places.{number, ArePackedBelow}
-use Rattle.buckets.proofs.Values.{next-packed}
+use Rattle.buckets.specs.Places.{number}
+use Rattle.buckets.proofs.Values.{ArePackedBelow, next-packed}
 use Rattle.buckets.proofs.places.lift_each.Goals as goal
 
 pub loop-preserved : goal.loop-preserved

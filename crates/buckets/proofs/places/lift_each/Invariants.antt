@@ -1,6 +1,7 @@
 use Rattle.std.proofs.Common.{◌≡◌, ◌≤◌, ℕ}
 use Rattle.rows.specs.Held.{value_at}
-use Rattle.buckets.specs.Places.{all_in, AreSound, ArePackedBelow}
+use Rattle.buckets.specs.Places.{all_in, AreSound}
+use Rattle.buckets.proofs.Values.{ArePackedBelow}
 use Rattle.buckets.proofs.places.lift_each.Given as goal
 
 -- the entries below this number are dealt with

@@ -1,7 +1,7 @@
 use Rattle.std.proofs.Common.{◌≡◌, ◌+◌, ◌-◌, ◌<◌, ◌≤◌, ℕ, List, Option, length, ◌∙◌, subst, arith}
 use Rattle.rows.specs.declared.Entry.{Entry}
-use Rattle.buckets.specs.Places.{bucket_of, AreSound, HasKey, IsFull, IsLast}
-use Rattle.buckets.proofs.Values.{found-all, before-end, last-before, last-full, taken-sound, taken-puts, taken-next, taken-packed, on-true}
+use Rattle.buckets.specs.Places.{bucket_of, AreSound, HasKey, IsFull}
+use Rattle.buckets.proofs.Values.{IsLast, found-all, before-end, last-before, last-full, taken-sound, taken-puts, taken-next, taken-packed, on-true}
 use Rattle.buckets.proofs.places.take_place.Goals as goal
 
 pub returns-in-Some-clause-sound : goal.returns-in-Some-clause-sound

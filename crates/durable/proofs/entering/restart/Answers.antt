@@ -32,7 +32,7 @@ returns-clause-changed c = λ is.
     let found = named-at old slot f c.in-Some.ensures.found in
     let updates : Updates old new slot (Some (begun_anew c.args.opener c.args.seen found.0)) =
     subst (λ (o : Option Session). Updates old new slot (option_map (λ s. amended s c.args.opener c.args.seen) o)) found.1 c.amend.ensures.updates in
-    listing-changed old new slot f found.0 c.is_sound.ensures found.1 found.2 (begun_anew c.args.opener c.args.seen) (amends-anew c.args.opener c.args.seen) c.is_sound-2.ensures updates
+    listing-changed old new slot f found.0 c.facts.ensures found.1 found.2 (begun_anew c.args.opener c.args.seen) (amends-anew c.args.opener c.args.seen) c.facts-2.ensures updates
 
 pub returns-clause-sound : goal.returns-clause-sound
 returns-clause-sound c = λ is.

@@ -5,4 +5,4 @@ pub returns-clause-session : goal.returns-clause-session
 returns-clause-session c =
     let view = c.args.view.now in
     let it = c.in_ok-slot in
-    found_outside c.args.table.now.held c.is_sound.ensures view.proto view.dst view.src it.slot it.session it.ensures.held it.ensures.session
+    found_outside c.args.table.now.held c.facts.ensures view.proto view.dst view.src it.slot it.session it.ensures.held it.ensures.session

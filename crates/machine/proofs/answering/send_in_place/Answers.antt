@@ -8,5 +8,5 @@ see_going-requires-clause-give c =
 
 pub returns-clause-none : goal.returns-clause-none
 returns-clause-none c = λ way plans.
-    let sound = rw c.table.ensures at c.is_sound.ensures in
+    let sound = rw c.table.ensures at c.facts.ensures in
     quiet-way c.args.flows.now.translations.external c.args.flows.now.table.held c.args.now c.args.going.now sound c.requires.quiet way plans

@@ -7,7 +7,7 @@ use Rattle.machine.proofs.noting.entry_for.Goals as goal
 pub returns-in-Begin-clause-entry : goal.returns-in-Begin-clause-entry
 returns-in-Begin-clause-entry c = λ external now t gives.
     ap (λ u. Begin u ∷ []) c.stilled.ensures.value
-    ∙ begin-told c.args.table.now.held (Apart-sound c.args.table.now.held c.is_sound.ensures) external now c.in-Begin.session t (rw c.in-Begin.is at gives)
+    ∙ begin-told c.args.table.now.held (Apart-sound c.args.table.now.held c.facts.ensures) external now c.in-Begin.session t (rw c.in-Begin.is at gives)
 
 pub returns-in-Begin-clause-coded : goal.returns-in-Begin-clause-coded
 returns-in-Begin-clause-coded c =
@@ -17,14 +17,14 @@ returns-in-Begin-clause-coded c =
 pub between-requires : goal.between-requires
 between-requires c =
     let gives = rw c.in-Seen.is at c.requires.3 in
-    seen-fits c.requires.0 c.args.table.now.held c.requires.1 c.in-Seen.slot c.in-Seen.bits c.in_ok-session-in-Seen.session c.requires.2 c.is_sound.ensures (sym c.in_ok-session-in-Seen.ensures.value) gives
+    seen-fits c.requires.0 c.args.table.now.held c.requires.1 c.in-Seen.slot c.in-Seen.bits c.in_ok-session-in-Seen.session c.requires.2 c.facts.ensures (sym c.in_ok-session-in-Seen.ensures.value) gives
 
 pub returns-in_ok-session-in-Seen-clause-entry : goal.returns-in_ok-session-in-Seen-clause-entry
 returns-in_ok-session-in-Seen-clause-entry c = λ external now t gives.
     c.between.ensures.entry
-    ∙ seen-told c.args.table.now.held (Apart-sound c.args.table.now.held c.is_sound.ensures) external now c.in-Seen.slot c.in-Seen.bits c.in_ok-session-in-Seen.session t (sym c.in_ok-session-in-Seen.ensures.value) (rw c.in-Seen.is at gives)
+    ∙ seen-told c.args.table.now.held (Apart-sound c.args.table.now.held c.facts.ensures) external now c.in-Seen.slot c.in-Seen.bits c.in_ok-session-in-Seen.session t (sym c.in_ok-session-in-Seen.ensures.value) (rw c.in-Seen.is at gives)
 
 pub returns-in_ok-session-in-Restart-clause-entry : goal.returns-in_ok-session-in-Restart-clause-entry
 returns-in_ok-session-in-Restart-clause-entry c = λ external now t gives.
     c.between-in-Restart.ensures.entry
-    ∙ restart-told c.args.table.now.held (Apart-sound c.args.table.now.held c.is_sound.ensures) external now c.in-Restart.slot c.in-Restart.opener c.in_ok-session-in-Restart.session t (sym c.in_ok-session-in-Restart.ensures.value) (rw c.in-Restart.is at gives)
+    ∙ restart-told c.args.table.now.held (Apart-sound c.args.table.now.held c.facts.ensures) external now c.in-Restart.slot c.in-Restart.opener c.in_ok-session-in-Restart.session t (sym c.in_ok-session-in-Restart.ensures.value) (rw c.in-Restart.is at gives)

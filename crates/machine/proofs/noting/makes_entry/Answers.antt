@@ -8,19 +8,19 @@ use Rattle.machine.proofs.noting.makes_entry.Goals as goal
 pub returns-in-Begin : goal.returns-in-Begin
 returns-in-Begin c = λ external now t gives.
     let held = c.args.table.now.held in
-    let told = begin-told held (Apart-sound held c.is_sound.ensures) external now c.in-Begin.field-0 t (rw c.in-Begin.is at gives) in
+    let told = begin-told held (Apart-sound held c.facts.ensures) external now c.in-Begin.field-0 t (rw c.in-Begin.is at gives) in
     ((λ _ none. cons≢nil (Begin (stilled c.in-Begin.field-0)) [] (told ∙ none)), (λ _. refl))
 
 pub returns-in-Some : goal.returns-in-Some
 returns-in-Some c = λ external now t gives.
     let held = c.args.table.now.held in
-    let told = seen-told held (Apart-sound held c.is_sound.ensures) external now c.in-Seen.slot c.in-Seen.bits c.in-Some.session t (sym c.get.ensures.value ∙ c.in-Some.is) (rw c.in-Seen.is at gives) in
+    let told = seen-told held (Apart-sound held c.facts.ensures) external now c.in-Seen.slot c.in-Seen.bits c.in-Some.session t (sym c.get.ensures.value ∙ c.in-Some.is) (rw c.in-Seen.is at gives) in
     let tells = c.shows_more.ensures now in
     rw told at tells
 
 pub returns-in-Some-get : goal.returns-in-Some-get
 returns-in-Some-get c = λ external now t gives.
     let held = c.args.table.now.held in
-    let told = restart-told held (Apart-sound held c.is_sound.ensures) external now c.in-Restart.slot c.in-Restart.opener c.in-Some-get.session t (sym c.get-in-Restart.ensures.value ∙ c.in-Some-get.is) (rw c.in-Restart.is at gives) in
+    let told = restart-told held (Apart-sound held c.facts.ensures) external now c.in-Restart.slot c.in-Restart.opener c.in-Some-get.session t (sym c.get-in-Restart.ensures.value ∙ c.in-Some-get.is) (rw c.in-Restart.is at gives) in
     let tells = c.restart_changes.ensures now in
     rw told at tells

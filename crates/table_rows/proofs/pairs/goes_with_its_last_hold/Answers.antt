@@ -10,4 +10,4 @@ hold-requires-2-clause-one_to_one g c =
     let udp : Pair = pair Udp (record { addr = 3232235778; port = 5000 }) (record { addr = 3405803777; port = 5002 }) in
     let times_is : times c.hold.new.map udp ≡ times c.args.map.now udp + one_at udp udp = c.in_ok-hold.ensures udp in
     let held : 0 < times c.hold.new.map udp = omega (arith, times_is, one_at-itself udp) in
-    keeps-held (times c.hold.new.map) c.is_one_to_one.ensures udp held
+    keeps-held (times c.hold.new.map) c.facts.ensures udp held

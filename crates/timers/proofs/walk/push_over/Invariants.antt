@@ -1,5 +1,6 @@
 use Rattle.std.proofs.Common.{◌-◌, length}
-use Rattle.timers.specs.Links.{head_of, IsWalked}
+use Rattle.timers.specs.Links.{head_of}
+use Rattle.timers.proofs.Walks.{IsWalked}
 use Rattle.timers.proofs.walk.push_over.Given as goal
 
 abbrev pub invariant-loop-slot : goal.invariant-loop-slot

@@ -37,7 +37,7 @@ lone_in_table-requires-clause-room c =
     let there = ap (λ tables. slice_get tables c.args.spot.table) (c.as_slice.ensures ∙ ap (λ text. text.tables) c.text.ensures) ∙ c.requires.lone.at in
     let same = c.index-as_slice-spot.is ∙ get_or_from_slice_get c.as_slice.result.now c.args.spot.table c.requires.lone.table _ there in
     let own = own_tables c.args.rules.now.tables c.args.spot.table c.requires.lone.table c.requires.lone.at in
-    let few = (few_of c.args.rules.now.tables c.is_runnable.ensures.few).1 in
+    let few = (few_of c.args.rules.now.tables c.facts.ensures.few).1 in
     omega (arith, own, few, ap rules_of_table same)
 
 pub returns-clause-outcome : goal.returns-clause-outcome

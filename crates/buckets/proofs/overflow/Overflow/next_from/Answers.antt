@@ -8,4 +8,4 @@ returns-in_err-entry-clause-past c =
 
 pub returns-clause-next : goal.returns-clause-next
 returns-clause-next c =
-    rw (← c.self.view_is) (next-is c.self.inside.rows.held c.self.invariant c.args.from c.is_rising.ensures c.in_ok-entry.entry _ (sym c.iter_from.ensures ∙ c.in_ok-entry.ensures.steps))
+    rw (← c.self.view_is) (next-is c.self.inside.rows.held c.self.invariant c.args.from c.facts.ensures c.in_ok-entry.entry _ (sym c.iter_from.ensures ∙ c.in_ok-entry.ensures.steps))

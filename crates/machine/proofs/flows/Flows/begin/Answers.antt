@@ -16,7 +16,7 @@ hold-requires-clause-one_to_one c =
 pub hold-requires-clause-few : goal.hold-requires-clause-few
 hold-requires-clause-few c =
     let may = rw (← c.self.view_is) at c.requires.may in
-    omega (arith, may.few, c.is_sound.ensures.at_most, c.self.invariant.counts (pair_of c.args.session), tally-few (pair_of c.args.session) c.self.inside.table.held)
+    omega (arith, may.few, c.facts.ensures.at_most, c.self.invariant.counts (pair_of c.args.session), tally-few (pair_of c.args.session) c.self.inside.table.held)
 
 pub invariant_of-self : goal.invariant_of-self
 invariant_of-self c =
@@ -27,7 +27,7 @@ invariant_of-self c =
 pub returns-clause-became : goal.returns-clause-became
 returns-clause-became c =
     let free = c.add_reserved-slot.ensures.was_free in
-    let e = became c.self.inside.table c.add_reserved-slot.new.self (Begin c.args.session) c.add_reserved-slot.result c.args.session c.is_sound.ensures c.is_sound-2.ensures c.add_reserved-slot.ensures.updates
+    let e = became c.self.inside.table c.add_reserved-slot.new.self (Begin c.args.session) c.add_reserved-slot.result c.args.session c.facts.ensures c.facts-2.ensures c.add_reserved-slot.ensures.updates
     (λ s is. absurd (none-some s (sym free ∙ is)))
     (λ k s is other here. none-some s (sym free ∙ subst (λ j. at c.self.inside.table j ≡ Some s) here is)) in
     rw (← c.self.view_is) e

@@ -22,7 +22,7 @@ returns-then-not-plan_makes_entry-clause-ready g c = λ some.
     let ts = c.requires.give.0 in
     let give = rw (← c.self.view_is) at c.requires.give.1 in
     let none : noted_all ts (listing held) ≡ [] = nil-unless (noted_all ts (listing held)) (λ away. false≢true (sym c.if-not-plan_makes_entry.true ∙ (c.plan_makes_entry.ensures external c.args.now ts give).1 away)) in
-    absurd (omega (arith, some, quiet-adds held c.is_sound.ensures external c.args.now first second ts give none))
+    absurd (omega (arith, some, quiet-adds held c.facts.ensures external c.args.now first second ts give none))
 
 pub returns-clause-room : goal.returns-clause-room
 returns-clause-room g c = on_ok_weaker {P = g.N.Notes.keeps c.args.notes.now → 14 * 0 + 44 ≤ g.N.Notes.room c.reserve-2.new.self} c.reserve-2.result

@@ -22,7 +22,7 @@ pub returns-clause-became : goal.returns-clause-became
 returns-clause-became c = λ s held.
     let is : at c.self.inside.table c.args.slot ≡ Some s = rw (← c.self.view_is) at held in
     let updates = rw is at c.see.ensures.updates in
-    let e = became c.self.inside.table c.see.new.self (Seen c.args.slot c.args.bits) c.args.slot (seen s c.args.bits c.args.last) c.is_sound.ensures c.is_sound-2.ensures updates
+    let e = became c.self.inside.table c.see.new.self (Seen c.args.slot c.args.bits) c.args.slot (seen s c.args.bits c.args.last) c.facts.ensures c.facts-2.ensures updates
     (λ u at_u. ap key (same_Some u s (sym at_u ∙ is)))
     (λ k u at_u other e. other (sym e)) in
     rw (← c.self.view_is) e

@@ -22,7 +22,7 @@ pub returns-clause-became : goal.returns-clause-became
 returns-clause-became c = λ s held.
     let is : at c.self.inside.table c.args.slot ≡ Some s = rw (← c.self.view_is) at held in
     let updates = rw is at c.restart.ensures.updates in
-    let e = became c.self.inside.table c.restart.new.self (Restart c.args.slot c.args.opener) c.args.slot (restarted s c.args.opener c.args.last) c.is_sound.ensures c.is_sound-2.ensures updates
+    let e = became c.self.inside.table c.restart.new.self (Restart c.args.slot c.args.opener) c.args.slot (restarted s c.args.opener c.args.last) c.facts.ensures c.facts-2.ensures updates
     (λ u at_u. ap key (same_Some u s (sym at_u ∙ is)))
     (λ k u at_u other e. other (sym e)) in
     rw (← c.self.view_is) e

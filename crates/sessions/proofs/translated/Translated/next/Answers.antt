@@ -16,7 +16,7 @@ pub returns-in_err-slot-clause-none : goal.returns-in_err-slot-clause-none
 unfolding least
 returns-in_err-slot-clause-none c = where-none _ c.from_residual.result (λ none slot u is heir.
     let t = c.args.self.now in
-    let n = next-is c.args.sessions.now.slots t c.requires.told c.args.session.now c.has_endpoints.ensures least refl c.first_from.ensures.rising slot u is heir in
+    let n = next-is c.args.sessions.now.slots t c.requires.told c.args.session.now c.endpoint_facts.ensures least refl c.first_from.ensures.rising slot u is heir in
     none-some n.0 (c.in_err-slot.ensures.value ∙ ap (λ k. first_value (entries_from k t.others.held)) c.key.ensures.value ∙ n.1))
 
 pub returns-then-not-is_of-clause-none : goal.returns-then-not-is_of-clause-none
@@ -24,7 +24,7 @@ unfolding least
 returns-then-not-is_of-clause-none c slot u is heir =
     let t = c.args.self.now in
     let s = c.args.session.now in
-    let n = next-is c.args.sessions.now.slots t c.requires.told s c.has_endpoints.ensures least refl c.first_from.ensures.rising slot u is heir in
+    let n = next-is c.args.sessions.now.slots t c.requires.told s c.endpoint_facts.ensures least refl c.first_from.ensures.rising slot u is heir in
     let same = same_Some n.0 c.in_ok-slot.slot (sym n.1 ∙ sym (ap (λ k. first_value (entries_from k t.others.held)) c.key.ensures.value) ∙ sym c.in_ok-slot.ensures.value) in
     false≢true (c.if-not-is_of.ensures.1 (subst (IsAt c.args.sessions.now.slots (λ v. (v.proto ≡ s.proto) × (v.inside ≡ s.inside))) same n.2))
 
@@ -36,6 +36,6 @@ returns-clause-heir c =
     let s = c.args.session.now in
     let slot = c.in_ok-slot.slot in
     at-weaker (λ v. (v.proto ≡ s.proto) × (v.inside ≡ s.inside)) (IsHeir t s slot) (get_or held slot None)
-    (λ u is has. next-heir held t c.requires.told s c.has_endpoints.ensures least refl c.first_from.ensures.rising slot u
+    (λ u is has. next-heir held t c.requires.told s c.endpoint_facts.ensures least refl c.first_from.ensures.rising slot u
     (sym (ap (λ k. first_value (entries_from k t.others.held)) c.key.ensures.value) ∙ sym c.in_ok-slot.ensures.value) is has.0 has.1)
     (c.if-not-is_of.ensures.0 refl)
