@@ -1,10 +1,10 @@
 -- What is said of a ruleset's text.
 use Rattle.std.specs.Prelude.{◌≡◌, ◌≢◌, ℕ, Bool, true, false, List, [], ◌++◌, codes}
 use Rattle.packet.specs.Config.{Config}
-use Rattle.rulesyntax.specs.Reasons.{reason_name}
-use Rattle.rulesyntax.specs.declared.fault.Kind.{Kind}
-use Rattle.rulesyntax.specs.declared.fault.Kind.TheVariants.{NoMemory}
-use Rattle.rulesyntax.specs.declared.tree.Spelled.{Spelled}
+use Rattle.ruletree.specs.Reasons.{reason_name}
+use Rattle.ruletree.specs.declared.fault.Kind.{Kind}
+use Rattle.ruletree.specs.declared.fault.Kind.TheVariants.{NoMemory}
+use Rattle.ruletree.specs.declared.tree.Spelled.{Spelled}
 use Rattle.ruletext.specs.Texts.{Loads, IsRefused}
 use Rattle.text_marks.specs.Reports.{IsReport}
 

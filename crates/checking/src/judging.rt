@@ -9,8 +9,8 @@ ghost use Rattle.text_marks.specs.Reports.{IsReport};
 
 use packet::bounds::Bounds;
 use refusals::Refusal;
-use rulesyntax::fault::{Kind, LoadFault};
 use ruletext::fault_of;
+use ruletree::fault::{Kind, LoadFault};
 use std::alloc::{AllocError, Global};
 use std::io::Write;
 

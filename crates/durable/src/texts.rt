@@ -4,8 +4,8 @@ ghost use Rattle.durable.specs.Entering.{IsRuleset};
 
 use crate::DurableFault;
 use packet::bounds::Bounds;
-use rulesyntax::fault::Kind;
 use ruletext::read;
+use ruletree::fault::Kind;
 use std::alloc::Global;
 
 /// Tells whether nothing was loaded, or the text loads under these bounds.

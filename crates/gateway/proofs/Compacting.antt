@@ -2,7 +2,7 @@
 use Rattle.std.proofs.Common.{◌≡◌, inl, inr, ℕ, ◌+◌, ◌≤◌, List, [], length, map, sym, ◌∙◌, ap, subst, arith}
 use Rattle.std.proofs.lemmas.List.{length-map}
 use Rattle.packet.specs.Config.{Config}
-use Rattle.rulesyntax.specs.declared.tree.Spelled.{Spelled}
+use Rattle.ruletree.specs.declared.tree.Spelled.{Spelled}
 use Rattle.sessions.specs.declared.session.Session.{Session}
 use Rattle.sessions.specs.Stilled.{stilled}
 use Rattle.disk_model.specs.Disk.{Files}

@@ -1,8 +1,8 @@
 //! Texts of rulesets, each of which takes another way through the reader.
 use crate::shared::{Stop, bounds, must};
 use packet::bounds::Bounds;
-use rulesyntax::fault::{Kind, LoadFault};
 use ruletext::fault_of;
+use ruletree::fault::{Kind, LoadFault};
 use std::alloc::Global;
 use std::io;
 

@@ -3,7 +3,7 @@ use Rattle.std.proofs.Common.{◌≡◌, ℕ, suc, List, [], ◌∷◌, get_or, 
 use Rattle.std.proofs.lemmas.Option.{none-some}
 use Rattle.packet.specs.Config.{Config}
 use Rattle.packet.specs.declared.endpoint.Endpoint.{Endpoint}
-use Rattle.rulesyntax.specs.declared.tree.Spelled.{Spelled}
+use Rattle.ruletree.specs.declared.tree.Spelled.{Spelled}
 use Rattle.mappings.specs.Map.{Pairs, times}
 use Rattle.mappings.specs.declared.map.Pair.{Pair}
 use Rattle.sessions.specs.Listing.{listing}

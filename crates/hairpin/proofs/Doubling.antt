@@ -11,7 +11,7 @@ use Rattle.packet.specs.declared.endpoint.Flags.{Flags}
 use Rattle.packet.specs.declared.endpoint.Iface.TheVariants.{Lan}
 use Rattle.packet.specs.declared.view.View.{View}
 use Rattle.portpick.specs.Choice.{port_choice}
-use Rattle.rulesyntax.specs.declared.tree.Spelled.{Spelled}
+use Rattle.ruletree.specs.declared.tree.Spelled.{Spelled}
 use Rattle.sessions.specs.Life.{restarts, shown}
 use Rattle.sessions.specs.Listing.{In, Rises, below, clashes, find, has_inside, has_outside, insert, put, same_flow}
 use Rattle.sessions.specs.Table.{Clash as Clashing, restarted, seen}

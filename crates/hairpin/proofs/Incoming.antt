@@ -5,7 +5,7 @@ use Rattle.packet.specs.Config.{Config, is_config, is_inside}
 use Rattle.packet.specs.declared.endpoint.Endpoint.{Endpoint}
 use Rattle.packet.specs.declared.endpoint.Iface.TheVariants.{Lan, Wan}
 use Rattle.packet.specs.declared.view.View.{View}
-use Rattle.rulesyntax.specs.declared.tree.Spelled.{Spelled}
+use Rattle.ruletree.specs.declared.tree.Spelled.{Spelled}
 use Rattle.sessions.specs.Listing.{clashes, find, has_outside, listing, put}
 use Rattle.sessions.specs.Table.{AnyClash}
 use Rattle.sessions.specs.declared.session.Change.TheVariants.{Begin}

@@ -9,7 +9,7 @@ use Rattle.packet.specs.declared.endpoint.Iface.TheVariants.{Lan, Wan}
 use Rattle.packet.specs.declared.view.View.{View}
 use Rattle.packet.proofs.SameLemmas.{same_endpoint-itself}
 use Rattle.portpick.specs.Choice.{port_choice}
-use Rattle.rulesyntax.specs.declared.tree.Spelled.{Spelled}
+use Rattle.ruletree.specs.declared.tree.Spelled.{Spelled}
 use Rattle.sessions.specs.Listing.{In, find, has_inside, listing, put}
 use Rattle.sessions.specs.Table.{Clash}
 use Rattle.sessions.specs.declared.session.Change.TheVariants.{Begin}

@@ -10,7 +10,7 @@ use Rattle.packet.specs.declared.endpoint.Iface.TheVariants.{Lan}
 use Rattle.packet.specs.declared.endpoint.Proto.{Proto}
 use Rattle.packet.specs.declared.view.View.{View}
 use Rattle.portpick.specs.Choice.{IsTestOf, port_choice}
-use Rattle.rulesyntax.specs.declared.tree.Spelled.{Spelled}
+use Rattle.ruletree.specs.declared.tree.Spelled.{Spelled}
 use Rattle.mappings.specs.declared.map.Pair.{Pair}
 use Rattle.mappings.specs.Map.{Pairs, times}
 use Rattle.sessions.specs.Laws.{IsMapping}

@@ -11,7 +11,7 @@ use Rattle.packet.specs.declared.endpoint.Proto.{Proto}
 use Rattle.packet.specs.declared.endpoint.Proto.TheVariants.{Tcp}
 use Rattle.packet.specs.declared.view.View.{View}
 use Rattle.portpick.specs.Choice.{port_choice}
-use Rattle.rulesyntax.specs.declared.tree.Spelled.{Spelled}
+use Rattle.ruletree.specs.declared.tree.Spelled.{Spelled}
 use Rattle.sessions.specs.Life.{awaits_reply, is_syn_alone, restarts, shown}
 use Rattle.sessions.specs.Listing.{clashes, find, has_inside, has_outside, is_translated, put}
 use Rattle.sessions.specs.Table.{most_sessions, restarted, seen}

@@ -2,7 +2,7 @@
 use Rattle.std.specs.Prelude.{◌≡◌, ℕ, ◌<◌, IsTrue}
 use Rattle.packet.specs.Config.{Config, is_inside}
 use Rattle.packet.specs.declared.endpoint.Endpoint.{Endpoint}
-use Rattle.rulesyntax.specs.declared.tree.Spelled.{Spelled}
+use Rattle.ruletree.specs.declared.tree.Spelled.{Spelled}
 use Rattle.verdict.specs.Hooks.{prerouting_verdict, postrouting_verdict}
 use Rattle.verdict.specs.declared.facts.Facts.{Facts}
 use Rattle.verdict.specs.declared.hook.Destination.TheVariants.{To}

@@ -10,7 +10,7 @@ ghost use Rattle.packet.specs.Config.{Config, is_inside};
 ghost use Rattle.packet.specs.declared.endpoint.Endpoint.{Endpoint as Place};
 ghost use Rattle.mappings.specs.declared.map.Pair.{Pair as Mapping};
 ghost use Rattle.mappings.specs.Map.{times};
-ghost use Rattle.rulesyntax.specs.declared.tree.Spelled.{Spelled};
+ghost use Rattle.ruletree.specs.declared.tree.Spelled.{Spelled};
 ghost use Rattle.sessions.specs.Laws.{IsMapping};
 ghost use Rattle.sessions.specs.Listing.{In, find, has_inside, has_outside, listing, put, same_flow};
 ghost use Rattle.sessions.specs.Table.{at, count};

@@ -5,7 +5,7 @@ use Rattle.packet.specs.Config.{Config, is_config}
 use Rattle.packet.specs.declared.endpoint.Endpoint.{Endpoint}
 use Rattle.packet.specs.declared.endpoint.Proto.{Proto}
 use Rattle.packet.specs.declared.endpoint.Proto.TheVariants.{Tcp, Udp}
-use Rattle.rulesyntax.specs.declared.tree.Spelled.{Spelled}
+use Rattle.ruletree.specs.declared.tree.Spelled.{Spelled}
 use Rattle.sessions.specs.Laws.{IsMapping}
 use Rattle.sessions.specs.Life.{IsAlive, alive, is_acknowledged, is_closing, timeout_by, timeout_in}
 use Rattle.sessions.specs.declared.life.Phase.TheVariants.{Partial, Established, Closing}

@@ -1,3 +1,6 @@
+pub mod Said
+pub mod PortsSpelled
+pub mod Bounded
 pub mod Changed
 pub mod Costs
 pub mod Expiry

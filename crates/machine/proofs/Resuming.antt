@@ -6,7 +6,7 @@ use Rattle.packet.specs.Config.{Config}
 use Rattle.packet.specs.declared.endpoint.Proto.TheVariants.{Tcp}
 use Rattle.packet.specs.Same.{same_endpoint}
 use Rattle.packet.proofs.SameLemmas.{same_endpoint-itself}
-use Rattle.rulesyntax.specs.declared.tree.Spelled.{Spelled}
+use Rattle.ruletree.specs.declared.tree.Spelled.{Spelled}
 use Rattle.ruletext.specs.Texts.{Loads}
 use Rattle.sessions.specs.declared.session.Session.{Session}
 use Rattle.sessions.specs.declared.session.Opener.TheVariants.{Inside}

@@ -15,13 +15,13 @@ use Rattle.packet.specs.declared.route.Route.TheVariants.{Out, In, Hairpin}
 use Rattle.packet.specs.declared.route.RouteFault.{RouteFault}
 use Rattle.packet.specs.declared.view.View.{View}
 use Rattle.packet.proofs.Routes.{routed_is_on_route}
-use Rattle.rulesyntax.specs.declared.tree.Spelled.{Spelled}
+use Rattle.ruletree.specs.declared.tree.Spelled.{Spelled}
 use Rattle.sessions.specs.Life.{alive}
 use Rattle.sessions.specs.Listing.{put, same_flow}
 use Rattle.sessions.specs.Listing.{In as Member}
 use Rattle.sessions.specs.declared.session.Session.{Session}
 use Rattle.sessions.proofs.Sets.{In-filter, In-insert}
-use Rattle.verdict.proofs.Bounded.{source_external, destination_inside, port_above_zero}
+use Rattle.machine.proofs.Bounded.{source_external, destination_inside, port_above_zero}
 use Rattle.hairpin.specs.Causes.{number}
 use Rattle.hairpin.specs.Legs.{Passage, put_all}
 use Rattle.hairpin.specs.Sound.{KeepBounds}

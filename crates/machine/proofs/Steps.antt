@@ -9,7 +9,7 @@ use Rattle.packet.specs.declared.endpoint.Endpoint.{Endpoint}
 use Rattle.packet.specs.declared.endpoint.Iface.{Iface}
 use Rattle.packet.specs.declared.route.Route.{Route}
 use Rattle.packet.specs.declared.view.View.{View}
-use Rattle.rulesyntax.specs.declared.tree.Spelled.{Spelled}
+use Rattle.ruletree.specs.declared.tree.Spelled.{Spelled}
 use Rattle.sessions.specs.Life.{alive}
 use Rattle.sessions.specs.Listing.{listing}
 use Rattle.sessions.specs.declared.session.Session.{Session}

@@ -1,7 +1,7 @@
 -- What contracts see of a core, and what it is made of.
 use Rattle.std.specs.Prelude.{◌≡◌, ℕ, List, Option}
 use Rattle.packet.specs.Config.{Config}
-use Rattle.rulesyntax.specs.declared.tree.Spelled.{Spelled}
+use Rattle.ruletree.specs.declared.tree.Spelled.{Spelled}
 use Rattle.sessions.specs.Listing.{listing}
 use Rattle.sessions.specs.declared.session.Session.{Session}
 use Rattle.machine.specs.Machine.{State, AddsNone, EndsNone}

@@ -12,7 +12,7 @@ use Rattle.packet.specs.declared.route.Route.{Route}
 use Rattle.packet.specs.declared.route.Route.TheVariants.{Out}
 use Rattle.packet.specs.declared.route.Route.TheVariants.{In as InRoute}
 use Rattle.packet.specs.declared.view.View.{View}
-use Rattle.rulesyntax.specs.declared.tree.Spelled.{Spelled}
+use Rattle.ruletree.specs.declared.tree.Spelled.{Spelled}
 use Rattle.sessions.specs.Laws.{IsMapping}
 use Rattle.sessions.specs.Life.{IsAlive}
 use Rattle.sessions.specs.Listing.{In}

@@ -8,3 +8,4 @@ pub mod Machine
 pub mod Noted
 pub mod Notes
 pub mod Sound
+pub mod Translations

@@ -1,8 +1,8 @@
 //! Configurations, and the rules of a text.
 use packet::bounds::Bounds;
 use packet::endpoint::Prefix;
+use rulesets::load::load;
 use rulesyntax::parse;
-use ruletext::load::load;
 use std::alloc::Global;
 use std::test::Fail;
 use verdict::rules::Rules;

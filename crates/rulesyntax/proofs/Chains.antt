@@ -12,15 +12,15 @@ use Rattle.rulesyntax.specs.declared.keyword.MemberWord.TheVariants as w
 use Rattle.rulesyntax.specs.declared.chain.Stage.{Stage}
 use Rattle.rulesyntax.specs.declared.chain.Stage.TheVariants as stage
 use Rattle.rulesyntax.specs.declared.chain.ChainBody.{ChainBody}
-use Rattle.rulesyntax.specs.declared.tree.ChainType.{ChainType}
-use Rattle.rulesyntax.specs.declared.tree.ChainType.TheVariants.{Filter, Nat}
-use Rattle.rulesyntax.specs.declared.tree.Hook.{Hook}
-use Rattle.rulesyntax.specs.declared.tree.Hook.TheVariants.{Prerouting, Input, Forward, Output, Postrouting}
-use Rattle.rulesyntax.specs.declared.tree.Policy.{Policy}
-use Rattle.rulesyntax.specs.declared.tree.Policy.TheVariants as policy
-use Rattle.rulesyntax.specs.declared.tree.Base.{Base}
-use Rattle.rulesyntax.specs.declared.tree.Rule.{Rule}
-use Rattle.rulesyntax.specs.declared.tree.Chain.{Chain}
+use Rattle.ruletree.specs.declared.tree.ChainType.{ChainType}
+use Rattle.ruletree.specs.declared.tree.ChainType.TheVariants.{Filter, Nat}
+use Rattle.ruletree.specs.declared.tree.Hook.{Hook}
+use Rattle.ruletree.specs.declared.tree.Hook.TheVariants.{Prerouting, Input, Forward, Output, Postrouting}
+use Rattle.ruletree.specs.declared.tree.Policy.{Policy}
+use Rattle.ruletree.specs.declared.tree.Policy.TheVariants as policy
+use Rattle.ruletree.specs.declared.tree.Base.{Base}
+use Rattle.ruletree.specs.declared.tree.Rule.{Rule}
+use Rattle.ruletree.specs.declared.tree.Chain.{Chain}
 use Rattle.rulesyntax.specs.Names.{priority_name, priority_value, type_name, hook_name, policy_name}
 use Rattle.rulesyntax.specs.Words.{priority_words, type_words, hook_words, policy_words, member_words, member_name}
 use Rattle.rulesyntax.specs.Grammar.{Tokens, Listed, CommentIs, AmountIs, PlusIs, MinusIs, NamedIs, PriorityIs, BaseIs, RuleIs, Member, comment_member, base_member, policy_member, rule_member, MemberIs, AreMembers, ChainIs}

@@ -6,9 +6,9 @@ use Rattle.ruletokens.specs.declared.token.Token.{Token}
 use Rattle.ruletokens.specs.declared.token.Token.TheVariants as token
 use Rattle.ruletokens.specs.declared.token.Symbol as symbol
 use Rattle.ruletokens.specs.declared.token.Symbol.TheVariants.{Close, Comma, Slash, Minus}
-use Rattle.rulesyntax.specs.declared.tree.Value.{Value}
-use Rattle.rulesyntax.specs.declared.tree.Value.TheVariants.{Address, Prefix, Addresses, Number, Numbers, Name, Quoted}
-use Rattle.rulesyntax.specs.declared.tree.Element.{Element}
+use Rattle.ruletree.specs.declared.tree.Value.{Value}
+use Rattle.ruletree.specs.declared.tree.Value.TheVariants.{Address, Prefix, Addresses, Number, Numbers, Name, Quoted}
+use Rattle.ruletree.specs.declared.tree.Element.{Element}
 use Rattle.rulesyntax.specs.Grammar.{Tokens, Spelling, inside, MayComma, Entries, ValueIs, ElementIs}
 use Rattle.rulesyntax.specs.Reading.{if_some, Reader, rank, next_at, number_of, number_at, address_of, address_at, symbol_of, symbol_at, close_at, is_close, prefix_behind, addresses_behind, address_behind, numbers_behind, number_behind, value_of, value_at, element_at, behind_comma, comma_at, entries_from, opened_at}
 use Rattle.rulesyntax.proofs.Sound.{Sound, nothing, just, then_sound, if_sound, cond_sound, next_sound, number_sound, address_sound, symbol_sound, close_sound}

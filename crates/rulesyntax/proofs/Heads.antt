@@ -10,10 +10,10 @@ use Rattle.rulesyntax.specs.declared.keyword.IpWord.{IpWord}
 use Rattle.rulesyntax.specs.declared.keyword.IpWord.TheVariants as ip
 use Rattle.rulesyntax.specs.declared.keyword.PortWord.{PortWord}
 use Rattle.rulesyntax.specs.declared.keyword.PortWord.TheVariants as port
-use Rattle.rulesyntax.specs.declared.tree.Transport.{Transport}
-use Rattle.rulesyntax.specs.declared.tree.Transport.TheVariants.{Tcp, Udp}
-use Rattle.rulesyntax.specs.declared.tree.Head.{Head}
-use Rattle.rulesyntax.specs.declared.tree.Head.TheVariants.{Iifname, Oifname, Saddr, Daddr, Protocol, Sport, Dport, State}
+use Rattle.ruletree.specs.declared.tree.Transport.{Transport}
+use Rattle.ruletree.specs.declared.tree.Transport.TheVariants.{Tcp, Udp}
+use Rattle.ruletree.specs.declared.tree.Head.{Head}
+use Rattle.ruletree.specs.declared.tree.Head.TheVariants.{Iifname, Oifname, Saddr, Daddr, Protocol, Sport, Dport, State}
 use Rattle.rulesyntax.specs.Names.{transport_name}
 use Rattle.rulesyntax.specs.Words.{head_words, head_name, meta_words, meta_name, ip_words, ip_name, port_words, port_name, verdict_words, nat_words}
 use Rattle.rulesyntax.specs.Grammar.{Tokens, HeadIs}

@@ -5,14 +5,14 @@ use Rattle.std.specs.Str.{bytes_eq}
 use Rattle.std.proofs.lemmas.Slice.Eq.{bytes_eq-Decides}
 use Rattle.ruletokens.specs.declared.token.Token.TheVariants as token
 use Rattle.ruletokens.specs.declared.token.Symbol.TheVariants.{Open, Close, Comma, Semicolon, Differs, Equals, At}
-use Rattle.rulesyntax.specs.declared.tree.Head.{Head}
-use Rattle.rulesyntax.specs.declared.tree.Head.TheVariants.{Iifname, Oifname, Saddr, Daddr, Protocol, Sport, Dport, State}
-use Rattle.rulesyntax.specs.declared.tree.Value.{Value}
-use Rattle.rulesyntax.specs.declared.tree.Value.TheVariants.{Address, Prefix, Addresses, Number, Numbers, Name, Quoted}
-use Rattle.rulesyntax.specs.declared.tree.Element.{Element}
-use Rattle.rulesyntax.specs.declared.tree.Side.{Side}
-use Rattle.rulesyntax.specs.declared.tree.Side.TheVariants.{One, Several, Named}
-use Rattle.rulesyntax.specs.declared.tree.Match.{Match}
+use Rattle.ruletree.specs.declared.tree.Head.{Head}
+use Rattle.ruletree.specs.declared.tree.Head.TheVariants.{Iifname, Oifname, Saddr, Daddr, Protocol, Sport, Dport, State}
+use Rattle.ruletree.specs.declared.tree.Value.{Value}
+use Rattle.ruletree.specs.declared.tree.Value.TheVariants.{Address, Prefix, Addresses, Number, Numbers, Name, Quoted}
+use Rattle.ruletree.specs.declared.tree.Element.{Element}
+use Rattle.ruletree.specs.declared.tree.Side.{Side}
+use Rattle.ruletree.specs.declared.tree.Side.TheVariants.{One, Several, Named}
+use Rattle.ruletree.specs.declared.tree.Match.{Match}
 use Rattle.rulesyntax.specs.Grammar.{Tokens, ValueIs, ElementIs, HeadIs, OperatorIs, IsBare, SideIs, MatchIs, Entries}
 use Rattle.rulesyntax.specs.Reading.{if_some, next_at, name_of, name_at, word_of, word_at, rank, symbol_of, symbol_at, element_at, is_state, begins_word, begins_vmap, operator_at, states_side, states_at, one_at, named_behind, several_behind, plain_at, side_at, match_at}
 use Rattle.rulesyntax.proofs.Sound.{Sound, just, nothing, then_sound, if_sound, if_else, cond_sound, name_sound, word_sound, symbol_sound}

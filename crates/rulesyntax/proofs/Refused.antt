@@ -1,10 +1,10 @@
 -- Which faults are true of a text.
 use Rattle.std.proofs.Common.{◌≡◌, ℕ, List, Result, Ok, Err}
 use Rattle.std.specs.Prelude.{IfErr}
-use Rattle.rulesyntax.specs.declared.tree.Spelled.{Spelled}
-use Rattle.rulesyntax.specs.declared.fault.Kind.{Kind}
-use Rattle.rulesyntax.specs.declared.fault.Kind.TheVariants.{TooLong, Syntax, Unsupported, Family, UnknownChain, UnknownSet, Duplicate, Loop, Depth, WrongHook, WrongType, NotExternal, NotInside, Limit, Overlap, NoMemory}
-use Rattle.rulesyntax.specs.declared.fault.LoadFault.{LoadFault}
+use Rattle.ruletree.specs.declared.tree.Spelled.{Spelled}
+use Rattle.ruletree.specs.declared.fault.Kind.{Kind}
+use Rattle.ruletree.specs.declared.fault.Kind.TheVariants.{TooLong, Syntax, Unsupported, Family, UnknownChain, UnknownSet, Duplicate, Loop, Depth, WrongHook, WrongType, NotExternal, NotInside, Limit, Overlap, NoMemory}
+use Rattle.ruletree.specs.declared.fault.LoadFault.{LoadFault}
 use Rattle.rulesyntax.specs.Text.{IsShort, IsSpelledBy, IsOkOrNoMemory, IsUnread, IsUnreadFor}
 
 module _ (text : List ℕ) (short : IsShort text) where

@@ -13,12 +13,12 @@ use Rattle.rulesyntax.specs.declared.keyword.ItemWord.TheVariants as w
 use Rattle.rulesyntax.specs.declared.keyword.StatementWord.{StatementWord}
 use Rattle.rulesyntax.specs.declared.keyword.StatementWord.TheVariants as sw
 use Rattle.rulesyntax.specs.declared.table.TableBody.{TableBody}
-use Rattle.rulesyntax.specs.declared.tree.Family.{Family}
-use Rattle.rulesyntax.specs.declared.tree.Family.TheVariants.{Ip, Inet}
-use Rattle.rulesyntax.specs.declared.tree.Set.{Set}
-use Rattle.rulesyntax.specs.declared.tree.Chain.{Chain}
-use Rattle.rulesyntax.specs.declared.tree.Table.{Table}
-use Rattle.rulesyntax.specs.declared.tree.Spelled.{Spelled}
+use Rattle.ruletree.specs.declared.tree.Family.{Family}
+use Rattle.ruletree.specs.declared.tree.Family.TheVariants.{Ip, Inet}
+use Rattle.ruletree.specs.declared.tree.Set.{Set}
+use Rattle.ruletree.specs.declared.tree.Chain.{Chain}
+use Rattle.ruletree.specs.declared.tree.Table.{Table}
+use Rattle.ruletree.specs.declared.tree.Spelled.{Spelled}
 use Rattle.rulesyntax.specs.Names.{family_name, is_reserved}
 use Rattle.rulesyntax.specs.Words.{item_words, item_name, family_words, statement_words, statement_name}
 use Rattle.rulesyntax.specs.Grammar.{Tokens, Listed, CommentIs, SetIs, ChainIs, Item, comment_item, set_item, chain_item, ItemIs, is_block, sets_of, chains_of, FamilyIs, TableIs, Statement, flush, table, StatementIs, is_table, AreStatements, Spells}

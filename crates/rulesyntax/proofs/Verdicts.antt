@@ -7,10 +7,10 @@ use Rattle.rulesyntax.specs.declared.keyword.VerdictWord.{VerdictWord}
 use Rattle.rulesyntax.specs.declared.keyword.VerdictWord.TheVariants as w
 use Rattle.rulesyntax.specs.declared.keyword.Flag.{Flag}
 use Rattle.rulesyntax.specs.declared.keyword.Flag.TheVariants as flag
-use Rattle.rulesyntax.specs.declared.tree.Verdict.{Verdict}
-use Rattle.rulesyntax.specs.declared.tree.Verdict.TheVariants.{Accept, Drop, Return, Continue, Jump, Goto}
-use Rattle.rulesyntax.specs.declared.tree.Element.{Element}
-use Rattle.rulesyntax.specs.declared.tree.Pair.{Pair}
+use Rattle.ruletree.specs.declared.tree.Verdict.{Verdict}
+use Rattle.ruletree.specs.declared.tree.Verdict.TheVariants.{Accept, Drop, Return, Continue, Jump, Goto}
+use Rattle.ruletree.specs.declared.tree.Element.{Element}
+use Rattle.ruletree.specs.declared.tree.Pair.{Pair}
 use Rattle.rulesyntax.specs.Names.{flag_name}
 use Rattle.rulesyntax.specs.Words.{verdict_words, verdict_name, flag_words}
 use Rattle.rulesyntax.specs.Grammar.{Tokens, ElementIs, VerdictIs, PairIs, FlagIs}

@@ -7,32 +7,32 @@ use Rattle.ruletokens.specs.declared.token.Symbol.TheVariants.{Open, Close, Comm
 use Rattle.rulesyntax.specs.declared.keyword.Flag.{Flag}
 use Rattle.rulesyntax.specs.declared.keyword.PriorityName.{PriorityName}
 use Rattle.rulesyntax.specs.Names.{flag_name, family_name, type_name, hook_name, policy_name, transport_name, priority_name, priority_value, is_reserved}
-use Rattle.rulesyntax.specs.declared.tree.Family.{Family}
-use Rattle.rulesyntax.specs.declared.tree.Family.TheVariants.{Ip, Inet}
-use Rattle.rulesyntax.specs.declared.tree.Head.{Head}
-use Rattle.rulesyntax.specs.declared.tree.Head.TheVariants.{Iifname, Oifname, Saddr, Daddr, Protocol, Sport, Dport, State}
-use Rattle.rulesyntax.specs.declared.tree.Value.{Value}
-use Rattle.rulesyntax.specs.declared.tree.Value.TheVariants as value
-use Rattle.rulesyntax.specs.declared.tree.Element.{Element}
-use Rattle.rulesyntax.specs.declared.tree.Side.{Side}
-use Rattle.rulesyntax.specs.declared.tree.Side.TheVariants.{One, Several, Named}
-use Rattle.rulesyntax.specs.declared.tree.Match.{Match}
-use Rattle.rulesyntax.specs.declared.tree.Verdict.{Verdict}
-use Rattle.rulesyntax.specs.declared.tree.Verdict.TheVariants.{Accept, Drop, Return, Continue, Jump, Goto}
-use Rattle.rulesyntax.specs.declared.tree.Pair.{Pair}
-use Rattle.rulesyntax.specs.declared.tree.Vmap.{Vmap}
-use Rattle.rulesyntax.specs.declared.tree.End.{End}
-use Rattle.rulesyntax.specs.declared.tree.End.TheVariants as end
-use Rattle.rulesyntax.specs.declared.tree.Rule.{Rule}
-use Rattle.rulesyntax.specs.declared.tree.Base.{Base}
-use Rattle.rulesyntax.specs.declared.tree.Policy.{Policy}
-use Rattle.rulesyntax.specs.declared.tree.Policy.TheVariants as policy
-use Rattle.rulesyntax.specs.declared.tree.Chain.{Chain}
-use Rattle.rulesyntax.specs.declared.tree.Set.{Set}
-use Rattle.rulesyntax.specs.declared.tree.SetType.{SetType}
-use Rattle.rulesyntax.specs.declared.tree.SetElements.{SetElements}
-use Rattle.rulesyntax.specs.declared.tree.Table.{Table}
-use Rattle.rulesyntax.specs.declared.tree.Spelled.{Spelled}
+use Rattle.ruletree.specs.declared.tree.Family.{Family}
+use Rattle.ruletree.specs.declared.tree.Family.TheVariants.{Ip, Inet}
+use Rattle.ruletree.specs.declared.tree.Head.{Head}
+use Rattle.ruletree.specs.declared.tree.Head.TheVariants.{Iifname, Oifname, Saddr, Daddr, Protocol, Sport, Dport, State}
+use Rattle.ruletree.specs.declared.tree.Value.{Value}
+use Rattle.ruletree.specs.declared.tree.Value.TheVariants as value
+use Rattle.ruletree.specs.declared.tree.Element.{Element}
+use Rattle.ruletree.specs.declared.tree.Side.{Side}
+use Rattle.ruletree.specs.declared.tree.Side.TheVariants.{One, Several, Named}
+use Rattle.ruletree.specs.declared.tree.Match.{Match}
+use Rattle.ruletree.specs.declared.tree.Verdict.{Verdict}
+use Rattle.ruletree.specs.declared.tree.Verdict.TheVariants.{Accept, Drop, Return, Continue, Jump, Goto}
+use Rattle.ruletree.specs.declared.tree.Pair.{Pair}
+use Rattle.ruletree.specs.declared.tree.Vmap.{Vmap}
+use Rattle.ruletree.specs.declared.tree.End.{End}
+use Rattle.ruletree.specs.declared.tree.End.TheVariants as end
+use Rattle.ruletree.specs.declared.tree.Rule.{Rule}
+use Rattle.ruletree.specs.declared.tree.Base.{Base}
+use Rattle.ruletree.specs.declared.tree.Policy.{Policy}
+use Rattle.ruletree.specs.declared.tree.Policy.TheVariants as policy
+use Rattle.ruletree.specs.declared.tree.Chain.{Chain}
+use Rattle.ruletree.specs.declared.tree.Set.{Set}
+use Rattle.ruletree.specs.declared.tree.SetType.{SetType}
+use Rattle.ruletree.specs.declared.tree.SetElements.{SetElements}
+use Rattle.ruletree.specs.declared.tree.Table.{Table}
+use Rattle.ruletree.specs.declared.tree.Spelled.{Spelled}
 
 abbrev pub Tokens : Type 0
 Tokens = List Token

@@ -1,5 +1,4 @@
 pub mod Names
-pub mod Reasons
 pub mod Grammar
 pub mod Text
 pub mod Words

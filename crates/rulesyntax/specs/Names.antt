@@ -3,18 +3,18 @@ use Rattle.std.specs.Prelude.{ℕ, ℤ, pos, neg_ℤ, Bool, ◌||◌, codes, Lis
 use Rattle.std.specs.Str.{bytes_eq}
 use Rattle.rulesyntax.specs.declared.keyword.Flag.{Flag}
 use Rattle.rulesyntax.specs.declared.keyword.Flag.TheVariants as flag
-use Rattle.rulesyntax.specs.declared.tree.Family.{Family}
-use Rattle.rulesyntax.specs.declared.tree.Family.TheVariants as family
-use Rattle.rulesyntax.specs.declared.tree.ChainType.{ChainType}
-use Rattle.rulesyntax.specs.declared.tree.ChainType.TheVariants as chain_type
-use Rattle.rulesyntax.specs.declared.tree.Hook.{Hook}
-use Rattle.rulesyntax.specs.declared.tree.Hook.TheVariants as hook
-use Rattle.rulesyntax.specs.declared.tree.Policy.{Policy}
-use Rattle.rulesyntax.specs.declared.tree.Policy.TheVariants as policy
+use Rattle.ruletree.specs.declared.tree.Family.{Family}
+use Rattle.ruletree.specs.declared.tree.Family.TheVariants as family
+use Rattle.ruletree.specs.declared.tree.ChainType.{ChainType}
+use Rattle.ruletree.specs.declared.tree.ChainType.TheVariants as chain_type
+use Rattle.ruletree.specs.declared.tree.Hook.{Hook}
+use Rattle.ruletree.specs.declared.tree.Hook.TheVariants as hook
+use Rattle.ruletree.specs.declared.tree.Policy.{Policy}
+use Rattle.ruletree.specs.declared.tree.Policy.TheVariants as policy
 use Rattle.rulesyntax.specs.declared.keyword.PriorityName.{PriorityName}
 use Rattle.rulesyntax.specs.declared.keyword.PriorityName.TheVariants as priority
-use Rattle.rulesyntax.specs.declared.tree.Transport.{Transport}
-use Rattle.rulesyntax.specs.declared.tree.Transport.TheVariants as transport
+use Rattle.ruletree.specs.declared.tree.Transport.{Transport}
+use Rattle.ruletree.specs.declared.tree.Transport.TheVariants as transport
 
 abbrev pub flag_name : Flag → List ℕ
 flag_name flag.Interval = codes "interval"

@@ -1,10 +1,10 @@
 -- What a text spells.
 use Rattle.std.specs.Prelude.{◌≡◌, ◌≤◌, ◌<◌, ℕ, List, length, Result, Ok, Err}
 use Rattle.ruletokens.specs.declared.token.Token.{Token}
-use Rattle.rulesyntax.specs.declared.tree.Spelled.{Spelled}
-use Rattle.rulesyntax.specs.declared.fault.Kind.{Kind}
-use Rattle.rulesyntax.specs.declared.fault.Kind.TheVariants.{TooLong, Syntax, Unsupported, Family, NoMemory}
-use Rattle.rulesyntax.specs.declared.fault.LoadFault.{LoadFault}
+use Rattle.ruletree.specs.declared.tree.Spelled.{Spelled}
+use Rattle.ruletree.specs.declared.fault.Kind.{Kind}
+use Rattle.ruletree.specs.declared.fault.Kind.TheVariants.{TooLong, Syntax, Unsupported, Family, NoMemory}
+use Rattle.ruletree.specs.declared.fault.LoadFault.{LoadFault}
 use Rattle.rulesyntax.specs.declared.error.ReadError.{ReadError}
 use Rattle.rulesyntax.specs.declared.error.ReadError.TheVariants as errors
 use Rattle.ruletokens.specs.Tokens.{AreTokens}

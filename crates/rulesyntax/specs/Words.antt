@@ -15,14 +15,14 @@ use Rattle.rulesyntax.specs.declared.keyword.IpWord.{IpWord}
 use Rattle.rulesyntax.specs.declared.keyword.IpWord.TheVariants as ip_word
 use Rattle.rulesyntax.specs.declared.keyword.PortWord.{PortWord}
 use Rattle.rulesyntax.specs.declared.keyword.PortWord.TheVariants as port_word
-use Rattle.rulesyntax.specs.declared.tree.Family.{Family}
-use Rattle.rulesyntax.specs.declared.tree.Family.TheVariants as family
-use Rattle.rulesyntax.specs.declared.tree.ChainType.{ChainType}
-use Rattle.rulesyntax.specs.declared.tree.ChainType.TheVariants as chain_type
-use Rattle.rulesyntax.specs.declared.tree.Hook.{Hook}
-use Rattle.rulesyntax.specs.declared.tree.Hook.TheVariants as hook
-use Rattle.rulesyntax.specs.declared.tree.Policy.{Policy}
-use Rattle.rulesyntax.specs.declared.tree.Policy.TheVariants as policy
+use Rattle.ruletree.specs.declared.tree.Family.{Family}
+use Rattle.ruletree.specs.declared.tree.Family.TheVariants as family
+use Rattle.ruletree.specs.declared.tree.ChainType.{ChainType}
+use Rattle.ruletree.specs.declared.tree.ChainType.TheVariants as chain_type
+use Rattle.ruletree.specs.declared.tree.Hook.{Hook}
+use Rattle.ruletree.specs.declared.tree.Hook.TheVariants as hook
+use Rattle.ruletree.specs.declared.tree.Policy.{Policy}
+use Rattle.ruletree.specs.declared.tree.Policy.TheVariants as policy
 use Rattle.rulesyntax.specs.declared.keyword.PriorityName.{PriorityName}
 use Rattle.rulesyntax.specs.declared.keyword.PriorityName.TheVariants as priority
 use Rattle.rulesyntax.specs.declared.keyword.StatementWord.{StatementWord}

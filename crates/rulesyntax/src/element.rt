@@ -9,9 +9,9 @@ use crate::keyword::Flag;
 use crate::next::{
     address, closed, eat_symbol, is_close, keyword, line, next, number, stop, symbol,
 };
-use crate::tree::{Element, Value};
 use ruletokens::source::Source;
 use ruletokens::token::{Symbol, Token};
+use ruletree::tree::{Element, Value};
 use sqlite_items::Items;
 
 #[tactic(auto, unfolding(crate::specs::Reading::prefix_behind))]

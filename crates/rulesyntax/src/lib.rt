@@ -1,9 +1,9 @@
 //! The syntax of rulesets: the text of a ruleset read as the tree that it spells.
 //!
 //! `parse`, which stands in `ruleset`, answers the tree exactly where the text spells one, and else what is wrong, and
-//! in which line. `tree` is what it answers, `fault` and `line` why it doesn't; `error` is what the crate's own
-//! functions hand on until then: the token that can't stand where it does, or want of memory. Of the one `ruleset`
-//! makes a fault with its line.
+//! in which line. Trees, and the faults that tell why there is none, are those of the crate `ruletree`; `error` is what
+//! the crate's own functions hand on until then: the token that can't stand where it does, or want of memory. Of the one
+//! `ruleset` makes a fault with its line.
 //!
 //! The crate `ruletokens` cuts a text into tokens, `next` and `keyword` read one token, `element` elements
 //! and lists with commas, `rule`, `chain`, `set` and `table` what their names say, and `list` what stands
@@ -15,7 +15,6 @@
 mod chain;
 mod element;
 mod error;
-pub mod fault;
 mod keyword;
 mod list;
 mod next;
@@ -23,7 +22,5 @@ mod rule;
 pub mod ruleset;
 mod set;
 mod table;
-pub mod tree;
 
 pub use ruleset::{GREATEST_LENGTH, one_ruleset, parse};
-pub use ruletokens::line;

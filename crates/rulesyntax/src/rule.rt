@@ -11,13 +11,13 @@ use crate::keyword::{HeadWord, IpWord, MetaWord, NatWord, PortWord, VerdictWord}
 use crate::next::{
     address, choice, eat, eat_symbol, keyword, line, name, number, quoted, stop, symbol, word,
 };
-use crate::tree::{
-    Dnat, Element, End, Head, Match, Pair, Rule, SetName, Side, Snat, Target, Transport, Verdict,
-    Vmap,
-};
 use ruletokens::line::Line;
 use ruletokens::source::Source;
 use ruletokens::token::{Symbol, Token};
+use ruletree::tree::{
+    Dnat, Element, End, Head, Match, Pair, Rule, SetName, Side, Snat, Target, Transport, Verdict,
+    Vmap,
+};
 use sqlite_items::Items;
 
 #[tactic(auto, unfolding(crate::specs::Reading::verdict_behind))]

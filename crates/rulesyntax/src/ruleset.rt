@@ -4,17 +4,17 @@ ghost use Rattle.std.specs.Prelude.{◌≡◌, ◌↔◌, ◌<◌, ◌≤◌, �
 ghost use Rattle.rulesyntax.specs.Grammar.{Spells};
 ghost use Rattle.rulesyntax.specs.Text.{greatest_length, IsSpelledBy, IsOkOrNoMemory, IsUnreadFor, IsUnspelled, IsUnread, IsOfSyntax, IsFault};
 ghost use Rattle.ruletokens.specs.declared.token.Token.{Token};
-ghost use Rattle.rulesyntax.specs.declared.tree.Spelled.{Spelled};
-ghost use Rattle.rulesyntax.specs.declared.fault.Kind.TheVariants.{TooLong};
+ghost use Rattle.ruletree.specs.declared.tree.Spelled.{Spelled};
+ghost use Rattle.ruletree.specs.declared.fault.Kind.TheVariants.{TooLong};
 
 use crate::error::{ReadError, Spot};
-use crate::fault::{Kind, LoadFault};
 use crate::table::text;
-use crate::tree::Spelled;
 use ruletokens::line::Line;
 use ruletokens::source::Source;
 use ruletokens::token::Token;
 use ruletokens::{one_token_list, tokens};
+use ruletree::fault::{Kind, LoadFault};
+use ruletree::tree::Spelled;
 use std::alloc::Global;
 
 /// The most bytes of a text.

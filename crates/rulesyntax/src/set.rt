@@ -8,10 +8,10 @@ use crate::error::ReadError;
 use crate::keyword::{Flag, LineWord};
 use crate::list::{Body, block};
 use crate::next::{keyword, name, quoted, symbol};
-use crate::tree::{Element, Set, SetElements, SetType};
 use ruletokens::line::Line;
 use ruletokens::source::Source;
 use ruletokens::token::{Symbol, Token};
+use ruletree::tree::{Element, Set, SetElements, SetType};
 use sqlite_items::Items;
 
 /// What stands in a set so far.

@@ -1,11 +1,1 @@
-pub mod NameLemmas
-pub mod Edges
-pub mod Twice
-pub mod Marks
-pub mod SetLemmas
-pub mod Somewhere
-pub mod PartLemmas
-pub mod KeyLemmas
-pub mod NoneBelow
-pub mod MayRunLemmas
 pub mod TextLemmas

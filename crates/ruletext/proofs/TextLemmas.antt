@@ -2,12 +2,12 @@
 use Rattle.std.proofs.Common.{◌≡◌, ◌↔◌, ◌⊎◌, ℕ, ◌<◌, ◌≤◌, List, length, Some, Result, Ok, Err, IfOk, IfErr, ap, ◌∙◌, subst, inl, inr}
 use Rattle.std.proofs.lemmas.Bool.{cases_lt}
 use Rattle.packet.specs.Config.{Config}
-use Rattle.rulesyntax.specs.declared.tree.Spelled.{Spelled}
-use Rattle.rulesyntax.specs.declared.fault.Kind.{Kind}
-use Rattle.rulesyntax.specs.declared.fault.Kind.TheVariants.{TooLong, Syntax, Unsupported, Family, UnknownChain, UnknownSet, Duplicate, Loop, Depth, WrongHook, WrongType, NotExternal, NotInside, Limit, Overlap, NoMemory}
-use Rattle.rulesyntax.specs.declared.fault.LoadFault.{LoadFault}
+use Rattle.ruletree.specs.declared.tree.Spelled.{Spelled}
+use Rattle.ruletree.specs.declared.fault.Kind.{Kind}
+use Rattle.ruletree.specs.declared.fault.Kind.TheVariants.{TooLong, Syntax, Unsupported, Family, UnknownChain, UnknownSet, Duplicate, Loop, Depth, WrongHook, WrongType, NotExternal, NotInside, Limit, Overlap, NoMemory}
+use Rattle.ruletree.specs.declared.fault.LoadFault.{LoadFault}
 use Rattle.rulesyntax.specs.Text.{IsShort, IsSpelledBy, IsSenseless, IsOkOrNoMemory, IsOfSyntax}
-use Rattle.ruletext.specs.Loads.{Holds, IsLeast}
+use Rattle.rulesets.specs.Loads.{Holds, IsLeast}
 use Rattle.ruletext.specs.Texts.{Loads, IsRefused}
 
 fault_is : (a b : LoadFault) (x : Result Spelled LoadFault) → x ≡ Err a → x ≡ Err b → a ≡ b

@@ -1,15 +1,1 @@
-pub mod Names
-pub mod Said
-pub mod Unknown
-pub mod Duplicate
-pub mod Calls
-pub mod Hooks
-pub mod Classes
-pub mod Types
-pub mod Places
-pub mod Counts
-pub mod Parts
-pub mod Overlap
-pub mod Loads
-pub mod Runnable
 pub mod Texts

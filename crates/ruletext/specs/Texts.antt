@@ -1,11 +1,11 @@
 -- Which texts load, and why the others are refused.
 use Rattle.std.specs.Prelude.{◌<◌, ℕ, List, length, Some}
 use Rattle.packet.specs.Config.{Config}
-use Rattle.rulesyntax.specs.declared.tree.Spelled.{Spelled}
-use Rattle.rulesyntax.specs.declared.fault.Kind.{Kind}
-use Rattle.rulesyntax.specs.declared.fault.Kind.TheVariants.{TooLong, Syntax, Unsupported, Family, NoMemory}
+use Rattle.ruletree.specs.declared.tree.Spelled.{Spelled}
+use Rattle.ruletree.specs.declared.fault.Kind.{Kind}
+use Rattle.ruletree.specs.declared.fault.Kind.TheVariants.{TooLong, Syntax, Unsupported, Family, NoMemory}
 use Rattle.rulesyntax.specs.Text.{greatest_length, IsShort, IsSpelledBy, IsSenseless}
-use Rattle.ruletext.specs.Loads.{Holds, IsLeast, MayRun}
+use Rattle.rulesets.specs.Loads.{Holds, IsLeast, MayRun}
 
 -- a text that isn't too long, spells these rules, and has no kind of fault
 abbrev pub Loads : Config → List ℕ → Spelled → Type 0

@@ -1,15 +1,15 @@
 //! From a text to rules that may run.
 
 ghost use Rattle.std.specs.Prelude.{IfErr, IfNone, IfOk, IfSome};
-ghost use Rattle.rulesyntax.specs.declared.tree.Spelled.{Spelled};
+ghost use Rattle.ruletree.specs.declared.tree.Spelled.{Spelled};
 ghost use Rattle.rulesyntax.specs.Text.{IsOkOrNoMemory, IsSpelledBy, IsUnreadFor};
 ghost use Rattle.ruletext.specs.Texts.{Loads, IsRefused};
 
-use crate::load::load;
-use crate::ruleset::Ruleset;
 use packet::bounds::Bounds;
-use rulesyntax::fault::LoadFault;
+use rulesets::load::load;
+use rulesets::ruleset::Ruleset;
 use rulesyntax::parse;
+use ruletree::fault::LoadFault;
 use std::alloc::Global;
 
 /// The rules of a text, where it loads under these bounds.

@@ -9,7 +9,7 @@ use crate::sentence::{right, wrong};
 use crate::texts::put_all;
 use crate::wanted::what_fits;
 use packet::bounds::Bounds;
-use rulesyntax::fault::{Kind, LoadFault};
+use ruletree::fault::{Kind, LoadFault};
 use std::alloc::{AllocError, Global};
 
 // What would be right for a fault behind a text.

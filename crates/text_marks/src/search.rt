@@ -9,8 +9,8 @@ use crate::piece::token_length;
 use crate::texts::put_all;
 use packet::bounds::Bounds;
 use rulesyntax::GREATEST_LENGTH;
-use rulesyntax::fault::{Kind, LoadFault};
 use ruletext::fault_of;
+use ruletree::fault::{Kind, LoadFault};
 use std::alloc::{AllocError, Global};
 
 /// A token of a text.

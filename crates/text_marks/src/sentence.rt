@@ -1,5 +1,5 @@
 //! What is wrong, and what would be right, for each kind of fault.
-use rulesyntax::fault::Kind;
+use ruletree::fault::Kind;
 
 /// What is wrong where a fault of this kind is.
 pub(crate) fn wrong(kind: Kind) -> &'static str {

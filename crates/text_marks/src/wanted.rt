@@ -5,8 +5,8 @@
 use crate::line::newlines;
 use crate::texts::put_all;
 use rulesyntax::GREATEST_LENGTH;
-use rulesyntax::fault::{Kind, LoadFault};
 use ruletext::spelling_fault_of;
+use ruletree::fault::{Kind, LoadFault};
 use std::alloc::{AllocError, Global};
 
 /// A kind of token, and texts of it.

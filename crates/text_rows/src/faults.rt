@@ -3,8 +3,8 @@
 use crate::limits::{repeated, row_of_chains};
 use crate::loading::{Row, bounds, check};
 use packet::bounds::Bounds;
-use rulesyntax::fault::Kind;
 use ruletext::reading::read;
+use ruletree::fault::Kind;
 use std::alloc::{AllocError, Global};
 use std::test::*;
 

@@ -2,8 +2,8 @@
 
 use packet::bounds::Bounds;
 use packet::endpoint::Prefix;
-use rulesyntax::fault::LoadFault;
 use ruletext::reading::read;
+use ruletree::fault::LoadFault;
 use std::alloc::{AllocError, Global};
 use std::process::Abort;
 use std::test::*;

@@ -1,9 +1,9 @@
 -- Paths that are short enough, and what is known at first.
 use Rattle.std.proofs.Common.{◌≡◌, ℕ, zero, suc, ◌+◌, ◌-◌, ◌≤◌, List, [], Option, Some, None, slice_get, slice_index_or, replicate, refl, subst, arith}
 use Rattle.std.specs.Option.{option_map_or}
-use Rattle.rulesyntax.specs.declared.tree.Chain.{Chain}
+use Rattle.ruletree.specs.declared.tree.Chain.{Chain}
 use Rattle.digraph.specs.Paths.{HasPath}
-use Rattle.ruletext.specs.Calls.{Calls, IsDeep}
+use Rattle.rulesets.specs.Calls.{Calls, IsDeep}
 use Rattle.verdict.specs.declared.chain.Outcome.{Outcome}
 use Rattle.verdict.specs.Targets.{OfEach, TargetsHave, EndsWithin}
 use Rattle.verdict.specs.Places.{rules_at}

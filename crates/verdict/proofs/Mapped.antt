@@ -7,15 +7,15 @@ use Rattle.std.proofs.lemmas.Option.{slice_get_read, slice_get_within, get_or_fr
 use Rattle.sets.specs.declared.element.Element.{Element as Part}
 use Rattle.sets.specs.declared.element.Pair.{Pair as Key}
 use Rattle.sets.specs.Members.{Fact, IsIn, MapsTo, Share as PartsShare, Overlaps}
-use Rattle.rulesyntax.specs.declared.tree.Pair.{Pair}
-use Rattle.ruletext.specs.declared.class.Class.{Class}
-use Rattle.ruletext.specs.Classes.{is_value, class_of, StandsFor}
-use Rattle.ruletext.specs.Overlap.{Share, KeysOverlap}
-use Rattle.ruletext.specs.Parts.{IsPart}
+use Rattle.ruletree.specs.declared.tree.Pair.{Pair}
+use Rattle.rulesets.specs.declared.class.Class.{Class}
+use Rattle.rulesets.specs.Classes.{is_value, class_of, StandsFor}
+use Rattle.rulesets.specs.Overlap.{Share, KeysOverlap}
+use Rattle.rulesets.specs.Parts.{IsPart}
 use Rattle.packet.specs.Config.{Config}
-use Rattle.rulesyntax.specs.declared.tree.Vmap.{Vmap}
-use Rattle.rulesyntax.specs.declared.tree.End.{End}
-use Rattle.rulesyntax.specs.declared.tree.End.TheVariants as ends
+use Rattle.ruletree.specs.declared.tree.Vmap.{Vmap}
+use Rattle.ruletree.specs.declared.tree.End.{End}
+use Rattle.ruletree.specs.declared.tree.End.TheVariants as ends
 use Rattle.verdict.specs.declared.facts.Facts.{Facts}
 use Rattle.verdict.specs.Matching.{lies, asked, has_protocol}
 use Rattle.verdict.specs.Evaluation.{looked_up, mapped}

@@ -11,23 +11,23 @@ use Rattle.std.proofs.lemmas.Option.{get_or_from_slice_get, slice_get_within}
 use Rattle.sets.specs.declared.element.Element.{Element as Part}
 use Rattle.sets.specs.Members.{Fact, IsIn, IsMember}
 use Rattle.sets.proofs.Unions.{either_of, whole_of_first}
-use Rattle.rulesyntax.specs.declared.tree.Element.{Element}
-use Rattle.rulesyntax.specs.declared.tree.Value.{Value}
-use Rattle.rulesyntax.specs.declared.tree.Set.{Set}
-use Rattle.rulesyntax.specs.declared.tree.Side.{Side}
-use Rattle.rulesyntax.specs.declared.tree.Side.TheVariants.{One, Several, Named}
-use Rattle.rulesyntax.specs.declared.tree.Match.{Match}
-use Rattle.rulesyntax.specs.declared.tree.Rule.{Rule}
-use Rattle.rulesyntax.specs.declared.tree.Chain.{Chain}
-use Rattle.rulesyntax.specs.declared.tree.Table.{Table}
-use Rattle.ruletext.specs.declared.class.Class.{Class}
-use Rattle.ruletext.specs.declared.class.Class.TheVariants.{Addresses, Services, Protocols, Interfaces, States}
-use Rattle.ruletext.specs.Classes.{class_of, is_value}
-use Rattle.ruletext.specs.Calls.{OfSome}
-use Rattle.ruletext.specs.Overlap.{EndOverlaps, TableOverlaps}
-use Rattle.ruletext.specs.Counts.{elements_of_rule, elements_of_table, rules_of_table, is_much}
-use Rattle.ruletext.specs.Parts.{IsPart}
-use Rattle.ruletext.specs.Types.{same_class, class_in, has_other_class, has_stranger, is_wrong_set, is_wrong_side, is_wrong_match, is_wrong_rule, is_wrong_chain, HasWrongType}
+use Rattle.ruletree.specs.declared.tree.Element.{Element}
+use Rattle.ruletree.specs.declared.tree.Value.{Value}
+use Rattle.ruletree.specs.declared.tree.Set.{Set}
+use Rattle.ruletree.specs.declared.tree.Side.{Side}
+use Rattle.ruletree.specs.declared.tree.Side.TheVariants.{One, Several, Named}
+use Rattle.ruletree.specs.declared.tree.Match.{Match}
+use Rattle.ruletree.specs.declared.tree.Rule.{Rule}
+use Rattle.ruletree.specs.declared.tree.Chain.{Chain}
+use Rattle.ruletree.specs.declared.tree.Table.{Table}
+use Rattle.rulesets.specs.declared.class.Class.{Class}
+use Rattle.rulesets.specs.declared.class.Class.TheVariants.{Addresses, Services, Protocols, Interfaces, States}
+use Rattle.rulesets.specs.Classes.{class_of, is_value}
+use Rattle.rulesets.specs.Calls.{OfSome}
+use Rattle.rulesets.specs.Overlap.{EndOverlaps, TableOverlaps}
+use Rattle.rulesets.specs.Counts.{elements_of_rule, elements_of_table, rules_of_table, is_much}
+use Rattle.rulesets.specs.Parts.{IsPart}
+use Rattle.rulesets.specs.Types.{same_class, class_in, has_other_class, has_stranger, is_wrong_set, is_wrong_side, is_wrong_match, is_wrong_rule, is_wrong_chain, HasWrongType}
 use Rattle.verdict.specs.Matching.{lies, is_in_set, is_in_named, is_on_side}
 use Rattle.verdict.specs.Pools.{Adds, IsPool, ArePools}
 use Rattle.verdict.proofs.Exact.{exact}

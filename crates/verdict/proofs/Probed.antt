@@ -7,12 +7,12 @@ use Rattle.std.proofs.lemmas.Option.{slice_get_within, get_or_from_slice_get}
 use Rattle.packet.specs.Config.{Config}
 use Rattle.sets.specs.Members.{Fact, IsMember}
 use Rattle.sets.specs.declared.element.Element.{Element as Part}
-use Rattle.rulesyntax.specs.declared.tree.Transport.TheVariants.{Tcp, Udp}
-use Rattle.rulesyntax.specs.declared.tree.Head.{Head}
-use Rattle.rulesyntax.specs.declared.tree.Head.TheVariants.{Iifname, Oifname, Saddr, Daddr, Protocol, Sport, Dport, State as StateOf}
-use Rattle.rulesyntax.specs.declared.tree.Set.{Set}
-use Rattle.rulesyntax.specs.declared.tree.Match.{Match}
-use Rattle.ruletext.specs.Classes.{class_of}
+use Rattle.ruletree.specs.declared.tree.Transport.TheVariants.{Tcp, Udp}
+use Rattle.ruletree.specs.declared.tree.Head.{Head}
+use Rattle.ruletree.specs.declared.tree.Head.TheVariants.{Iifname, Oifname, Saddr, Daddr, Protocol, Sport, Dport, State as StateOf}
+use Rattle.ruletree.specs.declared.tree.Set.{Set}
+use Rattle.ruletree.specs.declared.tree.Match.{Match}
+use Rattle.rulesets.specs.Classes.{class_of}
 use Rattle.verdict.specs.declared.facts.Facts.{Facts}
 use Rattle.verdict.specs.declared.row.Probe.{Probe}
 use Rattle.verdict.specs.Matching.{is_between, is_on_side, asked, has_protocol, is_of, holds}

@@ -7,14 +7,14 @@ use Rattle.std.proofs.lemmas.Bool.Decides.{nat_tests}
 use Rattle.std.proofs.lemmas.List.{get_or-set_other, length-set}
 use Rattle.std.proofs.lemmas.List.Sums.{sum_by-cons}
 use Rattle.packet.specs.Config.{Config}
-use Rattle.rulesyntax.specs.declared.tree.Verdict.{Verdict}
-use Rattle.rulesyntax.specs.declared.tree.Rule.{Rule}
-use Rattle.rulesyntax.specs.declared.tree.Chain.{Chain}
-use Rattle.rulesyntax.specs.declared.tree.Table.{Table}
-use Rattle.ruletext.specs.Said.{verdicts_of, target_of, chain_names}
-use Rattle.ruletext.specs.Counts.{rules_of_table, elements_of_table, is_much}
+use Rattle.ruletree.specs.declared.tree.Verdict.{Verdict}
+use Rattle.ruletree.specs.declared.tree.Rule.{Rule}
+use Rattle.ruletree.specs.declared.tree.Chain.{Chain}
+use Rattle.ruletree.specs.declared.tree.Table.{Table}
+use Rattle.rulesets.specs.Said.{verdicts_of, target_of, chain_names}
+use Rattle.rulesets.specs.Counts.{rules_of_table, elements_of_table, is_much}
 use Rattle.digraph.specs.Paths.{Path}
-use Rattle.ruletext.specs.Calls.{OfSome, VerdictCalls, RuleCalls, Calls, IsLooped}
+use Rattle.rulesets.specs.Calls.{OfSome, VerdictCalls, RuleCalls, Calls, IsLooped}
 use Rattle.digraph.proofs.Walks.{path_on}
 use Rattle.verdict.specs.declared.facts.Facts.{Facts}
 use Rattle.verdict.specs.declared.chain.Outcome.{Outcome}

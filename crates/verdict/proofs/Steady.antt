@@ -6,20 +6,20 @@ use Rattle.std.proofs.lemmas.Bool.{cases_Bool}
 use Rattle.std.proofs.lemmas.Slice.Eq.{bytes_eq-Decides}
 use Rattle.packet.specs.Config.{Config}
 use Rattle.sets.specs.Members.{Fact}
-use Rattle.rulesyntax.specs.declared.tree.Verdict.{Verdict}
-use Rattle.rulesyntax.specs.declared.tree.Verdict.TheVariants.{Accept, Drop, Return, Continue, Jump, Goto}
-use Rattle.rulesyntax.specs.declared.tree.Pair.{Pair}
-use Rattle.rulesyntax.specs.declared.tree.Vmap.{Vmap}
-use Rattle.rulesyntax.specs.declared.tree.End.{End}
-use Rattle.rulesyntax.specs.declared.tree.End.TheVariants as ends
-use Rattle.rulesyntax.specs.declared.tree.Rule.{Rule}
-use Rattle.rulesyntax.specs.declared.tree.Chain.{Chain}
-use Rattle.rulesyntax.specs.declared.tree.Table.{Table}
-use Rattle.ruletext.specs.declared.class.Class.{Class}
-use Rattle.ruletext.specs.Classes.{class_of}
-use Rattle.ruletext.specs.Said.{verdicts_of, verdicts_in, chain_names}
+use Rattle.ruletree.specs.declared.tree.Verdict.{Verdict}
+use Rattle.ruletree.specs.declared.tree.Verdict.TheVariants.{Accept, Drop, Return, Continue, Jump, Goto}
+use Rattle.ruletree.specs.declared.tree.Pair.{Pair}
+use Rattle.ruletree.specs.declared.tree.Vmap.{Vmap}
+use Rattle.ruletree.specs.declared.tree.End.{End}
+use Rattle.ruletree.specs.declared.tree.End.TheVariants as ends
+use Rattle.ruletree.specs.declared.tree.Rule.{Rule}
+use Rattle.ruletree.specs.declared.tree.Chain.{Chain}
+use Rattle.ruletree.specs.declared.tree.Table.{Table}
+use Rattle.rulesets.specs.declared.class.Class.{Class}
+use Rattle.rulesets.specs.Classes.{class_of}
+use Rattle.rulesets.specs.Said.{verdicts_of, verdicts_in, chain_names}
 use Rattle.digraph.specs.Paths.{HasPath}
-use Rattle.ruletext.specs.Calls.{OfSome, VerdictCalls, RuleCalls, ChainCalls, Calls, IsDeep}
+use Rattle.rulesets.specs.Calls.{OfSome, VerdictCalls, RuleCalls, ChainCalls, Calls, IsDeep}
 use Rattle.verdict.specs.declared.facts.Facts.{Facts}
 use Rattle.verdict.specs.declared.chain.Outcome.{Outcome}
 use Rattle.verdict.specs.Matching.{lies, asked, has_protocol, holds}

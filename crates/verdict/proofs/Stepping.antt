@@ -7,14 +7,14 @@ use Rattle.std.proofs.lemmas.Bool.{cases_Bool}
 use Rattle.std.proofs.lemmas.List.{length-drop}
 use Rattle.std.proofs.lemmas.Slice.Eq.{bytes_eq-Decides}
 use Rattle.packet.specs.Config.{Config}
-use Rattle.rulesyntax.specs.declared.tree.Verdict.{Verdict}
-use Rattle.rulesyntax.specs.declared.tree.Verdict.TheVariants.{Accept, Drop, Return, Continue, Jump, Goto}
-use Rattle.rulesyntax.specs.declared.tree.End.{End}
-use Rattle.rulesyntax.specs.declared.tree.End.TheVariants as ends
-use Rattle.rulesyntax.specs.declared.tree.Rule.{Rule}
-use Rattle.rulesyntax.specs.declared.tree.Chain.{Chain}
-use Rattle.rulesyntax.specs.declared.tree.Table.{Table}
-use Rattle.ruletext.specs.Said.{verdicts_in, verdicts_of, chain_names}
+use Rattle.ruletree.specs.declared.tree.Verdict.{Verdict}
+use Rattle.ruletree.specs.declared.tree.Verdict.TheVariants.{Accept, Drop, Return, Continue, Jump, Goto}
+use Rattle.ruletree.specs.declared.tree.End.{End}
+use Rattle.ruletree.specs.declared.tree.End.TheVariants as ends
+use Rattle.ruletree.specs.declared.tree.Rule.{Rule}
+use Rattle.ruletree.specs.declared.tree.Chain.{Chain}
+use Rattle.ruletree.specs.declared.tree.Table.{Table}
+use Rattle.rulesets.specs.Said.{verdicts_in, verdicts_of, chain_names}
 use Rattle.verdict.specs.declared.facts.Facts.{Facts}
 use Rattle.verdict.specs.declared.chain.Outcome.{Outcome}
 use Rattle.verdict.specs.declared.stack.Place.{Place}

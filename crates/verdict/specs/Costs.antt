@@ -1,10 +1,10 @@
 -- What a walk over rules costs: a step for each rule that is looked at.
 use Rattle.std.specs.Prelude.{◌≡◌, ℕ, ◌+◌, ◌≤◌, List, [], ◌∷◌, Option, Some, None, length, slice_index_or, sum_by}
-use Rattle.rulesyntax.specs.declared.tree.Chain.{Chain}
-use Rattle.rulesyntax.specs.declared.tree.Table.{Table}
-use Rattle.rulesyntax.specs.declared.tree.Spelled.{Spelled}
-use Rattle.ruletext.specs.Calls.{Calls}
-use Rattle.ruletext.specs.Counts.{rules_of_table}
+use Rattle.ruletree.specs.declared.tree.Chain.{Chain}
+use Rattle.ruletree.specs.declared.tree.Table.{Table}
+use Rattle.ruletree.specs.declared.tree.Spelled.{Spelled}
+use Rattle.rulesets.specs.Calls.{Calls}
+use Rattle.rulesets.specs.Counts.{rules_of_table}
 use Rattle.verdict.specs.declared.chain.Outcome.{Outcome}
 use Rattle.verdict.specs.declared.stack.Place.{Place}
 use Rattle.verdict.specs.declared.walk.Move.{Move}

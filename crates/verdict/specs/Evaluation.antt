@@ -5,17 +5,17 @@ use Rattle.std.specs.List.{list_all}
 use Rattle.std.specs.Str.{bytes_eq}
 use Rattle.packet.specs.Config.{Config}
 use Rattle.sets.specs.Members.{Fact}
-use Rattle.rulesyntax.specs.declared.tree.Pair.{Pair}
-use Rattle.rulesyntax.specs.declared.tree.Verdict.{Verdict}
-use Rattle.rulesyntax.specs.declared.tree.Verdict.TheVariants.{Accept, Drop, Return, Continue, Jump, Goto}
-use Rattle.rulesyntax.specs.declared.tree.Vmap.{Vmap}
-use Rattle.rulesyntax.specs.declared.tree.End.{End}
-use Rattle.rulesyntax.specs.declared.tree.End.TheVariants as ends
-use Rattle.rulesyntax.specs.declared.tree.Rule.{Rule}
-use Rattle.rulesyntax.specs.declared.tree.Chain.{Chain}
-use Rattle.rulesyntax.specs.declared.tree.Table.{Table}
-use Rattle.ruletext.specs.declared.class.Class.{Class}
-use Rattle.ruletext.specs.Classes.{class_of}
+use Rattle.ruletree.specs.declared.tree.Pair.{Pair}
+use Rattle.ruletree.specs.declared.tree.Verdict.{Verdict}
+use Rattle.ruletree.specs.declared.tree.Verdict.TheVariants.{Accept, Drop, Return, Continue, Jump, Goto}
+use Rattle.ruletree.specs.declared.tree.Vmap.{Vmap}
+use Rattle.ruletree.specs.declared.tree.End.{End}
+use Rattle.ruletree.specs.declared.tree.End.TheVariants as ends
+use Rattle.ruletree.specs.declared.tree.Rule.{Rule}
+use Rattle.ruletree.specs.declared.tree.Chain.{Chain}
+use Rattle.ruletree.specs.declared.tree.Table.{Table}
+use Rattle.rulesets.specs.declared.class.Class.{Class}
+use Rattle.rulesets.specs.Classes.{class_of}
 use Rattle.verdict.specs.declared.facts.Facts.{Facts}
 use Rattle.verdict.specs.declared.chain.Outcome.{Outcome}
 use Rattle.verdict.specs.declared.chain.Outcome.TheVariants.{Accepts, Drops, To, From, Ends}

@@ -2,14 +2,14 @@
 use Rattle.std.specs.Prelude.{int_le, Bool, true, false, List, [], ◌∷◌, ◌++◌, if◌then◌else◌}
 use Rattle.std.specs.Option.{option_map_or}
 use Rattle.packet.specs.Config.{Config}
-use Rattle.rulesyntax.specs.declared.tree.Hook.{Hook}
-use Rattle.rulesyntax.specs.declared.tree.Hook.TheVariants.{Prerouting, Input, Forward, Output, Postrouting}
-use Rattle.rulesyntax.specs.declared.tree.Policy.{Policy}
-use Rattle.rulesyntax.specs.declared.tree.Policy.TheVariants as policies
-use Rattle.rulesyntax.specs.declared.tree.Base.{Base}
-use Rattle.rulesyntax.specs.declared.tree.Chain.{Chain}
-use Rattle.rulesyntax.specs.declared.tree.Table.{Table}
-use Rattle.rulesyntax.specs.declared.tree.Spelled.{Spelled}
+use Rattle.ruletree.specs.declared.tree.Hook.{Hook}
+use Rattle.ruletree.specs.declared.tree.Hook.TheVariants.{Prerouting, Input, Forward, Output, Postrouting}
+use Rattle.ruletree.specs.declared.tree.Policy.{Policy}
+use Rattle.ruletree.specs.declared.tree.Policy.TheVariants as policies
+use Rattle.ruletree.specs.declared.tree.Base.{Base}
+use Rattle.ruletree.specs.declared.tree.Chain.{Chain}
+use Rattle.ruletree.specs.declared.tree.Table.{Table}
+use Rattle.ruletree.specs.declared.tree.Spelled.{Spelled}
 use Rattle.verdict.specs.declared.facts.Facts.{Facts}
 use Rattle.verdict.specs.declared.chain.Outcome.{Outcome}
 use Rattle.verdict.specs.declared.chain.Outcome.TheVariants.{Accepts, Drops, To, From, Ends}

@@ -1,27 +1,25 @@
 -- What follows from how rules are read.
-use Rattle.std.specs.Prelude.{◌≡◌, ◌≢◌, ◌↔◌, ◌<◌, ℕ, ℤ, int_le, List, [], ◌∷◌, ◌++◌, Some, slice_get, IsTrue}
+use Rattle.std.specs.Prelude.{◌≡◌, ◌≢◌, ◌↔◌, ℕ, ℤ, int_le, List, [], ◌∷◌, ◌++◌, Some, slice_get, IsTrue}
 use Rattle.std.specs.List.{AllPairs, filter}
 use Rattle.std.specs.List.Sorted.{IsPermutation}
 use Rattle.std.specs.Ordering.{int_eq}
-use Rattle.packet.specs.Config.{Config, is_inside}
-use Rattle.packet.specs.declared.endpoint.Endpoint.{Endpoint}
+use Rattle.packet.specs.Config.{Config}
 use Rattle.sets.specs.Members.{Fact}
-use Rattle.rulesyntax.specs.declared.tree.Value.{Value}
-use Rattle.rulesyntax.specs.declared.tree.Chain.{Chain}
-use Rattle.rulesyntax.specs.declared.tree.Table.{Table}
-use Rattle.rulesyntax.specs.declared.tree.Spelled.{Spelled}
-use Rattle.ruletext.specs.declared.class.Class.{Class}
-use Rattle.ruletext.specs.Classes.{Lies}
-use Rattle.ruletext.specs.Said.{verdicts_of, target_of}
-use Rattle.ruletext.specs.Calls.{OfSome}
-use Rattle.ruletext.specs.Runnable.{IsRunnable}
-use Rattle.ruletext.specs.Texts.{Loads}
+use Rattle.ruletree.specs.declared.tree.Value.{Value}
+use Rattle.ruletree.specs.declared.tree.Chain.{Chain}
+use Rattle.ruletree.specs.declared.tree.Table.{Table}
+use Rattle.ruletree.specs.declared.tree.Spelled.{Spelled}
+use Rattle.rulesets.specs.declared.class.Class.{Class}
+use Rattle.rulesets.specs.Classes.{Lies}
+use Rattle.rulesets.specs.Said.{verdicts_of, target_of}
+use Rattle.rulesets.specs.Calls.{OfSome}
+use Rattle.rulesets.specs.Runnable.{IsRunnable}
 use Rattle.verdict.specs.declared.facts.Facts.{Facts}
 use Rattle.verdict.specs.declared.hook.Forwarding.TheVariants as forwardings
 use Rattle.verdict.specs.declared.hook.Destination.TheVariants as destinations
 use Rattle.verdict.specs.declared.hook.Source.TheVariants as sources
-use Rattle.rulesyntax.specs.declared.tree.Hook.{Hook}
-use Rattle.rulesyntax.specs.declared.tree.Hook.TheVariants.{Forward}
+use Rattle.ruletree.specs.declared.tree.Hook.{Hook}
+use Rattle.ruletree.specs.declared.tree.Hook.TheVariants.{Forward}
 use Rattle.verdict.specs.declared.chain.Outcome.TheVariants.{Accepts}
 use Rattle.verdict.specs.Targets.{OfEach}
 use Rattle.verdict.specs.Matching.{lies}
@@ -97,24 +95,3 @@ CallsUnfold =
 abbrev pub LiesIsExact : Type 0
 LiesIsExact = (class : Class) (value : Value) (fact : Fact)
     → IsTrue (lies class value fact) ↔ Lies class value fact
-
--- of a text that loads, a source is translated to the external address alone
-abbrev pub SourcesAreExternal : Type 0
-SourcesAreExternal =
-    (config : Config) (facts : Facts) (text : List ℕ) (rules : Spelled) (addr : ℕ)
-    → Loads config text rules → postrouting_verdict config facts rules ≡ sources.From addr
-    → addr ≡ config.external
-
--- of a text that loads, a destination is translated to an inside address alone
-abbrev pub DestinationsAreInside : Type 0
-DestinationsAreInside =
-    (config : Config) (facts : Facts) (text : List ℕ) (rules : Spelled) (endpoint : Endpoint)
-    → Loads config text rules → prerouting_verdict config facts rules ≡ destinations.To endpoint
-    → IsTrue (is_inside config endpoint.addr)
-
--- of a text that loads, a packet for a port that isn't 0 is translated to none that is
-abbrev pub PortsStayAboveZero : Type 0
-PortsStayAboveZero =
-    (config : Config) (facts : Facts) (text : List ℕ) (rules : Spelled) (endpoint : Endpoint)
-    → Loads config text rules → prerouting_verdict config facts rules ≡ destinations.To endpoint
-    → 0 < facts.dst.port → 0 < endpoint.port

@@ -5,19 +5,19 @@ use Rattle.std.specs.List.{list_all}
 use Rattle.std.specs.Str.{bytes_eq}
 use Rattle.packet.specs.Config.{Config}
 use Rattle.packet.specs.Numbers.{proto_number}
-use Rattle.rulesyntax.specs.declared.tree.Transport.{Transport}
-use Rattle.rulesyntax.specs.declared.tree.Transport.TheVariants.{Tcp, Udp}
-use Rattle.rulesyntax.specs.declared.tree.Head.{Head}
-use Rattle.rulesyntax.specs.declared.tree.Head.TheVariants.{Iifname, Oifname, Saddr, Daddr, Protocol, Sport, Dport, State as StateOf}
-use Rattle.rulesyntax.specs.declared.tree.Verdict.{Verdict}
-use Rattle.rulesyntax.specs.declared.tree.Match.{Match}
-use Rattle.rulesyntax.specs.declared.tree.Set.{Set}
-use Rattle.rulesyntax.specs.declared.tree.Rule.{Rule}
-use Rattle.rulesyntax.specs.declared.tree.Chain.{Chain}
-use Rattle.rulesyntax.specs.declared.tree.Table.{Table}
-use Rattle.rulesyntax.specs.declared.tree.Spelled.{Spelled}
-use Rattle.ruletext.specs.Runnable.{IsRunnable}
-use Rattle.ruletext.specs.Said.{verdicts_of, target_of}
+use Rattle.ruletree.specs.declared.tree.Transport.{Transport}
+use Rattle.ruletree.specs.declared.tree.Transport.TheVariants.{Tcp, Udp}
+use Rattle.ruletree.specs.declared.tree.Head.{Head}
+use Rattle.ruletree.specs.declared.tree.Head.TheVariants.{Iifname, Oifname, Saddr, Daddr, Protocol, Sport, Dport, State as StateOf}
+use Rattle.ruletree.specs.declared.tree.Verdict.{Verdict}
+use Rattle.ruletree.specs.declared.tree.Match.{Match}
+use Rattle.ruletree.specs.declared.tree.Set.{Set}
+use Rattle.ruletree.specs.declared.tree.Rule.{Rule}
+use Rattle.ruletree.specs.declared.tree.Chain.{Chain}
+use Rattle.ruletree.specs.declared.tree.Table.{Table}
+use Rattle.ruletree.specs.declared.tree.Spelled.{Spelled}
+use Rattle.rulesets.specs.Runnable.{IsRunnable}
+use Rattle.rulesets.specs.Said.{verdicts_of, target_of}
 use Rattle.verdict.specs.declared.bases.AskedByHook.{AskedByHook}
 use Rattle.verdict.specs.declared.facts.Facts.{Facts}
 use Rattle.verdict.specs.declared.row.Probe.{Probe}

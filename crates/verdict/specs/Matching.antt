@@ -10,20 +10,20 @@ use Rattle.packet.specs.declared.endpoint.Proto.TheVariants as protos
 use Rattle.packet.specs.declared.endpoint.Iface.{Iface}
 use Rattle.packet.specs.declared.endpoint.Iface.TheVariants.{Lan, Wan}
 use Rattle.sets.specs.Members.{Fact}
-use Rattle.rulesyntax.specs.declared.tree.Transport.{Transport}
-use Rattle.rulesyntax.specs.declared.tree.Transport.TheVariants as transports
-use Rattle.rulesyntax.specs.declared.tree.Head.{Head}
-use Rattle.rulesyntax.specs.declared.tree.Head.TheVariants.{Iifname, Oifname, Saddr, Daddr, Protocol, Sport, Dport, State as StateOf}
-use Rattle.rulesyntax.specs.declared.tree.Value.{Value}
-use Rattle.rulesyntax.specs.declared.tree.Value.TheVariants.{Address, Prefix, Addresses as Range, Number, Numbers, Name, Quoted}
-use Rattle.rulesyntax.specs.declared.tree.Element.{Element}
-use Rattle.rulesyntax.specs.declared.tree.Set.{Set}
-use Rattle.rulesyntax.specs.declared.tree.Side.{Side}
-use Rattle.rulesyntax.specs.declared.tree.Side.TheVariants.{One, Several, Named}
-use Rattle.rulesyntax.specs.declared.tree.Match.{Match}
-use Rattle.ruletext.specs.declared.class.Class.{Class}
-use Rattle.ruletext.specs.declared.class.Class.TheVariants.{Addresses, Services, Protocols, Interfaces, States}
-use Rattle.ruletext.specs.Classes.{class_of, service_named, protocol_named, state_named}
+use Rattle.ruletree.specs.declared.tree.Transport.{Transport}
+use Rattle.ruletree.specs.declared.tree.Transport.TheVariants as transports
+use Rattle.ruletree.specs.declared.tree.Head.{Head}
+use Rattle.ruletree.specs.declared.tree.Head.TheVariants.{Iifname, Oifname, Saddr, Daddr, Protocol, Sport, Dport, State as StateOf}
+use Rattle.ruletree.specs.declared.tree.Value.{Value}
+use Rattle.ruletree.specs.declared.tree.Value.TheVariants.{Address, Prefix, Addresses as Range, Number, Numbers, Name, Quoted}
+use Rattle.ruletree.specs.declared.tree.Element.{Element}
+use Rattle.ruletree.specs.declared.tree.Set.{Set}
+use Rattle.ruletree.specs.declared.tree.Side.{Side}
+use Rattle.ruletree.specs.declared.tree.Side.TheVariants.{One, Several, Named}
+use Rattle.ruletree.specs.declared.tree.Match.{Match}
+use Rattle.rulesets.specs.declared.class.Class.{Class}
+use Rattle.rulesets.specs.declared.class.Class.TheVariants.{Addresses, Services, Protocols, Interfaces, States}
+use Rattle.rulesets.specs.Classes.{class_of, service_named, protocol_named, state_named}
 use Rattle.verdict.specs.declared.facts.State.{State}
 use Rattle.verdict.specs.declared.facts.State.TheVariants.{New, Established}
 use Rattle.verdict.specs.declared.facts.Facts.{Facts}

@@ -3,7 +3,7 @@ use Rattle.std.specs.Prelude.{◌≡◌, ℕ, List, Option, Some, None, Vec, fin
 use Rattle.std.specs.Global.{Global}
 use Rattle.std.specs.Str.{bytes_eq}
 use Rattle.indexmap.specs.IndexMap.{IndexMap, get_by}
-use Rattle.rulesyntax.specs.declared.tree.Set.{Set}
+use Rattle.ruletree.specs.declared.tree.Set.{Set}
 
 -- the place that an index has for a name
 abbrev pub place_in : {S : Type 0} → IndexMap (Vec ℕ Global) ℕ S → List ℕ → Option ℕ

@@ -1,10 +1,10 @@
 -- What is noted of the hooks of a text when it has loaded.
 use Rattle.std.specs.Prelude.{◌≡◌, ℕ, List, [], Some, slice_get}
 use Rattle.std.specs.Option.{option_map_or}
-use Rattle.rulesyntax.specs.declared.tree.Hook.{Hook}
-use Rattle.rulesyntax.specs.declared.tree.Hook.TheVariants.{Prerouting, Input, Forward, Output, Postrouting}
-use Rattle.rulesyntax.specs.declared.tree.Chain.{Chain}
-use Rattle.rulesyntax.specs.declared.tree.Table.{Table}
+use Rattle.ruletree.specs.declared.tree.Hook.{Hook}
+use Rattle.ruletree.specs.declared.tree.Hook.TheVariants.{Prerouting, Input, Forward, Output, Postrouting}
+use Rattle.ruletree.specs.declared.tree.Chain.{Chain}
+use Rattle.ruletree.specs.declared.tree.Table.{Table}
 use Rattle.verdict.specs.declared.bases.Spot.{Spot}
 use Rattle.verdict.specs.declared.bases.Asked.{Asked}
 use Rattle.verdict.specs.declared.bases.Asked.TheVariants.{Nothing, Lone, All}

@@ -2,9 +2,9 @@
 use Rattle.std.specs.Prelude.{◌≡◌, ◌↔◌, ◌⊎◌, ℕ, ◌+◌, Bool, List, Some, length, slice_get, IsTrue}
 use Rattle.sets.specs.declared.element.Element.{Element as Part}
 use Rattle.sets.specs.Members.{Fact, IsMember}
-use Rattle.rulesyntax.specs.declared.tree.Set.{Set}
-use Rattle.ruletext.specs.declared.class.Class.{Class}
-use Rattle.ruletext.specs.Types.{class_in}
+use Rattle.ruletree.specs.declared.tree.Set.{Set}
+use Rattle.rulesets.specs.declared.class.Class.{Class}
+use Rattle.rulesets.specs.Types.{class_in}
 use Rattle.verdict.specs.Matching.{is_in_set}
 
 -- the new parts hold these facts besides those that the old ones hold, and are so many more

@@ -1,11 +1,11 @@
 -- The chains that rules jump or go to, and how far it goes on from them.
 use Rattle.std.specs.Prelude.{◌≡◌, ℕ, List, [], ◌∷◌, Some, slice_get}
-use Rattle.rulesyntax.specs.declared.tree.Verdict.{Verdict}
-use Rattle.rulesyntax.specs.declared.tree.Rule.{Rule}
-use Rattle.rulesyntax.specs.declared.tree.Chain.{Chain}
-use Rattle.ruletext.specs.Said.{verdicts_of, target_of, chain_names}
+use Rattle.ruletree.specs.declared.tree.Verdict.{Verdict}
+use Rattle.ruletree.specs.declared.tree.Rule.{Rule}
+use Rattle.ruletree.specs.declared.tree.Chain.{Chain}
+use Rattle.rulesets.specs.Said.{verdicts_of, target_of, chain_names}
 use Rattle.digraph.specs.Paths.{HasPath}
-use Rattle.ruletext.specs.Calls.{Calls}
+use Rattle.rulesets.specs.Calls.{Calls}
 
 -- it holds of each element
 abbrev pub OfEach : {X : Type 0} → (X → Type 0) → List X → Type 0

@@ -4,19 +4,19 @@ use Rattle.std.specs.Str.{bytes_eq}
 use Rattle.sets.specs.declared.element.Element.{Element as Part}
 use Rattle.sets.specs.declared.element.Pair.{Pair as Key}
 use Rattle.sets.specs.Members.{Fact, IsIn, IsMember, MapsTo}
-use Rattle.rulesyntax.specs.declared.tree.Set.{Set}
-use Rattle.rulesyntax.specs.declared.tree.Pair.{Pair}
-use Rattle.rulesyntax.specs.declared.tree.Side.{Side}
-use Rattle.rulesyntax.specs.declared.tree.Side.TheVariants.{One, Several, Named}
-use Rattle.rulesyntax.specs.declared.tree.Match.{Match}
-use Rattle.rulesyntax.specs.declared.tree.End.{End}
-use Rattle.rulesyntax.specs.declared.tree.End.TheVariants as ends
-use Rattle.rulesyntax.specs.declared.tree.Rule.{Rule}
-use Rattle.ruletext.specs.declared.class.Class.{Class}
-use Rattle.ruletext.specs.Classes.{class_of, is_value}
-use Rattle.ruletext.specs.Counts.{elements_of_rule}
-use Rattle.ruletext.specs.Overlap.{EndOverlaps}
-use Rattle.ruletext.specs.Types.{has_stranger, is_wrong_rule}
+use Rattle.ruletree.specs.declared.tree.Set.{Set}
+use Rattle.ruletree.specs.declared.tree.Pair.{Pair}
+use Rattle.ruletree.specs.declared.tree.Side.{Side}
+use Rattle.ruletree.specs.declared.tree.Side.TheVariants.{One, Several, Named}
+use Rattle.ruletree.specs.declared.tree.Match.{Match}
+use Rattle.ruletree.specs.declared.tree.End.{End}
+use Rattle.ruletree.specs.declared.tree.End.TheVariants as ends
+use Rattle.ruletree.specs.declared.tree.Rule.{Rule}
+use Rattle.rulesets.specs.declared.class.Class.{Class}
+use Rattle.rulesets.specs.Classes.{class_of, is_value}
+use Rattle.rulesets.specs.Counts.{elements_of_rule}
+use Rattle.rulesets.specs.Overlap.{EndOverlaps}
+use Rattle.rulesets.specs.Types.{has_stranger, is_wrong_rule}
 use Rattle.verdict.specs.declared.matching.Test.{Test}
 use Rattle.verdict.specs.declared.row.Span.{Span}
 use Rattle.verdict.specs.Matching.{lies, is_member, is_on_side}

@@ -2,12 +2,12 @@
 
 ghost use Rattle.std.specs.Prelude.{◌≡◌, ◌<◌, [], ◌∷◌, false, IfSome, MatchOption, drop, length};
 ghost use Rattle.std.specs.Option.{option_map_or};
-ghost use Rattle.rulesyntax.specs.declared.tree.Table.{Table as TableOf};
+ghost use Rattle.ruletree.specs.declared.tree.Table.{Table as TableOf};
 ghost use Rattle.verdict.specs.Hooks.{same_hook as are_same_hooks, at_hook, bases_among, bases_of};
 ghost use Rattle.verdict.specs.Noted.{noted_at, IsNoted, AreNoted, IsLoneIn, IsLone};
 
 use crate::calls::any_calls;
-use rulesyntax::tree::{Base, Chain, Hook, Table};
+use ruletree::tree::{Base, Chain, Hook, Table};
 
 /// Where a chain stands: the number of its table and its place there.
 #[derive(Clone, Copy, Drop)]

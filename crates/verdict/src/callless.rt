@@ -14,7 +14,7 @@ use crate::stack::Place;
 use crate::walk::{Move, move_from, next_rule, rules_of};
 use packet::bounds::Bounds;
 use packet::steps::Steps;
-use rulesyntax::tree::Table;
+use ruletree::tree::Table;
 
 // Reads the next rule that may match, in a base chain that calls none, from the rule of that number on.
 #[inline(always)]

@@ -1,10 +1,10 @@
 //! Whether rules call chains.
 
 ghost use Rattle.std.specs.Prelude.{◌≡◌, false, map};
-ghost use Rattle.ruletext.specs.Said.{verdicts_in};
+ghost use Rattle.rulesets.specs.Said.{verdicts_in};
 ghost use Rattle.verdict.specs.Targets.{OfEach, TargetHas, CallsNone};
 
-use rulesyntax::tree::{End, Pair, Rule, Verdict};
+use ruletree::tree::{End, Pair, Rule, Verdict};
 
 fn is_call(verdict: &Verdict) -> bool
     ensures { result ≡ false → TargetHas (λ name. ⊥) verdict.now }

@@ -2,7 +2,7 @@
 
 ghost use Rattle.std.specs.Prelude.{◌≡◌, ◌↔◌, ℕ, Some, None, IfSome, IfNone, slice_index_or, slice_set};
 ghost use Rattle.sets.specs.Members.{fact_of, MapsTo};
-ghost use Rattle.rulesyntax.specs.declared.tree.End.TheVariants as ends;
+ghost use Rattle.ruletree.specs.declared.tree.End.TheVariants as ends;
 ghost use Rattle.verdict.specs.Tests.{HasMap};
 ghost use Rattle.verdict.specs.Places.{IsKey};
 ghost use Rattle.verdict.specs.Evaluation.{mapped as mapped_to, unless_ended as outcome_unless_ended, translation as translation_of};
@@ -11,7 +11,7 @@ use crate::facts::Facts;
 use crate::matching::{asked, has_protocol};
 use packet::bounds::Bounds;
 use packet::endpoint::Endpoint;
-use rulesyntax::tree::{End, Vmap};
+use ruletree::tree::{End, Vmap};
 use sets::{Value as Fact, Vmap as Map};
 
 /// What a chain comes to for a packet.

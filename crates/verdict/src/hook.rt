@@ -14,8 +14,8 @@
 
 ghost use Rattle.std.specs.Prelude.{◌≡◌, ◌+◌, ◌^◌, ◌<◌, ◌≤◌, [], IfSome, IsTrue, false, length, slice_get};
 ghost use Rattle.std.specs.Option.{option_map_or};
-ghost use Rattle.ruletext.specs.Calls.{OfSome, IsLooped, IsDeep};
-ghost use Rattle.ruletext.specs.Counts.{rules_of_table, is_much};
+ghost use Rattle.rulesets.specs.Calls.{OfSome, IsLooped, IsDeep};
+ghost use Rattle.rulesets.specs.Counts.{rules_of_table, is_much};
 ghost use Rattle.packet.specs.Config.{Config};
 ghost use Rattle.verdict.specs.declared.facts.Facts.{Facts as Seen};
 ghost use Rattle.verdict.specs.Lines.{IsLaid, AreLaid};
@@ -35,7 +35,7 @@ use crate::walk::chain_outcome;
 use packet::bounds::Bounds;
 use packet::endpoint::Endpoint;
 use packet::steps::Steps;
-use rulesyntax::tree::{Base, Hook, Policy, Table};
+use ruletree::tree::{Base, Hook, Policy, Table};
 
 /// What the forward chains decide about a packet.
 #[derive(Clone, Copy, Debug, PartialEq, Eq, Drop)]

@@ -4,16 +4,16 @@ ghost use Rattle.std.specs.Prelude.{◌≡◌, ◌↔◌, ◌≤◌, ℕ, List, 
 ghost use Rattle.std.specs.List.{list_any};
 ghost use Rattle.sets.specs.declared.element.Pair.{Pair as KeyOf};
 ghost use Rattle.sets.specs.Members.{Fact, MapsTo, Overlaps, limit};
-ghost use Rattle.ruletext.specs.Classes.{is_value};
-ghost use Rattle.ruletext.specs.Counts.{pairs_of};
-ghost use Rattle.ruletext.specs.Overlap.{KeysOverlap, EndOverlaps};
-ghost use Rattle.ruletext.specs.Types.{is_wrong_end};
+ghost use Rattle.rulesets.specs.Classes.{is_value};
+ghost use Rattle.rulesets.specs.Counts.{pairs_of};
+ghost use Rattle.rulesets.specs.Overlap.{KeysOverlap, EndOverlaps};
+ghost use Rattle.rulesets.specs.Types.{is_wrong_end};
 ghost use Rattle.verdict.specs.Tests.{Keeps, AddsPair, ArePairs, IsMap, HasMap};
 ghost use Rattle.std.specs.Option.{option_map_or};
 
-use rulesyntax::tree::{End, Pair};
-use ruletext::class::{Class, class_of};
-use ruletext::parts::part_of;
+use rulesets::class::{Class, class_of};
+use rulesets::parts::part_of;
+use ruletree::tree::{End, Pair};
 use sets::{Pair as Key, Vmap as Map};
 use sqlite_items::Items;
 use std::alloc::{AllocError, Global};

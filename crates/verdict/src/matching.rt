@@ -3,8 +3,8 @@
 ghost use Rattle.std.specs.Prelude.{◌≡◌, ◌↔◌, ◌≤◌, IsTrue, List, length};
 ghost use Rattle.std.specs.List.{list_all};
 ghost use Rattle.sets.specs.Members.{fact_of, IsIn, IsMember};
-ghost use Rattle.rulesyntax.specs.declared.tree.Match.{Match as MatchOf};
-ghost use Rattle.rulesyntax.specs.declared.tree.Set.{Set as SetOf};
+ghost use Rattle.ruletree.specs.declared.tree.Match.{Match as MatchOf};
+ghost use Rattle.ruletree.specs.declared.tree.Set.{Set as SetOf};
 ghost use Rattle.verdict.specs.Tests.{IsTest, AreTests};
 ghost use Rattle.verdict.specs.Matching.{name_of as name_of_iface, name_out as name_out_of, state_number as number_of_state, asked as asked_fact, is_of as is_of_transport, has_protocol as head_has_protocol, holds as match_holds};
 
@@ -12,7 +12,7 @@ use crate::facts::{Facts, State};
 use crate::row::Span;
 use packet::bounds::Bounds;
 use packet::endpoint::{Iface, Proto};
-use rulesyntax::tree::{Head, Transport};
+use ruletree::tree::{Head, Transport};
 use sets::{Element, Set as Pool, Value as Fact};
 
 /// A match of a rule, whose side is one of the pools of its table.

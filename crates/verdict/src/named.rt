@@ -3,11 +3,11 @@
 ghost use Rattle.std.specs.Prelude.{◌≡◌, ℕ, List, Some, None, find, slice_get, if◌then◌else◌, IfOk, OnOk, IfSome, IfNone};
 ghost use Rattle.std.specs.Option.{option_or};
 ghost use Rattle.std.specs.Str.{bytes_eq};
-ghost use Rattle.rulesyntax.specs.declared.tree.Set.{Set as SetOf};
+ghost use Rattle.ruletree.specs.declared.tree.Set.{Set as SetOf};
 ghost use Rattle.verdict.specs.Named.{IsIndex, place_in};
 
 use indexmap::IndexMap;
-use rulesyntax::tree::Set;
+use ruletree::tree::Set;
 use std::alloc::{AllocError, Global};
 use std::marker::Model;
 
@@ -20,7 +20,7 @@ pub(crate) struct Named<'a> {
 
 impl<'a> Model for Named<'a> {
     ghost use Rattle.std.specs.Prelude.{List};
-    ghost use Rattle.rulesyntax.specs.declared.tree.Set.{Set as SetOf};
+    ghost use Rattle.ruletree.specs.declared.tree.Set.{Set as SetOf};
     ghost use Rattle.verdict.specs.Named.{IsIndex};
 
     ghost Value = { List SetOf };

@@ -5,18 +5,18 @@ ghost use Rattle.std.specs.Prelude.{◌≡◌, ◌↔◌, ◌≤◌, ℕ, true, 
 ghost use Rattle.std.specs.List.{list_any};
 ghost use Rattle.sets.specs.Members.{Fact, IsIn, IsMember, limit};
 ghost use Rattle.sets.specs.declared.element.Element.{Element as PartOf};
-ghost use Rattle.ruletext.specs.Classes.{is_value};
-ghost use Rattle.ruletext.specs.Counts.{elements_of_set, elements_of_side};
-ghost use Rattle.rulesyntax.specs.declared.tree.Set.{Set as SetOf};
-ghost use Rattle.ruletext.specs.Types.{has_stranger, is_wrong_set, is_wrong_match};
+ghost use Rattle.rulesets.specs.Classes.{is_value};
+ghost use Rattle.rulesets.specs.Counts.{elements_of_set, elements_of_side};
+ghost use Rattle.ruletree.specs.declared.tree.Set.{Set as SetOf};
+ghost use Rattle.rulesets.specs.Types.{has_stranger, is_wrong_set, is_wrong_match};
 ghost use Rattle.verdict.specs.Matching.{lies, is_member};
 ghost use Rattle.verdict.specs.Pools.{Adds, IsPool, ArePools};
 ghost use Rattle.verdict.specs.Tests.{Keeps, HasSide, set_named, AreValues, stands_on};
 
 use crate::named::Named;
-use rulesyntax::tree::{Element, Match, Set, SetElements, Side, Value};
-use ruletext::class::{Class, class_in, class_of};
-use ruletext::parts::part_of;
+use rulesets::class::{Class, class_in, class_of};
+use rulesets::parts::part_of;
+use ruletree::tree::{Element, Match, Set, SetElements, Side, Value};
 use sets::{Element as Part, Set as Pool};
 use sqlite_items::Items;
 use std::alloc::{AllocError, Global};

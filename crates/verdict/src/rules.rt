@@ -1,14 +1,14 @@
 //! The rules of a loaded text, as packets meet them.
 
 ghost use Rattle.std.specs.Prelude.{◌≡◌, [], IfOk};
-ghost use Rattle.ruletext.specs.Runnable.{IsRunnable};
+ghost use Rattle.rulesets.specs.Runnable.{IsRunnable};
 ghost use Rattle.verdict.specs.Lines.{AreLaid};
 ghost use Rattle.verdict.specs.Noted.{IsNoted};
 
 use crate::bases::{Asked, AskedByHook, asked_at, asked_by_hook};
 use crate::row::{Laid, lay_all};
-use rulesyntax::tree::{Hook, Spelled};
-use ruletext::ruleset::Ruleset;
+use rulesets::ruleset::Ruleset;
+use ruletree::tree::{Hook, Spelled};
 use sqlite_items::Items;
 use std::alloc::{AllocError, Global};
 use std::marker::Model;
@@ -22,7 +22,7 @@ pub struct Rules {
 }
 
 impl Model for Rules {
-    ghost use Rattle.rulesyntax.specs.declared.tree.Spelled.{Spelled as Tables};
+    ghost use Rattle.ruletree.specs.declared.tree.Spelled.{Spelled as Tables};
     ghost use Rattle.verdict.specs.Lines.{IsFlat};
 
     ghost Value = { Tables };

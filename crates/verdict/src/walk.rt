@@ -12,8 +12,8 @@
 //! place to return to that is still free.
 
 ghost use Rattle.std.specs.Prelude.{◌≡◌, ◌+◌, ◌-◌, ◌^◌, ◌<◌, ◌≤◌, ℕ, List, [], ◌∷◌, Option, Some, None, true, false, IfSome, MatchOption, length, slice_get};
-ghost use Rattle.ruletext.specs.Said.{verdicts_in};
-ghost use Rattle.ruletext.specs.Calls.{IsLooped};
+ghost use Rattle.rulesets.specs.Said.{verdicts_in};
+ghost use Rattle.rulesets.specs.Calls.{IsLooped};
 ghost use Rattle.verdict.specs.Tests.{HasMap};
 ghost use Rattle.verdict.specs.declared.row.Line.{Line as LineOf};
 ghost use Rattle.verdict.specs.Targets.{OfEach, TargetsHave, EndsWithin};
@@ -34,7 +34,7 @@ use crate::row::{Laid, Line, NO_NUMBER, Probe, Row, Span, may_hold, numbers_of};
 use crate::stack::{Place, Stack};
 use packet::bounds::Bounds;
 use packet::steps::Steps;
-use rulesyntax::tree::{End, Rule, Table, Verdict};
+use ruletree::tree::{End, Rule, Table, Verdict};
 
 /// What a rule makes of the walk. Chains are meant by their places in the table.
 #[derive(Clone, Copy)]

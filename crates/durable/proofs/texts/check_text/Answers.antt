@@ -1,5 +1,5 @@
 use Rattle.std.proofs.Common.{rules, ◌≢◌, ◌<◌, inl, inr, ap, length, arith, refl}
-use Rattle.rulesyntax.specs.declared.fault.Kind.TheVariants.{NoMemory}
+use Rattle.ruletree.specs.declared.fault.Kind.TheVariants.{NoMemory}
 use Rattle.durable.proofs.Errors.{same_error}
 use Rattle.durable.proofs.texts.check_text.Goals as goal
 

@@ -1,11 +1,11 @@
 use Rattle.std.proofs.Common.{◌≡◌, Option, Some, sym, ◌∙◌}
 use Rattle.rulesyntax.specs.Reading.{Fails, text_at}
 use Rattle.rulesyntax.specs.Text.{IsFault}
-use Rattle.rulesyntax.specs.declared.fault.Kind.TheVariants.{NoMemory}
-use Rattle.rulesyntax.specs.declared.fault.LoadFault.{LoadFault}
+use Rattle.ruletree.specs.declared.fault.Kind.TheVariants.{NoMemory}
+use Rattle.ruletree.specs.declared.fault.LoadFault.{LoadFault}
 use Rattle.rulesyntax.specs.declared.error.ReadError.{ReadError}
 use Rattle.rulesyntax.specs.declared.error.ReadError.TheVariants as errors
-use Rattle.rulesyntax.specs.declared.tree.Spelled.{Spelled}
+use Rattle.ruletree.specs.declared.tree.Spelled.{Spelled}
 use Rattle.rulesyntax.proofs.Tables.{text_sound, text_complete, same_rules}
 use Rattle.rulesyntax.proofs.ruleset.read.Goals as goal
 

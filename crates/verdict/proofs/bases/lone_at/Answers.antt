@@ -1,6 +1,6 @@
 use Rattle.std.proofs.Common.{◌≡◌, [], ◌+◌, drop, refl, ◌∙◌, ap, sym, subst}
 use Rattle.std.proofs.lemmas.Option.{slice_get_read}
-use Rattle.rulesyntax.specs.declared.tree.Table.{Table}
+use Rattle.ruletree.specs.declared.tree.Table.{Table}
 use Rattle.verdict.specs.Hooks.{bases_among}
 use Rattle.verdict.specs.Targets.{OfEach, CallsNone}
 use Rattle.verdict.proofs.Alone.{lone_among}

@@ -1,6 +1,6 @@
 use Rattle.std.proofs.Common.{sym, ap, ◌∙◌, subst, arith, length, slice_get}
 use Rattle.std.proofs.lemmas.Option.{slice_get_within, get_or_from_slice_get}
-use Rattle.ruletext.specs.Counts.{rules_of_table}
+use Rattle.rulesets.specs.Counts.{rules_of_table}
 use Rattle.verdict.specs.Lines.{IsLaid}
 use Rattle.verdict.specs.Noted.{IsLoneIn}
 use Rattle.verdict.specs.Hooks.{bases_among}

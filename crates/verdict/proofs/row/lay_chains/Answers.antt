@@ -1,6 +1,6 @@
 use Rattle.std.proofs.Common.{◌≡◌, ◌∙◌, ◌<◌, List, Some, slice_get, length, get_or, refl, sym, ap, subst, arith, take}
 use Rattle.std.proofs.lemmas.Option.{slice_get_read}
-use Rattle.rulesyntax.specs.declared.tree.Rule.{Rule}
+use Rattle.ruletree.specs.declared.tree.Rule.{Rule}
 use Rattle.verdict.specs.declared.row.Span.{Span}
 use Rattle.verdict.specs.Lines.{IsChainLaid}
 use Rattle.verdict.proofs.Laying.{front_more, SpansSoFar, spans_more}

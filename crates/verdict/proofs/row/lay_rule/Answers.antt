@@ -1,8 +1,8 @@
 use Rattle.std.proofs.Common.{◌≡◌, ◌++◌, false, map, subst, sym}
 use Rattle.std.specs.List.{list_any}
 use Rattle.std.proofs.lemmas.Bool.{or_parts}
-use Rattle.ruletext.specs.Said.{verdicts_of}
-use Rattle.ruletext.specs.Types.{is_wrong_match}
+use Rattle.rulesets.specs.Said.{verdicts_of}
+use Rattle.rulesets.specs.Types.{is_wrong_match}
 use Rattle.verdict.specs.declared.row.Line.{Line}
 use Rattle.verdict.specs.Lines.{place_led}
 use Rattle.verdict.specs.Tests.{AreTests, AreTestsLaid}

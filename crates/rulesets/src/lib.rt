@@ -1,0 +1,39 @@
+//! Rulesets that may run: which spelled rules may under a gateway's bounds, and why the others may not.
+//!
+//! `refusal_of` answers the least kind of fault that holds of rules and the line, and `load` the rules as a `Ruleset`
+//! where none holds. Where a function answers an `AllocError`, a growth was refused, and nothing else is wrong.
+//!
+//! - `load`, `ruleset`: from what a text spells to rules that may run.
+//! - `refusal`: the kinds in the order in which they count. Which of them hold is told by `unknown`,
+//!   `duplicate`, `loops`, `hooks`, `types`, `places`, `counts` and `overlap`.
+//! - `class`, `parts`: the classes of values, and the parts of sets that values stand for.
+//! - `names`, `named`: names by their places, and those of chains and sets.
+//! - `calls`, `graph`: the jumps and gotos of a table as rows of places, a directed graph. The crate
+//!   `digraph` tells what paths it has.
+//! - `lines`, `excess`, `earlier`: which line is named, of which no contract speaks.
+#![tactic(auto)]
+
+mod calls;
+pub mod class;
+mod counts;
+mod duplicate;
+mod earlier;
+mod excess;
+mod graph;
+mod hooks;
+mod lines;
+pub mod load;
+mod loops;
+mod named;
+mod names;
+mod overlap;
+pub mod parts;
+mod places;
+pub mod refusal;
+pub mod ruleset;
+mod types;
+mod unknown;
+
+pub use load::load;
+pub use refusal::refusal_of;
+pub use ruleset::Ruleset;

@@ -1,8 +1,0 @@
-use Rattle.std.proofs.Common.{◌≡◌, drop}
-use Rattle.std.specs.List.{list_any}
-use Rattle.ruletext.specs.Said.{is_among}
-use Rattle.ruletext.specs.Unknown.{chain_names_no_set}
-use Rattle.ruletext.proofs.unknown.setless_chains.Given as goal
-
-abbrev pub invariant-loop-chain : goal.invariant-loop-chain
-invariant-loop-chain l = list_any (chain_names_no_set (is_among l.names)) l.chains ≡ list_any (chain_names_no_set (is_among l.names)) (drop l.chain-index l.chains)
