@@ -34,6 +34,5 @@ pub mod ruleset;
 mod types;
 mod unknown;
 
-pub use load::load;
 pub use refusal::refusal_of;
 pub use ruleset::Ruleset;
