@@ -15,8 +15,8 @@ use Rattle.buckets.specs.Places.{entries_in, all_in, Stands, HasKey, HasNowhere,
 pub record IsLast (places : List (Option Entry)) (key place : ℕ) : Type 0 where
   pub in_range : place < length places
   pub home : IsHome (length places) key place
-  pub filled : slice_index_or places place None ≢ None
-  pub behind : (k : ℕ) → place < k → k / 8 ≡ place / 8 → slice_index_or places k None ≡ None
+  pub filled : get_or places place None ≢ None
+  pub behind : (k : ℕ) → place < k → k / 8 ≡ place / 8 → get_or places k None ≡ None
 
 -- each entry of the overflow whose number is below this one has a full bucket
 abbrev pub ArePackedBelow : List (Option Entry) → List Entry → ℕ → Type 0

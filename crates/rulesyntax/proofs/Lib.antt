@@ -1,3 +1,4 @@
+pub mod WordNames
 pub mod Bind
 pub mod Seen
 pub mod Loop

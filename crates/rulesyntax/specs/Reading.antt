@@ -1,4 +1,4 @@
--- Reading tokens from left to right.
+-- Reading tokens from left to right. No public clause cites this module.
 use Rattle.std.specs.Prelude.{◌≡◌, ℕ, ℤ, pos, neg_ℤ, ◌+ℤ◌, zero, suc, Bool, true, false, ◌||◌, ◌&&◌, not, ◌==◌, codes, nat_le, List, [], ◌∷◌, ◌++◌, length, Option, Some, None, Result, Ok, Err, if◌then◌else◌}
 use Rattle.std.specs.Str.{bytes_eq}
 use Rattle.rulesyntax.specs.Names.{priority_value, is_reserved}

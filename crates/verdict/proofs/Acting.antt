@@ -21,7 +21,7 @@ use Rattle.verdict.specs.declared.walk.Move.TheVariants.{Next, Gives, Jumps, Goe
 use Rattle.verdict.specs.Evaluation.{unless_ended, after}
 use Rattle.verdict.specs.Targets.{OfEach, TargetsHave, EndsWithin}
 use Rattle.verdict.specs.Lines.{place_among, numbers_of, may_hold, IsLine, AreLines, AreSpans}
-use Rattle.verdict.specs.Places.{move_of, ending_by, rules_at, rest_of, comes, comes_at, AreKnown, IsResolved, after_call, whole, Reads, Standing, GoesOn, Stepped, IsRead, AreRemembered, told_of, AreSkipped, StandsAt, Calling, GoesTo, EndsAll, Acts}
+use Rattle.verdict.specs.Places.{move_of, ending_by, rules_at, rest_of, comes, comes_at, AreKnown, IsResolved, after_call, whole, Reads, Standing, GoesOn, Stepped, IsRead, told_of, AreSkipped, StandsAt, Calling, GoesTo, EndsAll, Acts}
 use Rattle.verdict.proofs.Steady.{rules_weaken}
 use Rattle.verdict.proofs.Known.{short_within}
 use Rattle.verdict.proofs.Moves.{rule_moves}
@@ -38,6 +38,13 @@ one_told known here a given any is = elim (cases_eq a here) [
   | inl same ↦ inr (same, own_told known here given any (subst (λ b. slice_index_or (slice_set known here (Some given)) b None ≡ Some any) same is))
   | inr other ↦ inl (sym (get_or-set_other known here a (Some given) None other) ∙ is)
 ]
+
+-- nothing more is known than before, but for this outcome of chains that were read
+abbrev pub AreRemembered : List (Option Outcome) → List (Option Outcome) → List Place
+    → Outcome → Type 0
+AreRemembered old new places outcome =
+    (a : ℕ) (any : Outcome) → slice_index_or new a None ≡ Some any
+    → (slice_index_or old a None ≡ Some any) ⊎ (IsRead places a × (any ≡ outcome))
 
 -- what is told of chains is all that is known more
 pub told_remembered : (places : List Place) (known : List (Option Outcome)) (given : Outcome) → AreRemembered known (told_of known places given) places given

@@ -1,4 +1,5 @@
--- The rules of a table as lines of one row, and how far a line tells without its rule that a packet does not match.
+-- The rules of a table as lines of one row, and how far a line tells without its rule that a packet does not match. No
+-- public clause cites this module.
 use Rattle.std.specs.Prelude.{◌≡◌, ℕ, ◌+◌, ◌≤◌, Bool, true, false, List, [], ◌∷◌, ◌++◌, Some, length, slice_get, if◌then◌else◌}
 use Rattle.std.specs.Option.{option_map_or}
 use Rattle.std.specs.List.{list_all}

@@ -1,4 +1,4 @@
--- What is noted of the hooks of a text when it has loaded.
+-- What is noted of the hooks of a text when it has loaded. No public clause cites this module.
 use Rattle.std.specs.Prelude.{◌≡◌, ℕ, List, [], Some, slice_get}
 use Rattle.std.specs.Option.{option_map_or}
 use Rattle.ruletree.specs.declared.tree.Hook.{Hook}

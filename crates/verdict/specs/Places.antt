@@ -171,13 +171,6 @@ abbrev pub IsRead : List Place → ℕ → Type 0
 IsRead [] a = ⊥
 IsRead (place ∷ places) a = (a ≡ place.chain) ⊎ IsRead places a
 
--- nothing more is known than before, but for this outcome of chains that were read
-abbrev pub AreRemembered : List (Option Outcome) → List (Option Outcome) → List Place
-    → Outcome → Type 0
-AreRemembered old new places outcome =
-    (a : ℕ) (any : Outcome) → slice_index_or new a None ≡ Some any
-    → (slice_index_or old a None ≡ Some any) ⊎ (IsRead places a × (any ≡ outcome))
-
 -- what is known once each of these chains is known to come to this
 abbrev pub told_of : List (Option Outcome) → List Place → Outcome → List (Option Outcome)
 told_of known [] outcome = known

@@ -1,4 +1,4 @@
--- The matches of rules as tests, which refer to pools and maps by their places.
+-- The matches of rules as tests, which refer to pools and maps by their places. No public clause cites this module.
 use Rattle.std.specs.Prelude.{◌≡◌, ◌↔◌, ℕ, ◌+◌, ◌≤◌, Bool, true, false, List, [], ◌∷◌, ◌++◌, Option, Some, None, find, length, slice_get, IsTrue}
 use Rattle.std.specs.Str.{bytes_eq}
 use Rattle.sets.specs.declared.element.Element.{Element as Part}
