@@ -5,10 +5,9 @@
 //!   (`record`, `call`), from which follows what a crash may leave, and fails where it is told to (`meter`).
 //! - `replay`: what a crash of it leaves; `place`: how a write or a crash puts bytes into its files.
 //! - `laws`: which of its calls the meter lets fail.
-//! - `wrapped`: `Trial`, a `SimDisk` of whose files nothing is promised. A caller of `SimDisk` has to prove what its
+//! - `trial`: `Trial`, a `SimDisk` of whose files nothing is promised. A caller of `SimDisk` has to prove what its
 //!   files hold after each call. Tests look at the bytes instead, and over `Trial` there is nothing to prove. It is
-//!   meant to behave as the model says all the same.
-//! - `turns`: which calls of a `Trial` fail.
+//!   meant to behave as the model says all the same. A meter of its own says which of its calls fail.
 //!
 //! The words of `specs/` say what a record tells of two files, the outcomes that a crash chooses from, and the calls
 //! that fail; no public clause cites `Lawful` and `Following`, which serve proofs. The model itself is the crate
@@ -22,8 +21,7 @@ mod place;
 mod record;
 mod replay;
 mod sim;
-mod turns;
-mod wrapped;
+mod trial;
 
 pub use sim::SimDisk;
-pub use wrapped::Trial;
+pub use trial::Trial;

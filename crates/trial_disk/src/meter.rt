@@ -1,4 +1,4 @@
-//! The meter of the disk in memory: how many calls there were and how many failed, and which one is to fail.
+//! The meter of both disks in memory: how many calls there were and how many failed, and which one is to fail.
 ghost use Rattle.std.specs.Prelude.{◌≡◌, ◌+◌, ◌≤◌, Some, None};
 ghost use Rattle.disk_model.specs.Disk.{Grew};
 ghost use Rattle.trial_disk.specs.Metered.{Metered, ticked, failed, turn_of, turn_by, burnt, spent, is_due};
@@ -7,7 +7,7 @@ ghost use Rattle.trial_disk.specs.declared.meter.Turn.TheVariants.{Passes, Refus
 use std::marker::Model;
 
 /// What becomes of a call.
-#[derive(Clone, Copy)]
+#[derive(Clone, Copy, PartialEq, Eq)]
 pub(crate) enum Turn {
     /// It runs.
     Passes,

@@ -3,8 +3,8 @@ ghost use Rattle.std.specs.Prelude.{◌≡◌, ◌+◌, ◌≤◌, length, IfOk,
 ghost use Rattle.disk_model.specs.Disk.{HasCause};
 ghost use Rattle.trial_disk.specs.Simulated.{seen_of};
 
+use crate::meter::{Meter, Turn};
 use crate::sim::SimDisk;
-use crate::turns::{Turn, Turns};
 use disk_model::{Disk, DiskFault, FileId};
 use std::alloc::{AllocError, Global};
 use std::marker::Model;
@@ -16,7 +16,7 @@ use std::marker::Model;
 #[derive(Drop)]
 pub struct Trial {
     disk: SimDisk,
-    turns: Turns,
+    meter: Meter,
     strayed: bool,
 }
 
@@ -26,10 +26,10 @@ impl Model for Trial {
     ghost Value = { Metered };
 
     ghost view = { λ t. record {
-      calls = t.turns.calls;
+      calls = t.meter.calls;
       failures = t.disk.meter.failures;
-      fuse = t.turns.fuse;
-      once = t.turns.once;
+      fuse = t.meter.fuse;
+      once = t.meter.once;
     } };
 }
 
@@ -50,7 +50,7 @@ impl Trial {
         let disk = SimDisk::of(alloc, a, b)?;
         Ok(Trial {
             disk,
-            turns: Turns::new(),
+            meter: Meter::new(),
             strayed: false,
         })
     }
@@ -59,7 +59,7 @@ impl Trial {
     pub fn fuse_after(&mut self, calls: u64)
         ensures { self.new ≡ record self.old { fuse = Some calls } }
     {
-        self.turns.set_fuse(calls);
+        self.meter.set_fuse(calls);
     }
 
     /// From now on this many calls pass, and the next one fails. A write that fails so puts the first half of its
@@ -67,14 +67,14 @@ impl Trial {
     pub fn fail_once(&mut self, calls: u64)
         ensures { self.new ≡ record self.old { once = Some calls } }
     {
-        self.turns.set_once(calls);
+        self.meter.set_once(calls);
     }
 
     /// How many calls there were since it was made, those that failed too. At the greatest u64 it stays.
     pub fn calls(&self) -> u64
         ensures { result ≡ self.now.calls }
     {
-        self.turns.calls()
+        self.meter.calls()
     }
 
     /// Whether a read or a write was out of its file. It has touched nothing, and was answered as if it had passed.
@@ -93,7 +93,7 @@ impl Trial {
         ensures err { OnErr result (self.new ≡ self.old) }
     {
         self.disk.crash(choice)?;
-        self.turns.clear();
+        self.meter.clear();
         Ok(())
     }
 
@@ -152,14 +152,14 @@ impl Disk for Trial {
     }
 
     fn len(&mut self, file: FileId) -> Result<u64, DiskFault> {
-        if self.turns.tick() != Turn::Passes {
+        if self.meter.tick() != Turn::Passes {
             self.disk.fail_once(0);
         }
         self.disk.len(file)
     }
 
     fn read_at(&mut self, file: FileId, at: u64, bytes: &mut [u8]) -> Result<(), DiskFault> {
-        if self.turns.tick() != Turn::Passes {
+        if self.meter.tick() != Turn::Passes {
             return self.refuse(file);
         }
         if !reaches(&mut self.disk, file, at, bytes.len() as u64)? {
@@ -170,7 +170,7 @@ impl Disk for Trial {
     }
 
     fn write_at(&mut self, file: FileId, at: u64, bytes: &[u8]) -> Result<(), DiskFault> {
-        let turn = self.turns.tick();
+        let turn = self.meter.tick();
         if turn == Turn::Refused {
             return self.refuse(file);
         }
@@ -185,7 +185,7 @@ impl Disk for Trial {
     }
 
     fn sync(&mut self, file: FileId) -> Result<(), DiskFault> {
-        if self.turns.tick() != Turn::Passes {
+        if self.meter.tick() != Turn::Passes {
             return self.refuse(file);
         }
         self.disk.sync(file)
