@@ -37,10 +37,10 @@ STEP = 2
 # they are elsewhere.
 SECONDS = {
     "buckets": 72, "checking": 33, "command_line": 76, "commands": 70, "diagnosis": 67, "digraph": 32, "disk_model": 18,
-    "durable": 120, "entries": 7, "file_disk": 44, "gateway": 163, "hairpin": 54, "journal": 45, "machine": 164,
-    "mappings": 21, "options": 4, "packet": 58, "portpick": 45, "refusals": 22, "rows": 50, "rulesets": 168,
-    "rulesyntax": 147, "ruletext": 12, "ruletokens": 34, "ruletree": 29, "session_lines": 23, "sessions": 109,
-    "sets": 35, "snapshot": 68, "socket_edge": 147, "text_marks": 63, "timers": 39, "verdict": 127,
+    "durable": 120, "entries": 7, "file_disk": 44, "frames": 60, "gateway": 163, "hairpin": 54, "journal": 45,
+    "machine": 164, "mappings": 21, "options": 4, "packet": 58, "portpick": 45, "refusals": 22, "rows": 50,
+    "rulesets": 168, "rulesyntax": 147, "ruletext": 12, "ruletokens": 34, "ruletree": 29, "session_lines": 23,
+    "sessions": 109, "sets": 35, "snapshot": 68, "socket_edge": 95, "text_marks": 63, "timers": 39, "verdict": 127,
 }
 # Those of a crate that isn't among them, for each of its lines.
 SECONDS_A_LINE = 0.07

@@ -11,17 +11,20 @@ use Rattle.gateway.specs.Kept.{Kept}
 use Rattle.gateway.specs.Running.{Stands, Stops, Ends, IsWhy, CarriesOn, BreaksOff}
 use Rattle.gateway.specs.Told.{Told, TookAll}
 use Rattle.gateway.proofs.Runs.{ended, true-false}
-use Rattle.socket_edge.specs.declared.fault.HeaderFault.{HeaderFault}
-use Rattle.socket_edge.specs.declared.fault.HeaderFault.TheVariants as header
+use Rattle.frames.specs.declared.fault.HeaderFault.{HeaderFault}
+use Rattle.frames.specs.declared.fault.HeaderFault.TheVariants as header
 use Rattle.socket_edge.specs.declared.fault.EdgeFault.{EdgeFault}
 use Rattle.socket_edge.specs.declared.fault.EdgeFault.TheVariants.{BadKind, BadInterface, TooLong, Truncated, Input, Output, Gateway}
 use Rattle.socket_edge.specs.declared.serving.Halt.{Halt}
 use Rattle.socket_edge.specs.declared.serving.Halt.TheVariants as halt
-use Rattle.socket_edge.specs.Requests.{Cut, Bad, next}
-use Rattle.socket_edge.specs.Framing.{Framed, Rest, Fault, behind, whole_frames}
-use Rattle.socket_edge.specs.Answering.{frame, Progress, AnsweredFirst}
-use Rattle.socket_edge.specs.Running.{Answered, Closed, Fares, IsBad, IsRefused, Offered, Reads, Served, SettledAndSent, end_of, events_in}
-use Rattle.socket_edge.proofs.Frames.{framed_cut, framed_bad, Reads-is}
+use Rattle.frames.specs.Requests.{Cut, Bad, next}
+use Rattle.frames.specs.Framing.{Framed, Rest, Fault, behind, whole_frames}
+use Rattle.frames.specs.Answering.{frame}
+use Rattle.socket_edge.specs.Answering.{Progress, AnsweredFirst}
+use Rattle.socket_edge.specs.Running.{Answered, Fares, events_in}
+use Rattle.socket_edge.specs.Serving.{Closed, IsBad, IsRefused, Offered, Reads, Served, SettledAndSent, end_of}
+use Rattle.frames.proofs.Frames.{framed_cut, framed_bad}
+use Rattle.socket_edge.proofs.Reading.{Reads-is}
 use Rattle.socket_edge.proofs.Answers.{AnsweredFirst-told, BeginsFrames-told, Progress-told, all_sent}
 use Rattle.socket_edge.proofs.Lasting.{fares}
 

@@ -1,6 +1,4 @@
-pub mod Heads
-pub mod Fronts
-pub mod Frames
+pub mod Reading
 pub mod Written
 pub mod Answers
 pub mod Lasting
@@ -12,5 +10,3 @@ pub mod Loops
 pub mod Passing
 pub mod Closing
 pub mod Runs
-pub mod Composed
-pub mod Decomposed

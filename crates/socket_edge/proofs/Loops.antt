@@ -11,10 +11,10 @@ use Rattle.socket_edge.specs.declared.serving.Halt.{Halt}
 use Rattle.socket_edge.specs.declared.serving.Halt.TheVariants as halt
 use Rattle.socket_edge.specs.declared.serving.Step.{Step}
 use Rattle.socket_edge.specs.declared.serving.Step.TheVariants as step
-use Rattle.socket_edge.specs.Requests.{next}
-use Rattle.socket_edge.specs.Running.{Reads, Stepped, Offered}
-use Rattle.socket_edge.proofs.Fronts.{next_shorter}
-use Rattle.socket_edge.proofs.Frames.{Reads-nil, Reads-then, Reads-whole}
+use Rattle.frames.specs.Requests.{next}
+use Rattle.socket_edge.specs.Serving.{Reads, Stepped, Offered}
+use Rattle.frames.proofs.Fronts.{next_shorter}
+use Rattle.socket_edge.proofs.Reading.{Reads-nil, Reads-then, Reads-whole}
 
 module _ {D : Type 0} (honest : D → Type 0) (moment : D → ℕ) (left : D → ℕ → Files → Type 0) (failed : D → ℕ) where
   -- The first frames of the bytes were taken, so many, and these bytes are left.

@@ -1,7 +1,7 @@
 -- Bytes that are written over others, and moved among them.
-use Rattle.std.proofs.Common.{◌≡◌, ℕ, ◌+◌, ◌-◌, ◌≤◌, List, [], ◌++◌, length, take, drop, refl, sym, ap, ◌∙◌, arith, length-append, length-drop, take-add}
+use Rattle.std.proofs.Common.{◌≡◌, ℕ, ◌+◌, ◌-◌, ◌≤◌, List, [], ◌++◌, length, take, drop, refl, sym, ap, ◌∙◌, arith, length-drop, take-add}
 use Rattle.std.specs.List.{copy_within}
-use Rattle.std.proofs.lemmas.List.{append-nil, drop-drop, drop_all, length-take-le, take-append-le, drop-append-le, drop-take}
+use Rattle.std.proofs.lemmas.List.{drop-drop, length-take-le, take-append-le, drop-append-le, drop-take}
 use Rattle.std.proofs.Math.Seq.{take-append-add, take-length}
 use Rattle.std.specs.Prelude.{Result, Ok, Err, OnOk}
 use Rattle.std.specs.Result.{is_err}
@@ -23,24 +23,6 @@ ok_of (Err x) e h = absurd cc
 
 pub part_size : (w r : ℕ) (xs : List ℕ) → w ≤ r → r ≤ length xs → length (take (r - w) (drop w xs)) ≡ r - w
 part_size w r xs within fits = length-take-le (r - w) (drop w xs) (omega (arith, length-drop w xs, within, fits))
-
--- up to the end
-pub over_end : (a : ℕ) (xs ys : List ℕ) → put_mid a (length xs - a) xs ys ≡ take a xs ++ ys
-over_end a xs ys =
-    let none : drop (length xs - a) (drop a xs) ≡ [] = drop_all (length xs - a) (drop a xs) (omega (arith, length-drop a xs)) in
-    ap (λ (zs : List ℕ). take a xs ++ (ys ++ zs)) none ∙ ap (λ (zs : List ℕ). take a xs ++ zs) (append-nil ys)
-
--- and then a beginning of it is as it is wanted
-pub over_more : (a n : ℕ) (xs ys : List ℕ) → a ≤ length xs → length ys ≡ length xs - a → n ≤ length ys
-    → (a + n ≤ length (put_mid a (length xs - a) xs ys)) × (length (put_mid a (length xs - a) xs ys) ≡ length xs) × (take (a + n) (put_mid a (length xs - a) xs ys) ≡ take a xs ++ take n ys)
-over_more a n xs ys within as_many few =
-    let size : length (take a xs) ≡ a = length-take-le a xs within in
-    let is : put_mid a (length xs - a) xs ys ≡ take a xs ++ ys = over_end a xs ys in
-    let whole : length (put_mid a (length xs - a) xs ys) ≡ length xs = omega (arith, ap (λ (zs : List ℕ). length zs) is, length-append (take a xs) ys, size, as_many, within) in (
-      omega (arith, whole, within, as_many, few),
-      whole,
-      ap (take (a + n)) is ∙ ap (λ (k : ℕ). take (k + n) (take a xs ++ ys)) (sym size) ∙ take-append-add (take a xs) ys n,
-    )
 
 -- what stands in front of a front
 pub take_front : (n m : ℕ) (xs : List ℕ) → n ≤ m → m ≤ length xs → take n xs ≡ take n (take m xs)

@@ -15,11 +15,14 @@ use Rattle.gateway.specs.Told.{Told}
 use Rattle.gateway.proofs.Runs.{safe-less, true-false}
 use Rattle.socket_edge.specs.declared.fault.EdgeFault.{EdgeFault}
 use Rattle.socket_edge.specs.declared.fault.EdgeFault.TheVariants.{BadKind, BadInterface, TooLong, Truncated, Input, Output, Gateway}
-use Rattle.socket_edge.specs.Requests.{Cut, next}
-use Rattle.socket_edge.specs.Framing.{Framed, Remainder, Rest, behind, whole_frames}
-use Rattle.socket_edge.specs.Answering.{frame, answers_due, AreFirst, Progress, AnsweredFirst, BeginsFrames}
-use Rattle.socket_edge.specs.Running.{Answered, Ends, Done, Explains, Fares, Reads, Served, events_in}
-use Rattle.socket_edge.proofs.Frames.{next_nil, Reads-nil, Reads-more, Reads-then}
+use Rattle.frames.specs.Requests.{Cut, next}
+use Rattle.frames.specs.Framing.{Framed, Remainder, Rest, behind, whole_frames}
+use Rattle.frames.specs.Answering.{frame}
+use Rattle.socket_edge.specs.Answering.{answers_due, AreFirst, Progress, AnsweredFirst, BeginsFrames}
+use Rattle.socket_edge.specs.Running.{Answered, Ends, Done, Explains, Fares, events_in}
+use Rattle.socket_edge.specs.Serving.{Reads, Served}
+use Rattle.frames.proofs.Frames.{next_nil}
+use Rattle.socket_edge.proofs.Reading.{Reads-nil, Reads-more, Reads-then}
 use Rattle.socket_edge.proofs.Answers.{AnsweredFirst-then, Progress-nil, Progress-then, Reached-by, Reached-then, answers_due-append, first-then, last_of}
 use Rattle.socket_edge.proofs.Lasting.{any-then, configured-then, fares-then}
 use Rattle.socket_edge.proofs.Closing.{events_cut, framed_then_cut, Answered-of}

@@ -1,4 +1,4 @@
--- What stands in the edge's memory between two reads.
+-- What stands in the edge's memory between two reads. No public clause cites this module.
 use Rattle.std.specs.Prelude.{ℕ, List}
 
 -- the bytes that answer what stood at the front, the bytes behind it that are not answered yet, and how many bytes of

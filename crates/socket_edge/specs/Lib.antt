@@ -1,6 +1,4 @@
-pub mod Requests
-pub mod Framing
 pub mod Answering
 pub mod Exchange
 pub mod Running
-pub mod Streams
+pub mod Serving

@@ -2,9 +2,9 @@
 //! they are taken, for several of them at once; none is allocated. Nothing rests on it but time.
 ghost use Rattle.std.specs.Prelude.{◌≡◌, length};
 
-use crate::request::{Head, Kind, REQUEST_HEAD, read_head};
 use byteorder::{BigEndian, ByteOrder};
 use disk_model::Disk;
+use frames::request::{Head, Kind, REQUEST_HEAD, read_head};
 use gateway::{Coming, Gateway, Iface, MOST_AHEAD};
 use packet::endpoint::{Endpoint, Proto};
 

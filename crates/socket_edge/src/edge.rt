@@ -7,8 +7,9 @@
 ghost use Rattle.std.specs.Prelude.{◌≡◌, ◌≢◌, ◌↔◌, ℕ, List, [], ◌++◌, ◌+◌, ◌<◌, ◌≤◌, ◌^◌, true, false, IfOk, IfErr, OnOk, length, vec_len, vec_capacity};
 ghost use Rattle.std.specs.Io.KnownBytes.{Appends, Consumes, IsAtEnd};
 ghost use Rattle.machine.specs.declared.event.Answer.{Answer};
-ghost use Rattle.socket_edge.specs.Requests.{next, Cut};
-ghost use Rattle.socket_edge.specs.Running.{Came, Explains, Fares, Ran, SettledAndSent, Turned, events_in};
+ghost use Rattle.frames.specs.Requests.{next, Cut};
+ghost use Rattle.socket_edge.specs.Running.{Explains, Fares, Ran, events_in};
+ghost use Rattle.socket_edge.specs.Serving.{Came, SettledAndSent, Turned};
 
 use crate::fault::EdgeFault;
 use crate::sending::send_behind;

@@ -5,11 +5,11 @@ ghost use Rattle.gateway.specs.Running.{CarriesOn};
 ghost use Rattle.machine.specs.declared.event.Answer.{Answer};
 ghost use Rattle.machine.specs.declared.event.What.TheVariants.{Packet};
 ghost use Rattle.machine.specs.Fates.{answer_of};
-ghost use Rattle.socket_edge.specs.Answering.{frame};
-ghost use Rattle.socket_edge.specs.Running.{Passes};
+ghost use Rattle.frames.specs.Answering.{frame};
+ghost use Rattle.socket_edge.specs.Serving.{Passes};
 
-use crate::answer::{ANSWER_FRONT, drop_frame, forward_front};
 use disk_model::Disk;
+use frames::answer::{ANSWER_FRONT, drop_frame, forward_front};
 use gateway::running::{forward, pass};
 use gateway::{Fate, Gateway, Iface, Passed};
 

@@ -4,30 +4,24 @@
 //! (`std::io::Write`). `natgw` hands it standard input and output, or both sides of a Unix socket.
 //!
 //! `run` reads request frames, offers each whole one to the gateway, and writes the frames of the
-//! answers, in whatever pieces the bytes come and go. The modules:
+//! answers, in whatever pieces the bytes come and go. What a frame is, the crate `frames` says. The modules:
 //! - `edge`: the run, one read after the other;
 //! - `waiting`: the bytes that were read and aren't answered yet, and the answers in front of them;
 //! - `forwarding`: a packet that is answered in the bytes of its request: one that leaves at once, or any short one;
 //! - `ahead`: among many sessions, a look at the next packets before they are taken;
 //! - `serving`: all whole frames at the front, offered in order;
-//! - `request`: what stands at the front of the bytes: a whole frame, a part of one, or a fault;
 //! - `sending`: what stands in the bytes of the requests is written in one piece, and behind it, one by one, the frames
 //!   of answers that had no room there; for whoever has the answers alone all their frames are written in one piece;
-//! - `answer`: the frames of answers;
-//! - `laws`: what holds of every stream of frames;
 //! - `fault`: why a run ends early.
 #![tactic(auto)]
 
 mod ahead;
-mod answer;
 mod edge;
 mod fault;
 mod forwarding;
-pub mod laws;
-mod request;
 pub mod sending;
 mod serving;
 mod waiting;
 
 pub use edge::run;
-pub use fault::{EdgeFault, HeaderFault};
+pub use fault::EdgeFault;

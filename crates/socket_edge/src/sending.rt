@@ -2,10 +2,11 @@
 //! all in one piece, for whoever has the answers alone.
 ghost use Rattle.std.specs.Prelude.{◌≡◌, ◌++◌, OnOk, IfErr};
 ghost use Rattle.std.specs.Io.KnownBytes.{Appends};
-ghost use Rattle.socket_edge.specs.Answering.{answer_body, frame_head, frame, frames, AppendsFront};
+ghost use Rattle.frames.specs.Answering.{answer_body, frame_head, frame, frames};
+ghost use Rattle.socket_edge.specs.Answering.{AppendsFront};
 
-use crate::answer::{byte_of, head_bytes, put_frames};
 use crate::fault::EdgeFault;
+use frames::answer::{byte_of, head_bytes, put_frames};
 use gateway::Answer;
 use std::alloc::Global;
 use std::io::Write;

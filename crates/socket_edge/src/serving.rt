@@ -5,9 +5,9 @@
 //! - `offer_all`: frame after frame is offered, until a `Halt`. `offer_next` has a packet taken where it lies
 //!   (`Waiting::forward_next` and `pass_next`), behind others whose answers are held (`offer_behind`) until these are
 //!   synced (`gateway::running::settle`), or where none are (`offer_idle`). Of any other frame a copy is offered:
-//!   `offer_copy` takes it (`request::take_frame`), and `offer_event` hands its event to `gateway::running::take`. Before
-//!   one that is never taken so, the frames of held answers make way (`make_way`). What is answered goes back into the
-//!   bytes (`put_back`);
+//!   `offer_copy` takes it (`frames::request::take_frame`), and `offer_event` hands its event to
+//!   `gateway::running::take`. Before one that is never taken so, the frames of held answers make way (`make_way`).
+//!   What is answered goes back into the bytes (`put_back`);
 //! - `close`: what is held is synced and handed out (`give_held`, by `gateway::running::hand_out`) and put back too, and
 //!   `end_at` says what the halt means for the run. Then `edge` writes the answers (`sending::send_behind`);
 //! - `tidy`: a file that has grown is made short (`gateway::running::compact`).
@@ -15,16 +15,17 @@ ghost use Rattle.std.specs.Prelude.{◌≡◌, ◌≢◌, ◌+◌, ◌∷◌, �
 ghost use Rattle.gateway.specs.Kept.{Kept};
 ghost use Rattle.gateway.specs.Running.{CarriesOn, Stands};
 ghost use Rattle.machine.specs.declared.event.Answer.{Answer};
-ghost use Rattle.socket_edge.specs.Answering.{frame, frames};
-ghost use Rattle.socket_edge.specs.Requests.{Whole, next};
-ghost use Rattle.socket_edge.specs.Running.{CarriesBehind, BreaksBehind, Stepped, Offered, Closed};
-ghost use Rattle.socket_edge.specs.Running.{AreHeld, Passes, RefusesNone, end_of, held_behind, released};
+ghost use Rattle.frames.specs.Answering.{frame, frames};
+ghost use Rattle.frames.specs.Requests.{Whole, next};
+ghost use Rattle.socket_edge.specs.Serving.{CarriesBehind, BreaksBehind, Stepped, Offered, Closed};
+ghost use Rattle.socket_edge.specs.Serving.{AreHeld, Passes, RefusesNone, end_of, held_behind, released};
 
 use crate::ahead::Ahead;
-use crate::fault::{EdgeFault, HeaderFault};
-use crate::request::{Taken, take_frame};
+use crate::fault::EdgeFault;
 use crate::waiting::Waiting;
 use disk_model::Disk;
+use frames::fault::HeaderFault;
+use frames::request::{Taken, take_frame};
 use gateway::running::{compact, hand_out, settle, stands, take};
 use gateway::{Answer, Event, Gateway, GatewayFault, MOST_HELD};
 use machine::laws::events_are_judged_once;
@@ -230,7 +231,7 @@ fn is_idle<D: Disk + Drop>(answers: &[(u64, Answer)], gateway: &Gateway<D>) -> b
 }
 
 /// Has the packet at the front leave at once, where it lies, if there is hope that it does. Says whether it left.
-fn leaves_at_once<D: Disk + Drop>(
+fn send_at_once<D: Disk + Drop>(
     hopeful: bool,
     waiting: &mut Waiting,
     gateway: &mut Gateway<D>,
@@ -276,7 +277,7 @@ fn offer_idle<D: Disk + Drop>(
     if !is_idle(answers.as_slice(), gateway) {
         return offer_copy(alloc, waiting, answers, bodies, gateway);
     }
-    if leaves_at_once(hopeful, waiting, gateway) {
+    if send_at_once(hopeful, waiting, gateway) {
         return Step::Took(true, None);
     }
     if make_slots(answers, MOST_HELD).is_err() {
@@ -294,7 +295,7 @@ fn offer_idle<D: Disk + Drop>(
 
 /// Has the packet at the front taken where it lies, behind answers that are held, unless no more can be. Says whether it
 /// was; its answer is held then.
-fn passes_behind<D: Disk + Drop>(waiting: &mut Waiting, gateway: &mut Gateway<D>) -> bool
+fn pass_behind<D: Disk + Drop>(waiting: &mut Waiting, gateway: &mut Gateway<D>) -> bool
     requires stands { gateway.old.fallen ≡ false }
     requires some { gateway.old.told.held ≢ [] }
     ensures passed { result ≡ true → (event : Event) × (answer : ℕ × Answer)
@@ -344,7 +345,7 @@ fn offer_behind<D: Disk + Drop>(
     let Some(front) = held else {
         return None;
     };
-    if passes_behind(waiting, gateway) {
+    if pass_behind(waiting, gateway) {
         return Some(Step::Took(false, Some(front)));
     }
     match settle(gateway) {

@@ -4,23 +4,23 @@
 //! `read` puts what comes behind the bytes that wait. A frame leaves their front by `forward_next` and `pass_next`, which
 //! have its packet taken where it lies (`forwarding::forward_frame` and `pass_frame`) and make its answer of it, or by
 //! `skip`, where `serving` offers a copy of it; then `put` writes the answer where the request stood
-//! (`answer::fill_frames`), if there is room there. `answered` is what stands here to be written: `forget_answered` lets
-//! it go behind that. `cut_answered` takes the frames of held answers away: where their changes could not be synced, or
-//! where they make way for a frame that is offered as a copy (`serving::make_way`).
+//! (`frames::answer::fill_frames`), if there is room there. `answered` is what stands here to be written:
+//! `forget_answered` lets it go behind that. `cut_answered` takes the frames of held answers away: where their changes
+//! could not be synced, or where they make way for a frame that is offered as a copy (`serving::make_way`).
 ghost use Rattle.std.specs.Prelude.{◌≡◌, ◌≢◌, ◌+◌, ◌-◌, ◌≤◌, ◌++◌, ◌∷◌, [], ℕ, List, IfNone, IfOk, IfSome, OnOk, OnErr, length, take, drop, true, false};
 ghost use Rattle.std.specs.Io.KnownBytes.{Consumes, IsAtEnd};
 ghost use Rattle.gateway.specs.Running.{CarriesOn};
 ghost use Rattle.machine.specs.declared.event.Answer.{Answer};
 ghost use Rattle.machine.specs.declared.event.Event.{Event};
 ghost use Rattle.machine.specs.declared.event.What.TheVariants.{Packet};
-ghost use Rattle.socket_edge.specs.Answering.{frame, frames};
-ghost use Rattle.socket_edge.specs.Requests.{next, Whole};
-ghost use Rattle.socket_edge.specs.Running.{Passes};
+ghost use Rattle.frames.specs.Answering.{frame, frames};
+ghost use Rattle.frames.specs.Requests.{next, Whole};
+ghost use Rattle.socket_edge.specs.Serving.{Passes};
 
-use crate::answer::fill_frames;
 use crate::forwarding::{Placed, forward_frame, move_down, pass_frame};
-use crate::request::{Head, Kind, LONGEST_PACKET, REQUEST_HEAD, announces_packet, read_head};
 use disk_model::Disk;
+use frames::answer::fill_frames;
+use frames::request::{Head, Kind, LONGEST_PACKET, REQUEST_HEAD, announces_packet, read_head};
 use gateway::{Answer, Gateway, Iface, LONGEST_COPY};
 use std::alloc::{AllocError, Global};
 use std::io::Read;

@@ -3,7 +3,7 @@ use Rattle.std.proofs.lemmas.Grind.{common_steps}
 use Rattle.std.proofs.lemmas.List.{append-nil, nil_from_length}
 use Rattle.std.specs.Io.KnownBytes.{Consumes}
 use Rattle.socket_edge.specs.Exchange.{Exchange}
-use Rattle.socket_edge.specs.Framing.{Rest}
+use Rattle.frames.specs.Framing.{Rest}
 use Rattle.socket_edge.specs.Running.{events_in}
 use Rattle.socket_edge.proofs.Streams.{Appends-nil}
 use Rattle.socket_edge.proofs.Answers.{AnsweredFirst-nothing}

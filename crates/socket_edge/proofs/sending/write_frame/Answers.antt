@@ -1,9 +1,10 @@
 use Rattle.std.proofs.Common.{ℕ, ◌∙◌}
 use Rattle.std.proofs.lemmas.Result.{err_from_is_err_and, on_ok_weaker}
 use Rattle.machine.specs.declared.event.Answer.{Answer}
-use Rattle.socket_edge.specs.Answering.{frame_head, answer_body}
+use Rattle.frames.specs.Answering.{frame_head, answer_body}
 use Rattle.socket_edge.proofs.Streams.{Appends-then}
-use Rattle.socket_edge.proofs.Written.{Front-of, Fails-behind, frame_parts}
+use Rattle.frames.proofs.Parts.{frame_parts}
+use Rattle.socket_edge.proofs.Written.{Front-of, Fails-behind}
 use Rattle.socket_edge.proofs.sending.write_frame.Goals as goal
 
 pub returns-in_err-write_head-clause-err : goal.returns-in_err-write_head-clause-err

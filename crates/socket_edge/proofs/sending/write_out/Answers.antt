@@ -1,5 +1,6 @@
 use Rattle.std.proofs.Common.{◌≡◌, ℕ, ◌+◌, ◌-◌, ◌≤◌, ◌++◌, length, take, drop, arith, sym, ap, ◌∙◌, List, take-add, length-drop, refl}
-use Rattle.socket_edge.proofs.Streams.{Appends-then, rest_whole}
+use Rattle.frames.proofs.Over.{rest_whole}
+use Rattle.socket_edge.proofs.Streams.{Appends-then}
 use Rattle.socket_edge.proofs.Written.{Front-stays, Keeps-nothing}
 use Rattle.socket_edge.proofs.sending.write_out.Goals as goal
 

@@ -2,7 +2,7 @@ use Rattle.std.proofs.Common.{[], ◌++◌, List, ℕ, ap, sym, subst, Result, �
 use Rattle.std.proofs.lemmas.List.{append-nil}
 use Rattle.machine.specs.declared.event.Answer.{Answer}
 use Rattle.socket_edge.specs.declared.fault.EdgeFault.{EdgeFault}
-use Rattle.socket_edge.specs.Running.{Closed}
+use Rattle.socket_edge.specs.Serving.{Closed}
 use Rattle.socket_edge.proofs.Closing.{closes, fails, fallen}
 use Rattle.socket_edge.proofs.serving.close.Goals as goal
 

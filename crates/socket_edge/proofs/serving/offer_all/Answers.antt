@@ -2,10 +2,10 @@ use Rattle.std.proofs.Common.{◌+◌, ◌<◌, [], ◌++◌, List, ℕ, length,
 use Rattle.std.proofs.lemmas.Grind.{common_steps}
 use Rattle.std.proofs.lemmas.List.{append-nil}
 use Rattle.machine.specs.declared.event.Answer.{Answer}
-use Rattle.socket_edge.specs.Answering.{frames}
-use Rattle.socket_edge.specs.Running.{Offered}
+use Rattle.frames.specs.Answering.{frames}
+use Rattle.socket_edge.specs.Serving.{Offered}
 use Rattle.socket_edge.proofs.Answers.{frames-append}
-use Rattle.socket_edge.proofs.Fronts.{next_shorter}
+use Rattle.frames.proofs.Fronts.{next_shorter}
 use Rattle.socket_edge.proofs.Loops.{SoFar, SoFar-first, SoFar-next, SoFar-ends}
 use Rattle.socket_edge.proofs.serving.offer_all.Goals as goal
 

@@ -1,8 +1,8 @@
 use Rattle.std.proofs.Common.{◌≡◌, ◌≢◌, [], None, ◌+◌, ◌≤◌, ◌++◌, ℕ, List, false, length, vec_len, vec_capacity}
 use Rattle.std.specs.List.{flat_map}
 use Rattle.machine.specs.declared.event.Answer.{Answer}
-use Rattle.socket_edge.specs.Answering.{frame}
-use Rattle.socket_edge.specs.Running.{AreHeld, released}
+use Rattle.frames.specs.Answering.{frame}
+use Rattle.socket_edge.specs.Serving.{AreHeld, released}
 use Rattle.socket_edge.proofs.Loops.{SoFar}
 use Rattle.socket_edge.proofs.serving.offer_all.Given as goal
 

@@ -1,25 +1,25 @@
 use Rattle.std.proofs.Common.{[], ◌++◌, List, ℕ, Option, take, ap, sym, refl, ◌∙◌}
 use Rattle.std.proofs.lemmas.List.{take-append-drop}
-use Rattle.socket_edge.specs.Answering.{frames}
+use Rattle.frames.specs.Answering.{frames}
 use Rattle.socket_edge.specs.Exchange.{Exchange}
-use Rattle.socket_edge.specs.Running.{released}
-use Rattle.socket_edge.proofs.Frames.{Reads-nil}
+use Rattle.socket_edge.specs.Serving.{released}
+use Rattle.socket_edge.proofs.Reading.{Reads-nil}
 use Rattle.socket_edge.proofs.Passing.{held-more}
 use Rattle.socket_edge.proofs.serving.offer_behind.Goals as goal
 
-pub returns-then-passes_behind-clause-some : goal.returns-then-passes_behind-clause-some
-returns-then-passes_behind-clause-some g c =
+pub returns-then-pass_behind-clause-some : goal.returns-then-pass_behind-clause-some
+returns-then-pass_behind-clause-some g c =
     let i = rw c.in-Some.is at c.requires.held in
-    let p = c.if-passes_behind.ensures.passed refl in
+    let p = c.if-pass_behind.ensures.passed refl in
     let was = c.args.waiting.now.answered in (
-      (held-more c.in-Some.front was c.passes_behind.new.waiting.answered c.args.gateway.now.told.held p.1 i.0 i.1 p.3).0 ∙ ap (λ (h : Option ℕ). released h was) (sym c.in-Some.is),
+      (held-more c.in-Some.front was c.pass_behind.new.waiting.answered c.args.gateway.now.told.held p.1 i.0 i.1 p.3).0 ∙ ap (λ (h : Option ℕ). released h was) (sym c.in-Some.is),
       λ before. (p.0, p.2, p.4.0 before),
     )
 
 pub returns-in-Ok-clause-none : goal.returns-in-Ok-clause-none
 returns-in-Ok-clause-none g c =
     let i = rw c.in-Some.is at c.requires.held in
-    let same = c.if-passes_behind.ensures.stays refl in
+    let same = c.if-pass_behind.ensures.stays refl in
     let waiting = c.args.waiting.now in
     let front = c.in-Some.front in
     let held = c.args.gateway.now.told.held in (
@@ -31,7 +31,7 @@ returns-in-Ok-clause-none g c =
 
 pub returns-in-Err-clause-some : goal.returns-in-Err-clause-some
 returns-in-Err-clause-some g c =
-    let same = c.if-passes_behind.ensures.stays refl in
+    let same = c.if-pass_behind.ensures.stays refl in
     let waiting = c.args.waiting.now in
     let off = rw same.1 at c.in-Err.ensures.err in (
       ap (λ (x : Exchange). x.answered) c.cut_answered.ensures ∙ ap (λ (x : Exchange). take c.in-Some.front x.answered) same.0 ∙ ap (λ (h : Option ℕ). released h waiting.answered) (sym c.in-Some.is),

@@ -2,10 +2,10 @@ use Rattle.std.proofs.Common.{◌≡◌, [], ◌∷◌, ◌++◌, List, ℕ, dro
 use Rattle.std.proofs.lemmas.List.{append-nil}
 use Rattle.gateway.specs.Running.{CarriesOn}
 use Rattle.machine.specs.declared.event.Answer.{Answer}
-use Rattle.socket_edge.specs.Answering.{frames}
+use Rattle.frames.specs.Answering.{frames}
 use Rattle.socket_edge.specs.Exchange.{Exchange}
-use Rattle.socket_edge.specs.Requests.{Whole}
-use Rattle.socket_edge.proofs.Frames.{Reads-nil, Reads-whole}
+use Rattle.frames.specs.Requests.{Whole}
+use Rattle.socket_edge.proofs.Reading.{Reads-nil, Reads-whole}
 use Rattle.socket_edge.proofs.Tending.{no-memory}
 use Rattle.socket_edge.proofs.serving.offer_copy.Goals as goal
 

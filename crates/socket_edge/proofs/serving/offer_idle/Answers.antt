@@ -3,13 +3,13 @@ use Rattle.std.proofs.lemmas.List.{append-nil}
 use Rattle.std.proofs.Math.Seq.{take-append_seam}
 use Rattle.gateway.specs.Running.{CarriesOn}
 use Rattle.machine.specs.declared.event.Answer.{Answer}
-use Rattle.socket_edge.specs.Answering.{frame}
+use Rattle.frames.specs.Answering.{frame}
 use Rattle.socket_edge.specs.Exchange.{Exchange}
 use Rattle.socket_edge.proofs.serving.offer_idle.Goals as goal
 
-pub returns-then-leaves_at_once-clause-step : goal.returns-then-leaves_at_once-clause-step
-returns-then-leaves_at_once-clause-step g c =
-    let left = c.if-leaves_at_once.ensures.left refl in
+pub returns-then-send_at_once-clause-step : goal.returns-then-send_at_once-clause-step
+returns-then-send_at_once-clause-step g c =
+    let left = c.if-send_at_once.ensures.left refl in
     let event = left.0 in
     let answer = left.1 in
     let none : c.args.answers.now.items ≡ [] = sym c.as_slice.ensures.value ∙ c.if-not-is_idle.ensures.none refl in (
@@ -18,15 +18,15 @@ returns-then-leaves_at_once-clause-step g c =
       λ before. (
         event,
         left.2,
-        subst (λ (items : List (ℕ × Answer)). CarriesOn g.D.Disk.honest g.D.Disk.moment g.D.Disk.left g.D.Disk.failed c.args.gateway.now c.leaves_at_once.new.gateway (event ∷ []) (before ++ items) (before ++ answer ∷ items)) (sym none)
-            (subst (λ (front : List (ℕ × Answer)). CarriesOn g.D.Disk.honest g.D.Disk.moment g.D.Disk.left g.D.Disk.failed c.args.gateway.now c.leaves_at_once.new.gateway (event ∷ []) front (before ++ answer ∷ [])) (sym (append-nil before))
+        subst (λ (items : List (ℕ × Answer)). CarriesOn g.D.Disk.honest g.D.Disk.moment g.D.Disk.left g.D.Disk.failed c.args.gateway.now c.send_at_once.new.gateway (event ∷ []) (before ++ items) (before ++ answer ∷ items)) (sym none)
+            (subst (λ (front : List (ℕ × Answer)). CarriesOn g.D.Disk.honest g.D.Disk.moment g.D.Disk.left g.D.Disk.failed c.args.gateway.now c.send_at_once.new.gateway (event ∷ []) front (before ++ answer ∷ [])) (sym (append-nil before))
             (left.4 before)),
       ),
     )
 
 pub returns-then-placed-clause-step : goal.returns-then-placed-clause-step
 returns-then-placed-clause-step g c =
-    let same = c.if-leaves_at_once.ensures.stays refl in
+    let same = c.if-send_at_once.ensures.stays refl in
     let p = rw (same.0, same.1) at c.in-Some.ensures.some in
     let passes = rw c.if-placed.true at p.4 in
     let was = c.args.waiting.now.answered in
@@ -43,7 +43,7 @@ returns-then-placed-clause-step g c =
 
 pub returns-clause-step : goal.returns-clause-step
 returns-clause-step g c =
-    let same = c.if-leaves_at_once.ensures.stays refl in
+    let same = c.if-send_at_once.ensures.stays refl in
     let p = rw (same.0, same.1) at c.in-Some.ensures.some in
     let passes = rw c.if-placed.false at p.4 in
     let answer = p.1 in

@@ -2,9 +2,9 @@ use Rattle.std.proofs.Common.{◌≡◌, [], ◌++◌, List, ℕ, Option, ap, sy
 use Rattle.std.proofs.lemmas.List.{append-nil}
 use Rattle.gateway.specs.Running.{CarriesOn}
 use Rattle.machine.specs.declared.event.Answer.{Answer}
-use Rattle.socket_edge.specs.Answering.{frames}
+use Rattle.frames.specs.Answering.{frames}
 use Rattle.socket_edge.specs.Exchange.{Exchange}
-use Rattle.socket_edge.specs.Running.{Stepped, released}
+use Rattle.socket_edge.specs.Serving.{Stepped, released}
 use Rattle.socket_edge.proofs.Answers.{frames-append}
 use Rattle.socket_edge.proofs.Loops.{Stepped-behind}
 use Rattle.socket_edge.proofs.Passing.{none_or_some}

@@ -4,7 +4,7 @@ use Rattle.gateway.specs.Running.{CarriesOn}
 use Rattle.machine.specs.declared.event.Event.{Event}
 use Rattle.machine.specs.declared.event.What.TheVariants.{Packet}
 use Rattle.socket_edge.specs.Exchange.{Exchange}
-use Rattle.socket_edge.specs.Requests.{Whole}
+use Rattle.frames.specs.Requests.{Whole}
 use Rattle.socket_edge.proofs.Memory.{between_size, ends_within, packet_in, part_size, seen_forward, view}
 use Rattle.socket_edge.proofs.waiting.Waiting.forward_next.Goals as goal
 

@@ -1,9 +1,9 @@
 use Rattle.std.proofs.Common.{◌≡◌, ◌≤◌, ◌+◌, ◌-◌, ℕ, length, take, drop, ap, sym, ◌∙◌, arith}
 use Rattle.machine.specs.declared.event.What.TheVariants.{Packet}
-use Rattle.socket_edge.specs.declared.request.Head.TheVariants as head
-use Rattle.socket_edge.specs.declared.request.Kind.TheVariants as kind
-use Rattle.socket_edge.specs.Requests.{Whole, head_of}
-use Rattle.socket_edge.proofs.Heads.{frame_is_short, packet_next}
+use Rattle.frames.specs.declared.request.Head.TheVariants as head
+use Rattle.frames.specs.declared.request.Kind.TheVariants as kind
+use Rattle.frames.specs.Requests.{Whole, head_of}
+use Rattle.frames.proofs.Heads.{frame_is_short, packet_next}
 use Rattle.socket_edge.proofs.waiting.Waiting.front_packet.Goals as goal
 
 pub returns-clause-some : goal.returns-clause-some

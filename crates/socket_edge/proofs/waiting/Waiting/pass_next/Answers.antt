@@ -3,8 +3,8 @@ use Rattle.std.proofs.lemmas.List.{drop-drop, with_items_is}
 use Rattle.machine.specs.declared.event.Event.{Event}
 use Rattle.machine.specs.declared.event.What.TheVariants.{Packet}
 use Rattle.socket_edge.specs.Exchange.{Exchange}
-use Rattle.socket_edge.specs.Requests.{Whole}
-use Rattle.socket_edge.specs.Running.{Passes}
+use Rattle.frames.specs.Requests.{Whole}
+use Rattle.socket_edge.specs.Serving.{Passes}
 use Rattle.socket_edge.proofs.Memory.{between_size, ends_within, packet_in, part_size, seen_passed, view}
 use Rattle.socket_edge.proofs.waiting.Waiting.pass_next.Goals as goal
 

@@ -1,8 +1,8 @@
 use Rattle.std.proofs.Common.{◌≡◌, ◌≤◌, ◌+◌, length, take, drop, ap, sym, ◌∙◌, arith}
 use Rattle.std.proofs.lemmas.Bool.{leb-true}
-use Rattle.socket_edge.specs.declared.request.Head.TheVariants as head
-use Rattle.socket_edge.specs.Requests.{head_of, what_of}
-use Rattle.socket_edge.proofs.Heads.{whole_next}
+use Rattle.frames.specs.declared.request.Head.TheVariants as head
+use Rattle.frames.specs.Requests.{head_of, what_of}
+use Rattle.frames.proofs.Heads.{whole_next}
 use Rattle.socket_edge.proofs.waiting.Waiting.wants_copy.Goals as goal
 
 pub returns-in-Frame : goal.returns-in-Frame

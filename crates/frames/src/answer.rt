@@ -1,0 +1,221 @@
+//! The frames of answers: written over those of their requests (`fill_frames`), or as far as a packet that lies there
+//! already (`forward_front`). Only `sending::send_all` of `socket_edge`, for other callers, puts them behind bytes
+//! (`put_frames`).
+ghost use Rattle.std.specs.Prelude.{◌≡◌, ◌+◌, ◌<◌, ◌≤◌, ◌^◌, ℕ, List, [], ◌∷◌, ◌++◌, IfSome, IfNone, OnOk, OnErr, length, take};
+ghost use Rattle.byteorder.specs.Endian.{big_bytes};
+ghost use Rattle.machine.specs.declared.event.Answer.TheVariants.{Dropped, Forward};
+ghost use Rattle.frames.specs.Answering.{iface_byte, kind_byte, answer_body, frame_head, frame, frames};
+
+use machine::{Answer, Iface};
+use std::alloc::AllocError;
+
+/// The bytes of an answer's frame before its body.
+pub const ANSWER_HEAD: usize = 13;
+
+/// The bytes of an answer's frame up to the first one of its body, with it: all before the packet of a forward.
+pub const ANSWER_FRONT: usize = ANSWER_HEAD + 1;
+
+fn kind_of(answer: &Answer) -> u8
+    ensures { result ≡ kind_byte answer.now }
+{
+    match answer {
+        Answer::Forward(_, _) => 1,
+        Answer::Dropped(_) => 2,
+        Answer::Loaded => 3,
+        Answer::Refused => 4,
+        Answer::Ticked => 5,
+    }
+}
+
+/// The byte of an interface.
+pub fn byte_of(iface: Iface) -> u8
+    ensures { result ≡ iface_byte iface }
+{
+    match iface {
+        Iface::Lan => 0,
+        Iface::Wan => 1,
+    }
+}
+
+fn body_len(answer: &Answer) -> u32
+    ensures { result ≡ length (answer_body answer.now) }
+{
+    match answer {
+        Answer::Forward(_, packet) => 1 + packet.as_slice().len() as u32,
+        Answer::Dropped(_) => 1,
+        _ => 0,
+    }
+}
+
+/// The bytes of a frame before its body.
+fn head_with(kind: u8, number: u64, len: u32) -> [u8; ANSWER_HEAD]
+    ensures { result ≡ kind ∷ big_bytes 8 number ++ big_bytes 4 len }
+{
+    let mut bytes = [0; ANSWER_HEAD];
+    bytes[0] = kind;
+    bytes[1..9].copy_from_slice(&number.to_be_bytes());
+    bytes[9..13].copy_from_slice(&len.to_be_bytes());
+    bytes
+}
+
+/// The bytes of an answer's frame before its body.
+pub fn head_bytes(number: u64, answer: &Answer) -> [u8; ANSWER_HEAD]
+    ensures { result ≡ frame_head (number, answer.now) }
+{
+    head_with(kind_of(answer), number, body_len(answer))
+}
+
+/// The bytes of a frame up to the first one of its body.
+fn front_with(head: &[u8; ANSWER_HEAD], first: u8) -> [u8; ANSWER_FRONT]
+    ensures { result ≡ head.now ++ first ∷ [] }
+{
+    let mut bytes = [0; ANSWER_FRONT];
+    bytes[..ANSWER_HEAD].copy_from_slice(head);
+    bytes[ANSWER_HEAD] = first;
+    bytes
+}
+
+/// All bytes in front of the packet in the frame of a packet that leaves, whose length is in bytes.
+pub fn forward_front(number: u64, iface: Iface, len: usize) -> [u8; ANSWER_FRONT]
+    requires { len < 2 ^ 31 }
+    ensures { (packet : List ℕ) → length packet ≡ len
+        → result ++ packet ≡ frame (number, Forward iface packet) }
+{
+    front_with(&head_with(1, number, 1 + len as u32), byte_of(iface))
+}
+
+/// The frame of a packet that is dropped, for the cause with this number.
+pub fn drop_frame(number: u64, cause: u8) -> [u8; ANSWER_FRONT]
+    ensures { result ≡ frame (number, Dropped cause) }
+{
+    front_with(&head_with(2, number, 1), cause)
+}
+
+/// Puts a frame at the end: all before a packet in one piece. An `Err` may leave a part of it there.
+fn put_parts(out: &mut Vec<u8>, number: u64, answer: &Answer) -> Result<(), AllocError>
+    ensures ok { OnOk result (out.new.items ≡ out.old.items ++ frame (number, answer.now)) }
+    ensures front { take (length out.old.items) out.new.items ≡ out.old.items }
+{
+    match answer {
+        Answer::Forward(iface, packet) => {
+            let packet = packet.as_slice();
+            out.extend_from_slice(&forward_front(number, *iface, packet.len()))?;
+            out.extend_from_slice(packet)?;
+            Ok(())
+        }
+        Answer::Dropped(cause) => {
+            out.extend_from_slice(&drop_frame(number, *cause))?;
+            Ok(())
+        }
+        _ => {
+            out.extend_from_slice(&head_bytes(number, answer))?;
+            Ok(())
+        }
+    }
+}
+
+/// Puts the frame of an answer with this number at the end.
+///
+/// # Errors
+///
+/// `AllocError` where memory is refused. The bytes stay as they were.
+fn put_frame(out: &mut Vec<u8>, number: u64, answer: &Answer) -> Result<(), AllocError>
+    ensures ok { OnOk result (out.new.items ≡ out.old.items ++ frame (number, answer.now)) }
+    ensures err { OnErr result (out.new.items ≡ out.old.items) }
+{
+    let before = out.as_slice().len();
+    let put = put_parts(out, number, answer);
+    if put.is_err() {
+        out.truncate(before);
+    }
+    put
+}
+
+/// Puts the frames of answers at the end, each with its number.
+///
+/// # Errors
+///
+/// `AllocError` where memory is refused. The frames of a beginning of the answers are put.
+pub fn put_frames(out: &mut Vec<u8>, answers: &[(u64, Answer)]) -> Result<(), AllocError>
+    ensures ok { OnOk result (out.new.items ≡ out.old.items ++ frames answers.now) }
+    ensures err { OnErr result ((n : ℕ)
+        × (out.new.items ≡ out.old.items ++ frames (take n answers.now))) }
+{
+    for pair in answers {
+        put_frame(out, pair.0, &pair.1)?;
+    }
+    Ok(())
+}
+
+/// Writes the frame of a packet that leaves over these bytes, which are as many.
+fn write_forward_over(bytes: &mut [u8], number: u64, iface: Iface, packet: &[u8])
+    requires small { length packet.now < 2 ^ 31 }
+    requires len { length bytes.old ≡ 14 + length packet.now }
+    ensures { bytes.new ≡ frame (number, Forward iface packet.now) }
+{
+    let (front, body) = bytes.split_at_mut(ANSWER_FRONT);
+    front.copy_from_slice(&forward_front(number, iface, packet.len()));
+    body.copy_from_slice(packet);
+}
+
+/// Writes the frame of a packet that leaves over the first bytes, if it fits. Says how many it has.
+fn fill_forward(bytes: &mut [u8], number: u64, iface: Iface, packet: &[u8]) -> Option<usize>
+    requires small { length packet.now < 2 ^ 31 }
+    ensures some { IfSome result (λ n. (n ≤ length bytes.new)
+        × (take n bytes.new ≡ frame (number, Forward iface packet.now))) }
+    ensures none { IfNone result
+        (length bytes.old < length (frame (number, Forward iface packet.now))) }
+    ensures len { length bytes.new ≡ length bytes.old }
+{
+    let len = ANSWER_FRONT + packet.len();
+    if bytes.len() < len {
+        return None;
+    }
+    write_forward_over(&mut bytes[..len], number, iface, packet);
+    Some(len)
+}
+
+/// Writes these bytes over the first ones, if they fit. Says how many they are.
+fn fill_with(bytes: &mut [u8], all: &[u8]) -> Option<usize>
+    ensures some { IfSome result (λ n. (n ≤ length bytes.new) × (take n bytes.new ≡ all.now)) }
+    ensures none { IfNone result (length bytes.old < length all.now) }
+    ensures len { length bytes.new ≡ length bytes.old }
+{
+    let len = all.len();
+    if bytes.len() < len {
+        return None;
+    }
+    bytes[..len].copy_from_slice(all);
+    Some(len)
+}
+
+/// Writes the frame of an answer with this number over the first bytes, if it fits. Says how many it has.
+fn fill_frame(bytes: &mut [u8], number: u64, answer: &Answer) -> Option<usize>
+    ensures some { IfSome result (λ n. (n ≤ length bytes.new)
+        × (take n bytes.new ≡ frame (number, answer.now))) }
+    ensures none { IfNone result (length bytes.old < length (frame (number, answer.now))) }
+    ensures len { length bytes.new ≡ length bytes.old }
+{
+    match answer {
+        Answer::Forward(iface, packet) => fill_forward(bytes, number, *iface, packet.as_slice()),
+        Answer::Dropped(cause) => fill_with(bytes, &drop_frame(number, *cause)),
+        _ => fill_with(bytes, &head_bytes(number, answer)),
+    }
+}
+
+/// Writes the frames of answers, each with its number, over the first bytes, if all fit. Says how many they have.
+pub fn fill_frames(bytes: &mut [u8], answers: &[(u64, Answer)]) -> Option<usize>
+    ensures some { IfSome result (λ n. (n ≤ length bytes.new)
+        × (take n bytes.new ≡ frames answers.now)) }
+    ensures none { IfNone result (length bytes.old < length (frames answers.now)) }
+    ensures len { length bytes.new ≡ length bytes.old }
+{
+    let mut at = 0;
+    for pair in answers {
+        match fill_frame(&mut bytes[at..], pair.0, &pair.1) {
+            Some(size) => at += size,
+            None => return None,
+        }
+    }
+    Some(at)
+}

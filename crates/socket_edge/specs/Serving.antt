@@ -1,0 +1,184 @@
+-- What the parts of a run do. No public clause cites this module.
+use Rattle.std.specs.Prelude.{◌≡◌, ◌≢◌, ◌≤◌, ℕ, Bool, List, [], ◌∷◌, ◌++◌, length, take, drop, false, true, Option, None, Some, Result, Ok, Err}
+use Rattle.disk_model.specs.Disk.{Files}
+use Rattle.machine.specs.declared.event.Answer.{Answer}
+use Rattle.machine.specs.declared.event.Event.{Event}
+use Rattle.frames.specs.declared.fault.HeaderFault.{HeaderFault}
+use Rattle.frames.specs.declared.fault.HeaderFault.TheVariants as header
+use Rattle.frames.specs.Requests.{Whole, Cut, Bad, next}
+use Rattle.frames.specs.Framing.{behind, whole_frames}
+use Rattle.frames.specs.Answering.{frames}
+use Rattle.gateway.specs.declared.fault.GatewayFault.{GatewayFault}
+use Rattle.gateway.specs.Told.{Told}
+use Rattle.gateway.specs.Kept.{Kept}
+use Rattle.gateway.specs.Running.{Stands, IsWhy, CarriesOn, BreaksOff}
+use Rattle.gateway.specs.Running as run
+use Rattle.socket_edge.specs.declared.fault.EdgeFault.{EdgeFault}
+use Rattle.socket_edge.specs.declared.fault.EdgeFault.TheVariants.{BadKind, BadInterface, TooLong, Truncated, Input, Output, Gateway}
+use Rattle.socket_edge.specs.declared.serving.Halt.{Halt}
+use Rattle.socket_edge.specs.declared.serving.Halt.TheVariants as halt
+use Rattle.socket_edge.specs.declared.serving.Step.{Step}
+use Rattle.socket_edge.specs.declared.serving.Step.TheVariants as step
+use Rattle.socket_edge.specs.declared.edge.Turn.{Turn}
+use Rattle.socket_edge.specs.declared.edge.Turn.TheVariants as turn
+use Rattle.socket_edge.specs.Answering.{Progress}
+use Rattle.socket_edge.specs.Running.{Done, Ends, Fares, Explains, events_in}
+
+-- the stream so far is these events, and then these bytes
+pub record Reads (given : List ℕ) (events : List Event) (unanswered : List ℕ) : Type 0 where
+  pub goes : (more : List ℕ) → whole_frames (given ++ more)
+      ≡ behind events (whole_frames (unanswered ++ more))
+
+-- the whole frames at the front were answered, and these bytes are left
+pub record Served (old new : Told) (bytes rest sent : List ℕ) (count : ℕ) : Type 0 where
+  pub events : List Event
+  pub reads : Reads bytes events rest
+  pub cut : next rest ≡ Cut
+  pub count_is : count ≡ length events
+  pub progress : Progress old new events [] sent
+  pub none : old.held ≡ [] → new.held ≡ []
+
+-- what the frames at the front came to
+abbrev pub Came : Result ℕ EdgeFault → Told → Told → List ℕ → List ℕ → List ℕ → Type 0
+Came (Ok count) old new bytes rest sent = Served old new bytes rest sent count
+Came (Err fault) old new bytes rest sent = Ends fault old new bytes sent ⊥
+
+-- what one read, and all that it made whole, came to
+abbrev pub Turned : Result Turn EdgeFault → Told → Told → List ℕ → List ℕ → List ℕ → Type 0 → Type 0
+Turned (Ok (turn.More count)) old new bytes rest sent at_end = Served old new bytes rest sent count
+Turned (Ok turn.End) old new bytes rest sent at_end = Done 0 old new bytes sent at_end
+Turned (Err fault) old new bytes rest sent at_end = Ends fault old new bytes sent at_end
+
+-- what a halt means for the run
+abbrev pub end_of : Halt → Result (Unit {0}) EdgeFault
+end_of halt.Cut = Ok tt
+end_of (halt.Bad header.BadKind) = Err BadKind
+end_of (halt.Bad header.BadInterface) = Err BadInterface
+end_of (halt.Bad header.TooLong) = Err TooLong
+end_of (halt.Refused fault) = Err (Gateway fault)
+
+-- the gateway refused nothing
+abbrev pub RefusesNone : Step → Type 0
+RefusesNone (step.Took forwarded held) = Unit {0}
+RefusesNone (step.Ends halt.Cut) = Unit {0}
+RefusesNone (step.Ends (halt.Bad fault)) = Unit {0}
+RefusesNone (step.Ends (halt.Refused fault)) = ⊥
+
+-- where answers that are held stand in front, behind so many bytes of answers that are not
+abbrev pub held_behind : Step → Option ℕ
+held_behind (step.Took forwarded held) = held
+held_behind (step.Ends s) = None
+
+-- the bytes of the answers in front that are not held
+abbrev pub released : Option ℕ → List ℕ → List ℕ
+released None answered = answered
+released (Some n) answered = take n answered
+
+-- the others are the frames of all that are held
+abbrev pub AreHeld : Option ℕ → List ℕ → List (ℕ × Answer) → Type 0
+AreHeld None answered held = Unit {0}
+AreHeld (Some n) answered held = (n ≤ length answered) × (drop n answered ≡ frames held)
+    × (held ≢ [])
+
+module _ {D : Type 0} (honest : D → Type 0) (moment : D → ℕ) (left : D → ℕ → Files → Type 0)
+    (failed : D → ℕ) where
+  -- a packet was taken where it lay, and its answer is held, or handed out
+  abbrev pub Passes : Bool → Kept D → Kept D → Event → ℕ × Answer → Type 0
+  Passes true old new event answer = ((before : List (ℕ × Answer))
+      → CarriesOn honest moment left failed old new (event ∷ []) before before)
+      × (new.told.held ≡ old.told.held ++ answer ∷ [])
+  Passes false old new event answer = ((before : List (ℕ × Answer))
+      → CarriesOn honest moment left failed old new (event ∷ []) before (before ++ answer ∷ []))
+      × (old.told.held ≡ []) × (new.told.held ≡ [])
+
+  -- one carries on, or breaks off, whatever other answers were handed out before
+  abbrev pub CarriesBehind : Kept D → Kept D → List Event → List (ℕ × Answer)
+      → List (ℕ × Answer) → Type 0
+  CarriesBehind old new more before out =
+      (handed : List (ℕ × Answer))
+      → CarriesOn honest moment left failed old new more (handed ++ before) (handed ++ out)
+
+  abbrev pub BreaksBehind : Kept D → Kept D → List Event → List (ℕ × Answer) → List (ℕ × Answer)
+      → GatewayFault → Type 0
+  BreaksBehind old new more before out why =
+      (handed : List (ℕ × Answer))
+      → BreaksOff honest moment left failed old new more (handed ++ before) (handed ++ out) why
+
+  -- what one frame at the front came to
+  abbrev pub Stepped : Step → List ℕ → List ℕ → Kept D → Kept D → List (ℕ × Answer)
+      → List (ℕ × Answer) → Type 0
+  Stepped (step.Took forwarded held) bytes rest old new before out = (event : Event)
+      × (next bytes ≡ Whole event rest)
+      × CarriesOn honest moment left failed old new (event ∷ []) before out
+  Stepped (step.Ends halt.Cut) bytes rest old new before out = (rest ≡ bytes) × (next bytes ≡ Cut)
+      × CarriesOn honest moment left failed old new [] before out
+  Stepped (step.Ends (halt.Bad fault)) bytes rest old new before out = (rest ≡ bytes)
+      × (next bytes ≡ Bad fault) × CarriesOn honest moment left failed old new [] before out
+  Stepped (step.Ends (halt.Refused fault)) bytes rest old new before out =
+      (events : List Event) × (later : List ℕ) × Reads bytes events later
+      × BreaksOff honest moment left failed old new events before out fault
+
+  -- what all whole frames at the front came to
+  abbrev pub Offered : Halt → List ℕ → List ℕ → ℕ → Kept D → Kept D → List (ℕ × Answer)
+      → List (ℕ × Answer) → Type 0
+  Offered halt.Cut bytes rest count old new before out =
+      (events : List Event) × Reads bytes events rest × (next rest ≡ Cut) × (count ≡ length events)
+      × CarriesOn honest moment left failed old new events before out
+  Offered (halt.Bad fault) bytes rest count old new before out =
+      (events : List Event) × Reads bytes events rest × (next rest ≡ Bad fault)
+      × CarriesOn honest moment left failed old new events before out
+  Offered (halt.Refused fault) bytes rest count old new before out =
+      (events : List Event) × (later : List ℕ) × Reads bytes events later
+      × BreaksOff honest moment left failed old new events before out fault
+
+  -- the events of the frames at the front were taken, and their answers handed out; nothing is held
+  pub record IsSettled (start now : Kept D) (events : List Event)
+      (out : List (ℕ × Answer)) : Type 0 where
+    pub stands : Stands honest moment left failed start now events out
+    pub none : now.told.held ≡ []
+
+  -- the frames at the front, behind which a header is faulty, were settled
+  pub record IsBad (fault : HeaderFault) (bytes rest : List ℕ) (start now : Kept D)
+      (out : List (ℕ × Answer)) : Type 0 where
+    pub events : List Event
+    pub reads : Reads bytes events rest
+    pub bad : next rest ≡ Bad fault
+    pub settled : IsSettled start now events out
+
+  -- the gateway's fault ended it behind the first of the events
+  pub record IsRefused (fault : GatewayFault) (bytes : List ℕ) (start now : Kept D)
+      (out : List (ℕ × Answer)) : Type 0 where
+    pub front : List Event
+    pub back : List Event
+    pub split : events_in bytes ≡ front ++ back
+    pub ends : run.Ends honest moment left failed start now front out
+    pub is_why : IsWhy honest moment left failed start now fault
+    pub none : now.fallen ≡ false → now.told.held ≡ []
+
+  -- the frames at the front were settled, or why not
+  abbrev pub Closed : Result (Unit {0}) EdgeFault → List ℕ → List ℕ → ℕ → Kept D → Kept D
+      → List (ℕ × Answer) → Type 0
+  Closed (Ok done) bytes rest count start now out =
+      (events : List Event) × Reads bytes events rest × (next rest ≡ Cut) × (count ≡ length events)
+      × IsSettled start now events out
+  Closed (Err BadKind) bytes rest count start now out =
+      IsBad header.BadKind bytes rest start now out
+  Closed (Err BadInterface) bytes rest count start now out =
+      IsBad header.BadInterface bytes rest start now out
+  Closed (Err TooLong) bytes rest count start now out =
+      IsBad header.TooLong bytes rest start now out
+  Closed (Err Truncated) bytes rest count start now out = ⊥
+  Closed (Err Input) bytes rest count start now out = ⊥
+  Closed (Err Output) bytes rest count start now out = ⊥
+  Closed (Err (Gateway fault)) bytes rest count start now out = IsRefused fault bytes start now out
+
+  -- all whole frames at the front were settled and their answers sent, or why not
+  abbrev pub SettledAndSent : Result ℕ EdgeFault → Kept D → Kept D → List ℕ → List ℕ
+      → List (ℕ × Answer) → List ℕ → Type 0
+  SettledAndSent (Ok count) old new bytes rest out sent =
+      (events : List Event) × Reads bytes events rest × (next rest ≡ Cut) × (count ≡ length events)
+      × IsSettled old new events out × (sent ≡ frames out)
+  SettledAndSent (Err fault) old new bytes rest out sent =
+      Ends fault old.told new.told bytes sent ⊥
+      × Fares honest moment left old new (events_in bytes) sent
+      × Explains honest moment left failed fault old new
