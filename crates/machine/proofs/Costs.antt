@@ -9,7 +9,7 @@ use Rattle.durable.specs.Entering.{flow_of}
 use Rattle.durable.specs.declared.entry.Flow.{Flow}
 use Rattle.durable.specs.Coding.{Entry, Begin, End, Restart, Seen, Load, endpoint_bytes, entry_bytes, flow_bytes, session_bytes}
 use Rattle.machine.specs.Noted.{ends, sessions_at, with_it, goes_on, is_same, noted, noted_all, noted_by}
-use Rattle.machine.specs.Notes.{bytes_of}
+use Rattle.machine.specs.Sizes.{bytes_of}
 
 cost-begin : (s : Session) → length (entry_bytes (Begin s)) ≡ 22
 unfolding entry_bytes session_bytes endpoint_bytes

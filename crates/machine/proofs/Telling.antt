@@ -18,7 +18,7 @@ use Rattle.hairpin.specs.Plans.{Gives, GivesThen, GiveAll, IsApart, IsOf, MayBeg
 use Rattle.durable.specs.Coding.{Begin, Entry}
 use Rattle.machine.specs.Flows.{adds, adds_second}
 use Rattle.machine.specs.Noted.{between, noted, noted_all, noted_by}
-use Rattle.machine.specs.Notes.{bytes_of}
+use Rattle.machine.specs.Sizes.{bytes_of}
 use Rattle.machine.proofs.Costs.{bytes_of-one, bytes_of-two, noted-few}
 use Rattle.machine.proofs.Later.{HasSuccessor, change-leads}
 

@@ -6,6 +6,6 @@ pub mod Judged
 pub mod Laws
 pub mod Machine
 pub mod Noted
-pub mod Notes
+pub mod Sizes
 pub mod Sound
 pub mod Translations

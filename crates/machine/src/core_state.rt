@@ -19,7 +19,7 @@ ghost use Rattle.machine.specs.Machine.{AddsNone, EndsNone, act, aged, empty_at,
 ghost use Rattle.durable.specs.Coding.{Entry as Recorded};
 ghost use Rattle.durable.specs.Entering.{IsDurable, durable};
 ghost use Rattle.machine.specs.Noted.{AreEntriesOf, AreOver, IsRestarted, ends, of_deed, of_fields};
-ghost use Rattle.machine.specs.Notes.{most_bytes};
+ghost use Rattle.machine.specs.Sizes.{most_bytes};
 ghost use Rattle.sessions.specs.declared.session.Session.{Session as Flow};
 ghost use Rattle.machine.specs.Sound.{IsInForce, IsSound};
 ghost use Rattle.machine.specs.Flows.{IsLatest, IsReady};

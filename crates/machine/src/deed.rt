@@ -1,6 +1,6 @@
 //! What an event does, once its text is read.
 ghost use Rattle.std.specs.Prelude.{◌≡◌, IfOk, IfErr, IsOk};
-ghost use Rattle.machine.specs.Notes.{most_bytes as most_in};
+ghost use Rattle.machine.specs.Sizes.{most_bytes as most_in};
 ghost use Rattle.machine.specs.Judged.{AreRulesOf, IsNoLoad, IsRight, bringer};
 
 use crate::bytes::Bytes;

@@ -26,7 +26,7 @@ ghost use Rattle.hairpin.specs.Legs.{put_all};
 ghost use Rattle.hairpin.specs.Plans.{Became, Gives, GiveAll};
 ghost use Rattle.hairpin.specs.Tallies.{tally};
 ghost use Rattle.machine.specs.Noted.{AreOver, ends, noted, noted_all, sessions_at};
-ghost use Rattle.machine.specs.Notes.{bytes_of};
+ghost use Rattle.machine.specs.Sizes.{bytes_of};
 ghost use Rattle.machine.specs.Flows.{IsDue, IsLatest, IsReady, MayJoin, adds as adds_by, adds_second};
 
 use crate::ahead::{count_ending, count_mapped};

@@ -15,7 +15,7 @@
 //!   also takes where the packet lies, for which no `Event` is made (`pass_noted`), and one whose session goes on by the
 //!   shortest way (`forward`).
 //! - `notes`: where a step notes the entries by which it changes what must survive (crate `durable`).
-//! - `noting`: the entries of changes. `specs/Noted` says which an event has, `specs/Notes` how many bytes.
+//! - `noting`: the entries of changes. `specs/Noted` says which an event has, `specs/Sizes` how many bytes.
 //! - `laws`: what holds of every step, and of every state that is reached.
 #![tactic(auto)]
 

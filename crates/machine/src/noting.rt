@@ -11,7 +11,7 @@ ghost use Rattle.durable.specs.Entering.{flow_of as flow_in};
 ghost use Rattle.hairpin.specs.Plans.{GiveAll, Gives};
 ghost use Rattle.machine.specs.Flows.{adds as adds_by, adds_second};
 ghost use Rattle.machine.specs.Noted.{between as entries_between, noted, noted_all};
-ghost use Rattle.machine.specs.Notes.{bytes_of, listed};
+ghost use Rattle.machine.specs.Sizes.{bytes_of, listed};
 ghost use Rattle.sessions.specs.Life.{IsSeen};
 ghost use Rattle.sessions.specs.Listing.{listing};
 ghost use Rattle.sessions.specs.declared.session.Session.{Session as Flowing};

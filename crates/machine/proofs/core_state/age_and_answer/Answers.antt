@@ -8,7 +8,7 @@ use Rattle.sessions.specs.declared.session.Session.{Session}
 use Rattle.machine.specs.Core.{state_of}
 use Rattle.machine.specs.Machine.{act}
 use Rattle.machine.specs.Noted.{ends, of_deed}
-use Rattle.machine.specs.Notes.{most_bytes}
+use Rattle.machine.specs.Sizes.{most_bytes}
 use Rattle.machine.specs.declared.notes.StepFault.TheVariants.{Full, NoMemory}
 use Rattle.machine.proofs.Stepping.{if_err_of_ok, if_err_unready, none-ended}
 use Rattle.machine.proofs.Expiry.{latest_expired, none_due}

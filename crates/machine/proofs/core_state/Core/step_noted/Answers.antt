@@ -4,7 +4,7 @@ use Rattle.machine.specs.Judged.{Judged, IsNoLoad}
 use Rattle.machine.specs.Machine.{State, EndsNone, later}
 use Rattle.machine.specs.Core.{state_of}
 use Rattle.machine.specs.Noted.{AreOver}
-use Rattle.machine.specs.Notes.{most_bytes}
+use Rattle.machine.specs.Sizes.{most_bytes}
 use Rattle.machine.specs.Sound.{IsSound}
 use Rattle.machine.specs.declared.event.Answer.{Answer}
 use Rattle.machine.specs.declared.notes.StepFault.TheVariants.{NoMemory}

@@ -6,7 +6,7 @@ use Rattle.durable.specs.Coding.{Entry}
 use Rattle.hairpin.specs.Plans.{Became, GiveAll, Gives}
 use Rattle.machine.specs.Flows.{adds, adds_second}
 use Rattle.machine.specs.Noted.{noted, noted_all}
-use Rattle.machine.specs.Notes.{bytes_of}
+use Rattle.machine.specs.Sizes.{bytes_of}
 use Rattle.machine.proofs.Changed.{adds-few, ready-fewer}
 use Rattle.machine.proofs.Costs.{bytes_of-one, bytes_of-two}
 use Rattle.machine.proofs.flows.Flows.apply_all.Goals as goal

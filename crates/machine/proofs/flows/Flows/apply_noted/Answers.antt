@@ -1,5 +1,5 @@
 use Rattle.std.proofs.Common.{◌++◌, ap, ◌∙◌, arith}
-use Rattle.machine.specs.Notes.{bytes_of}
+use Rattle.machine.specs.Sizes.{bytes_of}
 use Rattle.machine.proofs.flows.Flows.apply_noted.Goals as goal
 
 pub returns-clause-noted : goal.returns-clause-noted
