@@ -1,5 +1,5 @@
 -- A request at the front of the bytes: a header of 14 bytes (kind, interface, length of the body, moment), and the body.
-use Rattle.std.specs.Prelude.{◌≡◌, ◌≤◌, ℕ, ◌+◌, List, length, take, drop, slice_index, Result, Ok, Err, nat_lt, ◌==◌, if◌then◌else◌}
+use Rattle.std.specs.Prelude.{◌≡◌, ◌≤◌, ℕ, ◌+◌, Bool, List, length, take, drop, slice_index, Result, Ok, Err, nat_le, nat_lt, ◌==◌, ◌&&◌, if◌then◌else◌}
 use Rattle.byteorder.specs.Endian.{big_number}
 use Rattle.packet.specs.declared.endpoint.Iface.TheVariants.{Lan, Wan}
 use Rattle.rulesyntax.specs.Text.{greatest_length}
@@ -45,6 +45,11 @@ unfoldable pub head_of : List ℕ → Head
 head_of bytes = if nat_lt (length bytes) 14 then head.Cut
     else head_with (announced (slice_index bytes 0) (slice_index bytes 1))
     (big_number 4 (drop 2 bytes)) (big_number 8 (drop 6 bytes))
+
+-- a header of a packet of at most so many bytes stands at the front; its interface isn't looked at
+abbrev pub announces_packet : List ℕ → ℕ → Bool
+announces_packet bytes most = nat_le 14 (length bytes) && slice_index bytes 0 == 1
+    && nat_le (big_number 4 (drop 2 bytes)) most
 
 abbrev pub what_of : Kind → List ℕ → What
 what_of (kind.Packet iface) body = what.Packet iface body

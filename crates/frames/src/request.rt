@@ -1,6 +1,6 @@
 //! The request at the front of the bytes.
 ghost use Rattle.std.specs.Prelude.{◌≡◌, ◌≤◌, length, IfOk};
-ghost use Rattle.frames.specs.Requests.{without_interface, announced, longest, head_of, what_of, TakesNext};
+ghost use Rattle.frames.specs.Requests.{without_interface, announced, longest, head_of, what_of, TakesNext, announces_packet as announces_packet_of};
 
 use crate::fault::HeaderFault;
 use byteorder::{BigEndian, ByteOrder};
@@ -97,7 +97,9 @@ fn longest_of(kind: Kind) -> u32
 /// Whether a header stands at the front that has the kind of a packet, and a length of at most `most` bytes. Its
 /// interface may be faulty.
 #[inline(always)]
-pub fn announces_packet(bytes: &[u8], most: usize) -> bool {
+pub fn announces_packet(bytes: &[u8], most: usize) -> bool
+    ensures { result ≡ announces_packet_of bytes.now most }
+{
     bytes.len() >= REQUEST_HEAD
         && bytes[0] == 1
         && BigEndian::read_u32(&bytes[2..]) as usize <= most
