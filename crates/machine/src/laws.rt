@@ -1,5 +1,5 @@
-//! What holds of every step, and of every state that is reached. Each function does nothing: its clause is a
-//! theorem, which is proved.
+//! What holds of every step, of every state that is reached, and of the rules of every text that loads. Each function
+//! does nothing: its clause is a theorem, which is proved.
 //!
 //! A state is sound where its sessions can be held together, which makes the mappings of each protocol one-to-one,
 //! no packet of theirs is later than the clock, and the rules are those of the text (`specs/Sound`).

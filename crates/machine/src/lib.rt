@@ -16,7 +16,8 @@
 //!   shortest way (`forward`).
 //! - `notes`: where a step notes the entries by which it changes what must survive (crate `durable`).
 //! - `noting`: the entries of changes. `specs/Noted` says which an event has, `specs/Sizes` how many bytes.
-//! - `laws`: what holds of every step, and of every state that is reached.
+//! - `laws`: what holds of every step, of every state that is reached, and of where the rules of a text that loads
+//!   translate to (`specs/Translations`).
 #![tactic(auto)]
 
 mod ahead;

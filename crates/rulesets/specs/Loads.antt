@@ -1,4 +1,4 @@
--- Which texts load, and why the others don't.
+-- Which kinds of fault hold of what is spelled, and the least of them.
 use Rattle.std.specs.Prelude.{◌≡◌, ◌<◌, ℕ, true, List, Option, Some, None}
 use Rattle.packet.specs.Config.{Config}
 use Rattle.std.specs.Option.{option_map}

@@ -1,6 +1,6 @@
 //! Rulesets that may run: which spelled rules may under a gateway's bounds, and why the others may not.
 //!
-//! `refusal_of` answers the least kind of fault that holds of rules and the line, and `load` the rules as a `Ruleset`
+//! `refusal_of` answers the least kind of fault that holds of rules, with the line, and `load` the rules as a `Ruleset`
 //! where none holds. Where a function answers an `AllocError`, a growth was refused, and nothing else is wrong.
 //!
 //! - `load`, `ruleset`: from what a text spells to rules that may run.

@@ -1,4 +1,4 @@
-//! A text that has loaded.
+//! Rules that may run.
 
 ghost use Rattle.std.specs.Prelude.{◌≡◌};
 ghost use Rattle.rulesets.specs.Runnable.{IsRunnable};
@@ -6,7 +6,7 @@ ghost use Rattle.rulesets.specs.Runnable.{IsRunnable};
 use ruletree::tree::Spelled;
 use std::marker::Model;
 
-/// The rules of a text that has loaded: the tables as they are spelled, without a fault.
+/// Rules that may run: the tables as they are spelled, of which no kind of fault holds.
 #[derive(Drop)]
 pub struct Ruleset {
     text: Spelled,
@@ -24,7 +24,7 @@ impl Model for Ruleset {
 }
 
 impl Ruleset {
-    /// The rules of a text without a fault.
+    /// The rules that are spelled, of which no kind of fault holds.
     pub(crate) fn of(text: Spelled) -> Ruleset
         requires { IsRunnable text }
         ensures { result ≡ text }

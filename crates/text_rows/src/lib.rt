@@ -1,6 +1,6 @@
 //! Texts of rulesets, and what is told of each: rows worked by hand from the rules of the format.
 //!
-//! The rows stand above the crates that they try, `rulesyntax` and `ruletext`, so that those are proved
+//! The rows stand above the crates that they try, `rulesyntax`, `rulesets` and `ruletext`, so that those are proved
 //! once, without them.
 //!
 //! - `spelling`: which texts spell a ruleset, and what is wrong with the others;

@@ -16,6 +16,7 @@ use std::marker::Model;
 #[derive(Drop)]
 pub struct Trial {
     disk: SimDisk,
+    // Counts the calls and says which fail; the failures are those that the meter of the disk counts.
     meter: Meter,
     strayed: bool,
 }

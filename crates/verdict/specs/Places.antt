@@ -1,4 +1,5 @@
--- Places in the chains of a table, what is left to read there, and what a rule makes of the walk over them.
+-- Places in the chains of a table, what is left to read there, and what a rule makes of the walk over them. No public
+-- clause cites this module.
 use Rattle.std.specs.Prelude.{◌≡◌, ◌⊎◌, ℕ, zero, suc, ◌+◌, ◌-◌, ◌*◌, ◌^◌, ◌<◌, ◌≤◌, false, List, [], ◌∷◌, Option, Some, None, length, drop, slice_get, slice_index_or, slice_set, if◌then◌else◌, MatchOption}
 use Rattle.std.specs.Option.{unwrap_or, option_map_or}
 use Rattle.std.specs.List.{list_all}
