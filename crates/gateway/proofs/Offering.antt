@@ -11,7 +11,7 @@ use Rattle.durable.proofs.Bodies.{enters_once}
 use Rattle.machine.specs.Judged.{Judged, IsJudged, IsRight}
 use Rattle.machine.specs.Machine.{State, step}
 use Rattle.machine.specs.Noted.{AreDistinct, AreEntriesOf, AreOver, HasEntry, lasting}
-use Rattle.machine.specs.Notes.{most_bytes}
+use Rattle.machine.specs.Sizes.{most_bytes}
 use Rattle.machine.specs.Sound.{IsSound}
 use Rattle.machine.specs.declared.deed.Deed.{Deed}
 use Rattle.machine.specs.declared.deed.Deed.TheVariants as deed

@@ -10,7 +10,7 @@ use Rattle.durable.specs.Recovery.{IsActive, Recovers, behind}
 use Rattle.machine.specs.Judged.{Judged, IsJudged, AreJudged}
 use Rattle.machine.specs.Machine.{State, after, later}
 use Rattle.machine.specs.Noted.{AreOver, lasting}
-use Rattle.machine.specs.Notes.{most_bytes}
+use Rattle.machine.specs.Sizes.{most_bytes}
 use Rattle.machine.specs.declared.event.Event.{Event}
 use Rattle.gateway.specs.Told.{Told}
 use Rattle.gateway.specs.declared.given.Given.{Given}

@@ -19,7 +19,7 @@ ghost use Rattle.durable.specs.Recovery.{Alike, IsConfigured, NoneOpen, Recovers
 ghost use Rattle.snapshot.specs.Store.{RecoversEither};
 ghost use Rattle.machine.specs.Judged.{Judged, IsJudged, IsNoLoad};
 ghost use Rattle.machine.specs.Machine.{AddsNone, EndsNone, later, step};
-ghost use Rattle.machine.specs.Notes.{most_bytes};
+ghost use Rattle.machine.specs.Sizes.{most_bytes};
 ghost use Rattle.machine.specs.Noted.{AreEntriesOf, HasEntry, IsRestarted, lasting};
 ghost use Rattle.machine.specs.Sound.{IsSound};
 ghost use Rattle.machine.specs.declared.event.Answer.TheVariants.{Forward};

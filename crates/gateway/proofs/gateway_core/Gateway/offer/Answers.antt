@@ -6,7 +6,7 @@ use Rattle.machine.specs.Besides.{Besides}
 use Rattle.machine.specs.Judged.{Judged}
 use Rattle.machine.specs.Machine.{later}
 use Rattle.machine.specs.Noted.{HasEntry}
-use Rattle.machine.specs.Notes.{most_bytes}
+use Rattle.machine.specs.Sizes.{most_bytes}
 use Rattle.gateway.specs.Kept.{IsNow, IsStanding}
 use Rattle.gateway.proofs.Bodies.{filled-on}
 use Rattle.gateway.proofs.Offering.{takes_in, took_in, at_once, none_of, roomy_enough}
