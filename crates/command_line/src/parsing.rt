@@ -3,15 +3,18 @@ use crate::help;
 use clap::error::ErrorKind;
 use clap::{Arg, ArgAction, ArgMatches, Command, Error, value_parser};
 use options::{Opening, Options, Sides, Task, Work};
+use refusals::Refusal;
 use std::alloc::{AllocError, Global};
+use std::io::{Eprint, Print};
 
 /// What a command line comes to.
 #[derive(Drop)]
 pub enum Parsed<'a> {
     /// A command is to run.
     Run(Options<'a>),
-    /// There is none: help or the version was asked for, with status 0, or the command line can't be read, with status 2.
-    Stopped(Error),
+    /// There is none, and why is printed: help or the version was asked for, which is status 0, or the command line can't
+    /// be read, which is status 2.
+    Stopped(u8),
 }
 
 /// The arguments of a command, as they are put in. Each is put in by a call of its own, and so is each command: a value of
@@ -276,25 +279,36 @@ fn run_of<'a>(matches: &ArgMatches<'a>) -> Option<Options<'a>> {
     read_options(name, inner)
 }
 
-fn stopped<'a>(error: Error) -> Result<Parsed<'a>, AllocError> {
+// Prints what clap says in the place of a command.
+fn stopped<'a, R: Print + Eprint>(rt: &R, error: &Error) -> Result<Parsed<'a>, Refusal> {
     if error.kind() == ErrorKind::OutOfMemory {
-        return Err(AllocError);
+        return Err(Refusal::NoMemory);
     }
-    Ok(Parsed::Stopped(error))
+    let status = error.exit_code() as u8;
+    if error.print(rt).is_err() && status == 0 {
+        return Err(Refusal::Output);
+    }
+    Ok(Parsed::Stopped(status))
 }
 
-/// Reads the command line; the first word is the program's name.
+/// Reads the command line; the first word is the program's name. Where it names no command, what there is to say is
+/// printed: help and the version on standard output, why it can't be read on standard error.
 ///
 /// # Errors
 ///
-/// `AllocError` where memory is refused.
-pub fn parse<'a>(alloc: Global, words: &'a [String]) -> Result<Parsed<'a>, AllocError> {
+/// - `NoMemory` where memory is refused.
+/// - `Output` where help or the version was asked for and can't be printed.
+pub fn parse<'a, R: Print + Eprint>(
+    rt: &R,
+    alloc: Global,
+    words: &'a [String],
+) -> Result<Parsed<'a>, Refusal> {
     match command_line(alloc)?.try_get_matches_from(words) {
         Ok(matches) => match run_of(&matches) {
             Some(options) => Ok(Parsed::Run(options)),
             // A command line without a command is an error of clap's, so this doesn't come.
-            None => Err(AllocError),
+            None => Err(Refusal::NoMemory),
         },
-        Err(error) => stopped(error),
+        Err(error) => stopped(rt, &error),
     }
 }

@@ -20,7 +20,7 @@ mod probe;
 mod reading;
 mod words;
 
-pub use device::{DeviceFault, diagnose};
+pub use device::diagnose;
 pub use fields::{Field, differs};
 pub use finding::{Damage, Differing, Finding, examine};
 pub use reading::{Fault, Held, Reading};

@@ -23,7 +23,8 @@ use Rattle.gateway.specs.declared.given.Given.TheVariants.{Now, Held}
 use Rattle.gateway.specs.declared.fault.GatewayFault.{GatewayFault}
 use Rattle.gateway.specs.declared.fault.GatewayFault.TheVariants as fault
 use Rattle.gateway.proofs.Taking.{length-answers, took_more, took_none}
-use Rattle.gateway.specs.Kept.{Kept, IsNow, IsReady, IsSafe}
+use Rattle.gateway.specs.Given.{IsNow}
+use Rattle.gateway.specs.Kept.{Kept, IsReady, IsSafe}
 use Rattle.gateway.specs.Running.{Ran, Stands, Ends, IsWhy, Stops, StopsWithin, CarriesOn, BreaksOff, standing}
 use Rattle.gateway.specs.Standing.{Standing, Offers, StandsFor}
 use Rattle.gateway.proofs.Standings.{offered-on, settled-on}

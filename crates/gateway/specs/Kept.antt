@@ -13,8 +13,6 @@ use Rattle.machine.specs.Noted.{AreOver, lasting}
 use Rattle.machine.specs.Sizes.{most_bytes}
 use Rattle.machine.specs.declared.event.Event.{Event}
 use Rattle.gateway.specs.Told.{Told}
-use Rattle.gateway.specs.declared.given.Given.{Given}
-use Rattle.gateway.specs.declared.given.Given.TheVariants.{Now, Held}
 
 -- A gateway over a disk, as its callers see it.
 pub record Kept (D : Type 0) : Type 0 where
@@ -38,11 +36,6 @@ pub record HasPlaces (files : Files) (generation grown end : ℕ) : Type 0 where
   pub active : IsActive files file heading first end
   pub numbered : heading.generation ≡ generation
   pub grows : end ≡ behind heading + grown
-
--- the event was answered at once
-abbrev pub IsNow : Given → Type 0
-IsNow (Now number answer) = Unit {0}
-IsNow (Held number) = ⊥
 
 -- Behind what waits the greatest length of a file leaves no room for this event: 14 bytes for each session that ends,
 -- 44 for a packet, 5 and the text for a text that is taken, and 6 around the group.

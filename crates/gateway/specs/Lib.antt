@@ -1,7 +1,7 @@
 -- What an event that is taken does, and many in turn.
 pub mod Told
--- A packet that is taken where it lies.
-pub mod Passing
+-- What becomes of an event.
+pub mod Given
 -- The answers that are held, and the entries of their events.
 pub mod HeldAnswers
 -- What contracts see of a gateway.

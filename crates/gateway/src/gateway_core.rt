@@ -25,10 +25,10 @@ ghost use Rattle.machine.specs.Sound.{IsSound};
 ghost use Rattle.machine.specs.declared.event.Answer.TheVariants.{Forward};
 ghost use Rattle.machine.specs.declared.event.What.TheVariants.{Packet};
 ghost use Rattle.sessions.specs.Stilled.{stilled};
-ghost use Rattle.gateway.specs.Passing.{answered, given_by};
+ghost use Rattle.gateway.specs.Given.{IsNow, answered, given_by};
 ghost use Rattle.gateway.specs.Told.{Took, TookAll, TookFirst, handed};
 ghost use Rattle.gateway.specs.declared.given.Given.TheVariants.{Now};
-ghost use Rattle.gateway.specs.Kept.{HasPlaces, IsNow, IsReady, IsRoomy, IsSafe, IsTooMuch};
+ghost use Rattle.gateway.specs.Kept.{HasPlaces, IsReady, IsRoomy, IsSafe, IsTooMuch};
 ghost use Rattle.gateway.specs.Running.{StopsWithin};
 
 use crate::fault::{why_not_compacted, why_refused};

@@ -41,11 +41,8 @@ fn start(rt: &HostRuntime) -> Result<ExitCode, Stop> {
         }
     };
     let words: Vec<String> = arguments.collect(alloc)?;
-    match parse(alloc, words.as_slice())? {
+    match parse(rt, alloc, words.as_slice())? {
         Parsed::Run(options) => run(rt, &options),
-        Parsed::Stopped(error) => match (error.print(rt), error.exit_code()) {
-            (Err(_), 0) => Err(Stop::from(Refusal::Output)),
-            (_, code) => Ok(ExitCode::from(code as u8)),
-        },
+        Parsed::Stopped(status) => Ok(ExitCode::from(status)),
     }
 }

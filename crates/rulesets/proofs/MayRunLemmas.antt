@@ -1,5 +1,4 @@
 -- Rules of which no kind of fault holds may be relied on.
-use Rattle.std.proofs.Common.{◌≡◌, Bool, true, false, refl}
 use Rattle.packet.specs.Config.{Config}
 use Rattle.ruletree.specs.declared.tree.Spelled.{Spelled}
 use Rattle.ruletree.specs.declared.fault.Kind.TheVariants.{UnknownChain, UnknownSet, Duplicate, Loop, Depth, WrongHook, WrongType, Limit, Overlap}

@@ -1,8 +1,9 @@
 //! Why a call of the store is refused.
 ghost use Rattle.std.specs.Prelude.{◌≡◌};
+ghost use Rattle.disk_model.specs.declared.reading.ReadFault.TheVariants as reading;
 ghost use Rattle.snapshot.specs.declared.fault.OpenFault.TheVariants as opening;
 
-use disk_model::DiskFault;
+use disk_model::{DiskFault, ReadFault};
 use std::alloc::{AllocError, AllocFailed};
 
 /// Why a store can't be opened.
@@ -52,6 +53,18 @@ impl From<DiskFault> for OpenFault {
 
     fn from(_: DiskFault) -> Self {
         OpenFault::Device
+    }
+}
+
+impl From<ReadFault> for OpenFault {
+    ghost from_gives = { λ read e. (read ≡ reading.Device → e ≡ opening.Device)
+        × (read ≡ reading.NoMemory → e ≡ opening.NoMemory) };
+
+    fn from(fault: ReadFault) -> Self {
+        match fault {
+            ReadFault::Device => OpenFault::Device,
+            ReadFault::NoMemory => OpenFault::NoMemory,
+        }
     }
 }
 

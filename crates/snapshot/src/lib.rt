@@ -8,11 +8,9 @@
 //! - `opening`: what two files hold; where neither gate is open, file A is made anew.
 //! - `remaking`: a file is made anew, in three synced writes.
 //! - `front`: what stands behind the gate of a file that is made anew.
-//! - `bounds`: the configuration, to be kept.
 //! - `fault`: why a call is refused.
 #![tactic(auto)]
 
-mod bounds;
 mod fault;
 mod front;
 mod opening;

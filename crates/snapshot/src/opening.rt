@@ -13,10 +13,9 @@ ghost use Rattle.snapshot.specs.Opening.{IsReady, IsRecovered, IsKept, state_of}
 ghost use Rattle.snapshot.specs.Store.{IsFirst};
 
 use crate::OpenFault;
-use crate::bounds::copy_of;
 use crate::front::front_of;
 use crate::remaking::remake;
-use disk_model::{Disk, DiskFault, FileId};
+use disk_model::{Disk, DiskFault, FileId, contents};
 use durable::{DurableFault, Recovered, heading_fits, recover};
 use packet::bounds::Bounds;
 use sessions::Session;
@@ -49,26 +48,6 @@ fn sync_both<D: Disk>(disk: &mut D) -> Result<(), DiskFault>
     disk.sync(FileId::A)?;
     disk.sync(FileId::B)?;
     Ok(())
-}
-
-// The bytes of a file.
-fn contents<D: Disk>(alloc: Global, disk: &mut D, file: FileId) -> Result<Vec<u8>, OpenFault>
-    ensures honest { D.honest disk.old ↔ D.honest disk.new }
-    ensures ok { D.honest disk.old → IfOk result (λ bytes. bytes.items ≡ D.seen disk.old file) }
-    ensures looks { D.honest disk.old → Looks D.moment D.left D.seen disk.old disk.new }
-    ensures failures { D.failed disk.old ≤ D.failed disk.new }
-    ensures no_failure { OnOk result (D.failed disk.new ≡ D.failed disk.old) }
-    ensures only_device { ¬ IsErrOf result OpenFault.Device
-        → D.failed disk.new ≡ D.failed disk.old }
-    ensures device { IsErrOf result OpenFault.Device
-        → Grew (D.failed disk.old) (D.failed disk.new) }
-    ensures damaged { IsErrOf result OpenFault.Damaged → ⊥ }
-    ensures differs { IsErrOf result OpenFault.ConfigDiffers → ⊥ }
-{
-    let len = disk.len(file)?;
-    let mut bytes = vec![in alloc; 0; len as usize]?;
-    disk.read_at(file, 0, &mut bytes)?;
-    Ok(bytes)
 }
 
 // Syncs both files, and reads them.
@@ -177,7 +156,7 @@ fn make_first<D: Disk>(alloc: Global, disk: &mut D, bounds: &Bounds) -> Result<R
     let generation = 1;
     bounds.facts();
     heading_fits(generation, bounds, &[], &[]);
-    let kept = copy_of(alloc, bounds)?;
+    let kept = bounds.copy(alloc)?;
     let bytes = front_of(alloc, generation, bounds, &[], &[])?;
     remake(disk, file, &bytes)?;
     // There stands the closed gate that ends `bytes`: the file's own gate is in front of them.

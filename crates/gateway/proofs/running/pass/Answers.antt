@@ -4,8 +4,7 @@ use Rattle.machine.specs.Noted.{HasEntry}
 use Rattle.machine.specs.declared.event.Answer.{Answer}
 use Rattle.machine.specs.declared.event.Event.{Event}
 use Rattle.machine.specs.declared.event.What.TheVariants.{Packet}
-use Rattle.gateway.specs.Kept.{IsNow}
-use Rattle.gateway.specs.Passing.{given_by}
+use Rattle.gateway.specs.Given.{IsNow, given_by}
 use Rattle.gateway.specs.Running.{CarriesOn}
 use Rattle.gateway.specs.Told.{Took, handed}
 use Rattle.gateway.specs.declared.given.Passed.{Passed}

@@ -6,7 +6,7 @@ use Rattle.std.specs.Prelude.{Result, Ok, Err}
 use Rattle.disk_model.proofs.Moments.{looks_then}
 use Rattle.journal.specs.Groups.{bodies_of, IsRead, IsTornAt, GroupAt}
 use Rattle.journal.proofs.Leading.{Read, no_more, read_on, torn_there, first_byte, first_open}
-use Rattle.journal.proofs.Looking.{looks_once}
+use Rattle.disk_model.proofs.Looking.{looks_once}
 use Rattle.journal.proofs.reading.groups.Goals as goal
 
 error_or : {T E : Type 0} → E → Result T E → E

@@ -1,7 +1,7 @@
 use Rattle.std.proofs.Common.{◌≡◌, ◌+◌, ◌∙◌, ℕ, ap, arith, take, drop, length, length-take}
 use Rattle.std.proofs.lemmas.List.{take_at}
 use Rattle.journal.proofs.Whole.{too_long, whole, gate_is}
-use Rattle.journal.proofs.Looking.{looks_once, looks_twice, looks_thrice}
+use Rattle.disk_model.proofs.Looking.{looks_once, looks_twice, looks_thrice}
 use Rattle.journal.proofs.reading.read_group.Goals as goal
 
 pub returns-in_err-read_at-clause-looks : goal.returns-in_err-read_at-clause-looks

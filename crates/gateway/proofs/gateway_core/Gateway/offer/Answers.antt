@@ -7,7 +7,8 @@ use Rattle.machine.specs.Judged.{Judged}
 use Rattle.machine.specs.Machine.{later}
 use Rattle.machine.specs.Noted.{HasEntry}
 use Rattle.machine.specs.Sizes.{most_bytes}
-use Rattle.gateway.specs.Kept.{IsNow, IsStanding}
+use Rattle.gateway.specs.Given.{IsNow}
+use Rattle.gateway.specs.Kept.{IsStanding}
 use Rattle.gateway.proofs.Bodies.{filled-on}
 use Rattle.gateway.proofs.Offering.{takes_in, took_in, at_once, none_of, roomy_enough}
 use Rattle.gateway.proofs.gateway_core.Gateway.offer.Goals as goal

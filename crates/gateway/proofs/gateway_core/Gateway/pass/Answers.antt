@@ -6,8 +6,8 @@ use Rattle.machine.specs.Fates.{answer_of}
 use Rattle.machine.specs.Noted.{HasEntry}
 use Rattle.machine.specs.declared.event.Event.{Event}
 use Rattle.machine.specs.declared.event.What.TheVariants.{Packet}
-use Rattle.gateway.specs.Kept.{IsNow, IsStanding}
-use Rattle.gateway.specs.Passing.{given_by}
+use Rattle.gateway.specs.Kept.{IsStanding}
+use Rattle.gateway.specs.Given.{IsNow, given_by}
 use Rattle.gateway.proofs.Bodies.{filled-on}
 use Rattle.gateway.proofs.Offering.{takes_in, at_once}
 use Rattle.gateway.proofs.gateway_core.Gateway.pass.Goals as goal

@@ -1,5 +1,5 @@
-use Rattle.journal.proofs.Looking.{looks_twice}
-use Rattle.diagnosis.proofs.device.contents.Goals as goal
+use Rattle.disk_model.proofs.Looking.{looks_once, looks_twice}
+use Rattle.disk_model.proofs.reading.contents.Goals as goal
 
 pub returns-in_err-read_at-clause-looks : goal.returns-in_err-read_at-clause-looks
 returns-in_err-read_at-clause-looks g c =
@@ -12,3 +12,13 @@ returns-clause-looks g c =
     looks_twice g.D.Disk.honest g.D.Disk.seen g.D.Disk.moment g.D.Disk.left g.met.D.Disk.earlier _ _ _
     (record { honest_on = c.len.ensures.honest; stays = c.len.ensures.seen; goes = c.len.ensures.crash })
     (record { honest_on = c.read_at.ensures.honest; stays = c.read_at.ensures.seen; goes = c.read_at.ensures.crash })
+
+pub returns-in_err-len-clause-looks : goal.returns-in_err-len-clause-looks
+returns-in_err-len-clause-looks g c =
+    looks_once g.D.Disk.honest g.D.Disk.seen g.D.Disk.moment g.D.Disk.left g.met.D.Disk.earlier _ _
+    (record { honest_on = c.len.ensures.honest; stays = c.len.ensures.seen; goes = c.len.ensures.crash })
+
+pub returns-in_err-bytes-clause-looks : goal.returns-in_err-bytes-clause-looks
+returns-in_err-bytes-clause-looks g c =
+    looks_once g.D.Disk.honest g.D.Disk.seen g.D.Disk.moment g.D.Disk.left g.met.D.Disk.earlier _ _
+    (record { honest_on = c.len.ensures.honest; stays = c.len.ensures.seen; goes = c.len.ensures.crash })

@@ -1,4 +1,4 @@
--- What a packet that is taken where it lies is answered.
+-- What becomes of an event: whether it is answered at once, and what a packet that is taken where it lies is answered.
 use Rattle.std.specs.Prelude.{ℕ, List}
 use Rattle.machine.specs.Fates.{answer_of}
 use Rattle.machine.specs.declared.event.Answer.{Answer}
@@ -6,6 +6,11 @@ use Rattle.gateway.specs.declared.given.Given.{Given}
 use Rattle.gateway.specs.declared.given.Given.TheVariants as given
 use Rattle.gateway.specs.declared.given.Passed.{Passed}
 use Rattle.gateway.specs.declared.given.Passed.TheVariants as passed
+
+-- the event was answered at once
+abbrev pub IsNow : Given → Type 0
+IsNow (given.Now number answer) = Unit {0}
+IsNow (given.Held number) = ⊥
 
 -- what became of the event whose packet has these bytes then
 abbrev pub given_by : Passed → List ℕ → Given

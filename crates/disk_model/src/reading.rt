@@ -1,0 +1,65 @@
+//! All bytes of a file.
+ghost use Rattle.std.specs.Prelude.{◌≡◌, ◌↔◌, ◌≤◌, IfOk, OnOk, IsErrOf};
+ghost use Rattle.disk_model.specs.Disk.{Looks, Grew};
+ghost use Rattle.disk_model.specs.declared.reading.ReadFault.TheVariants.{Device, NoMemory};
+
+use crate::{Disk, DiskFault, FileId};
+use std::alloc::{AllocError, AllocFailed, Global};
+
+/// Why a file isn't read.
+#[derive(Clone, Copy, Debug, PartialEq, Eq, Drop, thiserror::Error)]
+pub enum ReadFault {
+    /// A call of the disk has failed.
+    #[error("a call of the disk has failed")]
+    Device,
+    /// Memory was refused.
+    #[error("out of memory")]
+    NoMemory,
+}
+
+impl From<DiskFault> for ReadFault {
+    ghost from_gives = { λ _ e. e ≡ Device };
+
+    fn from(_: DiskFault) -> Self {
+        ReadFault::Device
+    }
+}
+
+impl From<AllocError> for ReadFault {
+    ghost from_gives = { λ _ e. e ≡ NoMemory };
+
+    fn from(_: AllocError) -> Self {
+        ReadFault::NoMemory
+    }
+}
+
+impl<T: Drop> From<AllocFailed<T>> for ReadFault {
+    ghost from_gives = { λ _ e. e ≡ NoMemory };
+
+    fn from(_: AllocFailed<T>) -> Self {
+        ReadFault::NoMemory
+    }
+}
+
+/// The bytes of a file, all of them. No file changes.
+///
+/// # Errors
+///
+/// - `Device` where a call of the disk has failed.
+/// - `NoMemory` where memory is refused.
+pub fn contents<D: Disk>(alloc: Global, disk: &mut D, file: FileId) -> Result<Vec<u8>, ReadFault>
+    ensures honest { D.honest disk.old ↔ D.honest disk.new }
+    ensures ok { D.honest disk.old → IfOk result (λ bytes. bytes.items ≡ D.seen disk.old file) }
+    ensures looks { D.honest disk.old → Looks D.moment D.left D.seen disk.old disk.new }
+    ensures failures { D.failed disk.old ≤ D.failed disk.new }
+    ensures no_failure { OnOk result (D.failed disk.new ≡ D.failed disk.old) }
+    ensures only_device { ¬ IsErrOf result ReadFault.Device
+        → D.failed disk.new ≡ D.failed disk.old }
+    ensures device { IsErrOf result ReadFault.Device
+        → Grew (D.failed disk.old) (D.failed disk.new) }
+{
+    let len = disk.len(file)?;
+    let mut bytes = vec![in alloc; 0; len as usize]?;
+    disk.read_at(file, 0, &mut bytes)?;
+    Ok(bytes)
+}
