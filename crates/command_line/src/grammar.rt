@@ -1,0 +1,164 @@
+//! Which commands there are, and what each takes.
+use crate::help;
+
+/// A command.
+pub(crate) struct Verb {
+    pub(crate) name: &'static str,
+    pub(crate) about: &'static str,
+    /// What stands at the end of its help.
+    pub(crate) more: &'static str,
+    /// Whether it opens a gateway, and so takes `OPENING`.
+    pub(crate) opens: bool,
+    /// What it takes behind that.
+    pub(crate) own: &'static [Word],
+}
+
+/// An option of a command, or its file.
+pub(crate) struct Word {
+    /// The option without its `--`, or the file.
+    pub(crate) name: &'static str,
+    pub(crate) form: Form,
+    /// What stands for the value in help.
+    pub(crate) value: &'static str,
+    /// The value where none is given, which otherwise has to be.
+    pub(crate) default: Option<&'static str>,
+    pub(crate) help: &'static str,
+}
+
+/// How an option or a file is written.
+#[derive(Clone, Copy)]
+pub(crate) enum Form {
+    /// `--name VALUE`.
+    Text,
+    /// `--name VALUE`, the value a number below 2^64.
+    Number,
+    /// `--name` alone.
+    Flag,
+    /// The value alone.
+    File,
+}
+
+/// What all commands take.
+pub(crate) const SIDES: &[Word] = &[
+    Word {
+        name: "lan",
+        form: Form::Text,
+        value: "NAME",
+        default: Some("lan"),
+        help: "The inside interface",
+    },
+    Word {
+        name: "wan",
+        form: Form::Text,
+        value: "NAME",
+        default: Some("wan"),
+        help: "The outside interface",
+    },
+    Word {
+        name: "inside",
+        form: Form::Text,
+        value: "LIST",
+        default: None,
+        help: "The inside prefixes, as 192.168.0.0/16, joined by commas",
+    },
+    Word {
+        name: "external",
+        form: Form::Text,
+        value: "ADDR",
+        default: None,
+        help: "The external address, as 203.0.113.1",
+    },
+];
+
+/// What the commands take that open a gateway.
+pub(crate) const OPENING: &[Word] = &[
+    Word {
+        name: "dir",
+        form: Form::Text,
+        value: "DIR",
+        default: None,
+        help: "The directory of natgw.a and natgw.b, which are made where they are missing",
+    },
+    Word {
+        name: "at",
+        form: Form::Number,
+        value: "N",
+        default: Some("0"),
+        help: "The opening moment, in seconds",
+    },
+];
+
+/// The commands, in the order in which help lists them.
+pub(crate) const VERBS: &[Verb] = &[
+    Verb {
+        name: "check",
+        about: help::CHECK,
+        more: help::KINDS,
+        opens: false,
+        own: &[
+            Word {
+                name: "explain",
+                form: Form::Flag,
+                value: "",
+                default: None,
+                help: "Shows on standard error the place of the fault, what stands there and what could",
+            },
+            Word {
+                name: "FILE",
+                form: Form::File,
+                value: "FILE",
+                default: None,
+                help: "The ruleset's text",
+            },
+        ],
+    },
+    Verb {
+        name: "replay",
+        about: help::REPLAY,
+        more: help::FRAMES,
+        opens: true,
+        own: &[],
+    },
+    Verb {
+        name: "serve",
+        about: help::SERVE,
+        more: help::CLIENTS,
+        opens: true,
+        own: &[
+            Word {
+                name: "socket",
+                form: Form::Text,
+                value: "P",
+                default: None,
+                help: "The path of the socket, where nothing is yet",
+            },
+            Word {
+                name: "connections",
+                form: Form::Number,
+                value: "N",
+                default: None,
+                help: "How many connections are served before natgw ends",
+            },
+        ],
+    },
+    Verb {
+        name: "loop",
+        about: help::LOOP,
+        more: help::TRIED,
+        opens: true,
+        own: &[Word {
+            name: "FILE",
+            form: Form::File,
+            value: "FILE",
+            default: None,
+            help: "The request frames, at most 2048 bytes",
+        }],
+    },
+    Verb {
+        name: "show",
+        about: help::SHOW,
+        more: help::COLUMNS,
+        opens: true,
+        own: &[],
+    },
+];
