@@ -1,38 +1,42 @@
-//! The command line as clap takes it, made of the grammar. A value of clap's has so many parts that a function which owns
-//! several is dear to prove: so each is put together by a function of its own, and lists of them are borrowed.
-use crate::grammar::{Form, OPENING, SIDES, VERBS, Verb, Word};
+//! The command line as clap takes it, made of the grammar. A value of clap's has so many parts that a function which
+//! owns several is dear to prove: so each is put together by a function of its own, and lists of them are borrowed.
+use crate::grammar::{Argument, Form, OPENING, SIDES, VERBS, Verb};
 use crate::help;
 use clap::{Arg, ArgAction, Command, value_parser};
 use std::alloc::{AllocError, Global};
 
-fn named<'a>(alloc: Global, word: &Word) -> Arg<'a> {
-    let arg = Arg::new(alloc, word.name).help(word.help);
-    match word.form {
+fn named<'a>(alloc: Global, argument: &Argument) -> Arg<'a> {
+    let arg = Arg::new(alloc, argument.name).help(argument.help);
+    match argument.form {
         Form::File => arg,
-        Form::Text | Form::Number | Form::Flag => arg.long(word.name),
+        Form::Text | Form::Number | Form::Flag => arg.long(argument.name),
     }
 }
 
-fn with_value<'a>(arg: Arg<'a>, word: &Word) -> Arg<'a> {
-    let arg = arg.value_name(word.value);
-    match word.default {
+fn with_value<'a>(arg: Arg<'a>, argument: &Argument) -> Arg<'a> {
+    let arg = arg.value_name(argument.value);
+    match argument.default {
         Some(value) => arg.default_value(value),
         None => arg.required(true),
     }
 }
 
-fn arg_of<'a>(alloc: Global, word: &Word) -> Arg<'a> {
-    let arg = named(alloc, word);
-    match word.form {
+fn arg_of<'a>(alloc: Global, argument: &Argument) -> Arg<'a> {
+    let arg = named(alloc, argument);
+    match argument.form {
         Form::Flag => arg.action(ArgAction::SetTrue),
-        Form::Number => with_value(arg, word).value_parser(value_parser!(u64)),
-        Form::Text | Form::File => with_value(arg, word),
+        Form::Number => with_value(arg, argument).value_parser(value_parser!(u64)),
+        Form::Text | Form::File => with_value(arg, argument),
     }
 }
 
-fn put<'a>(alloc: Global, args: &mut Vec<Arg<'a>>, words: &[Word]) -> Result<(), AllocError> {
-    for word in words {
-        args.push(arg_of(alloc, word))?;
+fn put<'a>(
+    alloc: Global,
+    args: &mut Vec<Arg<'a>>,
+    arguments: &[Argument],
+) -> Result<(), AllocError> {
+    for argument in arguments {
+        args.push(arg_of(alloc, argument))?;
     }
     Ok(())
 }

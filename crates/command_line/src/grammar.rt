@@ -10,17 +10,17 @@ pub(crate) struct Verb {
     /// Whether it opens a gateway, and so takes `OPENING`.
     pub(crate) opens: bool,
     /// What it takes behind that.
-    pub(crate) own: &'static [Word],
+    pub(crate) own: &'static [Argument],
 }
 
 /// An option of a command, or its file.
-pub(crate) struct Word {
+pub(crate) struct Argument {
     /// The option without its `--`, or the file.
     pub(crate) name: &'static str,
     pub(crate) form: Form,
     /// What stands for the value in help.
     pub(crate) value: &'static str,
-    /// The value where none is given, which otherwise has to be.
+    /// The value where none is given; without it one has to be given. A flag has none, and may be left out.
     pub(crate) default: Option<&'static str>,
     pub(crate) help: &'static str,
 }
@@ -39,29 +39,29 @@ pub(crate) enum Form {
 }
 
 /// What all commands take.
-pub(crate) const SIDES: &[Word] = &[
-    Word {
+pub(crate) const SIDES: &[Argument] = &[
+    Argument {
         name: "lan",
         form: Form::Text,
         value: "NAME",
         default: Some("lan"),
         help: "The inside interface",
     },
-    Word {
+    Argument {
         name: "wan",
         form: Form::Text,
         value: "NAME",
         default: Some("wan"),
         help: "The outside interface",
     },
-    Word {
+    Argument {
         name: "inside",
         form: Form::Text,
         value: "LIST",
         default: None,
         help: "The inside prefixes, as 192.168.0.0/16, joined by commas",
     },
-    Word {
+    Argument {
         name: "external",
         form: Form::Text,
         value: "ADDR",
@@ -71,15 +71,15 @@ pub(crate) const SIDES: &[Word] = &[
 ];
 
 /// What the commands take that open a gateway.
-pub(crate) const OPENING: &[Word] = &[
-    Word {
+pub(crate) const OPENING: &[Argument] = &[
+    Argument {
         name: "dir",
         form: Form::Text,
         value: "DIR",
         default: None,
         help: "The directory of natgw.a and natgw.b, which are made where they are missing",
     },
-    Word {
+    Argument {
         name: "at",
         form: Form::Number,
         value: "N",
@@ -96,14 +96,14 @@ pub(crate) const VERBS: &[Verb] = &[
         more: help::KINDS,
         opens: false,
         own: &[
-            Word {
+            Argument {
                 name: "explain",
                 form: Form::Flag,
                 value: "",
                 default: None,
                 help: "Shows on standard error the place of the fault, what stands there and what could",
             },
-            Word {
+            Argument {
                 name: "FILE",
                 form: Form::File,
                 value: "FILE",
@@ -125,14 +125,14 @@ pub(crate) const VERBS: &[Verb] = &[
         more: help::CLIENTS,
         opens: true,
         own: &[
-            Word {
+            Argument {
                 name: "socket",
                 form: Form::Text,
                 value: "P",
                 default: None,
                 help: "The path of the socket, where nothing is yet",
             },
-            Word {
+            Argument {
                 name: "connections",
                 form: Form::Number,
                 value: "N",
@@ -146,7 +146,7 @@ pub(crate) const VERBS: &[Verb] = &[
         about: help::LOOP,
         more: help::TRIED,
         opens: true,
-        own: &[Word {
+        own: &[Argument {
             name: "FILE",
             form: Form::File,
             value: "FILE",

@@ -12,8 +12,8 @@ use std::io::{Eprint, Print};
 pub enum Parsed<'a> {
     /// A command is to run.
     Run(Options<'a>),
-    /// There is none, and why is printed: help or the version was asked for, which is status 0, or the command line can't
-    /// be read, which is status 2.
+    /// There is none, and why is printed: help or the version was asked for, which is status 0, or the command line
+    /// can't be read, which is status 2.
     Stopped(u8),
 }
 
@@ -105,7 +105,7 @@ pub fn parse<'a, R: Print + Eprint>(
     match command_line(alloc)?.try_get_matches_from(words) {
         Ok(matches) => match run_of(&matches) {
             Some(options) => Ok(Parsed::Run(options)),
-            // A command line without a command is an error of clap's, so this doesn't come.
+            // Clap gives a command of the table, and `read_task` knows each of them, so this doesn't come.
             None => Err(Refusal::NoMemory),
         },
         Err(error) => stopped(rt, &error),

@@ -4,20 +4,20 @@
 //! - `faults`: the refusal for each fault of a gateway, of an opening and of a stream;
 //! - `opening`: a gateway over the files of a directory, or what is the matter with them;
 //! - `showing`: the lines of a gateway's sessions;
-//! - `answering`: streams of requests, and what the end of one means;
+//! - `streams`: streams of requests, and what the end of one means;
 //! - `sockets`: the clients of a Unix socket, one after the other;
 //! - `running`: the commands, put together of all this.
 #![tactic(auto)]
 
-mod answering;
 mod faults;
 mod opening;
 mod running;
 mod showing;
 mod sockets;
+mod streams;
 
-pub use answering::{replay, settle};
 pub use opening::open;
 pub use running::run;
 pub use showing::show;
 pub use sockets::{bind, loop_back, serve_clients};
+pub use streams::{replay, settle};

@@ -3,7 +3,7 @@ ghost use Rattle.std.specs.Prelude.{◌≡◌, [], false, IsErr, IsOk, IfErr, On
 ghost use Rattle.refusals.specs.Words.{IsOfPath};
 ghost use Rattle.commands.specs.Faults.{IsOfServing};
 
-use crate::answering::{answer_all, settle};
+use crate::streams::{answer_all, settle};
 use disk_model::Disk;
 use gateway::Gateway;
 use refusals::{Refusal, Stop};

@@ -19,7 +19,8 @@ use Rattle.machine.specs.declared.event.Answer.{Answer}
 use Rattle.machine.specs.declared.event.Event.{Event}
 use Rattle.entries.proofs.Whole.{step-entered}
 use Rattle.entries.proofs.Needed.{empty-needs, needs-empty, some-entries}
-use Rattle.gateway.specs.Told.{Took, handed, number_of}
+use Rattle.gateway.specs.Given.{handed, number_of}
+use Rattle.gateway.specs.Told.{Took}
 use Rattle.gateway.specs.declared.given.Given.{Given}
 use Rattle.gateway.specs.Kept.{IsRoomy, IsStanding}
 

@@ -17,13 +17,13 @@ use Rattle.machine.specs.Sound.{IsSound}
 use Rattle.machine.specs.declared.event.Answer.{Answer}
 use Rattle.machine.specs.declared.event.Event.{Event}
 use Rattle.machine.proofs.Judging.{AreJudged-append, AreJudged-length, AreJudged-one}
-use Rattle.gateway.specs.Told.{Told, Took, TookAll, TookFirst, handed}
+use Rattle.gateway.specs.Told.{Told, Took, TookAll, TookFirst}
 use Rattle.gateway.specs.declared.given.Given.{Given}
 use Rattle.gateway.specs.declared.given.Given.TheVariants.{Now, Held}
 use Rattle.gateway.specs.declared.fault.GatewayFault.{GatewayFault}
 use Rattle.gateway.specs.declared.fault.GatewayFault.TheVariants as fault
 use Rattle.gateway.proofs.Taking.{length-answers, took_more, took_none}
-use Rattle.gateway.specs.Given.{IsNow}
+use Rattle.gateway.specs.Given.{IsNow, handed}
 use Rattle.gateway.specs.Kept.{Kept, IsReady, IsSafe}
 use Rattle.gateway.specs.Running.{Ran, Stands, Ends, IsWhy, Stops, StopsWithin, CarriesOn, BreaksOff, standing}
 use Rattle.gateway.specs.Standing.{Standing, Offers, StandsFor}

@@ -7,7 +7,8 @@ use Rattle.machine.specs.declared.event.Answer.{Answer}
 use Rattle.gateway.specs.declared.given.Given.{Given}
 use Rattle.machine.specs.Judged.{Judged, IsJudged}
 use Rattle.machine.specs.Machine.{State, step, after, answers, numbered}
-use Rattle.gateway.specs.Told.{Told, Took, TookAll, handed}
+use Rattle.gateway.specs.Given.{handed}
+use Rattle.gateway.specs.Told.{Told, Took, TookAll}
 use Rattle.machine.proofs.Judging.{AreJudged-append, AreJudged-length, AreJudged-one}
 
 pub after-append : (config : Config) (s : State) (es fs : List Judged) → after config s (es ++ fs) ≡ after config (after config s es) fs

@@ -1,11 +1,22 @@
--- What becomes of an event: whether it is answered at once, and what a packet that is taken where it lies is answered.
-use Rattle.std.specs.Prelude.{ℕ, List}
+-- What becomes of an event: its number, whether it is answered at once, and what a packet that is taken where it lies is
+-- answered.
+use Rattle.std.specs.Prelude.{ℕ, List, [], ◌∷◌}
 use Rattle.machine.specs.Fates.{answer_of}
 use Rattle.machine.specs.declared.event.Answer.{Answer}
 use Rattle.gateway.specs.declared.given.Given.{Given}
 use Rattle.gateway.specs.declared.given.Given.TheVariants as given
 use Rattle.gateway.specs.declared.given.Passed.{Passed}
 use Rattle.gateway.specs.declared.given.Passed.TheVariants as passed
+
+-- the numbered answers that a call handed out
+abbrev pub handed : Given → List (ℕ × Answer)
+handed (given.Now number answer) = (number, answer) ∷ []
+handed (given.Held number) = []
+
+-- the number that a call gave
+abbrev pub number_of : Given → ℕ
+number_of (given.Now number answer) = number
+number_of (given.Held number) = number
 
 -- the event was answered at once
 abbrev pub IsNow : Given → Type 0

@@ -1,7 +1,7 @@
--- What an event that is taken does, and many in turn.
-pub mod Told
 -- What becomes of an event.
 pub mod Given
+-- What an event that is taken does, and many in turn.
+pub mod Told
 -- The answers that are held, and the entries of their events.
 pub mod HeldAnswers
 -- What contracts see of a gateway.

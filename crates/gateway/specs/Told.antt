@@ -5,7 +5,7 @@ use Rattle.machine.specs.Judged.{Judged, IsJudged, AreJudged}
 use Rattle.machine.specs.declared.event.Event.{Event}
 use Rattle.machine.specs.declared.event.Answer.{Answer}
 use Rattle.gateway.specs.declared.given.Given.{Given}
-use Rattle.gateway.specs.declared.given.Given.TheVariants.{Now, Held}
+use Rattle.gateway.specs.Given.{handed, number_of}
 use Rattle.machine.specs.Machine.{State, step, after, answers, numbered}
 
 -- the state at a configuration, the last number, and the answers that wait
@@ -14,16 +14,6 @@ pub record Told : Type 0 where
   pub state : State
   pub last : ℕ
   pub held : List (ℕ × Answer)
-
--- the numbered answers that a call handed out
-abbrev pub handed : Given → List (ℕ × Answer)
-handed (Now number answer) = (number, answer) ∷ []
-handed (Held number) = []
-
--- the number that a call gave
-abbrev pub number_of : Given → ℕ
-number_of (Now number answer) = number
-number_of (Held number) = number
 
 -- the event was taken, as it is judged: what was handed out and what is held are the former held, and the new answer
 pub record Took (old new : Told) (event : Event) (given : Given) : Type 0 where

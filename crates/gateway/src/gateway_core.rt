@@ -25,8 +25,8 @@ ghost use Rattle.machine.specs.Sound.{IsSound};
 ghost use Rattle.machine.specs.declared.event.Answer.TheVariants.{Forward};
 ghost use Rattle.machine.specs.declared.event.What.TheVariants.{Packet};
 ghost use Rattle.sessions.specs.Stilled.{stilled};
-ghost use Rattle.gateway.specs.Given.{IsNow, answered, given_by};
-ghost use Rattle.gateway.specs.Told.{Took, TookAll, TookFirst, handed};
+ghost use Rattle.gateway.specs.Given.{IsNow, answered, given_by, handed};
+ghost use Rattle.gateway.specs.Told.{Took, TookAll, TookFirst};
 ghost use Rattle.gateway.specs.declared.given.Given.TheVariants.{Now};
 ghost use Rattle.gateway.specs.Kept.{HasPlaces, IsReady, IsRoomy, IsSafe, IsTooMuch};
 ghost use Rattle.gateway.specs.Running.{StopsWithin};
@@ -182,10 +182,10 @@ impl<D: Disk + Drop> Gateway<D> {
     }
 
     /// The text that loaded last; before any has, the empty one.
-    pub fn rules(&self) -> &[u8]
+    pub fn text(&self) -> &[u8]
         ensures { result.now ≡ self.now.told.state.text }
     {
-        self.core.rules()
+        self.core.text()
     }
 
     /// The sessions after the last event that was taken, in the order of protocol number, inside and remote endpoint.
@@ -651,7 +651,7 @@ impl<D: Disk + Drop> Gateway<D> {
         };
         match self
             .store
-            .compact(self.alloc, self.core.rules(), sessions.as_slice())
+            .compact(self.alloc, self.core.text(), sessions.as_slice())
         {
             Ok(()) => {
                 let _ = self.pending.release(self.store.end());

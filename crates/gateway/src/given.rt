@@ -1,8 +1,7 @@
 //! What became of an event that was taken: its answer is handed out at once, or held (`give`, `give_copy`).
 ghost use Rattle.std.specs.Prelude.{◌≡◌, ◌↔◌, ◌<◌, ◌≤◌, ◌++◌, ◌∷◌, [], length};
 ghost use Rattle.machine.specs.Fates.{answer_of};
-ghost use Rattle.gateway.specs.Given.{IsNow, answered, given_by};
-ghost use Rattle.gateway.specs.Told.{handed, number_of};
+ghost use Rattle.gateway.specs.Given.{IsNow, answered, given_by, handed, number_of};
 
 use crate::pending::Pending;
 use machine::{Answer, Fate};

@@ -15,9 +15,8 @@ ghost use Rattle.std.specs.Prelude.{IfErr, IfNone, IfSome, IsTrue, OnErr, OnOk, 
 ghost use Rattle.machine.specs.declared.event.Answer.{Answer as Answered};
 ghost use Rattle.machine.specs.declared.event.Answer.TheVariants.{Forward};
 ghost use Rattle.machine.specs.declared.event.What.TheVariants.{Packet};
-ghost use Rattle.gateway.specs.Told.{handed};
 ghost use Rattle.gateway.specs.Kept.{IsRoomy};
-ghost use Rattle.gateway.specs.Given.{IsNow, answered, given_by};
+ghost use Rattle.gateway.specs.Given.{IsNow, answered, given_by, handed};
 ghost use Rattle.gateway.specs.Running.{BreaksOff, CarriesOn, Ends, Stands, StopsWithin};
 
 use crate::gateway_core::Gateway;

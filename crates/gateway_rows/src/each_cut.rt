@@ -174,7 +174,7 @@ fn is_flushed(gateway: &mut Trials) -> bool {
 fn keeps_to(alloc: Global, gateway: &mut Trials, at: &[u8], past: &[u8]) -> bool {
     is_loaded(alloc, gateway, at) == Some(true)
         && is_loaded(alloc, gateway, past) == Some(false)
-        && gateway.rules() == at
+        && gateway.text() == at
 }
 
 fn look(rt: &impl Abort, alloc: Global, at: &str, past: &str) -> Result<(), Fail> {

@@ -33,11 +33,11 @@ fn lasting_of(alloc: Global, text: &[u8], mut sessions: Vec<Session>) -> Option<
 impl Lasting {
     /// Those of a gateway.
     pub fn of_gateway(alloc: Global, gateway: &Trials) -> Option<Lasting> {
-        lasting_of(alloc, gateway.rules(), gateway.sessions().ok()?)
+        lasting_of(alloc, gateway.text(), gateway.sessions().ok()?)
     }
 
     fn of_core(alloc: Global, core: &Core) -> Option<Lasting> {
-        lasting_of(alloc, core.rules(), core.sessions().ok()?)
+        lasting_of(alloc, core.text(), core.sessions().ok()?)
     }
 
     /// Whether both are the same.

@@ -168,7 +168,7 @@ fn ask_compact(out: &mut String, gateway: &mut Trials) -> Result<(), AllocError>
 }
 
 fn ask_rules(out: &mut String, gateway: &Trials) -> Result<(), AllocError> {
-    put_line(out, std::str::from_utf8(gateway.rules()).unwrap_or("?"))
+    put_line(out, std::str::from_utf8(gateway.text()).unwrap_or("?"))
 }
 
 fn ask_sessions(alloc: Global, out: &mut String, gateway: &Trials) -> Result<(), AllocError> {

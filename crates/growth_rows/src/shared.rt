@@ -176,7 +176,7 @@ fn see_once(gateway: &Trials) -> Option<Seen> {
     Some(Seen {
         held: gateway.held(),
         grown: gateway.grown(),
-        rules: gateway.rules().len(),
+        rules: gateway.text().len(),
         sessions: gateway.sessions().ok()?,
     })
 }

@@ -24,9 +24,10 @@ ghost use Rattle.machine.specs.declared.event.Answer.TheVariants.{Forward};
 ghost use Rattle.machine.specs.declared.event.Fate.TheVariants.{Dropped};
 
 use crate::event::Fate;
+use crate::fault::StepFault;
 use crate::flows::Flows;
 use crate::in_force::InForce;
-use crate::notes::{Notes, StepFault};
+use crate::notes::Notes;
 use hairpin::{
     Cause, Going, Plan, both, comes_in, comes_in_showing, goes_out, goes_out_showing, in_leg,
     out_leg,

@@ -30,10 +30,11 @@ use crate::ahead::is_wide;
 use crate::answering::{answer_packet, forward_in_place};
 use crate::bytes::Bytes;
 use crate::deed::{Deed, judge};
-use crate::event::{Answer, Event, Fate, NoMemory, What};
+use crate::event::{Answer, Event, Fate, What};
+use crate::fault::{NoMemory, StepFault};
 use crate::flows::Flows;
 use crate::in_force::{InForce, in_force_again, note_load, put_in_force};
-use crate::notes::{MOST_OF_PACKET, Notes, StepFault, Unkept};
+use crate::notes::{MOST_OF_PACKET, Notes, Unkept};
 use packet::bounds::Bounds;
 use packet::endpoint::Iface;
 use sessions::{Coming, MOST_AHEAD, Session};
@@ -147,7 +148,7 @@ fn answer_deed<N: Notes>(
     }
 }
 
-// What is done, once the sessions that are no longer alive have ended.
+// Ends the sessions that are no longer alive, and then does what the event says.
 fn age_and_answer<N: Notes>(
     flows: &mut Flows,
     in_force: &mut InForce,
@@ -202,9 +203,9 @@ fn age_and_answer<N: Notes>(
     }
 }
 
-// What a packet comes to, where it lies, once the sessions that are no longer alive have ended. `None` says that memory
-// or room for entries was refused, and nothing has changed: where a session has ended, there is room for the packet
-// too.
+// Ends the sessions that are no longer alive, and then says what a packet comes to, where it lies. `None` says that
+// memory or room for entries was refused, and nothing has changed: where a session has ended, there is room for the
+// packet too.
 #[inline(always)]
 fn age_and_pass<N: Notes>(
     flows: &mut Flows,
@@ -304,7 +305,7 @@ impl Core {
     }
 
     /// The text that loaded last; before any has, the empty one.
-    pub fn rules(&self) -> &[u8]
+    pub fn text(&self) -> &[u8]
         ensures { result.now ≡ self.now.state.text }
     {
         self.in_force.text.as_slice()

@@ -4,7 +4,8 @@ ghost use Rattle.machine.specs.Sizes.{most_bytes as most_in};
 ghost use Rattle.machine.specs.Judged.{AreRulesOf, IsNoLoad, IsRight, bringer};
 
 use crate::bytes::Bytes;
-use crate::event::{NoMemory, What};
+use crate::event::What;
+use crate::fault::NoMemory;
 use crate::notes::MOST_OF_PACKET;
 use durable::LOAD_FRONT_LEN;
 use packet::bounds::Bounds;

@@ -1,7 +1,6 @@
 //! What comes in and what goes out: events, and their answers.
 use crate::bytes::Bytes;
 use packet::endpoint::Iface;
-use thiserror::Error;
 
 /// What an event brings.
 #[derive(Drop)]
@@ -46,8 +45,3 @@ pub enum Fate {
     /// It is dropped; the number is that of a `Cause`, 1 to 20.
     Dropped(u8),
 }
-
-/// Memory was refused; nothing has changed.
-#[derive(Clone, Copy, Debug, PartialEq, Eq, Drop, Error)]
-#[error("no memory")]
-pub struct NoMemory;

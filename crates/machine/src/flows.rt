@@ -30,7 +30,8 @@ ghost use Rattle.machine.specs.Sizes.{bytes_of};
 ghost use Rattle.machine.specs.Flows.{IsDue, IsLatest, IsReady, MayJoin, adds as adds_by, adds_second};
 
 use crate::ahead::{count_ending, count_mapped};
-use crate::notes::{MOST_OF_PACKET, Notes, StepFault};
+use crate::fault::StepFault;
+use crate::notes::{MOST_OF_PACKET, Notes};
 use crate::noting::{
     adds_any, entry_for, flow_of, make_room_for_packet, makes_entry, note, plan_makes_entry,
 };

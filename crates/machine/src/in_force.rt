@@ -6,8 +6,8 @@ ghost use Rattle.machine.specs.Sound.{IsInForce};
 
 use crate::bytes::Bytes;
 use crate::deed::rules_of;
-use crate::event::NoMemory;
-use crate::notes::{Notes, StepFault};
+use crate::fault::{NoMemory, StepFault};
+use crate::notes::Notes;
 use durable::{Entry, LOAD_FRONT_LEN};
 use packet::bounds::Bounds;
 use sqlite_items::Boxed;

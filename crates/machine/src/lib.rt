@@ -4,6 +4,7 @@
 //! what a step is, on plain lists; `Core::step` and `step_noted`, by which a gateway takes it, are proved to be it.
 //!
 //! - `event`, `bytes`: what comes in, and what it is answered.
+//! - `fault`: why an event isn't stepped.
 //! - `flows`: the sessions with their timers and mappings, which change together. What a packet changes is
 //!   the plan of its leg (crate `hairpin`).
 //! - `ahead`: among many sessions, a look at what packets and ends of sessions are going to read.
@@ -26,6 +27,7 @@ mod bytes;
 mod core_state;
 mod deed;
 mod event;
+mod fault;
 mod flows;
 mod in_force;
 pub mod laws;
@@ -34,8 +36,9 @@ mod noting;
 
 pub use bytes::Bytes;
 pub use core_state::Core;
-pub use event::{Answer, Event, Fate, NoMemory, What};
+pub use event::{Answer, Event, Fate, What};
+pub use fault::{NoMemory, StepFault};
 pub use hairpin::Cause;
-pub use notes::{Notes, StepFault, Unkept};
+pub use notes::{Notes, Unkept};
 pub use packet::endpoint::Iface;
 pub use sessions::{Coming, MOST_AHEAD, Session};

@@ -3,21 +3,10 @@ ghost use Rattle.std.specs.Prelude.{◌≡◌, ◌↔◌, ◌+◌, ◌*◌, ◌�
 ghost use Rattle.durable.specs.Coding.{Entry as Recorded, IsEntry, entry_bytes};
 ghost use Rattle.durable.specs.Viewing.{view};
 ghost use Rattle.machine.specs.Besides.{Besides};
-ghost use Rattle.machine.specs.declared.notes.StepFault.{StepFault};
+ghost use Rattle.machine.specs.declared.fault.StepFault.{StepFault};
 
+use crate::fault::StepFault;
 use durable::Entry;
-use thiserror::Error;
-
-/// Why an event can't be stepped.
-#[derive(Clone, Copy, Debug, PartialEq, Eq, Drop, Error)]
-pub enum StepFault {
-    /// There is no room where the event's entries would stand.
-    #[error("no room for the entries of the event")]
-    Full,
-    /// Memory was refused.
-    #[error("no memory")]
-    NoMemory,
-}
 
 /// How many bytes the entries of a packet have at most: a hairpin may begin two sessions, of 22 bytes each.
 pub(crate) const MOST_OF_PACKET: u64 = 44;

@@ -18,7 +18,8 @@ ghost use Rattle.sessions.specs.declared.session.Session.{Session as Flowing};
 ghost use Rattle.sessions.specs.Stilled.{stilled as without_moment};
 ghost use Rattle.sessions.specs.Table.{restarted, seen as seen_with};
 
-use crate::notes::{MOST_OF_PACKET, Notes, StepFault};
+use crate::fault::StepFault;
+use crate::notes::{MOST_OF_PACKET, Notes};
 use durable::{Entry, Flow, endpoint_fits};
 use hairpin::Plan;
 use sessions::{Change, Opener, Session, Table};

@@ -12,7 +12,7 @@ use Rattle.gateway.specs.Told.{Told, TookAll}
 use Rattle.machine.proofs.Judging.{AreJudged-append, AreJudged-length}
 use Rattle.gateway.proofs.Taking.{after-append, answers-append, length-answers, numbered-append}
 use Rattle.frames.specs.Answering.{frame}
-use Rattle.socket_edge.specs.Answering.{replies, answers_due, AreFirst, Reached, Progress, AnsweredFirst, BeginsFrames}
+use Rattle.socket_edge.specs.Progress.{replies, answers_due, AreFirst, Reached, Progress, AnsweredFirst, BeginsFrames}
 
 -- the answers to the first events, and then those to the others
 pub replies-append : (old middle : Told) (es fs : List Judged) → middle.config ≡ old.config → middle.state ≡ after old.config old.state es → middle.last ≡ old.last + length es

@@ -20,7 +20,7 @@ use Rattle.gateway.specs.Standing.{Standing, StandsFor}
 use Rattle.gateway.specs.Told.{Told, TookAll}
 use Rattle.gateway.proofs.Runs.{counted, safe-either, safe-less}
 use Rattle.gateway.proofs.Taking.{after-append}
-use Rattle.socket_edge.specs.Answering.{answers_due, replies}
+use Rattle.socket_edge.specs.Progress.{answers_due, replies}
 use Rattle.socket_edge.proofs.Answers.{answers_due-append, replies-append}
 use Rattle.socket_edge.proofs.Lasting.{configured-then, replies-length, safe-behind, safe-fewer}
 

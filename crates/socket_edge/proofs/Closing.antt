@@ -20,7 +20,7 @@ use Rattle.socket_edge.specs.declared.serving.Halt.TheVariants as halt
 use Rattle.frames.specs.Requests.{Cut, Bad, next}
 use Rattle.frames.specs.Framing.{Framed, Rest, Fault, behind, whole_frames}
 use Rattle.frames.specs.Answering.{frame}
-use Rattle.socket_edge.specs.Answering.{Progress, AnsweredFirst}
+use Rattle.socket_edge.specs.Progress.{Progress, AnsweredFirst}
 use Rattle.socket_edge.specs.Running.{Answered, Fares, events_in}
 use Rattle.socket_edge.specs.Serving.{Closed, IsBad, IsRefused, Offered, Reads, Served, SettledAndSent, end_of}
 use Rattle.frames.proofs.Frames.{framed_cut, framed_bad}

@@ -20,7 +20,7 @@ use Rattle.gateway.specs.Told.{Told, TookAll}
 use Rattle.gateway.proofs.Runs.{safe-less}
 use Rattle.gateway.proofs.Taking.{after-append, length-answers}
 use Rattle.frames.specs.Answering.{frame}
-use Rattle.socket_edge.specs.Answering.{replies, answers_due, Progress}
+use Rattle.socket_edge.specs.Progress.{replies, answers_due, Progress}
 use Rattle.socket_edge.specs.Running.{Fares}
 use Rattle.socket_edge.proofs.Answers.{Reached-by, Reached-then, all_sent, last_of, reached-told, replies-append}
 

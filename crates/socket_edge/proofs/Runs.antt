@@ -18,7 +18,7 @@ use Rattle.socket_edge.specs.declared.fault.EdgeFault.TheVariants.{BadKind, BadI
 use Rattle.frames.specs.Requests.{Cut, next}
 use Rattle.frames.specs.Framing.{Framed, Remainder, Rest, behind, whole_frames}
 use Rattle.frames.specs.Answering.{frame}
-use Rattle.socket_edge.specs.Answering.{answers_due, AreFirst, Progress, AnsweredFirst, BeginsFrames}
+use Rattle.socket_edge.specs.Progress.{answers_due, AreFirst, Progress, AnsweredFirst, BeginsFrames}
 use Rattle.socket_edge.specs.Running.{Answered, Ends, Done, Explains, Fares, events_in}
 use Rattle.socket_edge.specs.Serving.{Reads, Served}
 use Rattle.frames.proofs.Frames.{next_nil}

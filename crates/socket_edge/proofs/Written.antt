@@ -10,7 +10,7 @@ use Rattle.frames.specs.Answering.{frame}
 use Rattle.frames.proofs.Parts.{frames_step}
 use Rattle.socket_edge.specs.declared.fault.EdgeFault.{EdgeFault}
 use Rattle.socket_edge.specs.declared.fault.EdgeFault.TheVariants.{Output}
-use Rattle.socket_edge.specs.Answering.{AppendsFront}
+use Rattle.socket_edge.specs.Progress.{AppendsFront}
 use Rattle.socket_edge.proofs.Streams.{Appends-then}
 
 -- the first n bytes, and then a write that appends nothing

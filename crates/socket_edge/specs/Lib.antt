@@ -1,4 +1,4 @@
-pub mod Answering
 pub mod Exchange
+pub mod Progress
 pub mod Running
 pub mod Serving

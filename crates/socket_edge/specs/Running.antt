@@ -12,7 +12,7 @@ use Rattle.gateway.specs.Kept.{Kept, IsReady, IsSafe}
 use Rattle.gateway.specs.Running.{IsWhy}
 use Rattle.socket_edge.specs.declared.fault.EdgeFault.{EdgeFault}
 use Rattle.socket_edge.specs.declared.fault.EdgeFault.TheVariants.{BadKind, BadInterface, TooLong, Truncated, Input, Output, Gateway}
-use Rattle.socket_edge.specs.Answering.{replies, Progress, Reached, AnsweredFirst, BeginsFrames}
+use Rattle.socket_edge.specs.Progress.{replies, Progress, Reached, AnsweredFirst, BeginsFrames}
 
 -- The events of the bytes were taken. Where nothing was held before, all of them are answered by the bytes sent, and nothing is held.
 pub record Answered (old new : Told) (bytes sent : List ℕ) : Type 0 where

@@ -21,7 +21,7 @@ use Rattle.socket_edge.specs.declared.serving.Step.{Step}
 use Rattle.socket_edge.specs.declared.serving.Step.TheVariants as step
 use Rattle.socket_edge.specs.declared.edge.Turn.{Turn}
 use Rattle.socket_edge.specs.declared.edge.Turn.TheVariants as turn
-use Rattle.socket_edge.specs.Answering.{Progress}
+use Rattle.socket_edge.specs.Progress.{Progress}
 use Rattle.socket_edge.specs.Running.{Done, Ends, Fares, Explains, events_in}
 
 -- the stream so far is these events, and then these bytes

@@ -164,13 +164,7 @@ fn sum(count: u64, more: u64) -> u64
 /// one read of at most 65,536 bytes makes whole is offered, its changes are synced, and its answers are written before
 /// the next read. Where the groups of the active file have grown above 1,048,576 bytes then, the gateway is compacted.
 ///
-/// A request frame has 14 bytes and a body: kind (1 byte: 1 packet, 2 load, 3 moment), interface
-/// (1 byte: 0 lan, 1 wan; 0 for loads and moments), length of the body (4 bytes; at most 65,535
-/// for a packet, 262,144 for a load, 0 for a moment) and moment (8 bytes, in seconds). An answer
-/// frame has 13 bytes and a body: kind (1 byte: 1 forward, 2 dropped, 3 loaded, 4 refused,
-/// 5 ticked), number of the event (8 bytes) and length of the body (4 bytes). The body of a forward
-/// is the interface (1 byte) and the packet, that of a drop its number (1 byte). Numbers stand
-/// with the highest byte first.
+/// The frames of requests and answers are those of crate `frames` (docs/frames.md).
 ///
 /// # Errors
 ///

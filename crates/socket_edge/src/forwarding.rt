@@ -118,17 +118,3 @@ pub fn pass_frame<D: Disk + Drop>(
         }
     }
 }
-
-/// Moves bytes towards the front, to a place that is there already or before them.
-pub fn move_down(bytes: &mut [u8], from: usize, len: usize, to: usize)
-    requires within { from + len ≤ length bytes.old }
-    requires down { to ≤ from }
-    ensures there { take (to + len) bytes.new ≡ take to bytes.old
-        ++ take len (drop from bytes.old) }
-    ensures behind { drop (from + len) bytes.new ≡ drop (from + len) bytes.old }
-    ensures size { length bytes.new ≡ length bytes.old }
-{
-    if to < from {
-        bytes.copy_within(from..from + len, to);
-    }
-}

@@ -3,7 +3,7 @@
 ghost use Rattle.std.specs.Prelude.{◌≡◌, ◌++◌, OnOk, IfErr};
 ghost use Rattle.std.specs.Io.KnownBytes.{Appends};
 ghost use Rattle.frames.specs.Answering.{answer_body, frame_head, frame, frames};
-ghost use Rattle.socket_edge.specs.Answering.{AppendsFront};
+ghost use Rattle.socket_edge.specs.Progress.{AppendsFront};
 
 use crate::fault::EdgeFault;
 use frames::answer::{byte_of, head_bytes, put_frames};

@@ -17,7 +17,7 @@ ghost use Rattle.frames.specs.Answering.{frame, frames};
 ghost use Rattle.frames.specs.Requests.{next, Whole};
 ghost use Rattle.socket_edge.specs.Serving.{Passes};
 
-use crate::forwarding::{Placed, forward_frame, move_down, pass_frame};
+use crate::forwarding::{Placed, forward_frame, pass_frame};
 use disk_model::Disk;
 use frames::answer::fill_frames;
 use frames::request::{Head, Kind, LONGEST_PACKET, REQUEST_HEAD, announces_packet, read_head};
@@ -277,6 +277,20 @@ impl Waiting {
             self.end -= self.start;
             self.start = 0;
         }
+    }
+}
+
+/// Moves bytes towards the front, to a place that is there already or before them.
+fn move_down(bytes: &mut [u8], from: usize, len: usize, to: usize)
+    requires within { from + len ≤ length bytes.old }
+    requires down { to ≤ from }
+    ensures there { take (to + len) bytes.new ≡ take to bytes.old
+        ++ take len (drop from bytes.old) }
+    ensures behind { drop (from + len) bytes.new ≡ drop (from + len) bytes.old }
+    ensures size { length bytes.new ≡ length bytes.old }
+{
+    if to < from {
+        bytes.copy_within(from..from + len, to);
     }
 }
 

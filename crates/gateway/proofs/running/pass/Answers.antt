@@ -4,9 +4,9 @@ use Rattle.machine.specs.Noted.{HasEntry}
 use Rattle.machine.specs.declared.event.Answer.{Answer}
 use Rattle.machine.specs.declared.event.Event.{Event}
 use Rattle.machine.specs.declared.event.What.TheVariants.{Packet}
-use Rattle.gateway.specs.Given.{IsNow, given_by}
+use Rattle.gateway.specs.Given.{IsNow, given_by, handed}
 use Rattle.gateway.specs.Running.{CarriesOn}
-use Rattle.gateway.specs.Told.{Took, handed}
+use Rattle.gateway.specs.Told.{Took}
 use Rattle.gateway.specs.declared.given.Passed.{Passed}
 use Rattle.gateway.proofs.Runs.{offered}
 use Rattle.gateway.proofs.running.pass.Goals as goal

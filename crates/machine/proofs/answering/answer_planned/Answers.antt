@@ -2,8 +2,8 @@ use Rattle.std.proofs.Common.{◌≡◌, Result, Err, IfErr, sym, ap, subst, ◌
 use Rattle.std.proofs.lemmas.Bool.{false≢true}
 use Rattle.std.proofs.lemmas.Result.{err_from_is_err_and}
 use Rattle.machine.specs.declared.event.Fate.{Fate}
-use Rattle.machine.specs.declared.notes.StepFault.{StepFault}
-use Rattle.machine.specs.declared.notes.StepFault.TheVariants.{NoMemory}
+use Rattle.machine.specs.declared.fault.StepFault.{StepFault}
+use Rattle.machine.specs.declared.fault.StepFault.TheVariants.{NoMemory}
 use Rattle.machine.proofs.Steps.{plans-few}
 use Rattle.machine.proofs.answering.answer_planned.Goals as goal
 

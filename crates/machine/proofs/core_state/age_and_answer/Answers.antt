@@ -9,7 +9,7 @@ use Rattle.machine.specs.Core.{state_of}
 use Rattle.machine.specs.Machine.{act}
 use Rattle.machine.specs.Noted.{ends, of_deed}
 use Rattle.machine.specs.Sizes.{most_bytes}
-use Rattle.machine.specs.declared.notes.StepFault.TheVariants.{Full, NoMemory}
+use Rattle.machine.specs.declared.fault.StepFault.TheVariants.{Full, NoMemory}
 use Rattle.machine.proofs.Stepping.{if_err_of_ok, if_err_unready, none-ended}
 use Rattle.machine.proofs.Expiry.{latest_expired, none_due}
 use Rattle.machine.proofs.Steps.{live-sound}

@@ -7,7 +7,7 @@ use Rattle.machine.specs.Noted.{AreOver}
 use Rattle.machine.specs.Sizes.{most_bytes}
 use Rattle.machine.specs.Sound.{IsSound}
 use Rattle.machine.specs.declared.event.Answer.{Answer}
-use Rattle.machine.specs.declared.notes.StepFault.TheVariants.{NoMemory}
+use Rattle.machine.specs.declared.fault.StepFault.TheVariants.{NoMemory}
 use Rattle.machine.proofs.Judging.{same_unread}
 use Rattle.machine.proofs.Lasting.{step-alive}
 use Rattle.machine.proofs.Stepping.{entries-of, quiet-deed, quiet-ends}
