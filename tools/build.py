@@ -33,8 +33,8 @@ MEMORY = 4_000_000_000
 MOST = 4
 # So many steps of nice a crate stands behind each one that has a longer chain above it.
 STEP = 2
-# The processor seconds of each proof by one job, of which only the proportions count. `.ci/run tools/gate-costs` tells what
-# they are elsewhere.
+# The processor seconds of each proof by one job, some of them reckoned from those of former crates. Only the proportions
+# count. `.ci/run tools/gate-costs` tells what they are elsewhere.
 SECONDS = {
     "buckets": 72, "checking": 33, "command_line": 60, "commands": 70, "diagnosis": 61, "digraph": 32, "disk_model": 22,
     "durable": 120, "entries": 7, "file_disk": 44, "frames": 60, "gateway": 163, "hairpin": 54, "journal": 45,
