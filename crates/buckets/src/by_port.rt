@@ -20,8 +20,8 @@ const PLACES: usize = 131_072;
 const SPARE: usize = 4_096;
 
 /// Entries, each key at most once, in no order. A key's place is said by its lowest 16 bits, the port of an endpoint,
-/// and by bit 48, in which the numbers of TCP and UDP differ. An entry that finds no free place there, or whose value is
-/// too great for one, lies in `Buckets`, and stays: so nothing rests on how keys differ but time.
+/// and by bit 48, in which the numbers of TCP and UDP differ. An entry that finds no free place there, or whose value
+/// is too great for one, lies in `Buckets`, and stays: so nothing rests on how keys differ but time.
 ///
 /// A place takes 12 bytes, and memory for 131,072 of them is asked for once, by the first `reserve` or `reserve_one`
 /// that is granted. An insertion whose place isn't made yet makes it there, those below it, and a few above: so memory
@@ -73,8 +73,8 @@ impl ByPort {
         find(&self.places, &self.others, self.has_others, key)
     }
 
-    /// Whether a look at its place tells that an entry has the key. That none does says nothing: whoever asks of several
-    /// keys in turn waits once for the memory that their look-ups are going to read.
+    /// Whether a look at its place tells that an entry has the key. That none does says nothing: whoever asks of
+    /// several keys in turn waits once for the memory that their look-ups are going to read.
     pub fn seems_held(&self, key: u64) -> bool {
         match self.places.get(place_of(key)) {
             Some(place) => place.has(key),

@@ -1,5 +1,5 @@
-//! Two exact maps from keys of 64 bits to slots, in no order, for great tables: `ByPort`, in which a key has one place, and
-//! which has a page of its own, and `Buckets`, of which this page tells.
+//! Two exact maps from keys of 64 bits to slots, in no order, for great tables: `ByPort`, in which a key has one place,
+//! and which has a page of its own, and `Buckets`, of which this page tells.
 //!
 //! A key is spread over a vector of places, of which eight that lie side by side are a bucket: a look-up reads the
 //! places of one bucket, 96 bytes. An entry whose bucket is full, or whose value is too great for a place, lies

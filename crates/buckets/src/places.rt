@@ -173,8 +173,8 @@ fn free_between(places: &[Place], start: usize, end: usize) -> Option<usize>
     None
 }
 
-/// Whether one of two places of its bucket has the key: the first one, and one behind it that lies in the next line of a
-/// cache. Both are read in any case, so that nothing is awaited before the places of another key are asked for.
+/// Whether one of two places of its bucket has the key: the first one, and one behind it that lies in the next line of
+/// a cache. Both are read in any case, so that nothing is awaited before the places of another key are asked for.
 pub fn seems_held(places: &[Place], key: u64) -> bool {
     let start = bucket_of(places.len(), key);
     has_at(places, start, key) | has_at(places, start + NEXT_LINE, key)
@@ -572,7 +572,8 @@ fn lift(places: &mut [Place], overflow: &mut Overflow, key: u64) -> bool
     lift_to(places, overflow, free, key)
 }
 
-// Moves the entry of the key from the overflow into this place, the first free one of its bucket. Whether there was one, and its value small enough.
+// Moves the entry of the key from the overflow into this place, the first free one of its bucket. Whether there was
+// one, and its value small enough.
 fn lift_to(places: &mut [Place], overflow: &mut Overflow, place: usize, key: u64) -> bool
     requires sound { AreSound places.old overflow.old.held }
     requires free { IsNextFor places.old key place }

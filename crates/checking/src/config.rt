@@ -10,7 +10,7 @@ use options::Sides;
 use packet::bounds::{Bounds, ConfigFault};
 use packet::endpoint::Prefix;
 use refusals::{Refusal, Stop};
-use std::alloc::{AllocError, Global};
+use std::alloc::Global;
 use std::net::Ipv4Addr;
 
 /// A number of at most 255, without a sign or leading zeros.

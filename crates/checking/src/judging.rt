@@ -21,8 +21,8 @@ pub struct Finding {
     pub loads: bool,
     /// `ok`, or the line and the kind of the text's fault, as `line 2: duplicate`; with a newline.
     pub line: Vec<u8>,
-    /// The line of the text with a mark, what stands there and what could; nothing where it wasn't asked for, or the text
-    /// loads.
+    /// The line of the text with a mark, what stands there and what could; nothing where it wasn't asked for, or the
+    /// text loads.
     pub marks: Vec<u8>,
 }
 

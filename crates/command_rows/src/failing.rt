@@ -155,7 +155,8 @@ fn a_loop_over_a_gateway_that_fails(rt: HostRuntime) -> Result<(), Fail> {
     Ok(())
 }
 
-// The second flush fails, and what the first one handed out can't be printed: a file that is open for reading takes nothing.
+// The second flush fails, and what the first one handed out can't be printed: a file that is open for reading takes
+// nothing.
 #[test]
 fn a_loop_that_can_print_nothing(rt: HostRuntime) -> Result<(), Fail> {
     fresh(&rt, "failing-print")?;

@@ -1,5 +1,5 @@
-//! The order in which faults are found: the configuration, the file that a command names, the two files, the socket. And
-//! what is left where a command gives up.
+//! The order in which faults are found: the configuration, the file that a command names, the two files, the socket.
+//! And what is left where a command gives up.
 use crate::shared::{SIDES, fresh, is_file};
 use commands::run;
 use options::{Opening, Options, Sides, Task, Work};

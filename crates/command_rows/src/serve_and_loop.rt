@@ -1,6 +1,6 @@
 //! Requests through sockets.
 use crate::shared::{ANSWERS, OverFiles, REQUESTS, SIDES, close, fresh, opened};
-use commands::{bind, loop_back, serve_clients, settle};
+use commands::{bind, loop_back, serve_clients, tell_end};
 use gateway::GatewayFault;
 use refusals::{Refusal, Stop};
 use socket_edge::EdgeFault;
@@ -174,7 +174,7 @@ fn is_settled(
     told: &[u8],
 ) -> bool {
     let mut errors = Vec::new(alloc);
-    settle(ended, &mut errors) == expected && errors.as_slice() == told
+    tell_end(ended, &mut errors) == expected && errors.as_slice() == told
 }
 
 #[test]

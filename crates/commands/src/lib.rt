@@ -20,4 +20,4 @@ pub use opening::open;
 pub use running::run;
 pub use showing::show;
 pub use sockets::{bind, loop_back, serve_clients};
-pub use streams::{replay, settle};
+pub use streams::{replay, tell_end};

@@ -1,7 +1,7 @@
 //! A gateway over the files of a directory, or what is the matter with them.
 //!
-//! `open` opens the two files as a disk, and a gateway over it. `unopened` tells why there is no disk, `unsuitable` why no
-//! gateway opens over it: where the files themselves are refused, `unsound` says what `diagnosis::diagnose` finds.
+//! `open` opens the two files as a disk, and a gateway over it. `unopened` tells why there is no disk, `unsuitable` why
+//! no gateway opens over it: where the files themselves are refused, `unsound` says what `diagnosis::diagnose` finds.
 ghost use Rattle.std.specs.Prelude.{◌≡◌, [], IfErr, IfOk, false};
 ghost use Rattle.durable.specs.Entering.{Durable, IsDurable};
 ghost use Rattle.machine.specs.Noted.{IsRestarted};

@@ -36,8 +36,8 @@ const FREED_FIRST: usize = 2_097_152;
 /// - Of all but `check` what `open` says of the two files.
 /// - Of `serve` and `loop` `File` where the socket can't be bound.
 /// - What the run meets: the fault of a stream (of `serve` and `loop` that of the gateway alone), `Output`, and of
-///   `serve` and `loop` `File` where the socket fails or can't be removed. What was answered before is written, by `loop`
-///   as far as it can be read back.
+///   `serve` and `loop` `File` where the socket fails or can't be removed. What was answered before is written, by
+///   `loop` as far as it can be read back.
 ///
 /// `NoMemory` may come at any place.
 pub fn run(rt: &HostRuntime, options: &Options<'_>) -> Result<ExitCode, Stop> {
@@ -76,10 +76,10 @@ fn run_check(
     }
 }
 
-// Has the C library keep memory that is let go, up to twice this block, and more once a greater one is freed. Otherwise it
-// gives back what a compaction took, and the system clears each of these pages anew for the next one. (So great a block
-// has a mapping of its own; once it is freed glibc raises its thresholds, to its size and to twice that: mallopt(3),
-// M_MMAP_THRESHOLD.)
+// Has the C library keep memory that is let go, up to twice this block, and more once a greater one is freed. Otherwise
+// it gives back what a compaction took, and the system clears each of these pages anew for the next one. (So great a
+// block has a mapping of its own; once it is freed glibc raises its thresholds, to its size and to twice that:
+// mallopt(3), M_MMAP_THRESHOLD.)
 fn keep_freed_memory(alloc: Global) {
     // Where memory for it is refused, that costs time alone.
     let _ = Vec::<u8>::with_capacity(alloc, FREED_FIRST);
@@ -97,7 +97,8 @@ fn run_opened(
     keep_freed_memory(rt.alloc());
     let mut gateway = open(rt, sides, bounds, opening)?;
     let worked = work_on(rt, opening.directory, work, requests, &mut gateway);
-    // `into_disk` drops the core within the crate `gateway`, where that is proved already. Here the files are dropped.
+    // `into_disk` has the core dropped within the crate `machine`, where that is proved already. Here the files are
+    // dropped.
     drop(gateway.into_disk());
     worked
 }

@@ -3,7 +3,7 @@ ghost use Rattle.std.specs.Prelude.{◌≡◌, [], false, IsErr, IsOk, IfErr, On
 ghost use Rattle.refusals.specs.Words.{IsOfPath};
 ghost use Rattle.commands.specs.Faults.{IsOfServing};
 
-use crate::streams::{answer_all, settle};
+use crate::streams::{answer_all, tell_end};
 use disk_model::Disk;
 use gateway::Gateway;
 use refusals::{Refusal, Stop};
@@ -83,7 +83,7 @@ fn serve_next<W: Write, D: Disk + Drop>(
         Err(error) => return Err(Stop::at_path(alloc, path, "accepts no client", &error)),
     };
     let ended = answer_all(alloc, &mut &stream, &mut &stream, gateway);
-    settle(ended, errors)?;
+    tell_end(ended, errors)?;
     if gateway.has_fallen() {
         return Err(Stop::from(Refusal::Reopen));
     }

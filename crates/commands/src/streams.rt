@@ -62,7 +62,7 @@ pub fn replay<R: Read, W: Write, D: Disk + Drop>(
 /// # Errors
 ///
 /// The refusal for a fault of the gateway; `Output` where the word can't be told.
-pub fn settle<W: Write>(ended: Result<u64, EdgeFault>, errors: &mut W) -> Result<(), Refusal>
+pub fn tell_end<W: Write>(ended: Result<u64, EdgeFault>, errors: &mut W) -> Result<(), Refusal>
     ensures well { IsOk ended → IsOk result × (errors.new ≡ errors.old) }
     ensures ends { IfErr ended (λ fault. IsOfGateway fault
         → (result ≡ Err (edge_refusal fault)) × (errors.new ≡ errors.old)) }

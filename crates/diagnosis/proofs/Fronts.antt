@@ -9,8 +9,8 @@ use Rattle.disk_model.specs.Disk.{pair}
 use Rattle.durable.specs.Recovery.{Active, Finds, IsHeaded, IsOpen, begun, behind}
 use Rattle.durable.proofs.Headed.{headed_open, headed_once}
 use Rattle.durable.proofs.Growing.{grows}
-use Rattle.diagnosis.specs.Reading.{Begins}
-use Rattle.diagnosis.specs.Probing.{Brackets, HasFront, HasNoFront, IsFrontEnd, Tells, TellsBegin}
+use Rattle.diagnosis.specs.Reading.{Begins, HasNoFront}
+use Rattle.diagnosis.specs.Probing.{Brackets, HasFront, IsFrontEnd, Tells, TellsBegin}
 use Rattle.diagnosis.proofs.Alone.{found_alone, holds_alone}
 
 pub open_take : (n : ℕ) (file : List ℕ) → 0 < n → IsOpen file → IsOpen (take n file)

@@ -9,8 +9,8 @@ use Rattle.durable.specs.Entering.{Durable, empty}
 use Rattle.disk_model.specs.Disk.{pair}
 use Rattle.durable.specs.Recovery.{Active, Finds, IsActive, IsOlder, IsOpen, behind}
 use Rattle.durable.proofs.Headed.{headed_open, headed_once}
-use Rattle.diagnosis.specs.Reading.{greatest}
-use Rattle.diagnosis.specs.Probing.{HasFront, HasNoFront, IsProbe, Tells, TellsFront}
+use Rattle.diagnosis.specs.Reading.{greatest, HasNoFront}
+use Rattle.diagnosis.specs.Probing.{HasFront, IsProbe, Tells, TellsFront}
 use Rattle.diagnosis.proofs.Alone.{is_open}
 
 -- no file is newer than that one

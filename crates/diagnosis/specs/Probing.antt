@@ -4,7 +4,7 @@ use Rattle.durable.specs.Coding.{Heading}
 use Rattle.durable.specs.Entering.{empty}
 use Rattle.durable.specs.Recovery.{Active, Finds, IsOpen, IsHeaded, Holds, behind}
 use Rattle.disk_model.specs.Disk.{Files}
-use Rattle.diagnosis.specs.Reading.{Begins, greatest}
+use Rattle.diagnosis.specs.Reading.{Begins, greatest, HasNoFront}
 
 -- whether two files stand for a state
 abbrev pub Tells : Files → Bool → Type 0
@@ -18,9 +18,6 @@ IsProbe file = (h : Heading) × (end : ℕ) × Holds file h empty end × (h.gene
 -- a whole front, of no greatest generation
 abbrev pub HasFront : List ℕ → Type 0
 HasFront file = (h : Heading) × IsHeaded file h × (h.generation < greatest)
-
-abbrev pub HasNoFront : List ℕ → Type 0
-HasNoFront file = (h : Heading) → IsHeaded file h → h.generation ≡ greatest
 
 abbrev pub TellsFront : List ℕ → Bool → Type 0
 TellsFront file true = IsOpen file → HasFront file

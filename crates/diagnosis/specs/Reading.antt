@@ -22,11 +22,14 @@ greatest = 2 ^ 64 - 1
 abbrev pub Begins : Heading → Type 0
 Begins h = IsDurable h.config (begun h.kept)
 
+-- no whole front, but perhaps one of the greatest generation
+abbrev pub HasNoFront : List ℕ → Type 0
+HasNoFront file = (h : Heading) → IsHeaded file h → h.generation ≡ greatest
+
 -- Why a file holds no state.
 abbrev pub IsFaulty : List ℕ → Fault → Type 0
 IsFaulty file Foreign = IsOpen file × ¬ IsMarked file
-IsFaulty file Front = IsOpen file × IsMarked file
-    × ((h : Heading) → IsHeaded file h → h.generation ≡ greatest)
+IsFaulty file Front = IsOpen file × IsMarked file × HasNoFront file
 IsFaulty file Snapshot = (h : Heading) × IsHeaded file h × ¬ Begins h
 IsFaulty file Changes = (h : Heading) × IsHeaded file h × Begins h
     × ((d : Durable) (end : ℕ) → ¬ Holds file h d end)

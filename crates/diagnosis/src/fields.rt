@@ -1,5 +1,5 @@
 //! The parts of a configuration, and which of them differ.
-ghost use Rattle.std.specs.Prelude.{◌≡◌, ◌↔◌, IsTrue};
+ghost use Rattle.std.specs.Prelude.{◌↔◌, IsTrue};
 ghost use Rattle.diagnosis.specs.Fields.{Agrees};
 
 use durable::same_prefixes;

@@ -1,4 +1,5 @@
--- Paths in a directed graph: a relation of numbers, its places, that holds where a step leads from the one to the other.
+-- Paths in a directed graph: a relation of numbers, its places, that holds where a step leads from the one to the
+-- other.
 use Rattle.std.specs.Prelude.{◌≡◌, ℕ, zero, suc, ◌<◌}
 
 -- a path of so many steps from the one to the other

@@ -11,7 +11,7 @@ module _ {D : Type 0} (honest : D → Type 0) (seen : D → Files) (moment : D �
     pub stays : honest old → Same (seen old) (seen new)
     pub goes : honest old → Goes moment left old new Same
 
-  pub look_on : (first old new : D) → (honest first → Looks moment left seen first old) → (honest first → honest old) → Look old new → honest first → Looks moment left seen first new
+  look_on : (first old new : D) → (honest first → Looks moment left seen first old) → (honest first → honest old) → Look old new → honest first → Looks moment left seen first new
   look_on first old new looked still look is =
       let there = still is in
       looks_on moment left seen first old new (λ s t files le since. earlier old s t files there le since) (looked is) (look.stays there) (look.goes there)

@@ -99,7 +99,8 @@ module _ {D : Type 0} (moment : D → ℕ) (left : D → ℕ → Files → Type 
   abbrev pub Synced : (D → Files) → D → FileId → Type 0
   Synced seen disk file = (files : Files) → LeftNow disk files → files file ≡ seen disk file
 
-  -- A run of calls that only look: the files stay as they read, and a crash leaves nothing that it couldn't leave before.
+  -- A run of calls that only look: the files stay as they read, and a crash leaves nothing that it couldn't leave
+  -- before.
   pub record Looks (seen : D → Files) (old new : D) : Type 0 where
     pub stays : Same (seen old) (seen new)
     pub leaves : Leaves old new Same

@@ -4,7 +4,7 @@ ghost use Rattle.disk_model.specs.Disk.{Looks, Grew};
 ghost use Rattle.disk_model.specs.declared.reading.ReadFault.TheVariants.{Device, NoMemory};
 
 use crate::{Disk, DiskFault, FileId};
-use std::alloc::{AllocError, AllocFailed, Global};
+use std::alloc::{AllocError, Global};
 
 /// Why a file isn't read.
 #[derive(Clone, Copy, Debug, PartialEq, Eq, Drop, thiserror::Error)]
@@ -29,14 +29,6 @@ impl From<AllocError> for ReadFault {
     ghost from_gives = { λ _ e. e ≡ NoMemory };
 
     fn from(_: AllocError) -> Self {
-        ReadFault::NoMemory
-    }
-}
-
-impl<T: Drop> From<AllocFailed<T>> for ReadFault {
-    ghost from_gives = { λ _ e. e ≡ NoMemory };
-
-    fn from(_: AllocFailed<T>) -> Self {
         ReadFault::NoMemory
     }
 }

@@ -1,7 +1,7 @@
 //! What each choice of a crash leaves, and which calls fail.
 ghost use Rattle.std.specs.Prelude.{◌≤◌};
 
-use disk_model::{Disk, DiskFault, FileId};
+use disk_model::{Disk, DiskFault, FileId, contents};
 use std::alloc::Global;
 use std::process::Abort;
 use std::test::Fail;
@@ -9,13 +9,6 @@ use trial_disk::SimDisk;
 
 fn disk_of(alloc: Global, a: &[u8], b: &[u8]) -> Result<Box<SimDisk>, Fail> {
     Ok(Box::new(alloc, SimDisk::of(alloc, a, b)?)?)
-}
-
-fn contents(alloc: Global, disk: &mut SimDisk, file: FileId) -> Result<Vec<u8>, Fail> {
-    let len = disk.len(file)?;
-    let mut bytes = vec![in alloc; 0; len as usize]?;
-    disk.read_at(file, 0, &mut bytes)?;
-    Ok(bytes)
 }
 
 fn holds(alloc: Global, disk: &mut SimDisk, file: FileId, expected: &[u8]) -> Result<bool, Fail> {
@@ -83,7 +76,7 @@ fn left_of_many(alloc: Global) -> Result<Vec<u8>, Fail> {
         write(&mut disk, FileId::B, place, b"x")?;
     }
     crash(&mut disk, 0b1001)?;
-    contents(alloc, &mut disk, FileId::B)
+    Ok(contents(alloc, &mut *disk, FileId::B)?)
 }
 
 fn assert_chosen(rt: &impl Abort, left: &[u8]) {

@@ -1,5 +1,5 @@
 //! Which calls fail, and what they touch.
-use disk_model::{Disk, DiskFault, FileId};
+use disk_model::{Disk, DiskFault, FileId, ReadFault};
 use std::alloc::Global;
 use std::process::Abort;
 use std::test::*;
@@ -31,7 +31,7 @@ fn answer(disk: &mut Trial, call: Call<'_>) -> Result<Option<u64>, DiskFault> {
     Ok(None)
 }
 
-fn holds(alloc: Global, disk: &mut Trial, expected: &[u8]) -> Result<bool, DiskFault> {
+fn holds(alloc: Global, disk: &mut Trial, expected: &[u8]) -> Result<bool, ReadFault> {
     let bytes = disk.bytes(alloc, FileId::A)?;
     Ok(bytes.as_slice() == expected)
 }

@@ -14,7 +14,7 @@ use Rattle.durable.specs.Laws.{RecoversOnce}
 use Rattle.durable.specs.Leading.{StateLeads}
 use Rattle.durable.specs.Recovery.{Active, Finds, Holds, IsActive, IsFound, IsHeaded, IsOlder, IsOpen, NoneOpen, Recovers, begun, behind}
 use Rattle.durable.proofs.Coded.{once}
-use Rattle.durable.proofs.Stored_values.{coded-heading}
+use Rattle.durable.proofs.StoredValues.{coded-heading}
 use Rattle.durable.proofs.Leads.{lead_once}
 use Rattle.durable.proofs.Keeping.{bodies_durable}
 

@@ -2,7 +2,7 @@ pub mod Coded
 pub mod Widths
 pub mod Values
 pub mod Loops
-pub mod Stored_values
+pub mod StoredValues
 pub mod Tabled
 pub mod Named
 pub mod Fitting

@@ -12,7 +12,8 @@ use Rattle.durable.specs.Recovery.{arranged, begun}
 abbrev pub IsClosed : List ℕ → Type 0
 IsClosed tail = (gate : ℕ) × (rest : List ℕ) × (tail ≡ gate ∷ rest) × (gate ≢ 1)
 
--- The bytes are open groups that lead from one state to another, and behind them this tail, with a closed gate in front.
+-- The bytes are open groups that lead from one state to another, and behind them this tail, with a closed gate in
+-- front.
 abbrev pub GroupsLead : Config → List ℕ → Durable → Durable → List ℕ → Type 0
 GroupsLead config bytes old new tail = (bodies : List (List ℕ))
     × All (λ body. length body < 2 ^ 32) bodies × (bytes ≡ open_groups bodies ++ tail)

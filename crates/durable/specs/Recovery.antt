@@ -39,7 +39,8 @@ pub record IsHeaded (file : List ℕ) (h : Heading) : Type 0 where
   pub front : file ≡ 1 ∷ (heading_bytes h ++ drop (behind h) file)
   pub gated : behind h < length file
 
--- An open file holds a state: that of its snapshot, changed by its leading open groups, whose closed gate stands at the end.
+-- An open file holds a state: that of its snapshot, changed by its leading open groups, whose closed gate stands at the
+-- end.
 pub record Holds (file : List ℕ) (h : Heading) (d : Durable) (end : ℕ) : Type 0 where
   pub headed : IsHeaded file h
   pub text : IsRuleset h.config h.kept.text

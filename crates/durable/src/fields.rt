@@ -1,5 +1,5 @@
-//! Numbers (big-endian), texts and endpoints at the front of bytes: each is answered with what stands behind it, or none
-//! where the bytes don't begin with one.
+//! Numbers (big-endian), texts and endpoints at the front of bytes: each is answered with what stands behind it, or
+//! none where the bytes don't begin with one.
 ghost use Rattle.durable.specs.Reading.{Gives, byte_at, number_at, text_at, proto_at, opener_at, endpoint_at};
 
 use byteorder::{BigEndian, ByteOrder};

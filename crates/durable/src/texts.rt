@@ -4,7 +4,7 @@ ghost use Rattle.durable.specs.Entering.{IsRuleset};
 
 use crate::DurableFault;
 use packet::bounds::Bounds;
-use ruletext::read;
+use ruletext::fault_of;
 use ruletree::fault::Kind;
 use std::alloc::Global;
 
@@ -21,9 +21,9 @@ pub fn check_text(alloc: Global, bounds: &Bounds, text: &[u8]) -> Result<(), Dur
     if text.is_empty() {
         return Ok(());
     }
-    match read(alloc, text, bounds) {
-        Ok(_rules) => Ok(()),
-        Err(fault) => Err(refusal(fault.kind)),
+    match fault_of(alloc, text, bounds) {
+        None => Ok(()),
+        Some(fault) => Err(refusal(fault.kind)),
     }
 }
 

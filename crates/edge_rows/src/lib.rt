@@ -1,5 +1,5 @@
-//! Streams of requests over a gateway and its disk: what is answered, how they end, and in what pieces they come and go.
-//! Nothing but tests stands here.
+//! Streams of requests over a gateway and its disk: what is answered, how they end, and in what pieces they come and
+//! go. Nothing but tests stands here.
 //!
 //! - `shared`: streams that several tests begin with, and gateways over a disk in memory;
 //! - `pieces`: readers and writers that give and take a few bytes at a time, and fail;

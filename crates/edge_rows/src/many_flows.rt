@@ -26,8 +26,8 @@ struct Talk {
     number: u64,
 }
 
-/// The frame with this port at this place, which is the same in a request and in its answer. No sum of the header counts
-/// it.
+/// The frame with this port at this place, which is the same in a request and in its answer. No sum of the header
+/// counts it.
 fn with_port(frame: &[u8; 42], at: usize, port: u16) -> [u8; 42] {
     let mut frame = *frame;
     let [high, low] = port.to_be_bytes();

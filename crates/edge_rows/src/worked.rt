@@ -1,5 +1,5 @@
-//! Streams of requests, and what a gateway answers them: packets worked by hand or by another program. Each test plays rows
-//! of events and answers through `socket_edge`, and so through all crates below.
+//! Streams of requests, and what a gateway answers them: packets worked by hand or by another program. Each test plays
+//! rows of events and answers through `socket_edge`, and so through all crates below.
 //!
 //! - `script`: events and their answers as lines of text, which are played over the byte stream;
 //! - `shared`: lines that several tests begin with;

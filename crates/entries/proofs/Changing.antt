@@ -1,5 +1,6 @@
 -- Entries by which sessions take their places.
 use Rattle.std.proofs.Common.{◌≡◌, inl, inr, ℕ, List, [], ◌∷◌, Option, Some, None, Bool, true, false, cond, not, nat_lt, ◌==◌, if◌then◌else◌, refl, sym, ap, subst, ◌∙◌, map}
+use Rattle.std.specs.Prelude.{find}
 use Rattle.std.specs.List.{filter}
 use Rattle.std.proofs.lemmas.Bool.{cases_Bool, false≢true, false_from_ne_true, not-true, and_parts}
 use Rattle.std.proofs.lemmas.Option.{none-some}
@@ -11,7 +12,7 @@ use Rattle.sessions.specs.declared.session.Opener.{Opener}
 use Rattle.sessions.specs.declared.session.Opener.TheVariants.{Inside, Remote}
 use Rattle.sessions.specs.declared.session.Session.{Session}
 use Rattle.sessions.specs.Life.{same_side}
-use Rattle.sessions.specs.Listing.{key, In, Rises, find, insert, put, same_flow}
+use Rattle.sessions.specs.Listing.{key, In, Rises, insert, put, same_flow}
 use Rattle.sessions.specs.Stilled.{stilled}
 use Rattle.sessions.proofs.Stilled.{In-map, map-In, Rises-map, insert-moved, one-of-key, sound-moved}
 use Rattle.sessions.proofs.Puts.{find-some, flow-keys, has_inside-true}

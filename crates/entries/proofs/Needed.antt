@@ -1,5 +1,6 @@
 -- An event has entries just where one is needed.
 use Rattle.std.proofs.Common.{◌≡◌, ◌⊎◌, inl, inr, ℕ, List, [], ◌∷◌, ◌++◌, Some, Result, Ok, Err, Bool, true, false, not, ◌==◌, if◌then◌else◌, refl, sym, ap, subst, ◌∙◌, map, arith}
+use Rattle.std.specs.Prelude.{find}
 use Rattle.std.specs.List.{filter}
 use Rattle.std.proofs.lemmas.Bool.{and_from, not-true}
 use Rattle.std.proofs.lemmas.Bool.Decides.{nat_tests}
@@ -15,7 +16,7 @@ use Rattle.sessions.specs.declared.session.Opener.{Opener}
 use Rattle.sessions.specs.declared.session.Opener.TheVariants.{Inside, Remote}
 use Rattle.sessions.specs.declared.session.Session.{Session}
 use Rattle.sessions.specs.Life.{alive, same_side}
-use Rattle.sessions.specs.Listing.{key, In, Rises, find, put, same_flow}
+use Rattle.sessions.specs.Listing.{key, In, Rises, put, same_flow}
 use Rattle.sessions.specs.Stilled.{stilled}
 use Rattle.sessions.proofs.Stilled.{In-map, map-In, one-of-key}
 use Rattle.sessions.proofs.Puts.{find-is, flow-keys, keys-flow}

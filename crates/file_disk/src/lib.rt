@@ -3,7 +3,8 @@
 //! - `file`: what a disk asks of one file, and the open files of the system.
 //! - `pair`: two files, of which each call asks one.
 //! - `disk`: `FileDisk`, which counts the calls and those of them that fail.
-//! - `opening`: a directory's files are opened, made where they are missing, locked, and synced, and so is the directory.
+//! - `opening`: a directory's files are opened, made where they are missing, locked, and synced, and so is the
+//!   directory.
 //!
 //! A call of the disk has a name in each of the first three: `FileDisk` counts a `write_at`, `Pair` does it as
 //! `write_into` one of the files, and `DiskFile` as `write_fully`, all of the bytes or a failure; so too `read_at`,

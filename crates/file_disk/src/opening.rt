@@ -121,12 +121,13 @@ fn open_file(rt: &HostRuntime, directory: &str, id: FileId) -> Result<File, Open
     Ok(file)
 }
 
-// So many bytes a new file has: half as many as its groups take before the other one is made anew. An opening reads them.
+// So many bytes a new file has: half as many as its groups take before the other one is made anew. An opening reads
+// them.
 const ROOM: u64 = 524_288;
 
 // Makes an empty file long, in zeros: a write that makes a file longer has its sync keep the new length as well, which
-// costs the device another write. The first byte is kept before, so that the file's gate is closed whatever a loss of power
-// leaves behind it.
+// costs the device another write. The first byte is kept before, so that the file's gate is closed whatever a loss of
+// power leaves behind it.
 fn make_room(file: &File) -> Result<(), OpenError> {
     if file.metadata()?.len() == 0 {
         file.write_all_at(&[0], 0)?;

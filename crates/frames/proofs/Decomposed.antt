@@ -18,7 +18,7 @@ use Rattle.frames.specs.declared.request.Kind.{Kind}
 use Rattle.frames.specs.declared.request.Kind.TheVariants as kind
 use Rattle.frames.specs.declared.request.Head.{Head}
 use Rattle.frames.specs.declared.request.Head.TheVariants as head
-use Rattle.frames.specs.Answering.{iface_byte}
+use Rattle.frames.specs.Answers.{iface_byte}
 use Rattle.frames.specs.Requests.{Next, Whole, Cut, Bad, announced, longest, head_with, head_of, what_of, with_body, next}
 use Rattle.frames.specs.Framing.{Framed, whole_frames}
 use Rattle.packet.specs.Laws.{AreBytes}
@@ -138,10 +138,6 @@ good_with (Ok t) k i len moment kd len' moment' a e = tested (ltb (longest t) le
         let y : len ≡ len' = cc in
         let z : moment ≡ moment' = cc in
         record { announces = a ∙ ap Ok x; short = rw (← x) (ltb-false _ _ h); len_is = sym y; moment_is = sym z }
-
--- what a good header and a body of its length are
-event_of : ℕ → Kind → List ℕ → Event
-event_of moment kd body = record { moment = moment; what = what_of kd body }
 
 body_is : (kd : Kind) (body : List ℕ) → length body ≤ longest kd → request_body (what_of kd body) ≡ body
 body_is (kind.Packet iface) body l = refl

@@ -7,7 +7,7 @@ use Rattle.std.specs.List.{flat_map}
 use Rattle.packet.specs.declared.endpoint.Iface.{Iface}
 use Rattle.machine.specs.declared.event.Answer.{Answer}
 use Rattle.machine.specs.declared.event.Answer.TheVariants as answer
-use Rattle.frames.specs.Answering.{answer_body, frame_head, frame}
+use Rattle.frames.specs.Answers.{answer_body, frame_head, frame}
 
 -- a frame is its head and its body
 pub frame_parts : (p : ℕ × Answer) → frame_head p ++ answer_body p.1 ≡ frame p

@@ -1,4 +1,4 @@
 pub mod Requests
 pub mod Framing
-pub mod Answering
+pub mod Answers
 pub mod Streams

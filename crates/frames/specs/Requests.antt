@@ -1,4 +1,5 @@
--- A request at the front of the bytes: a header of 14 bytes (kind, interface, length of the body, moment), and the body.
+-- A request at the front of the bytes: a header of 14 bytes (kind, interface, length of the body, moment), and the
+-- body.
 use Rattle.std.specs.Prelude.{◌≡◌, ◌≤◌, ℕ, ◌+◌, Bool, List, length, take, drop, slice_index, Result, Ok, Err, nat_le, nat_lt, ◌==◌, ◌&&◌, if◌then◌else◌}
 use Rattle.byteorder.specs.Endian.{big_number}
 use Rattle.packet.specs.declared.endpoint.Iface.TheVariants.{Lan, Wan}

@@ -8,7 +8,7 @@ use Rattle.machine.specs.declared.event.What.{What}
 use Rattle.machine.specs.declared.event.What.TheVariants as what
 use Rattle.frames.specs.declared.fault.HeaderFault.{HeaderFault}
 use Rattle.frames.specs.declared.fault.HeaderFault.TheVariants.{BadKind, BadInterface, TooLong}
-use Rattle.frames.specs.Answering.{iface_byte}
+use Rattle.frames.specs.Answers.{iface_byte}
 use Rattle.frames.specs.Framing.{Remainder, Rest, Fault, Framed}
 
 -- 1 packet, 2 load, 3 moment

@@ -1,10 +1,9 @@
-//! The frames of answers: written over those of their requests (`fill_frames`), or as far as a packet that lies there
-//! already (`forward_front`). Only `sending::send_all` of `socket_edge`, for other callers, puts them behind bytes
-//! (`put_frames`).
+//! The frames of answers: written over those of their requests (`fill_frames`), put behind bytes (`put_frames`), or as
+//! far as a packet that lies there already (`forward_front`).
 ghost use Rattle.std.specs.Prelude.{◌≡◌, ◌+◌, ◌<◌, ◌≤◌, ◌^◌, ℕ, List, [], ◌∷◌, ◌++◌, IfSome, IfNone, OnOk, OnErr, length, take};
 ghost use Rattle.byteorder.specs.Endian.{big_bytes};
 ghost use Rattle.machine.specs.declared.event.Answer.TheVariants.{Dropped, Forward};
-ghost use Rattle.frames.specs.Answering.{iface_byte, kind_byte, answer_body, frame_head, frame, frames};
+ghost use Rattle.frames.specs.Answers.{iface_byte, kind_byte, answer_body, frame_head, frame, frames};
 
 use machine::{Answer, Iface};
 use std::alloc::AllocError;

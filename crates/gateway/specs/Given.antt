@@ -1,5 +1,5 @@
--- What becomes of an event: its number, whether it is answered at once, and what a packet that is taken where it lies is
--- answered.
+-- What becomes of an event: its number, whether it is answered at once, and what a packet that is taken where it lies
+-- is answered.
 use Rattle.std.specs.Prelude.{ℕ, List, [], ◌∷◌}
 use Rattle.machine.specs.Fates.{answer_of}
 use Rattle.machine.specs.declared.event.Answer.{Answer}

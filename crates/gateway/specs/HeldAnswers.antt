@@ -33,7 +33,8 @@ held_in first slots used = first ++ take used slots
 abbrev pub IsUsed : List ℕ → ℕ → List (ℕ × Answer) → Type 0
 IsUsed body room held = (0 < length body + room) ⊎ (held ≢ [])
 
--- what they always keep: the buffer can spare the room for entries, 64 answers have a place, and the group fits its file
+-- what they always keep: the buffer can spare the room for entries, 64 answers have a place, and the group fits its
+-- file
 pub record IsPending (body : List ℕ) (spare capacity : ℕ) (held : List (ℕ × Answer))
     (place room : ℕ) : Type 0 where
   pub entries : List Entry

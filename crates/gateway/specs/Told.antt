@@ -26,7 +26,8 @@ pub record Took (old new : Told) (event : Event) (given : Given) : Type 0 where
   pub order : handed given ++ new.held ≡ old.held
       ++ (old.last + 1, (step old.config old.state judged).1) ∷ []
 
--- the events were taken in turn, as they are judged: what was handed out and what is held are the former held, and their answers
+-- the events were taken in turn, as they are judged: what was handed out and what is held are the former held, and
+-- their answers
 pub record TookAll (old new : Told) (events : List Event) (out : List (ℕ × Answer)) : Type 0 where
   pub judged : List Judged
   pub are_judged : AreJudged old.config events judged

@@ -6,8 +6,8 @@ use snapshot::CompactFault;
 use thiserror::Error;
 
 /// Why a gateway doesn't do what it was asked. `Reopen`, `NumbersOut` and `HeldFull` come before the others, in this
-/// order. Where a text comes, or a session ends or begins, memory may be refused before it is seen that the file is full:
-/// then it is `NoMemory`.
+/// order. Where a text comes, or a session ends or begins, memory may be refused before it is seen that the file is
+/// full: then it is `NoMemory`.
 #[derive(Clone, Copy, Debug, PartialEq, Eq, Drop, Error)]
 pub enum GatewayFault {
     /// A call of the disk failed before; the gateway has to be opened again over its files.

@@ -119,7 +119,8 @@ impl<D: Disk + Drop> Gateway<D> {
             → MatchResult result (λ g. Leaves D.moment D.left disk g.disk Alike)
             (λ e. Leaves D.moment D.left disk e.0 Alike) }
 
-        // Where each pair left at the entry has this configuration in its active file, if it has one, so has each since.
+        // Where each pair left at the entry has this configuration in its active file, if it has one, so has each
+        // since.
         ensures configured { D.honest disk → LeavesNow D.moment D.left disk (IsConfigured bounds)
             → MatchResult result (λ g. LeavesOnly D.moment D.left disk g.disk (IsConfigured bounds))
             (λ e. LeavesOnly D.moment D.left disk e.0 (IsConfigured bounds)) }
@@ -199,8 +200,8 @@ impl<D: Disk + Drop> Gateway<D> {
         self.core.sessions()
     }
 
-    /// What every gateway keeps: its bounds are a configuration, its state is sound, and its last number has 64 bits. It
-    /// does nothing but carry these facts.
+    /// What every gateway keeps: its bounds are a configuration, its state is sound, and its last number has 64 bits.
+    /// It does nothing but carry these facts.
     pub fn facts(&self)
         ensures config { IsTrue (is_config self.now.told.config) }
         ensures sound { IsSound self.now.told.config self.now.told.state }
@@ -229,7 +230,8 @@ impl<D: Disk + Drop> Gateway<D> {
     pub fn has_fallen(&self) -> bool
         ensures value { result ≡ self.now.fallen }
 
-        // Until then the files stand for one state, whatever a crash leaves now; the present one, where nothing is held.
+        // Until then the files stand for one state, whatever a crash leaves now; the present one, where nothing is
+        // held.
         ensures stands { result ≡ false → D.honest self.now.disk
             → (first : Durable) × Recovers (D.seen self.now.disk) first
             × LeavesNow D.moment D.left self.now.disk (λ files. Recovers files first) }
@@ -253,13 +255,13 @@ impl<D: Disk + Drop> Gateway<D> {
         ensures { result ≡ self.disk }
     {
         let Gateway { core, store, .. } = self;
-        drop(core);
+        core.discard();
         store.into_disk()
     }
 
-    /// Takes an event and gives it the next number. It is answered at once exactly where nothing is held and the event has
-    /// no entry: no session ends, no text is taken, and nothing that must survive changes; otherwise its answer is held.
-    /// No call of the disk is made.
+    /// Takes an event and gives it the next number. It is answered at once exactly where nothing is held and the event
+    /// has no entry: no session ends, no text is taken, and nothing that must survive changes; otherwise its answer is
+    /// held. No call of the disk is made.
     ///
     /// # Errors
     ///
@@ -269,10 +271,10 @@ impl<D: Disk + Drop> Gateway<D> {
     /// - `Reopen` exactly where a call of the disk has failed before.
     /// - `NumbersOut` exactly where the last number was 2^64 - 1.
     /// - `HeldFull` exactly where 64 answers are held.
-    /// - `Full` only where the entries that wait, those of this event, and 6 bytes around their group would end past the
-    ///   greatest length of a file. The entries of this event are counted as 14 bytes for each session that ends, and 44
-    ///   for a packet, however few it needs (two sessions that it begins need as many), or 5 and the text for a text that
-    ///   loads. An event that has no entry isn't refused so.
+    /// - `Full` only where the entries that wait, those of this event, and 6 bytes around their group would end past
+    ///   the greatest length of a file. The entries of this event are counted as 14 bytes for each session that ends,
+    ///   and 44 for a packet, however few it needs (two sessions that it begins need as many), or 5 and the text for a
+    ///   text that loads. An event that has no entry isn't refused so.
     /// - `NoMemory` where memory is refused; never where the event brings no text and has no entry. Where it brings no
     ///   text, and no session ends or begins, it comes only where its entries fit; elsewhere it may come although they
     ///   don't.
@@ -478,8 +480,8 @@ impl<D: Disk + Drop> Gateway<D> {
         self.core.look_ahead(coming)
     }
 
-    /// Writes the entries of all held events as one group, syncs it, and hands out the held answers, in order, each with
-    /// its number. Where nothing is held it hands out none, and no call of the disk is made; where it ends well
+    /// Writes the entries of all held events as one group, syncs it, and hands out the held answers, in order, each
+    /// with its number. Where nothing is held it hands out none, and no call of the disk is made; where it ends well
     /// otherwise, four are. It takes no memory.
     ///
     /// # Errors
@@ -604,8 +606,8 @@ impl<D: Disk + Drop> Gateway<D> {
         }
     }
 
-    /// Makes the file that isn't active anew, with a snapshot of what must survive, and no groups; then it is the active
-    /// one. Nothing is held. Afterwards no single event is refused as `Full`. It makes six calls of the disk.
+    /// Makes the file that isn't active anew, with a snapshot of what must survive, and no groups; then it is the
+    /// active one. Nothing is held. Afterwards no single event is refused as `Full`. It makes six calls of the disk.
     ///
     /// # Errors
     ///

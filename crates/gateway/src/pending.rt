@@ -1,12 +1,12 @@
 //! The answers that are held, and the entries of their events.
 //!
-//! A step of the core asks for room (`reserve`) and then notes its entries (`note`), which `put` makes into the bytes of
-//! a group. `Gateway::offer` has the answer held behind them (`hold`), and a flush writes the `group` and lets all of it
-//! go (`release`).
+//! A step of the core asks for room (`reserve`) and then notes its entries (`note`), which `put` makes into the bytes
+//! of a group. `Gateway::offer` has the answer held behind them (`hold`), and a flush writes the `group` and lets all
+//! of it go (`release`).
 //!
-//! `Gateway::pass` has a copy of the packet held (`hold_copy`), in a slot that stands ready since `reserve`. A settlement
-//! lets the answers go (`let_go`), and their slots hold others. Where answers are handed out, or one comes that isn't
-//! copied, those in slots are made into such as the others (`move_out`).
+//! `Gateway::pass` has a copy of the packet held (`hold_copy`), in a slot that stands ready since `reserve`. A
+//! settlement lets the answers go (`let_go`), and their slots hold others. Where answers are handed out, or one comes
+//! that isn't copied, those in slots are made into such as the others (`move_out`).
 ghost use Rattle.std.specs.Prelude.{◌≡◌, ◌≢◌, ◌↔◌, ◌+◌, ◌*◌, ◌<◌, ◌≤◌, ◌^◌, ◌++◌, ◌∷◌, [], length, take, drop, IfOk, IfSome, IfNone, OnOk, IsTrue, vec_len, vec_capacity};
 ghost use Rattle.durable.specs.Coding.{IsEntry, AreEntries, entry_bytes, body_bytes};
 ghost use Rattle.durable.specs.Viewing.{view};

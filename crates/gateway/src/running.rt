@@ -12,7 +12,7 @@
 //! - `compact`: what is held is handed out, and the files are made short (`Gateway::compact`)
 ghost use Rattle.std.specs.Prelude.{◌≡◌, ◌≢◌, ◌↔◌, ◌+◌, ◌<◌, ◌≤◌, ◌++◌, ◌∷◌, [], ℕ, List, false, length};
 ghost use Rattle.std.specs.Prelude.{IfErr, IfNone, IfSome, IsTrue, OnErr, OnOk, vec_capacity, vec_len};
-ghost use Rattle.machine.specs.declared.event.Answer.{Answer as Answered};
+ghost use Rattle.machine.specs.declared.event.Answer.{Answer};
 ghost use Rattle.machine.specs.declared.event.Answer.TheVariants.{Forward};
 ghost use Rattle.machine.specs.declared.event.What.TheVariants.{Packet};
 ghost use Rattle.gateway.specs.Kept.{IsRoomy};
@@ -94,8 +94,8 @@ pub fn take<D: Disk + Drop>(
 }
 
 /// Takes a packet whose session goes on, where nothing is held: one more event, whose packet is translated where it
-/// lies. Its answer isn't put behind the others, but said: its number, and the interface on which the packet leaves. The
-/// moment is in seconds. What it takes, it takes without memory.
+/// lies. Its answer isn't put behind the others, but said: its number, and the interface on which the packet leaves.
+/// The moment is in seconds. What it takes, it takes without memory.
 ///
 /// `None` says nothing of the packet: it isn't taken, nothing has changed, and `take` tells what becomes of it.
 pub fn forward<D: Disk + Drop>(
@@ -105,7 +105,7 @@ pub fn forward<D: Disk + Drop>(
     packet: &mut [u8],
 ) -> Option<(u64, Iface)>
     requires stands { gateway.old.fallen ≡ false }
-    ensures some { IfSome result (λ given. (before : List (ℕ × Answered))
+    ensures some { IfSome result (λ given. (before : List (ℕ × Answer))
         → CarriesOn D.honest D.moment D.left D.failed gateway.old gateway.new
         (record { moment = moment; what = Packet iface packet.old } ∷ [])
         before (before ++ (given.0, Forward given.1 packet.new) ∷ [])) }
@@ -130,7 +130,7 @@ pub fn pass<D: Disk + Drop>(
     packet: &mut [u8],
 ) -> Option<Passed>
     requires stands { gateway.old.fallen ≡ false }
-    ensures some { IfSome result (λ passed. (before : List (ℕ × Answered))
+    ensures some { IfSome result (λ passed. (before : List (ℕ × Answer))
         → CarriesOn D.honest D.moment D.left D.failed gateway.old gateway.new
         (record { moment = moment; what = Packet iface packet.old } ∷ [])
         before (before ++ handed (given_by passed packet.new))) }
@@ -275,10 +275,10 @@ pub fn hand_out<D: Disk + Drop>(
 #[inline(never)]
 pub fn settle<D: Disk + Drop>(gateway: &mut Gateway<D>) -> Result<(), GatewayFault>
     requires stands { gateway.old.fallen ≡ false }
-    ensures ok { OnOk result ((before : List (ℕ × Answered))
+    ensures ok { OnOk result ((before : List (ℕ × Answer))
         → CarriesOn D.honest D.moment D.left D.failed gateway.old gateway.new []
         before (before ++ gateway.old.told.held)) }
-    ensures err { IfErr result (λ e. (before : List (ℕ × Answered))
+    ensures err { IfErr result (λ e. (before : List (ℕ × Answer))
         → BreaksOff D.honest D.moment D.left D.failed gateway.old gateway.new []
         before before e) }
     ensures stands { OnOk result (gateway.new.fallen ≡ false) }

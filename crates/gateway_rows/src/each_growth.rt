@@ -1,8 +1,8 @@
 //! Memory that is refused, to each call once.
 //!
-//! Under `rt try --test --fail-alloc N` one growth is refused, another one for each N. A call that answers so has changed
-//! nothing, and when it is made again it is answered as if nothing had been. Where the disk is refused memory, its call has
-//! failed, and the gateway is opened again.
+//! Under `rt try --test --fail-alloc N` one growth is refused, another one for each N. A call that answers so has
+//! changed nothing, and when it is made again it is answered as if nothing had been. Where the disk is refused memory,
+//! its call has failed, and the gateway is opened again.
 use crate::script::{compact, flush, offer, run};
 use crate::shared::{
     Answer, Event, GatewayFault, Given, Iface, OpenFault, Trials, close, disk_of, open, some_bounds,
@@ -13,9 +13,9 @@ use std::alloc::Global;
 use std::test::*;
 use trial_disk::Trial;
 
-// What is offered one by one, from the last to the first: a text, UDP from 192.168.1.2:5000 to 198.51.100.7:53 twice, from
-// 192.168.1.3:6000 to 203.0.113.1:5000, which begins two sessions, and from 192.168.1.3:5000 to 198.51.100.7:53. At 1300
-// all sessions end that began at 1000.
+// What is offered one by one, from the last to the first: a text, UDP from 192.168.1.2:5000 to 198.51.100.7:53 twice,
+// from 192.168.1.3:6000 to 203.0.113.1:5000, which begins two sessions, and from 192.168.1.3:5000 to 198.51.100.7:53.
+// At 1300 all sessions end that began at 1000.
 const OFFERED: [&str; 5] = [
     "lan 1300 4500001c00010000 40118eea c0a80103 c6336407 13880035 0008003b",
     "lan 1000 4500001c00010000 40117d23 c0a80103 cb007101 17701388 0008d738",

@@ -1,11 +1,10 @@
-//! What is refused where a file is full or has the greatest generation, and what stays. (That no number is left can't be
-//! shown: 2^64 - 1 events would have to come first.)
+//! What is refused where a file is full or has the greatest generation, and what stays. (That no number is left can't
+//! be shown: 2^64 - 1 events would have to come first.)
 use crate::script::{play, play_over, played, run_through};
 use crate::shared::{FRESH_FRONT, Trials, assert_file, disk, left_of, opened};
 use crate::words::{hex, put_hex};
 use disk_model::FileId;
 use std::alloc::{AllocError, Global};
-use std::process::Abort;
 use std::test::*;
 use trial_disk::Trial;
 

@@ -71,7 +71,8 @@ fn look(rt: &impl Abort, alloc: Global, disk: &mut Trial, second: &[u8]) -> Resu
     Ok(())
 }
 
-// It is there when the files are opened, and compacted again it goes to the other file, behind which bytes mean nothing.
+// It is there when the files are opened, and compacted again it goes to the other file, behind which bytes mean
+// nothing.
 fn look_again(rt: &impl Abort, alloc: Global, disk: &mut Trial, second: &[u8]) -> Result<(), Fail> {
     let third = snapshot(alloc, "0000000000000003")?;
     assert!(rt; length_of(alloc, disk, &third, second).is_some());

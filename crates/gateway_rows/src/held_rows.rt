@@ -11,7 +11,8 @@ use std::process::Abort;
 use std::test::*;
 use trial_disk::Trial;
 
-// Behind the front of a fresh file: an open group of 128 bytes, a load of 101, the begin of a session, and a closed gate.
+// Behind the front of a fresh file: an open group of 128 bytes, a load of 101, the begin of a session, and a closed
+// gate.
 fn one_group(alloc: Global) -> Result<Vec<u8>, Fail> {
     let begin = "02 11 c0a801021388 cb0071011388 c63364070035 00 00 00";
     let mut file = Vec::new(alloc);

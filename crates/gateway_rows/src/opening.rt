@@ -158,8 +158,8 @@ fn config_differs(rt: HostRuntime) -> Result<(), Fail> {
     assert_differs(&rt, alloc, fresh.as_slice())
 }
 
-// Another mark; no snapshot; more sessions than there are; a text that doesn't load; a group that is cut; one without the
-// gate behind it; one whose entry names no session; one that is no entry.
+// Another mark; no snapshot; more sessions than there are; a text that doesn't load; a group that is cut; one without
+// the gate behind it; one whose entry names no session; one that is no entry.
 const DAMAGED: [&str; 8] = [
     "01 4d475731 0000000000000001 036c616e 0377616e 01 c0a8000010 cb007101 00000000 00000000 00",
     "01 4e475731 0000000000000001 036c616e 0377616e 01 c0a8000010 cb007101",

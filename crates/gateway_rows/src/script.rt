@@ -3,8 +3,8 @@
 //! A line asks, and the lines with `=` behind it are all that is answered:
 //! - an event (module `words`) is offered: `now 3 ticked`, `held 1`, or the fault, as `held-full`; the event then came
 //!   back as it was;
-//! - `forward` and the event of a packet: the packet is handed in where it lies: `3 wan 4500..`, or `none`, and then it is
-//!   as it was;
+//! - `forward` and the event of a packet: the packet is handed in where it lies: `3 wan 4500..`, or `none`, and then it
+//!   is as it was;
 //! - `flush`: a line for each answer with its number, or the fault; `compact`: `done`, or the fault;
 //! - `held`, `grown`: the number; `rules`: the text; `sessions`: a line for each.
 use crate::shared::{

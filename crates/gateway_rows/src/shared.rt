@@ -11,8 +11,8 @@ use std::process::Abort;
 use std::test::Fail;
 use trial_disk::Trial;
 
-/// A gateway over a disk for trials. It lies behind a box, and is let go by `close`, `disk_of` or `left_of` alone: all of
-/// it but its disk goes in its own crate then, and nothing is to be proved of that here.
+/// A gateway over a disk for trials. It lies behind a box, and is let go by `close`, `disk_of` or `left_of` alone: all
+/// of it but its disk goes in its own crate then, and nothing is to be proved of that here.
 pub type Trials = Box<Gateway<Trial>>;
 
 /// Every packet to wan leaves from the external address.

@@ -42,7 +42,8 @@ fn begun_within(
     }
 }
 
-/// Opens a gateway over empty files, with trouble at a call of the disk; where the opening meets it, the disk comes back.
+/// Opens a gateway over empty files, with trouble at a call of the disk; where the opening meets it, the disk comes
+/// back.
 pub fn begun(alloc: Global, at: Trouble) -> Result<Result<Trials, Trial>, Fail> {
     let bounds = some_bounds(alloc, "wan").ok_or("no bounds")?;
     let mut disk = disk(alloc, b"", b"")?;

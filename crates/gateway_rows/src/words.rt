@@ -1,10 +1,10 @@
 //! Events, answers and sessions as lines of text.
 //!
-//! - `lan 1000 4500..`, `wan 1000 4500..`: a packet that comes in at that moment, in hexadecimal with spaces for the eye;
-//!   `load 1000 table ip t { }`: a ruleset; `at 1000`: a moment.
+//! - `lan 1000 4500..`, `wan 1000 4500..`: a packet that comes in at that moment, in hexadecimal with spaces for the
+//!   eye; `load 1000 table ip t { }`: a ruleset; `at 1000`: a moment.
 //! - `wan 4500..`, `lan 4500..`: the packet leaves there as this one; `drop 13`; `loaded`; `refused`; `ticked`.
-//! - `udp 192.168.1.2:5000 203.0.113.1:5000 198.51.100.7:53 inside 0 at 1000`: a session: inside, outside, remote, opener,
-//!   the bits seen, the moment of the last packet.
+//! - `udp 192.168.1.2:5000 203.0.113.1:5000 198.51.100.7:53 inside 0 at 1000`: a session: inside, outside, remote,
+//!   opener, the bits seen, the moment of the last packet.
 use crate::shared::{Answer, Bytes, Event, Given, Iface, Session, What};
 use packet::endpoint::{Endpoint, Proto};
 use sessions::Opener;

@@ -1,14 +1,14 @@
-//! Calls that are refused memory. Each one that takes memory is made; where it is refused, this looks that it was refused
-//! as such, and that nothing has changed, and makes it again. So what is printed is the same whichever growth is refused,
-//! if only one is. The script `tests/refuse-each-growth` refuses one after the other.
+//! Calls that are refused memory. Each one that takes memory is made; where it is refused, this looks that it was
+//! refused as such, and that nothing has changed, and makes it again. So what is printed is the same whichever growth
+//! is refused, if only one is. The script `tests/refuse-each-growth` refuses one after the other.
 //!
 //! - `shared`: gateways over a disk in memory, and what a caller sees of them;
 //! - `texts`: rulesets that are read;
 //! - `calls`: a gateway that is opened, and its offers, flushes, compactions and runs;
 //! - `streams`: a stream of requests, and the frames of its answers.
 //!
-//! Where a call of the disk fails for want of memory, the gateway has fallen. Then the files are opened again, and have to
-//! have what they had before the call or what they were to have; and all begins from empty files.
+//! Where a call of the disk fails for want of memory, the gateway has fallen. Then the files are opened again, and have
+//! to have what they had before the call or what they were to have; and all begins from empty files.
 #![tactic(auto)]
 
 mod calls;

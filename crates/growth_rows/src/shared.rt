@@ -7,8 +7,8 @@ use packet::endpoint::Prefix;
 use std::alloc::{AllocFailed, Global};
 use trial_disk::Trial;
 
-/// A gateway over a disk for trials. It lies behind a box, and is let go by `close` or `disk_of` alone: all of it but its
-/// disk goes in its own crate then, and nothing is to be proved of that here.
+/// A gateway over a disk for trials. It lies behind a box, and is let go by `close` or `disk_of` alone: all of it but
+/// its disk goes in its own crate then, and nothing is to be proved of that here.
 pub type Trials = Box<Gateway<Trial>>;
 
 /// Answers with their numbers.

@@ -1,5 +1,6 @@
 -- Sessions that are sound, and what may join them.
 use Rattle.std.proofs.Common.{◌≡◌, ◌≢◌, ◌⊎◌, ℕ, zero, suc, ◌<◌, List, [], ◌∷◌, Option, Some, None, is_some, Result, Ok, Err, Bool, true, false, cond, not, ◌&&◌, refl, sym, ap, ◌∙◌, subst, inl, inr, arith}
+use Rattle.std.specs.Prelude.{find}
 use Rattle.std.specs.Option.{option_map}
 use Rattle.std.proofs.lemmas.Bool.{cases_Bool, and_parts, and_from, false≢true, not-true}
 use Rattle.std.proofs.lemmas.Bool.Decides.{nat_tests}
@@ -11,7 +12,7 @@ use Rattle.packet.specs.declared.endpoint.Endpoint.{Endpoint}
 use Rattle.packet.specs.declared.endpoint.Proto.{Proto}
 use Rattle.packet.proofs.SameLemmas.{same_proto-true, same_endpoint-true, same_endpoint-itself}
 use Rattle.portpick.specs.Choice.{port_choice, first_free, size_of_class, step as next}
-use Rattle.sessions.specs.Listing.{In, find, has_inside}
+use Rattle.sessions.specs.Listing.{In, has_inside}
 use Rattle.sessions.specs.Table.{Clash}
 use Rattle.sessions.specs.declared.session.Session.{Session}
 use Rattle.sessions.proofs.Clashing.{apart-from, differ, same_endpoint-from, same_proto-from}

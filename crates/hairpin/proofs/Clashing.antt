@@ -1,7 +1,8 @@
 -- A search for a clash among sessions.
 use Rattle.std.proofs.Common.{◌≡◌, List, Option, None, is_some, true, sym, ap, ◌∙◌}
+use Rattle.std.specs.Prelude.{find}
 use Rattle.std.proofs.lemmas.Option.{none-some}
-use Rattle.sessions.specs.Listing.{In, clashes, find, listing}
+use Rattle.sessions.specs.Listing.{In, clashes, listing}
 use Rattle.sessions.specs.Table.{AnyClash, Clash}
 use Rattle.sessions.specs.declared.session.Session.{Session}
 use Rattle.sessions.proofs.Clashing.{Clash-clashes, clashes-Clash}

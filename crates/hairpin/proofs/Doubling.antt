@@ -1,5 +1,6 @@
 -- Both sessions of a packet that hairpins: what joins the sessions, and what is found among them then.
 use Rattle.std.proofs.Common.{◌≡◌, ℕ, ◌+◌, ◌<◌, ◌≤◌, List, [], ◌∷◌, length, Option, Some, None, is_some, Result, Ok, Err, Bool, true, false, cond, not, nat_lt, if◌then◌else◌, refl, sym, ap, ◌∙◌, subst, inl, inr, arith}
+use Rattle.std.specs.Prelude.{find}
 use Rattle.std.specs.List.{filter}
 use Rattle.std.specs.Option.{option_map}
 use Rattle.std.proofs.lemmas.Bool.{cases_Bool, cases_lt, false≢true, lt-ltb, not-false, not-true, false_from_ne_true}
@@ -13,7 +14,7 @@ use Rattle.packet.specs.declared.view.View.{View}
 use Rattle.portpick.specs.Choice.{port_choice}
 use Rattle.ruletree.specs.declared.tree.Spelled.{Spelled}
 use Rattle.sessions.specs.Life.{restarts, shown}
-use Rattle.sessions.specs.Listing.{In, Rises, below, clashes, find, has_inside, has_outside, insert, put, same_flow}
+use Rattle.sessions.specs.Listing.{In, Rises, below, clashes, has_inside, has_outside, insert, put, same_flow}
 use Rattle.sessions.specs.Table.{Clash as Clashing, restarted, seen}
 use Rattle.sessions.specs.declared.session.Opener.{Opener}
 use Rattle.sessions.specs.declared.session.Opener.TheVariants.{Inside, Remote}
@@ -28,7 +29,7 @@ use Rattle.verdict.specs.declared.facts.State.TheVariants.{New}
 use Rattle.verdict.specs.declared.hook.Destination.{Destination}
 use Rattle.verdict.specs.declared.hook.Destination.TheVariants as destination
 use Rattle.hairpin.specs.Legs.{Passage, begun_second, counted, facts_of, first_by, first_state, forwarded, hairpin, inside_by_rules, inside_far, is_taken, maps_inside, maps_outside, needs_session, new_session, or_no_mapping, outside_near, passed_by, second, second_by, then_with, through}
-use Rattle.hairpin.specs.Sound.{KeepBounds}
+use Rattle.hairpin.specs.KeptBounds.{KeepBounds}
 use Rattle.sessions.specs.Sound.{AreSound}
 use Rattle.hairpin.specs.Translations.{endpoint}
 use Rattle.hairpin.specs.declared.cause.Cause.{Cause}

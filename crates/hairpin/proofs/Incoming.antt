@@ -1,12 +1,13 @@
 -- What a packet from a remote endpoint comes to, from what is looked up, and that it may join the sessions.
 use Rattle.std.proofs.Common.{◌≡◌, ◌≢◌, ◌⊎◌, ℕ, ◌+◌, ◌<◌, ◌≤◌, List, length, Option, Some, None, Result, Ok, Err, count_by, is_some, true, false, nat_lt, if◌then◌else◌, refl, sym, ap, ◌∙◌, subst, inl, inr, arith}
+use Rattle.std.specs.Prelude.{find}
 use Rattle.std.proofs.lemmas.Bool.{cases_Bool, false≢true, le-ltb, lt-ltb, ltb-false}
 use Rattle.packet.specs.Config.{Config, is_config, is_inside}
 use Rattle.packet.specs.declared.endpoint.Endpoint.{Endpoint}
 use Rattle.packet.specs.declared.endpoint.Iface.TheVariants.{Lan, Wan}
 use Rattle.packet.specs.declared.view.View.{View}
 use Rattle.ruletree.specs.declared.tree.Spelled.{Spelled}
-use Rattle.sessions.specs.Listing.{clashes, find, has_outside, listing, put}
+use Rattle.sessions.specs.Listing.{clashes, has_outside, listing, put}
 use Rattle.sessions.specs.Table.{AnyClash}
 use Rattle.sessions.specs.declared.session.Change.TheVariants.{Begin}
 use Rattle.sessions.specs.declared.session.Opener.TheVariants.{Remote}
@@ -21,7 +22,7 @@ use Rattle.verdict.specs.declared.hook.Forwarding.{Forwarding}
 use Rattle.verdict.specs.declared.hook.Forwarding.TheVariants as forwarding
 use Rattle.hairpin.specs.Legs.{Passage, begun_in, counted, facts_of, in_by, in_leg, inside_by_rules, inside_for, inward, maps_outside, needs_session, new_session, or_no_mapping, passed_by, state_of, then_with, unless_dropped}
 use Rattle.hairpin.specs.Plans.{IsPlanOf, MayBegin}
-use Rattle.hairpin.specs.Sound.{KeepBounds}
+use Rattle.hairpin.specs.KeptBounds.{KeepBounds}
 use Rattle.sessions.specs.Sound.{AreSound}
 use Rattle.hairpin.specs.declared.cause.Cause.{Cause}
 use Rattle.hairpin.specs.declared.cause.Cause.TheVariants.{Clash, NoMapping, NoSession, Rule, TableFull}

@@ -1,11 +1,12 @@
 -- What sessions tell of their mappings, and the mappings of the sessions that are held.
 use Rattle.std.proofs.Common.{◌≡◌, ◌≢◌, ℕ, ◌<◌, List, Option, Some, None, true, get_or, refl, sym, ap, ◌∙◌, subst, arith}
+use Rattle.std.specs.Prelude.{find}
 use Rattle.packet.specs.Config.{Config, is_config}
 use Rattle.packet.specs.declared.endpoint.Endpoint.{Endpoint}
 use Rattle.packet.specs.declared.endpoint.Proto.{Proto}
 use Rattle.portpick.specs.Choice.{IsTestOf}
 use Rattle.sessions.specs.Laws.{IsMapping}
-use Rattle.sessions.specs.Listing.{find, listing}
+use Rattle.sessions.specs.Listing.{listing}
 use Rattle.sessions.specs.declared.session.Session.{Session}
 use Rattle.sessions.proofs.Clashing.{apart-from, differ}
 use Rattle.sessions.proofs.Puts.{find-none, find-some}

@@ -1,5 +1,6 @@
 -- What is known of a session that begins, and that what a packet on its way out comes to may join the sessions.
 use Rattle.std.proofs.Common.{◌≡◌, ◌≢◌, ◌⊎◌, ℕ, ◌<◌, List, length, Option, Some, None, Result, Ok, Err, count_by, is_some, true, false, nat_lt, if◌then◌else◌, refl, sym, ap, ◌∙◌, subst, inl, inr, arith}
+use Rattle.std.specs.Prelude.{find}
 use Rattle.std.specs.Option.{option_map}
 use Rattle.std.proofs.lemmas.Bool.{cases_Bool, false≢true, le-ltb, lt-ltb, ltb-false}
 use Rattle.packet.specs.Config.{Config, is_config, is_inside}
@@ -10,7 +11,7 @@ use Rattle.packet.specs.declared.view.View.{View}
 use Rattle.packet.proofs.SameLemmas.{same_endpoint-itself}
 use Rattle.portpick.specs.Choice.{port_choice}
 use Rattle.ruletree.specs.declared.tree.Spelled.{Spelled}
-use Rattle.sessions.specs.Listing.{In, find, has_inside, listing, put}
+use Rattle.sessions.specs.Listing.{In, has_inside, listing, put}
 use Rattle.sessions.specs.Table.{Clash}
 use Rattle.sessions.specs.declared.session.Change.TheVariants.{Begin}
 use Rattle.sessions.specs.declared.session.Opener.TheVariants.{Inside}
@@ -24,7 +25,7 @@ use Rattle.verdict.specs.declared.hook.Source.{Source}
 use Rattle.verdict.specs.declared.hook.Source.TheVariants as source
 use Rattle.hairpin.specs.Legs.{begun_out, chosen, counted, facts_of, forwarded, is_taken, maps_inside, needs_session, new_session, or_no_port, out_by, out_leg, outside_by_rules, outside_for, outward, passed_by, state_of, then_with}
 use Rattle.hairpin.specs.Plans.{IsPlanOf, MayBegin}
-use Rattle.hairpin.specs.Sound.{KeepBounds}
+use Rattle.hairpin.specs.KeptBounds.{KeepBounds}
 use Rattle.sessions.specs.Sound.{AreSound}
 use Rattle.hairpin.specs.Translations.{endpoint}
 use Rattle.hairpin.specs.declared.cause.Cause.{Cause}

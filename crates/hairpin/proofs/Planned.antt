@@ -1,5 +1,6 @@
 -- The plan of a packet that hairpins, from what is looked up in the table and in the mappings.
 use Rattle.std.proofs.Common.{◌≡◌, ◌≢◌, ℕ, ◌+◌, ◌<◌, ◌≤◌, List, length, count_by, is_some, get_or, Option, Some, None, Result, Ok, Err, IfSome, IfNone, Bool, true, false, not, if◌then◌else◌, refl, sym, ap, ◌∙◌, subst, inl, inr, arith}
+use Rattle.std.specs.Prelude.{find}
 use Rattle.std.specs.List.{filter}
 use Rattle.std.specs.Option.{option_map, option_map_or}
 use Rattle.std.proofs.lemmas.Bool.{cases_Bool, false≢true, false_from_ne_true, le-ltb, lt-ltb}
@@ -14,7 +15,7 @@ use Rattle.ruletree.specs.declared.tree.Spelled.{Spelled}
 use Rattle.mappings.specs.declared.map.Pair.{Pair}
 use Rattle.mappings.specs.Map.{Pairs, times}
 use Rattle.sessions.specs.Laws.{IsMapping}
-use Rattle.sessions.specs.Listing.{In, breaks_mapping, clashes, find, has_inside, has_outside, listing, put, same_flow}
+use Rattle.sessions.specs.Listing.{In, breaks_mapping, clashes, has_inside, has_outside, listing, put, same_flow}
 use Rattle.sessions.specs.Table.{AnyClash, Clash as Clashing}
 use Rattle.sessions.specs.declared.session.Change.{Change}
 use Rattle.sessions.specs.declared.session.Change.TheVariants.{Begin, Seen, Restart}

@@ -1,5 +1,5 @@
 -- The legs: how a packet passes and by which sessions, or the cause of its drop.
-use Rattle.std.specs.Prelude.{ℕ, nat_lt, Bool, not, ◌&&◌, ◌||◌, List, [], ◌∷◌, length, Option, Some, None, is_some, Result, Ok, Err, if◌then◌else◌}
+use Rattle.std.specs.Prelude.{ℕ, nat_lt, Bool, not, ◌&&◌, ◌||◌, List, [], ◌∷◌, length, Option, Some, None, is_some, Result, Ok, Err, if◌then◌else◌, find}
 use Rattle.std.specs.Option.{option_map}
 use Rattle.packet.specs.Config.{Config, is_inside}
 use Rattle.packet.specs.Same.{same_proto, same_endpoint}
@@ -13,7 +13,7 @@ use Rattle.packet.specs.declared.view.View.{View}
 use Rattle.portpick.specs.Choice.{port_choice}
 use Rattle.ruletree.specs.declared.tree.Spelled.{Spelled}
 use Rattle.sessions.specs.Life.{awaits_reply, is_syn_alone, restarts, shown}
-use Rattle.sessions.specs.Listing.{clashes, find, has_inside, has_outside, is_translated, put}
+use Rattle.sessions.specs.Listing.{clashes, has_inside, has_outside, is_translated, put}
 use Rattle.sessions.specs.Table.{most_sessions, restarted, seen}
 use Rattle.sessions.specs.declared.session.Opener.{Opener}
 use Rattle.sessions.specs.declared.session.Opener.TheVariants.{Inside, Remote}
@@ -152,7 +152,8 @@ module _ (config : Config) (rules : Spelled) (sessions : List Session) (now : �
   outside_by_rules (source.From addr) = chosen addr view.src
   outside_by_rules source.Drop = Err Rule
 
-  -- a mapping of the inside endpoint gives its outside endpoint, and no nat chain is asked; without one the rules decide
+  -- a mapping of the inside endpoint gives its outside endpoint, and no nat chain is asked; without one the rules
+  -- decide
   abbrev pub outside_for : Option Session → Result Endpoint Cause
   outside_for (Some m) = Ok m.outside
   outside_for None =

@@ -1,7 +1,7 @@
 pub mod Causes
 pub mod Going
+pub mod KeptBounds
 pub mod Legs
 pub mod Plans
-pub mod Sound
 pub mod Tallies
 pub mod Translations

@@ -1,12 +1,11 @@
-//! A packet whose session goes on, and is told by a first look. By `goes_out` and `comes_in`, the shortest way, which
-//! nearly all go, it shows nothing of its session that wasn't seen before; by `goes_out_showing` and
-//! `comes_in_showing`, the short way, perhaps something. Each of the four finds the session (`glanced_out`,
-//! `glanced_in`), asks what the packet shows of it (`shown`, `shown_again`), and has the forward chains decide
-//! (`on_out`, `on_in`).
-ghost use Rattle.std.specs.Prelude.{◌≡◌, ℕ, List, Option as Maybe, IfOk, IfSome, Some, None, bit_or, slice_index_or};
-ghost use Rattle.sessions.specs.Listing.{find, has_inside, has_outside, listing};
+//! A packet whose session goes on, and is told by a guess. By `goes_out` and `comes_in`, the shortest way, which nearly
+//! all go, it shows nothing of its session that wasn't seen before; by `goes_out_showing` and `comes_in_showing`, the
+//! short way, perhaps something. Each of the four finds the session (`glanced_out`, `glanced_in`), asks what the packet
+//! shows of it (`shown`, `shown_again`), and has the forward chains decide (`on_out`, `on_in`).
+ghost use Rattle.std.specs.Prelude.{◌≡◌, ℕ, List, Option, IfOk, IfSome, Some, None, bit_or, slice_index_or, find};
+ghost use Rattle.sessions.specs.Listing.{has_inside, has_outside, listing};
 ghost use Rattle.sessions.specs.Table.{at};
-ghost use Rattle.sessions.specs.declared.session.Session.{Session as Flow};
+ghost use Rattle.sessions.specs.declared.session.Session.{Session};
 ghost use Rattle.hairpin.specs.Going.{IsQuiet, Shows, planned};
 ghost use Rattle.hairpin.specs.Legs.{in_by, in_leg as in_way, out_by, out_leg as out_way};
 ghost use Rattle.hairpin.specs.Plans.{Plans};
@@ -34,8 +33,8 @@ pub struct Going {
     pub dst: Endpoint,
 }
 
-/// How a packet goes out whose session goes on, as `out_leg` says. `None` says nothing: the first look doesn't tell
-/// its session, or more of it changes than the moment of its last packet.
+/// How a packet goes out whose session goes on, as `out_leg` says. `None` says nothing: no guess tells its session, or
+/// more of it changes than the moment of its last packet.
 ///
 /// # Errors
 ///
@@ -60,8 +59,8 @@ pub fn goes_out(
     Some(on_out(bounds, rules, &found, bits, view))
 }
 
-/// How a packet comes in whose session goes on, as `in_leg` says. `None` says nothing: the first look doesn't tell its
-/// session, or more of it changes than the moment of its last packet.
+/// How a packet comes in whose session goes on, as `in_leg` says. `None` says nothing: no guess tells its session, or
+/// more of it changes than the moment of its last packet.
 ///
 /// # Errors
 ///
@@ -86,8 +85,8 @@ pub fn comes_in(
     Some(on_in(bounds, rules, &found, bits, view))
 }
 
-/// As `goes_out`, of a packet that may show something new of its session. `None` says nothing: the first look doesn't
-/// tell its session, or the packet begins it anew.
+/// As `goes_out`, of a packet that may show something new of its session. `None` says nothing: no guess tells its
+/// session, or the packet begins it anew.
 ///
 /// # Errors
 ///
@@ -111,8 +110,8 @@ pub fn goes_out_showing(
     Some(on_out(bounds, rules, &found, bits, view))
 }
 
-/// As `comes_in`, of a packet that may show something new of its session. `None` says nothing: the first look doesn't
-/// tell its session, or the packet begins it anew.
+/// As `comes_in`, of a packet that may show something new of its session. `None` says nothing: no guess tells its
+/// session, or the packet begins it anew.
 ///
 /// # Errors
 ///
@@ -136,7 +135,7 @@ pub fn comes_in_showing(
     Some(on_in(bounds, rules, &found, bits, view))
 }
 
-// The session of a packet from inside, where the first look tells it.
+// The session of a packet from inside, where a guess tells it.
 #[inline(always)]
 fn glanced_out(table: &Table, view: &View) -> Option<Held>
     ensures session { IfSome result (λ h. find (has_inside view.now.proto view.now.src view.now.dst)
@@ -148,7 +147,7 @@ fn glanced_out(table: &Table, view: &View) -> Option<Held>
     Some(Held { slot, session })
 }
 
-// The session of a packet from outside, where the first look tells it.
+// The session of a packet from outside, where a guess tells it.
 #[inline(always)]
 fn glanced_in(table: &Table, view: &View) -> Option<Held>
     ensures session { IfSome result
@@ -195,7 +194,7 @@ fn on_out(
     view: &View,
 ) -> Result<Going, Cause>
     requires { Shows found.now.session Opener.Inside view.now.flags bits }
-    ensures way { (external : ℕ) (held : List (Maybe Flow)) (now : ℕ)
+    ensures way { (external : ℕ) (held : List (Option Session)) (now : ℕ)
         → slice_index_or held found.now.slot None ≡ Some found.now.session
         → Plans external held now (planned result)
         (out_by bounds.now rules.now (listing held) now view.now (Some found.now.session)) }
@@ -229,7 +228,7 @@ fn on_in(
     view: &View,
 ) -> Result<Going, Cause>
     requires { Shows found.now.session Opener.Remote view.now.flags bits }
-    ensures way { (external : ℕ) (held : List (Maybe Flow)) (now : ℕ)
+    ensures way { (external : ℕ) (held : List (Option Session)) (now : ℕ)
         → slice_index_or held found.now.slot None ≡ Some found.now.session
         → Plans external held now (planned result)
         (in_by bounds.now rules.now (listing held) now view.now (Some found.now.session)) }

@@ -1,27 +1,27 @@
 //! Both legs of a packet from an inside endpoint to an outside endpoint of the gateway.
 //!
-//! `both` asks `first_leg` for the session that the packet goes out by (one that is held, or a new one of `first_session`),
-//! and `after_first` for the rest: the session that it comes in by (`second_leg`: one that is held, or a new one of
-//! `second_session`, to the inside endpoint that the prerouting chains or a mapping tell, `inside_far`), the forward
-//! chains (`is_forwarded`), the plan.
-ghost use Rattle.std.specs.Prelude.{◌≡◌, ◌≢◌, ◌↔◌, ◌<◌, ◌≤◌, ◌+◌, ℕ, List, Option as Maybe, IsTrue, IfErr, IfOk, IfSome, IfNone, Some, None, Ok, Err, slice_index_or, true};
+//! `both` asks `first_leg` for the session that the packet goes out by (one that is held, or a new one of
+//! `first_session`), and `after_first` for the rest: the session that it comes in by (`second_leg`: one that is held,
+//! or a new one of `second_session`, to the inside endpoint that the prerouting chains or a mapping tell,
+//! `inside_far`), the forward chains (`is_forwarded`), the plan.
+ghost use Rattle.std.specs.Prelude.{◌≡◌, ◌≢◌, ◌↔◌, ◌<◌, ◌≤◌, ◌+◌, ℕ, List, Option, IsTrue, IfErr, IfOk, IfSome, IfNone, Some, None, Ok, Err, slice_index_or, true, find};
 ghost use Rattle.std.specs.Option.{option_map, option_map_or};
 ghost use Rattle.packet.specs.Config.{Config, is_inside};
-ghost use Rattle.packet.specs.declared.endpoint.Endpoint.{Endpoint as Place};
-ghost use Rattle.mappings.specs.declared.map.Pair.{Pair as Mapping};
+ghost use Rattle.packet.specs.declared.endpoint.Endpoint.{Endpoint};
+ghost use Rattle.mappings.specs.declared.map.Pair.{Pair};
 ghost use Rattle.mappings.specs.Map.{times};
 ghost use Rattle.ruletree.specs.declared.tree.Spelled.{Spelled};
 ghost use Rattle.sessions.specs.Laws.{IsMapping};
-ghost use Rattle.sessions.specs.Listing.{In, find, has_inside, has_outside, listing, put, same_flow};
+ghost use Rattle.sessions.specs.Listing.{In, has_inside, has_outside, listing, put, same_flow};
 ghost use Rattle.sessions.specs.Table.{at, count};
-ghost use Rattle.sessions.specs.declared.session.Session.{Session as Flow};
+ghost use Rattle.sessions.specs.declared.session.Session.{Session};
 ghost use Rattle.verdict.specs.Hooks.{forward_verdict};
 ghost use Rattle.hairpin.specs.Legs.{begun_second as begun_far, counted, first_by, first_state, forwarded, hairpin as hairpin_way, inside_far as far_inside, maps_inside, maps_outside, or_no_mapping, outside_near as near_outside, passed_by, second as second_way, second_by, then_with, through};
 ghost use Rattle.hairpin.specs.Plans.{Gives, IsOf, Plans};
-ghost use Rattle.hairpin.specs.Sound.{KeepBounds};
+ghost use Rattle.hairpin.specs.KeptBounds.{KeepBounds};
 ghost use Rattle.sessions.specs.Sound.{AreSound};
 ghost use Rattle.hairpin.specs.Tallies.{AreOf, tally};
-ghost use Rattle.hairpin.specs.declared.held.Held.{Held as Known};
+ghost use Rattle.hairpin.specs.declared.held.Held.{Held};
 
 use crate::cause::Cause;
 use crate::held::{
@@ -57,7 +57,7 @@ pub fn both(
     now: u64,
 ) -> Result<Plan, Cause>
     requires external { translations.now.external ≡ bounds.now.external }
-    requires counts { (p : Mapping) → times translations.now.pairs p ≡ tally p table.now.held }
+    requires counts { (p : Pair) → times translations.now.pairs p ≡ tally p table.now.held }
     requires sound { AreSound bounds.now (listing table.now.held) }
     requires bounded { KeepBounds bounds.now rules.now }
     requires ports { (0 < view.now.src.port) × (0 < view.now.dst.port) }
@@ -103,9 +103,9 @@ fn passed(session: &Session, sender: Opener, flags: Flags, now: u64) -> Session
 
 // The state of the packet, by the first leg's session as it was held.
 fn state_of_first(before: &Option<Held>, view: &View) -> State
-    ensures { (config : Config) (rules : Spelled) (sessions : List Flow) (now : ℕ)
+    ensures { (config : Config) (rules : Spelled) (sessions : List Session) (now : ℕ)
         → result ≡ first_state config rules sessions now view.now
-        (option_map (λ (h : Known). h.session) before.now) }
+        (option_map (λ (h : Held). h.session) before.now) }
 {
     match before {
         Some(held) => state_of(&held.session, Opener::Inside, view.flags),
@@ -115,8 +115,8 @@ fn state_of_first(before: &Option<Held>, view: &View) -> State
 
 // What the packet makes of the leg's session.
 fn change_of_leg(leg: &Leg, sender: Opener, flags: Flags) -> Change
-    ensures held { IfSome leg.now.before (λ h. (external : ℕ) (places : List (Maybe Flow)) (now : ℕ)
-        → slice_index_or places h.slot None ≡ Some h.session
+    ensures held { IfSome leg.now.before (λ h. (external : ℕ) (places : List (Option Session))
+        (now : ℕ) → slice_index_or places h.slot None ≡ Some h.session
         → Gives external places now result (passed_by h.session sender flags now)) }
     ensures slot { IfSome leg.now.before (λ h. (slot : ℕ) → IsOf result slot → slot ≡ h.slot) }
     ensures new { IfNone leg.now.before (result ≡ Change.Begin leg.now.session) }
@@ -138,7 +138,7 @@ fn outside_near(
     requires translations { AreOf bounds.now table.now.held translations.now }
     requires mapped { IfSome mapped
         (IsMapping (listing table.now.held) view.now.proto view.now.src) }
-    requires unmapped { IfNone mapped ((outside : Place)
+    requires unmapped { IfNone mapped ((outside : Endpoint)
         → ¬ IsMapping (listing table.now.held) view.now.proto view.now.src outside) }
     requires port { 0 < view.now.src.port }
     requires external_destination { view.now.dst.addr ≡ bounds.now.external }
@@ -168,7 +168,7 @@ fn first_session(
     requires translations { AreOf bounds.now table.now.held translations.now }
     requires mapped { IfSome mapped
         (IsMapping (listing table.now.held) view.now.proto view.now.src) }
-    requires unmapped { IfNone mapped ((outside : Place)
+    requires unmapped { IfNone mapped ((outside : Endpoint)
         → ¬ IsMapping (listing table.now.held) view.now.proto view.now.src outside) }
     requires port { 0 < view.now.src.port }
     requires external_destination { view.now.dst.addr ≡ bounds.now.external }
@@ -203,7 +203,7 @@ fn first_leg(
         (rules : Spelled) → IfErr result (λ cause. first_by bounds.now rules sessions now view.now
         (find (has_inside view.now.proto view.now.src view.now.dst) sessions)
         ≡ Err cause) }
-    ensures before { IfOk result (λ leg. option_map (λ (h : Known). h.session) leg.before
+    ensures before { IfOk result (λ leg. option_map (λ (h : Held). h.session) leg.before
         ≡ find (has_inside view.now.proto view.now.src view.now.dst) (listing table.now.held)) }
     ensures slot { IfOk result (λ leg. IfSome leg.before (λ h. at table.now h.slot
         ≡ Some h.session)) }
@@ -250,7 +250,7 @@ fn inside_far(
     view: &View,
 ) -> Result<Endpoint, Cause>
     requires { AreOf bounds.now table.now.held translations.now }
-    ensures { (now : ℕ) (first : Flow) → let sessions = listing table.now.held in
+    ensures { (now : ℕ) (first : Session) → let sessions = listing table.now.held in
         result ≡ far_inside bounds.now rules.now sessions now view.now first sessions }
 {
     let facts = facts_of(view, Iface::Lan, None, view.dst, State::New);
@@ -270,10 +270,10 @@ fn begun_second(
     inside: Endpoint,
     now: u64,
 ) -> Result<Session, Cause>
-    requires keeps { (u : Flow) → In u (listing table.now.held) → same_flow first.now u ≡ true
+    requires keeps { (u : Session) → In u (listing table.now.held) → same_flow first.now u ≡ true
         → u.outside ≡ first.now.outside }
     requires away { first.now.remote ≢ first.now.outside }
-    ensures { (config : Config) (rules : Spelled) (sessions : List Flow)
+    ensures { (config : Config) (rules : Spelled) (sessions : List Session)
         → result ≡ begun_far config rules sessions now view.now first.now
         (put first.now (listing table.now.held)) inside }
 {
@@ -298,7 +298,7 @@ fn second_session(
     now: u64,
 ) -> Result<Session, Cause>
     requires translations { AreOf bounds.now table.now.held translations.now }
-    requires keeps { (u : Flow) → In u (listing table.now.held) → same_flow first.now u ≡ true
+    requires keeps { (u : Session) → In u (listing table.now.held) → same_flow first.now u ≡ true
         → u.outside ≡ first.now.outside }
     requires remote { first.now.remote ≡ view.now.dst }
     requires away { first.now.outside ≢ view.now.dst }
@@ -326,7 +326,7 @@ fn second_leg(
     now: u64,
 ) -> Result<Leg, Cause>
     requires translations { AreOf bounds.now table.now.held translations.now }
-    requires keeps { (u : Flow) → In u (listing table.now.held) → same_flow first.now u ≡ true
+    requires keeps { (u : Session) → In u (listing table.now.held) → same_flow first.now u ≡ true
         → u.outside ≡ first.now.outside }
     requires remote { first.now.remote ≡ view.now.dst }
     requires away { first.now.outside ≢ view.now.dst }
@@ -340,7 +340,7 @@ fn second_leg(
         (put first.now sessions)
         (find (has_outside view.now.proto view.now.dst first.now.outside) (put first.now sessions))
         ≡ Err cause) }
-    ensures before { IfOk result (λ leg. option_map (λ (h : Known). h.session) leg.before
+    ensures before { IfOk result (λ leg. option_map (λ (h : Held). h.session) leg.before
         ≡ find (has_outside view.now.proto view.now.dst first.now.outside)
         (listing table.now.held)) }
     ensures slot { IfOk result (λ leg. IfSome leg.before (λ h. at table.now h.slot
@@ -384,8 +384,8 @@ fn is_forwarded(bounds: &Bounds, rules: &Rules, view: &View, dst: Endpoint, stat
 
 // How many sessions are held once the packet has passed.
 fn sessions_after(table: &Table, first: &Leg, second: &Leg) -> usize
-    ensures { result ≡ count table.now + option_map_or (λ (h : Known). 0) first.now.before 1
-        + option_map_or (λ (h : Known). 0) second.now.before 1 }
+    ensures { result ≡ count table.now + option_map_or (λ (h : Held). 0) first.now.before 1
+        + option_map_or (λ (h : Held). 0) second.now.before 1 }
 {
     table.facts();
     table.count() + news(first) + news(second)
@@ -393,7 +393,7 @@ fn sessions_after(table: &Table, first: &Leg, second: &Leg) -> usize
 
 // How many sessions the leg begins.
 fn news(leg: &Leg) -> usize
-    ensures value { result ≡ option_map_or (λ (h : Known). 0) leg.now.before 1 }
+    ensures value { result ≡ option_map_or (λ (h : Held). 0) leg.now.before 1 }
     ensures few { result ≤ 1 }
 {
     match leg.before {
@@ -416,7 +416,7 @@ fn after_first(
     requires ports { (0 < view.now.src.port) × (0 < view.now.dst.port) }
     requires inside { IsTrue (is_inside bounds.now view.now.src.addr) }
     requires external_destination { view.now.dst.addr ≡ bounds.now.external }
-    requires before { option_map (λ (h : Known). h.session) first.now.before
+    requires before { option_map (λ (h : Held). h.session) first.now.before
         ≡ find (has_inside view.now.proto view.now.src view.now.dst) (listing table.now.held) }
     requires slot { IfSome first.now.before (λ h. at table.now h.slot ≡ Some h.session) }
     requires session { first_by bounds.now rules.now (listing table.now.held) now view.now

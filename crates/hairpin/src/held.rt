@@ -1,14 +1,14 @@
 //! A packet's session, held or new, and what the rules are asked about the packet.
-ghost use Rattle.std.specs.Prelude.{◌≡◌, ℕ, List, IfOk, IfErr, IfSome, IfNone, Option as Maybe, Some, None, slice_index_or};
+ghost use Rattle.std.specs.Prelude.{◌≡◌, ℕ, List, IfOk, IfErr, IfSome, IfNone, Option, Some, None, slice_index_or, find};
 ghost use Rattle.std.specs.Option.{option_map};
-ghost use Rattle.packet.specs.declared.endpoint.Endpoint.{Endpoint as Place};
+ghost use Rattle.packet.specs.declared.endpoint.Endpoint.{Endpoint};
 ghost use Rattle.sessions.specs.Laws.{IsMapping};
-ghost use Rattle.sessions.specs.Listing.{find, has_inside, has_outside, listing};
+ghost use Rattle.sessions.specs.Listing.{has_inside, has_outside, listing};
 ghost use Rattle.sessions.specs.Table.{at};
-ghost use Rattle.sessions.specs.declared.session.Session.{Session as Flow};
+ghost use Rattle.sessions.specs.declared.session.Session.{Session};
 ghost use Rattle.hairpin.specs.Legs.{needs_session as has_need, passed_by, state_of as state_by};
 ghost use Rattle.hairpin.specs.Plans.{Gives, IsOf};
-ghost use Rattle.hairpin.specs.declared.held.Held.{Held as Known};
+ghost use Rattle.hairpin.specs.declared.held.Held.{Held};
 
 use packet::endpoint::{Endpoint, Flags, Iface, Proto};
 use packet::view::View;
@@ -24,8 +24,8 @@ pub struct Held {
     pub session: Session,
 }
 
-/// The session of this inside endpoint and this remote one. Where none is held, the error is the outside endpoint that the
-/// translated sessions of the inside endpoint have (RFC 4787, REQ-1), where there are any.
+/// The session of this inside endpoint and this remote one. Where none is held, the error is the outside endpoint that
+/// the translated sessions of the inside endpoint have (RFC 4787, REQ-1), where there are any.
 #[inline(always)]
 pub fn held_or_mapped(
     table: &Table,
@@ -40,7 +40,7 @@ pub fn held_or_mapped(
         (listing table.now.held) ≡ None) }
     ensures mapped { IfErr result (λ mapped. IfSome mapped
         (IsMapping (listing table.now.held) proto inside)) }
-    ensures unmapped { IfErr result (λ mapped. IfNone mapped ((outside : Place)
+    ensures unmapped { IfErr result (λ mapped. IfNone mapped ((outside : Endpoint)
         → ¬ IsMapping (listing table.now.held) proto inside outside)) }
 {
     table.facts();
@@ -60,7 +60,7 @@ pub fn held_outside(
     outside: Endpoint,
     remote: Endpoint,
 ) -> Option<Held>
-    ensures session { option_map (λ (h : Known). h.session) result
+    ensures session { option_map (λ (h : Held). h.session) result
         ≡ find (has_outside proto outside remote) (listing table.now.held) }
     ensures slot { IfSome result (λ h. at table.now h.slot ≡ Some h.session) }
 {
@@ -97,7 +97,7 @@ pub fn state_of(session: &Session, sender: Opener, flags: Flags) -> State
 
 /// What a packet from this side changes of the session that the slot holds.
 pub fn change_of(held: &Held, sender: Opener, flags: Flags) -> Change
-    ensures gives { (external : ℕ) (places : List (Maybe Flow)) (now : ℕ)
+    ensures gives { (external : ℕ) (places : List (Option Session)) (now : ℕ)
         → slice_index_or places held.now.slot None ≡ Some held.now.session
         → Gives external places now result (passed_by held.now.session sender flags now) }
     ensures slot { (slot : ℕ) → IsOf result slot → slot ≡ held.now.slot }

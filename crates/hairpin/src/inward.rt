@@ -1,14 +1,14 @@
 //! The leg of a packet from a remote endpoint to an outside one.
-ghost use Rattle.std.specs.Prelude.{◌≡◌, ◌⊎◌, ◌<◌, ◌≤◌, ℕ, List, Option as Maybe, Some, None, IsTrue, length, slice_index_or};
+ghost use Rattle.std.specs.Prelude.{◌≡◌, ◌⊎◌, ◌<◌, ◌≤◌, ℕ, List, Option, Some, None, IsTrue, length, slice_index_or};
 ghost use Rattle.packet.specs.Config.{is_inside};
-ghost use Rattle.mappings.specs.declared.map.Pair.{Pair as Mapping};
+ghost use Rattle.mappings.specs.declared.map.Pair.{Pair};
 ghost use Rattle.mappings.specs.Map.{times};
 ghost use Rattle.sessions.specs.Listing.{listing};
 ghost use Rattle.sessions.specs.Table.{most_sessions};
-ghost use Rattle.sessions.specs.declared.session.Session.{Session as Flow};
+ghost use Rattle.sessions.specs.declared.session.Session.{Session};
 ghost use Rattle.hairpin.specs.Legs.{begun_in as begun_way, in_by, in_leg as in_way, inside_for};
 ghost use Rattle.hairpin.specs.Plans.{Plans};
-ghost use Rattle.hairpin.specs.Sound.{KeepBounds};
+ghost use Rattle.hairpin.specs.KeptBounds.{KeepBounds};
 ghost use Rattle.sessions.specs.Sound.{AreSound};
 ghost use Rattle.hairpin.specs.Tallies.{tally};
 
@@ -42,7 +42,7 @@ pub fn in_leg(
     now: u64,
 ) -> Result<Plan, Cause>
     requires external { translations.now.external ≡ bounds.now.external }
-    requires counts { (p : Mapping) → times translations.now.pairs p ≡ tally p table.now.held }
+    requires counts { (p : Pair) → times translations.now.pairs p ≡ tally p table.now.held }
     requires sound { AreSound bounds.now (listing table.now.held) }
     requires bounded { KeepBounds bounds.now rules.now }
     requires ports { (0 < view.now.src.port) × (0 < view.now.dst.port) }
@@ -65,7 +65,7 @@ pub fn in_leg(
 
 // How a packet of a session comes in.
 fn known_in(bounds: &Bounds, rules: &Rules, found: &Held, view: &View) -> Result<Plan, Cause>
-    ensures { (external : ℕ) (held : List (Maybe Flow)) (now : ℕ)
+    ensures { (external : ℕ) (held : List (Option Session)) (now : ℕ)
         → slice_index_or held found.now.slot None ≡ Some found.now.session
         → Plans external held now result (in_by bounds.now rules.now (listing held) now view.now
         (Some found.now.session)) }
@@ -92,8 +92,8 @@ fn inside_of_new(
     translations: &Translations,
     view: &View,
 ) -> Result<Endpoint, Cause>
-    ensures { (held : List (Maybe Flow)) (now : ℕ)
-        → ((p : Mapping) → times translations.now.pairs p ≡ tally p held)
+    ensures { (held : List (Option Session)) (now : ℕ)
+        → ((p : Pair) → times translations.now.pairs p ≡ tally p held)
         → AreSound bounds.now (listing held)
         → result ≡ inside_for bounds.now rules.now (listing held) now view.now }
 {

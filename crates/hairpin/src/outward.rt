@@ -1,15 +1,15 @@
 //! The leg of a packet from an inside endpoint to a remote one.
-ghost use Rattle.std.specs.Prelude.{◌≡◌, ◌<◌, ℕ, List, IsTrue, IfSome, IfNone, Option as Maybe, Some, None, Ok, slice_index_or};
+ghost use Rattle.std.specs.Prelude.{◌≡◌, ◌<◌, ℕ, List, IsTrue, IfSome, IfNone, Option, Some, None, Ok, slice_index_or, find};
 ghost use Rattle.packet.specs.Config.{is_inside};
-ghost use Rattle.packet.specs.declared.endpoint.Endpoint.{Endpoint as Place};
-ghost use Rattle.mappings.specs.declared.map.Pair.{Pair as Mapping};
+ghost use Rattle.packet.specs.declared.endpoint.Endpoint.{Endpoint};
+ghost use Rattle.mappings.specs.declared.map.Pair.{Pair};
 ghost use Rattle.mappings.specs.Map.{times};
 ghost use Rattle.sessions.specs.Laws.{IsMapping};
-ghost use Rattle.sessions.specs.Listing.{find, has_inside, listing};
-ghost use Rattle.sessions.specs.declared.session.Session.{Session as Flow};
+ghost use Rattle.sessions.specs.Listing.{has_inside, listing};
+ghost use Rattle.sessions.specs.declared.session.Session.{Session};
 ghost use Rattle.hairpin.specs.Legs.{begun_out as begun_way, maps_inside, out_by, out_leg as out_way, outside_for, outward, passed_by};
 ghost use Rattle.hairpin.specs.Plans.{Plans};
-ghost use Rattle.hairpin.specs.Sound.{KeepBounds};
+ghost use Rattle.hairpin.specs.KeptBounds.{KeepBounds};
 ghost use Rattle.sessions.specs.Sound.{AreSound};
 ghost use Rattle.hairpin.specs.Tallies.{AreOf, tally};
 
@@ -44,7 +44,7 @@ pub fn out_leg(
     now: u64,
 ) -> Result<Plan, Cause>
     requires external { translations.now.external ≡ bounds.now.external }
-    requires counts { (p : Mapping) → times translations.now.pairs p ≡ tally p table.now.held }
+    requires counts { (p : Pair) → times translations.now.pairs p ≡ tally p table.now.held }
     requires sound { AreSound bounds.now (listing table.now.held) }
     requires bounded { KeepBounds bounds.now rules.now }
     requires inside { IsTrue (is_inside bounds.now view.now.src.addr) }
@@ -60,7 +60,7 @@ pub fn out_leg(
 
 // How a packet of a session goes out.
 fn known_out(bounds: &Bounds, rules: &Rules, found: &Held, view: &View) -> Result<Plan, Cause>
-    ensures { (external : ℕ) (held : List (Maybe Flow)) (now : ℕ)
+    ensures { (external : ℕ) (held : List (Option Session)) (now : ℕ)
         → slice_index_or held found.now.slot None ≡ Some found.now.session
         → Plans external held now result (out_by bounds.now rules.now (listing held) now view.now
         (Some found.now.session)) }
@@ -88,7 +88,7 @@ fn new_out(
     requires port { 0 < view.now.src.port }
     requires mapped { IfSome mapped
         (IsMapping (listing table.now.held) view.now.proto view.now.src) }
-    requires unmapped { IfNone mapped ((outside : Place)
+    requires unmapped { IfNone mapped ((outside : Endpoint)
         → ¬ IsMapping (listing table.now.held) view.now.proto view.now.src outside) }
     requires none { find (has_inside view.now.proto view.now.src view.now.dst)
         (listing table.now.held) ≡ None }
@@ -120,7 +120,7 @@ fn begun_out(
     requires port { 0 < view.now.src.port }
     requires mapped { IfSome mapped
         (IsMapping (listing table.now.held) view.now.proto view.now.src) }
-    requires unmapped { IfNone mapped ((outside : Place)
+    requires unmapped { IfNone mapped ((outside : Endpoint)
         → ¬ IsMapping (listing table.now.held) view.now.proto view.now.src outside) }
     requires none { find (has_inside view.now.proto view.now.src view.now.dst)
         (listing table.now.held) ≡ None }
@@ -153,7 +153,7 @@ fn outside_of_new(
     requires bounded { KeepBounds bounds.now rules.now }
     requires mapped { IfSome mapped
         (IsMapping (listing table.now.held) view.now.proto view.now.src) }
-    requires unmapped { IfNone mapped ((outside : Place)
+    requires unmapped { IfNone mapped ((outside : Endpoint)
         → ¬ IsMapping (listing table.now.held) view.now.proto view.now.src outside) }
     requires port { 0 < view.now.src.port }
     ensures { (now : ℕ) → let sessions = listing table.now.held in
@@ -208,7 +208,7 @@ fn facts_out(view: &View, state: State) -> Facts
 
 // The plan of a packet from inside by the session.
 fn plan_by(found: &Held, flags: Flags) -> Plan
-    ensures { (external : ℕ) (held : List (Maybe Flow)) (now : ℕ)
+    ensures { (external : ℕ) (held : List (Option Session)) (now : ℕ)
         → slice_index_or held found.now.slot None ≡ Some found.now.session
         → Plans external held now (Ok result)
         (Ok (outward (passed_by found.now.session Opener.Inside flags now))) }

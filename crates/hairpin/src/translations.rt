@@ -3,12 +3,12 @@ ghost use Rattle.std.specs.Prelude.{◌≡◌, ◌↔◌, ◌⊎◌, ◌+◌, �
 ghost use Rattle.std.specs.List.{Contains};
 ghost use Rattle.std.specs.Option.{option_map};
 ghost use Rattle.packet.specs.Same.{same_endpoint};
-ghost use Rattle.packet.specs.declared.endpoint.Endpoint.{Endpoint as Place};
-ghost use Rattle.packet.specs.declared.endpoint.Proto.{Proto as Protocol};
+ghost use Rattle.packet.specs.declared.endpoint.Endpoint.{Endpoint};
+ghost use Rattle.packet.specs.declared.endpoint.Proto.{Proto};
 ghost use Rattle.portpick.specs.Choice.{IsTestOf, port_choice};
 ghost use Rattle.portpick.specs.Taken.{IsTaken};
 ghost use Rattle.mappings.specs.Map.{times, pair as pair_with, Gains, KeepsOneToOne, SameTimes};
-ghost use Rattle.mappings.specs.declared.map.Pair.{Pair as Mapping};
+ghost use Rattle.mappings.specs.declared.map.Pair.{Pair};
 ghost use Rattle.hairpin.specs.Tallies.{pair_of, weight};
 ghost use Rattle.hairpin.specs.Translations.{HasRoom, IsOutside, IsOutsideOf, endpoint};
 
@@ -45,7 +45,7 @@ impl Translations {
     ///
     /// `AllocError` where memory is refused.
     pub fn new(alloc: Global, external: u32) -> Result<Translations, AllocError>
-        ensures none { IfOk result (λ t. (p : Mapping) → times t.pairs p ≡ 0) }
+        ensures none { IfOk result (λ t. (p : Pair) → times t.pairs p ≡ 0) }
         ensures external { IfOk result (λ t. t.external ≡ external) }
     {
         let mut addresses = Vec::new(alloc);
@@ -79,7 +79,7 @@ impl Translations {
     pub fn outside_of(&self, proto: Proto, inside: Endpoint) -> Option<Endpoint>
         ensures found { IfSome result (λ outside.
             0 < times self.now.pairs (pair_with proto inside outside)) }
-        ensures absent { IfNone result ((outside : Place)
+        ensures absent { IfNone result ((outside : Endpoint)
             → times self.now.pairs (pair_with proto inside outside) ≡ 0) }
     {
         self.map.outside_of(proto, inside)
@@ -89,13 +89,14 @@ impl Translations {
     pub fn inside_of(&self, proto: Proto, outside: Endpoint) -> Option<Endpoint>
         ensures found { IfSome result (λ inside.
             0 < times self.now.pairs (pair_with proto inside outside)) }
-        ensures absent { IfNone result ((inside : Place)
+        ensures absent { IfNone result ((inside : Endpoint)
             → times self.now.pairs (pair_with proto inside outside) ≡ 0) }
     {
         self.map.inside_of(proto, outside)
     }
 
-    /// The outside endpoint that a new mapping of this inside endpoint most often has: its port at the external address.
+    /// The outside endpoint that a new mapping of this inside endpoint most often has: its port at the external
+    /// address.
     pub fn likely_outside(&self, inside: Endpoint) -> Endpoint
         ensures { result ≡ endpoint self.now.external inside.port }
     {
@@ -138,7 +139,7 @@ impl Translations {
         requires placed { same_endpoint session.now.inside session.now.outside ≡ false
             → (session.now.outside.addr ≡ self.old.external) × (0 < session.now.outside.port) }
         requires ready { HasRoom 1 self.old }
-        ensures counts { (p : Mapping) → times self.new.pairs p
+        ensures counts { (p : Pair) → times self.new.pairs p
             ≡ times self.old.pairs p + weight p (Some session.now) }
         ensures room { (n : ℕ) → HasRoom (n + 1) self.old → HasRoom n self.new }
         ensures external { self.new.external ≡ self.old.external }
@@ -150,8 +151,8 @@ impl Translations {
 
     /// Holds the mapping of the session once less, if it is translated.
     pub fn release(&mut self, session: &Session)
-        requires { (p : Mapping) → weight p (Some session.now) ≤ times self.old.pairs p }
-        ensures counts { (p : Mapping) → times self.old.pairs p
+        requires { (p : Pair) → weight p (Some session.now) ≤ times self.old.pairs p }
+        ensures counts { (p : Pair) → times self.old.pairs p
             ≡ times self.new.pairs p + weight p (Some session.now) }
         ensures room { (n : ℕ) → HasRoom n self.old → HasRoom n self.new }
         ensures external { self.new.external ≡ self.old.external }
@@ -207,7 +208,7 @@ fn take_port(ports: &mut Ports, pair: Pair)
     requires address { Contains ports.old.external pair.outside.addr }
     requires not_zero { 0 < pair.outside.port }
     requires room { 0 < ports.old.room }
-    ensures taken { (proto : Protocol) (port : ℕ) → IsTaken ports.new proto pair.outside.addr port
+    ensures taken { (proto : Proto) (port : ℕ) → IsTaken ports.new proto pair.outside.addr port
         ↔ (IsTaken ports.old proto pair.outside.addr port
         ⊎ IsOutsideOf pair proto (endpoint pair.outside.addr port)) }
     ensures addresses { ports.new.external ≡ ports.old.external }
@@ -226,10 +227,10 @@ fn take_port(ports: &mut Ports, pair: Pair)
 fn free_port(map: &Map, ports: &mut Ports, pair: Pair)
     requires address { Contains ports.old.external pair.outside.addr }
     requires not_zero { 0 < pair.outside.port }
-    requires taken { (proto : Protocol) (port : ℕ) → IsTaken ports.old proto pair.outside.addr port
+    requires taken { (proto : Proto) (port : ℕ) → IsTaken ports.old proto pair.outside.addr port
         ↔ (IsOutside map.now proto (endpoint pair.outside.addr port)
         ⊎ IsOutsideOf pair proto (endpoint pair.outside.addr port)) }
-    ensures taken { (proto : Protocol) (port : ℕ) → IsTaken ports.new proto pair.outside.addr port
+    ensures taken { (proto : Proto) (port : ℕ) → IsTaken ports.new proto pair.outside.addr port
         ↔ IsOutside map.now proto (endpoint pair.outside.addr port) }
     ensures addresses { ports.new.external ≡ ports.old.external }
     ensures room { ports.old.room ≤ ports.new.room }

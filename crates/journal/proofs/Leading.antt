@@ -50,9 +50,6 @@ first_open file at place [] r is =
     ap (λ k. get_or file k 0) e ∙ is
 first_open file at place (b ∷ bodies) r is = first_byte file at 1 _ r.split
 
-size_of : List ℕ → List ℕ
-size_of body = big_bytes 4 (length body)
-
 -- two bodies with equal fronts
 same_body : (a b s t : List ℕ) → length a < 2 ^ 32 → length b < 2 ^ 32 → big_bytes 4 (length a) ++ (a ++ s) ≡ big_bytes 4 (length b) ++ (b ++ t) → (a ≡ b) × (s ≡ t)
 same_body a b s t fit_a fit_b e =

@@ -27,7 +27,8 @@ abbrev pub open_groups : List (List ℕ) → List ℕ
 open_groups [] = []
 open_groups (body ∷ bodies) = 1 ∷ (big_bytes 4 (length body) ++ (body ++ open_groups bodies))
 
--- From this place of the file stand open groups of these bodies, and behind the last of them, at the end, a closed gate.
+-- From this place of the file stand open groups of these bodies, and behind the last of them, at the end, a closed
+-- gate.
 pub record Groups (file : List ℕ) (at : ℕ) (bodies : List (List ℕ)) (end : ℕ) : Type 0 where
   pub gate : ℕ
   pub rest : List ℕ

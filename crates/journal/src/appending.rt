@@ -9,8 +9,8 @@ use disk_model::{Disk, FileId, write_synced};
 /// The greatest length of a file, in bytes.
 pub const LIMIT: u64 = 67_108_864;
 
-/// Puts a group behind the groups of a file, which is synced and whose closed gate is at a place, and gives the place of
-/// the closed gate behind the new one.
+/// Puts a group behind the groups of a file, which is synced and whose closed gate is at a place, and gives the place
+/// of the closed gate behind the new one.
 ///
 /// It makes four calls of the disk: the length, the body and one 00 are written behind the gate; a sync; 01 is written
 /// over the gate; a sync. A crash at any moment leaves the group whole or not at all. It takes no memory.

@@ -68,7 +68,8 @@ impl Group {
     ///
     /// # Errors
     ///
-    /// `AllocError` where memory is refused, and never where there is room already. The body stays, and no room is lost.
+    /// `AllocError` where memory is refused, and never where there is room already. The body stays, and no room is
+    /// lost.
     pub fn reserve(&mut self, bytes: usize) -> Result<(), AllocError>
         ensures body { self.new.body ≡ self.old.body }
         ensures ok { OnOk result (bytes ≤ self.new.room) }

@@ -1,6 +1,6 @@
 -- What each translation that a text says has, each translation at a hook has.
 use Rattle.std.proofs.Common.{◌≡◌, ◌<◌, ◌≤◌, ℕ, zero, suc, Bool, true, false, not, ◌==◌, IsTrue, List, [], ◌∷◌, ◌++◌, Option, Some, None, IfSome, int_le, refl, subst, inl, inr, arith, bytes_eq}
-use Rattle.std.specs.List.{list_all, list_any}
+use Rattle.std.specs.List.{list_all, list_any, AllByRecursion}
 use Rattle.std.specs.Option.{unwrap_or, option_and_then, option_map_or}
 use Rattle.std.proofs.lemmas.Bool.{cases_Bool}
 use Rattle.packet.specs.Config.{Config, is_inside}
@@ -27,14 +27,13 @@ use Rattle.verdict.specs.declared.chain.Outcome.{Outcome}
 use Rattle.verdict.specs.declared.chain.Outcome.TheVariants.{Accepts, Drops, To, From, Ends}
 use Rattle.verdict.specs.declared.hook.Destination.TheVariants as destinations
 use Rattle.verdict.specs.declared.hook.Source.TheVariants as sources
-use Rattle.verdict.specs.Targets.{OfEach}
 use Rattle.machine.proofs.Said.{OfEnd, OfRules, OfChains, OfTables}
 use Rattle.machine.proofs.PortsSpelled.{HasPort, ports_spelled}
 use Rattle.verdict.specs.Matching.{holds}
 use Rattle.verdict.specs.Evaluation.{mapped, unless_ended, ending, translation, taken, after, walk, rules_of, called, chain_outcome}
 use Rattle.verdict.specs.Hooks.{BaseChain, at_hook, bases_among, bases_of, same_hook, put, in_order, settled, base_outcome, handed_on, asked_in_turn, hook_outcome, destination_by, source_by, prerouting_verdict, postrouting_verdict}
 
-each_joined : {X : Type 0} (P : X → Type 0) (xs ys : List X) → OfEach P xs → OfEach P ys → OfEach P (xs ++ ys)
+each_joined : {X : Type 0} (P : X → Type 0) (xs ys : List X) → AllByRecursion P xs → AllByRecursion P ys → AllByRecursion P (xs ++ ys)
 each_joined P [] ys one other = other
 each_joined P (x ∷ xs) ys one other = (one.0, each_joined P xs ys one.1 other)
 
@@ -128,40 +127,40 @@ module _ (P : Outcome → Type 0) (accepts : P Accepts) (drops : P Drops) (ends_
     abbrev BaseSays : BaseChain → Type 0
     BaseSays base = OfChains (Says config facts P) base.table.chains × OfRules (Says config facts P) base.chain.rules
 
-    at_hook_says : (hook : Hook) (table : Table) (chain : Chain) (base : Base) → OfChains (Says config facts P) table.chains → OfRules (Says config facts P) chain.rules → OfEach BaseSays (at_hook hook table chain base)
+    at_hook_says : (hook : Hook) (table : Table) (chain : Chain) (base : Base) → OfChains (Says config facts P) table.chains → OfRules (Says config facts P) chain.rules → AllByRecursion BaseSays (at_hook hook table chain base)
     at_hook_says hook table chain base says own = elim (cases_Bool (same_hook base.hook hook)) [
       | inl here ↦ rw here ((says, own), tt)
       | inr other ↦ rw other tt
     ]
 
-    base_says : (hook : Hook) (table : Table) (chain : Chain) (base : Option Base) → OfChains (Says config facts P) table.chains → OfRules (Says config facts P) chain.rules → OfEach BaseSays (option_map_or (at_hook hook table chain) base [])
+    base_says : (hook : Hook) (table : Table) (chain : Chain) (base : Option Base) → OfChains (Says config facts P) table.chains → OfRules (Says config facts P) chain.rules → AllByRecursion BaseSays (option_map_or (at_hook hook table chain) base [])
     base_says hook table chain None says own = tt
     base_says hook table chain (Some base) says own = at_hook_says hook table chain base says own
 
-    among_says : (hook : Hook) (table : Table) (chains : List Chain) → OfChains (Says config facts P) table.chains → OfChains (Says config facts P) chains → OfEach BaseSays (bases_among hook table chains)
+    among_says : (hook : Hook) (table : Table) (chains : List Chain) → OfChains (Says config facts P) table.chains → OfChains (Says config facts P) chains → AllByRecursion BaseSays (bases_among hook table chains)
     among_says hook table [] says own = tt
     among_says hook table (chain ∷ chains) says own =
         each_joined BaseSays (option_map_or (at_hook hook table chain) chain.base []) (bases_among hook table chains)
         (base_says hook table chain chain.base says own.0) (among_says hook table chains says own.1)
 
-    bases_say : (hook : Hook) (tables : List Table) → OfTables (Says config facts P) tables → OfEach BaseSays (bases_of hook tables)
+    bases_say : (hook : Hook) (tables : List Table) → OfTables (Says config facts P) tables → AllByRecursion BaseSays (bases_of hook tables)
     bases_say hook [] says = tt
     bases_say hook (table ∷ tables) says =
         each_joined BaseSays (bases_among hook table table.chains) (bases_of hook tables)
         (among_says hook table table.chains says.0 says.0) (bases_say hook tables says.1)
 
-    put_says : (x : BaseChain) (ys : List BaseChain) → BaseSays x → OfEach BaseSays ys → OfEach BaseSays (put x ys)
+    put_says : (x : BaseChain) (ys : List BaseChain) → BaseSays x → AllByRecursion BaseSays ys → AllByRecursion BaseSays (put x ys)
     put_says x [] one all = (one, tt)
     put_says x (y ∷ ys) one all = elim (cases_Bool (int_le x.base.priority y.base.priority)) [
       | inl first ↦ rw first (one, all)
       | inr behind ↦ rw behind (all.0, put_says x ys one all.1)
     ]
 
-    order_says : (xs : List BaseChain) → OfEach BaseSays xs → OfEach BaseSays (in_order xs)
+    order_says : (xs : List BaseChain) → AllByRecursion BaseSays xs → AllByRecursion BaseSays (in_order xs)
     order_says [] all = tt
     order_says (x ∷ xs) all = put_says x (in_order xs) all.0 (order_says xs all.1)
 
-    turn_has : (xs : List BaseChain) → OfEach BaseSays xs → P (asked_in_turn config facts xs)
+    turn_has : (xs : List BaseChain) → AllByRecursion BaseSays xs → P (asked_in_turn config facts xs)
     turn_has [] all = accepts
     turn_has (x ∷ xs) all =
         handed_has (base_outcome config facts x) (asked_in_turn config facts xs)
@@ -197,7 +196,7 @@ destination_is R endpoint Ends has is = cc
 
 -- ---- what is said where a kind of fault doesn't hold
 
-each_spared : {X : Type 0} (test : X → Bool) (P : X → Type 0) → ((x : X) → ¬ (test x ≡ true) → P x) → (xs : List X) → ¬ (list_any test xs ≡ true) → OfEach P xs
+each_spared : {X : Type 0} (test : X → Bool) (P : X → Type 0) → ((x : X) → ¬ (test x ≡ true) → P x) → (xs : List X) → ¬ (list_any test xs ≡ true) → AllByRecursion P xs
 each_spared test P spared [] never = tt
 each_spared test P spared (x ∷ xs) never = elim (cases_Bool (test x)) [
   | inl is ↦ absurd (never (rw is refl))
@@ -212,7 +211,7 @@ module _ (test : End → Bool) (Q : End → Type 0) (spared : (end : End) → ¬
   tables_spared : (tables : List Table) → ¬ (some_end_in test tables ≡ true) → OfTables Q tables
   tables_spared = each_spared _ _ (λ table. each_spared _ _ (λ chain. each_spared _ _ (λ rule. end_spared rule.end) chain.rules) table.chains)
 
-each_weaken : {X : Type 0} (P Q : X → Type 0) → ((x : X) → P x → Q x) → (xs : List X) → OfEach P xs → OfEach Q xs
+each_weaken : {X : Type 0} (P Q : X → Type 0) → ((x : X) → P x → Q x) → (xs : List X) → AllByRecursion P xs → AllByRecursion Q xs
 each_weaken P Q weaker [] all = tt
 each_weaken P Q weaker (x ∷ xs) all = (weaker x all.0, each_weaken P Q weaker xs all.1)
 

@@ -1,5 +1,6 @@
 -- What becomes of packets of living sessions and mappings.
 use Rattle.std.proofs.Common.{◌≡◌, ℕ, List, [], ◌∷◌, length, Some, Result, Ok, Err, true, false, not, nat_lt, if◌then◌else◌, refl, sym, ap, ◌∙◌, subst, inl, inr, arith}
+use Rattle.std.specs.Prelude.{find}
 use Rattle.std.specs.List.{filter}
 use Rattle.std.proofs.lemmas.Bool.{cases_Bool, le-ltb, lt-ltb, ltb-true}
 use Rattle.packet.specs.Config.{Config}
@@ -18,7 +19,7 @@ use Rattle.packet.specs.declared.route.RouteFault.{RouteFault}
 use Rattle.packet.specs.declared.view.View.{View}
 use Rattle.sessions.specs.Laws.{IsMapping}
 use Rattle.sessions.specs.Life.{IsAlive, alive, restarts, shown}
-use Rattle.sessions.specs.Listing.{In, Rises, below, find, has_inside, has_outside, key, put, same_flow}
+use Rattle.sessions.specs.Listing.{In, Rises, below, has_inside, has_outside, key, put, same_flow}
 use Rattle.sessions.specs.Table.{HasInside, HasOutside, restarted, seen}
 use Rattle.sessions.specs.declared.session.Opener.TheVariants.{Inside, Remote}
 use Rattle.sessions.specs.declared.session.Session.{Session}

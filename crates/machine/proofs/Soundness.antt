@@ -24,7 +24,7 @@ use Rattle.sessions.proofs.Sets.{In-filter, In-insert}
 use Rattle.machine.proofs.Bounded.{source_external, destination_inside, port_above_zero}
 use Rattle.hairpin.specs.Causes.{number}
 use Rattle.hairpin.specs.Legs.{Passage, put_all}
-use Rattle.hairpin.specs.Sound.{KeepBounds}
+use Rattle.hairpin.specs.KeptBounds.{KeepBounds}
 use Rattle.hairpin.specs.declared.cause.Cause.{Cause}
 use Rattle.hairpin.proofs.Beginning.{none-from, none-to}
 use Rattle.hairpin.proofs.Doubling.{fine-hairpin}

@@ -1,10 +1,11 @@
 -- The entry of a change, as the table tells it.
 use Rattle.std.proofs.Common.{◌≡◌, ◌≢◌, ◌<◌, ◌≤◌, ◌+◌, arith, inr, inl, ◌++◌, ℕ, List, [], ◌∷◌, Option, Some, None, true, get_or, bit_or, refl, sym, ap, subst, ◌∙◌}
+use Rattle.std.specs.Prelude.{find}
 use Rattle.std.proofs.lemmas.Bool.{cases_lt}
 use Rattle.std.proofs.lemmas.Option.{same_Some}
 use Rattle.sessions.specs.declared.session.Session.{Session}
 use Rattle.sessions.specs.Life.{IsSeen}
-use Rattle.sessions.specs.Listing.{Rises, find, key, listing, put, same_flow}
+use Rattle.sessions.specs.Listing.{Rises, key, listing, put, same_flow}
 use Rattle.sessions.specs.declared.session.Change as changes
 use Rattle.sessions.specs.declared.session.Change.TheVariants as change
 use Rattle.sessions.specs.declared.session.Opener.{Opener}

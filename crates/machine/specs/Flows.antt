@@ -42,8 +42,8 @@ abbrev pub IsLatest : List (Option Session) → ℕ → Type 0
 IsLatest held now = (slot : ℕ) (s : Session) → slice_index_or held slot None ≡ Some s → s.last ≤ now
 
 -- the session may join those that are held: it clashes with none, there are not too many, its bits are of its protocol,
--- and where it is translated, its outside endpoint is at the external address; as `MayBegin` of hairpin, but whatever was
--- seen of it, and at any moment
+-- and where it is translated, its outside endpoint is at the external address; as `MayBegin` of hairpin, but whatever
+-- was seen of it, and at any moment
 pub record MayJoin (external : ℕ) (held : List (Option Session)) (s : Session) : Type 0 where
   pub seen : IsSeen s.proto s.seen
   pub apart : ¬ table.AnyClash held s

@@ -1,5 +1,5 @@
 -- The entries of an event: what it changes of what must survive.
-use Rattle.std.specs.Prelude.{◌≡◌, ◌≢◌, ◌⊎◌, ℕ, List, [], ◌∷◌, ◌++◌, Option, Some, None, Result, Ok, Err, Bool, false, ◌&&◌, ◌==◌, nat_lt, if◌then◌else◌, map, slice_index_or}
+use Rattle.std.specs.Prelude.{◌≡◌, ◌≢◌, ◌⊎◌, ℕ, List, [], ◌∷◌, ◌++◌, Option, Some, None, Result, Ok, Err, Bool, false, ◌&&◌, ◌==◌, nat_lt, if◌then◌else◌, map, slice_index_or, find}
 use Rattle.packet.specs.Config.{Config}
 use Rattle.packet.specs.Fields.{fields}
 use Rattle.packet.specs.Route.{route}
@@ -10,7 +10,7 @@ use Rattle.packet.specs.declared.route.RouteFault.{RouteFault}
 use Rattle.packet.specs.declared.view.View.{View}
 use Rattle.ruletree.specs.declared.tree.Spelled.{Spelled}
 use Rattle.sessions.specs.Life.{alive, same_side}
-use Rattle.sessions.specs.Listing.{In, find, put, same_flow}
+use Rattle.sessions.specs.Listing.{In, put, same_flow}
 use Rattle.sessions.specs.Stilled.{moved, stilled}
 use Rattle.sessions.specs.declared.session.Session.{Session}
 use Rattle.hairpin.specs.Legs.{Passage}

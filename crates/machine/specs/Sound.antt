@@ -1,5 +1,5 @@
--- The soundness of a state: its sessions are sound (`sessions/specs/Sound`), none is later than the clock, and the rules
--- are those of the text.
+-- The soundness of a state: its sessions are sound (`sessions/specs/Sound`), none is later than the clock, and the
+-- rules are those of the text.
 use Rattle.std.specs.Prelude.{◌≡◌, ◌⊎◌, ℕ, ◌≤◌, List, []}
 use Rattle.packet.specs.Config.{Config}
 use Rattle.ruletree.specs.declared.tree.Spelled.{Spelled}

@@ -16,8 +16,8 @@ pub fn is_wide(table: &Table) -> bool {
 }
 
 /// How many of these packets seem to be of an inside endpoint that has a mapping, of those whose session's slot isn't
-/// told: such a packet may begin a session. Of a packet from wan that endpoint is an outside one, of which no map by inside
-/// endpoints tells: it isn't counted.
+/// told: such a packet may begin a session. Of a packet from wan that endpoint is an outside one, of which no map by
+/// inside endpoints tells: it isn't counted.
 pub fn count_mapped(
     table: &Table,
     translations: &Translations,
@@ -35,8 +35,8 @@ pub fn count_mapped(
     count
 }
 
-/// How many of the sessions of the first 128 of these slots, which are going to end, seem to have their mappings still; 0
-/// where the table isn't wide. All sessions are read before any of their mappings.
+/// How many of the sessions of the first 128 of these slots, which are going to end, seem to have their mappings still;
+/// 0 where the table isn't wide. All sessions are read before any of their mappings.
 pub fn count_ending(table: &Table, translations: &Translations, slots: &[Slot]) -> usize {
     let slots = &slots[..slots.len().min(MOST_ENDING)];
     if !is_wide(table) || count_held(table, slots) == 0 {
@@ -68,7 +68,8 @@ fn has_mapping(table: &Table, translations: &Translations, session: &Session) ->
     )
 }
 
-// Whether sessions of both endpoints, and a mapping of the outside one, seem to be held. All maps are asked in any case.
+// Whether sessions of both endpoints, and a mapping of the outside one, seem to be held. All maps are asked in any
+// case.
 fn are_mapped(
     table: &Table,
     translations: &Translations,

@@ -2,8 +2,8 @@
 //!
 //! - `answer_packet`: the short way first (`glance_showing`, `answer_going`), or else a plan (`answer_by_plan`:
 //!   `plan_for`, `answer_planned`).
-//! - `forward_in_place`: the shortest way, where the packet lies (`glance`, `send_in_place`).
-ghost use Rattle.std.specs.Prelude.{◌≡◌, ◌↔◌, ◌<◌, ◌≤◌, ◌+◌, ◌*◌, ◌++◌, [], ℕ, List, length, OnOk, Ok, Err, Result as Outcome, IsTrue, IfOk, IfErr, IfNone, IfSome, IsOk, IsOkAnd, OnErr, OnSome};
+//! - `forward_quiet`: the shortest way, of a packet that shows nothing new of its session (`glance`, `send_quiet`).
+ghost use Rattle.std.specs.Prelude.{◌≡◌, ◌↔◌, ◌<◌, ◌≤◌, ◌+◌, ◌*◌, ◌++◌, [], ℕ, List, length, OnOk, Ok, Err, Result, IsTrue, IfOk, IfErr, IfNone, IfSome, IsOk, IsOkAnd, OnErr, OnSome};
 ghost use Rattle.packet.specs.Fields.{fields};
 ghost use Rattle.packet.specs.Route.{route as route_for};
 ghost use Rattle.sessions.specs.Listing.{listing};
@@ -11,9 +11,9 @@ ghost use Rattle.hairpin.specs.Causes.{number};
 ghost use Rattle.hairpin.specs.Going.{IsQuiet, plan_of, planned};
 ghost use Rattle.hairpin.specs.Legs.{Passage};
 ghost use Rattle.hairpin.specs.Plans.{Plans};
-ghost use Rattle.hairpin.specs.Sound.{KeepBounds};
+ghost use Rattle.hairpin.specs.KeptBounds.{KeepBounds};
 ghost use Rattle.sessions.specs.Sound.{AreSound};
-ghost use Rattle.hairpin.specs.declared.cause.Cause.{Cause as Reason};
+ghost use Rattle.hairpin.specs.declared.cause.Cause.{Cause};
 ghost use Rattle.machine.specs.Core.{IsTransition, AddsNoSession, state_of};
 ghost use Rattle.machine.specs.Fates.{answer_of};
 ghost use Rattle.machine.specs.Machine.{AddsNone, leg, pass, sent};
@@ -59,9 +59,9 @@ fn answer_planned<N: Notes>(
     requires latest { IsLatest flows.old.table.held now }
     requires ready { IsTrue ready → IsReady 2 flows.old }
     requires room { IsTrue ready → N.keeps notes.old → 44 ≤ N.room notes.old }
-    requires planned { (way : Outcome Passage Reason)
+    requires planned { (way : Result Passage Cause)
         × Plans flows.old.translations.external flows.old.table.held now plan.now way }
-    ensures ok { IfOk result (λ fate. (way : Outcome Passage Reason)
+    ensures ok { IfOk result (λ fate. (way : Result Passage Cause)
         → Plans flows.old.translations.external flows.old.table.held now plan.now way
         → IsTransition (λ s. sent s packet.old way) flows.old.table.held flows.new.table.held
         now (answer_of fate packet.new)) }
@@ -70,23 +70,23 @@ fn answer_planned<N: Notes>(
     ensures length { length packet.new ≡ length packet.old }
     ensures external { flows.new.translations.external ≡ flows.old.translations.external }
     ensures ready { IsTrue ready → IsOk result }
-    ensures adds_none { (way : Outcome Passage Reason)
+    ensures adds_none { (way : Result Passage Cause)
         → Plans flows.old.translations.external flows.old.table.held now plan.now way
         → AddsNoSession (λ s. sent s packet.old way) flows.old.table.held now → N.grants notes.old
         → IsOk result }
     ensures keeps { N.keeps notes.old ↔ N.keeps notes.new }
     ensures beside { N.beside notes.new ≡ N.beside notes.old }
-    ensures noted { OnOk result ((way : Outcome Passage Reason)
+    ensures noted { OnOk result ((way : Result Passage Cause)
         → Plans flows.old.translations.external flows.old.table.held now plan.now way
         → N.keeps notes.old → N.noted notes.new ≡ N.noted notes.old
         ++ of_way (listing flows.old.table.held) way) }
     ensures err_noted { OnErr result (N.noted notes.new ≡ N.noted notes.old) }
     ensures full { IfErr result (λ e. e ≡ StepFault.Full → N.too_many notes.old 44) }
-    ensures no_memory { (way : Outcome Passage Reason)
+    ensures no_memory { (way : Result Passage Cause)
         → Plans flows.old.translations.external flows.old.table.held now plan.now way
         → AddsNoSession (λ s. sent s packet.old way) flows.old.table.held now
         → IfErr result (λ e. e ≡ StepFault.NoMemory → ¬ N.too_many notes.old 44) }
-    ensures quiet { (way : Outcome Passage Reason)
+    ensures quiet { (way : Result Passage Cause)
         → Plans flows.old.translations.external flows.old.table.held now plan.now way
         → of_way (listing flows.old.table.held) way ≡ [] → IsOk result }
 {
@@ -130,9 +130,9 @@ fn plan_for(
     }
 }
 
-// What a packet with these fields comes to, on its route, by the plan that is made for it; `ready` says that there is room
-// for two sessions and their entries already. Not compiled into its caller, so that a packet whose session goes on clears
-// no place for a plan.
+// What a packet with these fields comes to, on its route, by the plan that is made for it; `ready` says that there is
+// room for two sessions and their entries already. Not compiled into its caller, so that a packet whose session goes on
+// clears no place for a plan.
 #[inline(never)]
 fn answer_by_plan<N: Notes>(
     flows: &mut Flows,
@@ -186,8 +186,8 @@ fn answer_by_plan<N: Notes>(
     answer_planned(flows, ready, &plan, packet, now, notes)
 }
 
-// How a packet with these fields leaves, where its session goes on and the first look tells it. Compiled into its
-// caller, it needs no place for what it answers.
+// How a packet with these fields leaves, where its session goes on and a guess tells it. Compiled into its caller, it
+// needs no place for what it answers.
 #[inline(always)]
 fn glance(
     flows: &Flows,
@@ -209,8 +209,8 @@ fn glance(
     }
 }
 
-// As `glance`, of a packet that may show something new of its session. One that asks for a new connection isn't looked for
-// so: it seldom has a session, and the look would wait for memory.
+// As `glance`, of a packet that may show something new of its session. One that asks for a new connection isn't looked
+// for so: it seldom has a session, and the look would wait for memory.
 #[inline(always)]
 fn glance_showing(
     flows: &Flows,
@@ -234,22 +234,22 @@ fn glance_showing(
     }
 }
 
-// Sends a packet on, in place, by its session, which goes on.
+// Sends a packet on, in place, by its session, which goes on and of which it shows nothing new.
 #[inline(always)]
-fn send_in_place(flows: &mut Flows, going: &Going, packet: &mut [u8], now: u64)
+fn send_quiet(flows: &mut Flows, going: &Going, packet: &mut [u8], now: u64)
     requires read { IsOkAnd (fields packet.old) (λ view. 2 ≤ view.ttl) }
     requires latest { IsLatest flows.old.table.held now }
-    requires planned { (way : Outcome Passage Reason)
+    requires planned { (way : Result Passage Cause)
         × Plans flows.old.translations.external flows.old.table.held now
         (Ok (plan_of going.now)) way }
     requires quiet { IsQuiet flows.old.table going.now }
-    ensures leads { (way : Outcome Passage Reason)
+    ensures leads { (way : Result Passage Cause)
         → Plans flows.old.translations.external flows.old.table.held now
         (Ok (plan_of going.now)) way
         → IsTransition (λ s. sent s packet.old way) flows.old.table.held flows.new.table.held now
         (Forward going.now.iface packet.new) }
     ensures external { flows.new.translations.external ≡ flows.old.translations.external }
-    ensures none { (way : Outcome Passage Reason)
+    ensures none { (way : Result Passage Cause)
         → Plans flows.old.translations.external flows.old.table.held now
         (Ok (plan_of going.now)) way
         → of_way (listing flows.old.table.held) way ≡ [] }
@@ -271,9 +271,9 @@ fn answer_going<N: Notes>(
     requires read { IsOkAnd (fields packet.old) (λ view. 2 ≤ view.ttl) }
     requires latest { IsLatest flows.old.table.held now }
     requires room { IsTrue ready → N.keeps notes.old → 44 ≤ N.room notes.old }
-    requires planned { (way : Outcome Passage Reason)
+    requires planned { (way : Result Passage Cause)
         × Plans flows.old.translations.external flows.old.table.held now (planned going.now) way }
-    ensures ok { IfOk result (λ fate. (way : Outcome Passage Reason)
+    ensures ok { IfOk result (λ fate. (way : Result Passage Cause)
         → Plans flows.old.translations.external flows.old.table.held now (planned going.now) way
         → IsTransition (λ s. sent s packet.old way) flows.old.table.held flows.new.table.held
         now (answer_of fate packet.new)) }
@@ -285,14 +285,14 @@ fn answer_going<N: Notes>(
     ensures grants { N.grants notes.old → IsOk result }
     ensures keeps { N.keeps notes.old ↔ N.keeps notes.new }
     ensures beside { N.beside notes.new ≡ N.beside notes.old }
-    ensures noted { OnOk result ((way : Outcome Passage Reason)
+    ensures noted { OnOk result ((way : Result Passage Cause)
         → Plans flows.old.translations.external flows.old.table.held now (planned going.now) way
         → N.keeps notes.old → N.noted notes.new ≡ N.noted notes.old
         ++ of_way (listing flows.old.table.held) way) }
     ensures err_noted { OnErr result (N.noted notes.new ≡ N.noted notes.old) }
     ensures full { IfErr result (λ e. e ≡ StepFault.Full → N.too_many notes.old 44) }
     ensures no_memory { IfErr result (λ e. e ≡ StepFault.NoMemory → ¬ N.too_many notes.old 44) }
-    ensures quiet { (way : Outcome Passage Reason)
+    ensures quiet { (way : Result Passage Cause)
         → Plans flows.old.translations.external flows.old.table.held now (planned going.now) way
         → of_way (listing flows.old.table.held) way ≡ [] → IsOk result }
 {
@@ -375,9 +375,9 @@ pub(crate) fn answer_packet<N: Notes>(
     }
 }
 
-// Translates in place a packet whose session goes on, once the sessions that are no longer alive have ended, and says by
-// which interface it leaves.
-pub(crate) fn forward_in_place(
+// Translates in place a packet that shows nothing new of its session, once the sessions that are no longer alive have
+// ended, and says by which interface it leaves.
+pub(crate) fn forward_quiet(
     flows: &mut Flows,
     rules: &Rules,
     bounds: &Bounds,
@@ -405,6 +405,6 @@ pub(crate) fn forward_in_place(
     let Some(Ok(going)) = glance(flows, rules, bounds, route, &view) else {
         return None;
     };
-    send_in_place(flows, &going, packet, now);
+    send_quiet(flows, &going, packet, now);
     Some(going.iface)
 }

@@ -5,7 +5,7 @@
 //!   (`Flows::expire_since`), and `answer_deed` puts rules in force (`in_force`), or asks what a packet comes to
 //!   (`answering::answer_packet`).
 //! - `pass_noted`: the step of a packet, where it lies (`age_and_pass`, `answering::answer_packet`).
-//! - `forward`: the shortest way of a packet, where it lies (`answering::forward_in_place`).
+//! - `forward`: the shortest way of a packet (`answering::forward_quiet`).
 //! - `resume`: begins again from what survived (`in_force_again`, `Flows::of`).
 ghost use Rattle.std.specs.Prelude.{◌≡◌, ◌↔◌, ◌<◌, ◌≤◌, ◌+◌, ◌*◌, ◌++◌, [], List, length, OnOk, Ok, Err, IsTrue, IfOk, IfErr, IfNone, IfSome, IsOk, OnErr, OnSome};
 ghost use Rattle.packet.specs.Config.{is_config};
@@ -20,14 +20,14 @@ ghost use Rattle.durable.specs.Coding.{Entry as Recorded};
 ghost use Rattle.durable.specs.Entering.{IsDurable, durable};
 ghost use Rattle.machine.specs.Noted.{AreEntriesOf, AreOver, IsRestarted, ends, of_deed, of_fields};
 ghost use Rattle.machine.specs.Sizes.{most_bytes};
-ghost use Rattle.sessions.specs.declared.session.Session.{Session as Flow};
+ghost use Rattle.sessions.specs.declared.session.Session.{Session};
 ghost use Rattle.machine.specs.Sound.{IsInForce, IsSound};
 ghost use Rattle.machine.specs.Flows.{IsLatest, IsReady};
 ghost use Rattle.machine.specs.declared.event.Answer.TheVariants.{Forward};
 ghost use Rattle.machine.specs.declared.event.What.TheVariants.{Packet};
 
 use crate::ahead::is_wide;
-use crate::answering::{answer_packet, forward_in_place};
+use crate::answering::{answer_packet, forward_quiet};
 use crate::bytes::Bytes;
 use crate::deed::{Deed, judge};
 use crate::event::{Answer, Event, Fate, What};
@@ -71,8 +71,8 @@ fn later_of(a: u64, b: u64) -> u64
     if a <= b { b } else { a }
 }
 
-// What is done once the sessions that are no longer alive have ended. `ready` says that some have (`expire_since`): then
-// there is room already for two more sessions and for the entries of the deed, and it can't be refused.
+// What is done once the sessions that are no longer alive have ended. `ready` says that some have (`expire_since`):
+// then there is room already for two more sessions and for the entries of the deed, and it can't be refused.
 fn answer_deed<N: Notes>(
     flows: &mut Flows,
     in_force: &mut InForce,
@@ -179,14 +179,14 @@ fn age_and_answer<N: Notes>(
         → IsOk result }
     ensures keeps { N.keeps notes.old ↔ N.keeps notes.new }
     ensures beside { N.beside notes.new ≡ N.beside notes.old }
-    ensures noted { OnOk result (N.keeps notes.old → (gone : List Flow)
+    ensures noted { OnOk result (N.keeps notes.old → (gone : List Session)
         × AreOver now (listing flows.old.table.held) gone
         × (N.noted notes.new ≡ N.noted notes.old ++ (ends gone ++ of_deed bounds.now
         (aged now (state_of in_force.old.text in_force.old.rules flows.old.table.held clock))
         deed))) }
     ensures err_noted { OnErr result (N.noted notes.new ≡ N.noted notes.old) }
     ensures full { IfErr result (λ e. e.1 ≡ StepFault.Full
-        → (gone : List Flow) × AreOver now (listing flows.old.table.held) gone
+        → (gone : List Session) × AreOver now (listing flows.old.table.held) gone
         × N.too_many notes.old (14 * length gone + most_bytes deed)) }
     ensures no_memory { let s = state_of in_force.old.text in_force.old.rules
         flows.old.table.held clock in
@@ -236,7 +236,7 @@ fn age_and_pass<N: Notes>(
     ensures external { flows.new.translations.external ≡ flows.old.translations.external }
     ensures keeps { N.keeps notes.old ↔ N.keeps notes.new }
     ensures beside { N.beside notes.new ≡ N.beside notes.old }
-    ensures noted { OnSome result (N.keeps notes.old → (gone : List Flow)
+    ensures noted { OnSome result (N.keeps notes.old → (gone : List Session)
         × AreOver now (listing flows.old.table.held) gone
         × (N.noted notes.new ≡ N.noted notes.old ++ (ends gone ++ of_fields bounds.now
         (aged now (state_of in_force.now.text in_force.now.rules flows.old.table.held clock))
@@ -325,6 +325,9 @@ impl Core {
         }
     }
 
+    /// Drops the core, here, where that is proved already: a crate that drops one itself proves it anew of each part.
+    pub fn discard(self) {}
+
     /// What every core keeps: its bounds are a configuration, and its state is sound. It does nothing but carry these
     /// facts.
     pub fn facts(&self)
@@ -389,7 +392,7 @@ impl Core {
         ensures err_noted { OnErr result (N.noted notes.new ≡ N.noted notes.old) }
         ensures full { IfErr result (λ e. e.1 ≡ StepFault.Full
             → (judged : Judged) × IsJudged self.old.config event judged
-            × (gone : List Flow)
+            × (gone : List Session)
             × AreOver (later self.old.state.clock event.moment) self.old.state.sessions gone
             × N.too_many notes.old (14 * length gone + most_bytes judged.deed)) }
         ensures no_memory { IsNoLoad event.what → (judged : Judged)
@@ -495,8 +498,8 @@ impl Core {
     /// leaves. The clock rises to the moment, in seconds. That takes no memory, and nothing changes that must survive.
     ///
     /// `None` says nothing of the packet: nothing has changed, and `step` tells what it comes to. It comes where a
-    /// session would end at the moment, where the first look doesn't tell the packet's session, or the packet shows
-    /// something new of it, and where it is dropped or a hairpin.
+    /// session would end at the moment, where no guess tells the packet's session, or the packet shows something new of
+    /// it, and where it is dropped or a hairpin.
     pub fn forward(&mut self, moment: u64, iface: Iface, packet: &mut [u8]) -> Option<Iface>
         ensures step { IfSome result (λ out. (judged : Judged)
             × IsJudged self.old.config
@@ -513,7 +516,7 @@ impl Core {
         if !self.flows.keeps_all_since(self.alloc, self.clock, clock) {
             return None;
         }
-        let Some(out) = forward_in_place(
+        let Some(out) = forward_quiet(
             &mut self.flows,
             &self.in_force.rules,
             &self.bounds,

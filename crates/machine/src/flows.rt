@@ -17,9 +17,9 @@ ghost use Rattle.sessions.specs.Listing.{In, listing, put};
 ghost use Rattle.sessions.specs.Sound.{AreSound};
 ghost use Rattle.sessions.specs.Stilled.{moved};
 ghost use Rattle.sessions.specs.Table.{at, Updates, IsSound, seen as seen_with, restarted};
-ghost use Rattle.sessions.specs.declared.session.Session.{Session as Flow};
+ghost use Rattle.sessions.specs.declared.session.Session.{Session};
 ghost use Rattle.timers.specs.Due.{at as idle_at, IsLatest as IsLatestIdle, Updates as IdleUpdates};
-ghost use Rattle.mappings.specs.declared.map.Pair.{Pair as Mapping};
+ghost use Rattle.mappings.specs.declared.map.Pair.{Pair};
 ghost use Rattle.mappings.specs.Map.{times};
 ghost use Rattle.hairpin.specs.Going.{plan_of};
 ghost use Rattle.hairpin.specs.Legs.{put_all};
@@ -50,8 +50,8 @@ pub struct Flows {
     table: Table,
     due: Due,
     translations: Translations,
-    /// What the last look at sessions that were to end told. Nothing reads it: it is kept so that a compiler can't leave
-    /// the look out.
+    /// What the last look at sessions that were to end told. Nothing reads it: it is kept so that a compiler can't
+    /// leave the look out.
     looked: usize,
 }
 
@@ -137,7 +137,7 @@ impl Flows {
 
     /// What the flows always keep: each mapping is held as often as sessions have it.
     pub fn facts(&self)
-        ensures counts { (p : Mapping) → times self.now.translations.pairs p
+        ensures counts { (p : Pair) → times self.now.translations.pairs p
             ≡ tally p self.now.table.held }
     {
         // What they keep is known once a field is read.
@@ -206,7 +206,7 @@ impl Flows {
     fn keeps_all(&self, alloc: Global, now: u64) -> bool
         requires { IsLatest self.now.table.held now }
         ensures { IsTrue result
-            ↔ ((s : Flow) → In s (listing self.now.table.held) → alive now s ≡ true) }
+            ↔ ((s : Session) → In s (listing self.now.table.held) → alive now s ≡ true) }
     {
         match self.slots_due(alloc, now) {
             Ok(slots) => slots.is_empty(),
@@ -217,16 +217,16 @@ impl Flows {
     /// As `keeps_all`, where all were alive at the second `clock`: before the clock rises nothing is looked at.
     pub fn keeps_all_since(&self, alloc: Global, clock: u64, now: u64) -> bool
         requires latest { IsLatest self.now.table.held now }
-        requires live { (s : Flow) → In s (listing self.now.table.held) → alive clock s ≡ true }
+        requires live { (s : Session) → In s (listing self.now.table.held) → alive clock s ≡ true }
         ensures { IsTrue result
-            ↔ ((s : Flow) → In s (listing self.now.table.held) → alive now s ≡ true) }
+            ↔ ((s : Session) → In s (listing self.now.table.held) → alive now s ≡ true) }
     {
         now == clock || self.keeps_all(alloc, now)
     }
 
     /// Whether a packet that shows these bits at this second leaves the session of the slot as it is.
     fn stays(&self, slot: Slot, bits: u8, last: u64) -> bool
-        ensures { IsTrue result → (s : Flow) → at self.now.table slot ≡ Some s
+        ensures { IsTrue result → (s : Session) → at self.now.table slot ≡ Some s
             → (bit_or s.seen bits ≡ s.seen) × (s.last ≡ last) }
     {
         match self.table.get(slot) {
@@ -240,7 +240,7 @@ impl Flows {
         requires held { IsSome (at self.old.table slot) }
         requires bits { IfSome (at self.old.table slot) (λ s. IsSeen s.proto bits) }
         requires latest { IsLatest self.old.table.held last }
-        ensures became { (s : Flow) → at self.old.table slot ≡ Some s
+        ensures became { (s : Session) → at self.old.table slot ≡ Some s
             → Became self.old.table.held (Change.Seen slot bits) (seen_with s bits last)
             self.new.table.held }
         ensures latest { IsLatest self.new.table.held last }
@@ -260,7 +260,7 @@ impl Flows {
         requires held { IsSome (at self.old.table slot) }
         requires bits { IfSome (at self.old.table slot) (λ s. IsSeen s.proto bits) }
         requires latest { IsLatest self.old.table.held last }
-        ensures became { (s : Flow) → at self.old.table slot ≡ Some s
+        ensures became { (s : Session) → at self.old.table slot ≡ Some s
             → Became self.old.table.held (Change.Seen slot bits) (seen_with s bits last)
             self.new.table.held }
         ensures latest { IsLatest self.new.table.held last }
@@ -277,7 +277,7 @@ impl Flows {
     fn restart(&mut self, slot: Slot, opener: Opener, last: u64)
         requires held { IsSome (at self.old.table slot) }
         requires latest { IsLatest self.old.table.held last }
-        ensures became { (s : Flow) → at self.old.table slot ≡ Some s
+        ensures became { (s : Session) → at self.old.table slot ≡ Some s
             → Became self.old.table.held (Change.Restart slot opener) (restarted s opener last)
             self.new.table.held }
         ensures latest { IsLatest self.new.table.held last }
@@ -329,10 +329,10 @@ impl Flows {
     #[inline(always)]
     fn apply(&mut self, change: &Change, now: u64)
         requires latest { IsLatest self.old.table.held now }
-        requires gives { (t : Flow)
+        requires gives { (t : Session)
             × Gives self.old.translations.external self.old.table.held now change.now t }
         requires ready { 0 < adds_by change.now → IsReady 1 self.old }
-        ensures became { (t : Flow)
+        ensures became { (t : Session)
             → Gives self.old.translations.external self.old.table.held now change.now t
             → Became self.old.table.held change.now t self.new.table.held }
         ensures latest { IsLatest self.new.table.held now }
@@ -346,17 +346,17 @@ impl Flows {
         }
     }
 
-    /// Does what a change says, for which there is room, and notes it. Compiled into its callers, of which one knows the
-    /// kind of change, and that it makes an entry.
+    /// Does what a change says, for which there is room, and notes it. Compiled into its callers, of which one knows
+    /// the kind of change, and that it makes an entry.
     #[inline(always)]
     fn apply_noted<N: Notes>(&mut self, change: &Change, now: u64, notes: &mut N)
         requires latest { IsLatest self.old.table.held now }
-        requires gives { (t : Flow)
+        requires gives { (t : Session)
             × Gives self.old.translations.external self.old.table.held now change.now t
             × (N.keeps notes.old → bytes_of (noted (listing self.old.table.held) t)
             ≤ N.room notes.old) }
         requires ready { 0 < adds_by change.now → IsReady 1 self.old }
-        ensures became { (t : Flow)
+        ensures became { (t : Session)
             → Gives self.old.translations.external self.old.table.held now change.now t
             → Became self.old.table.held change.now t self.new.table.held }
         ensures latest { IsLatest self.new.table.held now }
@@ -364,11 +364,11 @@ impl Flows {
         ensures external { self.new.translations.external ≡ self.old.translations.external }
         ensures keeps { N.keeps notes.old ↔ N.keeps notes.new }
         ensures beside { N.beside notes.new ≡ N.beside notes.old }
-        ensures noted { (t : Flow)
+        ensures noted { (t : Session)
             → Gives self.old.translations.external self.old.table.held now change.now t
             → N.keeps notes.old
             → N.noted notes.new ≡ N.noted notes.old ++ noted (listing self.old.table.held) t }
-        ensures room { (t : Flow)
+        ensures room { (t : Session)
             → Gives self.old.translations.external self.old.table.held now change.now t
             → N.keeps notes.old
             → N.room notes.old ≤ N.room notes.new
@@ -382,7 +382,7 @@ impl Flows {
     /// Does what a plan says, one change after the other, for which there is room, and notes it.
     fn apply_all<N: Notes>(&mut self, plan: &Plan, now: u64, notes: &mut N)
         requires latest { IsLatest self.old.table.held now }
-        requires give { (ts : List Flow)
+        requires give { (ts : List Session)
             × GiveAll self.old.translations.external self.old.table.held now plan.now.first
             plan.now.second ts
             × (N.keeps notes.old → bytes_of (noted_all ts (listing self.old.table.held))
@@ -391,12 +391,12 @@ impl Flows {
             → IsReady 2 self.old }
         ensures keeps { N.keeps notes.old ↔ N.keeps notes.new }
         ensures beside { N.beside notes.new ≡ N.beside notes.old }
-        ensures noted { (ts : List Flow)
+        ensures noted { (ts : List Session)
             → GiveAll self.old.translations.external self.old.table.held now plan.now.first
             plan.now.second ts
             → N.keeps notes.old → N.noted notes.new ≡ N.noted notes.old
             ++ noted_all ts (listing self.old.table.held) }
-        ensures listing { (ts : List Flow)
+        ensures listing { (ts : List Session)
             → GiveAll self.old.translations.external self.old.table.held now plan.now.first
             plan.now.second ts
             → listing self.new.table.held ≡ put_all ts (listing self.old.table.held) }
@@ -417,14 +417,14 @@ impl Flows {
         now: u64,
         notes: &mut N,
     ) -> Result<(), StepFault>
-        requires give { (ts : List Flow)
+        requires give { (ts : List Session)
             × GiveAll self.old.translations.external self.old.table.held now plan.now.first
             plan.now.second ts }
         requires ready { IsTrue ready → IsReady 2 self.old }
         requires room { IsTrue ready → N.keeps notes.old → 44 ≤ N.room notes.old }
         ensures ready { OnOk result (0 < adds_by plan.now.first + adds_second plan.now.second
             → IsReady 2 self.new) }
-        ensures room { OnOk result ((ts : List Flow)
+        ensures room { OnOk result ((ts : List Session)
             → GiveAll self.old.translations.external self.old.table.held now plan.now.first
             plan.now.second ts
             → N.keeps notes.old → bytes_of (noted_all ts (listing self.old.table.held))
@@ -440,7 +440,7 @@ impl Flows {
         ensures succeeds { IsTrue ready → IsOk result }
         ensures adds_none { adds_by plan.now.first + adds_second plan.now.second ≡ 0
             → N.grants notes.old → IsOk result }
-        ensures quiet { (ts : List Flow)
+        ensures quiet { (ts : List Session)
             → GiveAll self.old.translations.external self.old.table.held now plan.now.first
             plan.now.second ts
             → noted_all ts (listing self.old.table.held) ≡ [] → IsOk result }
@@ -473,12 +473,12 @@ impl Flows {
         notes: &mut N,
     ) -> Result<(), StepFault>
         requires latest { IsLatest self.old.table.held now }
-        requires give { (ts : List Flow)
+        requires give { (ts : List Session)
             × GiveAll self.old.translations.external self.old.table.held now plan.now.first
             plan.now.second ts }
         requires ready { IsTrue ready → IsReady 2 self.old }
         requires room { IsTrue ready → N.keeps notes.old → 44 ≤ N.room notes.old }
-        ensures ok { OnOk result ((ts : List Flow)
+        ensures ok { OnOk result ((ts : List Session)
             → GiveAll self.old.translations.external self.old.table.held now plan.now.first
             plan.now.second ts
             → listing self.new.table.held ≡ put_all ts (listing self.old.table.held)) }
@@ -487,7 +487,7 @@ impl Flows {
         ensures external { self.new.translations.external ≡ self.old.translations.external }
         ensures keeps { N.keeps notes.old ↔ N.keeps notes.new }
         ensures beside { N.beside notes.new ≡ N.beside notes.old }
-        ensures noted { OnOk result ((ts : List Flow)
+        ensures noted { OnOk result ((ts : List Session)
             → GiveAll self.old.translations.external self.old.table.held now plan.now.first
             plan.now.second ts
             → N.keeps notes.old → N.noted notes.new ≡ N.noted notes.old
@@ -499,7 +499,7 @@ impl Flows {
         ensures succeeds { IsTrue ready → IsOk result }
         ensures adds_none { adds_by plan.now.first + adds_second plan.now.second ≡ 0
             → N.grants notes.old → IsOk result }
-        ensures quiet { (ts : List Flow)
+        ensures quiet { (ts : List Session)
             → GiveAll self.old.translations.external self.old.table.held now plan.now.first
             plan.now.second ts
             → noted_all ts (listing self.old.table.held) ≡ [] → IsOk result }
@@ -513,13 +513,13 @@ impl Flows {
         }
     }
 
-    /// Does what a packet does whose session goes on, at the second `now`, and notes it; `ready` says that there is room
-    /// for its entry already.
+    /// Does what a packet does whose session goes on, at the second `now`, and notes it; `ready` says that there is
+    /// room for its entry already.
     ///
     /// # Errors
     ///
-    /// `Full` only where something is noted and 44 bytes of entries don't fit; `NoMemory` only where they do, there is no
-    /// room for them yet, and memory is refused. The sessions stay as they are, and what is noted too.
+    /// `Full` only where something is noted and 44 bytes of entries don't fit; `NoMemory` only where they do, there is
+    /// no room for them yet, and memory is refused. The sessions stay as they are, and what is noted too.
     pub fn carry_out_going<N: Notes>(
         &mut self,
         ready: bool,
@@ -528,11 +528,11 @@ impl Flows {
         notes: &mut N,
     ) -> Result<(), StepFault>
         requires latest { IsLatest self.old.table.held now }
-        requires give { (ts : List Flow)
+        requires give { (ts : List Session)
             × GiveAll self.old.translations.external self.old.table.held now
             (plan_of going.now).first (plan_of going.now).second ts }
         requires room { IsTrue ready → N.keeps notes.old → 44 ≤ N.room notes.old }
-        ensures ok { OnOk result ((ts : List Flow)
+        ensures ok { OnOk result ((ts : List Session)
             → GiveAll self.old.translations.external self.old.table.held now
             (plan_of going.now).first (plan_of going.now).second ts
             → listing self.new.table.held ≡ put_all ts (listing self.old.table.held)) }
@@ -540,7 +540,7 @@ impl Flows {
         ensures external { self.new.translations.external ≡ self.old.translations.external }
         ensures keeps { N.keeps notes.old ↔ N.keeps notes.new }
         ensures beside { N.beside notes.new ≡ N.beside notes.old }
-        ensures noted { OnOk result ((ts : List Flow)
+        ensures noted { OnOk result ((ts : List Session)
             → GiveAll self.old.translations.external self.old.table.held now
             (plan_of going.now).first (plan_of going.now).second ts
             → N.keeps notes.old → N.noted notes.new ≡ N.noted notes.old
@@ -550,7 +550,7 @@ impl Flows {
         ensures no_memory { IsErrOf result StepFault.NoMemory → ¬ N.too_many notes.old 44 }
         ensures succeeds { IsTrue ready → IsOk result }
         ensures grants { N.grants notes.old → IsOk result }
-        ensures quiet { (ts : List Flow)
+        ensures quiet { (ts : List Session)
             → GiveAll self.old.translations.external self.old.table.held now
             (plan_of going.now).first (plan_of going.now).second ts
             → noted_all ts (listing self.old.table.held) ≡ [] → IsOk result }
@@ -568,10 +568,10 @@ impl Flows {
     /// A packet passed whose session goes on, at the second `now`, and that shows nothing new of it.
     pub fn see_going(&mut self, going: &Going, now: u64)
         requires latest { IsLatest self.old.table.held now }
-        requires give { (ts : List Flow)
+        requires give { (ts : List Session)
             × GiveAll self.old.translations.external self.old.table.held now
             (plan_of going.now).first (plan_of going.now).second ts }
-        ensures listing { (ts : List Flow)
+        ensures listing { (ts : List Session)
             → GiveAll self.old.translations.external self.old.table.held now
             (plan_of going.now).first (plan_of going.now).second ts
             → listing self.new.table.held ≡ put_all ts (listing self.old.table.held) }
@@ -670,11 +670,11 @@ impl Flows {
         ensures keeps { N.keeps notes.old ↔ N.keeps notes.new }
         ensures beside { N.beside notes.new ≡ N.beside notes.old }
         ensures noted { OnOk result (N.keeps notes.old
-            → (gone : List Flow) × AreOver now (listing self.old.table.held) gone
+            → (gone : List Session) × AreOver now (listing self.old.table.held) gone
             × (N.noted notes.new ≡ N.noted notes.old ++ ends gone)) }
         ensures unchanged { IfOk result (λ any. any ≡ false → notes.new ≡ notes.old) }
         ensures err_noted { OnErr result (N.noted notes.new ≡ N.noted notes.old) }
-        ensures full { IsErrOf result StepFault.Full → (gone : List Flow)
+        ensures full { IsErrOf result StepFault.Full → (gone : List Session)
             × AreOver now (listing self.old.table.held) gone
             × N.too_many notes.old (14 * length gone + others) }
         ensures succeeds { ((slot : ℕ) → ¬ IsSomeAnd (at self.old.table slot) (IsDue now))
@@ -708,7 +708,7 @@ impl Flows {
         notes: &mut N,
     ) -> Result<bool, StepFault>
         requires latest { IsLatest self.old.table.held now }
-        requires live { (s : Flow) → In s (listing self.old.table.held) → alive clock s ≡ true }
+        requires live { (s : Session) → In s (listing self.old.table.held) → alive clock s ≡ true }
         ensures ok { OnOk result (listing self.new.table.held
             ≡ filter (alive now) (listing self.old.table.held)) }
         ensures err { OnErr result (self.new.table.held ≡ self.old.table.held) }
@@ -721,11 +721,11 @@ impl Flows {
         ensures keeps { N.keeps notes.old ↔ N.keeps notes.new }
         ensures beside { N.beside notes.new ≡ N.beside notes.old }
         ensures noted { OnOk result (N.keeps notes.old
-            → (gone : List Flow) × AreOver now (listing self.old.table.held) gone
+            → (gone : List Session) × AreOver now (listing self.old.table.held) gone
             × (N.noted notes.new ≡ N.noted notes.old ++ ends gone)) }
         ensures unchanged { IfOk result (λ any. any ≡ false → notes.new ≡ notes.old) }
         ensures err_noted { OnErr result (N.noted notes.new ≡ N.noted notes.old) }
-        ensures full { IsErrOf result StepFault.Full → (gone : List Flow)
+        ensures full { IsErrOf result StepFault.Full → (gone : List Session)
             × AreOver now (listing self.old.table.held) gone
             × N.too_many notes.old (14 * length gone + others) }
         ensures succeeds { ((slot : ℕ) → ¬ IsSomeAnd (at self.old.table slot) (IsDue now))

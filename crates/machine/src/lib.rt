@@ -10,11 +10,11 @@
 //! - `ahead`: among many sessions, a look at what packets and ends of sessions are going to read.
 //! - `deed`: what an event does, once its text is read.
 //! - `in_force`: the text that loaded last, with its rules.
-//! - `answering`: what a packet comes to: by the session that a first look tells, where it lies (the shortest way) or
-//!   with what it shows of it (the short one), or by a plan.
-//! - `core_state`: `Core`, which has all the state and takes a step for each event (`step`, `step_noted`). Any packet it
-//!   also takes where the packet lies, for which no `Event` is made (`pass_noted`), and one whose session goes on by the
-//!   shortest way (`forward`).
+//! - `answering`: what a packet comes to: by the session that a guess tells, where nothing new is shown of it (the
+//!   shortest way) or something may be (the short one), or by a plan.
+//! - `core_state`: `Core`, which has all the state and takes a step for each event (`step`, `step_noted`). Any packet
+//!   it also takes where the packet lies, for which no `Event` is made (`pass_noted`), and one whose session goes on by
+//!   the shortest way (`forward`).
 //! - `notes`: where a step notes the entries by which it changes what must survive (crate `durable`).
 //! - `noting`: the entries of changes. `specs/Noted` says which an event has, `specs/Sizes` how many bytes.
 //! - `laws`: what holds of every step, of every state that is reached, and of where the rules of a text that loads

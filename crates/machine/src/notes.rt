@@ -37,7 +37,8 @@ pub trait Notes {
     ///
     /// # Errors
     ///
-    /// `Full` only where these don't fit, and `NoMemory` only where they do, and memory is refused. What is noted stays.
+    /// `Full` only where these don't fit, and `NoMemory` only where they do, and memory is refused. What is noted
+    /// stays.
     fn reserve(&mut self, ends: usize, others: u64) -> Result<(), StepFault>
         ensures keeps { keeps self.old ↔ keeps self.new }
         ensures beside { beside self.new ≡ beside self.old }

@@ -2,8 +2,8 @@
 //!
 //! - Of a change: whether it makes an entry (`makes_entry`), which (`entry_for`, `between`), and that it is noted
 //!   (`note`).
-//! - Of a plan: whether it makes one (`plan_makes_entry`), and whether it adds a session (`adds_any`), which it needs room
-//!   for beside.
+//! - Of a plan: whether it makes one (`plan_makes_entry`), and whether it adds a session (`adds_any`), which it needs
+//!   room for beside.
 //! - Of a packet: room for all its entries (`make_room_for_packet`).
 ghost use Rattle.std.specs.Prelude.{◌≡◌, ◌≢◌, ◌↔◌, ◌+◌, ◌<◌, ◌≤◌, ◌++◌, [], ℕ, List, IsErrOf, IsOk, IsTrue, OnOk};
 ghost use Rattle.durable.specs.Coding.{AreEntries, IsFlow, IsSession};
@@ -14,7 +14,7 @@ ghost use Rattle.machine.specs.Noted.{between as entries_between, noted, noted_a
 ghost use Rattle.machine.specs.Sizes.{bytes_of, listed};
 ghost use Rattle.sessions.specs.Life.{IsSeen};
 ghost use Rattle.sessions.specs.Listing.{listing};
-ghost use Rattle.sessions.specs.declared.session.Session.{Session as Flowing};
+ghost use Rattle.sessions.specs.declared.session.Session.{Session};
 ghost use Rattle.sessions.specs.Stilled.{stilled as without_moment};
 ghost use Rattle.sessions.specs.Table.{restarted, seen as seen_with};
 
@@ -87,8 +87,8 @@ fn restart_changes(session: &Session, opener: Opener) -> bool
 /// Whether a change of a session makes an entry, so that `entry_for` gives one; the table is that before the change.
 /// Of most packets it tells that none has to be made.
 pub fn makes_entry(table: &Table, change: &Change) -> bool
-    requires { (external now : ℕ) × (t : Flowing) × Gives external table.now.held now change.now t }
-    ensures { (external now : ℕ) (t : Flowing) → Gives external table.now.held now change.now t
+    requires { (external now : ℕ) × (t : Session) × Gives external table.now.held now change.now t }
+    ensures { (external now : ℕ) (t : Session) → Gives external table.now.held now change.now t
         → IsTrue result ↔ (noted (listing table.now.held) t ≢ []) }
 {
     table.facts();
@@ -132,8 +132,8 @@ pub fn make_room_for_packet<N: Notes>(ready: bool, notes: &mut N) -> Result<(), 
 /// callers, of which one knows the kind of change.
 #[inline(always)]
 pub fn entry_for(table: &Table, change: &Change) -> Option<Entry<'static>>
-    requires { (external now : ℕ) × (t : Flowing) × Gives external table.now.held now change.now t }
-    ensures entry { (external now : ℕ) (t : Flowing)
+    requires { (external now : ℕ) × (t : Session) × Gives external table.now.held now change.now t }
+    ensures entry { (external now : ℕ) (t : Session)
         → Gives external table.now.held now change.now t
         → listed result ≡ noted (listing table.now.held) t }
     ensures coded { AreEntries (listed result) }
@@ -161,8 +161,8 @@ pub fn entry_for(table: &Table, change: &Change) -> Option<Entry<'static>>
     }
 }
 
-/// Notes an entry if there is one, which has a code, and for which there is room. Compiled into its callers, with which an
-/// entry needn't be moved.
+/// Notes an entry if there is one, which has a code, and for which there is room. Compiled into its callers, with which
+/// an entry needn't be moved.
 #[inline(always)]
 pub fn note<N: Notes>(notes: &mut N, entry: Option<Entry<'_>>)
     requires coded { AreEntries (listed entry) }
@@ -182,9 +182,9 @@ pub fn note<N: Notes>(notes: &mut N, entry: Option<Entry<'_>>)
 /// Whether the plan makes an entry. A change that adds a session makes one. Of a second change that adds none the table
 /// tells it, although it is the table before the first change.
 pub fn plan_makes_entry(table: &Table, plan: &Plan) -> bool
-    requires { (external now : ℕ) × (ts : List Flowing)
+    requires { (external now : ℕ) × (ts : List Session)
         × GiveAll external table.now.held now plan.now.first plan.now.second ts }
-    ensures { (external now : ℕ) (ts : List Flowing)
+    ensures { (external now : ℕ) (ts : List Session)
         → GiveAll external table.now.held now plan.now.first plan.now.second ts
         → IsTrue result ↔ (noted_all ts (listing table.now.held) ≢ []) }
 {

@@ -9,8 +9,8 @@ use Rattle.rows.specs.Held.{value_at}
 use Rattle.mappings.specs.declared.map.Pair.{Pair}
 use Rattle.mappings.specs.declared.map.Counted.{Counted}
 use Rattle.mappings.specs.Map.{pair, times_in, AreOneToOne, KeepsOneToOneIn}
-use Rattle.packet.specs.Numbers.{IsEndpoint}
-use Rattle.mappings.specs.Indexed.{pairs_in, mapping_number, number_of, LeadToPairs, AreApart, AreIndexed}
+use Rattle.packet.specs.Numbers.{IsEndpoint, mapping_number}
+use Rattle.mappings.specs.Indexed.{pairs_in, number_of, LeadToPairs, AreApart, AreIndexed}
 use Rattle.mappings.proofs.Keys.{mapping_number-once}
 use Rattle.mappings.proofs.Slots.{times-slot, times-some}
 use Rattle.mappings.proofs.Times.{same_parts}

@@ -1,27 +1,19 @@
 -- How the pairs are kept: each in a slot, and a map, seen as the list of its entries, that leads to it from the outside
 -- endpoint. No public clause cites this module.
-use Rattle.std.specs.Prelude.{◌≡◌, ◌↔◌, ℕ, ◌+◌, ◌-◌, ◌*◌, ◌<◌, List, [], ◌∷◌, Option, Some, None, min, slice_index_or}
+use Rattle.std.specs.Prelude.{◌≡◌, ℕ, ◌-◌, ◌<◌, List, [], ◌∷◌, Option, Some, None, min, slice_index_or}
 use Rattle.slab.specs.Slab.{slab_len}
-use Rattle.packet.specs.Numbers.{IsEndpoint, proto_number}
-use Rattle.packet.specs.declared.endpoint.Proto.{Proto}
-use Rattle.packet.specs.declared.endpoint.Endpoint.{Endpoint}
+use Rattle.packet.specs.Numbers.{IsEndpoint, mapping_number}
 use Rattle.rows.specs.declared.Entry.{Entry}
 use Rattle.rows.specs.Held.{value_at}
 use Rattle.mappings.specs.declared.index.Index.{Index}
 use Rattle.mappings.specs.declared.map.Pair.{Pair}
 use Rattle.mappings.specs.declared.map.Counted.{Counted}
-use Rattle.mappings.specs.Map.{times_in}
 
 -- the pairs of the slots that have one, with their counts
 abbrev pub pairs_in : List (Option Counted) → List Counted
 pairs_in [] = []
 pairs_in (None ∷ slots) = pairs_in slots
 pairs_in (Some entry ∷ slots) = entry ∷ pairs_in slots
-
--- protocol, address and port as one number: that of `sessions/specs/Index` too
-abbrev pub mapping_number : Proto → Endpoint → ℕ
-mapping_number proto endpoint =
-    proto_number proto * 281474976710656 + endpoint.addr * 65536 + endpoint.port
 
 -- the number by which the map leads to the pair
 abbrev pub number_of : Pair → ℕ

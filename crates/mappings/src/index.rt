@@ -1,15 +1,14 @@
 //! The pairs, each in a slot of its own, and the map that leads to it.
 ghost use Rattle.std.specs.Prelude.{◌≡◌, ◌↔◌, ◌+◌, ◌-◌, ◌<◌, ◌≤◌, Some, None, IsTrue, OnOk, OnErr, IsOk, IsSome, IfSome, IfNone, IsSomeAnd};
-ghost use Rattle.packet.specs.declared.endpoint.Endpoint.{Endpoint as Place};
+ghost use Rattle.packet.specs.declared.endpoint.Endpoint.{Endpoint};
 ghost use Rattle.slab.specs.Slab.{get, with_value, HasRoomFor};
 ghost use Rattle.rows.specs.Held.{at};
 ghost use Rattle.mappings.specs.Map.{times_in, pair, GainsIn, KeepsOneToOneIn};
-ghost use Rattle.packet.specs.Numbers.{IsEndpoint};
-ghost use Rattle.mappings.specs.Indexed.{mapping_number, IsIndexed, held_in, room_in};
+ghost use Rattle.mappings.specs.Indexed.{IsIndexed, held_in, room_in};
 
 use crate::map::{Counted, Pair};
 use buckets::by_port::ByPort;
-use packet::endpoint::{Endpoint, Proto};
+use packet::endpoint::{Endpoint, Proto, mapping_key};
 use slab::Slab;
 use std::alloc::AllocError;
 
@@ -18,15 +17,6 @@ use std::alloc::AllocError;
 pub struct Index {
     pub outside: ByPort,
     pub pairs: Slab<Counted>,
-}
-
-// Protocol, address and port, one behind another: a number of 56 bits, the same as `keys::mapping_key` of `sessions`.
-fn mapping_key(proto: Proto, endpoint: Endpoint) -> u64
-    ensures key { result ≡ mapping_number proto endpoint }
-    ensures small { IsEndpoint endpoint }
-{
-    let addr = u64::from(endpoint.addr) * 0x1_0000;
-    u64::from(proto.number()) * 0x1_0000_0000_0000 + addr + u64::from(endpoint.port)
 }
 
 /// Whether a look into the map tells that it leads from this outside endpoint.
@@ -39,7 +29,7 @@ pub fn find_outside(index: &Index, proto: Proto, inside: Endpoint) -> Option<End
     requires { IsIndexed index.now }
     ensures found { IfSome result (λ outside.
         0 < times_in (held_in index.now) (pair proto inside outside)) }
-    ensures absent { IfNone result ((outside : Place)
+    ensures absent { IfNone result ((outside : Endpoint)
         → times_in (held_in index.now) (pair proto inside outside) ≡ 0) }
 {
     for (_, held) in &index.pairs {
@@ -62,7 +52,7 @@ pub fn find_inside(index: &Index, proto: Proto, outside: Endpoint) -> Option<End
     requires { IsIndexed index.now }
     ensures found { IfSome result (λ inside.
         0 < times_in (held_in index.now) (pair proto inside outside)) }
-    ensures absent { IfNone result ((inside : Place)
+    ensures absent { IfNone result ((inside : Endpoint)
         → times_in (held_in index.now) (pair proto inside outside) ≡ 0) }
 {
     let slot = index.outside.get(mapping_key(proto, outside))?;

@@ -1,7 +1,7 @@
 //! The pairs that are held, and how often.
 ghost use Rattle.std.specs.Prelude.{◌≡◌, ◌+◌, ◌<◌, ◌≤◌, OnOk, OnErr, IsOk, IfSome, IfNone};
-ghost use Rattle.packet.specs.declared.endpoint.Endpoint.{Endpoint as Place};
-ghost use Rattle.mappings.specs.declared.map.Pair.{Pair as Mapping};
+ghost use Rattle.packet.specs.declared.endpoint.Endpoint.{Endpoint};
+ghost use Rattle.mappings.specs.declared.map.Pair.{Pair};
 ghost use Rattle.mappings.specs.Map.{times, pair, KeepsOneToOne, IsOneToOne, Gains, SameTimes};
 
 use crate::index::{Index, add, find_inside, find_outside, reserve, seems_held, take_one};
@@ -34,8 +34,8 @@ const _: () = prove!(size_of::<Counted>() == 24);
 
 /// The pairs that are held.
 ///
-/// A look-up by an outside endpoint reads one place, which its protocol and port say, and one slot. A pair takes 32 bytes
-/// in its slot, and the places take up to 1.5 MiB (`ByPort`), however many pairs there are.
+/// A look-up by an outside endpoint reads one place, which its protocol and port say, and one slot. A pair takes 32
+/// bytes in its slot, and the places take up to 1.5 MiB (`ByPort`), however many pairs there are.
 #[derive(Drop)]
 pub struct Map {
     index: Index,
@@ -58,7 +58,7 @@ impl Model for Map {
 impl Map {
     /// No pair is held. This takes no memory.
     pub fn new(alloc: Global) -> Map
-        ensures { (p : Mapping) → times result p ≡ 0 }
+        ensures { (p : Pair) → times result p ≡ 0 }
     {
         Map {
             index: Index {
@@ -72,9 +72,9 @@ impl Map {
     /// pairs; no packet asks for it.
     pub fn outside_of(&self, proto: Proto, inside: Endpoint) -> Option<Endpoint>
         ensures found { IfSome result (λ outside. 0 < times self.now (pair proto inside outside)) }
-        ensures only { IfSome result (λ outside. (other : Place)
+        ensures only { IfSome result (λ outside. (other : Endpoint)
             → 0 < times self.now (pair proto inside other) → other ≡ outside) }
-        ensures absent { IfNone result ((outside : Place)
+        ensures absent { IfNone result ((outside : Endpoint)
             → times self.now (pair proto inside outside) ≡ 0) }
     {
         find_outside(&self.index, proto, inside)
@@ -84,9 +84,9 @@ impl Map {
     /// look-up in the map from outside endpoints.
     pub fn inside_of(&self, proto: Proto, outside: Endpoint) -> Option<Endpoint>
         ensures found { IfSome result (λ inside. 0 < times self.now (pair proto inside outside)) }
-        ensures only { IfSome result (λ inside. (other : Place)
+        ensures only { IfSome result (λ inside. (other : Endpoint)
             → 0 < times self.now (pair proto other outside) → other ≡ inside) }
-        ensures absent { IfNone result ((inside : Place)
+        ensures absent { IfNone result ((inside : Endpoint)
             → times self.now (pair proto inside outside) ≡ 0) }
     {
         find_inside(&self.index, proto, outside)

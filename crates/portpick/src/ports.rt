@@ -1,7 +1,7 @@
 //! The ports that are taken, and the nearest free one.
 ghost use Rattle.std.specs.Prelude.{◌≡◌, ◌↔◌, ◌+◌, ◌*◌, ◌<◌, ◌≤◌, ◌==◌, ℕ, Bool, IsTrue, IsOk, IsSome, OnOk, OnErr, IfOk, IfSome, IfNone, length};
 ghost use Rattle.std.specs.List.{Contains, position};
-ghost use Rattle.packet.specs.declared.endpoint.Proto.{Proto as Protocol};
+ghost use Rattle.packet.specs.declared.endpoint.Proto.{Proto};
 ghost use Rattle.portpick.specs.Taken.{IsTaken, Takes, SameTaken, start};
 ghost use Rattle.portpick.specs.Choice.{IsAlike, IsNearest, AllTaken, IsTestOf, port_choice};
 ghost use Rattle.portpick.specs.Words.{AreFresh, fresh_word, lane_words};
@@ -49,7 +49,7 @@ impl Ports {
     /// The ports of these addresses, none of them taken. This takes no memory.
     pub fn new(alloc: Global, external: Vec<u32>) -> Ports
         ensures addresses { result.external ≡ external.items }
-        ensures none { (proto : Protocol) (addr port : ℕ) → ¬ IsTaken result proto addr port }
+        ensures none { (proto : Proto) (addr port : ℕ) → ¬ IsTaken result proto addr port }
     {
         Ports {
             alloc,

@@ -72,8 +72,8 @@ impl Stop {
         }
     }
 
-    /// The second line, without its end: the advice, or what the word says where there is none, or it isn't one line, as
-    /// that may be which tells a path.
+    /// The second line, without its end: the advice, or what the word says where there is none, or it isn't one line,
+    /// as that may be which tells a path.
     pub fn second_line(&self) -> &str
         ensures says { result.now ≡ second_line self.now }
         ensures one { IsTrue (is_one_line result.now) }

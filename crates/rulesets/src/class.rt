@@ -41,14 +41,7 @@ pub fn class_of(head: Head) -> Class
 pub(crate) fn is_same(one: Class, other: Class) -> bool
     ensures { result ≡ same_class one other }
 {
-    matches!(
-        (one, other),
-        (Class::Addresses, Class::Addresses)
-            | (Class::Services, Class::Services)
-            | (Class::Protocols, Class::Protocols)
-            | (Class::Interfaces, Class::Interfaces)
-            | (Class::States, Class::States)
-    )
+    one == other
 }
 
 fn is(word: &[u8], expected: &[u8]) -> bool

@@ -97,10 +97,7 @@ fn within_some(alloc: Global, tables: &[Table]) -> Result<Option<Line>, AllocErr
 fn is_of_family(table: &Table, family: Family) -> bool
     ensures { result ≡ is_of family table.now.family }
 {
-    matches!(
-        (family, table.family),
-        (Family::Ip, Family::Ip) | (Family::Inet, Family::Inet)
-    )
+    family == table.family
 }
 
 // Adds the table's name where it is of the family; answers whether it stood there before.

@@ -9,7 +9,7 @@ use std::marker::Model;
 /// Rules that may run: the tables as they are spelled, of which no kind of fault holds.
 #[derive(Drop)]
 pub struct Ruleset {
-    text: Spelled,
+    spelled: Spelled,
 }
 
 impl Model for Ruleset {
@@ -18,25 +18,25 @@ impl Model for Ruleset {
 
     ghost Value = { Tables };
 
-    ghost view = { λ r. r.text };
+    ghost view = { λ r. r.spelled };
 
-    ghost invariant = { λ r. IsRunnable r.text };
+    ghost invariant = { λ r. IsRunnable r.spelled };
 }
 
 impl Ruleset {
     /// The rules that are spelled, of which no kind of fault holds.
-    pub(crate) fn of(text: Spelled) -> Ruleset
-        requires { IsRunnable text }
-        ensures { result ≡ text }
+    pub(crate) fn of(spelled: Spelled) -> Ruleset
+        requires { IsRunnable spelled }
+        ensures { result ≡ spelled }
     {
-        Ruleset { text }
+        Ruleset { spelled }
     }
 
     /// The tables, in the order of the text.
-    pub fn text(&self) -> &Spelled
+    pub fn spelled(&self) -> &Spelled
         ensures { result.now ≡ self.now }
     {
-        &self.text
+        &self.spelled
     }
 
     /// What every ruleset keeps: none of the faults that a text has under whatever bounds. It does nothing
@@ -44,14 +44,17 @@ impl Ruleset {
     pub fn facts(&self)
         ensures { IsRunnable self.now }
     {
-        let _text = &self.text;
+        let _spelled = &self.spelled;
     }
 
     /// The tables by themselves, still without those faults.
-    pub fn into_text(self) -> Spelled
+    pub fn into_spelled(self) -> Spelled
         ensures same { result ≡ self }
         ensures runnable { IsRunnable result }
     {
-        self.text
+        self.spelled
     }
+
+    /// Drops the rules, here, where that is proved already: a crate that drops them itself proves it anew of each part.
+    pub fn discard(self) {}
 }

@@ -22,8 +22,7 @@ use Rattle.ruletree.specs.declared.tree.Base.{Base}
 use Rattle.ruletree.specs.declared.tree.Rule.{Rule}
 use Rattle.ruletree.specs.declared.tree.Chain.{Chain}
 use Rattle.rulesyntax.specs.Names.{priority_name, priority_value, type_name, hook_name, policy_name}
-use Rattle.rulesyntax.specs.Words.{priority_words, type_words, hook_words, policy_words, member_words}
-use Rattle.rulesyntax.proofs.WordNames.{member_name}
+use Rattle.rulesyntax.specs.Words.{priority_words, type_words, hook_words, policy_words, member_words, member_name}
 use Rattle.rulesyntax.specs.Grammar.{Tokens, Listed, CommentIs, AmountIs, PlusIs, MinusIs, NamedIs, PriorityIs, BaseIs, RuleIs, Member, comment_member, base_member, policy_member, rule_member, MemberIs, AreMembers, ChainIs}
 use Rattle.rulesyntax.specs.Reading.{next_at, number_of, number_at, name_of, name_at, quoted_of, quoted_at, word_of, word_at, rank, symbol_of, symbol_at, keyword_of, keyword_at, closes, amount_at, less_behind, more_behind, named_priority, priority_at, base_behind, with_policy, rule_step, policy_behind, member_behind, step_at, chain_step, no_members, chain_behind}
 use Rattle.rulesyntax.proofs.Sound.{Sound, just, nothing, weaker, then_sound, if_sound, cond_sound, number_sound, name_sound, word_sound, symbol_sound, keyword_sound}

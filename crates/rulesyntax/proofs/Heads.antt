@@ -15,8 +15,7 @@ use Rattle.ruletree.specs.declared.tree.Transport.TheVariants.{Tcp, Udp}
 use Rattle.ruletree.specs.declared.tree.Head.{Head}
 use Rattle.ruletree.specs.declared.tree.Head.TheVariants.{Iifname, Oifname, Saddr, Daddr, Protocol, Sport, Dport, State}
 use Rattle.rulesyntax.specs.Names.{transport_name}
-use Rattle.rulesyntax.specs.Words.{head_words, meta_words, ip_words, port_words, verdict_words, nat_words}
-use Rattle.rulesyntax.proofs.WordNames.{head_name, meta_name, ip_name, port_name}
+use Rattle.rulesyntax.specs.Words.{head_words, meta_words, ip_words, port_words, verdict_words, nat_words, head_name, meta_name, ip_name, port_name}
 use Rattle.rulesyntax.specs.Grammar.{Tokens, HeadIs}
 use Rattle.rulesyntax.specs.Reading.{next_at, word_of, word_at, keyword_of, keyword_at, meta_head, ip_head, port_head, head_behind, head_at, begins_head, begins_word}
 use Rattle.rulesyntax.proofs.Sound.{Sound, just, then_sound, word_sound, keyword_sound}

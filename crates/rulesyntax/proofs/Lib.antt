@@ -1,4 +1,3 @@
-pub mod WordNames
 pub mod Bind
 pub mod Seen
 pub mod Loop

@@ -22,8 +22,7 @@ use Rattle.ruletree.specs.declared.tree.End.TheVariants as end
 use Rattle.ruletree.specs.declared.tree.Rule.{Rule}
 use Rattle.ruletree.specs.declared.tree.Head.TheVariants.{Iifname, Oifname, Saddr, Daddr, Protocol, Sport, Dport, State}
 use Rattle.ruletree.specs.declared.tree.Transport.TheVariants.{Tcp, Udp}
-use Rattle.rulesyntax.specs.Words.{member_words, verdict_words, nat_words}
-use Rattle.rulesyntax.proofs.WordNames.{verdict_name, nat_name}
+use Rattle.rulesyntax.specs.Words.{member_words, verdict_words, nat_words, verdict_name, nat_name}
 use Rattle.rulesyntax.specs.Grammar.{Tokens, CommentIs, Each, CounterIs, Part, counter, test, PartIs, matches_of, HeadIs, VerdictIs, PairIs, VmapIs, ToIs, PortIs, EndIs, MayEnd, MatchIs, IsSaid, RuleIs}
 use Rattle.rulesyntax.specs.Reading.{next_at, number_of, number_at, address_of, address_at, name_of, name_at, quoted_of, quoted_at, word_of, word_at, rank, symbol_of, symbol_at, keyword_of, keyword_at, verdict_behind, head_at, pair_at, amounts_behind, counter_behind, begins_head, begins_word, begins_vmap, begins_part, part_at, with_part, parts_from, no_parts, vmap_at, to_at, port_behind, port_at, dnat_behind, snat_behind, nat_behind, wrapped, verdict_end, vmap_end, end_at, comment_at, is_said, rule_at, closes}
 use Rattle.rulesyntax.proofs.Sound.{Sound, just, nothing, weaker, then_sound, if_sound, cond_sound, number_sound, address_sound, quoted_sound, word_sound, symbol_sound, keyword_sound}

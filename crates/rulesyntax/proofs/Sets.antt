@@ -12,8 +12,7 @@ use Rattle.ruletree.specs.declared.tree.Element.{Element}
 use Rattle.ruletree.specs.declared.tree.Set.{Set}
 use Rattle.ruletree.specs.declared.tree.SetType.{SetType}
 use Rattle.ruletree.specs.declared.tree.SetElements.{SetElements}
-use Rattle.rulesyntax.specs.Words.{line_words}
-use Rattle.rulesyntax.proofs.WordNames.{line_name}
+use Rattle.rulesyntax.specs.Words.{line_words, line_name}
 use Rattle.rulesyntax.specs.Grammar.{Tokens, Listed, Entries, CommentIs, ElementIs, FlagIs, SetLine, type_line, elements_line, flags_line, merge_line, comment_line, SetLineIs, types_of, elements_of, SetIs}
 use Rattle.rulesyntax.specs.Reading.{next_at, name_of, name_at, quoted_of, quoted_at, rank, symbol_of, symbol_at, keyword_of, keyword_at, closes, element_at, flag_at, type_behind, elements_behind, line_behind, set_step, no_lines, set_behind}
 use Rattle.rulesyntax.proofs.Sound.{Sound, just, then_sound, name_sound, symbol_sound, keyword_sound}

@@ -20,8 +20,7 @@ use Rattle.ruletree.specs.declared.tree.Chain.{Chain}
 use Rattle.ruletree.specs.declared.tree.Table.{Table}
 use Rattle.ruletree.specs.declared.tree.Spelled.{Spelled}
 use Rattle.rulesyntax.specs.Names.{family_name, is_reserved}
-use Rattle.rulesyntax.specs.Words.{item_words, family_words, statement_words}
-use Rattle.rulesyntax.proofs.WordNames.{item_name, statement_name}
+use Rattle.rulesyntax.specs.Words.{item_words, family_words, statement_words, item_name, statement_name}
 use Rattle.rulesyntax.specs.Grammar.{Tokens, Listed, CommentIs, SetIs, ChainIs, Item, comment_item, set_item, chain_item, ItemIs, is_block, sets_of, chains_of, FamilyIs, TableIs, Statement, flush, table, StatementIs, is_table, AreStatements, Spells}
 use Rattle.rulesyntax.specs.Reading.{if_some, next_at, name_of, name_at, quoted_of, quoted_at, word_of, word_at, keyword_of, keyword_at, item_behind, table_step, no_items, family_at, free_name_at, table_behind, flush_behind, statement_behind, text_step, text_at, Answers}
 use Rattle.rulesyntax.proofs.Sound.{Sound, just, nothing, then_sound, cond_sound, name_sound, word_sound, keyword_sound}

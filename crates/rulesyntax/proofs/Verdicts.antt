@@ -12,8 +12,7 @@ use Rattle.ruletree.specs.declared.tree.Verdict.TheVariants.{Accept, Drop, Retur
 use Rattle.ruletree.specs.declared.tree.Element.{Element}
 use Rattle.ruletree.specs.declared.tree.Pair.{Pair}
 use Rattle.rulesyntax.specs.Names.{flag_name}
-use Rattle.rulesyntax.specs.Words.{verdict_words, flag_words}
-use Rattle.rulesyntax.proofs.WordNames.{verdict_name}
+use Rattle.rulesyntax.specs.Words.{verdict_words, flag_words, verdict_name}
 use Rattle.rulesyntax.specs.Grammar.{Tokens, ElementIs, VerdictIs, PairIs, FlagIs}
 use Rattle.rulesyntax.specs.Reading.{next_at, name_of, name_at, keyword_of, keyword_at, rank, symbol_of, symbol_at, is_close, verdict_behind, verdict_at, pair_at, flag_at}
 use Rattle.rulesyntax.proofs.Sound.{Sound, just, then_sound, name_sound, symbol_sound, keyword_sound}

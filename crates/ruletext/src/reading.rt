@@ -1,6 +1,6 @@
 //! From a text to rules that may run.
 
-ghost use Rattle.std.specs.Prelude.{IfErr, IfNone, IfOk, IfSome};
+ghost use Rattle.std.specs.Prelude.{◌≡◌, IfErr, IfNone, IfOk, IfSome};
 ghost use Rattle.ruletree.specs.declared.tree.Spelled.{Spelled};
 ghost use Rattle.rulesyntax.specs.Text.{IsOkOrNoMemory, IsSpelledBy, IsUnreadFor};
 ghost use Rattle.ruletext.specs.Texts.{Loads, IsRefused};
@@ -9,7 +9,7 @@ use packet::bounds::Bounds;
 use rulesets::load::load;
 use rulesets::ruleset::Ruleset;
 use rulesyntax::parse;
-use ruletree::fault::LoadFault;
+use ruletree::fault::{Kind, LoadFault};
 use std::alloc::Global;
 
 /// The rules of a text, where it loads under these bounds.
@@ -34,6 +34,8 @@ pub fn read(alloc: Global, text: &[u8], bounds: &Bounds) -> Result<Ruleset, Load
 /// Why a text doesn't load under these bounds: the fault that `read` tells, or nothing where it loads.
 pub fn fault_of(alloc: Global, text: &[u8], bounds: &Bounds) -> Option<LoadFault>
     ensures loads { IfNone result ((rules : Spelled) × Loads bounds.now text.now rules) }
+    ensures only { (rules : Spelled) → Loads bounds.now text.now rules
+        → IfSome result (λ fault. fault.kind ≡ Kind.NoMemory) }
     ensures refused { IfSome result (λ fault. IsRefused bounds.now text.now fault.kind) }
 {
     match read(alloc, text, bounds) {

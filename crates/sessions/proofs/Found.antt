@@ -1,5 +1,6 @@
 -- What a search of a table tells of a search of its listing, from either side.
 use Rattle.std.proofs.Common.{◌≡◌, ◌≢◌, ℕ, List, Option, Some, None, Bool, true, IfSome, get_or, sym, ◌∙◌, subst, inl, inr}
+use Rattle.std.specs.Prelude.{find}
 use Rattle.std.proofs.lemmas.Bool.{cases_eq, and_parts, and_from}
 use Rattle.std.proofs.lemmas.Option.{same_Some}
 use Rattle.packet.specs.declared.endpoint.Proto.{Proto}
@@ -8,7 +9,7 @@ use Rattle.packet.specs.Same.{same_proto, same_endpoint}
 use Rattle.packet.proofs.SameLemmas.{same_proto-true, same_proto-itself, same_endpoint-true, same_endpoint-itself}
 use Rattle.sessions.specs.declared.session.Session.{Session}
 use Rattle.sessions.specs.Table.{IsSound, HasInside, HasOutside}
-use Rattle.sessions.specs.Listing.{listing, has_inside, has_outside, find}
+use Rattle.sessions.specs.Listing.{listing, has_inside, has_outside}
 use Rattle.sessions.proofs.Sets.{In-listing, listing-In}
 use Rattle.sessions.proofs.Puts.{has_inside-true, has_inside-from, find-is, find-none}
 

@@ -12,8 +12,8 @@ use Rattle.sessions.specs.declared.translated.Translated.{Translated}
 use Rattle.sessions.specs.Table.{BreakMapping, Clash, HasInside, HasOutside, IsSound}
 use Rattle.sessions.specs.Laws.{IsMapping}
 use Rattle.sessions.specs.Listing.{is_translated, listing}
-use Rattle.packet.specs.Numbers.{IsEndpoint}
-use Rattle.sessions.specs.Index.{AreEndpoints, ClashesAt, ClashesAtHeld, IsAt, endpoint_number, first_value, flow_number, inside_number, key_number, mapping_number, outside_number}
+use Rattle.packet.specs.Numbers.{IsEndpoint, endpoint_number, mapping_number}
+use Rattle.sessions.specs.Index.{AreEndpoints, ClashesAt, ClashesAtHeld, IsAt, first_value, flow_number, inside_number, key_number, outside_number}
 use Rattle.sessions.specs.Translated.{HasPlace, IsHeir, IsNowhereTranslated, IsTold, first_of}
 use Rattle.sessions.proofs.Clashing.{apart-from, differ}
 use Rattle.sessions.proofs.KeyNumbers.{key-between, key-from, key-least, key-parts, mapping-from, mapping-parts}
@@ -116,9 +116,6 @@ module _ (held : List (Option Session)) (sound : IsSound held) (i j : ℕ) (t u 
     | inl here ↦ ap (λ (s : Session). s.inside) (one here)
     | inr away ↦ one_endpoint t.inside u.inside (λ ne. unbroken away (t_apart, u_apart, proto, inr (e, ne)))
   ]
-
-clash-at : (held : List (Option Session)) (slot : ℕ) (found : Option ℕ) (t s : Session) → found ≡ Some slot → get_or held slot None ≡ Some t → Clash s t → ClashesAt held found s
-clash-at held slot found t s e is clash = subst (λ o. ClashesAt held o s) (sym e) (subst (λ o. ClashesAtHeld o s) (sym is) clash)
 
 -- ---- the first of a mapping
 

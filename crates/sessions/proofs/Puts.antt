@@ -1,5 +1,6 @@
 -- A session put into a set, and a search of a set.
 use Rattle.std.proofs.Common.{◌≡◌, ◌≢◌, ℕ, List, [], ◌∷◌, Option, Some, None, Bool, true, cond, not, refl, sym, ap, ◌∙◌, subst, inl, inr, length, get_or, ◌+◌, count_by, is_some, arith}
+use Rattle.std.specs.Prelude.{find}
 use Rattle.std.specs.List.{filter}
 use Rattle.std.proofs.lemmas.Grind.{common_steps}
 use Rattle.std.proofs.lemmas.Bool.{cases_Bool, cases_eq, false≢true, and_parts, and_from, not-true, not_from_false, false_from_ne_true}
@@ -11,7 +12,7 @@ use Rattle.packet.proofs.SameLemmas.{same_proto-true, same_proto-itself, same_en
 use Rattle.sessions.specs.declared.session.Session.{Session}
 use Rattle.sessions.specs.Table.{IsSound, HasInside}
 use Rattle.packet.specs.Numbers.{proto_number}
-use Rattle.sessions.specs.Listing.{key, below, In, insert, listing, has_inside, same_flow, put, find}
+use Rattle.sessions.specs.Listing.{key, below, In, insert, listing, has_inside, same_flow, put}
 use Rattle.sessions.proofs.Sets.{Apart, Apart-sound, same_key, Rises-listing, Rises-filter, Rises-insert, In-filter, filter-In, In-insert, insert-In, In-listing, listing-In, listing-is}
 
 pub has_inside-true : (proto : Proto) (inside remote : Endpoint) (s : Session) → has_inside proto inside remote s ≡ true → HasInside proto inside remote s

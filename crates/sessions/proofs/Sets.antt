@@ -144,28 +144,6 @@ Rises-filter p (x ∷ xs) rises = elim (cases_Bool (p x)) [
   | inr not_in ↦ subst (λ b. Rises (cond b (x ∷ filter p xs) (filter p xs))) (sym not_in) (Rises-filter p xs rises.1)
 ]
 
--- the members of a set whose members were changed, but not their keys
-abbrev pub each : (Session → Session) → List Session → List Session
-each f [] = []
-each f (x ∷ xs) = f x ∷ each f xs
-
-pub In-each : (f : Session → Session) (xs : List Session) (t : Session) → In t (each f xs) → (s : Session) × In s xs × (t ≡ f s)
-In-each f [] t not_in = absurd not_in
-In-each f (x ∷ xs) t (inl e) = (x, inl refl, e)
-In-each f (x ∷ xs) t (inr is) = let old = In-each f xs t is in (old.0, inr old.1, old.2)
-
-pub each-In : (f : Session → Session) (xs : List Session) (s : Session) → In s xs → In (f s) (each f xs)
-each-In f [] s not_in = absurd not_in
-each-In f (x ∷ xs) s (inl e) = inl (ap f e)
-each-In f (x ∷ xs) s (inr is) = inr (each-In f xs s is)
-
-pub Rises-each : (f : Session → Session) → ((s : Session) → key (f s) ≡ key s) → (xs : List Session) → Rises xs → Rises (each f xs)
-Rises-each f same [] rises = tt
-Rises-each f same (x ∷ xs) rises = (
-  (λ t is. let old = In-each f xs t is in subst (λ u. below (f x) u ≡ true) (sym old.2) (below-keys x old.0 (f x) (f old.0) (same x) (same old.0) ∙ rises.0 old.0 old.1)),
-  Rises-each f same xs rises.1,
-)
-
 -- what is held, as a set
 pub In-listing : (held : List (Option Session)) (t : Session) → In t (listing held) → Holds held t
 In-listing [] t not_in = absurd not_in

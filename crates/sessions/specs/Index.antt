@@ -2,16 +2,12 @@
 use Rattle.std.specs.Prelude.{◌≡◌, ℕ, ◌+◌, ◌*◌, List, [], ◌∷◌, Option, Some, None, cond, IfSome, IsSomeAnd, slice_index_or}
 use Rattle.packet.specs.declared.endpoint.Proto.{Proto}
 use Rattle.packet.specs.declared.endpoint.Endpoint.{Endpoint}
-use Rattle.packet.specs.Numbers.{IsEndpoint, proto_number}
+use Rattle.packet.specs.Numbers.{IsEndpoint, endpoint_number, mapping_number, proto_number}
 use Rattle.rows.specs.declared.Entry.{Entry}
 use Rattle.rows.specs.Held.{value_at, Puts}
 use Rattle.sessions.specs.declared.session.Session.{Session}
 use Rattle.sessions.specs.Table.{Clash}
 use Rattle.sessions.specs.Listing.{is_translated}
-
--- address and port behind one another, a number of 48 bits
-abbrev pub endpoint_number : Endpoint → ℕ
-endpoint_number e = e.addr * 65536 + e.port
 
 -- protocol, an endpoint and the remote one behind one another, a number of 104 bits
 abbrev pub key_number : Proto → Endpoint → Endpoint → ℕ
@@ -21,10 +17,6 @@ key_number proto near remote =
 
 abbrev pub AreEndpoints : Session → Type 0
 AreEndpoints s = IsEndpoint s.inside × IsEndpoint s.outside × IsEndpoint s.remote
-
--- protocol and an endpoint behind one another, a number of 56 bits: that of `mappings/specs/Indexed` too
-abbrev pub mapping_number : Proto → Endpoint → ℕ
-mapping_number proto near = proto_number proto * 281474976710656 + endpoint_number near
 
 -- the numbers of the mapping of a translated session from either side, and its own
 abbrev pub inside_number : Session → ℕ

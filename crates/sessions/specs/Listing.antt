@@ -86,8 +86,3 @@ same_flow s t = has_inside s.proto s.inside s.remote t
 -- the set with this session in place of the one of its protocol, inside and remote endpoint
 abbrev pub put : Session → List Session → List Session
 put s ss = insert s (filter (λ t. not (same_flow s t)) ss)
-
--- the first session that passes the test
-abbrev pub find : (Session → Bool) → List Session → Option Session
-find p [] = None
-find p (s ∷ ss) = cond (p s) (Some s) (find p ss)

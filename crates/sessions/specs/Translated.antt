@@ -7,7 +7,8 @@ use Rattle.rows.specs.Held.{value_at, Puts}
 use Rattle.slab.specs.Slab.{slab_len}
 use Rattle.sessions.specs.declared.session.Session.{Session}
 use Rattle.sessions.specs.declared.translated.Translated.{Translated}
-use Rattle.sessions.specs.Index.{AreEndpoints, flow_number, inside_number, mapping_number, outside_number}
+use Rattle.packet.specs.Numbers.{mapping_number}
+use Rattle.sessions.specs.Index.{AreEndpoints, flow_number, inside_number, outside_number}
 use Rattle.sessions.specs.Listing.{is_translated}
 use Rattle.sessions.specs.Table.{AnyClash, IsSound}
 
@@ -92,7 +93,8 @@ abbrev pub TakesIn : Translated → Translated → Session → ℕ → Type 0
 TakesIn old new s slot = (held : List (Option Session)) → CanTake held old s slot
     → Once held slot (Some s) new
 
--- where the inside endpoint of the session leads nowhere, neither does its outside endpoint, and it isn't one of the others
+-- where the inside endpoint of the session leads nowhere, neither does its outside endpoint, and it isn't one of the
+-- others
 pub record LacksMapping (t : Translated) (s : Session) : Type 0 where
   pub outside : value_at t.insides.held (inside_number s) ≡ None
       → value_at t.outsides.held (outside_number s) ≡ None

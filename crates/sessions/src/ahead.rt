@@ -25,7 +25,7 @@ pub struct Coming {
     pub remote: Endpoint,
 }
 
-/// The slots of the sessions of these packets, as far as a first look tells them, and elsewhere numbers that no slot has.
+/// The slots of the sessions of these packets, as far as guesses tell them, and elsewhere numbers that no slot has.
 pub fn guess_all(
     sessions: &Slab<Session>,
     hints: &Hints,

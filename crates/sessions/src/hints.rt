@@ -20,8 +20,9 @@ const WIDTH: usize = 8;
 // An odd number near 2^64 over the golden ratio, which spreads numbers that rise.
 const SPREAD: u64 = 0x9e37_79b9_7f4a_7c15;
 
-/// The slots that were put last, each in a bucket that some bits of its protocol, its port on either side and its remote
-/// endpoint say, with some other bits of theirs. Most mappings keep the port, so that one place serves both sides.
+/// The slots that were put last, each in a bucket that some bits of its protocol, its port on either side and its
+/// remote endpoint say, with some other bits of theirs. Most mappings keep the port, so that one place serves both
+/// sides.
 ///
 /// The slot that was put into a bucket first loses its place to the next one, and one whose session has ended
 /// keeps its own, so that a slot from here may hold any session or none: whoever asks has to compare. Nothing

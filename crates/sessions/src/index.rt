@@ -3,7 +3,7 @@
 //! A session that isn't translated is called the same on both sides and stands in a row of its like. The
 //! translated ones are found by their mappings (`translated`).
 ghost use Rattle.std.specs.Prelude.{◌≡◌, ◌↔◌, ◌+◌, ◌<◌, ◌≤◌, ℕ, IsTrue, IsOk, true, None, Some, IfSome, IfNone, IfOk, IfErr, OnOk, slice_index_or};
-ghost use Rattle.packet.specs.declared.endpoint.Endpoint.{Endpoint as Place};
+ghost use Rattle.packet.specs.declared.endpoint.Endpoint.{Endpoint};
 ghost use Rattle.rows.specs.Held.{at};
 ghost use Rattle.sessions.specs.Index.{ClashesAt, IsAt, IsNowhere, LacksName, PutsName, key_number, untranslated_name};
 ghost use Rattle.sessions.specs.Indexed.{AddsTo, EndsIn, IsIndexed, KeepsIndex, room_of};
@@ -283,7 +283,8 @@ fn find_untranslated(row: &Rows, proto: Proto, near: Endpoint, remote: Endpoint)
     row.get(key(proto, near, remote))
 }
 
-// The outside endpoint that the translated sessions of this protocol and inside endpoint have: the first of them tells it.
+// The outside endpoint that the translated sessions of this protocol and inside endpoint have: the first of them tells
+// it.
 fn mapped_by(
     sessions: &Slab<Session>,
     index: &Index,
@@ -294,7 +295,7 @@ fn mapped_by(
     requires indexed { IsIndexed sessions.now.slots index.now }
     requires first { first ≡ first_by_inside index.now.translated proto inside }
     ensures found { IfSome result (IsMapping (listing sessions.now.slots) proto inside) }
-    ensures absent { IfNone result ((outside : Place)
+    ensures absent { IfNone result ((outside : Endpoint)
         → ¬ IsMapping (listing sessions.now.slots) proto inside outside) }
 {
     let Some(slot) = first else {
@@ -304,8 +305,8 @@ fn mapped_by(
     Some(session.outside)
 }
 
-/// As `find_inside`; where no session is, the outside endpoint that the translated ones of the inside endpoint have. One
-/// look for the first of them serves both.
+/// As `find_inside`; where no session is, the outside endpoint that the translated ones of the inside endpoint have.
+/// One look for the first of them serves both.
 #[inline(always)]
 pub fn find_or_mapped(
     sessions: &Slab<Session>,
@@ -320,7 +321,7 @@ pub fn find_or_mapped(
         (HasInside proto inside remote)) }
     ensures mapped { IfErr result (λ mapped. IfSome mapped
         (IsMapping (listing sessions.now.slots) proto inside)) }
-    ensures unmapped { IfErr result (λ mapped. IfNone mapped ((outside : Place)
+    ensures unmapped { IfErr result (λ mapped. IfNone mapped ((outside : Endpoint)
         → ¬ IsMapping (listing sessions.now.slots) proto inside outside)) }
 {
     let first = index.translated.first_inside(proto, inside);

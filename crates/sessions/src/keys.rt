@@ -1,7 +1,7 @@
 //! The numbers by which sessions are found.
 ghost use Rattle.std.specs.Prelude.{◌≡◌, ◌+◌, ◌*◌, ◌<◌};
-ghost use Rattle.packet.specs.Numbers.{IsEndpoint};
-ghost use Rattle.sessions.specs.Index.{AreEndpoints, endpoint_number, key_number, mapping_number, untranslated_name};
+ghost use Rattle.packet.specs.Numbers.{IsEndpoint, endpoint_number};
+ghost use Rattle.sessions.specs.Index.{AreEndpoints, key_number, untranslated_name};
 
 use crate::Session;
 use packet::endpoint::{Endpoint, Proto};
@@ -36,15 +36,6 @@ pub fn untranslated_key(session: &Session) -> Option<u128>
         return None;
     }
     Some(key(session.proto, session.inside, session.remote))
-}
-
-/// Protocol and an endpoint behind one another, as a number of 56 bits, the same as `index::mapping_key` of `mappings`.
-pub fn mapping_key(proto: Proto, near: Endpoint) -> u64
-    ensures value { result ≡ mapping_number proto near }
-    ensures near { IsEndpoint near }
-{
-    let addr = u64::from(near.addr) * 0x1_0000;
-    u64::from(proto.number()) * 0x1_0000_0000_0000 + addr + u64::from(near.port)
 }
 
 /// The addresses and ports of a session are numbers of 32 and of 16 bits.

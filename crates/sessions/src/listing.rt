@@ -8,7 +8,8 @@ ghost use Rattle.sessions.specs.Listing.{IsSetOf};
 ghost use Rattle.sessions.specs.Table.{IsSound};
 
 use crate::Session;
-use crate::keys::{endpoint_facts, key, mapping_key};
+use crate::keys::{endpoint_facts, key};
+use packet::endpoint::mapping_key;
 use slab::Slab;
 use std::alloc::{AllocError, Global};
 

@@ -1,7 +1,7 @@
 //! The table of the sessions that live.
 ghost use Rattle.std.specs.Prelude.{◌≡◌, ◌↔◌, ◌+◌, ◌<◌, ◌≤◌, ℕ, IsTrue, Some, None, Err, IfOk, IfErr, OnOk, OnErr, IsOk, IfSome, IfNone, IsSome, IsSomeAnd};
 ghost use Rattle.std.specs.Option.{option_map};
-ghost use Rattle.packet.specs.declared.endpoint.Endpoint.{Endpoint as Place};
+ghost use Rattle.packet.specs.declared.endpoint.Endpoint.{Endpoint};
 ghost use Rattle.slab.specs.Slab.{HasRoomFor};
 ghost use Rattle.sessions.specs.Laws.{IsMapping};
 ghost use Rattle.sessions.specs.Life.{IsSeen};
@@ -175,8 +175,8 @@ impl Table {
     ///
     /// # Errors
     ///
-    /// The outside endpoint of the translated sessions of this protocol and inside endpoint, where one is held: they have
-    /// one for all remote endpoints (RFC 4787, REQ-1).
+    /// The outside endpoint of the translated sessions of this protocol and inside endpoint, where one is held: they
+    /// have one for all remote endpoints (RFC 4787, REQ-1).
     #[inline(always)]
     pub fn by_inside_or_mapped(
         &self,
@@ -190,7 +190,7 @@ impl Table {
             → IfSome (at self.now slot) (λ s. ¬ HasInside proto inside remote s)) }
         ensures mapped { IfErr result (λ mapped. IfSome mapped
             (IsMapping (listing self.now.held) proto inside)) }
-        ensures unmapped { IfErr result (λ mapped. IfNone mapped ((outside : Place)
+        ensures unmapped { IfErr result (λ mapped. IfNone mapped ((outside : Endpoint)
             → ¬ IsMapping (listing self.now.held) proto inside outside)) }
     {
         match find_or_mapped(&self.sessions, &self.index, proto, inside, remote) {
@@ -199,7 +199,7 @@ impl Table {
         }
     }
 
-    /// The session of this protocol, inside and remote endpoint, and its slot, where the first look tells it. `None`
+    /// The session of this protocol, inside and remote endpoint, and its slot, where a guess tells it. `None`
     /// says nothing of whether it is held. However many sessions are held, this reads two places of memory.
     pub fn glance_inside(
         &self,
@@ -229,14 +229,14 @@ impl Table {
     }
 
     /// The numbers of the slots that seem to hold the sessions of these packets, each where its packet stands, and
-    /// numbers that no slot has where a first look doesn't tell. They say nothing of what is held: whoever asks for
+    /// numbers that no slot has where no guess tells. They say nothing of what is held: whoever asks for
     /// several packets at once waits once for the memory that their look-ups are going to read.
     pub fn look_ahead(&self, coming: &[Coming; MOST_AHEAD]) -> [usize; MOST_AHEAD] {
         guess_all(&self.sessions, &self.index.hints, coming)
     }
 
-    /// Whether a look into each map tells that translated sessions of both endpoints are held. It says nothing of what is:
-    /// whoever asks of several in turn waits once for the memory that it takes to add and to end their sessions.
+    /// Whether a look into each map tells that translated sessions of both endpoints are held. It says nothing of what
+    /// is: whoever asks of several in turn waits once for the memory that it takes to add and to end their sessions.
     pub fn seems_mapped(&self, proto: Proto, inside: Endpoint, outside: Endpoint) -> bool {
         self.index.translated.seems_mapped(proto, inside, outside)
     }

@@ -14,10 +14,10 @@ ghost use Rattle.sessions.specs.Table.{HasInside, HasOutside};
 ghost use Rattle.sessions.specs.Translated.{Finishes, HasNoHeir, IsHeir, IsNowhereTranslated, IsTold, LacksMapping, Once, Passes, TakesIn, first_by_inside, first_by_outside, room_in};
 
 use crate::Session;
-use crate::keys::{endpoint_facts, key, mapping_key};
+use crate::keys::{endpoint_facts, key};
 use buckets::Buckets;
 use buckets::by_port::ByPort;
-use packet::endpoint::{Endpoint, Proto};
+use packet::endpoint::{Endpoint, Proto, mapping_key};
 use rows::Rows;
 use slab::Slab;
 use std::alloc::{AllocError, Global};

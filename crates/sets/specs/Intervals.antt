@@ -1,4 +1,5 @@
--- Where elements stand beside one another and beside a fact: ranges by their numbers, and behind them names by their bytes.
+-- Where elements stand beside one another and beside a fact: ranges by their numbers, and behind them names by their
+-- bytes.
 use Rattle.std.specs.Prelude.{◌≡◌, ℕ, ◌+◌, ◌<◌, List}
 use Rattle.std.specs.Cmp.Lexicographic.{slice_cmp}
 use Rattle.std.specs.Ordering.{nat_cmp}

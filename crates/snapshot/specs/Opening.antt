@@ -1,5 +1,5 @@
 -- How far an opening has come.
-use Rattle.std.specs.Prelude.{◌≡◌, Option, Some, None, List, ℕ}
+use Rattle.std.specs.Prelude.{◌≡◌, Option, Some, None}
 use Rattle.packet.specs.Config.{Config}
 use Rattle.disk_model.specs.Disk.{Files}
 use Rattle.durable.specs.Coding.{Heading}

@@ -4,7 +4,7 @@ ghost use Rattle.disk_model.specs.declared.reading.ReadFault.TheVariants as read
 ghost use Rattle.snapshot.specs.declared.fault.OpenFault.TheVariants as opening;
 
 use disk_model::{DiskFault, ReadFault};
-use std::alloc::{AllocError, AllocFailed};
+use std::alloc::AllocError;
 
 /// Why a store can't be opened.
 #[derive(Clone, Copy, Debug, PartialEq, Eq, Drop, thiserror::Error)]
@@ -72,14 +72,6 @@ impl From<AllocError> for OpenFault {
     ghost from_gives = { λ _ e. e ≡ opening.NoMemory };
 
     fn from(_: AllocError) -> Self {
-        OpenFault::NoMemory
-    }
-}
-
-impl<T: Drop> From<AllocFailed<T>> for OpenFault {
-    ghost from_gives = { λ _ e. e ≡ opening.NoMemory };
-
-    fn from(_: AllocFailed<T>) -> Self {
         OpenFault::NoMemory
     }
 }

@@ -19,7 +19,7 @@ use disk_model::{Disk, DiskFault, FileId, contents};
 use durable::{DurableFault, Recovered, heading_fits, recover};
 use packet::bounds::Bounds;
 use sessions::Session;
-use std::alloc::{AllocError, Global};
+use std::alloc::Global;
 
 /// The active file, and what it holds.
 #[derive(Drop)]

@@ -10,8 +10,8 @@ use Rattle.machine.specs.Judged.{Judged, AreJudged}
 use Rattle.machine.specs.Machine.{after, answers, numbered}
 use Rattle.gateway.specs.Told.{Told, TookAll}
 use Rattle.machine.proofs.Judging.{AreJudged-append, AreJudged-length}
-use Rattle.gateway.proofs.Taking.{after-append, answers-append, length-answers, numbered-append}
-use Rattle.frames.specs.Answering.{frame}
+use Rattle.gateway.proofs.Taking.{after-append, answers-append, length-answers, numbered-append, took_none}
+use Rattle.frames.specs.Answers.{frame}
 use Rattle.socket_edge.specs.Progress.{replies, answers_due, AreFirst, Reached, Progress, AnsweredFirst, BeginsFrames}
 
 -- the answers to the first events, and then those to the others
@@ -35,12 +35,12 @@ answers_due-append old middle es fs handed c s l o =
     ∙ append_assoc old.held (replies old es) (replies middle fs)
     ∙ ap (λ (xs : List (ℕ × Answer)). old.held ++ xs) (sym (replies-append old middle es fs c s l))
 
+pub answers_due-is : (old new : Told) (events : List Event) (out : List (ℕ × Answer)) (t : TookAll old new events out) → out ++ new.held ≡ answers_due old t.judged
+unfolding answers_due replies
+answers_due-is old new events out t = t.order
+
 pub frames-append : (before : List ℕ) (xs ys : List (ℕ × Answer)) → (before ++ flat_map frame xs) ++ flat_map frame ys ≡ before ++ flat_map frame (xs ++ ys)
 frames-append before xs ys = append_assoc before (flat_map frame xs) (flat_map frame ys) ∙ ap (λ (zs : List ℕ). before ++ zs) (sym (flat_map-append frame xs ys))
-
--- none of the events, or all of them
-first-none : (config : Config) (es : List Event) → AreFirst config es []
-first-none config es = record { front = []; back = es; split = refl; are_judged = tt }
 
 -- all events, and the first of others
 pub first-then : (config : Config) (es fs : List Event) (js ks : List Judged) → AreJudged config es js → AreFirst config fs ks → AreFirst config (es ++ fs) (js ++ ks)
@@ -52,29 +52,32 @@ first-then config es fs js ks are first = record {
 }
 
 -- the last number, said of what the events are judged
-pub last_of : (old new : Told) (es : List Event) (a b : List ℕ) (p : Progress old new es a b) → new.last ≡ old.last + length p.judged
-last_of old new es a b p = omega (arith, p.last, AreJudged-length old.config es p.judged p.are_judged)
-
-pub Progress-nil : (old : Told) (before : List ℕ) → Progress old old [] before before
-unfolding answers_due replies
-Progress-nil old before = record { judged = []; are_judged = tt; config = refl; state = refl; last = omega arith; handed = []; sent = sym (append-nil before); order = sym (append-nil old.held) }
+pub last_of : (old new : Told) (es : List Event) (out : List (ℕ × Answer)) (t : TookAll old new es out) → new.last ≡ old.last + length t.judged
+last_of old new es out t = omega (arith, t.last, AreJudged-length old.config es t.judged t.are_judged)
 
 -- one after the other
-pub Progress-then : (old middle new : Told) (es fs : List Event) (a b c : List ℕ) → Progress old middle es a b → Progress middle new fs b c → Progress old new (es ++ fs) a c
-Progress-then old middle new es fs a b c p q = record {
+took-then : (old middle new : Told) (es fs : List Event) (xs ys : List (ℕ × Answer)) → TookAll old middle es xs → TookAll middle new fs ys → TookAll old new (es ++ fs) (xs ++ ys)
+unfolding answers_due replies
+took-then old middle new es fs xs ys p q = record {
   judged = p.judged ++ q.judged;
   are_judged = AreJudged-append old.config es fs p.judged q.judged p.are_judged (subst (λ (x : Config). AreJudged x fs q.judged) p.config q.are_judged);
   config = q.config ∙ p.config;
   state = q.state ∙ rw (p.state, p.config) refl ∙ sym (after-append old.config old.state p.judged q.judged);
   last = omega (arith, q.last, p.last, length-append es fs);
-  handed = p.handed ++ q.handed;
-  sent = q.sent ∙ ap (λ (zs : List ℕ). zs ++ flat_map frame q.handed) p.sent ∙ frames-append a p.handed q.handed;
-  order = append_assoc p.handed q.handed new.held ∙ ap (λ (zs : List (ℕ × Answer)). p.handed ++ zs) q.order
-      ∙ answers_due-append old middle p.judged q.judged p.handed p.config p.state (last_of old middle es a b p) p.order;
+  order = append_assoc xs ys new.held ∙ ap (λ (zs : List (ℕ × Answer)). xs ++ zs) q.order
+      ∙ answers_due-append old middle p.judged q.judged xs p.config p.state (last_of old middle es xs p) p.order;
 }
 
-pub Reached-by : (old new : Told) (es : List Event) (a b : List ℕ) (p : Progress old new es a b) → Reached old new p.judged
-Reached-by old new es a b p = record { config = p.config; state = p.state; last = last_of old new es a b p }
+pub Progress-nil : (old : Told) (before : List ℕ) → Progress old old [] before before
+Progress-nil old before = record { handed = []; took = took_none old; sent = sym (append-nil before) }
+
+-- one after the other
+pub Progress-then : (old middle new : Told) (es fs : List Event) (a b c : List ℕ) → Progress old middle es a b → Progress middle new fs b c → Progress old new (es ++ fs) a c
+Progress-then old middle new es fs a b c p q = record {
+  handed = p.handed ++ q.handed;
+  took = took-then old middle new es fs p.handed q.handed p.took q.took;
+  sent = q.sent ∙ ap (λ (zs : List ℕ). zs ++ flat_map frame q.handed) p.sent ∙ frames-append a p.handed q.handed;
+}
 
 -- one after the other
 pub Reached-then : (old middle new : Told) (xs ys : List Judged) → Reached old middle xs → Reached middle new ys → Reached old new (xs ++ ys)
@@ -86,56 +89,50 @@ Reached-then old middle new xs ys p q = record {
 
 -- the answers that were handed out are sent
 pub Progress-told : (old new : Told) (events : List Event) (out : List (ℕ × Answer)) → TookAll old new events out → Progress old new events [] (flat_map frame out)
-unfolding answers_due replies
-Progress-told old new events out t = record { judged = t.judged; are_judged = t.are_judged; config = t.config; state = t.state; last = t.last; handed = out; sent = refl; order = t.order }
+Progress-told old new events out t = record { handed = out; took = t; sent = refl }
 
 pub reached-told : (old new : Told) (events : List Event) (out : List (ℕ × Answer)) (t : TookAll old new events out) → Reached old new t.judged
-reached-told old new events out t = record { config = t.config; state = t.state; last = omega (arith, t.last, AreJudged-length old.config events t.judged t.are_judged) }
+reached-told old new events out t = record { config = t.config; state = t.state; last = last_of old new events out t }
 
 -- the first of the events were taken
 pub AnsweredFirst-told : (old new : Told) (events front back : List Event) (out : List (ℕ × Answer)) → events ≡ front ++ back → TookAll old new front out → AnsweredFirst old new events (flat_map frame out)
-unfolding answers_due replies
 AnsweredFirst-told old new events front back out split t = record {
-  judged = t.judged;
-  are_first = record { front = front; back = back; split = split; are_judged = t.are_judged };
-  reached = reached-told old new front out t;
   handed = out;
+  took = record { front = front; back = back; split = split; took = t };
   sent_are = refl;
-  order = t.order;
 }
 
 -- and a beginning of the frames was sent
 pub BeginsFrames-told : (old new : Told) (events front back : List Event) (out : List (ℕ × Answer)) (sent lost : List ℕ) → events ≡ front ++ back → TookAll old new front out
     → sent ++ lost ≡ flat_map frame out → BeginsFrames old new events sent
-unfolding answers_due replies
 BeginsFrames-told old new events front back out sent lost split t begins = record {
   judged = t.judged;
   are_first = record { front = front; back = back; split = split; are_judged = t.are_judged };
   reached = reached-told old new front out t;
   lost = lost;
   begins = sym (append_assoc sent lost (flat_map frame new.held)) ∙ ap (λ (x : List ℕ). x ++ flat_map frame new.held) begins
-      ∙ sym (flat_map-append frame out new.held) ∙ ap (flat_map frame) t.order;
+      ∙ sym (flat_map-append frame out new.held) ∙ ap (flat_map frame) (answers_due-is old new front out t);
 }
 
 pub AnsweredFirst-nothing : (old : Told) (events : List Event) → AnsweredFirst old old events []
-unfolding answers_due replies
-AnsweredFirst-nothing old events = record { judged = []; are_first = first-none old.config events; reached = record { config = refl; state = refl; last = omega arith }; handed = []; sent_are = refl; order = sym (append-nil old.held) }
+AnsweredFirst-nothing old events = AnsweredFirst-told old old events [] events [] refl (took_none old)
 
 -- behind events that were all taken
 pub AnsweredFirst-then : (old middle new : Told) (es fs : List Event) (w sent : List ℕ) → Progress old middle es [] w → AnsweredFirst middle new fs sent → AnsweredFirst old new (es ++ fs) (w ++ sent)
 AnsweredFirst-then old middle new es fs w sent p q = record {
-  judged = p.judged ++ q.judged;
-  are_first = first-then old.config es fs p.judged q.judged p.are_judged (subst (λ (x : Config). AreFirst x fs q.judged) p.config q.are_first);
-  reached = Reached-then old middle new p.judged q.judged (Reached-by old middle es [] w p) q.reached;
   handed = p.handed ++ q.handed;
+  took = record {
+    front = es ++ q.took.front;
+    back = q.took.back;
+    split = ap (λ (xs : List Event). es ++ xs) q.took.split ∙ sym (append_assoc es q.took.front q.took.back);
+    took = took-then old middle new es q.took.front p.handed q.handed p.took q.took.took;
+  };
   sent_are = ap (λ (x : List ℕ). w ++ x) q.sent_are ∙ ap (λ (x : List ℕ). x ++ flat_map frame q.handed) p.sent ∙ sym (flat_map-append frame p.handed q.handed);
-  order = append_assoc p.handed q.handed new.held ∙ ap (λ (zs : List (ℕ × Answer)). p.handed ++ zs) q.order
-      ∙ answers_due-append old middle p.judged q.judged p.handed p.config p.state (last_of old middle es [] w p) p.order;
 }
 
 -- everything that stands out was handed out
-pub all_sent : (old new : Told) (events : List Event) (out : List ℕ) (p : Progress old new events [] out) → (old.held ≡ [] → new.held ≡ []) → old.held ≡ [] → out ≡ flat_map frame (replies old p.judged)
+pub all_sent : (old new : Told) (events : List Event) (out : List ℕ) (p : Progress old new events [] out) → (old.held ≡ [] → new.held ≡ []) → old.held ≡ [] → out ≡ flat_map frame (replies old p.took.judged)
 unfolding answers_due
 all_sent old new events out p none h =
-    let e : p.handed ≡ replies old p.judged = sym (append-nil p.handed) ∙ ap (λ (xs : List (ℕ × Answer)). p.handed ++ xs) (sym (none h)) ∙ p.order ∙ ap (λ (xs : List (ℕ × Answer)). xs ++ replies old p.judged) h in
+    let e : p.handed ≡ replies old p.took.judged = sym (append-nil p.handed) ∙ ap (λ (xs : List (ℕ × Answer)). p.handed ++ xs) (sym (none h)) ∙ answers_due-is old new events p.handed p.took ∙ ap (λ (xs : List (ℕ × Answer)). xs ++ replies old p.took.judged) h in
     p.sent ∙ ap (flat_map frame) e

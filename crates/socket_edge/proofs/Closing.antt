@@ -19,7 +19,7 @@ use Rattle.socket_edge.specs.declared.serving.Halt.{Halt}
 use Rattle.socket_edge.specs.declared.serving.Halt.TheVariants as halt
 use Rattle.frames.specs.Requests.{Cut, Bad, next}
 use Rattle.frames.specs.Framing.{Framed, Rest, Fault, behind, whole_frames}
-use Rattle.frames.specs.Answering.{frame}
+use Rattle.frames.specs.Answers.{frame}
 use Rattle.socket_edge.specs.Progress.{Progress, AnsweredFirst}
 use Rattle.socket_edge.specs.Running.{Answered, Fares, events_in}
 use Rattle.socket_edge.specs.Serving.{Closed, IsBad, IsRefused, Offered, Reads, Served, SettledAndSent, end_of}

@@ -19,10 +19,10 @@ use Rattle.gateway.specs.Running.{Ends}
 use Rattle.gateway.specs.Told.{Told, TookAll}
 use Rattle.gateway.proofs.Runs.{safe-less}
 use Rattle.gateway.proofs.Taking.{after-append, length-answers}
-use Rattle.frames.specs.Answering.{frame}
+use Rattle.frames.specs.Answers.{frame}
 use Rattle.socket_edge.specs.Progress.{replies, answers_due, Progress}
 use Rattle.socket_edge.specs.Running.{Fares}
-use Rattle.socket_edge.proofs.Answers.{Reached-by, Reached-then, all_sent, last_of, reached-told, replies-append}
+use Rattle.socket_edge.proofs.Answers.{Reached-then, all_sent, answers_due-is, last_of, reached-told, replies-append}
 
 -- a frame has its head at least
 frame-some : (p : ℕ × Answer) → 0 < length (frame p)
@@ -84,10 +84,6 @@ answers_due-replies : (old : Told) (judged : List Judged) → old.held ≡ [] �
 unfolding answers_due
 answers_due-replies old judged none = ap (λ (xs : List (ℕ × Answer)). xs ++ replies old judged) none
 
-answers_due-is : (old new : Told) (events : List Event) (out : List (ℕ × Answer)) (t : TookAll old new events out) → out ++ new.held ≡ answers_due old t.judged
-unfolding answers_due replies
-answers_due-is old new events out t = t.order
-
 module _ {D : Type 0} (honest : D → Type 0) (moment : D → ℕ) (left : D → ℕ → Files → Type 0) (failed : D → ℕ) where
   -- the first of the events were taken, and a beginning of the frames of what was handed out was sent
   pub fares : (start now : Kept D) (events front back : List Event) (out : List (ℕ × Answer)) (sent lost : List ℕ) → Ends honest moment left failed start now front out
@@ -141,7 +137,7 @@ module _ {D : Type 0} (honest : D → Type 0) (moment : D → ℕ) (left : D →
         (λ s t files le since. earlier b.disk s t files there le since) first second
         (λ files is. safe-less a.told.config a.told.state es fs 0 0 files (omega arith) is)
         (λ files is. safe-fewer a.told.config a.told.state (es ++ fs) (length es + 0) 0 files (omega arith)
-        (safe-behind a.told b.told es fs p.judged 0 files p.are_judged p.config p.state is))
+        (safe-behind a.told b.told es fs p.took.judged 0 files p.took.are_judged p.took.config p.took.state is))
 
     pub configured-then : (config : b.told.config ≡ a.told.config) → honest b.disk → LeavesOnly moment left a.disk b.disk (IsConfigured a.told.config) → LeavesOnly moment left b.disk c.disk (IsConfigured b.told.config)
         → LeavesOnly moment left a.disk c.disk (IsConfigured a.told.config)
@@ -156,28 +152,28 @@ module _ {D : Type 0} (honest : D → Type 0) (moment : D → ℕ) (left : D →
         → b.fallen ≡ false → Fares honest moment left b c fs sent → Fares honest moment left a c (es ++ fs) (w ++ sent)
     fares-then es fs w sent p none keeps configured any stands f = record {
       keeps_honest = (λ h. f.keeps_honest.0 (keeps.0 h), λ h. keeps.1 (f.keeps_honest.1 h));
-      configured = λ h stood. configured-then p.config (keeps.0 h) (configured h) (f.configured (keeps.0 h) stands);
+      configured = λ h stood. configured-then p.took.config (keeps.0 h) (configured h) (f.configured (keeps.0 h) stands);
       none = λ held up. f.none (none held) up;
       outlives = λ ready.
           let there : honest b.disk = keeps.0 ready.is_honest in
           let ready_b : IsReady honest b = record { stands = stands; is_honest = there; none = none ready.none } in
           let o = f.outlives ready_b in
-          let is_w : w ≡ flat_map frame (replies a.told p.judged) = all_sent a.told b.told es w p none ready.none in
-          let both : replies a.told (p.judged ++ o.judged) ≡ replies a.told p.judged ++ replies b.told o.judged =
-          replies-append a.told b.told p.judged o.judged p.config p.state (last_of a.told b.told es [] w p) in
-          let size : length (replies a.told p.judged) ≡ length es = replies-length a.told p.judged ∙ AreJudged-length a.told.config es p.judged p.are_judged in
+          let is_w : w ≡ flat_map frame (replies a.told p.took.judged) = all_sent a.told b.told es w p none ready.none in
+          let both : replies a.told (p.took.judged ++ o.judged) ≡ replies a.told p.took.judged ++ replies b.told o.judged =
+          replies-append a.told b.told p.took.judged o.judged p.took.config p.took.state (last_of a.told b.told es p.handed p.took) in
+          let size : length (replies a.told p.took.judged) ≡ length es = replies-length a.told p.took.judged ∙ AreJudged-length a.told.config es p.took.judged p.took.are_judged in
           let behind : (m : ℕ) (files : Files) → IsSafe b.told.config b.told.state o.front m files → IsSafe a.told.config a.told.state (es ++ o.front) (length es + m) files =
-          λ m files is. safe-behind a.told b.told es o.front p.judged m files p.are_judged p.config p.state is in
+          λ m files is. safe-behind a.told b.told es o.front p.took.judged m files p.took.are_judged p.took.config p.took.state is in
           record {
             front = es ++ o.front;
             back = o.back;
             split = ap (λ (xs : List Event). es ++ xs) o.split ∙ sym (append_assoc es o.front o.back);
-            judged = p.judged ++ o.judged;
-            are_judged = AreJudged-append a.told.config es o.front p.judged o.judged p.are_judged (subst (λ (k : Config). AreJudged k o.front o.judged) p.config o.are_judged);
-            reached = Reached-then a.told b.told c.told p.judged o.judged (Reached-by a.told b.told es [] w p) o.reached;
+            judged = p.took.judged ++ o.judged;
+            are_judged = AreJudged-append a.told.config es o.front p.took.judged o.judged p.took.are_judged (subst (λ (k : Config). AreJudged k o.front o.judged) p.took.config o.are_judged);
+            reached = Reached-then a.told b.told c.told p.took.judged o.judged (reached-told a.told b.told es p.handed p.took) o.reached;
             unsent = o.unsent;
             begins = append_assoc w sent o.unsent ∙ ap (λ (x : List ℕ). w ++ x) o.begins ∙ ap (λ (x : List ℕ). x ++ flat_map frame (replies b.told o.judged)) is_w
-                ∙ sym (flat_map-append frame (replies a.told p.judged) (replies b.told o.judged)) ∙ ap (flat_map frame) (sym both);
+                ∙ sym (flat_map-append frame (replies a.told p.took.judged) (replies b.told o.judged)) ∙ ap (flat_map frame) (sym both);
             any_moment = any-then es o.front w p (any ready) there o.any_moment;
             at_exit = λ n fits whole files left_now.
                 ⊎_elim
@@ -185,15 +181,15 @@ module _ {D : Type 0} (honest : D → Type 0) (moment : D → ℕ) (left : D →
                 (λ more.
                 let m = n - length es in
                 let is_n : n ≡ length es + m = omega (arith, more) in
-                let front : take n (replies a.told (p.judged ++ o.judged)) ≡ replies a.told p.judged ++ take m (replies b.told o.judged) =
-                ap (λ (xs : List (ℕ × Answer)). take n xs) both ∙ ap (λ (k : ℕ). take k (replies a.told p.judged ++ replies b.told o.judged)) (omega (arith, is_n, size))
-                ∙ take-append-add (replies a.told p.judged) (replies b.told o.judged) m in
+                let front : take n (replies a.told (p.took.judged ++ o.judged)) ≡ replies a.told p.took.judged ++ take m (replies b.told o.judged) =
+                ap (λ (xs : List (ℕ × Answer)). take n xs) both ∙ ap (λ (k : ℕ). take k (replies a.told p.took.judged ++ replies b.told o.judged)) (omega (arith, is_n, size))
+                ∙ take-append-add (replies a.told p.took.judged) (replies b.told o.judged) m in
                 let within : length (flat_map frame (take m (replies b.told o.judged))) ≤ length sent = omega (
                   arith,
                   whole,
                   ap (λ (xs : List (ℕ × Answer)). length (flat_map frame xs)) front,
-                  ap length (flat_map-append frame (replies a.told p.judged) (take m (replies b.told o.judged))),
-                  length-append (flat_map frame (replies a.told p.judged)) (flat_map frame (take m (replies b.told o.judged))),
+                  ap length (flat_map-append frame (replies a.told p.took.judged) (take m (replies b.told o.judged))),
+                  length-append (flat_map frame (replies a.told p.took.judged)) (flat_map frame (take m (replies b.told o.judged))),
                   ap length is_w,
                   length-append w sent,
                 ) in

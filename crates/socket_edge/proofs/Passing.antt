@@ -8,7 +8,7 @@ use Rattle.disk_model.specs.Disk.{Files}
 use Rattle.machine.specs.declared.event.Answer.{Answer}
 use Rattle.machine.specs.declared.event.Event.{Event}
 use Rattle.gateway.specs.Kept.{Kept}
-use Rattle.frames.specs.Answering.{frame, frames}
+use Rattle.frames.specs.Answers.{frame, frames}
 use Rattle.socket_edge.specs.Serving.{Passes}
 
 pub some_of : {T : Type 0} {P : T → Type 0} (o : Option T) → is_some o ≡ true → IfSome o P → (x : T) × P x

@@ -17,13 +17,13 @@ use Rattle.socket_edge.specs.declared.fault.EdgeFault.{EdgeFault}
 use Rattle.socket_edge.specs.declared.fault.EdgeFault.TheVariants.{BadKind, BadInterface, TooLong, Truncated, Input, Output, Gateway}
 use Rattle.frames.specs.Requests.{Cut, next}
 use Rattle.frames.specs.Framing.{Framed, Remainder, Rest, behind, whole_frames}
-use Rattle.frames.specs.Answering.{frame}
+use Rattle.frames.specs.Answers.{frame}
 use Rattle.socket_edge.specs.Progress.{answers_due, AreFirst, Progress, AnsweredFirst, BeginsFrames}
 use Rattle.socket_edge.specs.Running.{Answered, Ends, Done, Explains, Fares, events_in}
 use Rattle.socket_edge.specs.Serving.{Reads, Served}
 use Rattle.frames.proofs.Frames.{next_nil}
 use Rattle.socket_edge.proofs.Reading.{Reads-nil, Reads-more, Reads-then}
-use Rattle.socket_edge.proofs.Answers.{AnsweredFirst-then, Progress-nil, Progress-then, Reached-by, Reached-then, answers_due-append, first-then, last_of}
+use Rattle.socket_edge.proofs.Answers.{AnsweredFirst-then, Progress-nil, Progress-then, Reached-then, answers_due-append, answers_due-is, first-then, last_of, reached-told}
 use Rattle.socket_edge.proofs.Lasting.{any-then, configured-then, fares-then}
 use Rattle.socket_edge.proofs.Closing.{events_cut, framed_then_cut, Answered-of}
 
@@ -33,7 +33,7 @@ framed_more given unanswered got events r = r.goes got
 
 -- behind what was sent before
 Progress-shift : (old new : Told) (events : List Event) (before out : List ℕ) → Progress old new events [] out → Progress old new events before (before ++ out)
-Progress-shift old new events before out p = record { judged = p.judged; are_judged = p.are_judged; config = p.config; state = p.state; last = p.last; handed = p.handed; sent = ap (λ (x : List ℕ). before ++ x) p.sent; order = p.order }
+Progress-shift old new events before out p = record { handed = p.handed; took = p.took; sent = ap (λ (x : List ℕ). before ++ x) p.sent }
 
 pub Served-first : (old : Told) → Served old old [] [] [] 0
 Served-first old = record { events = []; reads = Reads-nil []; cut = next_nil; count_is = refl; progress = Progress-nil old []; none = λ h. h }
@@ -61,11 +61,11 @@ stop_then a b given unanswered got w n s p e = ap (λ (f : Framed). f.remainder)
 begins_then : (a b c : Told) (es fs : List Event) (w sent : List ℕ) → Progress a b es [] w → BeginsFrames b c fs sent → BeginsFrames a c (es ++ fs) (w ++ sent)
 begins_then a b c es fs w sent p q =
     let behind_it : List ℕ = q.lost ++ flat_map frame c.held in
-    let d : answers_due a (p.judged ++ q.judged) ≡ p.handed ++ answers_due b q.judged = sym (answers_due-append a b p.judged q.judged p.handed p.config p.state (last_of a b es [] w p) p.order) in
+    let d : answers_due a (p.took.judged ++ q.judged) ≡ p.handed ++ answers_due b q.judged = sym (answers_due-append a b p.took.judged q.judged p.handed p.took.config p.took.state (last_of a b es p.handed p.took) (answers_due-is a b es p.handed p.took)) in
     record {
-      judged = p.judged ++ q.judged;
-      are_first = first-then a.config es fs p.judged q.judged p.are_judged (subst (λ (x : Config). AreFirst x fs q.judged) p.config q.are_first);
-      reached = Reached-then a b c p.judged q.judged (Reached-by a b es [] w p) q.reached;
+      judged = p.took.judged ++ q.judged;
+      are_first = first-then a.config es fs p.took.judged q.judged p.took.are_judged (subst (λ (x : Config). AreFirst x fs q.judged) p.took.config q.are_first);
+      reached = Reached-then a b c p.took.judged q.judged (reached-told a b es p.handed p.took) q.reached;
       lost = q.lost;
       begins = append_assoc w sent behind_it ∙ ap (λ (x : List ℕ). w ++ x) q.begins ∙ ap (λ (x : List ℕ). x ++ flat_map frame (answers_due b q.judged)) p.sent
           ∙ sym (flat_map-append frame p.handed (answers_due b q.judged)) ∙ ap (flat_map frame) (sym d);
@@ -146,7 +146,7 @@ module _ {D : Type 0} (honest : D → Type 0) (moment : D → ℕ) (left : D →
       record {
         served = Served-then a.told b.told c.told given unanswered got rest w sent n m p q;
         keeps_honest = (λ h. f.keeps_honest.0 (g.keeps_honest.0 h), λ h. g.keeps_honest.1 (f.keeps_honest.1 h));
-        configured = λ h. configured-then honest moment left failed earlier a b c p.progress.config (g.keeps_honest.0 h) (g.configured h) (f.configured (g.keeps_honest.0 h) g.stands);
+        configured = λ h. configured-then honest moment left failed earlier a b c p.progress.took.config (g.keeps_honest.0 h) (g.configured h) (f.configured (g.keeps_honest.0 h) g.stands);
         any_moment = λ ready.
             let there = g.keeps_honest.0 ready.is_honest in
             let o = f.outlives (record { stands = g.stands; is_honest = there; none = p.none ready.none }) in
@@ -178,7 +178,7 @@ module _ {D : Type 0} (honest : D → Type 0) (moment : D → ℕ) (left : D →
   pub going-fits : (a b c : Kept D) (given unanswered got rest w sent : List ℕ) (n m : ℕ) → Going a b given unanswered w n → Served b.told c.told (unanswered ++ got) rest sent m → c.told.last < 2 ^ 64 → n + m < 2 ^ 64
   going-fits a b c given unanswered got rest w sent n m g q last =
       let p = Served-then a.told b.told c.told given unanswered got rest w sent n m g.served q in
-      omega (arith, last, p.count_is, p.progress.last)
+      omega (arith, last, p.count_is, p.progress.took.last)
 
   -- why it ends, said of the whole run
   pub going-why : (a b c : Kept D) (given unanswered w : List ℕ) (n : ℕ) (e : EdgeFault) → Going a b given unanswered w n → Explains honest moment left failed e b c → Explains honest moment left failed e a c

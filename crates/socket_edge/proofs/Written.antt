@@ -6,7 +6,7 @@ use Rattle.std.specs.List.{flat_map}
 use Rattle.std.proofs.lemmas.Result.{IfErr-weaker}
 use Rattle.std.specs.Io.KnownBytes.{Appends, Keeps}
 use Rattle.machine.specs.declared.event.Answer.{Answer}
-use Rattle.frames.specs.Answering.{frame}
+use Rattle.frames.specs.Answers.{frame}
 use Rattle.frames.proofs.Parts.{frames_step}
 use Rattle.socket_edge.specs.declared.fault.EdgeFault.{EdgeFault}
 use Rattle.socket_edge.specs.declared.fault.EdgeFault.TheVariants.{Output}

@@ -6,8 +6,8 @@ use Rattle.machine.specs.declared.event.Event.{Event}
 use Rattle.machine.specs.declared.event.Answer.{Answer}
 use Rattle.machine.specs.Judged.{Judged, AreJudged}
 use Rattle.machine.specs.Machine.{after, answers, numbered}
-use Rattle.frames.specs.Answering.{frames}
-use Rattle.gateway.specs.Told.{Told}
+use Rattle.frames.specs.Answers.{frames}
+use Rattle.gateway.specs.Told.{Told, TookAll, TookFirst}
 
 -- A beginning of the bytes was written, and no more of them.
 pub record AppendsFront (old new : Option (List ℕ)) (bytes : List ℕ) : Type 0 where
@@ -31,16 +31,12 @@ pub record AreFirst (config : Config) (events : List Event) (judged : List Judge
   pub split : events ≡ front ++ back
   pub are_judged : AreJudged config front judged
 
--- The events were taken, as they are judged, and of the answers that stand out these were handed out; their frames went behind `before`.
+-- The events were taken, as they are judged, and of the answers that stand out these were handed out; their frames went
+-- behind `before`.
 pub record Progress (old new : Told) (events : List Event) (before out : List ℕ) : Type 0 where
-  pub judged : List Judged
-  pub are_judged : AreJudged old.config events judged
-  pub config : new.config ≡ old.config
-  pub state : new.state ≡ after old.config old.state judged
-  pub last : new.last ≡ old.last + length events
   pub handed : List (ℕ × Answer)
+  pub took : TookAll old new events handed
   pub sent : out ≡ before ++ frames handed
-  pub order : handed ++ new.held ≡ answers_due old judged
 
 -- The gateway stands where events that are judged so bring it.
 pub record Reached (old new : Told) (judged : List Judged) : Type 0 where
@@ -48,16 +44,15 @@ pub record Reached (old new : Told) (judged : List Judged) : Type 0 where
   pub state : new.state ≡ after old.config old.state judged
   pub last : new.last ≡ old.last + length judged
 
--- The first of the events were taken, as they are judged. Of the answers that stand out, the frames of the first were sent, and the others are held.
+-- The first of the events were taken, as they are judged. Of the answers that stand out, the frames of the first were
+-- sent, and the others are held.
 pub record AnsweredFirst (old new : Told) (events : List Event) (sent : List ℕ) : Type 0 where
-  pub judged : List Judged
-  pub are_first : AreFirst old.config events judged
-  pub reached : Reached old new judged
   pub handed : List (ℕ × Answer)
+  pub took : TookFirst old new events handed
   pub sent_are : sent ≡ frames handed
-  pub order : handed ++ new.held ≡ answers_due old judged
 
--- The first of the events were taken, as they are judged. The bytes are a beginning of the frames of the answers that stand out; the last of these are held.
+-- The first of the events were taken, as they are judged. The bytes are a beginning of the frames of the answers that
+-- stand out; the last of these are held.
 pub record BeginsFrames (old new : Told) (events : List Event) (out : List ℕ) : Type 0 where
   pub judged : List Judged
   pub are_first : AreFirst old.config events judged

@@ -6,7 +6,7 @@ use Rattle.machine.specs.Judged.{Judged, AreJudged}
 use Rattle.machine.specs.declared.event.Event.{Event}
 use Rattle.frames.specs.declared.fault.HeaderFault.TheVariants as header
 use Rattle.frames.specs.Framing.{Rest, Fault, whole_frames}
-use Rattle.frames.specs.Answering.{frames}
+use Rattle.frames.specs.Answers.{frames}
 use Rattle.gateway.specs.Told.{Told}
 use Rattle.gateway.specs.Kept.{Kept, IsReady, IsSafe}
 use Rattle.gateway.specs.Running.{IsWhy}
@@ -14,11 +14,12 @@ use Rattle.socket_edge.specs.declared.fault.EdgeFault.{EdgeFault}
 use Rattle.socket_edge.specs.declared.fault.EdgeFault.TheVariants.{BadKind, BadInterface, TooLong, Truncated, Input, Output, Gateway}
 use Rattle.socket_edge.specs.Progress.{replies, Progress, Reached, AnsweredFirst, BeginsFrames}
 
--- The events of the bytes were taken. Where nothing was held before, all of them are answered by the bytes sent, and nothing is held.
+-- The events of the bytes were taken. Where nothing was held before, all of them are answered by the bytes sent, and
+-- nothing is held.
 pub record Answered (old new : Told) (bytes sent : List ℕ) : Type 0 where
   pub progress : Progress old new (whole_frames bytes).events [] sent
   pub none : old.held ≡ [] → new.held ≡ []
-  pub all : old.held ≡ [] → sent ≡ frames (replies old progress.judged)
+  pub all : old.held ≡ [] → sent ≡ frames (replies old progress.took.judged)
 
 -- what a fault says of the bytes that were read and sent; `at_end` is that the input has ended
 abbrev pub Ends : EdgeFault → Told → Told → List ℕ → List ℕ → Type 0 → Type 0
@@ -54,8 +55,8 @@ events_in bytes = (whole_frames bytes).events
 
 module _ {D : Type 0} (honest : D → Type 0) (moment : D → ℕ) (left : D → ℕ → Files → Type 0)
     (old new : Kept D) where
-  -- Of an honest disk, where nothing was held at the entry. The first of the events were taken, and a beginning of their
-  -- answers' frames was sent.
+  -- Of an honest disk, where nothing was held at the entry. The first of the events were taken, and a beginning of
+  -- their answers' frames was sent.
   pub record Outlives (events : List Event) (sent : List ℕ) : Type 0 where
     pub front : List Event
     pub back : List Event

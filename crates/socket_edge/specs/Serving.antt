@@ -7,7 +7,7 @@ use Rattle.frames.specs.declared.fault.HeaderFault.{HeaderFault}
 use Rattle.frames.specs.declared.fault.HeaderFault.TheVariants as header
 use Rattle.frames.specs.Requests.{Whole, Cut, Bad, next}
 use Rattle.frames.specs.Framing.{behind, whole_frames}
-use Rattle.frames.specs.Answering.{frames}
+use Rattle.frames.specs.Answers.{frames}
 use Rattle.gateway.specs.declared.fault.GatewayFault.{GatewayFault}
 use Rattle.gateway.specs.Told.{Told}
 use Rattle.gateway.specs.Kept.{Kept}

@@ -30,8 +30,7 @@ const NOTHING: Coming = Coming {
 pub struct Ahead {
     /// For so many frames behind the one at the front there is no new look ahead.
     frames: usize,
-    /// Whether one of their packets at least seems to be of a session that is held, or of an inside endpoint that has
-    /// a mapping. Where that wasn't asked it is taken to be so.
+    /// As `is_known` says.
     known: bool,
 }
 

@@ -1,9 +1,9 @@
 //! A run: what is read is offered, and the answers are written.
 //!
-//! `run` calls `read_once` until the input ends. That reads (`Waiting::read`) and calls `serve`, which has `answer_front`
-//! answer all that is whole then, and compacts a file that has grown (`serving::tidy`). `answer_front` offers frame
-//! after frame (`serving::offer_all`), has what is held synced (`serving::close`), and only then writes the answers
-//! (`sending::send_behind`).
+//! `run` calls `read_once` until the input ends. That reads (`Waiting::read`) and calls `answer_read`, which has
+//! `answer_front` answer all that is whole then, and compacts a file that has grown (`serving::tidy`). `answer_front`
+//! offers frame after frame (`serving::offer_all`), has what is held synced (`serving::close`), and only then writes
+//! the answers (`sending::send_behind`).
 ghost use Rattle.std.specs.Prelude.{◌≡◌, ◌≢◌, ◌↔◌, ℕ, List, [], ◌++◌, ◌+◌, ◌<◌, ◌≤◌, ◌^◌, true, false, IfOk, IfErr, OnOk, length, vec_len, vec_capacity};
 ghost use Rattle.std.specs.Io.KnownBytes.{Appends, Consumes, IsAtEnd};
 ghost use Rattle.machine.specs.declared.event.Answer.{Answer};
@@ -67,7 +67,7 @@ fn answer_front<W: Write, D: Disk + Drop>(
 }
 
 /// Offers the whole frames at the front of `waiting`, writes their answers, and compacts where the file has grown.
-fn serve<W: Write, D: Disk + Drop>(
+fn answer_read<W: Write, D: Disk + Drop>(
     alloc: Global,
     writer: &mut W,
     gateway: &mut Gateway<D>,
@@ -146,7 +146,7 @@ fn read_once<R: Read, W: Write, D: Disk + Drop>(
         }
         return Err(EdgeFault::Truncated);
     }
-    match serve(alloc, writer, gateway, waiting, room) {
+    match answer_read(alloc, writer, gateway, waiting, room) {
         Ok(count) => Ok(Turn::More(count)),
         Err(fault) => Err(fault),
     }
@@ -177,8 +177,8 @@ fn sum(count: u64, more: u64) -> u64
 ///
 /// The events that the gateway took stay taken. After `Output` a beginning of the answer frames is written,
 /// also a part of a frame; after `Gateway` the frames of a beginning of the events, and other answers are held where a
-/// call of the disk has failed; after any other fault the frames of all events that were read. Unless a call of the disk
-/// has failed, nothing is held where nothing was held before.
+/// call of the disk has failed; after any other fault the frames of all events that were read. Unless a call of the
+/// disk has failed, nothing is held where nothing was held before.
 pub fn run<R: Read, W: Write, D: Disk + Drop>(
     alloc: Global,
     reader: &mut R,

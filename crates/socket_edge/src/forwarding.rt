@@ -5,7 +5,7 @@ ghost use Rattle.gateway.specs.Running.{CarriesOn};
 ghost use Rattle.machine.specs.declared.event.Answer.{Answer};
 ghost use Rattle.machine.specs.declared.event.What.TheVariants.{Packet};
 ghost use Rattle.machine.specs.Fates.{answer_of};
-ghost use Rattle.frames.specs.Answering.{frame};
+ghost use Rattle.frames.specs.Answers.{frame};
 ghost use Rattle.socket_edge.specs.Serving.{Passes};
 
 use disk_model::Disk;

@@ -1,8 +1,8 @@
-//! Writing the frames of answers: in one piece those that stand in bytes already, and behind them others, one by one; or
-//! all in one piece, for whoever has the answers alone.
+//! Writing the frames of answers: in one piece those that stand in bytes already, and behind them others, one by one;
+//! or all in one piece, for whoever has the answers alone.
 ghost use Rattle.std.specs.Prelude.{◌≡◌, ◌++◌, OnOk, IfErr};
 ghost use Rattle.std.specs.Io.KnownBytes.{Appends};
-ghost use Rattle.frames.specs.Answering.{answer_body, frame_head, frame, frames};
+ghost use Rattle.frames.specs.Answers.{answer_body, frame_head, frame, frames};
 ghost use Rattle.socket_edge.specs.Progress.{AppendsFront};
 
 use crate::fault::EdgeFault;

@@ -1,5 +1,5 @@
 //! What one read made whole is offered, and its answers are put where their requests stood. The way of one read, as
-//! `edge::serve` and `edge::answer_front` go it:
+//! `edge::answer_read` and `edge::answer_front` go it:
 //!
 //! - `empty_for`: the answers of the read before are let go, and their memory is kept for bodies (`keep_bodies`);
 //! - `offer_all`: frame after frame is offered, until a `Halt`. `offer_next` has a packet taken where it lies
@@ -8,14 +8,14 @@
 //!   `offer_copy` takes it (`frames::request::take_frame`), and `offer_event` hands its event to
 //!   `gateway::running::take`. Before one that is never taken so, the frames of held answers make way (`make_way`).
 //!   What is answered goes back into the bytes (`put_back`);
-//! - `close`: what is held is synced and handed out (`give_held`, by `gateway::running::hand_out`) and put back too, and
-//!   `end_at` says what the halt means for the run. Then `edge` writes the answers (`sending::send_behind`);
+//! - `close`: what is held is synced and handed out (`give_held`, by `gateway::running::hand_out`) and put back too,
+//!   and `end_at` says what the halt means for the run. Then `edge` writes the answers (`sending::send_behind`);
 //! - `tidy`: a file that has grown is made short (`gateway::running::compact`).
 ghost use Rattle.std.specs.Prelude.{◌≡◌, ◌≢◌, ◌+◌, ◌∷◌, ◌++◌, [], ℕ, List, ◌<◌, ◌≤◌, false, length, true, None, IfErr, IfNone, IfSome, OnOk, OnSome, vec_len, vec_capacity};
 ghost use Rattle.gateway.specs.Kept.{Kept};
 ghost use Rattle.gateway.specs.Running.{CarriesOn, Stands};
 ghost use Rattle.machine.specs.declared.event.Answer.{Answer};
-ghost use Rattle.frames.specs.Answering.{frame, frames};
+ghost use Rattle.frames.specs.Answers.{frame, frames};
 ghost use Rattle.frames.specs.Requests.{Whole, next};
 ghost use Rattle.socket_edge.specs.Serving.{CarriesBehind, BreaksBehind, Stepped, Offered, Closed};
 ghost use Rattle.socket_edge.specs.Serving.{AreHeld, Passes, RefusesNone, end_of, held_behind, released};
@@ -57,8 +57,8 @@ pub enum Halt {
 /// What the front of the bytes came to.
 #[derive(Clone, Copy, Drop)]
 pub enum Step {
-    /// A frame was taken. First, whether a packet that leaves is the last of the answers that are handed out. Second, where
-    /// answers that are held stand in front, how many bytes of other answers stand before them.
+    /// A frame was taken. First, whether a packet that leaves is the last of the answers that are handed out. Second,
+    /// where answers that are held stand in front, how many bytes of other answers stand before them.
     Took(bool, Option<usize>),
     /// No more frames are offered.
     Ends(Halt),
@@ -78,7 +78,7 @@ pub fn end_at(halt: Halt) -> Result<(), EdgeFault>
 }
 
 /// Makes room for so many answers more.
-fn make_slots(answers: &mut Vec<(u64, Answer)>, more: usize) -> Result<(), AllocError>
+fn make_places(answers: &mut Vec<(u64, Answer)>, more: usize) -> Result<(), AllocError>
     ensures items { answers.new.items ≡ answers.old.items }
     ensures ok { OnOk result (vec_len answers.new + more ≤ vec_capacity answers.new) }
     ensures capacity { vec_capacity answers.old ≤ vec_capacity answers.new }
@@ -118,7 +118,7 @@ pub fn empty_for(
     ensures ok { OnOk result (vec_len answers.new + count ≤ vec_capacity answers.new) }
 {
     keep_bodies(answers, bodies);
-    make_slots(answers, count)
+    make_places(answers, count)
 }
 
 /// Puts the answers' frames where their requests stood, if all of them have room there. Otherwise they stay. Compiled
@@ -173,7 +173,7 @@ fn offer_event<D: Disk + Drop>(
     stands(gateway);
     events_are_judged_once();
     let more = gateway.held() + 1;
-    if make_slots(answers, more).is_err() {
+    if make_places(answers, more).is_err() {
         return Err(GatewayFault::NoMemory);
     }
     take(gateway, event, answers)
@@ -249,9 +249,9 @@ fn send_at_once<D: Disk + Drop>(
     hopeful && waiting.forward_next(gateway)
 }
 
-/// Offers the frame at the front, where no answer that is held stands in front: where it lies, if no answer waits and the
-/// gateway holds none. Otherwise a copy of it, and also where memory for 64 answers is refused, or the gateway doesn't take
-/// it where it lies.
+/// Offers the frame at the front, where no answer that is held stands in front: where it lies, if no answer waits and
+/// the gateway holds none. Otherwise a copy of it, and also where memory for 64 answers is refused, or the gateway
+/// doesn't take it where it lies.
 fn offer_idle<D: Disk + Drop>(
     alloc: Global,
     hopeful: bool,
@@ -280,7 +280,7 @@ fn offer_idle<D: Disk + Drop>(
     if send_at_once(hopeful, waiting, gateway) {
         return Step::Took(true, None);
     }
-    if make_slots(answers, MOST_HELD).is_err() {
+    if make_places(answers, MOST_HELD).is_err() {
         return offer_copy(alloc, waiting, answers, bodies, gateway);
     }
     let front = waiting.answered().len();
@@ -293,8 +293,8 @@ fn offer_idle<D: Disk + Drop>(
     Step::Took(placed.leaves, None)
 }
 
-/// Has the packet at the front taken where it lies, behind answers that are held, unless no more can be. Says whether it
-/// was; its answer is held then.
+/// Has the packet at the front taken where it lies, behind answers that are held, unless no more can be. Says whether
+/// it was; its answer is held then.
 fn pass_behind<D: Disk + Drop>(waiting: &mut Waiting, gateway: &mut Gateway<D>) -> bool
     requires stands { gateway.old.fallen ≡ false }
     requires some { gateway.old.told.held ≢ [] }
@@ -312,19 +312,19 @@ fn pass_behind<D: Disk + Drop>(waiting: &mut Waiting, gateway: &mut Gateway<D>) 
     waiting.pass_next(gateway).is_some()
 }
 
-/// Where answers that are held stand in front, behind so many bytes, has the packet at the front taken where it lies. If it
-/// isn't, they are synced: where 64 are held, where `Gateway::pass` doesn't take it, and where no whole frame is left or a
-/// header is faulty, as behind the last frame of each read. `None` where no answer that is held stands in front any more,
-/// and what is at the front is still to be offered.
+/// Where answers that are held stand in front, behind so many bytes, has the packet at the front taken where it lies.
+/// If it isn't, they are synced: where 64 are held, where `Gateway::pass` doesn't take it, and where no whole frame is
+/// left or a header is faulty, as behind the last frame of each read. `None` where no answer that is held stands in
+/// front any more, and what is at the front is still to be offered.
 fn offer_behind<D: Disk + Drop>(
-    held: Option<usize>,
+    behind: Option<usize>,
     waiting: &mut Waiting,
     gateway: &mut Gateway<D>,
 ) -> Option<Step>
     requires stands { gateway.old.fallen ≡ false }
-    requires held { AreHeld held waiting.old.answered gateway.old.told.held }
+    requires held { AreHeld behind waiting.old.answered gateway.old.told.held }
     ensures some { IfSome result (λ step.
-        (released (held_behind step) waiting.new.answered ≡ released held waiting.old.answered)
+        (released (held_behind step) waiting.new.answered ≡ released behind waiting.old.answered)
         × ((before : List (ℕ × Answer)) → Stepped D.honest D.moment D.left D.failed step
         waiting.old.unanswered waiting.new.unanswered gateway.old gateway.new before before)) }
     ensures held { IfSome result (λ step.
@@ -333,16 +333,16 @@ fn offer_behind<D: Disk + Drop>(
     ensures few { OnSome result (length gateway.new.told.held ≤ 64) }
     ensures none { IfNone result ((handed : List (ℕ × Answer))
         × (waiting.new ≡ record waiting.old {
-          answered = released held waiting.old.answered ++ frames handed;
+          answered = released behind waiting.old.answered ++ frames handed;
         })
         × ((before : List (ℕ × Answer)) → CarriesOn D.honest D.moment D.left D.failed
         gateway.old gateway.new [] before (before ++ handed))) }
     ensures goes_on { IfNone result (gateway.new.fallen ≡ false) }
-    ensures settled { held ≢ None → IfNone result (gateway.new.told.held ≡ []) }
-    ensures unasked { held ≡ None → (result ≡ None) × (waiting.new ≡ waiting.old)
+    ensures settled { behind ≢ None → IfNone result (gateway.new.told.held ≡ []) }
+    ensures unasked { behind ≡ None → (result ≡ None) × (waiting.new ≡ waiting.old)
         × (gateway.new ≡ gateway.old) }
 {
-    let Some(front) = held else {
+    let Some(front) = behind else {
         return None;
     };
     if pass_behind(waiting, gateway) {
@@ -357,49 +357,50 @@ fn offer_behind<D: Disk + Drop>(
     }
 }
 
-/// Where answers that are held stand in front, behind so many bytes, and a frame comes that `Gateway::pass` never takes,
-/// lets their frames go, unless no more can be held: the gateway has the answers too, and hands them out with that of the
-/// frame, so that they needn't be synced before it. Says behind how many bytes such answers stand then, if there are any.
+/// Where answers that are held stand in front, behind so many bytes, and a frame comes that `Gateway::pass` never
+/// takes, lets their frames go, unless no more can be held: the gateway has the answers too, and hands them out with
+/// that of the frame, so that they needn't be synced before it. Says behind how many bytes such answers stand then, if
+/// there are any.
 #[inline(always)]
 fn make_way<D: Disk + Drop>(
-    held: Option<usize>,
+    behind: Option<usize>,
     waiting: &mut Waiting,
     gateway: &Gateway<D>,
 ) -> Option<usize>
-    requires held { AreHeld held waiting.old.answered gateway.now.told.held }
+    requires held { AreHeld behind waiting.old.answered gateway.now.told.held }
     ensures held { AreHeld result waiting.new.answered gateway.now.told.held }
     ensures released { released result waiting.new.answered
-        ≡ released held waiting.old.answered }
+        ≡ released behind waiting.old.answered }
     ensures rest { waiting.new.unanswered ≡ waiting.old.unanswered }
-    ensures some { result ≢ None → held ≢ None }
+    ensures some { result ≢ None → behind ≢ None }
 {
-    let Some(front) = held else {
+    let Some(front) = behind else {
         return None;
     };
     if waiting.wants_copy() && gateway.held() < MOST_HELD {
         waiting.cut_answered(front);
         return None;
     }
-    held
+    behind
 }
 
 /// Offers the frame at the front, behind answers that are held, if such stand in front, behind so many bytes.
 fn offer_next<D: Disk + Drop>(
     alloc: Global,
     hopeful: bool,
-    held: Option<usize>,
+    behind: Option<usize>,
     waiting: &mut Waiting,
     answers: &mut Vec<(u64, Answer)>,
     bodies: &mut Vec<Vec<u8>>,
     gateway: &mut Gateway<D>,
 ) -> Step
     requires stands { gateway.old.fallen ≡ false }
-    requires held { AreHeld held waiting.old.answered gateway.old.told.held }
-    requires alone { held ≢ None → (answers.old.items ≡ []) × (64 ≤ vec_capacity answers.old) }
+    requires held { AreHeld behind waiting.old.answered gateway.old.told.held }
+    requires alone { behind ≢ None → (answers.old.items ≡ []) × (64 ≤ vec_capacity answers.old) }
     requires room { vec_len answers.old + length gateway.old.told.held ≤ vec_capacity answers.old }
     ensures step { (handed : List (ℕ × Answer))
         × (released (held_behind result) waiting.new.answered
-        ≡ released held waiting.old.answered ++ frames handed)
+        ≡ released behind waiting.old.answered ++ frames handed)
         × ((before : List (ℕ × Answer)) → Stepped D.honest D.moment D.left D.failed result
         waiting.old.unanswered waiting.new.unanswered gateway.old gateway.new
         (before ++ answers.old.items) (before ++ (handed ++ answers.new.items))) }
@@ -409,14 +410,14 @@ fn offer_next<D: Disk + Drop>(
     ensures stands { RefusesNone result → gateway.new.fallen ≡ false }
     ensures room { vec_len answers.new + length gateway.new.told.held ≤ vec_capacity answers.new }
 {
-    let held = make_way(held, waiting, gateway);
-    match offer_behind(held, waiting, gateway) {
+    let behind = make_way(behind, waiting, gateway);
+    match offer_behind(behind, waiting, gateway) {
         Some(step) => step,
         None => offer_idle(alloc, hopeful, waiting, answers, bodies, gateway),
     }
 }
 
-/// How many events in a row, up to the last one, ended with no packet handed out, if `misses` did before that one.
+/// How many events in a row have now ended with no packet handed out: none behind a packet that left, or else one more.
 fn misses_behind(misses: usize, forwarded: bool) -> usize {
     if forwarded {
         0
@@ -449,13 +450,13 @@ pub fn offer_all<D: Disk + Drop>(
     // events in a row that ended with none handed out, until the next one leaves.
     let mut misses: usize = 0;
     let mut ahead = Ahead::none();
-    let mut held = None;
+    let mut behind = None;
     loop {
         ahead = ahead.next(waiting.unanswered(), gateway);
         let hopeful = ahead.is_known() && misses < MOST_MISSES;
-        match offer_next(alloc, hopeful, held, waiting, answers, bodies, gateway) {
-            Step::Took(forwarded, behind) => {
-                held = behind;
+        match offer_next(alloc, hopeful, behind, waiting, answers, bodies, gateway) {
+            Step::Took(forwarded, now_behind) => {
+                behind = now_behind;
                 prove!(count < most);
                 count += 1;
                 misses = misses_behind(misses, forwarded);

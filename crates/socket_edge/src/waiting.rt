@@ -1,9 +1,9 @@
 //! The bytes that were read and aren't answered yet, and in front of them, in the same memory, the frames of answers to
 //! those that were. The next read goes right behind them, into memory that is kept.
 //!
-//! `read` puts what comes behind the bytes that wait. A frame leaves their front by `forward_next` and `pass_next`, which
-//! have its packet taken where it lies (`forwarding::forward_frame` and `pass_frame`) and make its answer of it, or by
-//! `skip`, where `serving` offers a copy of it; then `put` writes the answer where the request stood
+//! `read` puts what comes behind the bytes that wait. A frame leaves their front by `forward_next` and `pass_next`,
+//! which have its packet taken where it lies (`forwarding::forward_frame` and `pass_frame`) and make its answer of it,
+//! or by `skip`, where `serving` offers a copy of it; then `put` writes the answer where the request stood
 //! (`frames::answer::fill_frames`), if there is room there. `answered` is what stands here to be written:
 //! `forget_answered` lets it go behind that. `cut_answered` takes the frames of held answers away: where their changes
 //! could not be synced, or where they make way for a frame that is offered as a copy (`serving::make_way`).
@@ -13,7 +13,7 @@ ghost use Rattle.gateway.specs.Running.{CarriesOn};
 ghost use Rattle.machine.specs.declared.event.Answer.{Answer};
 ghost use Rattle.machine.specs.declared.event.Event.{Event};
 ghost use Rattle.machine.specs.declared.event.What.TheVariants.{Packet};
-ghost use Rattle.frames.specs.Answering.{frame, frames};
+ghost use Rattle.frames.specs.Answers.{frame, frames};
 ghost use Rattle.frames.specs.Requests.{next, Whole};
 ghost use Rattle.socket_edge.specs.Serving.{Passes};
 
@@ -93,8 +93,8 @@ impl Waiting {
         &self.bytes.as_slice()[..self.answered]
     }
 
-    /// Whether a whole frame stands at the front that `Gateway::pass` never takes: a load, a moment, or a packet of more than
-    /// 2,048 bytes.
+    /// Whether a whole frame stands at the front that `Gateway::pass` never takes: a load, a moment, or a packet of
+    /// more than 2,048 bytes.
     #[inline(always)]
     pub fn wants_copy(&self) -> bool
         ensures { result ≡ true → (event : Event) × (rest : List ℕ)
@@ -140,8 +140,8 @@ impl Waiting {
         }
     }
 
-    // The packet at the front, where a whole frame of one stands there that has at most `most` bytes: its interface, its
-    // moment in seconds, and how many bytes the frame has.
+    // The packet at the front, where a whole frame of one stands there that has at most `most` bytes: its interface,
+    // its moment in seconds, and how many bytes the frame has.
     #[inline(always)]
     fn front_packet(&self, most: usize) -> Option<(Iface, u64, usize)>
         ensures some { IfSome result (λ front. next self.now.unanswered
@@ -192,8 +192,9 @@ impl Waiting {
         true
     }
 
-    /// Has the gateway take the packet at the front, where a whole frame of a short one stands there. If it does, the frame of
-    /// its answer stands behind the other answers, also where the answer is held; otherwise nothing has changed.
+    /// Has the gateway take the packet at the front, where a whole frame of a short one stands there. If it does, the
+    /// frame of its answer stands behind the other answers, also where the answer is held; otherwise nothing has
+    /// changed.
     #[inline(always)]
     pub fn pass_next<D: Disk + Drop>(&mut self, gateway: &mut Gateway<D>) -> Option<Placed>
         requires stands { gateway.old.fallen ≡ false }

@@ -1,5 +1,6 @@
-//! The two files, and a store over them: the bytes that are written, and what they stand for, whole, changed, cut, and at
-//! each stop and fault of a call. Nothing but tests stands here; bytes are worked by hand from the rules of the format.
+//! The two files, and a store over them: the bytes that are written, and what they stand for, whole, changed, cut, and
+//! at each stop and fault of a call. Nothing but tests stands here; bytes are worked by hand from the rules of the
+//! format.
 //!
 //! They stand above the crates that they try, so that each of these is proved once, without them.
 //!

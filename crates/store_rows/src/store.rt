@@ -257,7 +257,8 @@ fn make_script(alloc: Global) -> Result<Box<Script>, Fail> {
     Ok(Box::new(alloc, script)?)
 }
 
-// Commits the one group, compacts, and commits the other, up to the first fault; and how many commits were acknowledged.
+// Commits the one group, compacts, and commits the other, up to the first fault; and how many commits were
+// acknowledged.
 fn commits(alloc: Global, store: &mut Store<Trial>, script: &Script) -> (Came, u8) {
     let came = commit(store, &script.loaded);
     if came != Came::Through {

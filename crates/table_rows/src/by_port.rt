@@ -141,8 +141,8 @@ fn endpoints_are_found_when_places_become_more(rt: HostRuntime) -> Result<(), Al
     Ok(())
 }
 
-// Of two endpoints with one port the one that is left has no place: it stays found when the other is gone, and when that
-// one comes back.
+// Of two endpoints with one port the one that is left has no place: it stays found when the other is gone, and when
+// that one comes back.
 #[test]
 fn endpoints_share_a_port(rt: HostRuntime) -> Result<(), AllocError> {
     let mut map = empty(rt.alloc())?;

@@ -1,6 +1,6 @@
 //! A mapping that is held twice, and is gone with its last hold.
 ghost use Rattle.std.specs.Prelude.{◌≡◌, ◌+◌, ◌<◌, IfOk};
-ghost use Rattle.mappings.specs.declared.map.Pair.{Pair as Mapping};
+ghost use Rattle.mappings.specs.declared.map.Pair.{Pair};
 ghost use Rattle.mappings.specs.Map.{times, one_at, KeepsOneToOne};
 
 use mappings::map::{Map, Pair};
@@ -23,7 +23,7 @@ const OUTSIDE: Endpoint = Endpoint {
 fn hold(rt: &impl Abort, map: &mut Map, pair: Pair) -> Result<(), AllocError>
     requires one_to_one { KeepsOneToOne map.old pair }
     requires few { times map.old pair < 65536 }
-    ensures { IfOk result (λ _. (p : Mapping) → times map.new p ≡ times map.old p + one_at p pair) }
+    ensures { IfOk result (λ _. (p : Pair) → times map.new p ≡ times map.old p + one_at p pair) }
 {
     let before = map.outside_of(pair.proto, pair.inside);
     if map.hold(pair).is_err() {
@@ -83,7 +83,7 @@ fn release(map: &mut Map, pair: Pair) {
 
 // On a map that holds nothing.
 fn goes_with_its_last_hold(rt: &impl Abort, map: &mut Map) -> Result<(), AllocError>
-    requires { (p : Mapping) → times map.old p ≡ 0 }
+    requires { (p : Pair) → times map.old p ≡ 0 }
 {
     let udp = Pair {
         proto: Proto::Udp,
@@ -112,7 +112,7 @@ fn pair_goes_with_its_last_hold(rt: HostRuntime) -> Result<(), AllocError> {
 
 // On a map that holds nothing.
 fn assert_held_once_reserved(rt: &impl Abort, map: &mut Map) -> Result<(), AllocError>
-    requires { (p : Mapping) → times map.old p ≡ 0 }
+    requires { (p : Pair) → times map.old p ≡ 0 }
 {
     if map.reserve().is_err() {
         map.reserve()?;

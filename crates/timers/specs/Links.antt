@@ -1,7 +1,7 @@
 -- How the idle times are kept: a row of links. The first three places are the heads of three rings,
 -- one for each timeout; the place of a slot is three above its number. No public clause cites this
 -- module.
-use Rattle.std.specs.Prelude.{◌≡◌, ◌≢◌, ◌⊎◌, ℕ, ◌+◌, ◌-◌, ◌<◌, ◌≤◌, List, [], ◌∷◌, length, Option, Some, None, IsSomeAnd, slice_index_or, slice_index, drop}
+use Rattle.std.specs.Prelude.{◌≡◌, ◌≢◌, ℕ, ◌+◌, ◌<◌, ◌≤◌, List, [], ◌∷◌, length, Option, Some, None, IsSomeAnd, slice_index_or, slice_index, drop}
 use Rattle.std.specs.List.{Contains}
 use Rattle.std.specs.Option.{option_map}
 use Rattle.timers.specs.declared.due.Idle.{Idle}
@@ -124,7 +124,3 @@ pub record IsFound (links : List Link) (now queues : ℕ) (slots : List ℕ) : T
   pub each : (slot : ℕ) → Contains slots slot → (tag links (slot + 3) < queues)
       × IsOverAt links now (slot + 3)
   pub once : (i j : ℕ) → i < j → j < length slots → slice_index slots i ≢ slice_index slots j
-
--- the place is the head of this queue, or that of one of these slots
-abbrev pub IsPassed : List ℕ → ℕ → ℕ → Type 0
-IsPassed slots head k = (k ≡ head) ⊎ ((3 ≤ k) × Contains slots (k - 3))

@@ -3,7 +3,7 @@ ghost use Rattle.std.specs.Prelude.{◌≡◌, ◌^◌, ◌<◌};
 ghost use Rattle.timers.specs.Kept.{watch_of};
 ghost use Rattle.timers.specs.Links.{alone};
 
-use crate::links::{Link, Queue, Watch};
+use crate::links::{Queue, Watch};
 use sessions::Slot;
 use std::marker::Model;
 

@@ -6,7 +6,7 @@ ghost use Rattle.timers.specs.Links.{head_of, timeout_in, most_places, link, nex
 use crate::Idle;
 use crate::cell::Cell;
 use sessions::Slot;
-use std::alloc::{AllocError, Global};
+use std::alloc::AllocError;
 
 /// The first places of the row are the heads of the queues; a slot's place is so many above its number.
 pub const HEADS: usize = 3;

@@ -1,6 +1,6 @@
 -- The calls of the disk in memory go as the disk model says.
-use Rattle.std.proofs.Common.{◌≡◌, ◌≢◌, ◌⊎◌, inl, inr, ⊎_elim, ℕ, ◌/◌, ◌<◌, min, Bool, true, false, List, length, take, refl, sym, ◌∙◌, ap, subst, arith, length-take}
-use Rattle.std.specs.Prelude.{Result, Ok, Err, OnOk, OnErr, if◌then◌else◌}
+use Rattle.std.proofs.Common.{◌≡◌, ◌≢◌, ◌⊎◌, inl, inr, ⊎_elim, ℕ, ◌/◌, ◌<◌, min, List, length, take, refl, sym, ◌∙◌, ap, subst, arith, length-take}
+use Rattle.std.specs.Prelude.{Result, Ok, Err, OnOk, OnErr}
 use Rattle.disk_model.specs.declared.disk.FileId.{FileId}
 use Rattle.disk_model.specs.declared.disk.FileId.TheVariants.{A, B}
 use Rattle.disk_model.specs.Disk.{Files, Same, Torn, Put, Written, Goes}
@@ -41,9 +41,6 @@ part_of old new file at bytes (Err e) ok err =
     (λ cut. inr (half bytes, half_widens at bytes cut.1, ap history_of cut.2))
     err
 
-abbrev GoesBy : Simulated → Simulated → (Files → Files → Type 0) → Type 0
-GoesBy old new Step = Goes (λ (d : Simulated). length d.history.done) (λ (d : Simulated). LeftSince d.history) old new Step
-
 pub goes_write : {T E : Type 0} (old new : Simulated) (file : FileId) (at : ℕ) (bytes : List ℕ) (r : Result T E)
     → OnOk r (new ≡ passed (did (Wrote file at bytes) old.history) old) → OnErr r (FailsToWrite file at bytes old new)
     → Goes (λ (d : Simulated). length d.history.done) (λ (d : Simulated). LeftSince d.history) old new (Written file at bytes)
@@ -56,10 +53,6 @@ goes_write old new file at bytes r ok err =
     let goes = goes_did h (Wrote file at did_it.0) step (λ files left. leads_wrote h file at did_it.0 bytes did_it.1 files left) in
     goes_by history_of old new (did (Wrote file at did_it.0) h) step did_it.2 goes)
     (part_of old new file at bytes r ok err)
-
-here_if : (b : Bool) → b ≡ true → (x y : List ℕ) → (if b then x else y) ≡ x
-here_if true is x y = refl
-here_if false is x y = absurd (let e : false ≡ true = is in search (arith, e))
 
 put_did : (h : History) (file : FileId) (at : ℕ) (bytes : List ℕ) → Put file at bytes (reads h) (reads (did (Wrote file at bytes) h))
 put_did h A at bytes = record { here = reads_wrote h A at bytes A; elsewhere = others }

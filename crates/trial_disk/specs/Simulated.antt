@@ -19,12 +19,12 @@ seen_of d = reads d.history
 abbrev pub moment_of : Simulated → ℕ
 moment_of d = length d.history.done
 
-abbrev pub left_of : Simulated → ℕ → Files → Type 0
-left_of d t files = LeftSince d.history t files
+abbrev pub MayBeLeft : Simulated → ℕ → Files → Type 0
+MayBeLeft d t files = LeftSince d.history t files
 
 -- of each file a crash leaves what a read gives
 abbrev pub IsRested : Simulated → Type 0
-IsRested d = (file : FileId) → IsSynced moment_of left_of seen_of d file
+IsRested d = (file : FileId) → IsSynced moment_of MayBeLeft seen_of d file
 
 -- the call did this and is counted
 abbrev pub passed : History → Simulated → Simulated
@@ -38,7 +38,8 @@ failing history old = record { history = history; meter = failed (ticked old.met
 abbrev pub half : List ℕ → List ℕ
 half bytes = take (length bytes / 2) bytes
 
--- A write that fails touches nothing. One that is cut puts its first half, where that is a byte or more and memory is there.
+-- A write that fails touches nothing. One that is cut puts its first half, where that is a byte or more and memory is
+-- there.
 abbrev pub FailsToWrite : FileId → ℕ → List ℕ → Simulated → Simulated → Type 0
 FailsToWrite file at bytes old new =
     (new ≡ failing old.history old)

@@ -4,7 +4,7 @@ ghost use Rattle.disk_model.specs.Disk.{Synced as IsSynced, Put, Written, Goes, 
 ghost use Rattle.trial_disk.specs.Recorded.{Wrote, Synced, did, reads};
 ghost use Rattle.trial_disk.specs.Choices.{crashed, restarted};
 ghost use Rattle.trial_disk.specs.Metered.{failed, turn_of};
-ghost use Rattle.trial_disk.specs.Simulated.{Simulated, seen_of, moment_of, left_of, IsRested, passed, failing, half, FailsToWrite};
+ghost use Rattle.trial_disk.specs.Simulated.{Simulated, seen_of, moment_of, MayBeLeft, IsRested, passed, failing, half, FailsToWrite};
 ghost use Rattle.trial_disk.specs.declared.meter.Turn.TheVariants.{Passes, Refused, Cut};
 ghost use Rattle.trial_disk.specs.Lawful.{reads_left, left_earlier};
 
@@ -90,7 +90,7 @@ impl SimDisk {
     /// `AllocError` where memory is refused. Nothing changes.
     pub fn crash(&mut self, choice: u64) -> Result<(), AllocError>
         ensures left { OnOk result (Same (crashed choice self.old.history) (seen_of self.new)) }
-        ensures allowed { OnOk result (left_of self.old (moment_of self.old) (seen_of self.new)) }
+        ensures allowed { OnOk result (MayBeLeft self.old (moment_of self.old) (seen_of self.new)) }
         ensures synced { OnOk result (IsRested self.new) }
         ensures history { OnOk result (self.new.history ≡ restarted choice self.old.history) }
         ensures meter { OnOk result (self.new.meter ≡ record self.old.meter {
@@ -202,7 +202,7 @@ impl Disk for SimDisk {
 
     ghost moment = { λ d. moment_of d };
 
-    ghost left = { λ d. left_of d };
+    ghost left = { λ d. MayBeLeft d };
 
     ghost called = { λ d. d.meter.calls };
 
@@ -223,7 +223,7 @@ impl Disk for SimDisk {
         ensures turn { IsOk result ↔ turn_of self.old.meter ≡ Passes }
         ensures length { IfOk result (λ n. n ≡ length (seen_of self.old file)) }
         ensures seen { Same (seen_of self.old) (seen_of self.new) }
-        ensures crash { Goes moment_of left_of self.old self.new Same }
+        ensures crash { Goes moment_of MayBeLeft self.old self.new Same }
         ensures called { Called 1 self.old.meter.calls self.new.meter.calls }
         ensures cause { HasCause self.old.meter.failures self.new.meter.failures result }
     {
@@ -239,7 +239,7 @@ impl Disk for SimDisk {
         ensures read { OnOk result (bytes.new
             ≡ take (length bytes.old) (drop at (seen_of self.old file))) }
         ensures seen { Same (seen_of self.old) (seen_of self.new) }
-        ensures crash { Goes moment_of left_of self.old self.new Same }
+        ensures crash { Goes moment_of MayBeLeft self.old self.new Same }
         ensures called { Called 1 self.old.meter.calls self.new.meter.calls }
         ensures cause { HasCause self.old.meter.failures self.new.meter.failures result }
     {
@@ -258,7 +258,7 @@ impl Disk for SimDisk {
         ensures written { OnOk result (Put file at bytes.now (seen_of self.old)
             (seen_of self.new)) }
         ensures range { Written file at bytes.now (seen_of self.old) (seen_of self.new) }
-        ensures crash { Goes moment_of left_of self.old self.new (Written file at bytes.now) }
+        ensures crash { Goes moment_of MayBeLeft self.old self.new (Written file at bytes.now) }
         ensures called { Called 1 self.old.meter.calls self.new.meter.calls }
         ensures cause { HasCause self.old.meter.failures self.new.meter.failures result }
     {
@@ -269,9 +269,9 @@ impl Disk for SimDisk {
         ensures ok { OnOk result (self.new ≡ passed (did (Synced file) self.old.history) self.old) }
         ensures err { OnErr result (self.new ≡ failing self.old.history self.old) }
         ensures turn { IsOk result → turn_of self.old.meter ≡ Passes }
-        ensures durable { OnOk result (IsSynced moment_of left_of seen_of self.new file) }
+        ensures durable { OnOk result (IsSynced moment_of MayBeLeft seen_of self.new file) }
         ensures seen { Same (seen_of self.old) (seen_of self.new) }
-        ensures crash { Goes moment_of left_of self.old self.new Same }
+        ensures crash { Goes moment_of MayBeLeft self.old self.new Same }
         ensures called { Called 1 self.old.meter.calls self.new.meter.calls }
         ensures cause { HasCause self.old.meter.failures self.new.meter.failures result }
     {

@@ -5,7 +5,7 @@ ghost use Rattle.trial_disk.specs.Simulated.{seen_of};
 
 use crate::meter::{Meter, Turn};
 use crate::sim::SimDisk;
-use disk_model::{Disk, DiskFault, FileId};
+use disk_model::{Disk, DiskFault, FileId, ReadFault, contents};
 use std::alloc::{AllocError, Global};
 use std::marker::Model;
 
@@ -102,14 +102,9 @@ impl Trial {
     ///
     /// # Errors
     ///
-    /// `DiskFault` where memory is refused.
-    pub fn bytes(&mut self, alloc: Global, file: FileId) -> Result<Vec<u8>, DiskFault> {
-        let len = self.disk.len(file)?;
-        let Ok(mut bytes) = vec![in alloc; 0; len as usize] else {
-            return Err(DiskFault);
-        };
-        self.disk.read_at(file, 0, &mut bytes)?;
-        Ok(bytes)
+    /// `ReadFault` as `contents` tells it: `NoMemory` where memory is refused.
+    pub fn bytes(&mut self, alloc: Global, file: FileId) -> Result<Vec<u8>, ReadFault> {
+        contents(alloc, &mut self.disk, file)
     }
 
     // A call that fails and touches nothing.

@@ -1,5 +1,6 @@
 -- Base chains asked in turn accept where each of them does.
 use Rattle.std.proofs.Common.{◌≡◌, ◌↔◌, List, [], ◌∷◌, int_le, refl, inl, inr}
+use Rattle.std.specs.List.{AllByRecursion}
 use Rattle.std.proofs.lemmas.Bool.{cases_Bool}
 use Rattle.packet.specs.Config.{Config}
 use Rattle.ruletree.specs.declared.tree.Hook.TheVariants.{Forward}
@@ -8,7 +9,6 @@ use Rattle.verdict.specs.declared.facts.Facts.{Facts}
 use Rattle.verdict.specs.declared.chain.Outcome.{Outcome}
 use Rattle.verdict.specs.declared.chain.Outcome.TheVariants.{Accepts, Drops, To, From, Ends}
 use Rattle.verdict.specs.declared.hook.Forwarding.TheVariants as forwardings
-use Rattle.verdict.specs.Targets.{OfEach}
 use Rattle.verdict.specs.Hooks.{BaseChain, put, in_order, bases_of, base_outcome, handed_on, asked_in_turn, filtered_by, hook_outcome, forward_verdict}
 
 handed : (o next : Outcome) → (handed_on o next ≡ Accepts) ↔ ((o ≡ Accepts) × (next ≡ Accepts))
@@ -26,7 +26,7 @@ filtered (From x) = (λ is. cc, λ is. cc)
 filtered Ends = (λ is. cc, λ is. cc)
 
 module _ (P : BaseChain → Type 0) where
-  put_each : (x : BaseChain) (ys : List BaseChain) → OfEach P (put x ys) ↔ (P x × OfEach P ys)
+  put_each : (x : BaseChain) (ys : List BaseChain) → AllByRecursion P (put x ys) ↔ (P x × AllByRecursion P ys)
   put_each x [] = (λ all. all, λ all. all)
   put_each x (y ∷ ys) = elim (cases_Bool (int_le x.base.priority y.base.priority)) [
     | inl first ↦ rw first (λ all. all, λ all. all)
@@ -36,7 +36,7 @@ module _ (P : BaseChain → Type 0) where
     )
   ]
 
-  order_each : (xs : List BaseChain) → OfEach P (in_order xs) ↔ OfEach P xs
+  order_each : (xs : List BaseChain) → AllByRecursion P (in_order xs) ↔ AllByRecursion P xs
   order_each [] = (λ all. all, λ all. all)
   order_each (x ∷ xs) = (
     λ all. let parts = (put_each x (in_order xs)).0 all in (parts.0, (order_each xs).0 parts.1),
@@ -44,14 +44,14 @@ module _ (P : BaseChain → Type 0) where
   )
 
 module _ (config : Config) (facts : Facts) where
-  turns : (xs : List BaseChain) → (asked_in_turn config facts xs ≡ Accepts) ↔ OfEach (λ base. base_outcome config facts base ≡ Accepts) xs
+  turns : (xs : List BaseChain) → (asked_in_turn config facts xs ≡ Accepts) ↔ AllByRecursion (λ base. base_outcome config facts base ≡ Accepts) xs
   turns [] = (λ is. tt, λ all. refl)
   turns (x ∷ xs) = (
     λ is. let both = (handed (base_outcome config facts x) (asked_in_turn config facts xs)).0 is in (both.0, (turns xs).0 both.1),
     λ all. (handed (base_outcome config facts x) (asked_in_turn config facts xs)).1 (all.0, (turns xs).1 all.1),
   )
 
-  pub passes : (text : Spelled) → (forward_verdict config facts text ≡ forwardings.Pass) ↔ OfEach (λ base. base_outcome config facts base ≡ Accepts) (bases_of Forward text.tables)
+  pub passes : (text : Spelled) → (forward_verdict config facts text ≡ forwardings.Pass) ↔ AllByRecursion (λ base. base_outcome config facts base ≡ Accepts) (bases_of Forward text.tables)
   unfolding forward_verdict hook_outcome
   passes text =
       let bases = bases_of Forward text.tables in

@@ -1,5 +1,6 @@
 -- What a move makes of a walk that stands.
 use Rattle.std.proofs.Common.{◌≡◌, ◌⊎◌, ℕ, false, zero, suc, ◌+◌, ◌-◌, ◌<◌, ◌≤◌, List, [], ◌∷◌, Option, Some, None, IfSome, MatchOption, length, drop, slice_get, slice_index_or, slice_set, refl, sym, ap, ◌∙◌, subst, inl, inr, arith}
+use Rattle.std.specs.List.{AllByRecursion}
 use Rattle.std.specs.Option.{unwrap_or, option_map_or}
 use Rattle.std.proofs.lemmas.Bool.{cases_eq}
 use Rattle.std.proofs.lemmas.List.{drop_all, get_or-set_other}
@@ -19,13 +20,18 @@ use Rattle.verdict.specs.declared.stack.Place.{Place}
 use Rattle.verdict.specs.declared.walk.Move.{Move}
 use Rattle.verdict.specs.declared.walk.Move.TheVariants.{Next, Gives, Jumps, Goes}
 use Rattle.verdict.specs.Evaluation.{unless_ended, after}
-use Rattle.verdict.specs.Targets.{OfEach, TargetsHave, EndsWithin}
+use Rattle.verdict.specs.Targets.{TargetsHave, EndsWithin}
 use Rattle.verdict.specs.Lines.{place_among, numbers_of, may_hold, IsLine, AreLines, AreSpans}
-use Rattle.verdict.specs.Places.{move_of, ending_by, rules_at, rest_of, comes, comes_at, AreKnown, IsResolved, after_call, whole, Reads, Standing, GoesOn, Stepped, IsRead, told_of, AreSkipped, StandsAt, Calling, GoesTo, EndsAll, Acts}
+use Rattle.verdict.specs.Places.{move_of, ending_by, rules_at, rest_of, comes, comes_at, AreKnown, IsResolved, after_call, whole, Reads, Standing, GoesOn, Stepped, told_of, AreSkipped, StandsAt, Calling, GoesTo, EndsAll, Acts}
 use Rattle.verdict.proofs.Steady.{rules_weaken}
 use Rattle.verdict.proofs.Known.{short_within}
 use Rattle.verdict.proofs.Moves.{rule_moves}
 use Rattle.verdict.proofs.Stepping.{each_at, Led, rule_leads, some_left, called_fits, less_read, less_called, less_back}
+
+-- the chain at that place is read now
+abbrev IsRead : List Place → ℕ → Type 0
+IsRead [] a = ⊥
+IsRead (place ∷ places) a = (a ≡ place.chain) ⊎ IsRead places a
 
 -- of a chain of which an outcome is told, no other is known
 own_told : (known : List (Option Outcome)) (a : ℕ) (given any : Outcome) → slice_index_or (slice_set known a (Some given)) a None ≡ Some any → any ≡ given
@@ -129,7 +135,7 @@ module _ (config : Config) (facts : Facts) (table : Table) where
     }
 
     -- a chain is called, and this one is read on from this rule afterwards
-    calls_on : (b at : ℕ) → b < length table.chains → length places < 16 → OfEach (TargetsHave (EndsWithin table.chains (16 - suc (length places)))) (rules_of_place b)
+    calls_on : (b at : ℕ) → b < length table.chains → length places < 16 → AllByRecursion (TargetsHave (EndsWithin table.chains (16 - suc (length places)))) (rules_of_place b)
         → here.at < at → at ≤ length (rules_of_place here.chain)
         → W (rest_of table.chains here) ≡ unwrap_or (unless_ended (comes_at config facts table b)) (W (drop at (rules_of_place here.chain)))
         → GoesOn config facts table (here ∷ places) (record { chain = b; at = 0 } ∷ record { chain = here.chain; at = at } ∷ places)
@@ -184,12 +190,12 @@ module _ (config : Config) (facts : Facts) (table : Table) where
           let some = some_left table.chains name lt_name (16 - length places) named in
           omega (arith, some)
 
-      called_short_at : (b : ℕ) → b < length table.chains → (name : List ℕ) → EndsWithin table.chains (16 - length places) name → b ≡ place_among table.chains name → OfEach (TargetsHave (EndsWithin table.chains (16 - suc (length places)))) (rules_of_place b)
+      called_short_at : (b : ℕ) → b < length table.chains → (name : List ℕ) → EndsWithin table.chains (16 - length places) name → b ≡ place_among table.chains name → AllByRecursion (TargetsHave (EndsWithin table.chains (16 - suc (length places)))) (rules_of_place b)
       called_short_at b within name named is =
           let room = called_room b within name named is in
           let lt_name : place_among table.chains name < length table.chains = omega (arith, within, is) in
           let e : 16 - length places ≡ suc (16 - suc (length places)) = omega (arith, room) in
-          subst (λ a. OfEach (TargetsHave (EndsWithin table.chains (16 - suc (length places)))) (rules_of_place a)) (sym is)
+          subst (λ a. AllByRecursion (TargetsHave (EndsWithin table.chains (16 - suc (length places)))) (rules_of_place a)) (sym is)
           (called_fits table.chains name lt_name (16 - suc (length places)) (subst (λ k. EndsWithin table.chains k name) e named))
 
       at_more : here.at < at + 1
@@ -269,7 +275,7 @@ module _ (config : Config) (facts : Facts) (table : Table) where
             (rest_is (Goes b) (Some (comes_at config facts table b)) resolved refl ∙ ends_or (comes_at config facts table b) ∙ ap (unwrap_or (unless_ended (comes_at config facts table b))) (sym no_rest))) acts.0 acts.1
 
 -- a walk begins before the first rule of its base chain
-pub begins : (config : Config) (facts : Facts) (table : Table) (base : ℕ) → base < length table.chains → OfEach (TargetsHave (EndsWithin table.chains 16)) (rules_at table.chains base) → Standing config facts table (record { chain = base; at = 0 } ∷ [])
+pub begins : (config : Config) (facts : Facts) (table : Table) (base : ℕ) → base < length table.chains → AllByRecursion (TargetsHave (EndsWithin table.chains 16)) (rules_at table.chains base) → Standing config facts table (record { chain = base; at = 0 } ∷ [])
 begins config facts table base within none_long = record { fit = (within, omega arith, none_long, tt); reads = (refl, tt) }
 
 pub found_at : {X : Type 0} (xs : List X) (at : ℕ) → at < length xs → (x : X) × (slice_get xs at ≡ Some x)

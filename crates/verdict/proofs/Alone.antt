@@ -1,5 +1,6 @@
 -- The only base chain of a hook, and chains that call none.
 use Rattle.std.proofs.Common.{◌≡◌, ℕ, zero, suc, ◌+◌, ◌<◌, ◌≤◌, List, [], ◌∷◌, ◌++◌, Option, Some, None, MatchOption, false, length, drop, slice_get, sum_by, refl, sym, ap, ◌∙◌, subst, arith}
+use Rattle.std.specs.List.{AllByRecursion}
 use Rattle.std.specs.Option.{is_some, unwrap_or, option_map_or}
 use Rattle.std.proofs.lemmas.Bool.{false≢true}
 use Rattle.std.proofs.lemmas.List.{append-nil, drop_all}
@@ -18,7 +19,7 @@ use Rattle.verdict.specs.declared.chain.Outcome.TheVariants.{Accepts, Drops, To,
 use Rattle.verdict.specs.declared.walk.Move.{Move}
 use Rattle.verdict.specs.declared.walk.Move.TheVariants.{Next, Gives, Jumps, Goes}
 use Rattle.verdict.specs.Hooks.{at_hook, bases_among, bases_of, in_order, handed_on, asked_in_turn, hook_outcome}
-use Rattle.verdict.specs.Targets.{OfEach, TargetsHave, EndsWithin, CallsNone}
+use Rattle.verdict.specs.Targets.{TargetsHave, EndsWithin, CallsNone}
 use Rattle.verdict.specs.Places.{comes, comes_at, move_of, ending_by, rules_at, AreSkipped, IsReadOn}
 use Rattle.verdict.specs.Costs.{rules_of_tables}
 use Rattle.verdict.proofs.Steady.{rules_weaken}
@@ -73,7 +74,7 @@ module _ (config : Config) (facts : Facts) (table : Table) (rules : List Rule) (
   pub callless_ends : at ≤ length rules → length rules ≤ at → comes config facts table (drop from rules) ≡ Ends
   callless_ends le past = skipped_over config facts table rules from at rise le skipped ∙ ap (comes config facts table) (drop_all at rules past)
 
-  module _ (rule : Rule) (is_at : slice_get rules at ≡ Some rule) (le : at < length rules) (none : OfEach CallsNone rules) where
+  module _ (rule : Rule) (is_at : slice_get rules at ≡ Some rule) (le : at < length rules) (none : AllByRecursion CallsNone rules) where
     own : CallsNone rule
     own = each_at CallsNone rules at rule none is_at
 

@@ -1,6 +1,6 @@
 -- What a rule makes of its chain is what its move does.
 use Rattle.std.proofs.Common.{◌≡◌, ℕ, ◌≤◌, List, [], ◌∷◌, Option, Some, None, length, refl, sym, ap, ◌∙◌, inl, inr, add-one, bytes_eq}
-use Rattle.std.specs.List.{list_all}
+use Rattle.std.specs.List.{list_all, AllByRecursion}
 use Rattle.std.specs.Option.{option_and_then, option_map_or}
 use Rattle.std.proofs.lemmas.Bool.{cases_Bool}
 use Rattle.std.proofs.lemmas.Option.{slice_get_past}
@@ -19,7 +19,7 @@ use Rattle.verdict.specs.declared.walk.Move.{Move}
 use Rattle.verdict.specs.declared.walk.Move.TheVariants.{Next, Gives, Jumps, Goes}
 use Rattle.verdict.specs.Matching.{holds}
 use Rattle.verdict.specs.Evaluation.{mapped, translation, unless_ended, ending, taken, after, rules_of, called}
-use Rattle.verdict.specs.Targets.{OfEach, TargetHas, TargetsHave, EndsWithin}
+use Rattle.verdict.specs.Targets.{TargetHas, TargetsHave, EndsWithin}
 use Rattle.verdict.specs.Lines.{place_among}
 use Rattle.verdict.specs.Places.{move_led, move_at, move_of, ending_by, rules_at, comes, comes_at, AreKnown, CameTo, KeepsCall, IsResolved}
 use Rattle.verdict.proofs.Steady.{mapped_has, unfolds}
@@ -62,14 +62,14 @@ module _ (config : Config) (facts : Facts) (table : Table) where
   given_moves None = refl
   given_moves (Some outcome) = refl
 
-  end_moves : (end : End) → OfEach (TargetHas (EndsWithin table.chains 16)) (verdicts_in end) → taken config facts call end ≡ ending_by at_place (move_at config facts table.chains end)
+  end_moves : (end : End) → AllByRecursion (TargetHas (EndsWithin table.chains 16)) (verdicts_in end) → taken config facts call end ≡ ending_by at_place (move_at config facts table.chains end)
   end_moves (ends.Verdict v) short = verdict_moves v short.0
   end_moves (ends.Vmap vmap) short = found_moves (mapped config facts vmap) (λ v is. mapped_has (TargetHas (EndsWithin table.chains 16)) config facts vmap v short is)
   end_moves (ends.Dnat dnat) short = given_moves (translation config facts (ends.Dnat dnat))
   end_moves (ends.Snat snat) short = given_moves (translation config facts (ends.Snat snat))
   end_moves (ends.Masquerade line) short = given_moves (translation config facts (ends.Masquerade line))
 
-  may_end_moves : (end : Option End) → OfEach (TargetHas (EndsWithin table.chains 16)) (verdicts_of end) → option_and_then (taken config facts call) end ≡ ending_by at_place (option_map_or (move_at config facts table.chains) end Next)
+  may_end_moves : (end : Option End) → AllByRecursion (TargetHas (EndsWithin table.chains 16)) (verdicts_of end) → option_and_then (taken config facts call) end ≡ ending_by at_place (option_map_or (move_at config facts table.chains) end Next)
   may_end_moves None short = refl
   may_end_moves (Some end) short = end_moves end short
 

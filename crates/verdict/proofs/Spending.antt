@@ -1,5 +1,6 @@
 -- A walk takes no more steps than it reads rules, and reads no rule twice.
 use Rattle.std.proofs.Common.{◌≡◌, ◌≢◌, ℕ, zero, suc, ◌+◌, ◌^◌, ◌<◌, ◌≤◌, List, [], ◌∷◌, Option, Some, None, MatchOption, length, slice_get, slice_set, replicate, drop, get_or, sum_by, nat_lt, ◌||◌, false, refl, sym, ap, ◌∙◌, subst, inl, inr, arith, add-one}
+use Rattle.std.specs.List.{AllByRecursion}
 use Rattle.std.specs.Option.{option_map_or}
 use Rattle.std.proofs.Math.Seq.{drop-cons}
 use Rattle.std.proofs.lemmas.Bool.{or_parts}
@@ -22,7 +23,7 @@ use Rattle.verdict.specs.declared.chain.Outcome.TheVariants.{Accepts, Drops, To,
 use Rattle.verdict.specs.declared.stack.Place.{Place}
 use Rattle.verdict.specs.declared.walk.Move.{Move}
 use Rattle.verdict.specs.declared.walk.Move.TheVariants.{Next, Gives, Jumps, Goes}
-use Rattle.verdict.specs.Targets.{OfEach, TargetHas}
+use Rattle.verdict.specs.Targets.{TargetHas}
 use Rattle.verdict.specs.Lines.{place_among}
 use Rattle.verdict.specs.Places.{move_of, rules_at, IsResolved, Fit, told_of, GoesTo, EndsAll, Acts}
 use Rattle.verdict.specs.Costs.{rules_of_tables, unread, read_at, IsUnknown, IsNew, AreCalls, Reading, Spent}
@@ -30,7 +31,7 @@ use Rattle.verdict.proofs.Steady.{some_weaken, some_at}
 use Rattle.verdict.proofs.Stepping.{place_name, Led, rule_leads}
 use Rattle.verdict.proofs.Acting.{found_at}
 
-each_weaken : {X : Type 0} (P Q : X → Type 0) → ((x : X) → P x → Q x) → (xs : List X) → OfEach P xs → OfEach Q xs
+each_weaken : {X : Type 0} (P Q : X → Type 0) → ((x : X) → P x → Q x) → (xs : List X) → AllByRecursion P xs → AllByRecursion Q xs
 each_weaken P Q weaker [] all = tt
 each_weaken P Q weaker (x ∷ xs) all = (weaker x all.0, each_weaken P Q weaker xs all.1)
 
@@ -48,7 +49,7 @@ unread_told (c ∷ cs) (Some k ∷ ks) (suc a) outcome is within new = unread_to
 
 module _ (chains : List Chain) where
   -- a path leads from each chain that is read to the one that is read now
-  paths_here : (a : ℕ) (places : List Place) → AreCalls chains a places → OfEach (λ p. (n : ℕ) × Path (Calls chains) (suc n) p.chain a) places
+  paths_here : (a : ℕ) (places : List Place) → AreCalls chains a places → AllByRecursion (λ p. (n : ℕ) × Path (Calls chains) (suc n) p.chain a) places
   paths_here a [] calls = tt
   paths_here a (p ∷ ps) calls = (
     (0, (a, calls.0, refl)),
@@ -61,7 +62,7 @@ module _ (chains : List Chain) where
   rules_read [] = 0
   rules_read (p ∷ ps) = length (rules_at chains p.chain) + rules_read ps
 
-  fit_within : (places : List Place) → Fit chains places → OfEach (λ p. p.chain < length chains) places
+  fit_within : (places : List Place) → Fit chains places → AllByRecursion (λ p. p.chain < length chains) places
   fit_within [] fit = tt
   fit_within (p ∷ ps) fit = (fit.0, fit_within ps fit.3)
 
@@ -72,7 +73,7 @@ module _ (chains : List Chain) where
       let own = fit.1 in
       omega (arith, few, own)
 
-  unknown_still : (known : List (Option Outcome)) (a : ℕ) (outcome : Outcome) (places : List Place) → OfEach (λ p. p.chain ≢ a) places → OfEach (λ p. IsUnknown known p.chain) places → OfEach (λ p. IsUnknown (slice_set known a (Some outcome)) p.chain) places
+  unknown_still : (known : List (Option Outcome)) (a : ℕ) (outcome : Outcome) (places : List Place) → AllByRecursion (λ p. p.chain ≢ a) places → AllByRecursion (λ p. IsUnknown known p.chain) places → AllByRecursion (λ p. IsUnknown (slice_set known a (Some outcome)) p.chain) places
   unknown_still known a outcome [] apart unknown = tt
   unknown_still known a outcome (p ∷ ps) apart unknown =
       (get_or-set_other known a p.chain (Some outcome) None apart.0 ∙ unknown.0, unknown_still known a outcome ps apart.1 unknown.1)
@@ -83,11 +84,11 @@ module _ (chains : List Chain) where
 
   module _ (ends : ¬ IsLooped chains) where
     -- so it is none of them
-    apart : (a : ℕ) (places : List Place) → AreCalls chains a places → OfEach (λ p. p.chain ≢ a) places
+    apart : (a : ℕ) (places : List Place) → AreCalls chains a places → AllByRecursion (λ p. p.chain ≢ a) places
     apart a places calls = each_weaken (λ p. (n : ℕ) × Path (Calls chains) (suc n) p.chain a) (λ p. p.chain ≢ a)
         (λ p path same. ends (a, path.0, subst (λ x. Path (Calls chains) (suc path.0) x a) same path.1)) places (paths_here a places calls)
 
-    all_told : (known : List (Option Outcome)) (outcome : Outcome) (here : Place) (places : List Place) → AreCalls chains here.chain places → OfEach (λ p. IsUnknown known p.chain) (here ∷ places) → OfEach (λ p. p.chain < length chains) (here ∷ places) → length chains ≤ length known
+    all_told : (known : List (Option Outcome)) (outcome : Outcome) (here : Place) (places : List Place) → AreCalls chains here.chain places → AllByRecursion (λ p. IsUnknown known p.chain) (here ∷ places) → AllByRecursion (λ p. p.chain < length chains) (here ∷ places) → length chains ≤ length known
         → unread chains (told_of known (here ∷ places) outcome) + rules_read (here ∷ places) ≡ unread chains known
     all_told known outcome here [] calls unknown within roomy =
         let in_chains = within.0 in
@@ -123,7 +124,7 @@ module _ (chains : List Chain) where
             let still = unknown_still known here.chain Ends places (apart here.chain places reading.calls) reading.unknown.1 in (
               record {
                 calls = (subst (AreCalls chains here.chain) back reading.calls).1;
-                unknown = subst (λ ps. OfEach (λ p. IsUnknown known2 p.chain) ps) back (subst (λ k. OfEach (λ p. IsUnknown k p.chain) places) (sym told) still);
+                unknown = subst (λ ps. AllByRecursion (λ p. IsUnknown known2 p.chain) ps) back (subst (λ k. AllByRecursion (λ p. IsUnknown k p.chain) places) (sym told) still);
                 roomy = let same = ap length told ∙ told_roomy (here ∷ []) known Ends in omega (arith, same, reading.roomy);
               },
               omega (arith, one, known_is, counts, looked),
@@ -138,7 +139,7 @@ module _ (chains : List Chain) where
             let same = ap length told ∙ told_roomy (here ∷ []) known Ends in
             (omega (arith, same, reading.roomy), omega (arith, all, read, known_is, looked))
 
-own_targets : (vs : List Verdict) (P : List ℕ → Type 0) → ((name : List ℕ) → OfSome (λ v. target_of v ≡ Some name) vs → P name) → OfEach (TargetHas P) vs
+own_targets : (vs : List Verdict) (P : List ℕ → Type 0) → ((name : List ℕ) → OfSome (λ v. target_of v ≡ Some name) vs → P name) → AllByRecursion (TargetHas P) vs
 own_targets [] P all = tt
 own_targets (v ∷ vs) P all = (λ name is. all name (inl is), own_targets vs P (λ name some. all name (inr some)))
 

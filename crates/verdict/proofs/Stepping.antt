@@ -1,6 +1,6 @@
 -- How a walk stands after each step.
 use Rattle.std.proofs.Common.{◌≡◌, ℕ, zero, suc, ◌+◌, ◌-◌, ◌*◌, ◌^◌, ◌<◌, ◌≤◌, List, [], ◌∷◌, Option, Some, None, length, drop, slice_get, refl, sym, ap, ◌∙◌, subst, inl, inr, arith, add-one, bytes_eq}
-use Rattle.std.specs.List.{list_all}
+use Rattle.std.specs.List.{list_all, AllByRecursion}
 use Rattle.std.specs.Option.{option_map_or}
 use Rattle.std.proofs.Math.Nat.{one-le-pow, mul-le-mul_right, suc-mul, pow-suc}
 use Rattle.std.proofs.lemmas.Bool.{cases_Bool}
@@ -22,13 +22,13 @@ use Rattle.verdict.specs.declared.walk.Move.{Move}
 use Rattle.verdict.specs.declared.walk.Move.TheVariants.{Next, Gives, Jumps, Goes}
 use Rattle.verdict.specs.Matching.{holds}
 use Rattle.verdict.specs.Evaluation.{mapped, translation}
-use Rattle.verdict.specs.Targets.{OfEach, TargetHas, TargetsHave, EndsWithin}
+use Rattle.verdict.specs.Targets.{TargetHas, TargetsHave, EndsWithin}
 use Rattle.verdict.specs.Lines.{place_among}
 use Rattle.verdict.specs.Places.{move_led, move_at, move_of, rules_at, rest_of, rules_in, weight}
 use Rattle.verdict.proofs.Steady.{mapped_has, called_short}
 use Rattle.verdict.proofs.Moves.{rules_place}
 
-pub each_at : {X : Type 0} (P : X → Type 0) (xs : List X) (i : ℕ) (x : X) → OfEach P xs → slice_get xs i ≡ Some x → P x
+pub each_at : {X : Type 0} (P : X → Type 0) (xs : List X) (i : ℕ) (x : X) → AllByRecursion P xs → slice_get xs i ≡ Some x → P x
 each_at P [] i x all at = cc
 each_at P (y ∷ xs) zero x all at = let e : y ≡ x = cc in subst P e all.0
 each_at P (y ∷ xs) (suc i) x all at = each_at P xs i x all.1 at
@@ -63,14 +63,14 @@ module _ (config : Config) (facts : Facts) (table : Table) (P : List ℕ → Typ
   given_leads None = tt
   given_leads (Some outcome) = tt
 
-  end_leads : (end : End) → OfEach (TargetHas P) (verdicts_in end) → Led table.chains P (move_at config facts table.chains end)
+  end_leads : (end : End) → AllByRecursion (TargetHas P) (verdicts_in end) → Led table.chains P (move_at config facts table.chains end)
   end_leads (ends.Verdict v) short = verdict_leads v short.0
   end_leads (ends.Vmap vmap) short = found_leads (mapped config facts vmap) (λ v is. mapped_has (TargetHas P) config facts vmap v short is)
   end_leads (ends.Dnat dnat) short = given_leads (translation config facts (ends.Dnat dnat))
   end_leads (ends.Snat snat) short = given_leads (translation config facts (ends.Snat snat))
   end_leads (ends.Masquerade line) short = given_leads (translation config facts (ends.Masquerade line))
 
-  may_end_leads : (end : Option End) → OfEach (TargetHas P) (verdicts_of end) → Led table.chains P (option_map_or (move_at config facts table.chains) end Next)
+  may_end_leads : (end : Option End) → AllByRecursion (TargetHas P) (verdicts_of end) → Led table.chains P (option_map_or (move_at config facts table.chains) end Next)
   may_end_leads None short = tt
   may_end_leads (Some end) short = end_leads end short
 
@@ -86,8 +86,8 @@ module _ (chains : List Chain) (name : List ℕ) (lt : place_among chains name <
   some_left zero short = absurd (short (place_among chains name) (place_name chains name lt) (place_among chains name, refl))
   some_left (suc k) short = omega arith
 
-  pub called_fits : (k : ℕ) → EndsWithin chains (suc k) name → OfEach (TargetsHave (EndsWithin chains k)) (rules_at chains (place_among chains name))
-  called_fits k short = subst (OfEach (TargetsHave (EndsWithin chains k))) (rules_place chains name) (called_short chains k name short)
+  pub called_fits : (k : ℕ) → EndsWithin chains (suc k) name → AllByRecursion (TargetsHave (EndsWithin chains k)) (rules_at chains (place_among chains name))
+  called_fits k short = subst (AllByRecursion (TargetsHave (EndsWithin chains k))) (rules_place chains name) (called_short chains k name short)
 
 -- weights
 less_same : (p m n w : ℕ) → 1 ≤ p → m < n → (m + 1) * p + w < (n + 1) * p + w

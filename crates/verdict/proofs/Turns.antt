@@ -3,7 +3,7 @@ use Rattle.std.proofs.Common.{◌≡◌, ◌≢◌, ◌<◌, ℕ, zero, suc, ℤ
 use Rattle.std.proofs.lemmas.Bool.{cases_Bool, false≢true}
 use Rattle.std.proofs.lemmas.Bool.Decides.{Decides-int_eq}
 use Rattle.std.proofs.lemmas.List.Sorted.{IsPermutation-refl, IsPermutation-cons, IsPermutation-middle, IsPermutation-trans}
-use Rattle.std.specs.List.{AllPairs, filter}
+use Rattle.std.specs.List.{AllPairs, filter, AllByRecursion}
 use Rattle.std.specs.List.Sorted.{IsPermutation}
 use Rattle.std.specs.Ordering.{int_eq}
 use Rattle.packet.specs.Config.{Config}
@@ -12,7 +12,6 @@ use Rattle.ruletree.specs.declared.tree.Spelled.{Spelled}
 use Rattle.verdict.specs.declared.facts.Facts.{Facts}
 use Rattle.verdict.specs.declared.chain.Outcome.{Outcome}
 use Rattle.verdict.specs.declared.chain.Outcome.TheVariants.{Accepts, Drops, To, From, Ends}
-use Rattle.verdict.specs.Targets.{OfEach}
 use Rattle.verdict.specs.Hooks.{BaseChain, put, in_order, bases_of, base_outcome, handed_on, asked_in_turn, hook_outcome}
 use Rattle.verdict.proofs.Priorities.{le_itself}
 use Rattle.verdict.proofs.Ranked.{AreFrom, AreSorted, order_sorted}
@@ -81,7 +80,7 @@ handed_final Ends next other = refl
 
 module _ (config : Config) (facts : Facts) where
   abbrev AllAccept : List BaseChain → Type 0
-  AllAccept bases = OfEach (λ base. base_outcome config facts base ≡ Accepts) bases
+  AllAccept bases = AllByRecursion (λ base. base_outcome config facts base ≡ Accepts) bases
 
   turns_first : (before later : List BaseChain) (this : BaseChain) → AllAccept before → base_outcome config facts this ≢ Accepts → asked_in_turn config facts (before ++ this ∷ later) ≡ base_outcome config facts this
   turns_first [] later this all other = handed_final (base_outcome config facts this) (asked_in_turn config facts later) other

@@ -1,6 +1,6 @@
 -- What follows from how rules are read.
 use Rattle.std.specs.Prelude.{◌≡◌, ◌≢◌, ◌↔◌, ℕ, ℤ, int_le, List, [], ◌∷◌, ◌++◌, Some, slice_get, IsTrue}
-use Rattle.std.specs.List.{AllPairs, filter}
+use Rattle.std.specs.List.{AllPairs, filter, AllByRecursion}
 use Rattle.std.specs.List.Sorted.{IsPermutation}
 use Rattle.std.specs.Ordering.{int_eq}
 use Rattle.packet.specs.Config.{Config}
@@ -21,7 +21,6 @@ use Rattle.verdict.specs.declared.hook.Source.TheVariants as sources
 use Rattle.ruletree.specs.declared.tree.Hook.{Hook}
 use Rattle.ruletree.specs.declared.tree.Hook.TheVariants.{Forward}
 use Rattle.verdict.specs.declared.chain.Outcome.TheVariants.{Accepts}
-use Rattle.verdict.specs.Targets.{OfEach}
 use Rattle.verdict.specs.Matching.{lies}
 use Rattle.verdict.specs.Evaluation.{walk, rules_of, called}
 use Rattle.verdict.specs.Hooks.{BaseChain, bases_of, base_outcome, in_order, hook_outcome, forward_verdict, prerouting_verdict, postrouting_verdict}
@@ -39,7 +38,7 @@ abbrev pub PassesWhereAllAccept : Type 0
 PassesWhereAllAccept =
     (config : Config) (facts : Facts) (text : Spelled)
     → (forward_verdict config facts text ≡ forwardings.Pass)
-    ↔ OfEach (λ base. base_outcome config facts base ≡ Accepts) (bases_of Forward text.tables)
+    ↔ AllByRecursion (λ base. base_outcome config facts base ≡ Accepts) (bases_of Forward text.tables)
 
 -- base chains in order are the same ones
 abbrev pub OrderKeepsAll : Type 0
@@ -63,7 +62,7 @@ FirstRefusalDecides =
     (config : Config) (facts : Facts) (hook : Hook) (text : Spelled) (before later : List BaseChain)
     (this : BaseChain)
     → in_order (bases_of hook text.tables) ≡ before ++ this ∷ later
-    → OfEach (λ base. base_outcome config facts base ≡ Accepts) before
+    → AllByRecursion (λ base. base_outcome config facts base ≡ Accepts) before
     → base_outcome config facts this ≢ Accepts
     → hook_outcome config facts hook text ≡ base_outcome config facts this
 
@@ -71,7 +70,7 @@ FirstRefusalDecides =
 abbrev pub AcceptsWhereAllDo : Type 0
 AcceptsWhereAllDo =
     (config : Config) (facts : Facts) (hook : Hook) (text : Spelled)
-    → OfEach (λ base. base_outcome config facts base ≡ Accepts)
+    → AllByRecursion (λ base. base_outcome config facts base ≡ Accepts)
     (in_order (bases_of hook text.tables))
     → hook_outcome config facts hook text ≡ Accepts
 

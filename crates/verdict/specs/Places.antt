@@ -2,7 +2,7 @@
 -- clause cites this module.
 use Rattle.std.specs.Prelude.{◌≡◌, ◌⊎◌, ℕ, zero, suc, ◌+◌, ◌-◌, ◌*◌, ◌^◌, ◌<◌, ◌≤◌, false, List, [], ◌∷◌, Option, Some, None, length, drop, slice_get, slice_index_or, slice_set, if◌then◌else◌, MatchOption}
 use Rattle.std.specs.Option.{unwrap_or, option_map_or}
-use Rattle.std.specs.List.{list_all}
+use Rattle.std.specs.List.{list_all, AllByRecursion}
 use Rattle.packet.specs.Config.{Config}
 use Rattle.ruletree.specs.declared.tree.Pair.{Pair}
 use Rattle.ruletree.specs.declared.tree.Verdict.{Verdict}
@@ -20,7 +20,7 @@ use Rattle.verdict.specs.declared.walk.Move.{Move}
 use Rattle.verdict.specs.declared.walk.Move.TheVariants.{Next, Gives, Jumps, Goes}
 use Rattle.verdict.specs.Matching.{holds}
 use Rattle.verdict.specs.Evaluation.{mapped, translation, unless_ended, walk, called}
-use Rattle.verdict.specs.Targets.{OfEach, TargetsHave, EndsWithin}
+use Rattle.verdict.specs.Targets.{TargetsHave, EndsWithin}
 use Rattle.verdict.specs.declared.row.Row.{Row}
 use Rattle.verdict.specs.declared.row.Span.{Span}
 use Rattle.verdict.specs.Lines.{place_led, AreLines}
@@ -133,7 +133,7 @@ abbrev pub Fit : List Chain → List Place → Type 0
 Fit chains [] = Unit {0}
 Fit chains (place ∷ places) =
     (place.chain < length chains) × (place.at ≤ length (rules_at chains place.chain))
-    × OfEach (TargetsHave (EndsWithin chains (16 - length places))) (rules_at chains place.chain)
+    × AllByRecursion (TargetsHave (EndsWithin chains (16 - length places))) (rules_at chains place.chain)
     × Fit chains places
 
 -- the rules of all chains
@@ -166,11 +166,6 @@ abbrev pub Stepped : Config → Facts → Table → List Place → List Place �
 Stepped config facts table places places2 result =
     MatchOption result (GoesOn config facts table places places2)
     (λ outcome. outcome ≡ whole config facts table Ends places)
-
--- the chain at that place is read now
-abbrev pub IsRead : List Place → ℕ → Type 0
-IsRead [] a = ⊥
-IsRead (place ∷ places) a = (a ≡ place.chain) ⊎ IsRead places a
 
 -- what is known once each of these chains is known to come to this
 abbrev pub told_of : List (Option Outcome) → List Place → Outcome → List (Option Outcome)

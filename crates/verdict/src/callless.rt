@@ -2,7 +2,8 @@
 //! nothing to remember.
 
 ghost use Rattle.std.specs.Prelude.{◌≡◌, ◌+◌, ◌^◌, ◌<◌, ◌≤◌, None, MatchOption, drop, length};
-ghost use Rattle.verdict.specs.Targets.{OfEach, CallsNone};
+ghost use Rattle.std.specs.List.{AllByRecursion};
+ghost use Rattle.verdict.specs.Targets.{CallsNone};
 ghost use Rattle.verdict.specs.Lines.{IsLaid};
 ghost use Rattle.verdict.specs.Evaluation.{chain_outcome as outcome_of_chain};
 ghost use Rattle.verdict.specs.Places.{comes, IsReadOn, rules_at};
@@ -29,7 +30,7 @@ fn callless_step(
 ) -> Option<Outcome>
     requires laid { IsLaid table.now laid.now }
     requires within { chain < length table.now.chains }
-    requires none_called { OfEach CallsNone (rules_at table.now.chains chain) }
+    requires none_called { AllByRecursion CallsNone (rules_at table.now.chains chain) }
     requires at { at.old ≤ length (rules_at table.now.chains chain) }
     requires room { steps.old + length (rules_at table.now.chains chain) < 2 ^ 32 + at.old }
     ensures outcome { MatchOption result
@@ -65,7 +66,7 @@ pub(crate) fn callless_outcome(
 ) -> Outcome
     requires laid { IsLaid table.now laid.now }
     requires within { base < length table.now.chains }
-    requires none_called { OfEach CallsNone (rules_at table.now.chains base) }
+    requires none_called { AllByRecursion CallsNone (rules_at table.now.chains base) }
     requires room { steps.old + length (rules_at table.now.chains base) < 2 ^ 32 }
     ensures outcome { result ≡ outcome_of_chain bounds.now facts.now table.now
         (rules_at table.now.chains base) }

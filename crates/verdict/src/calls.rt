@@ -1,8 +1,9 @@
 //! Whether rules call chains.
 
 ghost use Rattle.std.specs.Prelude.{◌≡◌, false, map};
+ghost use Rattle.std.specs.List.{AllByRecursion};
 ghost use Rattle.rulesets.specs.Said.{verdicts_in};
-ghost use Rattle.verdict.specs.Targets.{OfEach, TargetHas, CallsNone};
+ghost use Rattle.verdict.specs.Targets.{TargetHas, CallsNone};
 
 use ruletree::tree::{End, Pair, Rule, Verdict};
 
@@ -14,7 +15,7 @@ fn is_call(verdict: &Verdict) -> bool
 
 fn any_is_call(pairs: &[Pair]) -> bool
     ensures { result ≡ false
-        → OfEach (TargetHas (λ name. ⊥)) (map (λ pair. pair.verdict) pairs.now) }
+        → AllByRecursion (TargetHas (λ name. ⊥)) (map (λ pair. pair.verdict) pairs.now) }
 {
     let mut rest = pairs;
     while let [pair, tail @ ..] = rest {
@@ -27,7 +28,7 @@ fn any_is_call(pairs: &[Pair]) -> bool
 }
 
 fn end_calls(end: &End) -> bool
-    ensures { result ≡ false → OfEach (TargetHas (λ name. ⊥)) (verdicts_in end.now) }
+    ensures { result ≡ false → AllByRecursion (TargetHas (λ name. ⊥)) (verdicts_in end.now) }
 {
     match end {
         End::Verdict(verdict) => is_call(verdict),
@@ -47,7 +48,7 @@ fn rule_calls(rule: &Rule) -> bool
 
 /// Whether one of the rules jumps or goes to a chain.
 pub(crate) fn any_calls(rules: &[Rule]) -> bool
-    ensures { result ≡ false → OfEach CallsNone rules.now }
+    ensures { result ≡ false → AllByRecursion CallsNone rules.now }
 {
     let mut rest = rules;
     while let [rule, tail @ ..] = rest {

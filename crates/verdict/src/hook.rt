@@ -9,15 +9,15 @@
 //!   one, `final_at` of one chain, and `chain_outcome` of the module `walk`. Of what the base chains come to the one
 //!   that counts first is kept (`preferred`).
 //!
-//! A clause `room` asks that the steps which may still be counted fit their number of 32 bits, and a clause `roomy` that
-//! `known` has a place for each chain of the table.
+//! A clause `room` asks that the steps which may still be counted fit their number of 32 bits, and a clause `roomy`
+//! that `known` has a place for each chain of the table.
 
 ghost use Rattle.std.specs.Prelude.{◌≡◌, ◌+◌, ◌^◌, ◌<◌, ◌≤◌, [], IfSome, IsTrue, false, length, slice_get};
 ghost use Rattle.std.specs.Option.{option_map_or};
 ghost use Rattle.rulesets.specs.Calls.{OfSome, IsLooped, IsDeep};
 ghost use Rattle.rulesets.specs.Counts.{rules_of_table, is_much};
 ghost use Rattle.packet.specs.Config.{Config};
-ghost use Rattle.verdict.specs.declared.facts.Facts.{Facts as Seen};
+ghost use Rattle.verdict.specs.declared.facts.Facts.{Facts};
 ghost use Rattle.verdict.specs.Lines.{IsLaid, AreLaid};
 ghost use Rattle.verdict.specs.Places.{AreKnown};
 ghost use Rattle.verdict.specs.Noted.{IsLoneIn, IsLone};
@@ -298,7 +298,7 @@ fn asked_outcome(rules: &Rules, bounds: &Bounds, facts: &Facts, hook: Hook) -> (
         bounds,
         facts,
         hook,
-        rules.text().tables.as_slice(),
+        rules.spelled().tables.as_slice(),
         rules.rows(),
     );
     (outcome_of(first), steps)
@@ -345,7 +345,7 @@ fn lone_outcome(
     ensures steps { result.1 ≤ rules_in_force rules.now }
 {
     rules.facts();
-    let table = &rules.text().tables.as_slice()[spot.table];
+    let table = &rules.spelled().tables.as_slice()[spot.table];
     let laid = &rules.rows()[spot.table];
     lone_in_table(bounds, facts, hook, table, laid, spot.place)
 }
@@ -363,10 +363,10 @@ fn hook_outcome(rules: &Rules, bounds: &Bounds, facts: &Facts, hook: Hook) -> (O
     }
 }
 
-/// Whether no base chain stands at forward, so that every packet passes there. Whoever asks this first needs no facts of
-/// a packet that passes so.
+/// Whether no base chain stands at forward, so that every packet passes there. Whoever asks this first needs no facts
+/// of a packet that passes so.
 pub fn passes_all(rules: &Rules) -> bool
-    ensures { IsTrue result → (config : Config) (facts : Seen)
+    ensures { IsTrue result → (config : Config) (facts : Facts)
         → forward_verdict config facts rules.now ≡ Forwarding.Pass }
 {
     matches!(rules.asked_at(Hook::Forward), Asked::Nothing)

@@ -16,7 +16,7 @@ use std::marker::Model;
 /// The rules of a loaded text, as packets meet them. To callers they are the tables of the text.
 #[derive(Drop)]
 pub struct Rules {
-    text: Spelled,
+    spelled: Spelled,
     rows: Items<Laid>,
     asked: AskedByHook,
 }
@@ -27,9 +27,9 @@ impl Model for Rules {
 
     ghost Value = { Tables };
 
-    ghost view = { λ r. r.text };
+    ghost view = { λ r. r.spelled };
 
-    ghost invariant = { λ r. IsFlat r.text r.rows r.asked };
+    ghost invariant = { λ r. IsFlat r.spelled r.rows r.asked };
 }
 
 impl Rules {
@@ -39,7 +39,7 @@ impl Rules {
         ensures { result ≡ record { tables = [] } }
     {
         Rules {
-            text: Spelled {
+            spelled: Spelled {
                 tables: Items::new(alloc),
             },
             rows: Items::new(alloc),
@@ -56,20 +56,24 @@ impl Rules {
         ensures { IfOk result (λ rules. rules ≡ loaded) }
     {
         loaded.facts();
-        let rows = lay_all(alloc, loaded.text().tables.as_slice())?;
-        let asked = asked_by_hook(loaded.text().tables.as_slice());
+        let asked = asked_by_hook(loaded.spelled().tables.as_slice());
+        // `?` would drop the rules in this crate (`Ruleset::discard`).
+        let Ok(rows) = lay_all(alloc, loaded.spelled().tables.as_slice()) else {
+            loaded.discard();
+            return Err(AllocError);
+        };
         Ok(Rules {
-            text: loaded.into_text(),
+            spelled: loaded.into_spelled(),
             rows,
             asked,
         })
     }
 
     /// The tables, in the order of the text.
-    pub fn text(&self) -> &Spelled
+    pub fn spelled(&self) -> &Spelled
         ensures { result.now ≡ self.now }
     {
-        &self.text
+        &self.spelled
     }
 
     /// What all rules keep: none of the faults for which a text is refused whatever the configuration, such as
@@ -77,7 +81,7 @@ impl Rules {
     pub fn facts(&self)
         ensures { IsRunnable self.now }
     {
-        let _text = &self.text;
+        let _spelled = &self.spelled;
     }
 
     /// The rows that the tables lie in.

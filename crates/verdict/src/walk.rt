@@ -12,11 +12,12 @@
 //! place to return to that is still free.
 
 ghost use Rattle.std.specs.Prelude.{◌≡◌, ◌+◌, ◌-◌, ◌^◌, ◌<◌, ◌≤◌, ℕ, List, [], ◌∷◌, Option, Some, None, true, false, IfSome, MatchOption, length, slice_get};
+ghost use Rattle.std.specs.List.{AllByRecursion};
 ghost use Rattle.rulesets.specs.Said.{verdicts_in};
 ghost use Rattle.rulesets.specs.Calls.{IsLooped};
 ghost use Rattle.verdict.specs.Tests.{HasMap};
 ghost use Rattle.verdict.specs.declared.row.Line.{Line as LineOf};
-ghost use Rattle.verdict.specs.Targets.{OfEach, TargetsHave, EndsWithin};
+ghost use Rattle.verdict.specs.Targets.{TargetsHave, EndsWithin};
 ghost use Rattle.verdict.specs.Lines.{numbers_of as numbers_of_facts, may_hold as line_may_hold, IsLine, AreChainsLaid, IsLaid, LeadsFrom, place_led};
 ghost use Rattle.verdict.specs.Keyed.{AreKeys};
 ghost use Rattle.verdict.specs.Evaluation.{chain_outcome as outcome_of_chain};
@@ -604,7 +605,7 @@ pub(crate) fn chain_outcome(
 ) -> Outcome
     requires laid { IsLaid table.now laid.now }
     requires within { base < length table.now.chains }
-    requires short { OfEach (TargetsHave (EndsWithin table.now.chains 16))
+    requires short { AllByRecursion (TargetsHave (EndsWithin table.now.chains 16))
         (rules_at table.now.chains base) }
     requires ends { ¬ IsLooped table.now.chains }
     requires roomy { length table.now.chains ≤ length known.old }

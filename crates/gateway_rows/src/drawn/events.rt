@@ -21,8 +21,8 @@ const LOOP: &str = "table ip t { chain c { jump c; }; }";
 // SYN, SYN with ACK, ACK, PSH with ACK, FIN with ACK, and RST.
 const FLAGS: [u8; 8] = [2, 2, 18, 16, 16, 24, 17, 4];
 
-/// A number that was drawn, byte by byte: what comes, from which host, from which port, to whom, with which flags, by how
-/// much its moment lies back, what is done behind it, and nothing.
+/// A number that was drawn, byte by byte: what comes, from which host, from which port, to whom, with which flags, by
+/// how much its moment lies back, what is done behind it, and nothing.
 pub type Number = [u8; 8];
 
 /// What is done behind an event.

@@ -41,7 +41,8 @@ fn is_met(rule: Rule, set: (u32, u32, u32), packet: Packet) -> bool {
     }
 }
 
-// Whether the called chain passes the packet or drops it, or neither. It calls no other: a jump or goto of its own ends it.
+// Whether the called chain passes the packet or drops it, or neither. It calls no other: a jump or goto of its own ends
+// it.
 fn called(ruleset: &Ruleset, packet: Packet) -> Option<bool> {
     for rule in &ruleset.called {
         if is_met(*rule, ruleset.set, packet) {

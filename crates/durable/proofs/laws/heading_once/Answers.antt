@@ -1,7 +1,7 @@
 use Rattle.durable.specs.Coding.{IsHeading, heading_bytes, IsCodedConfig, config_bytes, IsKept, snapshot_bytes}
 use Rattle.durable.specs.Reading.{heading_at, config_at, snapshot_at}
 use Rattle.durable.proofs.Coded.{once}
-use Rattle.durable.proofs.Stored_values.{coded-heading, coded-config, coded-snapshot}
+use Rattle.durable.proofs.StoredValues.{coded-heading, coded-config, coded-snapshot}
 use Rattle.durable.proofs.laws.heading_once.Goals as goal
 
 pub returns-clause-headings : goal.returns-clause-headings

@@ -1,6 +1,6 @@
 use Rattle.std.proofs.Common.{◌≡◌, ◌<◌, ◌≤◌, ℕ, List, IfSome, IfNone, length, take, ap, sym, subst, ◌∙◌}
 use Rattle.machine.specs.declared.event.Answer.{Answer}
-use Rattle.frames.specs.Answering.{frame}
+use Rattle.frames.specs.Answers.{frame}
 use Rattle.frames.proofs.Parts.{frame_bare}
 use Rattle.frames.proofs.answer.fill_frame.Goals as goal
 

@@ -1,7 +1,7 @@
 use Rattle.std.proofs.Common.{◌≡◌, ◌-◌, ◌++◌, List, ℕ, length, ap, sym, ◌∙◌, arith, length-drop, take}
 use Rattle.std.specs.List.{flat_map}
 use Rattle.std.proofs.lemmas.List.{length-take-le}
-use Rattle.frames.specs.Answering.{frame}
+use Rattle.frames.specs.Answers.{frame}
 use Rattle.frames.proofs.Over.{over_more, rest_whole}
 use Rattle.frames.proofs.Parts.{frames_step, no_room}
 use Rattle.frames.proofs.answer.fill_frames.Goals as goal

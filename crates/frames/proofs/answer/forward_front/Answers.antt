@@ -2,7 +2,7 @@ use Rattle.std.proofs.Common.{◌≡◌, ◌∷◌, ◌++◌, [], List, ℕ, ap,
 use Rattle.byteorder.specs.Endian.{big_bytes}
 use Rattle.machine.specs.declared.event.Answer.{Answer}
 use Rattle.machine.specs.declared.event.Answer.TheVariants.{Forward}
-use Rattle.frames.specs.Answering.{frame_head}
+use Rattle.frames.specs.Answers.{frame_head}
 use Rattle.frames.proofs.Parts.{frame_behind}
 use Rattle.frames.proofs.answer.forward_front.Goals as goal
 

@@ -1,6 +1,6 @@
 use Rattle.std.proofs.Common.{◌++◌, List, ℕ, ap, sym, ◌∙◌, append_assoc, take}
 use Rattle.std.specs.List.{flat_map}
-use Rattle.frames.specs.Answering.{frame}
+use Rattle.frames.specs.Answers.{frame}
 use Rattle.frames.proofs.Parts.{frames_step}
 use Rattle.frames.proofs.answer.put_frames.Goals as goal
 

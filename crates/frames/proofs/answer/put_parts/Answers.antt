@@ -2,7 +2,7 @@ use Rattle.std.proofs.Common.{◌++◌, List, ℕ, ap, sym, refl, ◌∙◌, tak
 use Rattle.std.proofs.Math.Seq.{take-append_seam}
 use Rattle.machine.specs.declared.event.Answer.{Answer}
 use Rattle.machine.specs.declared.event.Answer.TheVariants.{Forward}
-use Rattle.frames.specs.Answering.{frame}
+use Rattle.frames.specs.Answers.{frame}
 use Rattle.frames.proofs.Parts.{frame_bare}
 use Rattle.frames.proofs.answer.put_parts.Goals as goal
 

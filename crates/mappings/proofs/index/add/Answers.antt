@@ -17,20 +17,20 @@ pub returns-in_err-reserve_new-clause-again : goal.returns-in_err-reserve_new-cl
 returns-in_err-reserve_new-clause-again c = λ held.
     let index = c.args.index.now in
     let led = held_led index.pairs.slots index.outside.held c.requires.indexed.by_outside c.args.pair held in
-    absurd (false≢true (c.in_err-reserve_new.ensures.again (subst (λ n. IsSome (value_at index.outside.held n)) (sym c.mapping_key-number.ensures.key) led)))
+    absurd (false≢true (c.in_err-reserve_new.ensures.again (subst (λ n. IsSome (value_at index.outside.held n)) (sym c.mapping_key-number.ensures.value) led)))
 
 pub returns-in_err-held-clause-again : goal.returns-in_err-held-clause-again
 returns-in_err-held-clause-again c = λ held.
     let index = c.args.index.now in
     let led = held_led index.pairs.slots index.outside.held c.requires.indexed.by_outside c.args.pair held in
-    absurd (false≢true (c.in_err-held.ensures.again (subst (λ n. IsSome (value_at index.outside.held n)) (sym c.mapping_key-number.ensures.key) led)))
+    absurd (false≢true (c.in_err-held.ensures.again (subst (λ n. IsSome (value_at index.outside.held n)) (sym c.mapping_key-number.ensures.value) led)))
 
 pub count_up-requires : goal.count_up-requires
 count_up-requires c =
     let index = c.args.index.now in
     let slot = c.in-Some.held in
-    let found : value_at index.outside.held (number_of c.args.pair) ≡ Some slot = ap (value_at index.outside.held) (sym c.mapping_key-number.ensures.key) ∙ sym c.in_ok-held.ensures.found ∙ c.in-Some.is in
-    let there = found_is _ _ c.requires.indexed c.args.pair c.requires.one_to_one slot c.mapping_key-number.ensures.small found in
+    let found : value_at index.outside.held (number_of c.args.pair) ≡ Some slot = ap (value_at index.outside.held) (sym c.mapping_key-number.ensures.value) ∙ sym c.in_ok-held.ensures.found ∙ c.in-Some.is in
+    let there = found_is _ _ c.requires.indexed c.args.pair c.requires.one_to_one slot c.mapping_key-number.ensures.endpoint found in
     let few : there.0.count < 65536 = omega (arith, times-slot index.pairs.slots slot there.0 there.1, ap (times_in (pairs_in index.pairs.slots)) there.2, c.requires.few) in
     let kept : get c.reserve_new.new.pairs slot ≡ get index.pairs slot = ap (λ (s : Slab Counted). get s slot) c.reserve_new.ensures.kept in
     subst (λ o. IsSomeAnd o (λ (e : Counted). e.count < 65536)) (sym (kept ∙ there.1)) few
@@ -41,8 +41,8 @@ returns-in-Some-clause-indexed c =
     let index = c.args.index.now in
     let pairs = c.reserve_new.new.pairs in
     let slot = c.in-Some.held in
-    let found : value_at index.outside.held (number_of c.args.pair) ≡ Some slot = ap (value_at index.outside.held) (sym c.mapping_key-number.ensures.key) ∙ sym c.in_ok-held.ensures.found ∙ c.in-Some.is in
-    let there = found_is _ _ c.requires.indexed c.args.pair c.requires.one_to_one slot c.mapping_key-number.ensures.small found in
+    let found : value_at index.outside.held (number_of c.args.pair) ≡ Some slot = ap (value_at index.outside.held) (sym c.mapping_key-number.ensures.value) ∙ sym c.in_ok-held.ensures.found ∙ c.in-Some.is in
+    let there = found_is _ _ c.requires.indexed c.args.pair c.requires.one_to_one slot c.mapping_key-number.ensures.endpoint found in
     let kept : pairs.slots ≡ index.pairs.slots = ap (λ (s : Slab Counted). s.slots) c.reserve_new.ensures.kept in
     let before : get pairs slot ≡ Some there.0 = ap (λ (s : Slab Counted). get s slot) c.reserve_new.ensures.kept ∙ there.1 in
     let same = AreIndexed-same index.pairs.slots index.outside.held c.get_or_insert.new.self.held (λ number. ap (λ (m : Entries). value_at m.held number) (c.in_ok-held.ensures.kept (subst IsSome (sym c.in-Some.is) refl))) c.requires.indexed in
@@ -56,8 +56,8 @@ returns-in-Some-clause-ok c =
     let index = c.args.index.now in
     let pairs = c.reserve_new.new.pairs in
     let slot = c.in-Some.held in
-    let found : value_at index.outside.held (number_of c.args.pair) ≡ Some slot = ap (value_at index.outside.held) (sym c.mapping_key-number.ensures.key) ∙ sym c.in_ok-held.ensures.found ∙ c.in-Some.is in
-    let there = found_is _ _ c.requires.indexed c.args.pair c.requires.one_to_one slot c.mapping_key-number.ensures.small found in
+    let found : value_at index.outside.held (number_of c.args.pair) ≡ Some slot = ap (value_at index.outside.held) (sym c.mapping_key-number.ensures.value) ∙ sym c.in_ok-held.ensures.found ∙ c.in-Some.is in
+    let there = found_is _ _ c.requires.indexed c.args.pair c.requires.one_to_one slot c.mapping_key-number.ensures.endpoint found in
     let kept : pairs.slots ≡ index.pairs.slots = ap (λ (s : Slab Counted). s.slots) c.reserve_new.ensures.kept in
     let before : get pairs slot ≡ Some there.0 = ap (λ (s : Slab Counted). get s slot) c.reserve_new.ensures.kept ∙ there.1 in
     let written = Updates-write pairs c.count_up.new.pairs slot one_more there.0 before c.count_up.ensures in
@@ -73,12 +73,12 @@ returns-in-None-clause-indexed c =
     let kept : c.reserve_new.new.pairs.slots ≡ index.pairs.slots = ap (λ (s : Slab Counted). s.slots) c.reserve_new.ensures.kept in
     let indexed = subst (λ slots. AreIndexed slots index.outside.held) (sym kept) c.requires.indexed in
     let one_to_one = subst (λ slots. KeepsOneToOneIn (pairs_in slots) p) (sym kept) c.requires.one_to_one in
-    let free : value_at index.outside.held (number_of p) ≡ None = ap (value_at index.outside.held) (sym c.mapping_key-number.ensures.key) ∙ sym told.found ∙ c.in-None.is in
+    let free : value_at index.outside.held (number_of p) ≡ None = ap (value_at index.outside.held) (sym c.mapping_key-number.ensures.value) ∙ sym told.found ∙ c.in-None.is in
     let slot : c.vacant_key-slot.result ≡ c.insert_reserved.result = c.vacant_key-slot.ensures.value ∙ sym c.insert_reserved.ensures.key in
-    let put = subst (λ n. Puts index.outside.held map.held n (Some c.vacant_key-slot.result)) c.mapping_key-number.ensures.key (told.put c.in-None.is) in
+    let put = subst (λ n. Puts index.outside.held map.held n (Some c.vacant_key-slot.result)) c.mapping_key-number.ensures.value (told.put c.in-None.is) in
     AreIndexed-more c.reserve_new.new.pairs c.insert_reserved.new.self c.insert_reserved.result index.outside.held indexed map.held (record { pair = p; count = 1 })
     c.insert_reserved.ensures.updates c.insert_reserved.ensures.was_vacant free (inside_free _ _ indexed p one_to_one free)
-    (subst (λ s. Puts index.outside.held map.held (number_of p) (Some s)) slot put) (record { held = omega arith; outside = c.mapping_key-number.ensures.small })
+    (subst (λ s. Puts index.outside.held map.held (number_of p) (Some s)) slot put) (record { held = omega arith; outside = c.mapping_key-number.ensures.endpoint })
 
 pub returns-in-None-clause-ok : goal.returns-in-None-clause-ok
 returns-in-None-clause-ok c =
@@ -89,5 +89,5 @@ returns-in-None-clause-ok c =
 pub returns-in-None-clause-room_again : goal.returns-in-None-clause-room_again
 returns-in-None-clause-room_again c = λ held.
     let index = c.args.index.now in
-    let free : value_at index.outside.held (number_of c.args.pair) ≡ None = ap (value_at index.outside.held) (sym c.mapping_key-number.ensures.key) ∙ sym c.in_ok-held.ensures.found ∙ c.in-None.is in
+    let free : value_at index.outside.held (number_of c.args.pair) ≡ None = ap (value_at index.outside.held) (sym c.mapping_key-number.ensures.value) ∙ sym c.in_ok-held.ensures.found ∙ c.in-None.is in
     absurd (omega (arith, held, not_held index.pairs.slots index.outside.held c.requires.indexed.by_outside c.args.pair free))

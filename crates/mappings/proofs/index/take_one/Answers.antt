@@ -3,7 +3,7 @@ use Rattle.std.proofs.lemmas.Option.{same_Some}
 use Rattle.rows.specs.Held.{value_at}
 use Rattle.mappings.specs.declared.map.Counted.{Counted}
 use Rattle.mappings.specs.declared.map.Pair.{Pair}
-use Rattle.mappings.specs.Indexed.{mapping_number}
+use Rattle.packet.specs.Numbers.{mapping_number}
 use Rattle.mappings.proofs.Changed.{Updates-write, Gains-down, AreIndexed-counts}
 use Rattle.mappings.proofs.Found.{not_held, held_is}
 use Rattle.mappings.proofs.index.take_one.Goals as goal
@@ -17,14 +17,14 @@ counted pair count = record { pair = pair; count = count }
 pub returns-in_default-clause-loses : goal.returns-in_default-clause-loses
 returns-in_default-clause-loses c = λ p.
     let index = c.args.index.now in
-    let free : value_at index.outside.held (mapping_number c.args.pair.proto c.args.pair.outside) ≡ None = ap (value_at index.outside.held) (sym c.mapping_key.ensures.key) ∙ sym c.get.ensures ∙ c.in_default.is in
+    let free : value_at index.outside.held (mapping_number c.args.pair.proto c.args.pair.outside) ≡ None = ap (value_at index.outside.held) (sym c.mapping_key.ensures.value) ∙ sym c.get.ensures ∙ c.in_default.is in
     absurd (omega (arith, c.requires.some, not_held index.pairs.slots index.outside.held c.requires.indexed.by_outside c.args.pair free))
 
 pub take_out-requires-clause-held : goal.take_out-requires-clause-held
 unfolding counted
 take_out-requires-clause-held c =
     let index = c.args.index.now in
-    let found : value_at index.outside.held (mapping_number c.args.pair.proto c.args.pair.outside) ≡ Some c.in-Some.slot = ap (value_at index.outside.held) (sym c.mapping_key.ensures.key) ∙ sym c.get.ensures ∙ c.in-Some.is in
+    let found : value_at index.outside.held (mapping_number c.args.pair.proto c.args.pair.outside) ≡ Some c.in-Some.slot = ap (value_at index.outside.held) (sym c.mapping_key.ensures.value) ∙ sym c.get.ensures ∙ c.in-Some.is in
     let there = held_is index.pairs.slots index.outside.held c.requires.indexed.by_outside c.args.pair c.in-Some.slot c.requires.some found in
     let entry = c.index.result.now in
     let same : entry.pair ≡ c.args.pair = ap (λ (e : Counted). e.pair) (same_Some entry there.0 (sym c.index.ensures ∙ there.1)) ∙ there.2 in
@@ -44,7 +44,7 @@ pub returns-else-index-eq1-clause-loses : goal.returns-else-index-eq1-clause-los
 unfolding one_less
 returns-else-index-eq1-clause-loses c =
     let index = c.args.index.now in
-    let found : value_at index.outside.held (mapping_number c.args.pair.proto c.args.pair.outside) ≡ Some c.in-Some.slot = ap (value_at index.outside.held) (sym c.mapping_key.ensures.key) ∙ sym c.get.ensures ∙ c.in-Some.is in
+    let found : value_at index.outside.held (mapping_number c.args.pair.proto c.args.pair.outside) ≡ Some c.in-Some.slot = ap (value_at index.outside.held) (sym c.mapping_key.ensures.value) ∙ sym c.get.ensures ∙ c.in-Some.is in
     let there = held_is index.pairs.slots index.outside.held c.requires.indexed.by_outside c.args.pair c.in-Some.slot c.requires.some found in
     let entry = c.index.result.now in
     let same : entry.pair ≡ c.args.pair = ap (λ (e : Counted). e.pair) (same_Some entry there.0 (sym c.index.ensures ∙ there.1)) ∙ there.2 in

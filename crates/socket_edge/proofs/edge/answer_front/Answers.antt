@@ -4,7 +4,7 @@ use Rattle.std.specs.Io.KnownBytes.{Appends}
 use Rattle.std.proofs.lemmas.List.Concat.{flat_map-append}
 use Rattle.std.proofs.lemmas.Result.{err_from_is_err_and}
 use Rattle.machine.specs.declared.event.Answer.{Answer}
-use Rattle.frames.specs.Answering.{frame, frames}
+use Rattle.frames.specs.Answers.{frame, frames}
 use Rattle.socket_edge.specs.Exchange.{Exchange}
 use Rattle.frames.specs.Requests.{next}
 use Rattle.socket_edge.specs.Serving.{IsSettled, Reads}

@@ -3,7 +3,7 @@ use Rattle.std.proofs.lemmas.List.{take-append-le}
 use Rattle.std.proofs.Math.Seq.{take-length}
 use Rattle.machine.specs.Fates.{answer_of}
 use Rattle.machine.specs.declared.event.Fate.{Fate}
-use Rattle.frames.specs.Answering.{frame}
+use Rattle.frames.specs.Answers.{frame}
 use Rattle.socket_edge.proofs.forwarding.write_front.Goals as goal
 
 pub returns-in-Dropped-clause-frame : goal.returns-in-Dropped-clause-frame

@@ -1,7 +1,7 @@
 use Rattle.std.proofs.Common.{take}
 use Rattle.std.specs.Io.KnownBytes.{Appends}
 use Rattle.std.specs.List.{flat_map}
-use Rattle.frames.specs.Answering.{frame}
+use Rattle.frames.specs.Answers.{frame}
 use Rattle.socket_edge.proofs.sending.send.Given as goal
 
 abbrev pub invariant-loop-pair : goal.invariant-loop-pair

@@ -1,6 +1,6 @@
 use Rattle.std.proofs.Common.{◌∙◌}
 use Rattle.std.proofs.lemmas.Result.{err_from_is_err_and}
-use Rattle.frames.specs.Answering.{frames}
+use Rattle.frames.specs.Answers.{frames}
 use Rattle.socket_edge.proofs.Written.{Front-of, Fails-behind}
 use Rattle.socket_edge.proofs.sending.send_behind.Goals as goal
 

@@ -1,7 +1,7 @@
 use Rattle.std.proofs.Common.{ℕ, ◌∙◌}
 use Rattle.std.proofs.lemmas.Result.{err_from_is_err_and, on_ok_weaker}
 use Rattle.machine.specs.declared.event.Answer.{Answer}
-use Rattle.frames.specs.Answering.{frame_head, answer_body}
+use Rattle.frames.specs.Answers.{frame_head, answer_body}
 use Rattle.socket_edge.proofs.Streams.{Appends-then}
 use Rattle.frames.proofs.Parts.{frame_parts}
 use Rattle.socket_edge.proofs.Written.{Front-of, Fails-behind}

@@ -1,6 +1,6 @@
 use Rattle.std.proofs.Common.{[], ◌++◌, List, ℕ, Option, take, ap, sym, refl, ◌∙◌}
 use Rattle.std.proofs.lemmas.List.{take-append-drop}
-use Rattle.frames.specs.Answering.{frames}
+use Rattle.frames.specs.Answers.{frames}
 use Rattle.socket_edge.specs.Exchange.{Exchange}
 use Rattle.socket_edge.specs.Serving.{released}
 use Rattle.socket_edge.proofs.Reading.{Reads-nil}

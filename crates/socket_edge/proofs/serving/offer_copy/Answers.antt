@@ -2,7 +2,7 @@ use Rattle.std.proofs.Common.{◌≡◌, [], ◌∷◌, ◌++◌, List, ℕ, dro
 use Rattle.std.proofs.lemmas.List.{append-nil}
 use Rattle.gateway.specs.Running.{CarriesOn}
 use Rattle.machine.specs.declared.event.Answer.{Answer}
-use Rattle.frames.specs.Answering.{frames}
+use Rattle.frames.specs.Answers.{frames}
 use Rattle.socket_edge.specs.Exchange.{Exchange}
 use Rattle.frames.specs.Requests.{Whole}
 use Rattle.socket_edge.proofs.Reading.{Reads-nil, Reads-whole}

@@ -3,7 +3,7 @@ use Rattle.std.proofs.lemmas.List.{append-nil}
 use Rattle.std.proofs.Math.Seq.{take-append_seam}
 use Rattle.gateway.specs.Running.{CarriesOn}
 use Rattle.machine.specs.declared.event.Answer.{Answer}
-use Rattle.frames.specs.Answering.{frame}
+use Rattle.frames.specs.Answers.{frame}
 use Rattle.socket_edge.specs.Exchange.{Exchange}
 use Rattle.socket_edge.proofs.serving.offer_idle.Goals as goal
 
@@ -37,7 +37,7 @@ returns-then-placed-clause-step g c =
         p.0,
         p.2,
         subst (λ (items : List (ℕ × Answer)). CarriesOn g.D.Disk.honest g.D.Disk.moment g.D.Disk.left g.D.Disk.failed c.args.gateway.now c.pass_next.new.gateway (p.0 ∷ []) (before ++ c.args.answers.now.items) (before ++ items))
-            (sym c.make_slots.ensures.items) (passes.0 (before ++ c.args.answers.now.items)),
+            (sym c.make_places.ensures.items) (passes.0 (before ++ c.args.answers.now.items)),
       ),
     )
 
@@ -54,7 +54,7 @@ returns-clause-step g c =
         p.0,
         p.2,
         subst (λ (items : List (ℕ × Answer)). CarriesOn g.D.Disk.honest g.D.Disk.moment g.D.Disk.left g.D.Disk.failed c.args.gateway.now c.pass_next.new.gateway (p.0 ∷ []) (before ++ c.args.answers.now.items) (before ++ answer ∷ items))
-            (sym (c.make_slots.ensures.items ∙ none))
+            (sym (c.make_places.ensures.items ∙ none))
             (subst (λ (items : List (ℕ × Answer)). CarriesOn g.D.Disk.honest g.D.Disk.moment g.D.Disk.left g.D.Disk.failed c.args.gateway.now c.pass_next.new.gateway (p.0 ∷ []) (before ++ items) (before ++ answer ∷ []))
             (sym none)
             (subst (λ (front : List (ℕ × Answer)). CarriesOn g.D.Disk.honest g.D.Disk.moment g.D.Disk.left g.D.Disk.failed c.args.gateway.now c.pass_next.new.gateway (p.0 ∷ []) front (before ++ answer ∷ [])) (sym (append-nil before))

@@ -1,7 +1,8 @@
 use Rattle.std.proofs.Common.{◌≡◌, ◌++◌, [], ap, sym, ◌∙◌, arith}
+use Rattle.std.specs.Prelude.{find}
 use Rattle.std.proofs.lemmas.Bool.{false≢true}
 use Rattle.std.proofs.lemmas.List.{append-nil}
-use Rattle.sessions.specs.Listing.{find, listing, same_flow}
+use Rattle.sessions.specs.Listing.{listing, same_flow}
 use Rattle.machine.specs.Noted.{noted, noted_all}
 use Rattle.machine.proofs.Costs.{noted-few}
 use Rattle.machine.proofs.Telling.{nil-before, nil-unless}

@@ -1,6 +1,6 @@
 use Rattle.std.proofs.Common.{◌≡◌, ◌+◌, ◌-◌, ◌++◌, ◌≤◌, ℕ, length, take, ap, sym, ◌∙◌, arith, length-drop}
 use Rattle.std.proofs.lemmas.List.{with_items_is, length-take-le}
-use Rattle.frames.specs.Answering.{frames}
+use Rattle.frames.specs.Answers.{frames}
 use Rattle.socket_edge.specs.Exchange.{Exchange}
 use Rattle.socket_edge.proofs.Memory.{between_size, part_size, seen_between, seen_more, view}
 use Rattle.socket_edge.proofs.waiting.Waiting.put.Goals as goal

@@ -1,6 +1,6 @@
 use Rattle.machine.proofs.Quiet.{quiet-way, way-gives}
 use Rattle.hairpin.specs.Going.{plan_of}
-use Rattle.machine.proofs.answering.send_in_place.Goals as goal
+use Rattle.machine.proofs.answering.send_quiet.Goals as goal
 
 pub see_going-requires-clause-give : goal.see_going-requires-clause-give
 see_going-requires-clause-give c =

@@ -4,7 +4,7 @@ use Rattle.socket_edge.proofs.Streams.{Appends-nil}
 use Rattle.socket_edge.proofs.Answers.{AnsweredFirst-nothing}
 use Rattle.socket_edge.proofs.Closing.{served, served-fares, served-passed, untidy}
 use Rattle.socket_edge.proofs.Tending.{idle-fares}
-use Rattle.socket_edge.proofs.edge.serve.Goals as goal
+use Rattle.socket_edge.proofs.edge.answer_read.Goals as goal
 
 pub returns-then-is_err-clause-served : goal.returns-then-is_err-clause-served
 returns-then-is_err-clause-served g c = (
