@@ -1,11 +1,12 @@
 //! Requests through sockets.
 use crate::shared::{ANSWERS, OverFiles, REQUESTS, SIDES, close, fresh, opened};
-use commands::{bind, loop_back, serve_clients, tell_end};
+use commands::{bind, loop_back, replay, serve_clients, tell_end};
 use gateway::GatewayFault;
 use refusals::{Refusal, Stop};
 use socket_edge::EdgeFault;
-use std::alloc::Global;
+use std::alloc::{AllocError, Global};
 use std::fs;
+use std::fs::File;
 use std::io::{Read, Write};
 use std::net::Shutdown;
 use std::os::unix::net::{UnixListener, UnixStream};
@@ -34,7 +35,7 @@ fn is_bound_once(rt: &HostRuntime, path: &str, line: &str) -> Result<bool, Stop>
 fn a_socket_that_is_there(rt: HostRuntime) -> Result<(), Fail> {
     fresh(&rt, "loop")?;
     let line =
-        "loop/natgw.sock exists: if no natgw listens there any more, remove it, otherwise name another path";
+        "loop/natgw.sock exists: if no natgw listens there, remove it; otherwise name another path (loop: --dir)";
     assert!(rt; is_bound_once(&rt, "loop/natgw.sock", line)?);
     Ok(())
 }
@@ -154,6 +155,86 @@ fn clients_that_wait(rt: HostRuntime) -> Result<(), Fail> {
     close(gateway);
     assert!(rt; are_served?);
     fs::remove_file(&rt, "serve/sock")?;
+    Ok(())
+}
+
+// Whether a second client is served behind one that ends within a request.
+fn serves_on<W: Write>(
+    rt: &HostRuntime,
+    gateway: &mut OverFiles,
+    path: &str,
+    errors: &mut W,
+) -> Result<bool, Fail> {
+    let listener = bound(rt, path)?;
+    let _first = client(rt, path, &REQUESTS[..128])?;
+    let mut second = client(rt, path, &REQUESTS[115..])?;
+    serve_clients(rt.alloc(), &listener, path, 2, errors, gateway)?;
+    let mut answers = Vec::new(rt.alloc());
+    second.read_to_end(&mut answers)?;
+    Ok(answers.as_slice() == &ANSWERS[13..])
+}
+
+// The first one's word can't be told: a file that is open for reading takes nothing.
+#[test]
+fn words_that_nobody_takes(rt: HostRuntime) -> Result<(), Fail> {
+    fresh(&rt, "untold")?;
+    fs::write(&rt, "untold/errors", b"".as_slice())?;
+    let mut errors = File::open(&rt, "untold/errors")?;
+    let mut gateway = opened(&rt, &SIDES, "untold", 1_000)?;
+    let serves_on = serves_on(&rt, &mut gateway, "untold/sock", &mut errors);
+    close(gateway);
+    assert!(rt; serves_on?);
+    Ok(())
+}
+
+// A load of 65,500 spaces at moment 1000, and a faulty header.
+fn faulty(alloc: Global) -> Result<Vec<u8>, AllocError> {
+    let mut stream = Vec::new(alloc);
+    stream.extend_from_slice(b"\x02\x00\x00\x00\xff\xdc\x00\x00\x00\x00\x00\x00\x03\xe8")?;
+    stream.extend_from_slice(vec![in alloc; b' '; 65_500]?.as_slice())?;
+    stream.extend_from_slice(&[7; 14])?;
+    Ok(stream)
+}
+
+// How far the file grows by so many streams that end in a fault.
+fn grow(alloc: Global, gateway: &mut OverFiles, streams: u32) -> Result<u64, AllocError> {
+    let stream = faulty(alloc)?;
+    for _ in 0..streams {
+        let mut reader = stream.as_slice();
+        let mut answers = Vec::new(alloc);
+        let _ = replay(alloc, &mut reader, &mut answers, gateway);
+    }
+    Ok(gateway.grown())
+}
+
+// How far the file has grown once a client is served that asks nothing.
+fn grown_behind_a_client(
+    rt: &HostRuntime,
+    gateway: &mut OverFiles,
+    path: &str,
+) -> Result<u64, Fail> {
+    let listener = bound(rt, path)?;
+    let _client = client(rt, path, b"")?;
+    let mut errors = Vec::new(rt.alloc());
+    serve_clients(rt.alloc(), &listener, path, 1, &mut errors, gateway)?;
+    Ok(gateway.grown())
+}
+
+// How far the file has grown by 17 streams that end in a fault, and behind a client then.
+fn grown_twice(rt: &HostRuntime, gateway: &mut OverFiles) -> Result<(u64, u64), Fail> {
+    let grown = grow(rt.alloc(), gateway, 17)?;
+    let behind = grown_behind_a_client(rt, gateway, "between/sock")?;
+    Ok((grown, behind))
+}
+
+// A stream that ends in a fault compacts nothing, whatever it loads; the next client finds the file made anew.
+#[test]
+fn compacts_between_clients(rt: HostRuntime) -> Result<(), Fail> {
+    fresh(&rt, "between")?;
+    let mut gateway = opened(&rt, &SIDES, "between", 1_000)?;
+    let grown = grown_twice(&rt, &mut gateway);
+    close(gateway);
+    assert!(rt; grown? == (17 * 65_510, 0));
     Ok(())
 }
 

@@ -55,7 +55,10 @@ IsOfFiles r = IsOfPath r ⊎ ((fault : OpenFault) × (r ≡ opening_refusal faul
 abbrev pub IsOfStream : Refusal → Type 0
 IsOfStream r = (fault : EdgeFault) × (r ≡ edge_refusal fault)
 
--- what may end the serving of clients: the socket, the gateway, or that a client's word can't be told
+-- what may end the serving of clients: the socket or the gateway
 abbrev pub IsOfServing : Refusal → Type 0
-IsOfServing r = IsOfPath r ⊎ (r ≡ refusal.Output)
-    ⊎ ((fault : GatewayFault) × (r ≡ gateway_refusal fault))
+IsOfServing r = IsOfPath r ⊎ ((fault : GatewayFault) × (r ≡ gateway_refusal fault))
+
+-- what may end a loop: these, or that the answers can't be printed
+abbrev pub IsOfLooping : Refusal → Type 0
+IsOfLooping r = IsOfServing r ⊎ (r ≡ refusal.Output)

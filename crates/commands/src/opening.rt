@@ -4,13 +4,13 @@
 //! no gateway opens over it: where the files themselves are refused, `unsound` says what `diagnosis::diagnose` finds.
 ghost use Rattle.std.specs.Prelude.{◌≡◌, [], IfErr, IfOk, false};
 ghost use Rattle.durable.specs.Entering.{Durable, IsDurable};
-ghost use Rattle.machine.specs.Noted.{IsRestarted};
+ghost use Rattle.machine.specs.Noted.{IsResumed};
 ghost use Rattle.refusals.specs.Words.{IsOfPath};
 ghost use Rattle.commands.specs.Faults.{IsOfFiles};
 
 use crate::faults::of_opening;
 use checking::bounds;
-use diagnosis::diagnose;
+use diagnosis::{Finding, diagnose};
 use file_disk::{FileDisk, OpenError};
 use gateway::{Gateway, OpenFault};
 use options::{Opening, Sides};
@@ -44,8 +44,9 @@ fn unsound_to(
     ensures { result.refusal ≡ refusal }
 {
     match diagnose(alloc, disk, bounds) {
+        // A device that reads otherwise the second time: there is nothing to tell of what it read first.
+        Ok(Finding::Sound) | Err(_) => Stop::from(refusal),
         Ok(finding) => Stop::with(refusal, format!(in alloc; "{directory}: {finding}")),
-        Err(_) => Stop::from(refusal),
     }
 }
 
@@ -100,8 +101,8 @@ pub fn open(
 
     // It begins again from some state that survives, at the opening's moment, and has numbered and held nothing.
     ensures config { IfOk result (λ gateway. gateway.told.config ≡ bounds) }
-    ensures restarted { IfOk result (λ gateway. (d : Durable) × IsDurable bounds d
-        × IsRestarted bounds d opening.entry.moment gateway.told.state) }
+    ensures resumed { IfOk result (λ gateway. (d : Durable) × IsDurable bounds d
+        × IsResumed bounds d opening.entry.moment gateway.told.state) }
     ensures begins { IfOk result (λ gateway. (gateway.told.last ≡ 0)
         × (gateway.told.held ≡ []) × (gateway.fallen ≡ false)) }
 {

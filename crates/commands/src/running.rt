@@ -13,6 +13,7 @@ use std::alloc::Global;
 use std::fs;
 use std::fs::Files;
 use std::io::ErrorKind;
+use std::os::unix::fs::MetadataExt;
 use std::process::ExitCode;
 
 /// The longest ruleset text, in bytes. One byte more is read, so that a longer text is known for one.
@@ -35,9 +36,9 @@ const FREED_FIRST: usize = 2_097_152;
 /// - `File` where the command's file can't be read, or is too long for `loop`.
 /// - Of all but `check` what `open` says of the two files.
 /// - Of `serve` and `loop` `File` where the socket can't be bound.
-/// - What the run meets: the fault of a stream (of `serve` and `loop` that of the gateway alone), `Output`, and of
-///   `serve` and `loop` `File` where the socket fails or can't be removed. What was answered before is written, by
-///   `loop` as far as it can be read back.
+/// - What the run meets: the fault of a stream (of `serve` and `loop` that of the gateway alone), of all but `serve`
+///   `Output`, and of `serve` and `loop` `File` where the socket fails or can't be removed. What was answered before is
+///   written, by `loop` as far as it can be read back.
 ///
 /// `NoMemory` may come at any place.
 pub fn run(rt: &HostRuntime, options: &Options<'_>) -> Result<ExitCode, Stop> {
@@ -113,7 +114,7 @@ fn work_on<D: Disk + Drop>(
 ) -> Result<(), Stop> {
     let alloc = rt.alloc();
     match work {
-        Work::Replay => Ok(replay(alloc, &mut rt.stdin(), &mut rt.stdout(), gateway)?),
+        Work::Replay => replay_streams(rt, gateway),
         Work::Serve {
             socket,
             connections,
@@ -121,6 +122,16 @@ fn work_on<D: Disk + Drop>(
         Work::Loop { path: _ } => loop_in(rt, directory, requests, gateway),
         Work::Show => Ok(show(alloc, gateway, &mut rt.stdout())?),
     }
+}
+
+// Answers standard input on standard output. Where a call of the disk has failed, that is what is told, also where
+// standard output took no more before.
+fn replay_streams<D: Disk + Drop>(rt: &HostRuntime, gateway: &mut Gateway<D>) -> Result<(), Stop> {
+    let ended = replay(rt.alloc(), &mut rt.stdin(), &mut rt.stdout(), gateway);
+    if ended == Err(Refusal::Output) && gateway.has_fallen() {
+        return Err(Stop::from(Refusal::Reopen));
+    }
+    Ok(ended?)
 }
 
 // Serves so many connections of a socket, which is there for as long.
@@ -132,6 +143,7 @@ fn serve_at<D: Disk + Drop>(
 ) -> Result<(), Stop> {
     let alloc = rt.alloc();
     let listener = bind(rt, alloc, socket)?;
+    let own = identity(rt, socket);
     let served = serve_clients(
         alloc,
         &listener,
@@ -140,7 +152,7 @@ fn serve_at<D: Disk + Drop>(
         &mut rt.stderr(),
         gateway,
     );
-    let removed = remove(rt, alloc, socket);
+    let removed = remove(rt, alloc, socket, own);
     served.and(removed)
 }
 
@@ -154,6 +166,7 @@ fn loop_in<D: Disk + Drop>(
     let alloc = rt.alloc();
     let socket = format!(in alloc; "{directory}/natgw.sock")?;
     let listener = bind(rt, alloc, socket.as_str())?;
+    let own = identity(rt, socket.as_str());
     let looped = loop_back(
         rt,
         alloc,
@@ -164,7 +177,7 @@ fn loop_in<D: Disk + Drop>(
         &mut rt.stderr(),
         gateway,
     );
-    let removed = remove(rt, alloc, socket.as_str());
+    let removed = remove(rt, alloc, socket.as_str(), own);
     looped.and(removed)
 }
 
@@ -188,8 +201,24 @@ fn read_requests(rt: &impl Files, alloc: Global, path: &str) -> Result<Vec<u8>, 
     Ok(requests)
 }
 
-// Removes a socket, if it is still there.
-fn remove(rt: &impl Files, alloc: Global, socket: &str) -> Result<(), Stop> {
+// What stands at a path, by its device and its number there, if anything does.
+fn identity(rt: &impl Files, path: &str) -> Option<(u64, u64)> {
+    let data = fs::symlink_metadata(rt, path).ok()?;
+    Some((data.dev(), data.ino()))
+}
+
+// Removes a socket of this identity, if it is still there: where somebody has removed it, another natgw's may be there.
+fn remove(
+    rt: &impl Files,
+    alloc: Global,
+    socket: &str,
+    own: Option<(u64, u64)>,
+) -> Result<(), Stop> {
+    if let (Some(now), Some(own)) = (identity(rt, socket), own) {
+        if now != own {
+            return Ok(());
+        }
+    }
     match fs::remove_file(rt, socket) {
         Ok(()) => Ok(()),
         Err(error) => match error.kind() {

@@ -1,12 +1,15 @@
 //! The clients of a Unix socket, one after the other.
 ghost use Rattle.std.specs.Prelude.{◌≡◌, [], false, IsErr, IsOk, IfErr, OnOk};
 ghost use Rattle.refusals.specs.Words.{IsOfPath};
-ghost use Rattle.commands.specs.Faults.{IsOfServing};
+ghost use Rattle.gateway.specs.declared.fault.GatewayFault.{GatewayFault};
+ghost use Rattle.commands.specs.Faults.{IsOfLooping, IsOfServing, gateway_refusal};
 
+use crate::faults::of_gateway;
 use crate::streams::{answer_all, tell_end};
 use disk_model::Disk;
-use gateway::Gateway;
+use gateway::{Gateway, GatewayFault};
 use refusals::{Refusal, Stop};
+use socket_edge::MOST_GROWN;
 use std::alloc::Global;
 use std::fs::Files;
 use std::io;
@@ -46,7 +49,7 @@ fn unbound(alloc: Global, path: &str, error: &io::Error) -> Stop
         ErrorKind::AddrInUse => Stop::with(
             Refusal::File,
             format!(in alloc;
-                "{path} exists: if no natgw listens there any more, remove it, otherwise name another path"
+                "{path} exists: if no natgw listens there, remove it; otherwise name another path (loop: --dir)"
             ),
         ),
         _ => Stop::at_path(alloc, path, "can't be bound to a socket", error),
@@ -66,8 +69,23 @@ fn next_client(listener: &UnixListener) -> io::Result<UnixStream> {
     off_standard_streams(stream)
 }
 
+// Compacts where a client has left the file grown: behind a read that ends in a client's fault the edge doesn't. Where
+// memory for it is refused, it waits for the next client.
+fn compact_grown<D: Disk + Drop>(gateway: &mut Gateway<D>) -> Result<(), Refusal>
+    ensures causes { IfErr result (λ refusal. (fault : GatewayFault)
+        × (refusal ≡ gateway_refusal fault)) }
+{
+    if gateway.held() > 0 || gateway.grown() <= MOST_GROWN {
+        return Ok(());
+    }
+    match gateway.compact() {
+        Ok(()) | Err(GatewayFault::NoMemory) => Ok(()),
+        Err(fault) => Err(of_gateway(fault)),
+    }
+}
+
 // Serves the next client. Where the gateway has fallen once the client is served, the refusal says so, even if the
-// client's own fault was that it took no answer; but not where the word of that fault can't be told.
+// client's own fault was that it took no answer. A word that can't be told ends nothing: others are still to be served.
 fn serve_next<W: Write, D: Disk + Drop>(
     alloc: Global,
     listener: &UnixListener,
@@ -78,12 +96,16 @@ fn serve_next<W: Write, D: Disk + Drop>(
     ensures stands { OnOk result (gateway.new.fallen ≡ false) }
     ensures causes { IfErr result (λ stop. IsOfServing stop.refusal) }
 {
+    compact_grown(gateway)?;
     let stream = match next_client(listener) {
         Ok(stream) => stream,
         Err(error) => return Err(Stop::at_path(alloc, path, "accepts no client", &error)),
     };
     let ended = answer_all(alloc, &mut &stream, &mut &stream, gateway);
-    tell_end(ended, errors)?;
+    match tell_end(ended, errors) {
+        Ok(()) | Err(Refusal::Output) => {}
+        Err(refusal) => return Err(Stop::from(refusal)),
+    }
     if gateway.has_fallen() {
         return Err(Stop::from(Refusal::Reopen));
     }
@@ -96,7 +118,7 @@ fn serve_next<W: Write, D: Disk + Drop>(
 /// # Errors
 ///
 /// `File` where no connection can be accepted, at `path`; a fault of the gateway, which is `Reopen` where a call of the
-/// disk failed and the client took no answer; `Output` where a word can't be told.
+/// disk failed and the client took no answer.
 pub fn serve_clients<W: Write, D: Disk + Drop>(
     alloc: Global,
     listener: &UnixListener,
@@ -131,7 +153,7 @@ fn print_answers<W: Write>(
     client: &UnixStream,
     output: &mut W,
 ) -> Result<(), Stop>
-    ensures { IfErr result (λ stop. IsOfServing stop.refusal) }
+    ensures { IfErr result (λ stop. IsOfLooping stop.refusal) }
 {
     let mut answers = Vec::new(alloc);
     let mut reader = client;
@@ -151,8 +173,8 @@ fn print_answers<W: Write>(
 ///
 /// # Errors
 ///
-/// A fault of the gateway; `File` where the socket can't be used; `Output` where the answers can't be printed or a word
-/// can't be told. In each case the answers that can be read back are printed before.
+/// A fault of the gateway; `File` where the socket can't be used; `Output` where the answers can't be printed. In each
+/// case the answers that can be read back are printed before.
 pub fn loop_back<R: Net, W: Write, E: Write, D: Disk + Drop>(
     rt: &R,
     alloc: Global,
@@ -164,7 +186,7 @@ pub fn loop_back<R: Net, W: Write, E: Write, D: Disk + Drop>(
     gateway: &mut Gateway<D>,
 ) -> Result<(), Stop>
     ensures stands { OnOk result (gateway.old.fallen ≡ false → gateway.new.fallen ≡ false) }
-    ensures causes { IfErr result (λ stop. IsOfServing stop.refusal) }
+    ensures causes { IfErr result (λ stop. IsOfLooping stop.refusal) }
 {
     let client = match client_of(rt, path, requests) {
         Ok(client) => client,

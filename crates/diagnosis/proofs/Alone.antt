@@ -7,7 +7,7 @@ use Rattle.disk_model.specs.declared.disk.FileId.TheVariants.{A, B}
 use Rattle.durable.specs.Coding.{Heading}
 use Rattle.durable.specs.Entering.{Durable}
 use Rattle.disk_model.specs.Disk.{pair}
-use Rattle.durable.specs.Recovery.{Active, Finds, Holds, IsActive, IsFound, IsOpen, behind}
+use Rattle.durable.specs.Recovery.{Found, Finds, Holds, IsActive, IsFound, IsOpen, behind}
 use Rattle.durable.proofs.Headed.{headed_open}
 
 pub closed_nothing : ¬ IsOpen []
@@ -21,17 +21,17 @@ active_alone : (file : List ℕ) (f : FileId) (h : Heading) (d : Durable) (end :
 active_alone file A h d end active = active.0
 active_alone file B h d end active = absurd (closed_nothing (headed_open [] h active.0.headed))
 
-pub found_alone : (file : List ℕ) (x : Active) (found : IsFound (pair file []) x) → Holds file found.heading x.state x.end
+pub found_alone : (file : List ℕ) (x : Found) (found : IsFound (pair file []) x) → Holds file found.heading x.state x.end
 found_alone file x found = active_alone file x.file found.heading x.state x.end found.active
 
-pub holds_alone : (file : List ℕ) (h : Heading) (d : Durable) (end : ℕ) → Holds file h d end → (found : Option Active) × Finds (pair file []) found
+pub holds_alone : (file : List ℕ) (h : Heading) (d : Durable) (end : ℕ) → Holds file h d end → (found : Option Found) × Finds (pair file []) found
 holds_alone file h d end holds = (
   Some (record { file = A; generation = h.generation; config = h.config; state = d; start = behind h; end = end }),
   record { heading = h; active = (holds, λ opened. absurd (closed_nothing opened)); generation = refl; config = refl; start = refl },
 )
 
-pub nothing_alone : (file : List ℕ) → ((found : Option Active) → ¬ Finds (pair file []) found) → (h : Heading) (d : Durable) (end : ℕ) → ¬ Holds file h d end
+pub nothing_alone : (file : List ℕ) → ((found : Option Found) → ¬ Finds (pair file []) found) → (h : Heading) (d : Durable) (end : ℕ) → ¬ Holds file h d end
 nothing_alone file none h d end holds = let found = holds_alone file h d end holds in none found.0 found.1
 
-pub open_alone : (file : List ℕ) → ((found : Option Active) → ¬ Finds (pair file []) found) → IsOpen file
+pub open_alone : (file : List ℕ) → ((found : Option Found) → ¬ Finds (pair file []) found) → IsOpen file
 open_alone file none = is_open file (λ closed. none None (closed, closed_nothing))

@@ -6,7 +6,7 @@ use Rattle.std.specs.Prelude.{Option, Some, None, Bool, true, false}
 use Rattle.durable.specs.Coding.{Heading, heading_bytes}
 use Rattle.durable.specs.Laws.{IsFresh}
 use Rattle.disk_model.specs.Disk.{pair}
-use Rattle.durable.specs.Recovery.{Active, Finds, IsHeaded, IsOpen, begun, behind}
+use Rattle.durable.specs.Recovery.{Found, Finds, IsHeaded, IsOpen, begun, behind}
 use Rattle.durable.proofs.Headed.{headed_open, headed_once}
 use Rattle.durable.proofs.Growing.{grows}
 use Rattle.diagnosis.specs.Reading.{Begins, HasNoFront}
@@ -90,18 +90,18 @@ alone_headed file alone end h on is made =
     let size : behind h < length alone = omega (arith, ap length whole, length-append (1 ∷ heading_bytes h) (0 ∷ [])) in
     (same_front file alone h on same size, ([], whole))
 
-found_begins : (file alone : List ℕ) (end : ℕ) (at : IsFrontEnd file end) → alone ≡ take end file ++ 0 ∷ [] → (found : Option Active) → Finds (pair alone []) found → Begins at.0
+found_begins : (file alone : List ℕ) (end : ℕ) (at : IsFrontEnd file end) → alone ≡ take end file ++ 0 ∷ [] → (found : Option Found) → Finds (pair alone []) found → Begins at.0
 found_begins file alone end at made None found = absurd (found.0 (headed_open alone at.0 (alone_headed file alone end at.0 at.1 at.2 made).0))
 found_begins file alone end at made (Some x) found =
     let there = alone_headed file alone end at.0 at.1 at.2 made in
     let holds = found_alone alone x found in
     subst Begins (headed_once alone found.heading at.0 holds.headed there.0) (record { text = holds.text; sessions = holds.sound })
 
-nothing_begins : (file alone : List ℕ) (end : ℕ) (at : IsFrontEnd file end) → alone ≡ take end file ++ 0 ∷ [] → ((found : Option Active) → ¬ Finds (pair alone []) found) → ¬ Begins at.0
+nothing_begins : (file alone : List ℕ) (end : ℕ) (at : IsFrontEnd file end) → alone ≡ take end file ++ 0 ∷ [] → ((found : Option Found) → ¬ Finds (pair alone []) found) → ¬ Begins at.0
 nothing_begins file alone end at made none begins =
     let h = at.0 in
     let there = alone_headed file alone end h at.1 at.2 made in
-    let found = holds_alone alone h (begun h.kept) (behind h) (grows.made alone h there.1 at.1.whole at.1.config begins) in
+    let found = holds_alone alone h (begun h.snapshot) (behind h) (grows.made alone h there.1 at.1.whole at.1.config begins) in
     none found.0 found.1
 
 pub tells_begin : (file alone : List ℕ) (end : ℕ) → IsFrontEnd file end → alone ≡ take end file ++ 0 ∷ [] → (found : Bool) → Tells (pair alone []) found → TellsBegin file found

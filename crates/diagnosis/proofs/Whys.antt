@@ -8,7 +8,7 @@ use Rattle.disk_model.specs.declared.disk.FileId.{FileId}
 use Rattle.disk_model.specs.declared.disk.FileId.TheVariants.{A, B}
 use Rattle.durable.specs.Coding.{Heading}
 use Rattle.durable.specs.Entering.{Durable, empty}
-use Rattle.durable.specs.Recovery.{Active, Finds, IsActive, IsConfigured, IsOpen, NoneOpen, Recovers, behind}
+use Rattle.durable.specs.Recovery.{Found, Finds, IsActive, IsConfigured, IsOpen, NoneOpen, Recovers, behind}
 use Rattle.durable.proofs.Headed.{headed_open, recovers_once}
 use Rattle.diagnosis.specs.Reading.{IsRead, IsHeld}
 use Rattle.diagnosis.specs.Finding.{HasFault, AreTwins}
@@ -18,7 +18,7 @@ use Rattle.diagnosis.specs.declared.reading.Reading.TheVariants.{Empty, Closed, 
 use Rattle.diagnosis.proofs.Alone.{closed_nothing}
 
 -- what files stand for is found in them
-pub found_of : (files : Files) (d : Durable) → Recovers files d → (found : Option Active) × Finds files found
+pub found_of : (files : Files) (d : Durable) → Recovers files d → (found : Option Found) × Finds files found
 found_of files d (inl none) = (None, none.0)
 found_of files d (inr (f, h, end, active)) =
     (Some (record { file = f; generation = h.generation; config = h.config; state = d; start = behind h; end = end }), record { heading = h; active = active; generation = refl; config = refl; start = refl })

@@ -2,14 +2,14 @@
 use Rattle.std.specs.Prelude.{◌≡◌, ℕ, ◌<◌, ◌≤◌, List, length, take, Bool, true, false, Option}
 use Rattle.durable.specs.Coding.{Heading}
 use Rattle.durable.specs.Entering.{empty}
-use Rattle.durable.specs.Recovery.{Active, Finds, IsOpen, IsHeaded, Holds, behind}
+use Rattle.durable.specs.Recovery.{Found, Finds, IsOpen, IsHeaded, Holds, behind}
 use Rattle.disk_model.specs.Disk.{Files}
 use Rattle.diagnosis.specs.Reading.{Begins, greatest, HasNoFront}
 
 -- whether two files stand for a state
 abbrev pub Tells : Files → Bool → Type 0
-Tells files true = (found : Option Active) × Finds files found
-Tells files false = (found : Option Active) → ¬ Finds files found
+Tells files true = (found : Option Found) × Finds files found
+Tells files false = (found : Option Found) → ¬ Finds files found
 
 -- a file of the greatest generation that holds nothing
 abbrev pub IsProbe : List ℕ → Type 0

@@ -20,7 +20,7 @@ greatest = 2 ^ 64 - 1
 
 -- the snapshot is sound and its text loads
 abbrev pub Begins : Heading → Type 0
-Begins h = IsDurable h.config (begun h.kept)
+Begins h = IsDurable h.config (begun h.snapshot)
 
 -- no whole front, but perhaps one of the greatest generation
 abbrev pub HasNoFront : List ℕ → Type 0

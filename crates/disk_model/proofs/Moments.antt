@@ -1,15 +1,15 @@
 -- How a run of device calls goes on.
 use Rattle.std.proofs.Common.{◌≢◌, inl, inr, ⊎_elim, ℕ, ◌≤◌, List, refl, sym, ◌∙◌, subst, arith}
 use Rattle.disk_model.specs.declared.disk.FileId.{FileId}
-use Rattle.disk_model.specs.Disk.{Files, Same, Elsewhere, Torn, Written, LeftNow, FromEntry, Goes, Leaves, LeavesOnly, LeavesNow, Synced, Looks}
+use Rattle.disk_model.specs.Disk.{Files, Same, Elsewhere, Torn, TornIn, LeftNow, FromLeft, Goes, Leaves, LeavesOnly, LeavesNow, Synced, Looks}
 
 pub torn_nothing : (at : ℕ) (bytes old : List ℕ) → Torn at bytes old old
 torn_nothing at bytes old = record { no_shorter = omega arith; outside = λ k lt out. refl; closing = λ one is. is }
 
-pub written_nothing : (file : _) (at : ℕ) (bytes : List ℕ) (old : Files) → Written file at bytes old old
+pub written_nothing : (file : _) (at : ℕ) (bytes : List ℕ) (old : Files) → TornIn file at bytes old old
 written_nothing file at bytes old = record { here = torn_nothing at bytes (old file); elsewhere = λ other ne. refl }
 
-pub written_same : (file : _) (at : ℕ) (bytes : List ℕ) (old mid new : Files) → Written file at bytes old mid → Same mid new → Written file at bytes old new
+pub written_same : (file : _) (at : ℕ) (bytes : List ℕ) (old mid new : Files) → TornIn file at bytes old mid → Same mid new → TornIn file at bytes old new
 written_same file at bytes old mid new written same = record {
   here = subst (λ f. Torn at bytes (old file) f) (sym (same file)) written.here;
   elsewhere = λ other ne. same other ∙ written.elsewhere other ne;
@@ -27,7 +27,7 @@ module _ {D : Type 0} (moment : D → ℕ) (left : D → ℕ → Files → Type 
   -- A run behind a run. What the second leaves is led back to the entry of the first.
   pub follows : (old mid new : D) (First Next Step : Files → Files → Type 0) → Leaves moment left old mid First → Leaves moment left mid new Next
       → ((before files : Files) → LeftNow moment left old before → First before files → Step before files)
-      → ((files : Files) → FromEntry moment left mid Next files → FromEntry moment left old Step files)
+      → ((files : Files) → FromLeft moment left mid Next files → FromLeft moment left old Step files)
       → Leaves moment left old new Step
   follows old mid new First Next Step first next widens leads = record {
     later = omega (arith, first.later, next.later);
@@ -41,7 +41,7 @@ module _ {D : Type 0} (moment : D → ℕ) (left : D → ℕ → Files → Type 
 
   -- what may be left at the end of a run comes from its entry
   pub at_end : (old new : D) (Step : Files → Files → Type 0) → ((s t : ℕ) (files : Files) → s ≤ t → left new t files → left new s files)
-      → Leaves moment left old new Step → (files : Files) → LeftNow moment left new files → FromEntry moment left old Step files
+      → Leaves moment left old new Step → (files : Files) → LeftNow moment left new files → FromLeft moment left old Step files
   at_end old new Step earlier leaves files now = leaves.each files (earlier (moment old) (moment new) files leaves.later now)
 
   -- a step that says less

@@ -42,8 +42,8 @@ pub record Torn (at : ℕ) (bytes old new : List ℕ) : Type 0 where
   -- the closing byte: a write of the one byte 0 makes no 1
   pub closing : bytes ≡ 0 ∷ [] → get_or new at 0 ≡ 1 → get_or old at 0 ≡ 1
 
--- what a crash may leave of a pair of files after a write, by what it could leave before
-pub record Written (file : FileId) (at : ℕ) (bytes : List ℕ) (old new : Files) : Type 0 where
+-- what a write, whole, failed or cut short, may make of a pair of files: as they read, or as a crash leaves them
+pub record TornIn (file : FileId) (at : ℕ) (bytes : List ℕ) (old new : Files) : Type 0 where
   pub here : Torn at bytes (old file) (new file)
   pub elsewhere : Elsewhere file old new
 
@@ -68,13 +68,13 @@ module _ {D : Type 0} (moment : D → ℕ) (left : D → ℕ → Files → Type 
   LeftNow disk files = left disk (moment disk) files
 
   -- it comes by this step from what could be left at the entry
-  abbrev pub FromEntry : D → (Files → Files → Type 0) → Files → Type 0
-  FromEntry old Step files = (before : Files) × LeftNow old before × Step before files
+  abbrev pub FromLeft : D → (Files → Files → Type 0) → Files → Type 0
+  FromLeft old Step files = (before : Files) × LeftNow old before × Step before files
 
   -- One call: what may be left now comes by this step from what could be left before, and the past stays as it was.
   pub record Goes (old new : D) (Step : Files → Files → Type 0) : Type 0 where
     pub later : moment old ≤ moment new
-    pub now : (files : Files) → LeftNow new files → FromEntry old Step files
+    pub now : (files : Files) → LeftNow new files → FromLeft old Step files
     pub nothing_else : (t : ℕ) (files : Files) → t ≤ moment old → left new t files
         → left old t files ⊎ LeftNow new files
     pub keeps : (t : ℕ) (files : Files) → t ≤ moment old → left old t files → left new t files
@@ -82,10 +82,10 @@ module _ {D : Type 0} (moment : D → ℕ) (left : D → ℕ → Files → Type 
   -- A run of calls: what a crash at any moment since the entry leaves comes by this step from what could be left at it.
   pub record Leaves (old new : D) (Step : Files → Files → Type 0) : Type 0 where
     pub later : moment old ≤ moment new
-    pub each : (files : Files) → left new (moment old) files → FromEntry old Step files
+    pub each : (files : Files) → left new (moment old) files → FromLeft old Step files
     -- for a run that began earlier
     pub before : (t : ℕ) (files : Files) → t ≤ moment old → left new t files
-        → left old t files ⊎ FromEntry old Step files
+        → left old t files ⊎ FromLeft old Step files
 
   -- a crash at any moment since the entry leaves only such files
   abbrev pub LeavesOnly : D → D → (Files → Type 0) → Type 0

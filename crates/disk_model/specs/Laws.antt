@@ -1,14 +1,14 @@
 -- What holds of every disk.
 use Rattle.std.specs.Prelude.{◌≢◌, ◌⊎◌, ℕ, ◌≤◌, List}
 use Rattle.disk_model.specs.declared.disk.FileId.{FileId}
-use Rattle.disk_model.specs.Disk.{Files, Same, Written, Elsewhere, Goes, Leaves, Looks, Synced}
+use Rattle.disk_model.specs.Disk.{Files, Same, TornIn, Elsewhere, Goes, Leaves, Looks, Synced}
 
 module _ {D : Type 0} (honest : D → Type 0) (moment : D → ℕ) (left : D → ℕ → Files → Type 0) where
   -- one call: it looks or syncs, or it writes
   abbrev pub IsCall : D → D → Type 0
   IsCall old new = Goes moment left old new Same
       ⊎ ((file : FileId) × (at : ℕ) × (bytes : List ℕ)
-      × Goes moment left old new (Written file at bytes))
+      × Goes moment left old new (TornIn file at bytes))
 
   -- A call keeps what might have been left since a moment, and of two moments the earlier has all that the later has.
   pub record OnlyWidens : Type 0 where

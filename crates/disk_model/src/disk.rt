@@ -1,7 +1,7 @@
 //! The disk model: the trait `Disk`, whose clauses say what each call does and what a crash may leave.
 ghost use Rattle.std.specs.Prelude.{◌≡◌, ◌+◌, ◌≤◌, ◌↔◌, List, ℕ, length, IfOk, OnOk, take, drop};
 ghost use Rattle.disk_model.specs.declared.disk.FileId.{FileId};
-ghost use Rattle.disk_model.specs.Disk.{Files, Goes, Written, Synced, Same, Put, Called, HasCause};
+ghost use Rattle.disk_model.specs.Disk.{Files, Goes, TornIn, Synced, Same, Put, Called, HasCause};
 
 /// One of the two files of a disk.
 #[derive(Clone, Copy, Debug, PartialEq, Eq)]
@@ -19,8 +19,9 @@ pub struct DiskFault;
 
 /// Two files on a device that may stop at any moment. Places and lengths are in bytes.
 ///
-/// What is said of the files' contents is said of honest disks, those that behave as this model. That calls are safe,
-/// and that `failures` grows with each failed call and with nothing else, is said of every disk.
+/// What is said of the files' contents, and that each call counts as one, is said of honest disks, those that behave as
+/// this model. That calls are safe, and that `failures` grows with each failed call and with nothing else, is said of
+/// every disk.
 pub trait Disk {
     /// It behaves as the model says.
     ghost honest: { Self → Type 0 };
@@ -84,10 +85,10 @@ pub trait Disk {
         ensures honest { honest self.old ↔ honest self.new }
         ensures written { honest self.old
             → OnOk result (Put file at bytes.now (seen self.old) (seen self.new)) }
-        ensures range { honest self.old
-            → Written file at bytes.now (seen self.old) (seen self.new) }
+        ensures torn { honest self.old
+            → TornIn file at bytes.now (seen self.old) (seen self.new) }
         ensures crash { honest self.old
-            → Goes moment left self.old self.new (Written file at bytes.now) }
+            → Goes moment left self.old self.new (TornIn file at bytes.now) }
         ensures called { honest self.old → Called 1 (called self.old) (called self.new) }
         ensures cause { HasCause (failed self.old) (failed self.new) result };
 
@@ -100,7 +101,7 @@ pub trait Disk {
     /// these outcomes (`reads`), and no more is said of it.
     fn sync(&mut self, file: FileId) -> Result<(), DiskFault>
         ensures honest { honest self.old ↔ honest self.new }
-        ensures durable { honest self.old → OnOk result (Synced moment left seen self.new file) }
+        ensures synced { honest self.old → OnOk result (Synced moment left seen self.new file) }
         ensures seen { honest self.old → OnOk result (Same (seen self.old) (seen self.new)) }
         ensures crash { honest self.old → Goes moment left self.old self.new Same }
         ensures called { honest self.old → Called 1 (called self.old) (called self.new) }

@@ -1,6 +1,6 @@
 //! A write that is synced.
 ghost use Rattle.std.specs.Prelude.{◌+◌, ◌≤◌, ◌↔◌, length, OnOk};
-ghost use Rattle.disk_model.specs.Disk.{FromEntry, Leaves, Written, Synced, Put, Called, HasCause};
+ghost use Rattle.disk_model.specs.Disk.{FromLeft, Leaves, TornIn, Synced, Put, Called, HasCause};
 
 use crate::{Disk, DiskFault, FileId};
 
@@ -21,12 +21,12 @@ pub fn write_synced<D: Disk>(
     ensures honest { D.honest disk.old ↔ D.honest disk.new }
     ensures written { D.honest disk.old
         → OnOk result (Put file at bytes.now (D.seen disk.old) (D.seen disk.new)) }
-    ensures durable { D.honest disk.old
+    ensures synced { D.honest disk.old
         → OnOk result (Synced D.moment D.left D.seen disk.new file) }
     ensures any_moment { D.honest disk.old
-        → Leaves D.moment D.left disk.old disk.new (Written file at bytes.now) }
-    ensures range { D.honest disk.old
-        → FromEntry D.moment D.left disk.old (Written file at bytes.now) (D.seen disk.new) }
+        → Leaves D.moment D.left disk.old disk.new (TornIn file at bytes.now) }
+    ensures torn { D.honest disk.old
+        → FromLeft D.moment D.left disk.old (TornIn file at bytes.now) (D.seen disk.new) }
     ensures called { D.honest disk.old
         → OnOk result (Called 2 (D.called disk.old) (D.called disk.new)) }
     ensures calls { D.honest disk.old → D.called disk.new ≤ D.called disk.old + 2 }

@@ -2,6 +2,7 @@
 use disk_model::{Disk, DiskFault, FileId};
 use file_disk::{FileDisk, OpenError, name_of};
 use std::fs;
+use std::fs::OpenOptions;
 use std::os::unix::fs::PermissionsExt;
 use std::process::Abort;
 use std::test::Fail;
@@ -179,6 +180,18 @@ fn old_files_stay_as_long(rt: HostRuntime) -> Result<(), Fail> {
     for (path, expected) in &[("old/natgw.a", 3), ("old/natgw.b", ROOM)] {
         assert!(rt; length_of(&rt, path)? == *expected, "{path}");
     }
+    Ok(())
+}
+
+// A file that is longer than natgw writes one is taken to end there.
+#[test]
+fn long_files_end_at_the_limit(rt: HostRuntime) -> Result<(), Fail> {
+    fresh(&rt, "long")?;
+    fs::write(&rt, "long/natgw.b", b"long".as_slice())?;
+    let file = OpenOptions::new().write(true).open(&rt, "long/natgw.b")?;
+    file.set_len(67_108_865)?;
+    let mut disk = disk_of(&rt, "long")?;
+    assert!(rt; lengths(&mut disk)? == (ROOM, 67_108_864));
     Ok(())
 }
 

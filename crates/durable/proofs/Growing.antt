@@ -14,7 +14,7 @@ use Rattle.disk_model.specs.declared.disk.FileId.TheVariants.{A, B}
 use Rattle.std.specs.Prelude.{IsTrue}
 use Rattle.durable.specs.Coding.{Heading, heading_bytes, IsHeading}
 use Rattle.sessions.specs.Sound.{AreSound}
-use Rattle.durable.specs.Entering.{Durable, durable, IsDurable, BodyEnters, Changed}
+use Rattle.durable.specs.Entering.{Durable, durable, IsDurable, BodyEnters, BodiesEnter}
 use Rattle.durable.specs.Laws.{anew, IsFresh, Grows, Renews}
 use Rattle.durable.specs.Recovery.{arranged_on, arranged, begun, behind, IsHeaded, Holds, IsActive, IsOlder, IsOpen}
 
@@ -55,13 +55,13 @@ arranged_behind ss (t ∷ ts) above rises =
 in_order : (ss : List Session) → Rises ss → arranged ss ≡ ss
 in_order ss rises = arranged_behind [] ss (λ u is. absurd is) rises
 
-made : (file : List ℕ) (h : Heading) → IsFresh file h → IsHeading h → IsTrue (is_config h.config) → IsDurable h.config (begun h.kept) → Holds file h (begun h.kept) (behind h)
+made : (file : List ℕ) (h : Heading) → IsFresh file h → IsHeading h → IsTrue (is_config h.config) → IsDurable h.config (begun h.snapshot) → Holds file h (begun h.snapshot) (behind h)
 made file h fresh whole config sound =
     let rest = fresh.0 in
     let written : List ℕ = 1 ∷ (heading_bytes h ++ 0 ∷ rest) in
     let tail : drop (behind h) written ≡ 0 ∷ rest = drop_at (1 ∷ heading_bytes h) (0 ∷ rest) (behind h) (omega arith) in
     let size : behind h < length written = omega (arith, length-append (heading_bytes h) (0 ∷ rest)) in
-    let holds : Holds written h (begun h.kept) (behind h) = record {
+    let holds : Holds written h (begun h.snapshot) (behind h) = record {
       headed = record { whole = whole; config = config; front = ap (λ (l : List ℕ). 1 ∷ (heading_bytes h ++ l)) (sym tail); gated = size };
       text = sound.text;
       sound = sound.sessions;
@@ -69,7 +69,7 @@ made file h fresh whole config sound =
       groups = record { gate = 0; rest = rest; split = tail; closed = λ e. omega (arith, e); fit = λ k d lt. absurd (omega (arith, lt)); end_is = omega arith };
       changed = refl;
     } in
-    subst (λ (l : List ℕ). Holds l h (begun h.kept) (behind h)) (sym fresh.1) holds
+    subst (λ (l : List ℕ). Holds l h (begun h.snapshot) (behind h)) (sym fresh.1) holds
 
 -- behind groups stands a gate
 gate_behind : (file : List ℕ) (start end : ℕ) (bodies : List (List ℕ)) → Groups file start bodies end → start < length file
@@ -84,8 +84,8 @@ still_headed old new h end on le same gated =
     let also : take n new ≡ take n old = sym (take-take n end new le) ∙ ap (λ (l : List ℕ). take n l) same ∙ take-take n end old le in
     record { whole = on.whole; config = on.config; front = sym (take-append-drop n new) ∙ ap (λ (l : List ℕ). l ++ drop n new) (also ∙ front); gated = gated }
 
-changed_on : (config : Config) (bodies : List (List ℕ)) (body : List ℕ) (old mid new : Durable) → Changed config bodies old mid → BodyEnters config body mid new
-    → Changed config (bodies ++ body ∷ []) old new
+changed_on : (config : Config) (bodies : List (List ℕ)) (body : List ℕ) (old mid new : Durable) → BodiesEnter config bodies old mid → BodyEnters config body mid new
+    → BodiesEnter config (bodies ++ body ∷ []) old new
 changed_on config [] body old mid new is enters = (new, subst (λ (d : Durable). BodyEnters config body d new) is enters, refl)
 changed_on config (b ∷ bs) body old mid new leads enters = (leads.0, leads.1, changed_on config bs body leads.0 mid new leads.2 enters)
 
@@ -101,7 +101,7 @@ grown old new body h d e end next holds same groups enters =
       sound = holds.sound;
       bodies = holds.bodies ++ body ∷ [];
       groups = more;
-      changed = changed_on h.config holds.bodies body (begun h.kept) d e holds.changed enters;
+      changed = changed_on h.config holds.bodies body (begun h.snapshot) d e holds.changed enters;
     }
 
 extended : (old new body : List ℕ) (h : Heading) (d e : Durable) (end : ℕ) → Holds old h d end → Extended end body old new
@@ -117,7 +117,7 @@ extended old new body h d e end holds ext enters =
         sound = holds.sound;
         bodies = holds.bodies ++ body ∷ [];
         groups = more;
-        changed = changed_on h.config holds.bodies body (begun h.kept) d e holds.changed enters;
+        changed = changed_on h.config holds.bodies body (begun h.snapshot) d e holds.changed enters;
       })
     ]
 
@@ -134,14 +134,14 @@ apart : (file : FileId) → other file ≢ file
 apart A = λ e. absurd cc
 apart B = λ e. absurd cc
 
-begun_anew : (generation : ℕ) (config : Config) (d : Durable) → AreSound config d.sessions → begun (anew generation config d).kept ≡ d
+begun_anew : (generation : ℕ) (config : Config) (d : Durable) → AreSound config d.sessions → begun (anew generation config d).snapshot ≡ d
 begun_anew generation config d sound = ap (λ (ss : List Session). durable d.text ss) (in_order d.sessions sound.rises)
 
 fresh_holds : (file : List ℕ) (generation : ℕ) (config : Config) (d : Durable) → IsFresh file (anew generation config d) → IsHeading (anew generation config d) → IsTrue (is_config config)
     → IsDurable config d → Holds file (anew generation config d) d (behind (anew generation config d))
 fresh_holds file generation config d fresh whole is sound =
     let k = anew generation config d in
-    let same : begun k.kept ≡ d = begun_anew generation config d sound.sessions in
+    let same : begun k.snapshot ≡ d = begun_anew generation config d sound.sessions in
     subst (λ (x : Durable). Holds file k x (behind k)) same (made file k fresh whole is (subst (λ (x : Durable). IsDurable config x) (sym same) sound))
 
 beside : (old new : Files) (file : FileId) (h : Heading) (d : Durable) (end : ℕ) → IsActive old file h d end → new file ≡ old file

@@ -12,7 +12,7 @@ use Rattle.durable.specs.Reading.{heading_at}
 use Rattle.durable.specs.Entering.{Durable, IsDurable}
 use Rattle.durable.specs.Laws.{RecoversOnce}
 use Rattle.durable.specs.Leading.{StateLeads}
-use Rattle.durable.specs.Recovery.{Active, Finds, Holds, IsActive, IsFound, IsHeaded, IsOlder, IsOpen, NoneOpen, Recovers, begun, behind}
+use Rattle.durable.specs.Recovery.{Found, Finds, Holds, IsActive, IsFound, IsHeaded, IsOlder, IsOpen, NoneOpen, Recovers, begun, behind}
 use Rattle.durable.proofs.Coded.{once}
 use Rattle.durable.proofs.StoredValues.{coded-heading}
 use Rattle.durable.proofs.Leads.{lead_once}
@@ -90,7 +90,7 @@ same_end file h d e end other first second =
     let two = leads_of file h e other second in
     let tail = first.groups.gate ∷ first.groups.rest in
     let back = second.groups.gate ∷ second.groups.rest in
-    let same = lead_once h.config (drop (behind h) file) (begun h.kept) d e tail back one.groups two.groups in
+    let same = lead_once h.config (drop (behind h) file) (begun h.snapshot) d e tail back one.groups two.groups in
     let sizes : length (open_groups first.bodies) + length tail ≡ length (open_groups second.bodies) + length back =
     sym (length-append (open_groups first.bodies) tail) ∙ ap length (sym first.groups.split ∙ second.groups.split) ∙ length-append (open_groups second.bodies) back in
     (same.0, omega (arith, sizes, ap length same.1, first.groups.end_is, second.groups.end_is))
@@ -169,7 +169,7 @@ refused_by files B A h k d end on none older active = omega (arith, older_than (
 
 -- this file is open and holds no state, and the other one is closed or older
 pub refused : (files : Files) (f : FileId) (h : Heading) → IsHeaded (files f) h → ((e : Durable) (n : ℕ) → Holds (files f) h e n → ⊥)
-    → IsOlder h.generation (files (other f)) → (found : Option Active) → Finds files found → ⊥
+    → IsOlder h.generation (files (other f)) → (found : Option Found) → Finds files found → ⊥
 refused files f h on none older None finds = none_headed files f h finds on
 refused files f h on none older (Some x) finds = refused_by files f x.file h finds.heading x.state x.end on none older finds.active
 
@@ -184,7 +184,7 @@ equal_by files B h k y d end on also le ge active =
 
 -- both are open with one generation
 pub equal_refused : (files : Files) (h k : Heading) → IsHeaded (files A) h → IsHeaded (files B) k → h.generation ≤ k.generation → k.generation ≤ h.generation
-    → (found : Option Active) → Finds files found → ⊥
+    → (found : Option Found) → Finds files found → ⊥
 equal_refused files h k on also le ge None finds = none_headed files A h finds on
 equal_refused files h k on also le ge (Some x) finds = equal_by files x.file h k finds.heading x.state x.end on also le ge finds.active
 
@@ -199,15 +199,15 @@ none_here files A none = none.0
 none_here files B none = none.1
 
 -- a file is open, and has no heading
-pub headless : (files : Files) (f : FileId) → IsOpen (files f) → ((h : Heading) → IsHeaded (files f) h → ⊥) → (found : Option Active) → Finds files found → ⊥
+pub headless : (files : Files) (f : FileId) → IsOpen (files f) → ((h : Heading) → IsHeaded (files f) h → ⊥) → (found : Option Found) → Finds files found → ⊥
 headless files f open_so none None finds = none_here files f finds open_so
 headless files f open_so none (Some x) finds = headless_by files f x.file finds.heading x.state x.end open_so none finds.active
 
 -- ---- what is found is known
 
-same_active : (x y : Active) → x.file ≡ y.file → x.generation ≡ y.generation → x.config ≡ y.config → x.state ≡ y.state → x.start ≡ y.start → x.end ≡ y.end → x ≡ y
+same_active : (x y : Found) → x.file ≡ y.file → x.generation ≡ y.generation → x.config ≡ y.config → x.state ≡ y.state → x.start ≡ y.start → x.end ≡ y.end → x ≡ y
 same_active x y f g c d s e =
-    let made : FileId → ℕ → Config → Durable → ℕ → ℕ → Active = λ f g c d s e. record { file = f; generation = g; config = c; state = d; start = s; end = e } in
+    let made : FileId → ℕ → Config → Durable → ℕ → ℕ → Found = λ f g c d s e. record { file = f; generation = g; config = c; state = d; start = s; end = e } in
     ap (λ z. made z x.generation x.config x.state x.start x.end) f
     ∙ ap (λ z. made y.file z x.config x.state x.start x.end) g
     ∙ ap (λ z. made y.file y.generation z x.state x.start x.end) c
@@ -215,7 +215,7 @@ same_active x y f g c d s e =
     ∙ ap (λ z. made y.file y.generation y.config y.state z x.end) s
     ∙ ap (λ z. made y.file y.generation y.config y.state y.start z) e
 
-found_by : (files : Files) (x y : Active) → IsFound files x → IsFound files y → x ≡ y
+found_by : (files : Files) (x y : Found) → IsFound files x → IsFound files y → x ≡ y
 found_by files x y first second =
     let same = active_once files x.file y.file first.heading second.heading x.state y.state x.end y.end first.active second.active in
     same_active x y same.0
@@ -225,7 +225,7 @@ found_by files x y first second =
     (first.start ∙ ap (λ (h : Heading). behind h) same.1 ∙ sym second.start)
     same.3
 
-pub found_once : (files : Files) (x y : Option Active) → Finds files x → Finds files y → x ≡ y
+pub found_once : (files : Files) (x y : Option Found) → Finds files x → Finds files y → x ≡ y
 found_once files None None first second = refl
 found_once files None (Some y) first second = absurd (none_active files y.file second.heading y.state y.end first second.active)
 found_once files (Some x) None first second = absurd (none_active files x.file first.heading x.state x.end second first.active)
@@ -249,7 +249,7 @@ same_recovers old new d same (inr (f, h, end, active)) = inr (
 )
 
 holds_durable : (file : List ℕ) (h : Heading) (d : Durable) (end : ℕ) → Holds file h d end → IsDurable h.config d
-holds_durable file h d end holds = bodies_durable h.config holds.bodies (begun h.kept) d holds.changed (record { text = holds.text; sessions = holds.sound })
+holds_durable file h d end holds = bodies_durable h.config holds.bodies (begun h.snapshot) d holds.changed (record { text = holds.text; sessions = holds.sound })
 
 pub recovers_once : RecoversOnce
 recovers_once = record {

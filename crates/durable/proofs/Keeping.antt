@@ -14,7 +14,7 @@ use Rattle.sessions.proofs.Sets.{In-filter, Rises-filter, below-keys}
 use Rattle.sessions.proofs.Puts.{has_inside-true}
 use Rattle.durable.specs.declared.entry.Flow.{Flow}
 use Rattle.durable.specs.Coding.{Entry, Load, Begin, Seen, Restart, End, IsEntry, AreEntries}
-use Rattle.durable.specs.Entering.{Durable, IsDurable, is_of, changed, ended, seen_so, begun_anew, entered, Admits, Enters, Changed}
+use Rattle.durable.specs.Entering.{Durable, IsDurable, is_of, changed, ended, seen_so, entered, Admits, Enters, BodiesEnter}
 use Rattle.durable.specs.Laws.{KeepsDurable}
 
 -- a list of sessions, each of them changed
@@ -37,12 +37,12 @@ Rises-map h same (s ∷ ss) rises = (
 
 -- a session that changes in its opener and in what was seen alone
 abbrev pub Amends : (Session → Session) → Type 0
-Amends g = (s : Session) → (o : Opener) × (b : ℕ) × (g s ≡ amended s o b)
+Amends g = (s : Session) → (o : Opener) × (b : ℕ) × (g s ≡ amended o b s)
 
 pub amends-seen : (seen : ℕ) → Amends (seen_so seen)
 amends-seen seen s = (s.opener, seen, refl)
 
-pub amends-anew : (opener : Opener) (seen : ℕ) → Amends (begun_anew opener seen)
+pub amends-anew : (opener : Opener) (seen : ℕ) → Amends (amended opener seen)
 amends-anew opener seen s = (opener, seen, refl)
 
 -- the change of one flow
@@ -62,7 +62,7 @@ same_clash : (h : Session → Session) → Amends h → (s t : Session) → Clas
 same_clash h amends s t clash =
     let a = amends s in
     let b = amends t in
-    subst (λ (x : Session). Clash x (amended t b.0 b.1)) a.2 (subst (λ (x : Session). Clash (h s) x) b.2 clash)
+    subst (λ (x : Session). Clash x (amended b.0 b.1 t)) a.2 (subst (λ (x : Session). Clash (h s) x) b.2 clash)
 
 same_placed : (h : Session → Session) → Amends h → (config : Config) (s : Session) → IsPlaced config s → IsPlaced config (h s)
 same_placed h amends config s is =
@@ -100,11 +100,11 @@ module _ (f : Flow) (seen : ℕ) (bits : IsSeen f.proto seen) where
       ])
       ss
 
-  pub sound-anew : (config : Config) (opener : Opener) (ss : List Session) → AreSound config ss → AreSound config (changed f (begun_anew opener seen) ss)
-  sound-anew config opener ss = sound-map config (changes f (begun_anew opener seen)) (amends-one f (begun_anew opener seen) (amends-anew opener seen))
+  pub sound-anew : (config : Config) (opener : Opener) (ss : List Session) → AreSound config ss → AreSound config (changed f (amended opener seen) ss)
+  sound-anew config opener ss = sound-map config (changes f (amended opener seen)) (amends-one f (amended opener seen) (amends-anew opener seen))
       (λ s was. elim (cases_Bool (is_of f s)) [
-        | inl yes_of ↦ subst (λ (b : Bool). IsSeen (cond b (begun_anew opener seen s) s).proto (cond b (begun_anew opener seen s) s).seen) (sym yes_of) (fits s yes_of)
-        | inr no_of ↦ subst (λ (b : Bool). IsSeen (cond b (begun_anew opener seen s) s).proto (cond b (begun_anew opener seen s) s).seen) (sym no_of) was
+        | inl yes_of ↦ subst (λ (b : Bool). IsSeen (cond b (amended opener seen s) s).proto (cond b (amended opener seen s) s).seen) (sym yes_of) (fits s yes_of)
+        | inr no_of ↦ subst (λ (b : Bool). IsSeen (cond b (amended opener seen s) s).proto (cond b (amended opener seen s) s).seen) (sym no_of) was
       ])
       ss
 
@@ -139,7 +139,7 @@ module _ (config : Config) where
   entries_durable [] old new are enters was = subst (λ (d : Durable). IsDurable config d) (sym enters) was
   entries_durable (e ∷ es) old new are enters was = entries_durable es (entered e old) new are.1 enters.1 (entry_durable e old are.0 enters.0 was)
 
-  pub bodies_durable : (bodies : List (List ℕ)) (old new : Durable) → Changed config bodies old new → IsDurable config old → IsDurable config new
+  pub bodies_durable : (bodies : List (List ℕ)) (old new : Durable) → BodiesEnter config bodies old new → IsDurable config old → IsDurable config new
   bodies_durable [] old new is was = subst (λ (d : Durable). IsDurable config d) (sym is) was
   bodies_durable (b ∷ bs) old new (mid, (es, are, is, enters), leads) was = bodies_durable bs mid new leads (entries_durable es old mid are enters was)
 

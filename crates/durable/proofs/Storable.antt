@@ -1,10 +1,9 @@
 -- A state that files stand for can be written, has no moments, and is one that a gateway may have.
-use Rattle.std.proofs.Common.{◌≡◌, ◌⊎◌, inl, inr, ⊎_elim, ℕ, ◌<◌, ◌≤◌, ◌^◌, List, [], ◌∷◌, length, refl, sym, ◌∙◌, ap, subst, arith, not}
+use Rattle.std.proofs.Common.{◌≡◌, ◌⊎◌, inl, inr, ⊎_elim, ℕ, ◌<◌, ◌^◌, List, [], ◌∷◌, length, refl, sym, ◌∙◌, subst, arith, not}
 use Rattle.std.specs.List.{AllByRecursion}
 use Rattle.packet.specs.Config.{Config}
 use Rattle.disk_model.specs.Disk.{Files}
 use Rattle.disk_model.specs.declared.disk.FileId.{FileId}
-use Rattle.sessions.specs.Life.{IsSeen}
 use Rattle.sessions.specs.Listing.{In, insert}
 use Rattle.sessions.specs.Sound.{AreSound}
 use Rattle.sessions.specs.Table.{amended}
@@ -13,8 +12,8 @@ use Rattle.sessions.specs.declared.session.Session.{Session}
 use Rattle.sessions.proofs.Sets.{In-insert, In-filter}
 use Rattle.durable.specs.declared.entry.Flow.{Flow}
 use Rattle.packet.specs.Numbers.{IsEndpoint}
-use Rattle.durable.specs.Coding.{Heading, Kept, Entry, Load, Begin, Seen, Restart, End, IsEntry, AreEntries, IsSession, IsKept}
-use Rattle.durable.specs.Entering.{Durable, IsDurable, empty, is_of, seen_so, begun_anew, changed, ended, entered, Enters, BodyEnters, Changed}
+use Rattle.durable.specs.Coding.{Heading, Snapshot, Entry, Load, Begin, Seen, Restart, End, IsEntry, AreEntries, IsSession, IsSnapshot}
+use Rattle.durable.specs.Entering.{Durable, IsDurable, empty, is_of, seen_so, changed, entered, Enters, BodiesEnter}
 use Rattle.durable.specs.Laws.{RecoversSound}
 use Rattle.durable.specs.Recovery.{IsActive, IsConfigured, Recovers, arranged_on, begun}
 use Rattle.durable.proofs.Keeping.{In-map, Amends, changes, amends-one, amends-seen, amends-anew}
@@ -47,7 +46,7 @@ bare_changed f g amends ss all t is =
     let old = In-map (changes f g) ss t is in
     let a = amends-one f g amends old.0 in
     let was = all old.0 old.1 in
-    let made : IsBare (amended old.0 a.0 a.1) = record { inside = was.inside; outside = was.outside; remote = was.remote; last = was.last } in
+    let made : IsBare (amended a.0 a.1 old.0) = record { inside = was.inside; outside = was.outside; remote = was.remote; last = was.last } in
     subst IsBare (sym (old.2 ∙ a.2)) made
 
 coded_entry : (e : Entry) (d : Durable) → IsEntry e → Coded d → Coded (entered e d)
@@ -55,14 +54,14 @@ unfolding AreBare
 coded_entry (Load text) d is was = record { text = is; bare = was.bare }
 coded_entry (Begin s) d is was = record { text = was.text; bare = bare_insert s d.sessions (bare_of s is) was.bare }
 coded_entry (Seen f seen) d is was = record { text = was.text; bare = bare_changed f (seen_so seen) (amends-seen seen) d.sessions was.bare }
-coded_entry (Restart f opener seen) d is was = record { text = was.text; bare = bare_changed f (begun_anew opener seen) (amends-anew opener seen) d.sessions was.bare }
+coded_entry (Restart f opener seen) d is was = record { text = was.text; bare = bare_changed f (amended opener seen) (amends-anew opener seen) d.sessions was.bare }
 coded_entry (End f) d is was = record { text = was.text; bare = λ t still. was.bare t (In-filter (λ s. not (is_of f s)) d.sessions t still).0 }
 
 coded_entries : (config : Config) (es : List Entry) (old new : Durable) → AreEntries es → Enters config es old new → Coded old → Coded new
 coded_entries config [] old new are enters was = subst Coded (sym enters) was
 coded_entries config (e ∷ es) old new are enters was = coded_entries config es (entered e old) new are.1 enters.1 (coded_entry e old are.0 was)
 
-coded_bodies : (config : Config) (bodies : List (List ℕ)) (old new : Durable) → Changed config bodies old new → Coded old → Coded new
+coded_bodies : (config : Config) (bodies : List (List ℕ)) (old new : Durable) → BodiesEnter config bodies old new → Coded old → Coded new
 coded_bodies config [] old new leads was = subst Coded (sym leads) was
 coded_bodies config (body ∷ bodies) old new leads was =
     let first = leads.1 in
@@ -72,7 +71,7 @@ bare_arranged : (ss ts : List Session) → AreBare ss → AllByRecursion IsSessi
 bare_arranged ss [] all are = all
 bare_arranged ss (t ∷ ts) all are = bare_arranged (insert t ss) ts (bare_insert t ss (bare_of t are.0) all) are.1
 
-coded_begun : (k : Kept) → IsKept k → Coded (begun k)
+coded_begun : (k : Snapshot) → IsSnapshot k → Coded (begun k)
 unfolding AreBare
 coded_begun k is = record { text = is.text; bare = bare_arranged [] k.sessions (λ s in_none. absurd in_none) is.sessions }
 
@@ -83,9 +82,9 @@ all_sessions (s ∷ ss) each = (each s (inl refl), all_sessions ss (λ t is. eac
 coded_active : (files : Files) (f : FileId) (h : Heading) (d : Durable) (end : ℕ) → IsActive files f h d end → Coded d
 coded_active files f h d end active =
     let holds = active.0 in
-    coded_bodies h.config holds.bodies (begun h.kept) d holds.changed (coded_begun h.kept holds.headed.whole.kept)
+    coded_bodies h.config holds.bodies (begun h.snapshot) d holds.changed (coded_begun h.snapshot holds.headed.whole.snapshot)
 
-kept_by : (config : Config) (d : Durable) → Coded d → AreSound config d.sessions → IsKept (record { text = d.text; sessions = d.sessions })
+kept_by : (config : Config) (d : Durable) → Coded d → AreSound config d.sessions → IsSnapshot (record { text = d.text; sessions = d.sessions })
 unfolding AreBare
 kept_by config d coded sound = record {
   text = coded.text;
@@ -96,7 +95,7 @@ kept_by config d coded sound = record {
 }
 
 -- the state of an active file can stand in a snapshot
-pub active_kept : (files : Files) (f : FileId) (h : Heading) (d : Durable) (end : ℕ) → IsActive files f h d end → IsKept (record { text = d.text; sessions = d.sessions })
+pub active_kept : (files : Files) (f : FileId) (h : Heading) (d : Durable) (end : ℕ) → IsActive files f h d end → IsSnapshot (record { text = d.text; sessions = d.sessions })
 active_kept files f h d end active = kept_by h.config d (coded_active files f h d end active) (recovers_once.sound files f h d end active).sessions
 
 pub empty_durable : (config : Config) → IsDurable config empty

@@ -6,8 +6,8 @@ use Rattle.byteorder.specs.Endian.{big_bytes}
 use Rattle.packet.specs.declared.endpoint.Prefix.{Prefix}
 use Rattle.packet.specs.Config.{Config}
 use Rattle.sessions.specs.declared.session.Session.{Session}
-use Rattle.durable.specs.Coding.{Kept, Heading, text_bytes, list_bytes, session_bytes, prefix_bytes, config_bytes, snapshot_bytes, heading_bytes, mark, IsSession, IsPrefix, IsCodedConfig, IsKept, IsHeading}
-use Rattle.durable.specs.Reading.{both, byte_at, number_at, text_at, session_at, prefix_from, prefix_at, prefixes_at, sessions_at, ConfigParts, config_from, config_at, kept_from, snapshot_at, mark_from, mark_at, HeadingParts, heading_from, heading_at}
+use Rattle.durable.specs.Coding.{Snapshot, Heading, text_bytes, list_bytes, session_bytes, prefix_bytes, config_bytes, snapshot_bytes, heading_bytes, mark, IsSession, IsPrefix, IsCodedConfig, IsSnapshot, IsHeading}
+use Rattle.durable.specs.Reading.{both, byte_at, number_at, text_at, session_at, prefix_from, prefix_at, prefixes_at, sessions_at, ConfigParts, config_from, config_at, snapshot_from, snapshot_at, mark_from, mark_at, HeadingParts, heading_from, heading_at}
 use Rattle.durable.proofs.Coded.{Coded, some_is, guard_some, coded-chosen}
 use Rattle.durable.proofs.Widths.{coded-byte, coded-number, coded-text, coded-list, width1, width4, width8}
 use Rattle.durable.proofs.Values.{Any, coded-pair, coded-session}
@@ -53,16 +53,16 @@ coded-config =
 abbrev KeptFits : List ℕ × List Session → Type 0
 KeptFits p = (length p.0 < 256 ^ 4) × ((length p.1 < 256 ^ 4) × AllByRecursion IsSession p.1)
 
-kept_back : (p : List ℕ × List Session) (k : Kept) → KeptFits p → kept_from p ≡ Some k → (p ≡ (k.text, k.sessions)) × IsKept k
+kept_back : (p : List ℕ × List Session) (k : Snapshot) → KeptFits p → snapshot_from p ≡ Some k → (p ≡ (k.text, k.sessions)) × IsSnapshot k
 kept_back p k is h =
-    let made : Kept = record { text = p.0; sessions = p.1 } in
-    subst (λ (y : Kept). (p ≡ (y.text, y.sessions)) × IsKept y) (some_is made k h) (refl, record { text = is.0; count = is.1.0; sessions = is.1.1 })
+    let made : Snapshot = record { text = p.0; sessions = p.1 } in
+    subst (λ (y : Snapshot). (p ≡ (y.text, y.sessions)) × IsSnapshot y) (some_is made k h) (refl, record { text = is.0; count = is.1.0; sessions = is.1.1 })
 
-pub coded-snapshot : Coded IsKept snapshot_bytes snapshot_at
+pub coded-snapshot : Coded IsSnapshot snapshot_bytes snapshot_at
 unfolding snapshot_at snapshot_bytes
 coded-snapshot =
     coded-chosen KeptFits (λ p. text_bytes 4 p.0 ++ list_bytes 4 session_bytes p.1) (both (text_at 4) (λ _. sessions_at))
-    IsKept kept_from (λ k. (k.text, k.sessions)) (λ k is. (refl, (is.text, (is.count, is.sessions)))) (λ p k is h. kept_back p k is h)
+    IsSnapshot snapshot_from (λ k. (k.text, k.sessions)) (λ k is. (refl, (is.text, (is.count, is.sessions)))) (λ p k is h. kept_back p k is h)
     (coded-pair (coded-text 4 width4) coded-sessions)
 
 mark_there : (x : Unit {0}) → Any x → (mark_from 0x4e475731 ≡ Some x) × (0x4e475731 < 256 ^ 4)
@@ -78,17 +78,17 @@ unfolding mark_at
 coded-mark = coded-chosen (λ n. n < 256 ^ 4) (big_bytes 4) (number_at 4) Any mark_from (λ _. 0x4e475731) mark_there mark_back (coded-number 4 width4)
 
 abbrev HeadingFits : HeadingParts → Type 0
-HeadingFits p = Any p.0 × ((p.1.0 < 256 ^ 8) × (IsCodedConfig p.1.1.0 × IsKept p.1.1.1))
+HeadingFits p = Any p.0 × ((p.1.0 < 256 ^ 8) × (IsCodedConfig p.1.1.0 × IsSnapshot p.1.1.1))
 
-heading_back : (p : HeadingParts) (x : Heading) → HeadingFits p → heading_from p ≡ Some x → (p ≡ (tt, (x.generation, (x.config, x.kept)))) × IsHeading x
+heading_back : (p : HeadingParts) (x : Heading) → HeadingFits p → heading_from p ≡ Some x → (p ≡ (tt, (x.generation, (x.config, x.snapshot)))) × IsHeading x
 heading_back p x is h =
-    let made : Heading = record { generation = p.1.0; config = p.1.1.0; kept = p.1.1.1 } in
-    subst (λ (y : Heading). (p ≡ (tt, (y.generation, (y.config, y.kept)))) × IsHeading y) (some_is made x h) (refl, record { generation = is.1.0; config = is.1.1.0; kept = is.1.1.1 })
+    let made : Heading = record { generation = p.1.0; config = p.1.1.0; snapshot = p.1.1.1 } in
+    subst (λ (y : Heading). (p ≡ (tt, (y.generation, (y.config, y.snapshot)))) × IsHeading y) (some_is made x h) (refl, record { generation = is.1.0; config = is.1.1.0; snapshot = is.1.1.1 })
 
 pub coded-heading : Coded IsHeading heading_bytes heading_at
 unfolding heading_at heading_bytes
 coded-heading =
     coded-chosen HeadingFits (λ p. mark ++ (big_bytes 8 p.1.0 ++ (config_bytes p.1.1.0 ++ snapshot_bytes p.1.1.1)))
     (both mark_at (λ _. both (number_at 8) (λ _. both config_at (λ _. snapshot_at))))
-    IsHeading heading_from (λ x. (tt, (x.generation, (x.config, x.kept)))) (λ x is. (refl, (tt, (is.generation, (is.config, is.kept))))) (λ p x is h. heading_back p x is h)
+    IsHeading heading_from (λ x. (tt, (x.generation, (x.config, x.snapshot)))) (λ x is. (refl, (tt, (is.generation, (is.config, is.snapshot))))) (λ p x is h. heading_back p x is h)
     (coded-pair coded-mark (coded-pair (coded-number 8 width8) (coded-pair coded-config coded-snapshot)))

@@ -64,11 +64,11 @@ config_bytes c = text_bytes 1 c.lan
     ++ (text_bytes 1 c.wan ++ (list_bytes 1 prefix_bytes c.inside ++ big_bytes 4 c.external))
 
 -- a text, and sessions in some order
-pub record Kept : Type 0 where
+pub record Snapshot : Type 0 where
   pub text : List ℕ
   pub sessions : List Session
 
-unfoldable pub snapshot_bytes : Kept → List ℕ
+unfoldable pub snapshot_bytes : Snapshot → List ℕ
 snapshot_bytes k = text_bytes 4 k.text ++ list_bytes 4 session_bytes k.sessions
 
 -- NGW1
@@ -79,11 +79,11 @@ mark = 0x4e ∷ 0x47 ∷ 0x57 ∷ 0x31 ∷ []
 pub record Heading : Type 0 where
   pub generation : ℕ
   pub config : Config
-  pub kept : Kept
+  pub snapshot : Snapshot
 
 unfoldable pub heading_bytes : Heading → List ℕ
 heading_bytes h =
-    mark ++ (big_bytes 8 h.generation ++ (config_bytes h.config ++ snapshot_bytes h.kept))
+    mark ++ (big_bytes 8 h.generation ++ (config_bytes h.config ++ snapshot_bytes h.snapshot))
 
 -- Which values have a code: an endpoint by `IsEndpoint`, and these.
 
@@ -119,7 +119,7 @@ pub record IsCodedConfig (c : Config) : Type 0 where
   pub inside : AllByRecursion IsPrefix c.inside
   pub external : c.external < 2 ^ 32
 
-pub record IsKept (k : Kept) : Type 0 where
+pub record IsSnapshot (k : Snapshot) : Type 0 where
   pub text : length k.text < 2 ^ 32
   pub count : length k.sessions < 2 ^ 32
   pub sessions : AllByRecursion IsSession k.sessions
@@ -127,7 +127,7 @@ pub record IsKept (k : Kept) : Type 0 where
 pub record IsHeading (h : Heading) : Type 0 where
   pub generation : h.generation < 2 ^ 64
   pub config : IsCodedConfig h.config
-  pub kept : IsKept h.kept
+  pub snapshot : IsSnapshot h.snapshot
 
 module _ {X : Type 0} (Is : X → Type 0) (code : X → List ℕ) where
   -- the front of the bytes is the code of this value, and behind it stands this rest

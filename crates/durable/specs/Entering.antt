@@ -6,8 +6,8 @@ use Rattle.ruletree.specs.declared.tree.Spelled.{Spelled}
 use Rattle.ruletext.specs.Texts.{Loads}
 use Rattle.sessions.specs.Listing.{In, has_inside, insert}
 use Rattle.sessions.specs.Sound.{AreSound}
+use Rattle.sessions.specs.Table.{amended}
 use Rattle.sessions.specs.declared.session.Session.{Session}
-use Rattle.sessions.specs.declared.session.Opener.{Opener}
 use Rattle.durable.specs.declared.entry.Flow.{Flow}
 use Rattle.durable.specs.Coding.{Entry, Load, Begin, Seen, Restart, End, AreEntries, body_bytes}
 
@@ -46,11 +46,9 @@ changed flow change sessions = map (λ s. if is_of flow s then change s else s) 
 abbrev pub ended : Flow → List Session → List Session
 ended flow sessions = filter (λ s. not (is_of flow s)) sessions
 
+-- the session with just these bits seen
 abbrev pub seen_so : ℕ → Session → Session
 seen_so seen s = record s { seen = seen }
-
-abbrev pub begun_anew : Opener → ℕ → Session → Session
-begun_anew opener seen s = record s { opener = opener; seen = seen }
 
 -- the state behind an entry that fits
 abbrev pub entered : Entry → Durable → Durable
@@ -58,7 +56,7 @@ entered (Load text) d = durable text d.sessions
 entered (Begin s) d = durable d.text (insert s d.sessions)
 entered (Seen flow seen) d = durable d.text (changed flow (seen_so seen) d.sessions)
 entered (Restart flow opener seen) d =
-    durable d.text (changed flow (begun_anew opener seen) d.sessions)
+    durable d.text (changed flow (amended opener seen) d.sessions)
 entered (End flow) d = durable d.text (ended flow d.sessions)
 
 -- the state is one that a gateway with this configuration may have
@@ -86,7 +84,7 @@ module _ (config : Config) where
       × Enters es old new
 
   -- and those of bodies, in order
-  abbrev pub Changed : List (List ℕ) → Durable → Durable → Type 0
-  Changed [] old new = new ≡ old
-  Changed (body ∷ bodies) old new = (mid : Durable) × BodyEnters body old mid
-      × Changed bodies mid new
+  abbrev pub BodiesEnter : List (List ℕ) → Durable → Durable → Type 0
+  BodiesEnter [] old new = new ≡ old
+  BodiesEnter (body ∷ bodies) old new = (mid : Durable) × BodyEnters body old mid
+      × BodiesEnter bodies mid new

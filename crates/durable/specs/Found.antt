@@ -1,4 +1,4 @@
--- What was found in files, without where it lies in memory.
+-- What was found in files (`Found` of specs/Recovery), without where it lies in memory.
 use Rattle.std.specs.Prelude.{◌≡◌, ℕ, List, drop, Option, Some, None}
 use Rattle.std.specs.Borrow.{Bor}
 use Rattle.disk_model.specs.declared.disk.FileId.{FileId}
@@ -6,13 +6,13 @@ use Rattle.durable.specs.declared.recovery.Headed as headed
 use Rattle.durable.specs.declared.recovery.Recovered as recovered
 use Rattle.durable.specs.Coding.{Heading}
 use Rattle.durable.specs.Entering.{Durable, durable}
-use Rattle.durable.specs.Recovery.{Active, IsOpen, IsHeaded, Holds, behind}
+use Rattle.durable.specs.Recovery.{Found, IsOpen, IsHeaded, Holds, behind}
 use Rattle.durable.specs.Viewing.{headed_view}
 
 abbrev pub state_view : recovered.Recovered → Durable
 state_view x = durable x.text.now x.sessions.items
 
-abbrev pub found_view : Option recovered.Recovered → Option Active
+abbrev pub found_view : Option recovered.Recovered → Option Found
 found_view None = None
 found_view (Some x) = Some (record {
   file = x.file;

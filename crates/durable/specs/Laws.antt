@@ -66,7 +66,7 @@ anew generation config d =
     record {
       generation = generation;
       config = config;
-      kept = record { text = d.text; sessions = d.sessions };
+      snapshot = record { text = d.text; sessions = d.sessions };
     }
 
 -- a file that was just made: open, with its heading and a closed gate behind it
@@ -78,7 +78,7 @@ IsFresh file h = (rest : List ℕ) × (file ≡ 1 ∷ (heading_bytes h ++ 0 ∷ 
 pub record Grows : Type 0 where
   pub made : (file : List ℕ) (h : Heading) → IsFresh file h → IsHeading h
       → IsTrue (is_config h.config)
-      → IsDurable h.config (begun h.kept) → Holds file h (begun h.kept) (behind h)
+      → IsDurable h.config (begun h.snapshot) → Holds file h (begun h.snapshot) (behind h)
   pub grown : (old new body : List ℕ) (h : Heading) (d e : Durable) (end next : ℕ)
       → Holds old h d end
       → take end new ≡ take end old

@@ -14,7 +14,7 @@ use Rattle.sessions.specs.Life.{most_seen}
 use Rattle.durable.specs.declared.entry.Flow.{Flow}
 use Rattle.durable.specs.declared.fault.DurableFault.{DurableFault}
 use Rattle.durable.specs.declared.fault.DurableFault.TheVariants.{Damaged, NoMemory}
-use Rattle.durable.specs.Coding.{Entry, Load, Begin, Seen, Restart, End, Kept, Heading}
+use Rattle.durable.specs.Coding.{Entry, Load, Begin, Seen, Restart, End, Snapshot, Heading}
 
 infixl 10 ◌>>=◌
 abbrev pub ◌>>=◌ : {A B : Type 0} → Option A → (A → Option B) → Option B
@@ -67,7 +67,7 @@ front_at n bytes = if nat_lt (length bytes) n then None else Some (take n bytes,
 unfoldable pub text_at : ℕ → Reader (List ℕ)
 text_at width = chosen (λ p. Some p.1) (both (number_at width) (λ n. front_at n))
 
--- the other way round
+-- `proto_number` and `opener_code`, the other way round
 abbrev pub proto_of : ℕ → Option Proto
 proto_of n = if n == 6 then Some Tcp else (if n == 17 then Some Udp else None)
 
@@ -167,11 +167,11 @@ config_at =
     chosen config_from (both (text_at 1) (λ _. both (text_at 1)
     (λ _. both prefixes_at (λ _. number_at 4))))
 
-abbrev pub kept_from : List ℕ × List Session → Option Kept
-kept_from p = Some (record { text = p.0; sessions = p.1 })
+abbrev pub snapshot_from : List ℕ × List Session → Option Snapshot
+snapshot_from p = Some (record { text = p.0; sessions = p.1 })
 
-unfoldable pub snapshot_at : Reader Kept
-snapshot_at = chosen kept_from (both (text_at 4) (λ _. sessions_at))
+unfoldable pub snapshot_at : Reader Snapshot
+snapshot_at = chosen snapshot_from (both (text_at 4) (λ _. sessions_at))
 
 abbrev pub mark_from : ℕ → Option (Unit {0})
 mark_from n = if n == 0x4e475731 then Some tt else None
@@ -180,10 +180,10 @@ unfoldable pub mark_at : Reader (Unit {0})
 mark_at = chosen mark_from (number_at 4)
 
 abbrev pub HeadingParts : Type 0
-HeadingParts = Unit {0} × (ℕ × (Config × Kept))
+HeadingParts = Unit {0} × (ℕ × (Config × Snapshot))
 
 abbrev pub heading_from : HeadingParts → Option Heading
-heading_from p = Some (record { generation = p.1.0; config = p.1.1.0; kept = p.1.1.1 })
+heading_from p = Some (record { generation = p.1.0; config = p.1.1.0; snapshot = p.1.1.1 })
 
 unfoldable pub heading_at : Reader Heading
 heading_at =

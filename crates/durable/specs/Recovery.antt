@@ -8,8 +8,8 @@ use Rattle.disk_model.specs.Disk.{Files, other}
 use Rattle.disk_model.specs.declared.disk.FileId.{FileId}
 use Rattle.disk_model.specs.declared.disk.FileId.TheVariants.{A, B}
 use Rattle.journal.specs.Groups.{Groups}
-use Rattle.durable.specs.Coding.{Kept, Heading, heading_bytes, IsHeading}
-use Rattle.durable.specs.Entering.{Durable, durable, empty, IsRuleset, Changed}
+use Rattle.durable.specs.Coding.{Snapshot, Heading, heading_bytes, IsHeading}
+use Rattle.durable.specs.Entering.{Durable, durable, empty, IsRuleset, BodiesEnter}
 
 -- these sessions, and those, each put in its place
 abbrev pub arranged_on : List Session → List Session → List Session
@@ -21,7 +21,7 @@ abbrev pub arranged : List Session → List Session
 arranged ts = arranged_on [] ts
 
 -- the state of a snapshot
-abbrev pub begun : Kept → Durable
+abbrev pub begun : Snapshot → Durable
 begun k = durable k.text (arranged k.sessions)
 
 -- the file gate is open
@@ -43,11 +43,11 @@ pub record IsHeaded (file : List ℕ) (h : Heading) : Type 0 where
 -- end.
 pub record Holds (file : List ℕ) (h : Heading) (d : Durable) (end : ℕ) : Type 0 where
   pub headed : IsHeaded file h
-  pub text : IsRuleset h.config h.kept.text
-  pub sound : AreSound h.config (arranged h.kept.sessions)
+  pub text : IsRuleset h.config h.snapshot.text
+  pub sound : AreSound h.config (arranged h.snapshot.sessions)
   pub bodies : List (List ℕ)
   pub groups : Groups file (behind h) bodies end
-  pub changed : Changed h.config bodies (begun h.kept) d
+  pub changed : BodiesEnter h.config bodies (begun h.snapshot) d
 
 -- a file that is closed, or whole in front and older than this generation
 abbrev pub IsOlder : ℕ → List ℕ → Type 0
@@ -77,7 +77,7 @@ IsConfigured config files = (file : FileId) (h : Heading) (d : Durable) (end : �
 
 -- What is known of the active file: its generation and its configuration, its state, where its heading ends, and
 -- where the closed gate behind its groups stands.
-pub record Active : Type 0 where
+pub record Found : Type 0 where
   pub file : FileId
   pub generation : ℕ
   pub config : Config
@@ -85,7 +85,7 @@ pub record Active : Type 0 where
   pub start : ℕ
   pub end : ℕ
 
-pub record IsFound (files : Files) (x : Active) : Type 0 where
+pub record IsFound (files : Files) (x : Found) : Type 0 where
   pub heading : Heading
   pub active : IsActive files x.file heading x.state x.end
   pub generation : x.generation ≡ heading.generation
@@ -93,6 +93,6 @@ pub record IsFound (files : Files) (x : Active) : Type 0 where
   pub start : x.start ≡ behind heading
 
 -- what there is to find in two files
-abbrev pub Finds : Files → Option Active → Type 0
+abbrev pub Finds : Files → Option Found → Type 0
 Finds files None = NoneOpen files
 Finds files (Some x) = IsFound files x

@@ -4,9 +4,9 @@ use Rattle.durable.specs.declared.entry.Entry as declared
 use Rattle.durable.specs.declared.entry.Entry.TheVariants as variants
 use Rattle.durable.specs.declared.heading.StoredConfig as stored_config
 use Rattle.durable.specs.declared.heading.StoredSnapshot as stored_snapshot
-use Rattle.durable.specs.declared.heading.Stored as stored
+use Rattle.durable.specs.declared.heading.StoredHeading as stored
 use Rattle.durable.specs.declared.recovery.Headed as headed
-use Rattle.durable.specs.Coding.{Entry, Load, Begin, Seen, Restart, End, Kept, Heading}
+use Rattle.durable.specs.Coding.{Entry, Load, Begin, Seen, Restart, End, Snapshot, Heading}
 
 abbrev pub view : declared.Entry → Entry
 view (variants.Load text) = Load text.now
@@ -19,16 +19,20 @@ abbrev pub config_view : stored_config.StoredConfig → Config
 config_view c =
     record { lan = c.lan.now; wan = c.wan.now; inside = c.inside.items; external = c.external }
 
-abbrev pub kept_view : stored_snapshot.StoredSnapshot → Kept
-kept_view k = record { text = k.text.now; sessions = k.sessions.items }
+abbrev pub snapshot_view : stored_snapshot.StoredSnapshot → Snapshot
+snapshot_view k = record { text = k.text.now; sessions = k.sessions.items }
 
-abbrev pub heading_view : stored.Stored → Heading
+abbrev pub heading_view : stored.StoredHeading → Heading
 heading_view h =
-    record { generation = h.generation; config = config_view h.config; kept = kept_view h.snapshot }
+    record {
+      generation = h.generation;
+      config = config_view h.config;
+      snapshot = snapshot_view h.snapshot;
+    }
 
 abbrev pub headed_view : headed.Headed → Heading
 headed_view h = record {
   generation = h.generation;
   config = h.bounds;
-  kept = record { text = h.text.now; sessions = h.sessions.items };
+  snapshot = record { text = h.text.now; sessions = h.sessions.items };
 }

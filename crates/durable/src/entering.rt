@@ -3,8 +3,9 @@ ghost use Rattle.std.specs.Prelude.{◌≡◌, ◌↔◌, IfOk, OnOk, IsErrOf, t
 ghost use Rattle.sessions.specs.Life.{IsSeen};
 ghost use Rattle.sessions.specs.Listing.{insert, listing};
 ghost use Rattle.sessions.specs.Sound.{AreSound};
+ghost use Rattle.sessions.specs.Table.{amended};
 ghost use Rattle.durable.specs.Coding.{IsEntry};
-ghost use Rattle.durable.specs.Entering.{Durable, durable, IsNamed, changed, ended, begun_anew, seen_so, entered, Admits, BodyEnters};
+ghost use Rattle.durable.specs.Entering.{Durable, durable, IsNamed, changed, ended, seen_so, entered, Admits, BodyEnters};
 ghost use Rattle.durable.specs.Viewing.{view};
 
 use crate::DurableFault;
@@ -71,7 +72,7 @@ fn restart(bounds: &Bounds, table: &mut Table, flow: Flow, opener: Opener, seen:
     requires sound { AreSound bounds.now (listing table.old.held) }
     ensures named { IsTrue result ↔ IsNamed flow (listing table.old.held) }
     ensures changed { IsTrue result → listing table.new.held
-        ≡ changed flow (begun_anew opener seen) (listing table.old.held) }
+        ≡ changed flow (amended opener seen) (listing table.old.held) }
     ensures sound { IsTrue result → AreSound bounds.now (listing table.new.held) }
 {
     table.facts();

@@ -2,7 +2,7 @@
 ghost use Rattle.std.specs.Prelude.{IfOk, IsErrOf};
 ghost use Rattle.durable.specs.Coding.{Begins, NoneBegins, IsHeading, heading_bytes};
 ghost use Rattle.durable.specs.Reading.{Gives, Yields, items_at, prefix_at, session_at, prefixes_at, sessions_at, config_at, snapshot_at, mark_at, heading_at};
-ghost use Rattle.durable.specs.Viewing.{config_view, kept_view, heading_view};
+ghost use Rattle.durable.specs.Viewing.{config_view, snapshot_view, heading_view};
 
 use crate::DurableFault;
 use crate::decoding::read_session;
@@ -29,7 +29,7 @@ pub struct StoredSnapshot<'a> {
 
 /// What stands behind an open file gate.
 #[derive(Drop)]
-pub struct Stored<'a> {
+pub struct StoredHeading<'a> {
     pub generation: u64,
     pub config: StoredConfig<'a>,
     pub snapshot: StoredSnapshot<'a>,
@@ -127,7 +127,7 @@ fn read_config(alloc: Global, bytes: &[u8]) -> Result<(StoredConfig<'_>, &[u8]),
 
 #[tactic(auto, unfolding(crate::specs::Reading::snapshot_at))]
 fn read_snapshot(alloc: Global, bytes: &[u8]) -> Result<(StoredSnapshot<'_>, &[u8]), DurableFault>
-    ensures { Yields (λ x. (kept_view x.0, x.1.now)) result (snapshot_at bytes.now) }
+    ensures { Yields (λ x. (snapshot_view x.0, x.1.now)) result (snapshot_at bytes.now) }
 {
     let Some((text, rest)) = text_of(bytes) else {
         return Err(DurableFault::Damaged);
@@ -148,7 +148,7 @@ fn skip_mark(bytes: &[u8]) -> Option<&[u8]>
 }
 
 #[tactic(auto, unfolding(crate::specs::Reading::heading_at))]
-fn read_heading(alloc: Global, bytes: &[u8]) -> Result<(Stored<'_>, &[u8]), DurableFault>
+fn read_heading(alloc: Global, bytes: &[u8]) -> Result<(StoredHeading<'_>, &[u8]), DurableFault>
     ensures { Yields (λ x. (heading_view x.0, x.1.now)) result (heading_at bytes.now) }
 {
     let Some(rest) = skip_mark(bytes) else {
@@ -159,7 +159,7 @@ fn read_heading(alloc: Global, bytes: &[u8]) -> Result<(Stored<'_>, &[u8]), Dura
     };
     let (config, rest) = read_config(alloc, rest)?;
     let (snapshot, rest) = read_snapshot(alloc, rest)?;
-    let stored = Stored {
+    let stored = StoredHeading {
         generation,
         config,
         snapshot,
@@ -173,7 +173,7 @@ fn read_heading(alloc: Global, bytes: &[u8]) -> Result<(Stored<'_>, &[u8]), Dura
 ///
 /// - `Damaged` exactly where no heading's code is a front of the bytes.
 /// - `NoMemory` where memory is refused.
-pub fn heading_of(alloc: Global, bytes: &[u8]) -> Result<(Stored<'_>, &[u8]), DurableFault>
+pub fn heading_of(alloc: Global, bytes: &[u8]) -> Result<(StoredHeading<'_>, &[u8]), DurableFault>
     ensures ok { IfOk result (λ x. Begins IsHeading heading_bytes bytes.now
         (heading_view x.0) x.1.now) }
     ensures damaged { IsErrOf result DurableFault.Damaged

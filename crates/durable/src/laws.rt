@@ -1,6 +1,6 @@
 //! What follows from the definitions: each function is proved to meet its clauses.
 ghost use Rattle.packet.specs.Config.{Config};
-ghost use Rattle.durable.specs.Coding.{IsSession, session_bytes, IsEntry, entry_bytes, IsCodedConfig, config_bytes, IsKept, snapshot_bytes, IsHeading, heading_bytes};
+ghost use Rattle.durable.specs.Coding.{IsSession, session_bytes, IsEntry, entry_bytes, IsCodedConfig, config_bytes, IsSnapshot, snapshot_bytes, IsHeading, heading_bytes};
 ghost use Rattle.durable.specs.Laws.{CodedOnce, BodiesOnce, EntersOnce, KeepsDurable, RecoversOnce, RecoversSound, Grows, Renews};
 
 /// A code at the front of bytes determines the session, or the entry, and the rest; and a body its entries.
@@ -14,7 +14,7 @@ pub fn coded_once()
 pub fn heading_once()
     ensures headings { CodedOnce IsHeading heading_bytes }
     ensures configs { CodedOnce IsCodedConfig config_bytes }
-    ensures snapshots { CodedOnce IsKept snapshot_bytes }
+    ensures snapshots { CodedOnce IsSnapshot snapshot_bytes }
 {}
 
 /// Entering is a function of the entries and the state; it splits where the list of entries does; no entries change

@@ -14,14 +14,14 @@ ghost use Rattle.durable.specs.Entering.{Durable, IsRuleset, durable};
 ghost use Rattle.durable.specs.Found.{HeldBy, IsReadOpen, found_view};
 ghost use Rattle.durable.specs.Leading.{StateLeads};
 ghost use Rattle.disk_model.specs.Disk.{pair};
-ghost use Rattle.durable.specs.Recovery.{Active, Finds, Holds, IsHeaded, IsOpen, arranged, arranged_on, behind};
+ghost use Rattle.durable.specs.Recovery.{Found, Finds, Holds, IsHeaded, IsOpen, arranged, arranged_on, behind};
 ghost use Rattle.durable.specs.Viewing.{headed_view};
 
 use crate::DurableFault;
 use crate::bounds::{bounds_of, same_bounds};
 use crate::entering::begin;
 use crate::groups::{behind_gate, enter_groups};
-use crate::heading::{Stored, heading_of};
+use crate::heading::{StoredHeading, heading_of};
 use crate::texts::check_text;
 use disk_model::FileId;
 use packet::bounds::Bounds;
@@ -80,7 +80,7 @@ fn read_open<'a>(
     if after.is_empty() {
         return Err(DurableFault::Damaged);
     }
-    let Stored {
+    let StoredHeading {
         generation,
         config,
         snapshot,
@@ -208,7 +208,7 @@ fn choose<'a>(
     requires a { IsReadOpen a.now first }
     requires b { IsReadOpen b.now second }
     ensures ok { IfOk result (λ found. Finds (pair a.now b.now) (found_view found)) }
-    ensures damaged { IsErrOf result DurableFault.Damaged → (found : Option Active)
+    ensures damaged { IsErrOf result DurableFault.Damaged → (found : Option Found)
         → ¬ Finds (pair a.now b.now) found }
 {
     match first {
@@ -255,9 +255,9 @@ pub fn recover<'a>(
     b: &'a [u8],
 ) -> Result<Option<Recovered<'a>>, DurableFault>
     ensures ok { IfOk result (λ found. Finds (pair a.now b.now) (found_view found)) }
-    ensures only { (found : Option Active) → Finds (pair a.now b.now) found
+    ensures only { (found : Option Found) → Finds (pair a.now b.now) found
         → IfOk result (λ x. found_view x ≡ found) }
-    ensures damaged { IsErrOf result DurableFault.Damaged → (found : Option Active)
+    ensures damaged { IsErrOf result DurableFault.Damaged → (found : Option Found)
         → ¬ Finds (pair a.now b.now) found }
 {
     let first = read_open(alloc, a)?;

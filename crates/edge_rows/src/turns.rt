@@ -133,3 +133,25 @@ fn compacts_above_a_mebibyte(rt: HostRuntime) -> Result<(), Fail> {
     close(gateway);
     grown
 }
+
+// Whether the same loads leave as much where one run takes all of them, the last one in a read of its own.
+fn grows_in_a_run(alloc: Global, gateway: &mut Trials) -> Result<bool, AllocError> {
+    let mut front = Vec::new(alloc);
+    for (spaces, _) in &GROWN[..5] {
+        front.extend_from_slice(load(alloc, *spaces)?.as_slice())?;
+    }
+    let last = load(alloc, 0)?;
+    let mut reader = front.as_slice().chain(last.as_slice());
+    let mut written = Vec::new(alloc);
+    let ended = run(alloc, &mut reader, &mut written, gateway);
+    Ok(ended == Ok(6) && gateway.grown() == 10)
+}
+
+#[test]
+fn compacts_within_a_run(rt: HostRuntime) -> Result<(), Fail> {
+    let mut gateway = opened(rt.alloc())?;
+    let grown = grows_in_a_run(rt.alloc(), &mut gateway);
+    close(gateway);
+    assert!(rt; grown?);
+    Ok(())
+}

@@ -8,7 +8,7 @@ use Rattle.sessions.specs.Sound.{AreSound}
 use Rattle.sessions.specs.Stilled.{AreStilled, moved, stilled}
 use Rattle.sessions.proofs.Stilled.{last-moved, sound-moved, stilled-moved}
 use Rattle.machine.specs.Machine.{State, no_tables}
-use Rattle.machine.specs.Noted.{IsRestarted, lasting}
+use Rattle.machine.specs.Noted.{IsResumed, lasting}
 use Rattle.machine.specs.Sound.{IsInForce, IsSound}
 use Rattle.durable.specs.Entering.{Durable, durable, IsDurable, IsRuleset}
 
@@ -26,12 +26,12 @@ lasting-sound config s sound = (
   (λ t is. last-moved 0 s.sessions t is),
 )
 
-pub restart-there : (config : Config) (d : Durable) (moment : ℕ) → IsDurable config d → (s : State) × IsRestarted config d moment s
+pub restart-there : (config : Config) (d : Durable) (moment : ℕ) → IsDurable config d → (s : State) × IsResumed config d moment s
 restart-there config d moment is =
     let rules = in-force config d.text is.text in
     (record { text = d.text; rules = rules.0; sessions = map (moved moment) d.sessions; clock = moment }, record { sessions = refl; text = refl; clock = refl; rules = rules.1 })
 
-pub restart-sound : (config : Config) (d : Durable) (moment : ℕ) (s : State) → IsDurable config d → AreStilled d.sessions → IsRestarted config d moment s
+pub restart-sound : (config : Config) (d : Durable) (moment : ℕ) (s : State) → IsDurable config d → AreStilled d.sessions → IsResumed config d moment s
     → IsSound config s × (lasting s ≡ d)
 restart-sound config d moment s is are again = (
   record {

@@ -19,11 +19,12 @@ use Rattle.sessions.proofs.Puts.{find-some, flow-keys, has_inside-true}
 use Rattle.sessions.proofs.Sets.{rising-unique, In-filter, In-insert, filter-In, insert-In}
 use Rattle.hairpin.specs.Legs.{put_all}
 use Rattle.sessions.specs.Sound.{AreSound}
+use Rattle.sessions.specs.Table.{amended}
 use Rattle.hairpin.proofs.Apart.{find-In}
 use Rattle.hairpin.proofs.Soundness.{Joins, JoinEach, filter-all}
-use Rattle.machine.specs.Noted.{goes_on, is_same, noted, noted_all, noted_by}
+use Rattle.machine.specs.Noted.{goes_on, is_same, entries_for, entries_for_all, entries_from}
 use Rattle.durable.specs.Coding.{Entry, Begin, Seen, Restart}
-use Rattle.durable.specs.Entering.{durable, Enters, is_of, flow_of, changed, seen_so, begun_anew}
+use Rattle.durable.specs.Entering.{durable, Enters, is_of, flow_of, changed, seen_so}
 use Rattle.durable.specs.declared.entry.Flow.{Flow}
 use Rattle.entries.proofs.Stilled.{join, named-stilled, stilled-of}
 
@@ -140,20 +141,20 @@ module _ (config : Config) (now : ℕ) (text : List ℕ) where
           (named-stilled (flow_of t) ss s in_s own, ap (durable text) (sym (changed-put t s ss sound.rises joins.sound.rises in_s own (seen_so t.seen) (λ x. refl) fits)))
       on-enters false false other e =
           let has = has_inside-true t.proto t.inside t.remote s own in
-          let fits : begun_anew t.opener t.seen (stilled s) ≡ stilled t = same-stilled (begun_anew t.opener t.seen s) t has.0 has.1 (joins.keeps s in_s own) has.2 refl refl in
-          (named-stilled (flow_of t) ss s in_s own, ap (durable text) (sym (changed-put t s ss sound.rises joins.sound.rises in_s own (begun_anew t.opener t.seen) (λ x. refl) fits)))
+          let fits : amended t.opener t.seen (stilled s) ≡ stilled t = same-stilled (amended t.opener t.seen s) t has.0 has.1 (joins.keeps s in_s own) has.2 refl refl in
+          (named-stilled (flow_of t) ss s in_s own, ap (durable text) (sym (changed-put t s ss sound.rises joins.sound.rises in_s own (amended t.opener t.seen) (λ x. refl) fits)))
 
-    by-enters : (o : Option Session) → find (same_flow t) ss ≡ o → Leads (noted_by o t) ss (put t ss)
+    by-enters : (o : Option Session) → find (same_flow t) ss ≡ o → Leads (entries_from o t) ss (put t ss)
     by-enters None e = begin-enters e
     by-enters (Some s) e = let is = find-In (same_flow t) ss s e in on-enters s is.0 is.1 (is_same s t) (goes_on s t) refl refl
 
-    pub noted-enters : Leads (noted ss t) ss (put t ss)
+    pub noted-enters : Leads (entries_for ss t) ss (put t ss)
     noted-enters = by-enters (find (same_flow t) ss) refl
 
   -- and of several
-  pub all-enter : (ts ss : List Session) → AreSound config ss → JoinEach config ss now ts → Leads (noted_all ts ss) ss (put_all ts ss)
+  pub all-enter : (ts ss : List Session) → AreSound config ss → JoinEach config ss now ts → Leads (entries_for_all ts ss) ss (put_all ts ss)
   all-enter [] ss sound joins = refl
   all-enter (t ∷ ts) ss sound joins =
-      join config (noted ss t) (noted_all ts (put t ss))
+      join config (entries_for ss t) (entries_for_all ts (put t ss))
       (durable text (map stilled ss)) (durable text (map stilled (put t ss))) (durable text (map stilled (put_all ts (put t ss))))
       (noted-enters ss t sound joins.0) (all-enter ts (put t ss) joins.0.sound joins.1)

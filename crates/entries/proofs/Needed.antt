@@ -27,7 +27,7 @@ use Rattle.hairpin.specs.declared.cause.Cause.{Cause}
 use Rattle.hairpin.proofs.Soundness.{HaveOwnFlows, IsFine, JoinEach}
 use Rattle.machine.specs.Judged.{Judged, IsRight}
 use Rattle.machine.specs.Machine.{State, act, aged, later, leg, on_route, sent, step, with_fields}
-use Rattle.machine.specs.Noted.{AreDistinct, AreEntriesOf, AreOver, EndsSome, HasEntry, TakesText, between, ends, goes_on, is_same, lasting, noted, noted_all, noted_by, of_deed, of_fields, of_route, of_way}
+use Rattle.machine.specs.Noted.{AreDistinct, AreEntriesOf, AreOver, EndsSome, HasEntry, TakesText, between, ends, goes_on, is_same, lasting, entries_for, entries_for_all, entries_from, of_deed, of_fields, of_route, of_way}
 use Rattle.machine.specs.Sound.{IsSound}
 use Rattle.machine.specs.declared.deed.Deed.{Deed}
 use Rattle.machine.specs.declared.deed.Deed.TheVariants as deed
@@ -49,7 +49,7 @@ number-itself n = grind (arith, nat_tests)
 pub nothing-between : (s t : Session) → is_same s t ≡ true → between s t ≡ []
 nothing-between s t same = ap (λ (b : Bool). if b then [] else (if goes_on s t then Seen (flow_of t) t.seen ∷ [] else Restart (flow_of t) t.opener t.seen ∷ [])) same
 
-noted-none : (ss : List Session) (t : Session) → Rises ss → In (stilled t) (map stilled ss) → noted ss t ≡ []
+noted-none : (ss : List Session) (t : Session) → Rises ss → In (stilled t) (map stilled ss) → entries_for ss t ≡ []
 noted-none ss t rises is =
     let u = In-map stilled ss (stilled t) is in
     let own : same_flow t u.0 ≡ true = keys-flow t u.0 (ap key u.2) in
@@ -57,7 +57,7 @@ noted-none ss t rises is =
     let same : is_same u.0 t ≡ true = and_from (same_side u.0.opener t.opener) (u.0.seen == t.seen)
     (ap (λ (x : Session). same_side u.0.opener x.opener) u.2 ∙ side-itself u.0.opener)
     (ap (λ (x : Session). u.0.seen == x.seen) u.2 ∙ number-itself u.0.seen) in
-    ap (λ o. noted_by o t) found ∙ nothing-between u.0 t same
+    ap (λ o. entries_from o t) found ∙ nothing-between u.0 t same
 
 stays : (ts ss : List Session) (t : Session) → ((u : Session) → In u ts → same_flow u t ≡ false) → In t ss → In t (put_all ts ss)
 stays [] ss t own is = is
@@ -66,7 +66,7 @@ stays (u ∷ ts) ss t own is =
     (insert-In u (filter (λ v. not (same_flow u v)) ss) t (inr (filter-In (λ v. not (same_flow u v)) ss t is (ap not (own u (inl refl))))))
 
 module _ (config : Config) (now : ℕ) where
-  all-none : (ts ss : List Session) → AreSound config ss → JoinEach config ss now ts → HaveOwnFlows ts → map stilled (put_all ts ss) ≡ map stilled ss → noted_all ts ss ≡ []
+  all-none : (ts ss : List Session) → AreSound config ss → JoinEach config ss now ts → HaveOwnFlows ts → map stilled (put_all ts ss) ≡ map stilled ss → entries_for_all ts ss ≡ []
   all-none [] ss sound joins flows same = refl
   all-none (t ∷ ts) ss sound joins flows same =
       let in_put : In t (put t ss) = insert-In t (filter (λ v. not (same_flow t v)) ss) t (inl refl) in
@@ -74,7 +74,7 @@ module _ (config : Config) (now : ℕ) where
       let none = noted-none ss t sound.rises there in
       let leads = subst (λ es. Enters config es (durable [] (map stilled ss)) (durable [] (map stilled (put t ss)))) none (noted-enters config now [] ss t sound joins.0) in
       let first : map stilled (put t ss) ≡ map stilled ss = ap (λ (d : Durable). d.sessions) leads in
-      ap (λ es. es ++ noted_all ts (put t ss)) none ∙ all-none ts (put t ss) joins.0.sound joins.1 flows.1 (same ∙ sym first)
+      ap (λ es. es ++ entries_for_all ts (put t ss)) none ∙ all-none ts (put t ss) joins.0.sound joins.1 flows.1 (same ∙ sym first)
 
 nothing : (gone : List Session) (es : List Entry) → ends gone ++ es ≡ [] → (gone ≡ []) × (es ≡ [])
 nothing [] es h = (refl, h)

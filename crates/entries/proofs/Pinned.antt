@@ -13,7 +13,7 @@ use Rattle.sessions.proofs.Stilled.{one-of-key}
 use Rattle.sessions.proofs.Puts.{find-is, flow-keys, keys-flow}
 use Rattle.hairpin.specs.Legs.{passed_by}
 use Rattle.hairpin.proofs.Doubling.{find-put, passed-flow}
-use Rattle.machine.specs.Noted.{between, goes_on, is_same, noted, noted_by}
+use Rattle.machine.specs.Noted.{between, goes_on, is_same, entries_for, entries_from}
 use Rattle.durable.specs.Coding.{Restart, Seen}
 use Rattle.durable.specs.Entering.{flow_of}
 use Rattle.entries.proofs.Changing.{side-true}
@@ -70,24 +70,24 @@ module _ (ss : List Session) (rises : Rises ss) (s : Session) (in_s : In s ss) (
   abbrev bits : ℕ
   bits = shown s.proto s.opener sender flags
 
-  is-between : noted ss t ≡ between s t
+  is-between : entries_for ss t ≡ between s t
   is-between =
       let own = passed-flow s sender flags now in
-      ap (λ o. noted_by o t) (find-is (same_flow t) ss s in_s own (λ u in_u h. one-of-key ss rises u s in_u in_s (flow-keys t u h ∙ sym (flow-keys t s own))))
+      ap (λ o. entries_from o t) (find-is (same_flow t) ss s in_s own (λ u in_u h. one-of-key ss rises u s in_u in_s (flow-keys t u h ∙ sym (flow-keys t s own))))
 
-  pub pinned-restart : restarts s flags ≡ true → noted ss t ≡ Restart (flow_of s) sender 0 ∷ []
+  pub pinned-restart : restarts s flags ≡ true → entries_for ss t ≡ Restart (flow_of s) sender 0 ∷ []
   pinned-restart anew =
       is-between
       ∙ ap (λ (b : Bool). between s (if b then restarted s sender now else seen s bits now)) anew
       ∙ told-emptied s (restarted s sender now) (closing-some s.seen (and_parts (is_syn_alone flags) (is_closing s.seen) anew).1) refl
 
-  on-between : restarts s flags ≡ false → noted ss t ≡ between s (seen s bits now)
+  on-between : restarts s flags ≡ false → entries_for ss t ≡ between s (seen s bits now)
   on-between on = is-between ∙ ap (λ (b : Bool). between s (if b then restarted s sender now else seen s bits now)) on
 
-  pub pinned-nothing : restarts s flags ≡ false → bit_or s.seen bits ≡ s.seen → noted ss t ≡ []
+  pub pinned-nothing : restarts s flags ≡ false → bit_or s.seen bits ≡ s.seen → entries_for ss t ≡ []
   pinned-nothing on old = on-between on ∙ told-nothing s (seen s bits now) refl (sym old)
 
-  pub pinned-seen : restarts s flags ≡ false → bit_or s.seen bits ≢ s.seen → noted ss t ≡ Seen (flow_of s) (bit_or s.seen bits) ∷ []
+  pub pinned-seen : restarts s flags ≡ false → bit_or s.seen bits ≢ s.seen → entries_for ss t ≡ Seen (flow_of s) (bit_or s.seen bits) ∷ []
   pinned-seen on new = on-between on ∙ told-seen s (seen s bits now) refl (λ e. new (sym e)) (omega (arith, le_or_l s.seen bits, new))
 
 -- ---- a change of another flow makes no difference
@@ -95,5 +95,5 @@ module _ (ss : List Session) (rises : Rises ss) (s : Session) (in_s : In s ss) (
 other-way : (t u v : Session) → same_flow u t ≡ false → same_flow t v ≡ true → same_flow u v ≡ false
 other-way t u v other h = false_from_ne_true _ (λ k. false≢true (sym other ∙ keys-flow u t (sym (flow-keys u v k) ∙ flow-keys t v h)))
 
-pub noted-apart : (ss : List Session) (t u : Session) → same_flow u t ≡ false → noted (put t ss) u ≡ noted ss u
-noted-apart ss t u other = ap (λ o. noted_by o u) (find-put (same_flow u) t ss other (λ v in_v h. other-way t u v other h))
+pub noted-apart : (ss : List Session) (t u : Session) → same_flow u t ≡ false → entries_for (put t ss) u ≡ entries_for ss u
+noted-apart ss t u other = ap (λ o. entries_from o u) (find-put (same_flow u) t ss other (λ v in_v h. other-way t u v other h))

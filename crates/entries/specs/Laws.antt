@@ -1,5 +1,5 @@
 -- What entries promise.
-use Rattle.std.specs.Prelude.{◌≡◌, ◌≢◌, ◌↔◌, ℕ, List, [], ◌∷◌, Option, Some, None, slice_index, slice_index_or, ◌<◌, length, IsSomeAnd, true, false, bit_or, IsTrue}
+use Rattle.std.specs.Prelude.{◌≡◌, ◌≢◌, ◌↔◌, ℕ, List, [], ◌∷◌, Option, Some, None, slice_index_or, ◌<◌, IsSomeAnd, true, false, bit_or, IsTrue}
 use Rattle.std.specs.List.{Contains}
 use Rattle.packet.specs.Config.{Config, is_config}
 use Rattle.packet.specs.declared.endpoint.Flags.{Flags}
@@ -11,10 +11,11 @@ use Rattle.sessions.specs.declared.session.Session.{Session}
 use Rattle.hairpin.specs.Legs.{passed_by}
 use Rattle.sessions.specs.Sound.{AreSound}
 use Rattle.sessions.specs.Stilled.{AreStilled, stilled}
+use Rattle.timers.specs.Due.{AreOnce}
 use Rattle.machine.specs.Flows.{IsDue}
 use Rattle.machine.specs.Judged.{Judged, AreJudged, IsJudged}
 use Rattle.machine.specs.Machine.{State, after, step}
-use Rattle.machine.specs.Noted.{AreEntriesOf, AreEntriesOfAll, AreOver, HasEntry, IsRestarted, between, lasting, noted, sessions_at}
+use Rattle.machine.specs.Noted.{AreEntriesOf, AreEntriesOfAll, AreOver, HasEntry, IsResumed, between, lasting, entries_for, sessions_at}
 use Rattle.machine.specs.Sound.{IsSound}
 use Rattle.machine.specs.declared.event.Event.{Event}
 use Rattle.durable.specs.Coding.{Begin, Entry, Restart, Seen}
@@ -82,13 +83,13 @@ ChangesAreTold = (s t : Session) → TellsChange s t
 -- was seen where a bit of it is new, else none.
 pub record ArePinned (sessions : List Session) (s : Session) (sender : Opener) (flags : Flags)
     (now : ℕ) : Type 0 where
-  pub anew : restarts s flags ≡ true → noted sessions (passed_by s sender flags now)
+  pub anew : restarts s flags ≡ true → entries_for sessions (passed_by s sender flags now)
       ≡ Restart (flow_of s) sender 0 ∷ []
   pub nothing : restarts s flags ≡ false
       → bit_or s.seen (shown s.proto s.opener sender flags) ≡ s.seen
-      → noted sessions (passed_by s sender flags now) ≡ []
+      → entries_for sessions (passed_by s sender flags now) ≡ []
   pub seen : restarts s flags ≡ false → bit_or s.seen (shown s.proto s.opener sender flags) ≢ s.seen
-      → noted sessions (passed_by s sender flags now)
+      → entries_for sessions (passed_by s sender flags now)
       ≡ Seen (flow_of s) (bit_or s.seen (shown s.proto s.opener sender flags)) ∷ []
 
 abbrev pub EntriesArePinned : Type 0
@@ -102,8 +103,9 @@ EntriesArePinned =
 pub record TellsEntries (held : List (Option Session)) : Type 0 where
   pub goes_on : (slot : ℕ) (s t : Session) → slice_index_or held slot None ≡ Some s
       → same_flow t s ≡ true
-      → noted (listing held) t ≡ between s t
-  pub begins : (t : Session) → ¬ AnyClash held t → noted (listing held) t ≡ Begin (stilled t) ∷ []
+      → entries_for (listing held) t ≡ between s t
+  pub begins : (t : Session) → ¬ AnyClash held t
+      → entries_for (listing held) t ≡ Begin (stilled t) ∷ []
 
 abbrev pub TablesTellEntries : Type 0
 TablesTellEntries = (held : List (Option Session)) → IsSoundTable held → TellsEntries held
@@ -111,14 +113,14 @@ TablesTellEntries = (held : List (Option Session)) → IsSoundTable held → Tel
 -- a session of another flow makes no difference to an entry
 abbrev pub FlowsAreNotedApart : Type 0
 FlowsAreNotedApart = (sessions : List Session) (t u : Session) → same_flow u t ≡ false
-    → noted (put t sessions) u ≡ noted sessions u
+    → entries_for (put t sessions) u ≡ entries_for sessions u
 
 -- the slots whose sessions are due, each once, hold the sessions that end
 abbrev pub DueSlotsAreOver : Type 0
 DueSlotsAreOver =
     (held : List (Option Session)) (now : ℕ) (slots : List ℕ) → IsSoundTable held
     → ((slot : ℕ) → Contains slots slot ↔ IsSomeAnd (slice_index_or held slot None) (IsDue now))
-    → ((i j : ℕ) → i < j → j < length slots → slice_index slots i ≢ slice_index slots j)
+    → AreOnce slots
     → AreOver now (listing held) (sessions_at held slots)
 
 -- what must survive of a sound state is what a gateway may have, without moments
@@ -129,7 +131,7 @@ LastingIsSound = (config : Config) (s : State) → IsSound config s
 -- from whatever a gateway may have a state can be begun again
 abbrev pub RestartsAreThere : Type 0
 RestartsAreThere = (config : Config) (d : Durable) (moment : ℕ) → IsDurable config d
-    → (s : State) × IsRestarted config d moment s
+    → (s : State) × IsResumed config d moment s
 
 -- a state that is begun again is sound, and just what it was begun from must survive of it, where no session of that
 -- has a moment
@@ -137,4 +139,4 @@ abbrev pub RestartsAreSound : Type 0
 RestartsAreSound =
     (config : Config) (d : Durable) (moment : ℕ) (s : State) → IsDurable config d
     → AreStilled d.sessions
-    → IsRestarted config d moment s → IsSound config s × (lasting s ≡ d)
+    → IsResumed config d moment s → IsSound config s × (lasting s ≡ d)

@@ -4,7 +4,7 @@ ghost use Rattle.disk_model.specs.Disk.{Called, HasCause};
 ghost use Rattle.file_disk.specs.Filed.{Filed, Asks};
 
 use crate::DiskFile;
-use crate::pair::Pair;
+use crate::two_files::TwoFiles;
 use disk_model::{Disk, DiskFault, FileId};
 use std::fs::File;
 use std::marker::Model;
@@ -15,7 +15,7 @@ use std::marker::Model;
 /// asked itself, and gives what that file answered.
 #[derive(Drop)]
 pub struct FileDisk<F: DiskFile + Drop = File> {
-    files: Pair<F>,
+    files: TwoFiles<F>,
     calls: u64,
     failures: u64,
 }
@@ -38,7 +38,7 @@ impl<F: DiskFile + Drop> FileDisk<F> {
         ensures { result ≡ record { files = record { a = a; b = b }; calls = 0; failures = 0 } }
     {
         FileDisk {
-            files: Pair::of(a, b),
+            files: TwoFiles::of(a, b),
             calls: 0,
             failures: 0,
         }
@@ -87,7 +87,7 @@ impl<F: DiskFile + Drop> Disk for FileDisk<F> {
         ensures called { Called 1 self.old.calls self.new.calls }
         ensures cause { HasCause self.old.failures self.new.failures result }
     {
-        let answer = self.files.length_of(file);
+        let answer = self.files.len(file);
         self.count(answer)
     }
 
@@ -97,7 +97,7 @@ impl<F: DiskFile + Drop> Disk for FileDisk<F> {
         ensures called { Called 1 self.old.calls self.new.calls }
         ensures cause { HasCause self.old.failures self.new.failures result }
     {
-        let answer = self.files.read_from(file, at, bytes);
+        let answer = self.files.read_at(file, at, bytes);
         self.count(answer)
     }
 
@@ -107,7 +107,7 @@ impl<F: DiskFile + Drop> Disk for FileDisk<F> {
         ensures called { Called 1 self.old.calls self.new.calls }
         ensures cause { HasCause self.old.failures self.new.failures result }
     {
-        let answer = self.files.write_into(file, at, bytes);
+        let answer = self.files.write_at(file, at, bytes);
         self.count(answer)
     }
 
@@ -117,7 +117,7 @@ impl<F: DiskFile + Drop> Disk for FileDisk<F> {
         ensures called { Called 1 self.old.calls self.new.calls }
         ensures cause { HasCause self.old.failures self.new.failures result }
     {
-        let answer = self.files.sync_one(file);
+        let answer = self.files.sync(file);
         self.count(answer)
     }
 }

@@ -1,9 +1,10 @@
 //! What a disk asks of one file.
 ghost use Rattle.std.specs.Prelude.{List, ℕ, Result};
 ghost use Rattle.disk_model.specs.declared.disk.DiskFault.{DiskFault as Fault};
-ghost use Rattle.file_disk.specs.Told.{Told};
+ghost use Rattle.file_disk.specs.WithoutCause.{WithoutCause};
 
 use disk_model::DiskFault;
+use journal::LIMIT;
 use std::fs::File;
 use std::io;
 use std::os::unix::fs::FileExt;
@@ -59,8 +60,8 @@ pub trait DiskFile {
         ensures { answers_sync self.old self.new result };
 }
 
-fn told<T: Drop>(answer: io::Result<T>) -> Result<T, DiskFault>
-    ensures { Told answer result }
+fn without_cause<T: Drop>(answer: io::Result<T>) -> Result<T, DiskFault>
+    ensures { WithoutCause answer result }
 {
     match answer {
         Ok(value) => Ok(value),
@@ -70,7 +71,8 @@ fn told<T: Drop>(answer: io::Result<T>) -> Result<T, DiskFault>
 
 // A read or a write goes on where a signal interrupts it, or where it moved only some of the bytes. A sync is
 // fdatasync: by POSIX it has the device keep the bytes and what is needed to read them back, so a new length too, and
-// leaves out the times of the file, which would cost a second write.
+// leaves out the times of the file, which would cost a second write. A file ends at `LIMIT`, behind which no natgw has
+// written, so that one which somebody made longer is not read whole.
 impl DiskFile for File {
     ghost answers_length = { λ _ _ _. Unit {0} };
 
@@ -81,18 +83,18 @@ impl DiskFile for File {
     ghost answers_sync = { λ _ _ _. Unit {0} };
 
     fn length(&mut self) -> Result<u64, DiskFault> {
-        told(self.metadata().map(|data| data.len()))
+        without_cause(self.metadata().map(|data| data.len().min(LIMIT)))
     }
 
     fn read_fully(&mut self, at: u64, bytes: &mut [u8]) -> Result<(), DiskFault> {
-        told(self.read_exact_at(bytes, at))
+        without_cause(self.read_exact_at(bytes, at))
     }
 
     fn write_fully(&mut self, at: u64, bytes: &[u8]) -> Result<(), DiskFault> {
-        told(self.write_all_at(bytes, at))
+        without_cause(self.write_all_at(bytes, at))
     }
 
     fn sync_file(&mut self) -> Result<(), DiskFault> {
-        told(self.sync_data())
+        without_cause(self.sync_data())
     }
 }

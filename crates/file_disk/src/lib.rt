@@ -1,15 +1,14 @@
 //! A disk over two files of a directory, `natgw.a` and `natgw.b`.
 //!
 //! - `file`: what a disk asks of one file, and the open files of the system.
-//! - `pair`: two files, of which each call asks one.
+//! - `two_files`: both files, of which each call asks one.
 //! - `disk`: `FileDisk`, which counts the calls and those of them that fail.
 //! - `opening`: a directory's files are opened, made where they are missing, locked, and synced, and so is the
 //!   directory.
 //!
-//! A call of the disk has a name in each of the first three: `FileDisk` counts a `write_at`, `Pair` does it as
-//! `write_into` one of the files, and `DiskFile` as `write_fully`, all of the bytes or a failure; so too `read_at`,
-//! `read_from` and `read_fully`, and `sync`, `sync_one` and `sync_file`. In clauses `answers_write` says that this very
-//! call of the file was made and answered so.
+//! `FileDisk` counts a call, `TwoFiles` makes it of one of the files, under the same name, and `DiskFile` does it as
+//! `length`, `read_fully`, `write_fully` or `sync_file`, in full or with a failure. In clauses `answers_write` says
+//! that this very call of the file was made and answered so.
 //!
 //! Nothing is promised of what the system's files keep: the honest disk of the model is a claim that no proof about a
 //! system's calls can make. What is proved is that each call asks the right file, once, for what the caller asked, and
@@ -19,7 +18,7 @@
 mod disk;
 mod file;
 mod opening;
-mod pair;
+mod two_files;
 
 pub use disk::FileDisk;
 pub use file::DiskFile;

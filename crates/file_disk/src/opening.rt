@@ -121,8 +121,8 @@ fn open_file(rt: &HostRuntime, directory: &str, id: FileId) -> Result<File, Open
     Ok(file)
 }
 
-// So many bytes a new file has: half as many as its groups take before the other one is made anew. An opening reads
-// them.
+// So many bytes a new file has: half as many as its groups take before the other one is made anew (`MOST_GROWN` of
+// `socket_edge::serving`). An opening reads them.
 const ROOM: u64 = 524_288;
 
 // Makes an empty file long, in zeros: a write that makes a file longer has its sync keep the new length as well, which
@@ -137,14 +137,11 @@ fn make_room(file: &File) -> Result<(), OpenError> {
     Ok(())
 }
 
-// Syncs a file, and asks the system to drop its copy in memory, which the system may refuse or leave undone: behind a
-// failed sync of another program that copy may differ from what the device has.
+// Syncs a file, and asks the system to drop its copy in memory, which the system may refuse, or leave undone and not
+// tell: behind a failed sync of another program that copy may differ from what the device has.
 fn sync_and_uncache(file: &File) -> Result<(), OpenError> {
     file.sync_all()?;
-    let refused = libc::posix_fadvise(file.as_raw_fd(), 0, 0, libc::POSIX_FADV_DONTNEED);
-    if refused != 0 {
-        return Err(OpenError::from(io::Error::from_raw_os_error(refused)));
-    }
+    let _ = libc::posix_fadvise(file.as_raw_fd(), 0, 0, libc::POSIX_FADV_DONTNEED);
     Ok(())
 }
 

@@ -22,12 +22,12 @@ use Rattle.entries.proofs.Needed.{empty-needs, needs-empty, some-entries}
 use Rattle.gateway.specs.Given.{handed, number_of}
 use Rattle.gateway.specs.Told.{Took}
 use Rattle.gateway.specs.declared.given.Given.{Given}
-use Rattle.gateway.specs.Kept.{IsRoomy, IsStanding}
+use Rattle.gateway.specs.Kept.{IsRoomy, LeadsToPresent}
 
 -- the entries of one more event make what the files stand for the present state
 pub takes_in : (config : Config) (files : Files) (were are entries : List Entry) (s new : State) (event : Event) (judged : Judged) (answer : Answer) → IsTrue (is_config config)
-    → IsSound config s → IsStanding config files were s → IsJudged config event judged → step config s judged ≡ (new, answer) → AreEntriesOf config s judged entries
-    → are ≡ were ++ entries → IsStanding config files are new
+    → IsSound config s → LeadsToPresent config files were s → IsJudged config event judged → step config s judged ≡ (new, answer) → AreEntriesOf config s judged entries
+    → are ≡ were ++ entries → LeadsToPresent config files are new
 takes_in config files were are entries s new event judged answer is_one sound was is_judged steps of same =
     let on : Enters config entries (lasting s) (lasting new) =
     subst (λ (p : State × Answer). Enters config entries (lasting s) (lasting p.0)) steps (step-entered config is_one s judged entries sound is_judged.right of) in

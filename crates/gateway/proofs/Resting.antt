@@ -9,23 +9,23 @@ use Rattle.durable.specs.Recovery.{Recovers}
 use Rattle.durable.proofs.Headed.{recovers_once}
 use Rattle.durable.proofs.Storable.{recovers_sound}
 use Rattle.machine.specs.Machine.{State}
-use Rattle.machine.specs.Noted.{IsRestarted, lasting}
+use Rattle.machine.specs.Noted.{IsResumed, lasting}
 use Rattle.entries.proofs.Again.{restart-sound}
 use Rattle.snapshot.specs.Store.{Keeps, RecoversEither, Stored}
-use Rattle.gateway.specs.Kept.{HasPlaces, IsStanding}
+use Rattle.gateway.specs.Kept.{HasPlaces, LeadsToPresent}
 
 -- where no entry waits, the files stand for the present state
-pub nothing_waits : (config : Config) (files : Files) (entries : List Entry) (s : State) → IsStanding config files entries s → entries ≡ [] → Recovers files (lasting s)
+pub nothing_waits : (config : Config) (files : Files) (entries : List Entry) (s : State) → LeadsToPresent config files entries s → entries ≡ [] → Recovers files (lasting s)
 nothing_waits config files entries s is none =
     let enters : Enters config [] is.first (lasting s) = subst (λ (es : List Entry). Enters config es is.first (lasting s)) none is.enters in
     subst (λ (d : Durable). Recovers files d) (sym enters) is.recovers
 
 -- and where they do, none is to be entered
-pub stands_for : (config : Config) (files : Files) (s : State) → Recovers files (lasting s) → IsStanding config files [] s
+pub stands_for : (config : Config) (files : Files) (s : State) → Recovers files (lasting s) → LeadsToPresent config files [] s
 stands_for config files s recovers = record { first = lasting s; recovers = recovers; enters = refl }
 
 -- the body of the group that waits leads from what the files stand for to the present state
-pub body_leads : (config own : Config) (files : Files) (entries : List Entry) (s : State) (body : List ℕ) (first : Durable) → own ≡ config → IsStanding config files entries s
+pub body_leads : (config own : Config) (files : Files) (entries : List Entry) (s : State) (body : List ℕ) (first : Durable) → own ≡ config → LeadsToPresent config files entries s
     → Recovers files first → AreEntries entries → body ≡ body_bytes entries → BodyEnters own body first (lasting s)
 body_leads config own files entries s body first same is recovers coded are = (
   entries,
@@ -56,14 +56,14 @@ module _ {D : Type 0} (moment : D → ℕ) (left : D → ℕ → Files → Type 
     first = d;
     active = rests.active;
     numbered = rests.numbered;
-    grows = rests.filled;
+    grows = rests.grows;
   }
 
 -- a gateway that begins again has nothing that waits
 pub begun : (config own : Config) (files : Files) (entries : List Entry) (d : Durable) (moment : ℕ) (s : State) → entries ≡ [] → own ≡ config → IsDurable config d
-    → IsRestarted config d moment s → Recovers files d → IsStanding own files entries s
-begun config own files entries d moment s none same sound restarted recovers =
-    let again = restart-sound config d moment s sound (recovers_sound.stilled files d recovers) restarted in
+    → IsResumed config d moment s → Recovers files d → LeadsToPresent own files entries s
+begun config own files entries d moment s none same sound resumed recovers =
+    let again = restart-sound config d moment s sound (recovers_sound.stilled files d recovers) resumed in
     record {
       first = d;
       recovers = recovers;

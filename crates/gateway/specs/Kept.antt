@@ -21,8 +21,8 @@ pub record Kept (D : Type 0) : Type 0 where
   pub fallen : Bool
   -- the generation of the active file
   pub generation : ℕ
-  -- of the active file: how many bytes of groups it has, and where the entries that wait would end if they stood right
-  -- behind these; gate and length come before them, so that their group ends five bytes later
+  -- of the active file: how many bytes of groups it has; and the place of the closed gate behind these, with the bytes
+  -- of the entries that wait added: once written, their group ends five bytes later, for its gate and its length
   pub grown : ℕ
   pub filled : ℕ
   -- the state, the last number, and the answers that are held
@@ -67,7 +67,7 @@ pub record IsReady {D : Type 0} (honest : D → Type 0) (gateway : Kept D) : Typ
   pub none : gateway.told.held ≡ []
 
 -- The files stand for a state that the entries which wait make the present one.
-pub record IsStanding (config : Config) (files : Files) (entries : List Entry)
+pub record LeadsToPresent (config : Config) (files : Files) (entries : List Entry)
     (s : State) : Type 0 where
   pub first : Durable
   pub recovers : Recovers files first

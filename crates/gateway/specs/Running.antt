@@ -81,14 +81,15 @@ module _ {D : Type 0} (honest : D → Type 0) (moment : D → ℕ) (left : D →
 module _ {D : Type 0} (honest : D → Type 0) (moment : D → ℕ) (left : D → ℕ → Files → Type 0)
     (failed : D → ℕ)
     (old new : Kept D) where
-  -- Wherever a run began that stood at the entry, it has come through these events too.
+  -- Each run that stood at `old` with the answers `before` handed out stands at `new`, behind the events `more` too,
+  -- with `out` handed out.
   abbrev pub CarriesOn : List Event → List (ℕ × Answer) → List (ℕ × Answer) → Type 0
   CarriesOn more before out =
       (start : Kept D) (events : List Event)
       → Stands honest moment left failed start old events before
       → Stands honest moment left failed start new (events ++ more) out
 
-  -- Wherever a run began that stood at the entry, it ends behind the first of these events, with a fault.
+  -- Each such run ends at `new`, behind a first part of `more`, with `out` handed out, and with this fault.
   abbrev pub BreaksOff : List Event → List (ℕ × Answer) → List (ℕ × Answer) → GatewayFault → Type 0
   BreaksOff more before out why =
       (start : Kept D) (events : List Event)

@@ -1,4 +1,5 @@
--- What the two files stand for between the calls of a gateway: the state after the answered events, and that after all.
+-- Between the calls of a gateway: what the two files stand for, which is the state after the answered events, and the
+-- present state, which is that after all.
 use Rattle.std.specs.Prelude.{◌≡◌, ◌≤◌, ◌⊎◌, ℕ, ◌+◌, ◌-◌, List, [], ◌∷◌, length, take, IsTrue}
 use Rattle.packet.specs.Config.{Config, is_config}
 use Rattle.durable.specs.Entering.{Durable}

@@ -16,11 +16,11 @@ ghost use Rattle.disk_model.specs.Disk.{Leaves, LeavesNow, LeavesOnly, Looks, Ca
 ghost use Rattle.durable.specs.Coding.{Entry, body_bytes};
 ghost use Rattle.durable.specs.Entering.{Durable, IsDurable, durable};
 ghost use Rattle.durable.specs.Recovery.{Alike, IsConfigured, NoneOpen, Recovers};
-ghost use Rattle.snapshot.specs.Store.{RecoversEither};
+ghost use Rattle.snapshot.specs.Store.{IsFirst, RecoversEither};
 ghost use Rattle.machine.specs.Judged.{Judged, IsJudged, IsNoLoad};
 ghost use Rattle.machine.specs.Machine.{AddsNone, EndsNone, later, step};
 ghost use Rattle.machine.specs.Sizes.{most_bytes};
-ghost use Rattle.machine.specs.Noted.{AreEntriesOf, HasEntry, IsRestarted, lasting};
+ghost use Rattle.machine.specs.Noted.{AreEntriesOf, HasEntry, IsResumed, lasting};
 ghost use Rattle.machine.specs.Sound.{IsSound};
 ghost use Rattle.machine.specs.declared.event.Answer.TheVariants.{Forward};
 ghost use Rattle.machine.specs.declared.event.What.TheVariants.{Packet};
@@ -63,7 +63,7 @@ pub struct Gateway<D: Disk + Drop> {
 impl<D: Disk + Drop> Model for Gateway<D> {
     ghost use Rattle.std.specs.Prelude.{◌≡◌, ◌+◌, [], length, false};
     ghost use Rattle.durable.specs.Coding.{body_bytes};
-    ghost use Rattle.gateway.specs.Kept.{Kept, IsStanding};
+    ghost use Rattle.gateway.specs.Kept.{Kept, LeadsToPresent};
 
     ghost Value = { Kept D };
 
@@ -85,7 +85,7 @@ impl<D: Disk + Drop> Model for Gateway<D> {
         × (g.pending.held ≡ [] → g.pending.entries ≡ [])
         × (g.store.fallen ≡ false → g.pending.place ≡ g.store.end)
         × (g.store.fallen ≡ false → D.honest g.store.disk
-        → IsStanding g.core.config (D.seen g.store.disk) g.pending.entries g.core.state) };
+        → LeadsToPresent g.core.config (D.seen g.store.disk) g.pending.entries g.core.state) };
 }
 
 impl<D: Disk + Drop> Gateway<D> {
@@ -127,18 +127,22 @@ impl<D: Disk + Drop> Gateway<D> {
 
         // The state is begun again from what the files stood for, which a crash leaves from now on.
         ensures ok { D.honest disk → IfOk result (λ g. (d : Durable) × Recovers (D.seen disk) d
-            × IsRestarted bounds d moment g.told.state
+            × IsResumed bounds d moment g.told.state
             × LeavesNow D.moment D.left g.disk (λ files. Recovers files d)) }
         ensures taken { D.honest disk → OnOk result (IsConfigured bounds (D.seen disk)) }
 
-        // Where a file is open both files are only looked at.
+        // Where no file is open, file A is made anew, of the first generation; otherwise both are only looked at.
+        ensures first { D.honest disk → NoneOpen (D.seen disk)
+            → IfOk result (λ g. IsFirst bounds (D.seen disk) (D.seen g.disk)) }
+        ensures generation { D.honest disk → NoneOpen (D.seen disk)
+            → IfOk result (λ g. g.generation ≡ 1) }
         ensures only_looks { D.honest disk → ¬ NoneOpen (D.seen disk)
             → IfOk result (λ g. Looks D.moment D.left D.seen disk g.disk) }
         ensures config { IfOk result (λ g. g.told.config ≡ bounds) }
 
         // Whatever the disk: the state is one that survives, begun again at the moment.
-        ensures restarted { IfOk result (λ g. (d : Durable) × IsDurable bounds d
-            × IsRestarted bounds d moment g.told.state) }
+        ensures resumed { IfOk result (λ g. (d : Durable) × IsDurable bounds d
+            × IsResumed bounds d moment g.told.state) }
         ensures last { IfOk result (λ g. g.told.last ≡ 0) }
         ensures none { IfOk result (λ g. g.told.held ≡ []) }
         ensures stands { IfOk result (λ g. g.fallen ≡ false) }
@@ -665,7 +669,8 @@ impl<D: Disk + Drop> Gateway<D> {
 
     /// Takes the events in turn, and hands out the held answers and theirs, in order, each with its number. Where 64
     /// answers are held it flushes; where an event is refused as `Full` it flushes, compacts, and offers the event
-    /// again; and it flushes at the end. Room for the answers is asked for first.
+    /// again; and it flushes at the end. Room for the answers is asked for first. A running natgw doesn't call it:
+    /// `socket_edge` calls the functions of `running`.
     ///
     /// # Errors
     ///
@@ -743,7 +748,7 @@ fn resume_core(
 ) -> Result<(Core, Pending), NoMemory>
     requires { IsDurable bounds (durable text.items sessions.now) }
     ensures config { IfOk result (λ r. r.0.config ≡ bounds) }
-    ensures state { IfOk result (λ r. IsRestarted bounds (durable text.items sessions.now) moment
+    ensures state { IfOk result (λ r. IsResumed bounds (durable text.items sessions.now) moment
         r.0.state) }
     ensures pending { IfOk result (λ r. r.1 ≡ record {
       held = [];
@@ -752,7 +757,7 @@ fn resume_core(
       room = 0;
     }) }
 {
-    // The core comes last, so that no way out of here lets one go.
+    // The core comes last, so that no way out of here lets one go (why: `Core::discard`).
     let Ok(pending) = Pending::new(alloc, place) else {
         return Err(NoMemory);
     };

@@ -8,7 +8,7 @@
 //! - `gateway_core`: `Gateway`, to which events are offered. A packet whose session goes on leaves at once, translated
 //!   where it lies, if nothing is held (`forward`); any packet may be taken where it lies (`pass`).
 //! - `running`: a run of events over the gateway's calls, event by event.
-//! - `laws`: what holds after any of its calls.
+//! - `laws`: what follows from the definitions of `specs/Standing`.
 #![tactic(auto)]
 
 mod fault;

@@ -93,7 +93,7 @@ impl Pending {
         self.held.len() + self.used
     }
 
-    /// Whether no entry waits.
+    /// Whether no entry waits. Then no answer is held; and between a gateway's calls none waits where none is held.
     pub(crate) fn is_quiet(&self) -> bool
         ensures value { IsTrue result ↔ (self.now.entries ≡ []) }
         ensures none { IsTrue result → self.now.held ≡ [] }

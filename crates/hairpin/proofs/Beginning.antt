@@ -4,8 +4,8 @@ use Rattle.std.proofs.lemmas.Option.{none-some}
 use Rattle.packet.specs.Config.{Config}
 use Rattle.packet.specs.declared.endpoint.Endpoint.{Endpoint}
 use Rattle.ruletree.specs.declared.tree.Spelled.{Spelled}
-use Rattle.mappings.specs.Map.{Pairs, times}
-use Rattle.mappings.specs.declared.map.Pair.{Pair}
+use Rattle.mappings.specs.Map.{Mappings, times}
+use Rattle.mappings.specs.declared.map.Mapping.{Mapping}
 use Rattle.sessions.specs.Listing.{listing}
 use Rattle.sessions.specs.declared.session.Session.{Session}
 use Rattle.verdict.specs.Hooks.{hook_outcome, prerouting_verdict, postrouting_verdict}
@@ -22,8 +22,8 @@ listing-none [] none = refl
 listing-none (None ∷ held) none = listing-none held (λ slot. none (suc slot))
 listing-none (Some s ∷ held) none = absurd (none-some s (sym (none 0)))
 
-pub counts_none : (pairs : Pairs) (held : List (Option Session)) → ((p : Pair) → times pairs p ≡ 0) → ((slot : ℕ) → get_or held slot None ≡ None) → (p : Pair) → times pairs p ≡ tally p held
-counts_none pairs held unmapped none p = unmapped p ∙ sym (tally-same p held [] none)
+pub counts_none : (mappings : Mappings) (held : List (Option Session)) → ((p : Mapping) → times mappings p ≡ 0) → ((slot : ℕ) → get_or held slot None ≡ None) → (p : Mapping) → times mappings p ≡ tally p held
+counts_none mappings held unmapped none p = unmapped p ∙ sym (tally-same p held [] none)
 
 none-sound : (config : Config) → AreSound config []
 none-sound config = record {

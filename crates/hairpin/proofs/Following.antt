@@ -1,4 +1,4 @@
--- The ports that are taken follow the pairs that are held.
+-- The ports that are taken follow the mappings that are held.
 use Rattle.std.proofs.Common.{◌≡◌, ◌⊎◌, ◌↔◌, ℕ, ◌<◌, List, [], ◌∷◌, ◌++◌, Bool, cond, refl, sym, ap, ◌∙◌, subst, inl, inr, arith}
 use Rattle.std.specs.List.{Contains}
 use Rattle.std.proofs.lemmas.Bool.{cases_Bool}
@@ -7,15 +7,15 @@ use Rattle.portpick.specs.Choice.{IsTestOf}
 use Rattle.packet.specs.declared.endpoint.Proto.{Proto}
 use Rattle.packet.specs.declared.endpoint.Endpoint.{Endpoint}
 use Rattle.portpick.specs.Taken.{TakenPorts, IsTaken, Takes, SameTaken}
-use Rattle.mappings.specs.declared.map.Pair.{Pair}
-use Rattle.mappings.specs.Map.{Pairs, times, pair, one_at, same_pair, Gains, SameTimes}
-use Rattle.mappings.proofs.Times.{same_pair-true, one_at-itself}
+use Rattle.mappings.specs.declared.map.Mapping.{Mapping}
+use Rattle.mappings.specs.Map.{Mappings, times, mapping, one_at, same_mapping, Gains, SameTimes}
+use Rattle.mappings.proofs.Times.{same_mapping-true, one_at-itself}
 use Rattle.hairpin.specs.Translations.{endpoint, IsOutside, IsOutsideOf, Follows}
 
-pub as_held : (m : Pairs) (p : Pair) (q : Proto) (e : Endpoint) → IsOutsideOf p q e → IsOutside m p.proto p.outside → IsOutside m q e
+pub as_held : (m : Mappings) (p : Mapping) (q : Proto) (e : Endpoint) → IsOutsideOf p q e → IsOutside m p.proto p.outside → IsOutside m q e
 as_held m p q e is held = subst (λ r. IsOutside m r e) (sym is.0) (subst (λ f. IsOutside m p.proto f) (sym is.1) held)
 
-module _ (p : Pair) (old new : TakenPorts) where
+module _ (p : Mapping) (old new : TakenPorts) where
   -- a port is taken that is taken already, or that was free
   pub took_again : IsTaken old p.proto p.outside.addr p.outside.port
       → (q : Proto) (r : ℕ) → IsTaken old q p.outside.addr r ↔ (IsTaken old q p.outside.addr r ⊎ IsOutsideOf p q (endpoint p.outside.addr r))
@@ -40,7 +40,7 @@ module _ (p : Pair) (old new : TakenPorts) where
     ]),
   )
 
-module _ (m : Pairs) (p : Pair) (old new : TakenPorts) where
+module _ (m : Mappings) (p : Mapping) (old new : TakenPorts) where
   -- a port is free again, or stays taken
   pub freed_none : ((q : Proto) (r : ℕ) → IsTaken old q p.outside.addr r ↔ (IsOutside m q (endpoint p.outside.addr r) ⊎ IsOutsideOf p q (endpoint p.outside.addr r))) → IsOutside m p.proto p.outside
       → (q : Proto) (r : ℕ) → IsTaken old q p.outside.addr r ↔ IsOutside m q (endpoint p.outside.addr r)
@@ -53,7 +53,7 @@ module _ (m : Pairs) (p : Pair) (old new : TakenPorts) where
   )
 
   pub freed_one : ((q : Proto) (r : ℕ) → IsTaken old q p.outside.addr r ↔ (IsOutside m q (endpoint p.outside.addr r) ⊎ IsOutsideOf p q (endpoint p.outside.addr r)))
-      → ((inside : Endpoint) → times m (pair p.proto inside p.outside) ≡ 0) → Takes new old p.proto p.outside.addr p.outside.port → ¬ IsTaken new p.proto p.outside.addr p.outside.port
+      → ((inside : Endpoint) → times m (mapping p.proto inside p.outside) ≡ 0) → Takes new old p.proto p.outside.addr p.outside.port → ¬ IsTaken new p.proto p.outside.addr p.outside.port
       → (q : Proto) (r : ℕ) → IsTaken new q p.outside.addr r ↔ IsOutside m q (endpoint p.outside.addr r)
   freed_one taken none takes free q r = (
     (λ t. elim ((taken q r).0 ((takes q p.outside.addr r).1 (inl t))) [
@@ -64,7 +64,7 @@ module _ (m : Pairs) (p : Pair) (old new : TakenPorts) where
       | inl t ↦ t
       | inr is ↦
           let e : endpoint p.outside.addr r ≡ p.outside = ap (endpoint p.outside.addr) is.2 in
-          let here : 0 < times m (pair p.proto o.0 p.outside) = subst (λ x. 0 < times m (pair x o.0 p.outside)) is.0 (subst (λ x. 0 < times m (pair q o.0 x)) e o.1) in
+          let here : 0 < times m (mapping p.proto o.0 p.outside) = subst (λ x. 0 < times m (mapping x o.0 p.outside)) is.0 (subst (λ x. 0 < times m (mapping q o.0 x)) e o.1) in
           absurd (omega (arith, here, none o.0))
     ]),
   )
@@ -73,26 +73,26 @@ module _ (m : Pairs) (p : Pair) (old new : TakenPorts) where
       → IsTaken old p.proto p.outside.addr p.outside.port
   was_taken taken = (taken p.proto p.outside.port).1 (inr (refl, refl))
 
--- the outside endpoints once a pair is held once more
-gained_here : (old new : Pairs) (g p : Pair) → Gains old new g → 0 < times new p → (0 < times old p) ⊎ (p ≡ g)
-gained_here old new g p gains lt = elim (cases_Bool (same_pair p g)) [
-  | inl one ↦ inr (same_pair-true p g one)
+-- the outside endpoints once a mapping is held once more
+gained_here : (old new : Mappings) (g p : Mapping) → Gains old new g → 0 < times new p → (0 < times old p) ⊎ (p ≡ g)
+gained_here old new g p gains lt = elim (cases_Bool (same_mapping p g)) [
+  | inl one ↦ inr (same_mapping-true p g one)
   | inr other ↦ let none : one_at p g ≡ 0 = ap (λ b. cond b 1 0) other in inl (omega (arith, gains p))
 ]
 
-gains_outside : (old new : Pairs) (g : Pair) → Gains old new g → (q : Proto) (e : Endpoint) → IsOutside new q e ↔ (IsOutside old q e ⊎ IsOutsideOf g q e)
+gains_outside : (old new : Mappings) (g : Mapping) → Gains old new g → (q : Proto) (e : Endpoint) → IsOutside new q e ↔ (IsOutside old q e ⊎ IsOutsideOf g q e)
 gains_outside old new g gains q e = (
-  (λ h. elim (gained_here old new g (pair q h.0 e) gains h.1) [
+  (λ h. elim (gained_here old new g (mapping q h.0 e) gains h.1) [
     | inl was ↦ inl (h.0, was)
-    | inr is ↦ inr (ap (λ (p : Pair). p.proto) is, ap (λ (p : Pair). p.outside) is)
+    | inr is ↦ inr (ap (λ (p : Mapping). p.proto) is, ap (λ (p : Mapping). p.outside) is)
   ]),
   (λ h. elim h [
-    | inl o ↦ (o.0, omega (arith, o.1, gains (pair q o.0 e)))
+    | inl o ↦ (o.0, omega (arith, o.1, gains (mapping q o.0 e)))
     | inr is ↦ as_held new g q e is (g.inside, omega (arith, gains g, one_at-itself g))
   ]),
 )
 
-module _ (external : ℕ) (old new : Pairs) (p : Pair) (ports ports' : TakenPorts) (follows : Follows external old ports) where
+module _ (external : ℕ) (old new : Mappings) (p : Mapping) (ports ports' : TakenPorts) (follows : Follows external old ports) where
   taken_at : p.outside.addr ≡ external → (q : Proto) (r : ℕ) → IsTaken ports q p.outside.addr r ↔ IsOutside old q (endpoint p.outside.addr r)
   taken_at at q r = subst (λ a. IsTaken ports q a r ↔ IsOutside old q (endpoint a r)) (sym at) (follows.taken q r)
 
@@ -116,7 +116,7 @@ module _ (external : ℕ) (old new : Pairs) (p : Pair) (ports ports' : TakenPort
         );
     placed = λ x lt. elim (gained_here old new p x gains lt) [
       | inl was ↦ follows.placed x was
-      | inr is ↦ (ap (λ (y : Pair). y.outside.addr) is ∙ at, subst (λ (y : Pair). 0 < y.outside.port) (sym is) some)
+      | inr is ↦ (ap (λ (y : Mapping). y.outside.addr) is ∙ at, subst (λ (y : Mapping). 0 < y.outside.port) (sym is) some)
     ];
   }
 
@@ -136,24 +136,24 @@ module _ (external : ℕ) (old new : Pairs) (p : Pair) (ports ports' : TakenPort
     placed = λ x lt. follows.placed x (omega (arith, loses x));
   }
 
--- the same pairs and the same ports
-pub follows-same : (external : ℕ) (old new : Pairs) (ports ports' : TakenPorts) → Follows external old ports → SameTimes old new → SameTaken ports ports' → ports'.external ≡ ports.external → Follows external new ports'
+-- the same mappings and the same ports
+pub follows-same : (external : ℕ) (old new : Mappings) (ports ports' : TakenPorts) → Follows external old ports → SameTimes old new → SameTaken ports ports' → ports'.external ≡ ports.external → Follows external new ports'
 follows-same external old new ports ports' follows times_same taken_same same = record {
   address = subst (λ (xs : List ℕ). Contains xs external) (sym same) follows.address;
   taken = λ q r.
       let t = follows.taken q r in
       let s = taken_same q external r in (
-        (λ h. let o = t.0 (s.0 h) in (o.0, omega (arith, o.1, times_same (pair q o.0 (endpoint external r))))),
-        (λ h. s.1 (t.1 (h.0, omega (arith, h.1, times_same (pair q h.0 (endpoint external r)))))),
+        (λ h. let o = t.0 (s.0 h) in (o.0, omega (arith, o.1, times_same (mapping q o.0 (endpoint external r))))),
+        (λ h. s.1 (t.1 (h.0, omega (arith, h.1, times_same (mapping q h.0 (endpoint external r)))))),
       );
   placed = λ x lt. follows.placed x (omega (arith, times_same x));
 }
 
-pub follows-none : (external : ℕ) (m : Pairs) (ports : TakenPorts) → Contains ports.external external → ((p : Pair) → times m p ≡ 0)
+pub follows-none : (external : ℕ) (m : Mappings) (ports : TakenPorts) → Contains ports.external external → ((p : Mapping) → times m p ≡ 0)
     → ((q : Proto) (a r : ℕ) → ¬ IsTaken ports q a r) → Follows external m ports
 follows-none external m ports address none free = record {
   address = address;
-  taken = λ q r. ((λ t. absurd (free q external r t)), (λ h. absurd (omega (arith, h.1, none (pair q h.0 (endpoint external r))))));
+  taken = λ q r. ((λ t. absurd (free q external r t)), (λ h. absurd (omega (arith, h.1, none (mapping q h.0 (endpoint external r))))));
   placed = λ p lt. absurd (omega (arith, none p));
 }
 
@@ -161,7 +161,7 @@ pub one_address : (external : ℕ) (xs ys : List ℕ) → xs ≡ ys ++ external 
 one_address external xs ys e = subst (λ (zs : List ℕ). Contains zs external) (sym e) (Contains-push ys external)
 
 -- a test that says which outside endpoints are held says which ports are taken
-pub chosen : (external : ℕ) (m : Pairs) (ports : TakenPorts) → Follows external m ports → (proto : Proto) (test : ℕ → Bool) → IsTestOf test (λ q. IsOutside m proto (endpoint external q))
+pub chosen : (external : ℕ) (m : Mappings) (ports : TakenPorts) → Follows external m ports → (proto : Proto) (test : ℕ → Bool) → IsTestOf test (λ q. IsOutside m proto (endpoint external q))
     → IsTestOf test (IsTaken ports proto external)
 chosen external m ports follows proto test says port = (
   (λ h. (follows.taken proto port).1 ((says port).0 h)),

@@ -11,12 +11,12 @@ use Rattle.sessions.specs.declared.session.Session.{Session}
 use Rattle.sessions.proofs.Clashing.{apart-from, differ}
 use Rattle.sessions.proofs.Puts.{find-none, find-some}
 use Rattle.sessions.proofs.Sets.{In-listing, listing-In}
-use Rattle.mappings.specs.declared.map.Pair.{Pair}
-use Rattle.mappings.specs.Map.{Pairs, times, pair}
+use Rattle.mappings.specs.declared.map.Mapping.{Mapping}
+use Rattle.mappings.specs.Map.{Mappings, times, mapping}
 use Rattle.mappings.proofs.Times.{one_at-itself}
 use Rattle.hairpin.specs.Legs.{is_taken, maps_inside, maps_outside}
 use Rattle.sessions.specs.Sound.{AreSound}
-use Rattle.hairpin.specs.Tallies.{tally, pair_of}
+use Rattle.hairpin.specs.Tallies.{tally, mapping_of}
 use Rattle.hairpin.specs.Translations.{IsOutside, endpoint}
 use Rattle.hairpin.proofs.Apart.{agree, maps-from, maps-parts, maps_outside-from, maps_outside-parts, taken-by, taken-from, translated_at}
 use Rattle.hairpin.proofs.Tally.{tally-at, tally-some, weighs, weight-translated}
@@ -38,31 +38,31 @@ module _ (config : Config) (sessions : List Session) (sound : AreSound config se
       let parts = maps-parts proto inside t passes in
       none t.outside (record { session = t; is_held = in_t; translated = parts.0; proto = parts.1; inside = parts.2; outside = refl }))
 
--- what is held of a session's pair
-pair-is : (s : Session) (proto : Proto) (inside outside : Endpoint) → s.proto ≡ proto → s.inside ≡ inside → s.outside ≡ outside → pair_of s ≡ pair proto inside outside
-pair-is s proto inside outside p i o = ap (λ x. pair x s.inside s.outside) p ∙ ap (λ x. pair proto x s.outside) i ∙ ap (pair proto inside) o
+-- what is held of a session's mapping
+mapping-is : (s : Session) (proto : Proto) (inside outside : Endpoint) → s.proto ≡ proto → s.inside ≡ inside → s.outside ≡ outside → mapping_of s ≡ mapping proto inside outside
+mapping-is s proto inside outside p i o = ap (λ x. mapping x s.inside s.outside) p ∙ ap (λ x. mapping proto x s.outside) i ∙ ap (mapping proto inside) o
 
-module _ (held : List (Option Session)) (m : Pairs) (counts : (p : Pair) → times m p ≡ tally p held) (config : Config) (is_one : is_config config ≡ true) (sound : AreSound config (listing held)) (proto : Proto) where
-  -- the pair of a translated session that is held is held
-  pair_held : (s : Session) (inside outside : Endpoint) (slot : ℕ) → get_or held slot None ≡ Some s → s.inside ≢ s.outside → s.proto ≡ proto → s.inside ≡ inside → s.outside ≡ outside
-      → 0 < times m (pair proto inside outside)
-  pair_held s inside outside slot at away p i o =
-      let own = pair_of s in
+module _ (held : List (Option Session)) (m : Mappings) (counts : (p : Mapping) → times m p ≡ tally p held) (config : Config) (is_one : is_config config ≡ true) (sound : AreSound config (listing held)) (proto : Proto) where
+  -- the mapping of a translated session that is held is held
+  mapping_held : (s : Session) (inside outside : Endpoint) (slot : ℕ) → get_or held slot None ≡ Some s → s.inside ≢ s.outside → s.proto ≡ proto → s.inside ≡ inside → s.outside ≡ outside
+      → 0 < times m (mapping proto inside outside)
+  mapping_held s inside outside slot at away p i o =
+      let own = mapping_of s in
       let few = tally-at own held slot (Some s) at in
       let some : 0 < times m own = omega (arith, counts own, weight-translated own s (differ s.inside s.outside away), one_at-itself own) in
-      subst (λ x. 0 < times m x) (pair-is s proto inside outside p i o) some
+      subst (λ x. 0 < times m x) (mapping-is s proto inside outside p i o) some
 
   -- the mapping that is found is that of the first session that has it
-  pub mapped_in : (inside outside : Endpoint) → 0 < times m (pair proto inside outside)
+  pub mapped_in : (inside outside : Endpoint) → 0 < times m (mapping proto inside outside)
       → (t : Session) × (find (maps_outside proto outside) (listing held) ≡ Some t) × (t.inside ≡ inside)
   mapped_in inside outside lt =
-      let p = pair proto inside outside in
+      let p = mapping proto inside outside in
       let some = tally-some p held (omega (arith, lt, counts p)) in
       let u = some.1 in
       let is = weighs p u some.3 in
-      let u_proto : u.proto ≡ proto = sym (ap (λ (q : Pair). q.proto) is.1) in
-      let u_inside : u.inside ≡ inside = sym (ap (λ (q : Pair). q.inside) is.1) in
-      let u_outside : u.outside ≡ outside = sym (ap (λ (q : Pair). q.outside) is.1) in
+      let u_proto : u.proto ≡ proto = sym (ap (λ (q : Mapping). q.proto) is.1) in
+      let u_inside : u.inside ≡ inside = sym (ap (λ (q : Mapping). q.inside) is.1) in
+      let u_outside : u.outside ≡ outside = sym (ap (λ (q : Mapping). q.outside) is.1) in
       let in_u = listing-In held u some.0 some.2 in
       let found = find-some (maps_outside proto outside) (listing held) u in_u (maps_outside-from proto outside u (apart-from _ _ is.0) u_proto u_outside) in
       let t = found.0 in
@@ -71,11 +71,11 @@ module _ (held : List (Option Session)) (m : Pairs) (counts : (p : Pair) → tim
       let inside_is : t.inside ≡ inside = same.1 (parts.2 ∙ sym u_outside) ∙ u_inside in
       (t, found.1, inside_is)
 
-  pub not_mapped_in : (outside : Endpoint) → ((inside : Endpoint) → times m (pair proto inside outside) ≡ 0) → find (maps_outside proto outside) (listing held) ≡ None
+  pub not_mapped_in : (outside : Endpoint) → ((inside : Endpoint) → times m (mapping proto inside outside) ≡ 0) → find (maps_outside proto outside) (listing held) ≡ None
   not_mapped_in outside none = find-none (maps_outside proto outside) (listing held) (λ t in_t passes.
       let parts = maps_outside-parts proto outside t passes in
       let at = In-listing held t in_t in
-      absurd (omega (arith, none t.inside, pair_held t t.inside outside at.0 at.1 parts.0 parts.1 refl parts.2)))
+      absurd (omega (arith, none t.inside, mapping_held t t.inside outside at.0 at.1 parts.0 parts.1 refl parts.2)))
 
   -- the ports that sessions have outside are those of the mappings
   pub taken_test : IsTestOf (is_taken (listing held) proto config.external) (λ q. IsOutside m proto (endpoint config.external q))
@@ -84,10 +84,10 @@ module _ (held : List (Option Session)) (m : Pairs) (counts : (p : Pair) → tim
         let s = taken-by (listing held) proto config.external port h in
         let at = In-listing held s.0 s.1 in
         let away = translated_at config s.0 is_one (sound.placed s.0 s.1) (ap (λ (e : Endpoint). e.addr) s.3) in
-        (s.0.inside, pair_held s.0 s.0.inside (endpoint config.external port) at.0 at.1 away s.2 refl s.3)),
+        (s.0.inside, mapping_held s.0 s.0.inside (endpoint config.external port) at.0 at.1 away s.2 refl s.3)),
     (λ o.
-        let p = pair proto o.0 (endpoint config.external port) in
+        let p = mapping proto o.0 (endpoint config.external port) in
         let some = tally-some p held (omega (arith, o.1, counts p)) in
         let is = weighs p some.1 some.3 in
-        taken-from (listing held) proto config.external port some.1 (listing-In held some.1 some.0 some.2) (sym (ap (λ (q : Pair). q.proto) is.1)) (sym (ap (λ (q : Pair). q.outside) is.1))),
+        taken-from (listing held) proto config.external port some.1 (listing-In held some.1 some.0 some.2) (sym (ap (λ (q : Mapping). q.proto) is.1)) (sym (ap (λ (q : Mapping). q.outside) is.1))),
   )

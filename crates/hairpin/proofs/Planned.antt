@@ -12,8 +12,8 @@ use Rattle.packet.specs.declared.endpoint.Proto.{Proto}
 use Rattle.packet.specs.declared.view.View.{View}
 use Rattle.portpick.specs.Choice.{IsTestOf, port_choice}
 use Rattle.ruletree.specs.declared.tree.Spelled.{Spelled}
-use Rattle.mappings.specs.declared.map.Pair.{Pair}
-use Rattle.mappings.specs.Map.{Pairs, times}
+use Rattle.mappings.specs.declared.map.Mapping.{Mapping}
+use Rattle.mappings.specs.Map.{Mappings, times}
 use Rattle.sessions.specs.Laws.{IsMapping}
 use Rattle.sessions.specs.Listing.{In, breaks_mapping, clashes, has_inside, has_outside, listing, put, same_flow}
 use Rattle.sessions.specs.Table.{AnyClash, Clash as Clashing}
@@ -112,16 +112,16 @@ module _ (config : Config) (rules : Spelled) (sessions : List Session) (now : �
 
 -- ---- the outside endpoint of a new first session, where no mapping has the inside one
 
-pub near_chosen : (config : Config) (rules : Spelled) (held : List (Option Session)) (pairs : Pairs) → ((p : Pair) → times pairs p ≡ tally p held) → is_config config ≡ true → AreSound config (listing held)
+pub near_chosen : (config : Config) (rules : Spelled) (held : List (Option Session)) (mappings : Mappings) → ((p : Mapping) → times mappings p ≡ tally p held) → is_config config ≡ true → AreSound config (listing held)
     → (now : ℕ) (view : View) (external : ℕ) (o : Option Endpoint) → external ≡ config.external → view.dst.addr ≡ config.external
     → ((outside : Endpoint) → ¬ IsMapping (listing held) view.proto view.src outside)
-    → ((taken : ℕ → Bool) → IsTestOf taken (λ q. IsOutside pairs view.proto (endpoint external q)) → o ≡ option_map (endpoint external) (port_choice taken view.src.port))
+    → ((taken : ℕ → Bool) → IsTestOf taken (λ q. IsOutside mappings view.proto (endpoint external q)) → o ≡ option_map (endpoint external) (port_choice taken view.src.port))
     → or_no_port o ≡ outside_near config rules (listing held) now view (find (maps_inside view.proto view.src) (listing held))
-near_chosen config rules held pairs counts is_one sound now view external o same at absent choose =
+near_chosen config rules held mappings counts is_one sound now view external o same at absent choose =
     let sessions = listing held in
     let none = not_mapped config sessions sound view.proto view.src absent in
-    let test = taken_test held pairs counts config is_one sound view.proto in
-    let says = subst (λ x. IsTestOf (is_taken sessions view.proto x) (λ q. IsOutside pairs view.proto (endpoint x q))) (sym same) test in
+    let test = taken_test held mappings counts config is_one sound view.proto in
+    let says = subst (λ x. IsTestOf (is_taken sessions view.proto x) (λ q. IsOutside mappings view.proto (endpoint x q))) (sym same) test in
     let is = choose (is_taken sessions view.proto external) says in
     let there = subst (λ x. o ≡ option_map (endpoint x) (port_choice (is_taken sessions view.proto x) view.src.port)) (same ∙ sym at) is in
     ap or_no_port there ∙ sym (ap (outside_near config rules sessions now view) none)

@@ -3,11 +3,11 @@ use Rattle.std.proofs.Common.{◌≡◌, ◌≢◌, ℕ, zero, suc, ◌+◌, ◌
 use Rattle.std.proofs.lemmas.Bool.{cases_lt, cases_Bool}
 use Rattle.std.proofs.lemmas.Grind.{common_steps}
 use Rattle.sessions.specs.declared.session.Session.{Session}
-use Rattle.mappings.specs.declared.map.Pair.{Pair}
+use Rattle.mappings.specs.declared.map.Mapping.{Mapping}
 use Rattle.packet.specs.Same.{same_endpoint}
-use Rattle.mappings.specs.Map.{one_at, same_pair}
-use Rattle.mappings.proofs.Times.{same_pair-true}
-use Rattle.hairpin.specs.Tallies.{weight, tally, pair_of}
+use Rattle.mappings.specs.Map.{one_at, same_mapping}
+use Rattle.mappings.proofs.Times.{same_mapping-true}
+use Rattle.hairpin.specs.Tallies.{weight, tally, mapping_of}
 
 first : List (Option Session) → Option Session
 first [] = None
@@ -27,7 +27,7 @@ unfolding rest
 rest-is [] k = refl
 rest-is (x ∷ xs) k = refl
 
-module _ (p : Pair) where
+module _ (p : Mapping) where
   parts : (xs : List (Option Session)) → tally p xs ≡ weight p (first xs) + tally p (rest xs)
   unfolding first rest
   parts [] = refl
@@ -82,39 +82,39 @@ module _ (p : Pair) where
   ]
 
 -- what a session weighs, by whether it is translated
-pub weight-translated : (p : Pair) (s : Session) → same_endpoint s.inside s.outside ≡ false → weight p (Some s) ≡ one_at p (pair_of s)
-weight-translated p s h = ap (λ b. cond b 0 (one_at p (pair_of s))) h
+pub weight-translated : (p : Mapping) (s : Session) → same_endpoint s.inside s.outside ≡ false → weight p (Some s) ≡ one_at p (mapping_of s)
+weight-translated p s h = ap (λ b. cond b 0 (one_at p (mapping_of s))) h
 
-pub weight-plain : (p : Pair) (s : Session) → same_endpoint s.inside s.outside ≡ true → weight p (Some s) ≡ 0
-weight-plain p s h = ap (λ b. cond b 0 (one_at p (pair_of s))) h
+pub weight-plain : (p : Mapping) (s : Session) → same_endpoint s.inside s.outside ≡ true → weight p (Some s) ≡ 0
+weight-plain p s h = ap (λ b. cond b 0 (one_at p (mapping_of s))) h
 
--- no pair counts more often than sessions are held
-one_at-few : (p q : Pair) → one_at p q ≤ 1
-one_at-few p q = elim (cases_Bool (same_pair p q)) [
+-- no mapping counts more often than sessions are held
+one_at-few : (p q : Mapping) → one_at p q ≤ 1
+one_at-few p q = elim (cases_Bool (same_mapping p q)) [
   | inl one ↦ let e : one_at p q ≡ 1 = ap (λ b. cond b 1 0) one in omega arith
   | inr other ↦ let e : one_at p q ≡ 0 = ap (λ b. cond b 1 0) other in omega arith
 ]
 
-weight-few : (p : Pair) (s : Session) → weight p (Some s) ≤ 1
+weight-few : (p : Mapping) (s : Session) → weight p (Some s) ≤ 1
 weight-few p s = elim (cases_Bool (same_endpoint s.inside s.outside)) [
   | inl same ↦ omega (arith, weight-plain p s same)
-  | inr away ↦ omega (arith, weight-translated p s away, one_at-few p (pair_of s))
+  | inr away ↦ omega (arith, weight-translated p s away, one_at-few p (mapping_of s))
 ]
 
-pub tally-few : (p : Pair) (xs : List (Option Session)) → tally p xs ≤ count_by is_some xs
+pub tally-few : (p : Mapping) (xs : List (Option Session)) → tally p xs ≤ count_by is_some xs
 tally-few p [] = omega arith
 tally-few p (None ∷ xs) = grind (arith, common_steps, tally-few p xs)
 tally-few p (Some s ∷ xs) = grind (arith, common_steps, tally-few p xs, weight-few p s)
 
--- a session that weighs at a pair is translated, and the pair is its own
-pub weighs : (p : Pair) (s : Session) → 0 < weight p (Some s) → (same_endpoint s.inside s.outside ≡ false) × (p ≡ pair_of s)
+-- a session that weighs at a mapping is translated, and the mapping is its own
+pub weighs : (p : Mapping) (s : Session) → 0 < weight p (Some s) → (same_endpoint s.inside s.outside ≡ false) × (p ≡ mapping_of s)
 weighs p s lt = elim (cases_Bool (same_endpoint s.inside s.outside)) [
   | inl same ↦ absurd (omega (arith, weight-plain p s same))
   | inr away ↦ (
     away,
-    elim (cases_Bool (same_pair p (pair_of s))) [
-      | inl one ↦ same_pair-true p (pair_of s) one
-      | inr other ↦ let zero_is : one_at p (pair_of s) ≡ 0 = ap (λ b. cond b 1 0) other in absurd (omega (arith, weight-translated p s away))
+    elim (cases_Bool (same_mapping p (mapping_of s))) [
+      | inl one ↦ same_mapping-true p (mapping_of s) one
+      | inr other ↦ let zero_is : one_at p (mapping_of s) ≡ 0 = ap (λ b. cond b 1 0) other in absurd (omega (arith, weight-translated p s away))
     ],
   )
 ]

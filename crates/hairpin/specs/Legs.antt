@@ -222,15 +222,15 @@ module _ (config : Config) (rules : Spelled) (sessions : List Session) (now : â„
   first_state (Some s) = state_of s Inside view.flags
   first_state None = New
 
-  -- the second session, among the sessions that hold the first one
-  module _ (first : Session) (held : List Session) where
+  -- the second session, among the sessions with the first one put in
+  module _ (first : Session) (with_first : List Session) where
     abbrev pub inside_far : Result Endpoint Cause
-    inside_far = inside_by_rules (find (maps_outside view.proto view.dst) held)
+    inside_far = inside_by_rules (find (maps_outside view.proto view.dst) with_first)
         (prerouting_verdict config (facts_of Lan None view.src view.dst New) rules)
 
     abbrev pub begun_second : Endpoint â†’ Result Session Cause
     begun_second inside = let t = new_session Remote inside view.dst first.outside in
-        if is_some (find (clashes t) held) then Err Clash else Ok t
+        if is_some (find (clashes t) with_first) then Err Clash else Ok t
 
     abbrev pub second_by : Option Session â†’ Result Session Cause
     second_by (Some s) = Ok (passed_by s Remote view.flags now)
@@ -238,7 +238,7 @@ module _ (config : Config) (rules : Spelled) (sessions : List Session) (now : â„
 
     abbrev pub second : Result Session Cause
     second = if same_endpoint first.outside view.dst then Err SelfMapped
-        else second_by (find (has_outside view.proto view.dst first.outside) held)
+        else second_by (find (has_outside view.proto view.dst first.outside) with_first)
 
   -- out by the first session, and in by the second; the rules see the packet once, between its inside endpoints
   abbrev pub hairpin_by : Option Session â†’ Result Passage Cause

@@ -5,26 +5,26 @@ use Rattle.packet.specs.Same.{same_endpoint}
 use Rattle.sessions.specs.Listing.{listing}
 use Rattle.sessions.specs.Sound.{AreSound}
 use Rattle.sessions.specs.declared.session.Session.{Session}
-use Rattle.mappings.specs.declared.map.Pair.{Pair}
-use Rattle.mappings.specs.Map.{one_at, pair, times}
+use Rattle.mappings.specs.declared.map.Mapping.{Mapping}
+use Rattle.mappings.specs.Map.{one_at, mapping, times}
 use Rattle.hairpin.specs.Translations.{Translations}
 
--- the pair of a session
-abbrev pub pair_of : Session → Pair
-pair_of s = pair s.proto s.inside s.outside
+-- the mapping of a session
+abbrev pub mapping_of : Session → Mapping
+mapping_of s = mapping s.proto s.inside s.outside
 
--- one where the place holds a translated session of this pair
-abbrev pub weight : Pair → Option Session → ℕ
+-- one where the place holds a translated session of this mapping
+abbrev pub weight : Mapping → Option Session → ℕ
 weight p None = 0
-weight p (Some s) = cond (same_endpoint s.inside s.outside) 0 (one_at p (pair_of s))
+weight p (Some s) = cond (same_endpoint s.inside s.outside) 0 (one_at p (mapping_of s))
 
--- how many translated sessions of this pair the places hold
-abbrev pub tally : Pair → List (Option Session) → ℕ
+-- how many translated sessions of this mapping the places hold
+abbrev pub tally : Mapping → List (Option Session) → ℕ
 tally p [] = 0
 tally p (place ∷ places) = weight p place + tally p places
 
 -- the sessions that are held are sound, and the translations are theirs, at the external address
 pub record AreOf (config : Config) (held : List (Option Session)) (t : Translations) : Type 0 where
   pub external : t.external ≡ config.external
-  pub counts : (p : Pair) → times t.pairs p ≡ tally p held
+  pub counts : (p : Mapping) → times t.mappings p ≡ tally p held
   pub sound : AreSound config (listing held)

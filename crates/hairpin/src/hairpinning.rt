@@ -8,7 +8,7 @@ ghost use Rattle.std.specs.Prelude.{◌≡◌, ◌≢◌, ◌↔◌, ◌<◌, �
 ghost use Rattle.std.specs.Option.{option_map, option_map_or};
 ghost use Rattle.packet.specs.Config.{Config, is_inside};
 ghost use Rattle.packet.specs.declared.endpoint.Endpoint.{Endpoint};
-ghost use Rattle.mappings.specs.declared.map.Pair.{Pair};
+ghost use Rattle.mappings.specs.declared.map.Mapping.{Mapping};
 ghost use Rattle.mappings.specs.Map.{times};
 ghost use Rattle.ruletree.specs.declared.tree.Spelled.{Spelled};
 ghost use Rattle.sessions.specs.Laws.{IsMapping};
@@ -16,7 +16,7 @@ ghost use Rattle.sessions.specs.Listing.{In, has_inside, has_outside, listing, p
 ghost use Rattle.sessions.specs.Table.{at, count};
 ghost use Rattle.sessions.specs.declared.session.Session.{Session};
 ghost use Rattle.verdict.specs.Hooks.{forward_verdict};
-ghost use Rattle.hairpin.specs.Legs.{begun_second as begun_far, counted, first_by, first_state, forwarded, hairpin as hairpin_way, inside_far as far_inside, maps_inside, maps_outside, or_no_mapping, outside_near as near_outside, passed_by, second as second_way, second_by, then_with, through};
+ghost use Rattle.hairpin.specs.Legs.{begun_second as begun_second_way, counted, first_by, first_state, forwarded, hairpin as hairpin_way, inside_far as inside_far_way, maps_inside, maps_outside, or_no_mapping, outside_near as outside_near_way, passed_by, second as second_way, second_by, then_with, through};
 ghost use Rattle.hairpin.specs.Plans.{Gives, IsOf, Plans};
 ghost use Rattle.hairpin.specs.KeptBounds.{KeepBounds};
 ghost use Rattle.sessions.specs.Sound.{AreSound};
@@ -39,7 +39,8 @@ use verdict::{Destination, Forwarding, Rules, State, forward, prerouting};
 /// destination, at the external address) and on to the inside endpoint that this stands for, at a moment in
 /// seconds (RFC 4787, REQ-9; RFC 5382, REQ-8).
 ///
-/// It goes out by one session and comes in by another, and leaves on lan with its external source (REQ-9a).
+/// It goes out by one session and comes in by another, and leaves on lan with its external source (REQ-9a): the leg
+/// `hairpin` of specs/Legs.
 /// Without a session or a mapping the first session's port is chosen at the destination's address,
 /// whatever the rules say. The second leg is that of a packet from the first one's outside endpoint. The forward
 /// chains see the packet once, between its inside endpoints. Nothing is changed, and no memory taken.
@@ -57,7 +58,7 @@ pub fn both(
     now: u64,
 ) -> Result<Plan, Cause>
     requires external { translations.now.external ≡ bounds.now.external }
-    requires counts { (p : Pair) → times translations.now.pairs p ≡ tally p table.now.held }
+    requires counts { (p : Mapping) → times translations.now.mappings p ≡ tally p table.now.held }
     requires sound { AreSound bounds.now (listing table.now.held) }
     requires bounded { KeepBounds bounds.now rules.now }
     requires ports { (0 < view.now.src.port) × (0 < view.now.dst.port) }
@@ -143,7 +144,7 @@ fn outside_near(
     requires port { 0 < view.now.src.port }
     requires external_destination { view.now.dst.addr ≡ bounds.now.external }
     ensures { (rules : Spelled) (now : ℕ) → let sessions = listing table.now.held in
-        result ≡ near_outside bounds.now rules sessions now view.now
+        result ≡ outside_near_way bounds.now rules sessions now view.now
         (find (maps_inside view.now.proto view.now.src) sessions) }
 {
     bounds.facts();
@@ -251,7 +252,7 @@ fn inside_far(
 ) -> Result<Endpoint, Cause>
     requires { AreOf bounds.now table.now.held translations.now }
     ensures { (now : ℕ) (first : Session) → let sessions = listing table.now.held in
-        result ≡ far_inside bounds.now rules.now sessions now view.now first sessions }
+        result ≡ inside_far_way bounds.now rules.now sessions now view.now first sessions }
 {
     let facts = facts_of(view, Iface::Lan, None, view.dst, State::New);
     match prerouting(rules, bounds, &facts) {
@@ -274,7 +275,7 @@ fn begun_second(
         → u.outside ≡ first.now.outside }
     requires away { first.now.remote ≢ first.now.outside }
     ensures { (config : Config) (rules : Spelled) (sessions : List Session)
-        → result ≡ begun_far config rules sessions now view.now first.now
+        → result ≡ begun_second_way config rules sessions now view.now first.now
         (put first.now (listing table.now.held)) inside }
 {
     let session = new_session(view, Opener::Remote, inside, view.dst, first.outside, now);

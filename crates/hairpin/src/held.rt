@@ -109,7 +109,7 @@ pub fn change_of(held: &Held, sender: Opener, flags: Flags) -> Change
     }
 }
 
-/// The session that the packet begins at the second `now`. Nothing is seen of it yet.
+/// The session that the packet begins at the moment `now`. Nothing is seen of it yet.
 pub fn new_session(
     view: &View,
     opener: Opener,

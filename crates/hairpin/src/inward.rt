@@ -1,7 +1,7 @@
 //! The leg of a packet from a remote endpoint to an outside one.
 ghost use Rattle.std.specs.Prelude.{◌≡◌, ◌⊎◌, ◌<◌, ◌≤◌, ℕ, List, Option, Some, None, IsTrue, length, slice_index_or};
 ghost use Rattle.packet.specs.Config.{is_inside};
-ghost use Rattle.mappings.specs.declared.map.Pair.{Pair};
+ghost use Rattle.mappings.specs.declared.map.Mapping.{Mapping};
 ghost use Rattle.mappings.specs.Map.{times};
 ghost use Rattle.sessions.specs.Listing.{listing};
 ghost use Rattle.sessions.specs.Table.{most_sessions};
@@ -42,7 +42,7 @@ pub fn in_leg(
     now: u64,
 ) -> Result<Plan, Cause>
     requires external { translations.now.external ≡ bounds.now.external }
-    requires counts { (p : Pair) → times translations.now.pairs p ≡ tally p table.now.held }
+    requires counts { (p : Mapping) → times translations.now.mappings p ≡ tally p table.now.held }
     requires sound { AreSound bounds.now (listing table.now.held) }
     requires bounded { KeepBounds bounds.now rules.now }
     requires ports { (0 < view.now.src.port) × (0 < view.now.dst.port) }
@@ -93,7 +93,7 @@ fn inside_of_new(
     view: &View,
 ) -> Result<Endpoint, Cause>
     ensures { (held : List (Option Session)) (now : ℕ)
-        → ((p : Pair) → times translations.now.pairs p ≡ tally p held)
+        → ((p : Mapping) → times translations.now.mappings p ≡ tally p held)
         → AreSound bounds.now (listing held)
         → result ≡ inside_for bounds.now rules.now (listing held) now view.now }
 {

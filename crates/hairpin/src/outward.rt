@@ -2,7 +2,7 @@
 ghost use Rattle.std.specs.Prelude.{◌≡◌, ◌<◌, ℕ, List, IsTrue, IfSome, IfNone, Option, Some, None, Ok, slice_index_or, find};
 ghost use Rattle.packet.specs.Config.{is_inside};
 ghost use Rattle.packet.specs.declared.endpoint.Endpoint.{Endpoint};
-ghost use Rattle.mappings.specs.declared.map.Pair.{Pair};
+ghost use Rattle.mappings.specs.declared.map.Mapping.{Mapping};
 ghost use Rattle.mappings.specs.Map.{times};
 ghost use Rattle.sessions.specs.Laws.{IsMapping};
 ghost use Rattle.sessions.specs.Listing.{has_inside, listing};
@@ -44,7 +44,7 @@ pub fn out_leg(
     now: u64,
 ) -> Result<Plan, Cause>
     requires external { translations.now.external ≡ bounds.now.external }
-    requires counts { (p : Pair) → times translations.now.pairs p ≡ tally p table.now.held }
+    requires counts { (p : Mapping) → times translations.now.mappings p ≡ tally p table.now.held }
     requires sound { AreSound bounds.now (listing table.now.held) }
     requires bounded { KeepBounds bounds.now rules.now }
     requires inside { IsTrue (is_inside bounds.now view.now.src.addr) }

@@ -7,12 +7,12 @@ ghost use Rattle.packet.specs.declared.endpoint.Endpoint.{Endpoint};
 ghost use Rattle.packet.specs.declared.endpoint.Proto.{Proto};
 ghost use Rattle.portpick.specs.Choice.{IsTestOf, port_choice};
 ghost use Rattle.portpick.specs.Taken.{IsTaken};
-ghost use Rattle.mappings.specs.Map.{times, pair as pair_with, Gains, KeepsOneToOne, SameTimes};
-ghost use Rattle.mappings.specs.declared.map.Pair.{Pair};
-ghost use Rattle.hairpin.specs.Tallies.{pair_of, weight};
+ghost use Rattle.mappings.specs.Map.{times, mapping as mapping_with, Gains, KeepsOneToOne, SameTimes};
+ghost use Rattle.mappings.specs.declared.map.Mapping.{Mapping};
+ghost use Rattle.hairpin.specs.Tallies.{mapping_of, weight};
 ghost use Rattle.hairpin.specs.Translations.{HasRoom, IsOutside, IsOutsideOf, endpoint};
 
-use mappings::map::{Map, Pair};
+use mappings::map::{Map, Mapping};
 use packet::endpoint::{Endpoint, Proto};
 use portpick::ports::Ports;
 use sessions::Session;
@@ -33,7 +33,11 @@ impl Model for Translations {
 
     ghost Value = { View };
 
-    ghost view = { λ t. record { external = t.external; pairs = t.map; port_room = t.ports.room } };
+    ghost view = { λ t. record {
+      external = t.external;
+      mappings = t.map;
+      port_room = t.ports.room;
+    } };
 
     ghost invariant = { λ t. Follows t.external t.map t.ports };
 }
@@ -45,7 +49,7 @@ impl Translations {
     ///
     /// `AllocError` where memory is refused.
     pub fn new(alloc: Global, external: u32) -> Result<Translations, AllocError>
-        ensures none { IfOk result (λ t. (p : Pair) → times t.pairs p ≡ 0) }
+        ensures none { IfOk result (λ t. (p : Mapping) → times t.mappings p ≡ 0) }
         ensures external { IfOk result (λ t. t.external ≡ external) }
     {
         let mut addresses = Vec::new(alloc);
@@ -66,7 +70,7 @@ impl Translations {
     pub fn reserve(&mut self) -> Result<(), AllocError>
         ensures ok { OnOk result (HasRoom 2 self.new) }
         ensures succeeds { HasRoom 2 self.old → IsOk result }
-        ensures same { SameTimes self.old.pairs self.new.pairs }
+        ensures same { SameTimes self.old.mappings self.new.mappings }
         ensures room { (n : ℕ) → HasRoom n self.old → HasRoom n self.new }
         ensures external { self.new.external ≡ self.old.external }
     {
@@ -78,9 +82,9 @@ impl Translations {
     /// legs ask the table of sessions.
     pub fn outside_of(&self, proto: Proto, inside: Endpoint) -> Option<Endpoint>
         ensures found { IfSome result (λ outside.
-            0 < times self.now.pairs (pair_with proto inside outside)) }
+            0 < times self.now.mappings (mapping_with proto inside outside)) }
         ensures absent { IfNone result ((outside : Endpoint)
-            → times self.now.pairs (pair_with proto inside outside) ≡ 0) }
+            → times self.now.mappings (mapping_with proto inside outside) ≡ 0) }
     {
         self.map.outside_of(proto, inside)
     }
@@ -88,9 +92,9 @@ impl Translations {
     /// The inside endpoint that this outside endpoint stands for, if it has a mapping.
     pub fn inside_of(&self, proto: Proto, outside: Endpoint) -> Option<Endpoint>
         ensures found { IfSome result (λ inside.
-            0 < times self.now.pairs (pair_with proto inside outside)) }
+            0 < times self.now.mappings (mapping_with proto inside outside)) }
         ensures absent { IfNone result ((inside : Endpoint)
-            → times self.now.pairs (pair_with proto inside outside) ≡ 0) }
+            → times self.now.mappings (mapping_with proto inside outside) ≡ 0) }
     {
         self.map.inside_of(proto, outside)
     }
@@ -119,7 +123,7 @@ impl Translations {
     pub fn choose(&self, proto: Proto, port: u16) -> Option<Endpoint>
         requires { 0 < port }
         ensures { (taken : ℕ → Bool)
-            → IsTestOf taken (λ q. IsOutside self.now.pairs proto (endpoint self.now.external q))
+            → IsTestOf taken (λ q. IsOutside self.now.mappings proto (endpoint self.now.external q))
             → result ≡ option_map (endpoint self.now.external) (port_choice taken port) }
     {
         match self.ports.pick(proto, self.external, port) {
@@ -134,109 +138,109 @@ impl Translations {
     /// Holds the mapping of the session once more, if it is translated.
     pub fn hold(&mut self, session: &Session)
         requires one_to_one { same_endpoint session.now.inside session.now.outside ≡ false
-            → KeepsOneToOne self.old.pairs (pair_of session.now) }
-        requires few { times self.old.pairs (pair_of session.now) < 65536 }
+            → KeepsOneToOne self.old.mappings (mapping_of session.now) }
+        requires few { times self.old.mappings (mapping_of session.now) < 65536 }
         requires placed { same_endpoint session.now.inside session.now.outside ≡ false
             → (session.now.outside.addr ≡ self.old.external) × (0 < session.now.outside.port) }
         requires ready { HasRoom 1 self.old }
-        ensures counts { (p : Pair) → times self.new.pairs p
-            ≡ times self.old.pairs p + weight p (Some session.now) }
+        ensures counts { (p : Mapping) → times self.new.mappings p
+            ≡ times self.old.mappings p + weight p (Some session.now) }
         ensures room { (n : ℕ) → HasRoom (n + 1) self.old → HasRoom n self.new }
         ensures external { self.new.external ≡ self.old.external }
     {
         if session.is_translated() {
-            self.hold_pair(pair_of(session));
+            self.hold_mapping(mapping_of(session));
         }
     }
 
     /// Holds the mapping of the session once less, if it is translated.
     pub fn release(&mut self, session: &Session)
-        requires { (p : Pair) → weight p (Some session.now) ≤ times self.old.pairs p }
-        ensures counts { (p : Pair) → times self.old.pairs p
-            ≡ times self.new.pairs p + weight p (Some session.now) }
+        requires { (p : Mapping) → weight p (Some session.now) ≤ times self.old.mappings p }
+        ensures counts { (p : Mapping) → times self.old.mappings p
+            ≡ times self.new.mappings p + weight p (Some session.now) }
         ensures room { (n : ℕ) → HasRoom n self.old → HasRoom n self.new }
         ensures external { self.new.external ≡ self.old.external }
     {
         if session.is_translated() {
-            self.release_pair(pair_of(session));
+            self.release_mapping(mapping_of(session));
         }
     }
 
-    /// Holds the pair once more, for which there is room: it is at the external address, shares neither
-    /// endpoint with another pair of its protocol, and is held fewer than 65,536 times.
-    fn hold_pair(&mut self, pair: Pair)
-        requires one_to_one { KeepsOneToOne self.old.pairs pair }
-        requires few { times self.old.pairs pair < 65536 }
-        requires address { pair.outside.addr ≡ self.old.external }
-        requires port { 0 < pair.outside.port }
+    /// Holds the mapping once more, for which there is room: it is at the external address, shares neither
+    /// endpoint with another mapping of its protocol, and is held fewer than 65,536 times.
+    fn hold_mapping(&mut self, mapping: Mapping)
+        requires one_to_one { KeepsOneToOne self.old.mappings mapping }
+        requires few { times self.old.mappings mapping < 65536 }
+        requires address { mapping.outside.addr ≡ self.old.external }
+        requires port { 0 < mapping.outside.port }
         requires room { HasRoom 1 self.old }
-        ensures gains { Gains self.old.pairs self.new.pairs pair }
+        ensures gains { Gains self.old.mappings self.new.mappings mapping }
         ensures room { (n : ℕ) → HasRoom (n + 1) self.old → HasRoom n self.new }
         ensures external { self.new.external ≡ self.old.external }
     {
-        take_port(&mut self.ports, pair);
-        match self.map.hold(pair) {
+        take_port(&mut self.ports, mapping);
+        match self.map.hold(mapping) {
             Ok(()) => {}
             Err(_) => unreachable!(),
         }
     }
 
-    /// Gives one hold of the pair back. With the last one the mapping is gone, and its port free.
-    fn release_pair(&mut self, pair: Pair)
-        requires { 0 < times self.old.pairs pair }
-        ensures loses { Gains self.new.pairs self.old.pairs pair }
+    /// Gives one hold of the mapping back. With the last one the mapping is gone, and its port free.
+    fn release_mapping(&mut self, mapping: Mapping)
+        requires { 0 < times self.old.mappings mapping }
+        ensures loses { Gains self.new.mappings self.old.mappings mapping }
         ensures room { (n : ℕ) → HasRoom n self.old → HasRoom n self.new }
         ensures external { self.new.external ≡ self.old.external }
     {
-        self.map.release(pair);
-        free_port(&self.map, &mut self.ports, pair);
+        self.map.release(mapping);
+        free_port(&self.map, &mut self.ports, mapping);
     }
 }
 
-fn pair_of(session: &Session) -> Pair
-    ensures { result ≡ pair_of session.now }
+fn mapping_of(session: &Session) -> Mapping
+    ensures { result ≡ mapping_of session.now }
 {
-    Pair {
+    Mapping {
         proto: session.proto,
         inside: session.inside,
         outside: session.outside,
     }
 }
 
-// The pair's port is taken, if it isn't yet.
-fn take_port(ports: &mut Ports, pair: Pair)
-    requires address { Contains ports.old.external pair.outside.addr }
-    requires not_zero { 0 < pair.outside.port }
+// The mapping's port is taken, if it isn't yet.
+fn take_port(ports: &mut Ports, mapping: Mapping)
+    requires address { Contains ports.old.external mapping.outside.addr }
+    requires not_zero { 0 < mapping.outside.port }
     requires room { 0 < ports.old.room }
-    ensures taken { (proto : Proto) (port : ℕ) → IsTaken ports.new proto pair.outside.addr port
-        ↔ (IsTaken ports.old proto pair.outside.addr port
-        ⊎ IsOutsideOf pair proto (endpoint pair.outside.addr port)) }
+    ensures taken { (proto : Proto) (port : ℕ) → IsTaken ports.new proto mapping.outside.addr port
+        ↔ (IsTaken ports.old proto mapping.outside.addr port
+        ⊎ IsOutsideOf mapping proto (endpoint mapping.outside.addr port)) }
     ensures addresses { ports.new.external ≡ ports.old.external }
     ensures room { ports.old.room ≤ ports.new.room + 1 }
 {
-    if ports.is_taken(pair.proto, pair.outside.addr, pair.outside.port) {
+    if ports.is_taken(mapping.proto, mapping.outside.addr, mapping.outside.port) {
         return;
     }
-    match ports.take(pair.proto, pair.outside.addr, pair.outside.port) {
+    match ports.take(mapping.proto, mapping.outside.addr, mapping.outside.port) {
         Ok(()) => {}
         Err(_) => unreachable!(),
     }
 }
 
-// The port of a pair that was released is free, if the pair is held no more.
-fn free_port(map: &Map, ports: &mut Ports, pair: Pair)
-    requires address { Contains ports.old.external pair.outside.addr }
-    requires not_zero { 0 < pair.outside.port }
-    requires taken { (proto : Proto) (port : ℕ) → IsTaken ports.old proto pair.outside.addr port
-        ↔ (IsOutside map.now proto (endpoint pair.outside.addr port)
-        ⊎ IsOutsideOf pair proto (endpoint pair.outside.addr port)) }
-    ensures taken { (proto : Proto) (port : ℕ) → IsTaken ports.new proto pair.outside.addr port
-        ↔ IsOutside map.now proto (endpoint pair.outside.addr port) }
+// The port of a mapping that was released is free, if the mapping is held no more.
+fn free_port(map: &Map, ports: &mut Ports, mapping: Mapping)
+    requires address { Contains ports.old.external mapping.outside.addr }
+    requires not_zero { 0 < mapping.outside.port }
+    requires taken { (proto : Proto) (port : ℕ) → IsTaken ports.old proto mapping.outside.addr port
+        ↔ (IsOutside map.now proto (endpoint mapping.outside.addr port)
+        ⊎ IsOutsideOf mapping proto (endpoint mapping.outside.addr port)) }
+    ensures taken { (proto : Proto) (port : ℕ) → IsTaken ports.new proto mapping.outside.addr port
+        ↔ IsOutside map.now proto (endpoint mapping.outside.addr port) }
     ensures addresses { ports.new.external ≡ ports.old.external }
     ensures room { ports.old.room ≤ ports.new.room }
 {
-    match map.inside_of(pair.proto, pair.outside) {
+    match map.inside_of(mapping.proto, mapping.outside) {
         Some(_) => {}
-        None => ports.free(pair.proto, pair.outside.addr, pair.outside.port),
+        None => ports.free(mapping.proto, mapping.outside.addr, mapping.outside.port),
     }
 }

@@ -5,7 +5,7 @@ use Rattle.std.proofs.lemmas.List.{take_at, drop_at, drop-drop, drop_more, get_o
 use Rattle.std.proofs.lemmas.List.Elements.{All-push}
 use Rattle.byteorder.specs.Endian.{big_bytes, big_number}
 use Rattle.byteorder.specs.Numbers.{length-bytes_high_first, big_number-reads_back}
-use Rattle.journal.specs.Groups.{Groups, GroupsOnce, GroupAt, IsTornAt, open_groups}
+use Rattle.journal.specs.Groups.{Groups, GroupsOnce, GroupAt, IsBrokenAt, open_groups}
 use Rattle.journal.proofs.Behind.{open_groups-push, length-open_groups-push}
 
 abbrev pub Fit : List (List ℕ) → Type 0
@@ -83,7 +83,7 @@ peel (b ∷ bs) (c ∷ cs) tail gate rest shut fb fc e =
     let next = same_body b c (open_groups bs ++ tail) (open_groups cs ++ end) (fb 0 [] (omega arith)) (fc 0 [] (omega arith)) (two_fronts b c bs cs tail end e) in
     peel bs cs tail gate rest shut (λ k d lt. fb (suc k) d (omega (arith, lt))) (λ k d lt. fc (suc k) d (omega (arith, lt))) next.1
 
-first_of_more : (file : List ℕ) (place gate : ℕ) (rest : List ℕ) (more : List (List ℕ)) → gate ≢ 1 → Fit more → drop place file ≡ open_groups more ++ gate ∷ rest → IsTornAt file place → ⊥
+first_of_more : (file : List ℕ) (place gate : ℕ) (rest : List ℕ) (more : List (List ℕ)) → gate ≢ 1 → Fit more → drop place file ≡ open_groups more ++ gate ∷ rest → IsBrokenAt file place → ⊥
 first_of_more file place gate rest [] shut fit e torn =
     shut (sym (ap (λ (l : List ℕ). get_or l 0 0) e) ∙ get_or-drop place file 0 0 ∙ ap (λ k. get_or file k 0) (omega arith) ∙ torn.open_gate)
 first_of_more file place gate rest (b ∷ more) shut fit e torn =
@@ -101,7 +101,7 @@ first_of_more file place gate rest (b ∷ more) shut fit e torn =
       fits = fit 0 [] (omega arith);
     })
 
-pub torn_there : (file : List ℕ) (at place : ℕ) (bodies : List (List ℕ)) → Read file at bodies place → IsTornAt file place → (others : List (List ℕ)) (end : ℕ) → Groups file at others end → ⊥
+pub torn_there : (file : List ℕ) (at place : ℕ) (bodies : List (List ℕ)) → Read file at bodies place → IsBrokenAt file place → (others : List (List ℕ)) (end : ℕ) → Groups file at others end → ⊥
 torn_there file at place bodies r torn others end g =
     let more = peel bodies others (drop place file) g.gate g.rest g.closed r.fit g.fit (sym r.split ∙ g.split) in
     first_of_more file place g.gate g.rest more.0 g.closed more.1 more.2 torn

@@ -1,14 +1,14 @@
 -- What the two writes of an append leave, and what stands after them.
 use Rattle.std.proofs.Common.{◌≡◌, ◌≢◌, ℕ, ◌+◌, ◌<◌, ◌≤◌, ◌^◌, List, [], ◌∷◌, ◌++◌, length, get_or, drop, sym, ◌∙◌, ap, subst, arith}
 use Rattle.disk_model.specs.declared.disk.FileId.{FileId}
-use Rattle.disk_model.specs.Disk.{Files, Torn, Written, Put, put, Leaves, Synced}
+use Rattle.disk_model.specs.Disk.{Files, Torn, TornIn, Put, put, Leaves, Synced}
 use Rattle.disk_model.proofs.Moments.{follows, at_end, narrows}
 use Rattle.journal.specs.Groups.{Groups, Extended, Appended, Resting, Stands, framed}
 use Rattle.journal.proofs.Behind.{torn_body, torn_gate, opened, put_whole, one_more, none, closed_there, length-framed}
 
 module _ {D : Type 0} (moment : D → ℕ) (left : D → ℕ → Files → Type 0) (seen : D → Files) (file : FileId) (at : ℕ) (body buffer : List ℕ) where
-  pub body_written : (old new : D) → Resting moment left seen old file at → Leaves moment left old new (Written file (at + 1) buffer) → Leaves moment left old new (Appended file at body)
-  body_written old new rest leaves = narrows moment left old new (Written file (at + 1) buffer) (Appended file at body) leaves (λ before files was written.
+  pub body_written : (old new : D) → Resting moment left seen old file at → Leaves moment left old new (TornIn file (at + 1) buffer) → Leaves moment left old new (Appended file at body)
+  body_written old new rest leaves = narrows moment left old new (TornIn file (at + 1) buffer) (Appended file at body) leaves (λ before files was written.
       let is = rest.synced before was in
       record {
         here = torn_body at buffer (before file) (files file) body (subst (λ l. at < length l) (sym is) rest.within) (subst (λ l. get_or l at 0 ≢ 1) (sym is) rest.closed) written.here;
@@ -17,11 +17,11 @@ module _ {D : Type 0} (moment : D → ℕ) (left : D → ℕ → Files → Type 
 
   pub gate_written : (old mid new : D) → buffer ≡ framed body → length body < 2 ^ 32 → Resting moment left seen old file at
       → ((s t : ℕ) (files : Files) → s ≤ t → left mid t files → left mid s files)
-      → Leaves moment left old mid (Written file (at + 1) buffer) → Put file (at + 1) buffer (seen old) (seen mid) → Synced moment left seen mid file
-      → Leaves moment left mid new (Written file at (1 ∷ [])) → Leaves moment left old new (Appended file at body)
+      → Leaves moment left old mid (TornIn file (at + 1) buffer) → Put file (at + 1) buffer (seen old) (seen mid) → Synced moment left seen mid file
+      → Leaves moment left mid new (TornIn file at (1 ∷ [])) → Leaves moment left old new (Appended file at body)
   gate_written old mid new is fits rest earlier first stored synced next =
-      let step = Written file (at + 1) buffer in
-      follows moment left old mid new (Appended file at body) (Written file at (1 ∷ [])) (Appended file at body)
+      let step = TornIn file (at + 1) buffer in
+      follows moment left old mid new (Appended file at body) (TornIn file at (1 ∷ [])) (Appended file at body)
       (body_written old mid rest first)
       next
       (λ before files was appended. appended)

@@ -5,7 +5,7 @@ use Rattle.std.proofs.lemmas.List.{take_at, drop-drop, drop_more, length-take-le
 use Rattle.std.proofs.lemmas.Nat.{be_bytes_4}
 use Rattle.byteorder.specs.Endian.{big_bytes, big_number}
 use Rattle.byteorder.specs.Numbers.{length-bytes_high_first, big_number-reads_back}
-use Rattle.journal.specs.Groups.{GroupAt, IsTornAt}
+use Rattle.journal.specs.Groups.{GroupAt, IsBrokenAt}
 
 same_number : (bs : List ℕ) → big_number 4 bs ≡ from_be_bytes w32 bs
 same_number bs = omega arith
@@ -14,7 +14,7 @@ pub number_bytes : (bs : List ℕ) (n : ℕ) → length bs ≡ 4 → ((i : ℕ) 
 number_bytes bs n four bytes is = be_bytes_4 bs n four bytes (is ∙ same_number bs)
 
 -- a length that goes past the end
-pub too_long : (file : List ℕ) (at count : ℕ) → get_or file at 0 ≡ 1 → at + 6 ≤ length file → count < 2 ^ 32 → big_bytes 4 count ≡ take 4 (drop (at + 1) file) → length file < at + 6 + count → IsTornAt file at
+pub too_long : (file : List ℕ) (at count : ℕ) → get_or file at 0 ≡ 1 → at + 6 ≤ length file → count < 2 ^ 32 → big_bytes 4 count ≡ take 4 (drop (at + 1) file) → length file < at + 6 + count → IsBrokenAt file at
 too_long file at count open_gate within fits is long = record {
   open_gate = open_gate;
   no_group = λ body g.

@@ -50,7 +50,7 @@ IsRead file at None = (at < length file) × (get_or file at 0 ≢ 1)
 IsRead file at (Some body) = GroupAt file at body.items
 
 -- an open gate, and behind it no whole group
-pub record IsTornAt (file : List ℕ) (at : ℕ) : Type 0 where
+pub record IsBrokenAt (file : List ℕ) (at : ℕ) : Type 0 where
   pub open_gate : get_or file at 0 ≡ 1
   pub no_group : (body : List ℕ) → GroupAt file at body → ⊥
 

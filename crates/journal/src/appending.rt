@@ -1,6 +1,6 @@
 //! Putting a group behind the others of a file.
 ghost use Rattle.std.specs.Prelude.{◌≡◌, ◌+◌, ◌<◌, ◌≤◌, ◌↔◌, ◌∷◌, length, IfOk, OnOk, IsErrOf};
-ghost use Rattle.disk_model.specs.Disk.{FromEntry, Leaves, Put, Called, Grew};
+ghost use Rattle.disk_model.specs.Disk.{FromLeft, Leaves, Put, Called, Grew};
 ghost use Rattle.journal.specs.Groups.{Resting, Appended, Stands, framed};
 
 use crate::{Group, JournalFault};
@@ -45,7 +45,7 @@ pub fn append<D: Disk>(
 
     // And so do the files read, whatever is answered.
     ensures seen { D.honest disk.old
-        → FromEntry D.moment D.left disk.old (Appended file at group.now.body) (D.seen disk.new) }
+        → FromLeft D.moment D.left disk.old (Appended file at group.now.body) (D.seen disk.new) }
     ensures called { D.honest disk.old
         → OnOk result (Called 4 (D.called disk.old) (D.called disk.new)) }
     ensures calls { D.honest disk.old → D.called disk.new ≤ D.called disk.old + 4 }

@@ -2,7 +2,7 @@
 ghost use Rattle.std.specs.Prelude.{◌≡◌, ◌+◌, ◌<◌, ◌≤◌, ◌↔◌, List, ℕ, length, get_or, IfOk, OnOk, IfSome, IsErrOf};
 ghost use Rattle.byteorder.specs.Endian.{big_bytes};
 ghost use Rattle.disk_model.specs.Disk.{Looks, Grew};
-ghost use Rattle.journal.specs.Groups.{Groups, GroupsOnce, IsRead, IsTornAt, bodies_of};
+ghost use Rattle.journal.specs.Groups.{Groups, GroupsOnce, IsRead, IsBrokenAt, bodies_of};
 
 use crate::JournalFault;
 use byteorder::{BigEndian, ByteOrder};
@@ -29,8 +29,8 @@ fn read_group<D: Disk>(
     requires within { D.honest disk.old → at < end }
     ensures honest { D.honest disk.old ↔ D.honest disk.new }
     ensures ok { D.honest disk.old → IfOk result (λ group. IsRead (D.seen disk.old file) at group) }
-    ensures torn { D.honest disk.old → IsErrOf result JournalFault.Damaged
-        → IsTornAt (D.seen disk.old file) at }
+    ensures broken { D.honest disk.old → IsErrOf result JournalFault.Damaged
+        → IsBrokenAt (D.seen disk.old file) at }
     ensures memory { D.honest disk.old → IsErrOf result JournalFault.NoMemory
         → get_or (D.seen disk.old file) at 0 ≡ 1 }
     ensures looks { D.honest disk.old → Looks D.moment D.left D.seen disk.old disk.new }
@@ -64,7 +64,8 @@ fn read_group<D: Disk>(
 }
 
 /// The bodies of the leading open groups from a place of a file on, in order, and the place of the closed gate behind
-/// them. It only looks.
+/// them. It only looks. A running natgw doesn't call it: an opening reads groups by `durable::recover`, from bytes in
+/// memory.
 ///
 /// # Errors
 ///

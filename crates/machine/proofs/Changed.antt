@@ -10,7 +10,7 @@ use Rattle.sessions.specs.declared.session.Opener.{Opener}
 use Rattle.sessions.specs.Table.{Sessions, Updates, IsSound, at, restarted, seen}
 use Rattle.sessions.proofs.Puts.{put-is}
 use Rattle.hairpin.specs.Plans.{Became, Gives, IsOf}
-use Rattle.machine.specs.Flows.{Flows, IsLatest, IsReady, adds}
+use Rattle.machine.specs.Flows.{Flows, IsLatest, TakesMore, adds}
 
 -- the slot, which held none or the session of the change, got this
 pub became : (old new : Sessions) (change : Change) (slot : ℕ) (t : Session) → IsSound old.held → IsSound new.held → Updates old new slot (Some t)
@@ -41,11 +41,11 @@ latest_update old new slot t now updates last latest = λ k s is. elim (cases_eq
 ]
 
 -- room for some sessions is room for fewer
-pub ready-fewer : (n m : ℕ) (f : Flows) → n ≤ m → IsReady m f → IsReady n f
+pub ready-fewer : (n m : ℕ) (f : Flows) → n ≤ m → TakesMore m f → TakesMore n f
 ready-fewer n m f le was = record {
   table = omega (arith, le, was.table);
   watchable = was.watchable;
-  translations = record { pairs = omega (arith, le, was.translations.pairs); ports = omega (arith, le, was.translations.ports) };
+  translations = record { mappings = omega (arith, le, was.translations.mappings); ports = omega (arith, le, was.translations.ports) };
 }
 
 pub adds-few : (change : Change) → adds change ≤ 1

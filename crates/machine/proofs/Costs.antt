@@ -8,7 +8,7 @@ use Rattle.sessions.specs.Stilled.{stilled}
 use Rattle.durable.specs.Entering.{flow_of}
 use Rattle.durable.specs.declared.entry.Flow.{Flow}
 use Rattle.durable.specs.Coding.{Entry, Begin, End, Restart, Seen, Load, endpoint_bytes, entry_bytes, flow_bytes, session_bytes}
-use Rattle.machine.specs.Noted.{ends, sessions_at, with_it, goes_on, is_same, noted, noted_all, noted_by}
+use Rattle.machine.specs.Noted.{ends, sessions_at, with_it, goes_on, is_same, entries_for, entries_for_all, entries_from}
 use Rattle.machine.specs.Sizes.{bytes_of}
 
 cost-begin : (s : Session) → length (entry_bytes (Begin s)) ≡ 22
@@ -36,7 +36,7 @@ between-few true c s t = omega arith
 between-few false true s t = let few = cost-seen (flow_of t) t.seen in omega (arith, few)
 between-few false false s t = let few = cost-restart (flow_of t) t.opener t.seen in omega (arith, few)
 
-pub noted-few : (o : Option Session) (t : Session) → bytes_of (noted_by o t) ≤ 22
+pub noted-few : (o : Option Session) (t : Session) → bytes_of (entries_from o t) ≤ 22
 noted-few None t = let few = cost-begin (stilled t) in omega (arith, few)
 noted-few (Some s) t = between-few (is_same s t) (goes_on s t) s t
 
@@ -45,11 +45,11 @@ bytes_of-append [] fs = omega arith
 bytes_of-append (e ∷ es) fs = let rest = bytes_of-append es fs in omega (arith, rest)
 
 -- one more after the others
-pub bytes_of-one : (t : Session) (ss : List Session) → bytes_of (noted_all (t ∷ []) ss) ≡ bytes_of (noted ss t)
-bytes_of-one t ss = bytes_of-append (noted ss t) [] ∙ omega arith
+pub bytes_of-one : (t : Session) (ss : List Session) → bytes_of (entries_for_all (t ∷ []) ss) ≡ bytes_of (entries_for ss t)
+bytes_of-one t ss = bytes_of-append (entries_for ss t) [] ∙ omega arith
 
-pub bytes_of-two : (t u : Session) (ss : List Session) → bytes_of (noted_all (t ∷ u ∷ []) ss) ≡ bytes_of (noted ss t) + bytes_of (noted (put t ss) u)
-bytes_of-two t u ss = bytes_of-append (noted ss t) (noted_all (u ∷ []) (put t ss)) ∙ ap (λ n. bytes_of (noted ss t) + n) (bytes_of-one u (put t ss))
+pub bytes_of-two : (t u : Session) (ss : List Session) → bytes_of (entries_for_all (t ∷ u ∷ []) ss) ≡ bytes_of (entries_for ss t) + bytes_of (entries_for (put t ss) u)
+bytes_of-two t u ss = bytes_of-append (entries_for ss t) (entries_for_all (u ∷ []) (put t ss)) ∙ ap (λ n. bytes_of (entries_for ss t) + n) (bytes_of-one u (put t ss))
 
 -- ---- the entries of sessions that end
 

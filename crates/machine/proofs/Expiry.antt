@@ -12,7 +12,7 @@ use Rattle.sessions.specs.Table.{IsSound}
 use Rattle.sessions.proofs.Sets.{Apart-sound, Rises-listing, Rises-filter, In-filter, filter-In, In-listing, listing-In, listing-is}
 use Rattle.timers.specs.declared.due.Idle.{Idle}
 use Rattle.timers.specs.Due as due
-use Rattle.mappings.specs.Map.{Pairs}
+use Rattle.mappings.specs.Map.{Mappings}
 use Rattle.timers.specs.Laws.{idle_of}
 use Rattle.sessions.specs.Life.{alive}
 use Rattle.machine.specs.Flows.{Tied, IsDue, IsLatest}
@@ -59,14 +59,14 @@ latest_map : (o : Option Session) (now : ℕ) → ((s : Session) → o ≡ Some 
 latest_map None now h = tt
 latest_map (Some s) now h = h s refl
 
-pub latest_watched : (t : table.Sessions) (d : due.Watched) (m : Pairs) (now : ℕ) → Tied t d m → IsLatest t.held now → due.IsLatest d now
+pub latest_watched : (t : table.Sessions) (d : due.Watched) (m : Mappings) (now : ℕ) → Tied t d m → IsLatest t.held now → due.IsLatest d now
 latest_watched t d m now tied latest = λ slot. subst (λ o. IfSome o (λ (i : Idle). i.last ≤ now)) (sym (tied.idle slot)) (latest_map (table.at t slot) now (λ s is. latest slot s is))
 
 over_map : (o : Option Session) (now : ℕ) → IsSomeAnd (option_map idle_of o) (due.IsOver now) ↔ IsSomeAnd o (IsDue now)
 over_map None now = ((λ h. h), (λ h. h))
 over_map (Some s) now = ((λ h. h), (λ h. h))
 
-pub due_sessions : (t : table.Sessions) (d : due.Watched) (m : Pairs) (now : ℕ) (slots : List ℕ) → Tied t d m → due.AreDue d now slots → (slot : ℕ) → Contains slots slot ↔ IsSomeAnd (table.at t slot) (IsDue now)
+pub due_sessions : (t : table.Sessions) (d : due.Watched) (m : Mappings) (now : ℕ) (slots : List ℕ) → Tied t d m → due.AreDue d now slots → (slot : ℕ) → Contains slots slot ↔ IsSomeAnd (table.at t slot) (IsDue now)
 due_sessions t d m now slots tied are slot = (
   (λ has. (over_map (table.at t slot) now).0 (subst (λ o. IsSomeAnd o (due.IsOver now)) (tied.idle slot) ((are.exactly slot).0 has))),
   (λ is. (are.exactly slot).1 (subst (λ o. IsSomeAnd o (due.IsOver now)) (sym (tied.idle slot)) ((over_map (table.at t slot) now).1 is))),
@@ -91,7 +91,7 @@ none_due held now lives slot = none_at (get_or held slot None) refl
     none_at None e h = absurd h
     none_at (Some s) e h = alive-not_due now s (lives s (listing-In held s slot e)) h
 
-pub none_over : (t : table.Sessions) (d : due.Watched) (m : Pairs) (now : ℕ) → Tied t d m → ((slot : ℕ) → ¬ IsSomeAnd (table.at t slot) (IsDue now)) → due.IsNoneOver d now
+pub none_over : (t : table.Sessions) (d : due.Watched) (m : Mappings) (now : ℕ) → Tied t d m → ((slot : ℕ) → ¬ IsSomeAnd (table.at t slot) (IsDue now)) → due.IsNoneOver d now
 none_over t d m now tied none slot over = none slot ((over_map (table.at t slot) now).0 (subst (λ o. IsSomeAnd o (due.IsOver now)) (tied.idle slot) over))
 
 pub first_of : (slots : List ℕ) → 0 < length slots → (slot : ℕ) × Contains slots slot

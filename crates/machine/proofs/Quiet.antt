@@ -16,7 +16,7 @@ use Rattle.hairpin.specs.declared.going.Going.{Going}
 use Rattle.hairpin.specs.declared.plan.Plan.{Plan}
 use Rattle.durable.specs.Coding.{Restart, Seen}
 use Rattle.durable.specs.Entering.{flow_of}
-use Rattle.machine.specs.Noted.{between, goes_on, is_same, noted_all, of_way}
+use Rattle.machine.specs.Noted.{between, goes_on, is_same, entries_for_all, of_way}
 use Rattle.machine.proofs.Telling.{seen-told}
 
 same_side-itself : (side : Opener) → same_side side side ≡ true
@@ -34,7 +34,7 @@ pub quiet-way : (external : ℕ) (held : List (Option Session)) (now : ℕ) (g :
 quiet-way external held now g sound quiet (Ok passage) is =
     let gives = is.sessions.1 in
     let told = seen-told held (Apart-sound held sound) external now g.slot g.bits gives.0 is.sessions.0 gives.1 gives in
-    ap (λ ts. noted_all ts (listing held)) is.sessions.2 ∙ ap (λ es. es ++ []) (sym told ∙ between-seen gives.0 g.bits now (quiet gives.0 gives.1))
+    ap (λ ts. entries_for_all ts (listing held)) is.sessions.2 ∙ ap (λ es. es ++ []) (sym told ∙ between-seen gives.0 g.bits now (quiet gives.0 gives.1))
 quiet-way external held now g sound quiet (Err cause) is = absurd is
 
 -- the changes of a plan give sessions

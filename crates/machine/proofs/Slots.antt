@@ -1,5 +1,5 @@
 -- The sessions that end, by the slots that hold them.
-use Rattle.std.proofs.Common.{◌≡◌, ◌≢◌, ◌⊎◌, ◌↔◌, inl, inr, ℕ, zero, suc, ◌<◌, List, [], ◌∷◌, Option, Some, None, IsSome, IsSomeAnd, get_or, slice_index, length, refl, sym, ap, subst, ◌∙◌, arith}
+use Rattle.std.proofs.Common.{◌≡◌, ◌⊎◌, ◌↔◌, inl, inr, ℕ, zero, suc, ◌<◌, List, [], ◌∷◌, Option, Some, None, IsSome, IsSomeAnd, get_or, slice_index, length, refl, sym, ap, subst, ◌∙◌, arith}
 use Rattle.std.specs.List.{Contains}
 use Rattle.std.proofs.lemmas.Bool.{cases_Bool}
 use Rattle.std.proofs.lemmas.List.{get_or_default}
@@ -8,6 +8,7 @@ use Rattle.sessions.specs.Life.{alive}
 use Rattle.sessions.specs.Listing.{In, listing}
 use Rattle.sessions.specs.Table.{IsSound}
 use Rattle.sessions.proofs.Sets.{In-listing, listing-In}
+use Rattle.timers.specs.Due.{AreOnce}
 use Rattle.machine.specs.Flows.{IsDue}
 use Rattle.machine.proofs.Expiry.{alive-not_due, due-not_alive, due_held}
 use Rattle.machine.proofs.Updated.{held_there}
@@ -47,9 +48,6 @@ module _ (held : List (Option Session)) where
     | inl e ↦ subst (λ o. In t (with_it o (sessions_at held more))) (sym at ∙ ap (λ k. get_or held k None) e) (inl refl)
     | inr there ↦ behind (get_or held x None) (sessions_at held more) t (at-In more slot t there at)
   ]
-
-  abbrev AreOnce : List ℕ → Type 0
-  AreOnce slots = (i j : ℕ) → i < j → j < length slots → slice_index slots i ≢ slice_index slots j
 
   module _ (sound : IsSound held) where
     distinct-slot : (x : ℕ) (more : List ℕ) → AreOnce (x ∷ more) → AreDistinct (sessions_at held more) → (o : Option Session) → get_or held x None ≡ o → AreDistinct (with_it o (sessions_at held more))
@@ -94,6 +92,6 @@ some-at held now slots exactly k lt = due_held (get_or held (slice_index slots k
 
 -- where no slot is due, none ends
 pub none-over : (held : List (Option Session)) → IsSound held → (now : ℕ) (slots : List ℕ) → ((slot : ℕ) → Contains slots slot ↔ IsSomeAnd (get_or held slot None) (IsDue now))
-    → ((i j : ℕ) → i < j → j < length slots → slice_index slots i ≢ slice_index slots j) → length slots ≡ 0 → AreOver now (listing held) []
+    → AreOnce slots → length slots ≡ 0 → AreOver now (listing held) []
 none-over held sound now [] exactly once none = slots-over held sound now [] exactly once
 none-over held sound now (x ∷ more) exactly once none = absurd (omega (arith, none))

@@ -18,7 +18,7 @@ use Rattle.sessions.proofs.Stilled.{one-of-key}
 use Rattle.hairpin.specs.Plans.{Gives, GivesThen, GiveAll, IsApart, IsOf, MayBegin}
 use Rattle.durable.specs.Coding.{Begin, Entry}
 use Rattle.machine.specs.Flows.{adds, adds_second}
-use Rattle.machine.specs.Noted.{between, noted, noted_all, noted_by}
+use Rattle.machine.specs.Noted.{between, entries_for, entries_for_all, entries_from}
 use Rattle.machine.specs.Sizes.{bytes_of}
 use Rattle.machine.proofs.Costs.{bytes_of-one, bytes_of-two, noted-few}
 use Rattle.machine.proofs.Later.{HasSuccessor, change-leads}
@@ -29,33 +29,33 @@ module _ (held : List (Option Session)) (apart : Apart held) where
   rises : Rises (listing held)
   rises = Rises-listing held apart
 
-  pub noted-held : (slot : ℕ) (s t : Session) → get_or held slot None ≡ Some s → same_flow t s ≡ true → noted (listing held) t ≡ between s t
+  pub noted-held : (slot : ℕ) (s t : Session) → get_or held slot None ≡ Some s → same_flow t s ≡ true → entries_for (listing held) t ≡ between s t
   noted-held slot s t is own =
       let in_s = listing-In held s slot is in
-      ap (λ o. noted_by o t) (find-is (same_flow t) (listing held) s in_s own (λ u in_u h. one-of-key (listing held) rises u s in_u in_s (flow-keys t u h ∙ sym (flow-keys t s own))))
+      ap (λ o. entries_from o t) (find-is (same_flow t) (listing held) s in_s own (λ u in_u h. one-of-key (listing held) rises u s in_u in_s (flow-keys t u h ∙ sym (flow-keys t s own))))
 
-  pub noted-new : (t : Session) → ¬ AnyClash held t → noted (listing held) t ≡ Begin (stilled t) ∷ []
+  pub noted-new : (t : Session) → ¬ AnyClash held t → entries_for (listing held) t ≡ Begin (stilled t) ∷ []
   noted-new t free =
-      ap (λ o. noted_by o t) (find-none (same_flow t) (listing held) (λ u in_u h.
+      ap (λ o. entries_from o t) (find-none (same_flow t) (listing held) (λ u in_u h.
       let at = In-listing held u in_u in
       free (record { place = at.0; held = u; is_held = at.1; clash = inl (has_inside-true t.proto t.inside t.remote u h) })))
 
   -- the entries of changes
   module _ (external now : ℕ) where
-    pub begin-told : (s t : Session) → Gives external held now (change.Begin s) t → Begin (stilled s) ∷ [] ≡ noted (listing held) t
+    pub begin-told : (s t : Session) → Gives external held now (change.Begin s) t → Begin (stilled s) ∷ [] ≡ entries_for (listing held) t
     begin-told s t gives =
         let may : MayBegin external held now t = subst (MayBegin external held now) gives.0 gives.1 in
         ap (λ u. Begin (stilled u) ∷ []) gives.0 ∙ sym (noted-new t may.apart)
 
     pub seen-told : (slot bits : ℕ) (s t : Session) → get_or held slot None ≡ Some s → Gives external held now (change.Seen slot bits) t
-        → between s (seen s bits now) ≡ noted (listing held) t
+        → between s (seen s bits now) ≡ entries_for (listing held) t
     seen-told slot bits s t is gives =
         let same : s ≡ gives.0 = same_Some s gives.0 (sym is ∙ gives.1) in
         let t_is : seen s bits now ≡ t = ap (λ u. seen u bits now) same ∙ sym gives.3 in
         ap (between s) t_is ∙ sym (noted-held slot s t is (keys-flow t s (ap key (sym t_is))))
 
     pub restart-told : (slot : ℕ) (opener : Opener) (s t : Session) → get_or held slot None ≡ Some s → Gives external held now (change.Restart slot opener) t
-        → between s (restarted s opener now) ≡ noted (listing held) t
+        → between s (restarted s opener now) ≡ entries_for (listing held) t
     restart-told slot opener s t is gives =
         let same : s ≡ gives.0 = same_Some s gives.0 (sym is ∙ gives.1) in
         let t_is : restarted s opener now ≡ t = ap (λ u. restarted u opener now) same ∙ sym gives.2 in
@@ -78,16 +78,16 @@ module _ (held : List (Option Session)) (apart : Apart held) (external now : ℕ
 
   -- a session that is held, and that the first change leaves alone
   told-before : (slot : ℕ) (s u : Session) → (¬ IsOf first slot) × (x : Session) × (get_or held slot None ≡ Some x) → get_or leads.later slot None ≡ Some s → same_flow u s ≡ true
-      → (get_or held slot None ≡ Some s) × (noted (put t (listing held)) u ≡ noted (listing held) u)
+      → (get_or held slot None ≡ Some s) × (entries_for (put t (listing held)) u ≡ entries_for (listing held) u)
   told-before slot s u alone at own =
       let here = leads.became.kept slot alone.1 alone.2 alone.0 in
       let same : s ≡ alone.1 = same_Some s alone.1 (sym at ∙ here) in
       let was : get_or held slot None ≡ Some s = alone.2 ∙ ap Some (sym same) in
-      (was, ap (λ ss. noted ss u) (sym leads.became.listing) ∙ noted-held leads.later leads.apart slot s u at own ∙ sym (noted-held held apart slot s u was own))
+      (was, ap (λ ss. entries_for ss u) (sym leads.became.listing) ∙ noted-held leads.later leads.apart slot s u at own ∙ sym (noted-held held apart slot s u was own))
 
   -- so it gives the same session, and the same entry
   pub second-told : (second : changes.Change) (u : Session) → IsApart held first second → GivesThen external held now first t second u → ((s : Session) → second ≢ change.Begin s)
-      → Gives external held now second u × (noted (put t (listing held)) u ≡ noted (listing held) u)
+      → Gives external held now second u × (entries_for (put t (listing held)) u ≡ entries_for (listing held) u)
   second-told (change.Begin s) u alone then new = absurd (new s refl)
   second-told (change.Seen slot bits) u alone then new =
       let g = then leads.later leads.became in
@@ -99,11 +99,11 @@ module _ (held : List (Option Session)) (apart : Apart held) (external now : ℕ
       ((g.0, told.0, g.2), told.1)
 
   -- one that begins makes an entry
-  pub begun-told : (s u : Session) → GivesThen external held now first t (change.Begin s) u → noted (put t (listing held)) u ≡ Begin (stilled u) ∷ []
+  pub begun-told : (s u : Session) → GivesThen external held now first t (change.Begin s) u → entries_for (put t (listing held)) u ≡ Begin (stilled u) ∷ []
   begun-told s u then =
       let g = then leads.later leads.became in
       let may : MayBegin external leads.later now u = subst (MayBegin external leads.later now) g.0 g.1 in
-      ap (λ ss. noted ss u) (sym leads.became.listing) ∙ noted-new leads.later leads.apart u may.apart
+      ap (λ ss. entries_for ss u) (sym leads.became.listing) ∙ noted-new leads.later leads.apart u may.apart
 
 -- ---- whether there is one
 
@@ -125,7 +125,7 @@ begins-one (change.Seen slot bits) some = absurd (omega (arith, some))
 begins-one (change.Restart slot opener) some = absurd (omega (arith, some))
 
 first-adds : (held : List (Option Session)) → Apart held → (external now : ℕ) (first : changes.Change) (t : Session) → Gives external held now first t → (more : List Entry)
-    → noted (listing held) t ++ more ≡ [] → adds first ≡ 0
+    → entries_for (listing held) t ++ more ≡ [] → adds first ≡ 0
 first-adds held apart external now (change.Begin s) t gives more none =
     absurd (some-behind [] (Begin (stilled s)) more (ap (λ es. es ++ more) (begin-told held apart external now s t gives) ∙ none))
 first-adds held apart external now (change.Seen slot bits) t gives more none = refl
@@ -140,30 +140,30 @@ module _ (held : List (Option Session)) (sound : IsSoundTable held) (external no
   pub second-gives : adds second ≡ 0 → Gives external held now second gives.1
   second-gives none = (second-told held own external now first gives.0 gives.2 second gives.1 gives.3 gives.4 (no_begin second none)).0
 
-  both-noted : noted_all ts (listing held) ≡ noted (listing held) gives.0 ++ (noted (put gives.0 (listing held)) gives.1 ++ [])
-  both-noted = ap (λ us. noted_all us (listing held)) gives.5
+  both-noted : entries_for_all ts (listing held) ≡ entries_for (listing held) gives.0 ++ (entries_for (put gives.0 (listing held)) gives.1 ++ [])
+  both-noted = ap (λ us. entries_for_all us (listing held)) gives.5
 
-  pub begin-is-noted : 0 < adds second → noted_all ts (listing held) ≢ []
+  pub begin-is-noted : 0 < adds second → entries_for_all ts (listing held) ≢ []
   begin-is-noted some none =
       let begins = begins-one second some in
       let then = subst (λ c. GivesThen external held now first gives.0 c gives.1) begins.1 gives.4 in
       let told = begun-told held own external now first gives.0 gives.2 begins.0 gives.1 then in
-      some-behind (noted (listing held) gives.0) (Begin (stilled gives.1)) []
-      (sym (ap (λ es. noted (listing held) gives.0 ++ (es ++ [])) told) ∙ sym both-noted ∙ none)
+      some-behind (entries_for (listing held) gives.0) (Begin (stilled gives.1)) []
+      (sym (ap (λ es. entries_for (listing held) gives.0 ++ (es ++ [])) told) ∙ sym both-noted ∙ none)
 
-  pub both-told : adds second ≡ 0 → noted (listing held) gives.0 ≡ [] → noted_all ts (listing held) ≡ noted (listing held) gives.1 ++ []
+  pub both-told : adds second ≡ 0 → entries_for (listing held) gives.0 ≡ [] → entries_for_all ts (listing held) ≡ entries_for (listing held) gives.1 ++ []
   both-told none quiet =
-      both-noted ∙ ap (λ es. es ++ (noted (put gives.0 (listing held)) gives.1 ++ [])) quiet
+      both-noted ∙ ap (λ es. es ++ (entries_for (put gives.0 (listing held)) gives.1 ++ [])) quiet
       ∙ ap (λ es. es ++ []) (second-told held own external now first gives.0 gives.2 second gives.1 gives.3 gives.4 (no_begin second none)).1
 
 -- where no entry is made, no session begins
 pub quiet-adds : (held : List (Option Session)) → IsSoundTable held → (external now : ℕ) (first : changes.Change) (second : Option changes.Change) (ts : List Session)
-    → GiveAll external held now first second ts → noted_all ts (listing held) ≡ [] → adds first + adds_second second ≡ 0
+    → GiveAll external held now first second ts → entries_for_all ts (listing held) ≡ [] → adds first + adds_second second ≡ 0
 quiet-adds held sound external now first None ts gives none =
-    let one = first-adds held (Apart-sound held sound) external now first gives.0 gives.1 [] (sym (ap (λ us. noted_all us (listing held)) gives.2) ∙ none) in
+    let one = first-adds held (Apart-sound held sound) external now first gives.0 gives.1 [] (sym (ap (λ us. entries_for_all us (listing held)) gives.2) ∙ none) in
     omega (arith, one)
 quiet-adds held sound external now first (Some second) ts gives none =
-    let one = first-adds held (Apart-sound held sound) external now first gives.0 gives.2 (noted (put gives.0 (listing held)) gives.1 ++ [])
+    let one = first-adds held (Apart-sound held sound) external now first gives.0 gives.2 (entries_for (put gives.0 (listing held)) gives.1 ++ [])
     (sym (both-noted held sound external now first second ts gives) ∙ none) in
     elim (cases_lt 0 (adds second)) [
       | inl some ↦ absurd (begin-is-noted held sound external now first second ts gives some none)
@@ -180,10 +180,10 @@ nil-before (e ∷ es) more none = absurd (cons≢nil e (es ++ more) none)
 
 -- a plan makes few bytes of entries
 pub plan-few : (external : ℕ) (held : List (Option Session)) (now : ℕ) (first : changes.Change) (second : Option changes.Change) (ts : List Session)
-    → GiveAll external held now first second ts → bytes_of (noted_all ts (listing held)) ≤ 44
+    → GiveAll external held now first second ts → bytes_of (entries_for_all ts (listing held)) ≤ 44
 plan-few external held now first None ts gives =
     let L = listing held in
-    omega (arith, ap (λ us. bytes_of (noted_all us L)) gives.2, bytes_of-one gives.0 L, noted-few (find (same_flow gives.0) L) gives.0)
+    omega (arith, ap (λ us. bytes_of (entries_for_all us L)) gives.2, bytes_of-one gives.0 L, noted-few (find (same_flow gives.0) L) gives.0)
 plan-few external held now first (Some second) ts gives =
     let L = listing held in
-    omega (arith, ap (λ us. bytes_of (noted_all us L)) gives.5, bytes_of-two gives.0 gives.1 L, noted-few (find (same_flow gives.0) L) gives.0, noted-few (find (same_flow gives.1) (put gives.0 L)) gives.1)
+    omega (arith, ap (λ us. bytes_of (entries_for_all us L)) gives.5, bytes_of-two gives.0 gives.1 L, noted-few (find (same_flow gives.0) L) gives.0, noted-few (find (same_flow gives.1) (put gives.0 L)) gives.1)

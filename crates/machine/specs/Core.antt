@@ -26,13 +26,13 @@ pub record IsCore (config : Config) (text : List ℕ) (rules : Spelled) (flows :
   pub sound : IsSound config (state_of text rules flows.table.held clock)
   pub live : EndsNone clock (state_of text rules flows.table.held clock)
 
--- what is done leads from the sessions that were held to those that are held, whatever the rules
+-- what is done leads from the sessions that were held to those that are held, whatever text and rules
 abbrev pub IsTransition : (State → State × Answer) → List (Option Session) → List (Option Session)
     → ℕ → Answer → Type 0
 IsTransition does old new now answer = (text : List ℕ) (rules : Spelled)
     → does (state_of text rules old now) ≡ (state_of text rules new now, answer)
 
--- what is done adds no session, whatever the rules
+-- what is done adds no session, whatever text and rules
 abbrev pub AddsNoSession : (State → State × Answer) → List (Option Session) → ℕ → Type 0
 AddsNoSession does held now = (text : List ℕ) (rules : Spelled)
     → AddsNone (state_of text rules held now) (does (state_of text rules held now))

@@ -1,28 +1,29 @@
 -- What contracts see of the sessions with their timers and mappings, and what ties these to the sessions.
-use Rattle.std.specs.Prelude.{◌≡◌, ◌≢◌, ℕ, ◌-◌, ◌<◌, ◌≤◌, List, Option, Some, None, count_by, is_some, false, slice_index_or}
+use Rattle.std.specs.Prelude.{◌≡◌, ◌≢◌, ℕ, ◌<◌, ◌≤◌, List, Option, Some, None, count_by, is_some, false, slice_index_or}
 use Rattle.std.specs.Option.{option_map}
 use Rattle.packet.specs.Same.{same_endpoint}
-use Rattle.sessions.specs.Life.{IsSeen, timeout_of}
+use Rattle.sessions.specs.Life.{IsSeen}
 use Rattle.sessions.specs.Table as table
 use Rattle.sessions.specs.declared.session.Change.{Change}
 use Rattle.sessions.specs.declared.session.Change.TheVariants.{Begin, Seen, Restart}
 use Rattle.sessions.specs.declared.session.Session.{Session}
 use Rattle.timers.specs.Due as due
 use Rattle.timers.specs.Laws.{idle_of}
-use Rattle.mappings.specs.declared.map.Pair.{Pair}
-use Rattle.mappings.specs.Map.{Pairs, times}
+use Rattle.mappings.specs.declared.map.Mapping.{Mapping}
+use Rattle.mappings.specs.Map.{Mappings, times}
 use Rattle.hairpin.specs.Tallies.{tally}
 use Rattle.hairpin.specs.Translations.{Translations, HasRoom}
 
 -- each session that is held, and no other slot, is watched with its last moment and its timeout; each
--- pair is held as often as translated sessions have it
-pub record Tied (sessions : table.Sessions) (watched : due.Watched) (pairs : Pairs) : Type 0 where
+-- mapping is held as often as translated sessions have it
+pub record Tied (sessions : table.Sessions) (watched : due.Watched)
+    (mappings : Mappings) : Type 0 where
   pub idle : (slot : ℕ) → due.at watched slot ≡ option_map idle_of (table.at sessions slot)
-  pub counts : (p : Pair) → times pairs p ≡ tally p sessions.held
+  pub counts : (p : Mapping) → times mappings p ≡ tally p sessions.held
 
 -- the session is alive no longer
 abbrev pub IsDue : ℕ → Session → Type 0
-IsDue now s = timeout_of s ≤ now - s.last
+IsDue now s = due.IsOver now (idle_of s)
 
 -- what a contract sees of the flows: the sessions, a number below which each slot is watched with no
 -- memory, and the mappings
@@ -32,7 +33,7 @@ pub record Flows : Type 0 where
   pub translations : Translations
 
 -- so many more sessions take no memory
-pub record IsReady (n : ℕ) (f : Flows) : Type 0 where
+pub record TakesMore (n : ℕ) (f : Flows) : Type 0 where
   pub table : n ≤ f.table.room
   pub watchable : f.table.slots ≤ f.watchable
   pub translations : HasRoom n f.translations

@@ -59,7 +59,7 @@ sent s bytes (Ok passage) = (
   answer.Forward passage.iface (translated bytes passage.src passage.dst),
 )
 
--- what the leg of a route comes to
+-- what the leg of a route comes to; of the state it reads no text, so that contracts say it of any
 abbrev pub leg : Config → State → View → Route → Result Passage Cause
 leg config s view Out = out_leg config s.rules s.sessions s.clock view
 leg config s view In = in_leg config s.rules s.sessions s.clock view

@@ -67,26 +67,27 @@ goes_on s t = same_side s.opener t.opener && nat_lt 0 t.seen
 abbrev pub between : Session → Session → List Entry
 between s t =
     if is_same s t then []
-    else (if goes_on s t then Seen (flow_of t) t.seen ∷ [] else Restart (flow_of t) t.opener t.seen ∷ [])
+    else (if goes_on s t then Seen (flow_of t) t.seen ∷ []
+    else Restart (flow_of t) t.opener t.seen ∷ [])
 
-abbrev pub noted_by : Option Session → Session → List Entry
-noted_by None t = Begin (stilled t) ∷ []
-noted_by (Some s) t = between s t
+abbrev pub entries_from : Option Session → Session → List Entry
+entries_from None t = Begin (stilled t) ∷ []
+entries_from (Some s) t = between s t
 
 -- the entries by which a session takes its place among these
-abbrev pub noted : List Session → Session → List Entry
-noted sessions t = noted_by (find (same_flow t) sessions) t
+abbrev pub entries_for : List Session → Session → List Entry
+entries_for sessions t = entries_from (find (same_flow t) sessions) t
 
 -- and by which several do, in turn
-abbrev pub noted_all : List Session → List Session → List Entry
-noted_all [] sessions = []
-noted_all (t ∷ ts) sessions = noted sessions t ++ noted_all ts (put t sessions)
+abbrev pub entries_for_all : List Session → List Session → List Entry
+entries_for_all [] sessions = []
+entries_for_all (t ∷ ts) sessions = entries_for sessions t ++ entries_for_all ts (put t sessions)
 
 -- ---- what is done
 
 abbrev pub of_way : List Session → Result Passage Cause → List Entry
 of_way sessions (Err why) = []
-of_way sessions (Ok passage) = noted_all passage.sessions sessions
+of_way sessions (Ok passage) = entries_for_all passage.sessions sessions
 
 abbrev pub of_route : Config → State → View → Result Route RouteFault → List Entry
 of_route config s view (Err fault) = []
@@ -133,7 +134,7 @@ AreEntriesOfAll config s (judged ∷ more) entries =
 
 -- ---- a state that is begun again from what is durable
 
-pub record IsRestarted (config : Config) (d : Durable) (moment : ℕ) (s : State) : Type 0 where
+pub record IsResumed (config : Config) (d : Durable) (moment : ℕ) (s : State) : Type 0 where
   pub sessions : s.sessions ≡ map (moved moment) d.sessions
   pub text : s.text ≡ d.text
   pub clock : s.clock ≡ moment

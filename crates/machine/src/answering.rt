@@ -19,7 +19,7 @@ ghost use Rattle.machine.specs.Fates.{answer_of};
 ghost use Rattle.machine.specs.Machine.{AddsNone, leg, pass, sent};
 ghost use Rattle.machine.specs.Noted.{of_fields, of_way};
 ghost use Rattle.machine.specs.Sound.{IsInForce};
-ghost use Rattle.machine.specs.Flows.{IsLatest, IsReady};
+ghost use Rattle.machine.specs.Flows.{IsLatest, TakesMore};
 ghost use Rattle.machine.specs.declared.event.Answer.TheVariants.{Forward};
 ghost use Rattle.machine.specs.declared.event.Fate.TheVariants.{Dropped};
 
@@ -57,7 +57,7 @@ fn answer_planned<N: Notes>(
 ) -> Result<Fate, StepFault>
     requires read { IsOkAnd (fields packet.old) (λ view. 2 ≤ view.ttl) }
     requires latest { IsLatest flows.old.table.held now }
-    requires ready { IsTrue ready → IsReady 2 flows.old }
+    requires ready { IsTrue ready → TakesMore 2 flows.old }
     requires room { IsTrue ready → N.keeps notes.old → 44 ≤ N.room notes.old }
     requires planned { (way : Result Passage Cause)
         × Plans flows.old.translations.external flows.old.table.held now plan.now way }
@@ -152,7 +152,7 @@ fn answer_by_plan<N: Notes>(
     requires routed { (iface : Iface) × (route_for bounds.now iface view.now ≡ Ok route) }
     requires read { IsOkAnd (fields packet.old) (λ view. 2 ≤ view.ttl) }
     requires latest { IsLatest flows.old.table.held now }
-    requires ready { IsTrue ready → IsReady 2 flows.old }
+    requires ready { IsTrue ready → TakesMore 2 flows.old }
     requires room { IsTrue ready → N.keeps notes.old → 44 ≤ N.room notes.old }
     ensures ok { IfOk result (λ fate. (text : List ℕ)
         → IsTransition (λ s. sent s packet.old (leg bounds.now
@@ -209,8 +209,8 @@ fn glance(
     }
 }
 
-// As `glance`, of a packet that may show something new of its session. One that asks for a new connection isn't looked
-// for so: it seldom has a session, and the look would wait for memory.
+// As `glance`, of a packet that may show something new of its session. One that asks for a new connection and comes
+// here isn't looked for so: it seldom has a session, and the look would wait for memory.
 #[inline(always)]
 fn glance_showing(
     flows: &Flows,
@@ -321,7 +321,7 @@ pub(crate) fn answer_packet<N: Notes>(
     requires sound { AreSound bounds.now (listing flows.old.table.held) }
     requires in_force { IsInForce bounds.now in_force.now.text in_force.now.rules }
     requires latest { IsLatest flows.old.table.held now }
-    requires ready { IsTrue ready → IsReady 2 flows.old }
+    requires ready { IsTrue ready → TakesMore 2 flows.old }
     requires room { IsTrue ready → N.keeps notes.old → 44 ≤ N.room notes.old }
     ensures ok { IfOk result (λ fate. pass bounds.now
         (state_of in_force.now.text in_force.now.rules flows.old.table.held now) iface

@@ -18,11 +18,11 @@ ghost use Rattle.machine.specs.Judged.{Judged, IsJudged, IsNoLoad, bringer};
 ghost use Rattle.machine.specs.Machine.{AddsNone, EndsNone, act, aged, empty_at, later, pass, step};
 ghost use Rattle.durable.specs.Coding.{Entry as Recorded};
 ghost use Rattle.durable.specs.Entering.{IsDurable, durable};
-ghost use Rattle.machine.specs.Noted.{AreEntriesOf, AreOver, IsRestarted, ends, of_deed, of_fields};
+ghost use Rattle.machine.specs.Noted.{AreEntriesOf, AreOver, IsResumed, ends, of_deed, of_fields};
 ghost use Rattle.machine.specs.Sizes.{most_bytes};
 ghost use Rattle.sessions.specs.declared.session.Session.{Session};
 ghost use Rattle.machine.specs.Sound.{IsInForce, IsSound};
-ghost use Rattle.machine.specs.Flows.{IsLatest, IsReady};
+ghost use Rattle.machine.specs.Flows.{IsLatest, TakesMore};
 ghost use Rattle.machine.specs.declared.event.Answer.TheVariants.{Forward};
 ghost use Rattle.machine.specs.declared.event.What.TheVariants.{Packet};
 
@@ -86,7 +86,7 @@ fn answer_deed<N: Notes>(
     requires sound { AreSound bounds.now (listing flows.old.table.held) }
     requires in_force { IsInForce bounds.now in_force.old.text in_force.old.rules }
     requires latest { IsLatest flows.old.table.held now }
-    requires ready { IsTrue ready → IsReady 2 flows.old }
+    requires ready { IsTrue ready → TakesMore 2 flows.old }
     requires room { IsTrue ready → N.keeps notes.old → most_bytes deed ≤ N.room notes.old }
     ensures ok { IfOk result (λ answer. act bounds.now
         (state_of in_force.old.text in_force.old.rules flows.old.table.held now) deed
@@ -288,7 +288,7 @@ impl Core {
     ) -> Result<Core, NoMemory>
         requires { IsDurable bounds (durable text.items sessions.now) }
         ensures config { IfOk result (λ c. c.config ≡ bounds) }
-        ensures state { IfOk result (λ c. IsRestarted bounds (durable text.items sessions.now)
+        ensures state { IfOk result (λ c. IsResumed bounds (durable text.items sessions.now)
             moment c.state) }
     {
         let in_force = in_force_again(alloc, &bounds, text)?;

@@ -9,7 +9,7 @@
 //!   `end_noted`, `end`).
 //! - `new`, `of`: no session, or those that survived (`place`).
 //! - `watch`, `touch`: the timers of one.
-ghost use Rattle.std.specs.Prelude.{◌≡◌, ◌≢◌, ◌↔◌, ◌+◌, ◌-◌, ◌*◌, ◌<◌, ◌≤◌, ◌++◌, ◌∷◌, [], ℕ, List, true, false, IsErrOf, IsTrue, Some, None, IfOk, OnOk, OnErr, IsOk, IfSome, IsSome, IsSomeAnd, length, map, slice_index, bit_or};
+ghost use Rattle.std.specs.Prelude.{◌≡◌, ◌↔◌, ◌+◌, ◌-◌, ◌*◌, ◌<◌, ◌≤◌, ◌++◌, ◌∷◌, [], ℕ, List, true, false, IsErrOf, IsTrue, Some, None, IfOk, OnOk, OnErr, IsOk, IfSome, IsSome, IsSomeAnd, length, map, slice_index, bit_or};
 ghost use Rattle.std.specs.List.{Contains, filter};
 ghost use Rattle.std.specs.Option.{option_map};
 ghost use Rattle.sessions.specs.Life.{IsSeen, IsTimeout, alive, timeout_of};
@@ -18,16 +18,16 @@ ghost use Rattle.sessions.specs.Sound.{AreSound};
 ghost use Rattle.sessions.specs.Stilled.{moved};
 ghost use Rattle.sessions.specs.Table.{at, Updates, IsSound, seen as seen_with, restarted};
 ghost use Rattle.sessions.specs.declared.session.Session.{Session};
-ghost use Rattle.timers.specs.Due.{at as idle_at, IsLatest as IsLatestIdle, Updates as IdleUpdates};
-ghost use Rattle.mappings.specs.declared.map.Pair.{Pair};
+ghost use Rattle.timers.specs.Due.{AreOnce, at as idle_at, IsLatest as IsLatestIdle, Updates as IdleUpdates};
+ghost use Rattle.mappings.specs.declared.map.Mapping.{Mapping};
 ghost use Rattle.mappings.specs.Map.{times};
 ghost use Rattle.hairpin.specs.Going.{plan_of};
 ghost use Rattle.hairpin.specs.Legs.{put_all};
 ghost use Rattle.hairpin.specs.Plans.{Became, Gives, GiveAll};
 ghost use Rattle.hairpin.specs.Tallies.{tally};
-ghost use Rattle.machine.specs.Noted.{AreOver, ends, noted, noted_all, sessions_at};
+ghost use Rattle.machine.specs.Noted.{AreOver, ends, entries_for, entries_for_all, sessions_at};
 ghost use Rattle.machine.specs.Sizes.{bytes_of};
-ghost use Rattle.machine.specs.Flows.{IsDue, IsLatest, IsReady, MayJoin, adds as adds_by, adds_second};
+ghost use Rattle.machine.specs.Flows.{IsDue, IsLatest, TakesMore, MayJoin, adds as adds_by, adds_second};
 
 use crate::ahead::{count_ending, count_mapped};
 use crate::fault::StepFault;
@@ -62,11 +62,11 @@ impl Model for Flows {
 
     ghost view = { λ f. record {
       table = f.table;
-      watchable = f.due.ready;
+      watchable = f.due.watchable;
       translations = f.translations;
     } };
 
-    ghost invariant = { λ f. Tied f.table f.due f.translations.pairs };
+    ghost invariant = { λ f. Tied f.table f.due f.translations.mappings };
 }
 
 impl Flows {
@@ -137,7 +137,7 @@ impl Flows {
 
     /// What the flows always keep: each mapping is held as often as sessions have it.
     pub fn facts(&self)
-        ensures counts { (p : Pair) → times self.now.translations.pairs p
+        ensures counts { (p : Mapping) → times self.now.translations.mappings p
             ≡ tally p self.now.table.held }
     {
         // What they keep is known once a field is read.
@@ -176,7 +176,7 @@ impl Flows {
     ///
     /// `AllocError` where memory is refused. The sessions stay as they are.
     pub fn reserve(&mut self) -> Result<(), AllocError>
-        ensures ok { OnOk result (IsReady 2 self.new) }
+        ensures ok { OnOk result (TakesMore 2 self.new) }
         ensures held { self.new.table.held ≡ self.old.table.held }
         ensures external { self.new.translations.external ≡ self.old.translations.external }
     {
@@ -190,8 +190,7 @@ impl Flows {
         requires { IsLatest self.now.table.held now }
         ensures exactly { IfOk result (λ slots. (slot : ℕ)
             → Contains slots.items slot ↔ IsSomeAnd (at self.now.table slot) (IsDue now)) }
-        ensures once { IfOk result (λ slots. (i j : ℕ) → i < j → j < length slots.items
-            → slice_index slots.items i ≢ slice_index slots.items j) }
+        ensures once { IfOk result (λ slots. AreOnce slots.items) }
         ensures sound { IsSound self.now.table.held }
         ensures succeeds { ((slot : ℕ) → ¬ IsSomeAnd (at self.now.table slot) (IsDue now))
             → IsOk result }
@@ -200,7 +199,7 @@ impl Flows {
         self.due.due(alloc, now)
     }
 
-    /// Whether all sessions are alive at the second `now`. Where they are it takes no memory. Not compiled into its
+    /// Whether all sessions are alive at the moment `now`. Where they are it takes no memory. Not compiled into its
     /// caller, which seldom asks it.
     #[inline(never)]
     fn keeps_all(&self, alloc: Global, now: u64) -> bool
@@ -214,7 +213,7 @@ impl Flows {
         }
     }
 
-    /// As `keeps_all`, where all were alive at the second `clock`: before the clock rises nothing is looked at.
+    /// As `keeps_all`, where all were alive at the moment `clock`: before the clock rises nothing is looked at.
     pub fn keeps_all_since(&self, alloc: Global, clock: u64, now: u64) -> bool
         requires latest { IsLatest self.now.table.held now }
         requires live { (s : Session) → In s (listing self.now.table.held) → alive clock s ≡ true }
@@ -244,7 +243,7 @@ impl Flows {
             → Became self.old.table.held (Change.Seen slot bits) (seen_with s bits last)
             self.new.table.held }
         ensures latest { IsLatest self.new.table.held last }
-        ensures ready { (n : ℕ) → IsReady n self.old → IsReady n self.new }
+        ensures ready { (n : ℕ) → TakesMore n self.old → TakesMore n self.new }
         ensures external { self.new.translations.external ≡ self.old.translations.external }
     {
         self.table.facts();
@@ -264,7 +263,7 @@ impl Flows {
             → Became self.old.table.held (Change.Seen slot bits) (seen_with s bits last)
             self.new.table.held }
         ensures latest { IsLatest self.new.table.held last }
-        ensures ready { (n : ℕ) → IsReady n self.old → IsReady n self.new }
+        ensures ready { (n : ℕ) → TakesMore n self.old → TakesMore n self.new }
         ensures external { self.new.translations.external ≡ self.old.translations.external }
     {
         self.table.facts();
@@ -281,7 +280,7 @@ impl Flows {
             → Became self.old.table.held (Change.Restart slot opener) (restarted s opener last)
             self.new.table.held }
         ensures latest { IsLatest self.new.table.held last }
-        ensures ready { (n : ℕ) → IsReady n self.old → IsReady n self.new }
+        ensures ready { (n : ℕ) → TakesMore n self.old → TakesMore n self.new }
         ensures external { self.new.translations.external ≡ self.old.translations.external }
     {
         self.table.facts();
@@ -310,12 +309,12 @@ impl Flows {
     /// Takes the session, for which there is room.
     fn begin(&mut self, session: Session)
         requires may { MayJoin self.old.translations.external self.old.table.held session }
-        requires ready { IsReady 1 self.old }
+        requires ready { TakesMore 1 self.old }
         requires latest { IsLatest self.old.table.held session.last }
         ensures became { Became self.old.table.held (Change.Begin session) session
             self.new.table.held }
         ensures latest { IsLatest self.new.table.held session.last }
-        ensures ready { (n : ℕ) → IsReady (n + 1) self.old → IsReady n self.new }
+        ensures ready { (n : ℕ) → TakesMore (n + 1) self.old → TakesMore n self.new }
         ensures external { self.new.translations.external ≡ self.old.translations.external }
     {
         self.table.facts();
@@ -331,12 +330,13 @@ impl Flows {
         requires latest { IsLatest self.old.table.held now }
         requires gives { (t : Session)
             × Gives self.old.translations.external self.old.table.held now change.now t }
-        requires ready { 0 < adds_by change.now → IsReady 1 self.old }
+        requires ready { 0 < adds_by change.now → TakesMore 1 self.old }
         ensures became { (t : Session)
             → Gives self.old.translations.external self.old.table.held now change.now t
             → Became self.old.table.held change.now t self.new.table.held }
         ensures latest { IsLatest self.new.table.held now }
-        ensures ready { (n : ℕ) → IsReady (n + adds_by change.now) self.old → IsReady n self.new }
+        ensures ready { (n : ℕ) → TakesMore (n + adds_by change.now) self.old
+            → TakesMore n self.new }
         ensures external { self.new.translations.external ≡ self.old.translations.external }
     {
         match change {
@@ -353,26 +353,27 @@ impl Flows {
         requires latest { IsLatest self.old.table.held now }
         requires gives { (t : Session)
             × Gives self.old.translations.external self.old.table.held now change.now t
-            × (N.keeps notes.old → bytes_of (noted (listing self.old.table.held) t)
+            × (N.keeps notes.old → bytes_of (entries_for (listing self.old.table.held) t)
             ≤ N.room notes.old) }
-        requires ready { 0 < adds_by change.now → IsReady 1 self.old }
+        requires ready { 0 < adds_by change.now → TakesMore 1 self.old }
         ensures became { (t : Session)
             → Gives self.old.translations.external self.old.table.held now change.now t
             → Became self.old.table.held change.now t self.new.table.held }
         ensures latest { IsLatest self.new.table.held now }
-        ensures ready { (n : ℕ) → IsReady (n + adds_by change.now) self.old → IsReady n self.new }
+        ensures ready { (n : ℕ) → TakesMore (n + adds_by change.now) self.old
+            → TakesMore n self.new }
         ensures external { self.new.translations.external ≡ self.old.translations.external }
         ensures keeps { N.keeps notes.old ↔ N.keeps notes.new }
         ensures beside { N.beside notes.new ≡ N.beside notes.old }
         ensures noted { (t : Session)
             → Gives self.old.translations.external self.old.table.held now change.now t
             → N.keeps notes.old
-            → N.noted notes.new ≡ N.noted notes.old ++ noted (listing self.old.table.held) t }
+            → N.noted notes.new ≡ N.noted notes.old ++ entries_for (listing self.old.table.held) t }
         ensures room { (t : Session)
             → Gives self.old.translations.external self.old.table.held now change.now t
             → N.keeps notes.old
             → N.room notes.old ≤ N.room notes.new
-            + bytes_of (noted (listing self.old.table.held) t) }
+            + bytes_of (entries_for (listing self.old.table.held) t) }
     {
         let entry = entry_for(&self.table, change);
         self.apply(change, now);
@@ -385,17 +386,17 @@ impl Flows {
         requires give { (ts : List Session)
             × GiveAll self.old.translations.external self.old.table.held now plan.now.first
             plan.now.second ts
-            × (N.keeps notes.old → bytes_of (noted_all ts (listing self.old.table.held))
+            × (N.keeps notes.old → bytes_of (entries_for_all ts (listing self.old.table.held))
             ≤ N.room notes.old) }
         requires ready { 0 < adds_by plan.now.first + adds_second plan.now.second
-            → IsReady 2 self.old }
+            → TakesMore 2 self.old }
         ensures keeps { N.keeps notes.old ↔ N.keeps notes.new }
         ensures beside { N.beside notes.new ≡ N.beside notes.old }
         ensures noted { (ts : List Session)
             → GiveAll self.old.translations.external self.old.table.held now plan.now.first
             plan.now.second ts
             → N.keeps notes.old → N.noted notes.new ≡ N.noted notes.old
-            ++ noted_all ts (listing self.old.table.held) }
+            ++ entries_for_all ts (listing self.old.table.held) }
         ensures listing { (ts : List Session)
             → GiveAll self.old.translations.external self.old.table.held now plan.now.first
             plan.now.second ts
@@ -420,14 +421,14 @@ impl Flows {
         requires give { (ts : List Session)
             × GiveAll self.old.translations.external self.old.table.held now plan.now.first
             plan.now.second ts }
-        requires ready { IsTrue ready → IsReady 2 self.old }
+        requires ready { IsTrue ready → TakesMore 2 self.old }
         requires room { IsTrue ready → N.keeps notes.old → 44 ≤ N.room notes.old }
         ensures ready { OnOk result (0 < adds_by plan.now.first + adds_second plan.now.second
-            → IsReady 2 self.new) }
+            → TakesMore 2 self.new) }
         ensures room { OnOk result ((ts : List Session)
             → GiveAll self.old.translations.external self.old.table.held now plan.now.first
             plan.now.second ts
-            → N.keeps notes.old → bytes_of (noted_all ts (listing self.old.table.held))
+            → N.keeps notes.old → bytes_of (entries_for_all ts (listing self.old.table.held))
             ≤ N.room notes.new) }
         ensures held { self.new.table.held ≡ self.old.table.held }
         ensures external { self.new.translations.external ≡ self.old.translations.external }
@@ -443,7 +444,7 @@ impl Flows {
         ensures quiet { (ts : List Session)
             → GiveAll self.old.translations.external self.old.table.held now plan.now.first
             plan.now.second ts
-            → noted_all ts (listing self.old.table.held) ≡ [] → IsOk result }
+            → entries_for_all ts (listing self.old.table.held) ≡ [] → IsOk result }
     {
         self.table.facts();
         if ready {
@@ -458,7 +459,7 @@ impl Flows {
         notes.reserve(0, MOST_OF_PACKET)
     }
 
-    /// Does what a plan says, at the second `now`, and notes it; `ready` says that there is room for two sessions
+    /// Does what a plan says, at the moment `now`, and notes it; `ready` says that there is room for two sessions
     /// and their entries already.
     ///
     /// # Errors
@@ -476,7 +477,7 @@ impl Flows {
         requires give { (ts : List Session)
             × GiveAll self.old.translations.external self.old.table.held now plan.now.first
             plan.now.second ts }
-        requires ready { IsTrue ready → IsReady 2 self.old }
+        requires ready { IsTrue ready → TakesMore 2 self.old }
         requires room { IsTrue ready → N.keeps notes.old → 44 ≤ N.room notes.old }
         ensures ok { OnOk result ((ts : List Session)
             → GiveAll self.old.translations.external self.old.table.held now plan.now.first
@@ -491,7 +492,7 @@ impl Flows {
             → GiveAll self.old.translations.external self.old.table.held now plan.now.first
             plan.now.second ts
             → N.keeps notes.old → N.noted notes.new ≡ N.noted notes.old
-            ++ noted_all ts (listing self.old.table.held)) }
+            ++ entries_for_all ts (listing self.old.table.held)) }
         ensures err_noted { OnErr result (N.noted notes.new ≡ N.noted notes.old) }
         ensures full { IsErrOf result StepFault.Full → N.too_many notes.old 44 }
         ensures no_memory { adds_by plan.now.first + adds_second plan.now.second ≡ 0
@@ -502,7 +503,7 @@ impl Flows {
         ensures quiet { (ts : List Session)
             → GiveAll self.old.translations.external self.old.table.held now plan.now.first
             plan.now.second ts
-            → noted_all ts (listing self.old.table.held) ≡ [] → IsOk result }
+            → entries_for_all ts (listing self.old.table.held) ≡ [] → IsOk result }
     {
         match self.make_room(ready, plan, now, notes) {
             Ok(()) => {
@@ -513,7 +514,7 @@ impl Flows {
         }
     }
 
-    /// Does what a packet does whose session goes on, at the second `now`, and notes it; `ready` says that there is
+    /// Does what a packet does whose session goes on, at the moment `now`, and notes it; `ready` says that there is
     /// room for its entry already.
     ///
     /// # Errors
@@ -544,7 +545,7 @@ impl Flows {
             → GiveAll self.old.translations.external self.old.table.held now
             (plan_of going.now).first (plan_of going.now).second ts
             → N.keeps notes.old → N.noted notes.new ≡ N.noted notes.old
-            ++ noted_all ts (listing self.old.table.held)) }
+            ++ entries_for_all ts (listing self.old.table.held)) }
         ensures err_noted { OnErr result (N.noted notes.new ≡ N.noted notes.old) }
         ensures full { IsErrOf result StepFault.Full → N.too_many notes.old 44 }
         ensures no_memory { IsErrOf result StepFault.NoMemory → ¬ N.too_many notes.old 44 }
@@ -553,7 +554,7 @@ impl Flows {
         ensures quiet { (ts : List Session)
             → GiveAll self.old.translations.external self.old.table.held now
             (plan_of going.now).first (plan_of going.now).second ts
-            → noted_all ts (listing self.old.table.held) ≡ [] → IsOk result }
+            → entries_for_all ts (listing self.old.table.held) ≡ [] → IsOk result }
     {
         let change = Change::Seen(going.slot, going.bits);
         if !makes_entry(&self.table, &change) {
@@ -565,7 +566,7 @@ impl Flows {
         Ok(())
     }
 
-    /// A packet passed whose session goes on, at the second `now`, and that shows nothing new of it.
+    /// A packet passed whose session goes on, at the moment `now`, and that shows nothing new of it.
     pub fn see_going(&mut self, going: &Going, now: u64)
         requires latest { IsLatest self.old.table.held now }
         requires give { (ts : List Session)
@@ -576,7 +577,7 @@ impl Flows {
             (plan_of going.now).first (plan_of going.now).second ts
             → listing self.new.table.held ≡ put_all ts (listing self.old.table.held) }
         ensures latest { IsLatest self.new.table.held now }
-        ensures ready { (n : ℕ) → IsReady n self.old → IsReady n self.new }
+        ensures ready { (n : ℕ) → TakesMore n self.old → TakesMore n self.new }
         ensures external { self.new.translations.external ≡ self.old.translations.external }
     {
         self.see(going.slot, going.bits, now);
@@ -586,7 +587,7 @@ impl Flows {
     fn end(&mut self, slot: Slot)
         requires { IsSome (at self.old.table slot) }
         ensures updates { Updates self.old.table self.new.table slot None }
-        ensures ready { (n : ℕ) → IsReady n self.old → IsReady n self.new }
+        ensures ready { (n : ℕ) → TakesMore n self.old → TakesMore n self.new }
         ensures external { self.new.translations.external ≡ self.old.translations.external }
     {
         if let Some(session) = self.table.get(slot) {
@@ -601,7 +602,7 @@ impl Flows {
         requires held { IsSome (at self.old.table slot) }
         requires room { N.keeps notes.old → 14 ≤ N.room notes.old }
         ensures updates { Updates self.old.table self.new.table slot None }
-        ensures ready { (n : ℕ) → IsReady n self.old → IsReady n self.new }
+        ensures ready { (n : ℕ) → TakesMore n self.old → TakesMore n self.new }
         ensures external { self.new.translations.external ≡ self.old.translations.external }
         ensures keeps { N.keeps notes.old ↔ N.keeps notes.new }
         ensures beside { N.beside notes.new ≡ N.beside notes.old }
@@ -619,15 +620,14 @@ impl Flows {
     fn end_all<N: Notes>(&mut self, slots: &[Slot], notes: &mut N)
         requires held { (k : ℕ) → k < length slots.now
             → IsSome (at self.old.table (slice_index slots.now k)) }
-        requires once { (i j : ℕ) → i < j → j < length slots.now
-            → slice_index slots.now i ≢ slice_index slots.now j }
+        requires once { AreOnce slots.now }
         requires room { N.keeps notes.old → 14 * length slots.now ≤ N.room notes.old }
         ensures ended { (k : ℕ) → k < length slots.now
             → at self.new.table (slice_index slots.now k) ≡ None }
         ensures others { (slot : ℕ) → ¬ Contains slots.now slot
             → at self.new.table slot ≡ at self.old.table slot }
         ensures sound { IsSound self.new.table.held }
-        ensures ready { (n : ℕ) → IsReady n self.old → IsReady n self.new }
+        ensures ready { (n : ℕ) → TakesMore n self.old → TakesMore n self.new }
         ensures external { self.new.translations.external ≡ self.old.translations.external }
         ensures keeps { N.keeps notes.old ↔ N.keeps notes.new }
         ensures beside { N.beside notes.new ≡ N.beside notes.old }
@@ -642,7 +642,7 @@ impl Flows {
         self.table.facts();
     }
 
-    /// Ends the sessions that are no longer alive at the second `now`, notes them, and says whether there were any;
+    /// Ends the sessions that are no longer alive at the moment `now`, notes them, and says whether there were any;
     /// then there is room for two more, and for so many bytes of other entries: an event whose first entries are noted
     /// can't be refused any more.
     ///
@@ -662,7 +662,7 @@ impl Flows {
             ≡ filter (alive now) (listing self.old.table.held)) }
         ensures err { OnErr result (self.new.table.held ≡ self.old.table.held) }
         ensures external { self.new.translations.external ≡ self.old.translations.external }
-        ensures ready { IfOk result (λ any. IsTrue any → IsReady 2 self.new) }
+        ensures ready { IfOk result (λ any. IsTrue any → TakesMore 2 self.new) }
         ensures room { IfOk result (λ any. IsTrue any → N.keeps notes.old
             → others ≤ N.room notes.new) }
         ensures none { IfOk result (λ any. any ≡ false
@@ -696,7 +696,7 @@ impl Flows {
         Ok(true)
     }
 
-    /// As `expire`, where all sessions were alive at the second `clock`: before the clock rises none ends, and nothing
+    /// As `expire`, where all sessions were alive at the moment `clock`: before the clock rises none ends, and nothing
     /// is looked at.
     #[inline(always)]
     pub fn expire_since<N: Notes>(
@@ -713,7 +713,7 @@ impl Flows {
             ≡ filter (alive now) (listing self.old.table.held)) }
         ensures err { OnErr result (self.new.table.held ≡ self.old.table.held) }
         ensures external { self.new.translations.external ≡ self.old.translations.external }
-        ensures ready { IfOk result (λ any. IsTrue any → IsReady 2 self.new) }
+        ensures ready { IfOk result (λ any. IsTrue any → TakesMore 2 self.new) }
         ensures room { IfOk result (λ any. IsTrue any → N.keeps notes.old
             → others ≤ N.room notes.new) }
         ensures none { IfOk result (λ any. any ≡ false
@@ -742,12 +742,12 @@ fn watch(due: &mut Due, slot: Slot, last: u64, timeout: u64)
     requires free { idle_at due.old slot ≡ None }
     requires timeout { IsTimeout timeout }
     requires latest { IsLatestIdle due.old last }
-    requires ready { slot < due.old.ready }
+    requires watchable { slot < due.old.watchable }
     ensures updates { IdleUpdates due.old due.new slot (Some (record {
       last = last;
       timeout = timeout;
     })) }
-    ensures ready { due.old.ready ≤ due.new.ready }
+    ensures ready { due.old.watchable ≤ due.new.watchable }
 {
     match due.add(slot, last, timeout) {
         Ok(()) => {}
@@ -762,7 +762,7 @@ fn touch(table: &Table, due: &mut Due, slot: Slot, last: u64)
     requires latest { IsLatestIdle due.old last }
     ensures updates { IdleUpdates due.old due.new slot
         (option_map (λ s. record { last = last; timeout = timeout_of s }) (at table.now slot)) }
-    ensures ready { due.new.ready ≡ due.old.ready }
+    ensures ready { due.new.watchable ≡ due.old.watchable }
 {
     if let Some(session) = table.get(slot) {
         due.touch(slot, last, session.timeout());

@@ -1,7 +1,8 @@
 //! The machine: the state of a gateway, and the step that an event does to it.
 //!
 //! An event is a ruleset to load, a packet from one of two interfaces, or a moment. `specs/Machine` says
-//! what a step is, on plain lists; `Core::step` and `step_noted`, by which a gateway takes it, are proved to be it.
+//! what a step is, on plain lists; `Core::step`, and `step_noted`, `pass_noted` and `forward`, by which a gateway takes
+//! it, are proved to be it.
 //!
 //! - `event`, `bytes`: what comes in, and what it is answered.
 //! - `fault`: why an event isn't stepped.

@@ -10,7 +10,7 @@ ghost use Rattle.durable.specs.Coding.{AreEntries, IsFlow, IsSession};
 ghost use Rattle.durable.specs.Entering.{flow_of as flow_in};
 ghost use Rattle.hairpin.specs.Plans.{GiveAll, Gives};
 ghost use Rattle.machine.specs.Flows.{adds as adds_by, adds_second};
-ghost use Rattle.machine.specs.Noted.{between as entries_between, noted, noted_all};
+ghost use Rattle.machine.specs.Noted.{between as entries_between, entries_for, entries_for_all};
 ghost use Rattle.machine.specs.Sizes.{bytes_of, listed};
 ghost use Rattle.sessions.specs.Life.{IsSeen};
 ghost use Rattle.sessions.specs.Listing.{listing};
@@ -89,7 +89,7 @@ fn restart_changes(session: &Session, opener: Opener) -> bool
 pub fn makes_entry(table: &Table, change: &Change) -> bool
     requires { (external now : ℕ) × (t : Session) × Gives external table.now.held now change.now t }
     ensures { (external now : ℕ) (t : Session) → Gives external table.now.held now change.now t
-        → IsTrue result ↔ (noted (listing table.now.held) t ≢ []) }
+        → IsTrue result ↔ (entries_for (listing table.now.held) t ≢ []) }
 {
     table.facts();
     match change {
@@ -135,7 +135,7 @@ pub fn entry_for(table: &Table, change: &Change) -> Option<Entry<'static>>
     requires { (external now : ℕ) × (t : Session) × Gives external table.now.held now change.now t }
     ensures entry { (external now : ℕ) (t : Session)
         → Gives external table.now.held now change.now t
-        → listed result ≡ noted (listing table.now.held) t }
+        → listed result ≡ entries_for (listing table.now.held) t }
     ensures coded { AreEntries (listed result) }
 {
     table.facts();
@@ -186,7 +186,7 @@ pub fn plan_makes_entry(table: &Table, plan: &Plan) -> bool
         × GiveAll external table.now.held now plan.now.first plan.now.second ts }
     ensures { (external now : ℕ) (ts : List Session)
         → GiveAll external table.now.held now plan.now.first plan.now.second ts
-        → IsTrue result ↔ (noted_all ts (listing table.now.held) ≢ []) }
+        → IsTrue result ↔ (entries_for_all ts (listing table.now.held) ≢ []) }
 {
     table.facts();
     if makes_entry(table, &plan.first) {

@@ -1,22 +1,22 @@
-//! The pairs, each in a slot of its own, and the map that leads to it.
+//! The mappings, each in a slot of its own, and the map that leads to it.
 ghost use Rattle.std.specs.Prelude.{◌≡◌, ◌↔◌, ◌+◌, ◌-◌, ◌<◌, ◌≤◌, Some, None, IsTrue, OnOk, OnErr, IsOk, IsSome, IfSome, IfNone, IsSomeAnd};
 ghost use Rattle.packet.specs.declared.endpoint.Endpoint.{Endpoint};
 ghost use Rattle.slab.specs.Slab.{get, with_value, HasRoomFor};
 ghost use Rattle.rows.specs.Held.{at};
-ghost use Rattle.mappings.specs.Map.{times_in, pair, GainsIn, KeepsOneToOneIn};
+ghost use Rattle.mappings.specs.Map.{times_in, mapping, GainsIn, KeepsOneToOneIn};
 ghost use Rattle.mappings.specs.Indexed.{IsIndexed, held_in, room_in};
 
-use crate::map::{Counted, Pair};
+use crate::map::{Counted, Mapping};
 use buckets::by_port::ByPort;
 use packet::endpoint::{Endpoint, Proto, mapping_key};
 use slab::Slab;
 use std::alloc::AllocError;
 
-/// The pairs that are held. From the protocol and the outside endpoint a map leads to the slot of the pair.
+/// The mappings that are held. From the protocol and the outside endpoint a map leads to the slot of the mapping.
 #[derive(Drop)]
 pub struct Index {
     pub outside: ByPort,
-    pub pairs: Slab<Counted>,
+    pub mappings: Slab<Counted>,
 }
 
 /// Whether a look into the map tells that it leads from this outside endpoint.
@@ -24,90 +24,96 @@ pub fn seems_held(index: &Index, proto: Proto, outside: Endpoint) -> bool {
     index.outside.seems_held(mapping_key(proto, outside))
 }
 
-/// The outside endpoint of the pair with this inside endpoint. This walks over all pairs.
+/// The outside endpoint of the mapping with this inside endpoint. This walks over all mappings.
 pub fn find_outside(index: &Index, proto: Proto, inside: Endpoint) -> Option<Endpoint>
     requires { IsIndexed index.now }
     ensures found { IfSome result (λ outside.
-        0 < times_in (held_in index.now) (pair proto inside outside)) }
+        0 < times_in (held_in index.now) (mapping proto inside outside)) }
     ensures absent { IfNone result ((outside : Endpoint)
-        → times_in (held_in index.now) (pair proto inside outside) ≡ 0) }
+        → times_in (held_in index.now) (mapping proto inside outside) ≡ 0) }
 {
-    for (_, held) in &index.pairs {
-        if has_inside(&held.pair, proto, inside) {
-            return Some(held.pair.outside);
+    for (_, held) in &index.mappings {
+        if has_inside(&held.mapping, proto, inside) {
+            return Some(held.mapping.outside);
         }
     }
     None
 }
 
-// Whether it is a pair of this protocol and inside endpoint.
-fn has_inside(pair: &Pair, proto: Proto, inside: Endpoint) -> bool
-    ensures { IsTrue result ↔ ((pair.now.proto ≡ proto) × (pair.now.inside ≡ inside)) }
+// Whether it is a mapping of this protocol and inside endpoint.
+fn has_inside(mapping: &Mapping, proto: Proto, inside: Endpoint) -> bool
+    ensures { IsTrue result ↔ ((mapping.now.proto ≡ proto) × (mapping.now.inside ≡ inside)) }
 {
-    pair.proto == proto && pair.inside == inside
+    mapping.proto == proto && mapping.inside == inside
 }
 
-/// The inside endpoint of the pair with this outside endpoint.
+/// The inside endpoint of the mapping with this outside endpoint.
 pub fn find_inside(index: &Index, proto: Proto, outside: Endpoint) -> Option<Endpoint>
     requires { IsIndexed index.now }
     ensures found { IfSome result (λ inside.
-        0 < times_in (held_in index.now) (pair proto inside outside)) }
+        0 < times_in (held_in index.now) (mapping proto inside outside)) }
     ensures absent { IfNone result ((inside : Endpoint)
-        → times_in (held_in index.now) (pair proto inside outside) ≡ 0) }
+        → times_in (held_in index.now) (mapping proto inside outside) ≡ 0) }
 {
     let slot = index.outside.get(mapping_key(proto, outside))?;
-    Some(index.pairs[slot].pair.inside)
+    Some(index.mappings[slot].mapping.inside)
 }
 
-/// Holds the pair once more.
-pub fn add(index: &mut Index, pair: Pair) -> Result<(), AllocError>
+/// Holds the mapping once more.
+pub fn add(index: &mut Index, mapping: Mapping) -> Result<(), AllocError>
     requires indexed { IsIndexed index.old }
-    requires one_to_one { KeepsOneToOneIn (held_in index.old) pair }
-    requires few { times_in (held_in index.old) pair < 65536 }
+    requires one_to_one { KeepsOneToOneIn (held_in index.old) mapping }
+    requires few { times_in (held_in index.old) mapping < 65536 }
     ensures indexed { IsIndexed index.new }
-    ensures ok { OnOk result (GainsIn (held_in index.old) (held_in index.new) pair) }
+    ensures ok { OnOk result (GainsIn (held_in index.old) (held_in index.new) mapping) }
     ensures err { OnErr result (held_in index.new ≡ held_in index.old) }
     ensures succeeds { 0 < room_in index.old → IsOk result }
-    ensures again { 0 < times_in (held_in index.old) pair → IsOk result }
+    ensures again { 0 < times_in (held_in index.old) mapping → IsOk result }
     ensures room_ok { OnOk result (room_in index.old ≤ room_in index.new + 1) }
-    ensures room_again { 0 < times_in (held_in index.old) pair
+    ensures room_again { 0 < times_in (held_in index.old) mapping
         → room_in index.old ≤ room_in index.new }
     ensures room_err { OnErr result (room_in index.old ≤ room_in index.new) }
 {
-    let number = mapping_key(pair.proto, pair.outside);
-    reserve_new(&mut index.pairs, &index.outside, number)?;
-    let slot = index.pairs.vacant_key();
+    let number = mapping_key(mapping.proto, mapping.outside);
+    reserve_new(&mut index.mappings, &index.outside, number)?;
+    let slot = index.mappings.vacant_key();
     match index.outside.get_or_insert(number, slot)? {
         Some(held) => {
-            count_up(&mut index.pairs, held);
+            count_up(&mut index.mappings, held);
             Ok(())
         }
         None => {
-            index.pairs.insert_reserved(Counted { pair, count: 1 });
+            index
+                .mappings
+                .insert_reserved(Counted { mapping, count: 1 });
             Ok(())
         }
     }
 }
 
-// Makes room for one more pair where none is free, unless the pair of this number is held, which needs none.
-fn reserve_new(pairs: &mut Slab<Counted>, outside: &ByPort, number: u64) -> Result<(), AllocError>
-    ensures room { OnOk result (at outside.now number ≡ None → HasRoomFor pairs.new 1) }
-    ensures kept { pairs.new ≡ record pairs.old { capacity = pairs.new.capacity } }
-    ensures grows { pairs.old.capacity ≤ pairs.new.capacity }
-    ensures held { IsSome (at outside.now number) → pairs.new ≡ pairs.old }
+// Makes room for one more mapping where none is free, unless the mapping of this number is held, which needs none.
+fn reserve_new(
+    mappings: &mut Slab<Counted>,
+    outside: &ByPort,
+    number: u64,
+) -> Result<(), AllocError>
+    ensures room { OnOk result (at outside.now number ≡ None → HasRoomFor mappings.new 1) }
+    ensures kept { mappings.new ≡ record mappings.old { capacity = mappings.new.capacity } }
+    ensures grows { mappings.old.capacity ≤ mappings.new.capacity }
+    ensures held { IsSome (at outside.now number) → mappings.new ≡ mappings.old }
     ensures again { IsSome (at outside.now number) → IsOk result }
-    ensures succeeds { HasRoomFor pairs.old 1 → IsOk result }
+    ensures succeeds { HasRoomFor mappings.old 1 → IsOk result }
 {
-    if pairs.len() < pairs.capacity() {
+    if mappings.len() < mappings.capacity() {
         return Ok(());
     }
     if outside.get(number).is_some() {
         return Ok(());
     }
-    pairs.reserve(1)
+    mappings.reserve(1)
 }
 
-/// Makes room for two more pairs.
+/// Makes room for two more mappings.
 pub fn reserve(index: &mut Index) -> Result<(), AllocError>
     requires { IsIndexed index.old }
     ensures indexed { IsIndexed index.new }
@@ -116,54 +122,59 @@ pub fn reserve(index: &mut Index) -> Result<(), AllocError>
     ensures same { held_in index.new ≡ held_in index.old }
     ensures room { room_in index.old ≤ room_in index.new }
 {
-    index.pairs.reserve(2)?;
+    index.mappings.reserve(2)?;
     index.outside.reserve()
 }
 
-// The pair in the slot is held once more.
-fn count_up(pairs: &mut Slab<Counted>, slot: usize)
-    requires { IsSomeAnd (get pairs.old slot) (λ entry. entry.count < 65536) }
-    ensures { IsSomeAnd (get pairs.old slot) (λ entry. pairs.new
-        ≡ with_value pairs.old slot (record entry { count = entry.count + 1 })) }
+// The mapping in the slot is held once more.
+fn count_up(mappings: &mut Slab<Counted>, slot: usize)
+    requires { IsSomeAnd (get mappings.old slot) (λ entry. entry.count < 65536) }
+    ensures { IsSomeAnd (get mappings.old slot) (λ entry. mappings.new
+        ≡ with_value mappings.old slot (record entry { count = entry.count + 1 })) }
 {
-    pairs[slot].count += 1;
+    mappings[slot].count += 1;
 }
 
-// The pair in the slot is held once less, and still held.
-fn count_down(pairs: &mut Slab<Counted>, slot: usize)
-    requires { IsSomeAnd (get pairs.old slot) (λ entry. 0 < entry.count) }
-    ensures { IsSomeAnd (get pairs.old slot) (λ entry. pairs.new
-        ≡ with_value pairs.old slot (record entry { count = entry.count - 1 })) }
+// The mapping in the slot is held once less, and still held.
+fn count_down(mappings: &mut Slab<Counted>, slot: usize)
+    requires { IsSomeAnd (get mappings.old slot) (λ entry. 0 < entry.count) }
+    ensures { IsSomeAnd (get mappings.old slot) (λ entry. mappings.new
+        ≡ with_value mappings.old slot (record entry { count = entry.count - 1 })) }
 {
-    pairs[slot].count -= 1;
+    mappings[slot].count -= 1;
 }
 
-/// The pair is held once less, and with its last hold it is gone from the map.
-pub fn take_one(index: &mut Index, pair: Pair)
+/// The mapping is held once less, and with its last hold it is gone from the map.
+pub fn take_one(index: &mut Index, mapping: Mapping)
     requires indexed { IsIndexed index.old }
-    requires some { 0 < times_in (held_in index.old) pair }
+    requires some { 0 < times_in (held_in index.old) mapping }
     ensures indexed { IsIndexed index.new }
-    ensures loses { GainsIn (held_in index.new) (held_in index.old) pair }
+    ensures loses { GainsIn (held_in index.new) (held_in index.old) mapping }
     ensures room { room_in index.old ≤ room_in index.new }
 {
-    let Some(slot) = index.outside.get(mapping_key(pair.proto, pair.outside)) else {
+    let Some(slot) = index
+        .outside
+        .get(mapping_key(mapping.proto, mapping.outside))
+    else {
         return;
     };
-    if index.pairs[slot].count == 1 {
-        take_out(index, slot, pair);
+    if index.mappings[slot].count == 1 {
+        take_out(index, slot, mapping);
     } else {
-        count_down(&mut index.pairs, slot);
+        count_down(&mut index.mappings, slot);
     }
 }
 
-// Takes a pair out that is held once.
-fn take_out(index: &mut Index, slot: usize, pair: Pair)
+// Takes a mapping out that is held once.
+fn take_out(index: &mut Index, slot: usize, mapping: Mapping)
     requires indexed { IsIndexed index.old }
-    requires held { get index.old.pairs slot ≡ Some (record { pair = pair; count = 1 }) }
+    requires held { get index.old.mappings slot ≡ Some (record { mapping = mapping; count = 1 }) }
     ensures indexed { IsIndexed index.new }
-    ensures loses { GainsIn (held_in index.new) (held_in index.old) pair }
+    ensures loses { GainsIn (held_in index.new) (held_in index.old) mapping }
     ensures room { room_in index.old ≤ room_in index.new }
 {
-    index.pairs.remove(slot);
-    index.outside.remove(mapping_key(pair.proto, pair.outside));
+    index.mappings.remove(slot);
+    index
+        .outside
+        .remove(mapping_key(mapping.proto, mapping.outside));
 }

@@ -1,6 +1,6 @@
 //! Mappings and numbers, and each leg once. What packets come to is tested over the byte stream.
 ghost use Rattle.std.specs.Prelude.{◌≡◌, IfSome};
-ghost use Rattle.mappings.specs.declared.map.Pair.{Pair};
+ghost use Rattle.mappings.specs.declared.map.Mapping.{Mapping};
 ghost use Rattle.mappings.specs.Map.{times};
 ghost use Rattle.sessions.specs.Listing.{listing};
 ghost use Rattle.hairpin.specs.KeptBounds.{KeepBounds};
@@ -79,7 +79,7 @@ fn assert_inside(
 
 // Where nothing is held yet.
 fn comes_and_goes(rt: &impl Abort, translations: &mut Translations) -> Result<(), AllocError>
-    requires none { (p : Pair) → times translations.old.pairs p ≡ 0 }
+    requires none { (p : Mapping) → times translations.old.mappings p ≡ 0 }
     requires external { translations.old.external ≡ 3405803777 }
 {
     translations.reserve()?;
@@ -163,7 +163,7 @@ fn bounds(alloc: Global) -> Option<Bounds> {
 // The two parts that agree on the external address.
 fn addressed(alloc: Global) -> Option<(Bounds, Translations)>
     ensures external { IfSome result (λ p. p.1.external ≡ p.0.external) }
-    ensures none { IfSome result (λ p. (m : Pair) → times p.1.pairs m ≡ 0) }
+    ensures none { IfSome result (λ p. (m : Mapping) → times p.1.mappings m ≡ 0) }
 {
     let bounds = bounds(alloc)?;
     match Translations::new(alloc, bounds.external()) {
@@ -178,8 +178,8 @@ fn addressed(alloc: Global) -> Option<(Bounds, Translations)>
 #[tactic(auto, using(hairpin::proofs::Beginning::counts_none, hairpin::proofs::Beginning::bounds_none))]
 fn start(alloc: Global) -> Option<Empty>
     ensures external { IfSome result (λ s. s.translations.external ≡ s.bounds.external) }
-    ensures counts { IfSome result (λ s. (p : Pair)
-        → times s.translations.pairs p ≡ tally p s.table.held) }
+    ensures counts { IfSome result (λ s. (p : Mapping)
+        → times s.translations.mappings p ≡ tally p s.table.held) }
     ensures sound { IfSome result (λ s. AreSound s.bounds (listing s.table.held)) }
     ensures bounded { IfSome result (λ s. KeepBounds s.bounds s.rules) }
 {

@@ -16,7 +16,7 @@ use Rattle.sessions.specs.Life.{IsSeen}
 use Rattle.sessions.specs.Table.{AnyClash, Clash, HasInside, HasOutside}
 use Rattle.sessions.specs.Listing.{is_translated}
 use Rattle.packet.specs.Numbers.{IsEndpoint}
-use Rattle.sessions.specs.Index.{AreEndpoints, Finds, LacksName, PutsName, flow_number, inside_number, key_number, outside_number, untranslated_name}
+use Rattle.sessions.specs.Index.{AreEndpoints, Finds, LacksKey, PutsKey, flow_number, inside_number, key_number, outside_number, untranslated_key}
 use Rattle.sessions.specs.Indexed.{AddsTo, EndsIn, IsIndexed, KeepsIndex}
 use Rattle.sessions.specs.Translated.{AreFound, HasPlace, IsFirst, IsNowhereTranslated, IsTold, LacksMapping, Lead, first_of}
 use Rattle.sessions.proofs.Held.{SameKeys, SameKeys-refl, IsSound-set, IsSound-more, IsSound-kept, held_in_range}
@@ -38,13 +38,13 @@ module _ (s t : Session) (fits : AreEndpoints s) (fits' : AreEndpoints t) (key :
   same-inside : key_number s.proto s.inside s.remote ≡ key → key_number t.proto t.inside t.remote ≡ key → Clash s t
   same-inside e f = inl (key-parts t.proto s.proto t.inside s.inside t.remote s.remote fits'.0 fits.0 fits'.2 fits.2 (f ∙ sym e))
 
-  pub untranslated-clash : untranslated_name s ≡ Some key → untranslated_name t ≡ Some key → Clash s t
+  pub untranslated-clash : untranslated_key s ≡ Some key → untranslated_key t ≡ Some key → Clash s t
   untranslated-clash e f = same-inside (cond-none _ _ key e).1 (cond-none _ _ key f).1
 
 -- a session that clashes with none isn't found
 module _ (held : List (Option Session)) (index : Index) (s : Session) (indexed : IsIndexed held index) (fits : AreEndpoints s) (none : ¬ AnyClash held s) where
-  pub lacks-untranslated : LacksName index.untranslated.held (untranslated_name s)
-  lacks-untranslated = Finds-lacks untranslated_name held index.untranslated.held indexed.untranslated s (λ key k t e is f. untranslated-clash s t fits (indexed.translated.endpoints k t is) key e f) none
+  pub lacks-untranslated : LacksKey index.untranslated.held (untranslated_key s)
+  lacks-untranslated = Finds-lacks untranslated_key held index.untranslated.held indexed.untranslated s (λ key k t e is f. untranslated-clash s t fits (indexed.translated.endpoints k t is) key e f) none
 
   pub lacks-mapping : is_translated s ≡ true → LacksMapping index.translated s
   lacks-mapping so = lacks held index.translated indexed.translated s fits so none
@@ -57,7 +57,7 @@ module _ (s t : Session) (same : SameKeys s t) where
   same-translated : is_translated t ≡ is_translated s
   same-translated = ap (λ e. not (same_endpoint e t.outside)) (sym same.inside) ∙ ap (λ e. not (same_endpoint s.inside e)) (sym same.outside)
 
-  same-name : untranslated_name t ≡ untranslated_name s
+  same-name : untranslated_key t ≡ untranslated_key s
   same-name = ap (λ b. cond b None (Some (key_number t.proto t.inside t.remote))) same-translated ∙ ap (λ n. cond (is_translated s) None (Some n)) same-key
 
   same-inside_number : inside_number t ≡ inside_number s
@@ -148,7 +148,7 @@ module _ (held : List (Option Session)) (old new : Translated) (found : AreFound
 -- the same sessions and entries
 pub IsIndexed-kept : (held held' : List (Option Session)) (index index' : Index) → held' ≡ held → KeepsIndex index index' → IsIndexed held index → IsIndexed held' index'
 IsIndexed-kept held held' index index' same keeps indexed = subst (λ xs. IsIndexed xs index') (sym same) (record {
-  untranslated = subst (Finds untranslated_name held) (sym keeps.untranslated) indexed.untranslated;
+  untranslated = subst (Finds untranslated_key held) (sym keeps.untranslated) indexed.untranslated;
   translated = record {
     sound = indexed.translated.sound;
     endpoints = indexed.translated.endpoints;
@@ -175,9 +175,9 @@ module _ (held held' : List (Option Session)) (index index' : Index) (slot : ℕ
           SameKeys-refl u,
         )))
 
-    pub IsIndexed-add : count_by is_some held' ≤ 65536 → IsSeen s.proto s.seen → PutsName index.untranslated.held index'.untranslated.held (untranslated_name s) (Some slot) → AddsTo index.translated index'.translated s slot → IsIndexed held' index'
+    pub IsIndexed-add : count_by is_some held' ≤ 65536 → IsSeen s.proto s.seen → PutsKey index.untranslated.held index'.untranslated.held (untranslated_key s) (Some slot) → AddsTo index.translated index'.translated s slot → IsIndexed held' index'
     IsIndexed-add few seen puts adds = record {
-      untranslated = Finds-add untranslated_name held held' slot s index.untranslated.held index'.untranslated.held others indexed.untranslated free here (lacks-untranslated held index s indexed fits none) puts;
+      untranslated = Finds-add untranslated_key held held' slot s index.untranslated.held index'.untranslated.held others indexed.untranslated free here (lacks-untranslated held index s indexed fits none) puts;
       translated = record {
         sound = IsSound-more held held' slot s none here others few seen told.sound;
         endpoints = λ k t is. elim (cases_eq k slot) [
@@ -205,9 +205,9 @@ module _ (held held' : List (Option Session)) (index index' : Index) (slot : ℕ
         ))
         (λ k u is so'. (u, was_held k u is, SameKeys-refl u)))
 
-    pub IsIndexed-end : count_by is_some held' ≤ count_by is_some held → PutsName index.untranslated.held index'.untranslated.held (untranslated_name s) None → EndsIn held index.translated index'.translated s slot → IsIndexed held' index'
+    pub IsIndexed-end : count_by is_some held' ≤ count_by is_some held → PutsKey index.untranslated.held index'.untranslated.held (untranslated_key s) None → EndsIn held index.translated index'.translated s slot → IsIndexed held' index'
     IsIndexed-end fewer puts ends = record {
-      untranslated = Finds-end untranslated_name held held' slot s index.untranslated.held index'.untranslated.held others indexed.untranslated was gone puts;
+      untranslated = Finds-end untranslated_key held held' slot s index.untranslated.held index'.untranslated.held others indexed.untranslated was gone puts;
       translated = record {
         sound = IsSound-kept held held' told.sound (record { from = λ k t is. (t, was_held k t is, SameKeys-refl t) }) fewer (λ k t is. told.sound.seen k t (was_held k t is));
         endpoints = λ k t is. told.endpoints k t (was_held k t is);
@@ -237,7 +237,7 @@ module _ (held : List (Option Session)) (index : Index) (slot : ℕ) (s t : Sess
 
   pub IsIndexed-set : IsSeen t.proto t.seen → IsIndexed held index → IsIndexed after index
   IsIndexed-set seen indexed = record {
-    untranslated = Finds-set untranslated_name held index.untranslated.held indexed.untranslated slot s t is (same-name s t same);
+    untranslated = Finds-set untranslated_key held index.untranslated.held indexed.untranslated slot s t is (same-name s t same);
     translated = record {
       sound = IsSound-set held slot s t is same seen indexed.translated.sound;
       endpoints = λ k u at. elim (cases_eq k slot) [
@@ -255,7 +255,7 @@ one-endpoint s not_so = same_endpoint-true s.inside s.outside (from_not_false _ 
 module _ (held : List (Option Session)) (index : Index) (proto : Proto) (near remote : Endpoint) (indexed : IsIndexed held index) (absent : value_at index.untranslated.held (key_number proto near remote) ≡ None) where
   no-untranslated : (slot : ℕ) (s : Session) → get_or held slot None ≡ Some s → is_translated s ≡ false → HasInside proto near remote s → ⊥
   no-untranslated slot s is not_so h =
-      let named : untranslated_name s ≡ Some (key_number proto near remote) = ap (λ b. cond b None (Some (key_number s.proto s.inside s.remote))) not_so ∙ ap Some (key-from s.proto proto s.inside near s.remote remote h) in
+      let named : untranslated_key s ≡ Some (key_number proto near remote) = ap (λ b. cond b None (Some (key_number s.proto s.inside s.remote))) not_so ∙ ap Some (key-from s.proto proto s.inside near s.remote remote h) in
       none-some slot (sym absent ∙ indexed.untranslated.slot_of slot _ s is named)
 
   pub no-inside : IsNowhereTranslated held (HasInside proto near remote) → (slot : ℕ) (o : Option Session) → get_or held slot None ≡ o → IfSome o (λ s. ¬ HasInside proto near remote s)

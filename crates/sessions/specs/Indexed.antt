@@ -4,13 +4,13 @@ use Rattle.buckets.specs.Held.{KeepsAll}
 use Rattle.sessions.specs.declared.translated.Translated.{Translated}
 use Rattle.sessions.specs.declared.session.Session.{Session}
 use Rattle.sessions.specs.declared.index.Index.{Index}
-use Rattle.sessions.specs.Index.{Finds, untranslated_name}
+use Rattle.sessions.specs.Index.{Finds, untranslated_key}
 use Rattle.sessions.specs.Listing.{is_translated}
 use Rattle.sessions.specs.Translated.{IsTold, Once, TakesIn, room_in}
 
 -- the sessions are sound, and each is found by its kind
 pub record IsIndexed (held : List (Option Session)) (index : Index) : Type 0 where
-  pub untranslated : Finds untranslated_name held index.untranslated.held
+  pub untranslated : Finds untranslated_key held index.untranslated.held
   pub translated : IsTold held index.translated
 
 -- so many sessions more surely go in with no memory

@@ -21,7 +21,7 @@ ListingIsTheSet = (held : List (Option Session)) → IsSound held → IsSetOf he
 abbrev pub ClashesTellsClash : Type 0
 ClashesTellsClash = (s t : Session) → IsTrue (clashes s t) ↔ Clash s t
 
--- a translated session among these has these two endpoints
+-- a translated session among these has these two endpoints: near is its inside one, far its outside one
 pub record IsMapping (sessions : List Session) (protocol : Proto)
     (near far : Endpoint) : Type 0 where
   pub session : Session

@@ -76,5 +76,5 @@ abbrev pub restarted : Session → Opener → ℕ → Session
 restarted s opener last = record s { opener = opener; seen = 0; last = last }
 
 -- the session with this side as the one that began it, and with just these bits seen
-abbrev pub amended : Session → Opener → ℕ → Session
-amended s opener seen = record s { opener = opener; seen = seen }
+abbrev pub amended : Opener → ℕ → Session → Session
+amended opener seen s = record s { opener = opener; seen = seen }

@@ -5,7 +5,7 @@
 ghost use Rattle.std.specs.Prelude.{◌≡◌, ◌↔◌, ◌+◌, ◌<◌, ◌≤◌, ℕ, IsTrue, IsOk, true, None, Some, IfSome, IfNone, IfOk, IfErr, OnOk, slice_index_or};
 ghost use Rattle.packet.specs.declared.endpoint.Endpoint.{Endpoint};
 ghost use Rattle.rows.specs.Held.{at};
-ghost use Rattle.sessions.specs.Index.{ClashesAt, IsAt, IsNowhere, LacksName, PutsName, key_number, untranslated_name};
+ghost use Rattle.sessions.specs.Index.{ClashesAt, IsAt, IsNowhere, LacksKey, PutsKey, key_number, untranslated_key};
 ghost use Rattle.sessions.specs.Indexed.{AddsTo, EndsIn, IsIndexed, KeepsIndex, room_of};
 ghost use Rattle.sessions.specs.Laws.{IsMapping};
 ghost use Rattle.sessions.specs.Listing.{is_translated as translates, listing};
@@ -72,13 +72,13 @@ impl Index {
 
     /// Puts a session in, which isn't in, and for which there is room.
     pub fn insert(&mut self, session: &Session, slot: usize)
-        requires untranslated { LacksName self.old.untranslated.held
-            (untranslated_name session.now) }
+        requires untranslated { LacksKey self.old.untranslated.held
+            (untranslated_key session.now) }
         requires mapping { translates session.now ≡ true
             → LacksMapping self.old.translated session.now }
         requires room { 0 < room_of self.old }
-        ensures untranslated { PutsName self.old.untranslated.held self.new.untranslated.held
-            (untranslated_name session.now) (Some slot) }
+        ensures untranslated { PutsKey self.old.untranslated.held self.new.untranslated.held
+            (untranslated_key session.now) (Some slot) }
         ensures taken { AddsTo self.old.translated self.new.translated session.now slot }
         ensures room { room_of self.old ≤ room_of self.new + 1 }
     {
@@ -91,8 +91,8 @@ impl Index {
     pub fn remove(&mut self, sessions: &Slab<Session>, session: &Session, slot: usize)
         requires indexed { IsIndexed sessions.now.slots self.old }
         requires held { slice_index_or sessions.now.slots slot None ≡ Some session.now }
-        ensures untranslated { PutsName self.old.untranslated.held self.new.untranslated.held
-            (untranslated_name session.now) None }
+        ensures untranslated { PutsKey self.old.untranslated.held self.new.untranslated.held
+            (untranslated_key session.now) None }
         ensures gone { EndsIn sessions.now.slots self.old.translated self.new.translated
             session.now slot }
         ensures room { room_of self.old ≤ room_of self.new }
@@ -132,9 +132,9 @@ fn end_translated(
 }
 
 fn put(row: &mut Rows, name: Option<u128>, slot: usize)
-    requires absent { LacksName row.old.held name }
+    requires absent { LacksKey row.old.held name }
     requires room { 0 < row.old.room }
-    ensures name { PutsName row.old.held row.new.held name (Some slot) }
+    ensures name { PutsKey row.old.held row.new.held name (Some slot) }
     ensures room { row.old.room ≤ row.new.room + 1 }
 {
     if let Some(name) = name {
@@ -146,7 +146,7 @@ fn put(row: &mut Rows, name: Option<u128>, slot: usize)
 }
 
 fn take(row: &mut Rows, name: Option<u128>)
-    ensures name { PutsName row.old.held row.new.held name None }
+    ensures name { PutsKey row.old.held row.new.held name None }
     ensures room { row.old.room ≤ row.new.room }
 {
     if let Some(name) = name {

@@ -1,7 +1,7 @@
 //! The numbers by which sessions are found.
 ghost use Rattle.std.specs.Prelude.{◌≡◌, ◌+◌, ◌*◌, ◌<◌};
 ghost use Rattle.packet.specs.Numbers.{IsEndpoint, endpoint_number};
-ghost use Rattle.sessions.specs.Index.{AreEndpoints, key_number, untranslated_name};
+ghost use Rattle.sessions.specs.Index.{AreEndpoints, key_number, untranslated_key};
 
 use crate::Session;
 use packet::endpoint::{Endpoint, Proto};
@@ -30,7 +30,7 @@ fn number_of(endpoint: Endpoint) -> u128
 
 /// The key by which a session that isn't translated is found from both sides.
 pub fn untranslated_key(session: &Session) -> Option<u128>
-    ensures { result ≡ untranslated_name session.now }
+    ensures { result ≡ untranslated_key session.now }
 {
     if session.is_translated() {
         return None;

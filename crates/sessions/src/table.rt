@@ -24,7 +24,7 @@ use std::marker::Model;
 /// The most sessions that a table holds.
 pub const MOST_SESSIONS: usize = 65_536;
 
-/// The name of a session in a table, from its beginning to its end. After that the table may give it to
+/// The place of a session in a table, from its beginning to its end. After that the table may give it to
 /// another session.
 #[derive(Clone, Copy, Debug, PartialEq, Eq, Drop)]
 pub struct Slot(usize);
@@ -406,7 +406,7 @@ impl Table {
         requires held { IsSome (at self.old slot) }
         requires bits { IfSome (at self.old slot) (λ s. IsSeen s.proto seen) }
         ensures updates { Updates self.old self.new slot
-            (option_map (λ s. amended s opener seen) (at self.old slot)) }
+            (option_map (amended opener seen) (at self.old slot)) }
         ensures counted { count self.new ≡ count self.old }
         ensures room { self.new.room ≡ self.old.room }
         ensures slots { self.new.slots ≡ self.old.slots }

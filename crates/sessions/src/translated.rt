@@ -183,7 +183,7 @@ impl Translated {
         ensures gone { Once sessions.now.slots slot None self.new }
         ensures room { room_in self.old ≤ room_in self.new }
     {
-        // Most mappings have one session, and where all have no search for another is needed.
+        // Most mappings have one session, and where each has just one, no search for another is needed.
         if is_empty(&self.others) {
             self.end_mapping(session);
             return;

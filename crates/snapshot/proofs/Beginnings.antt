@@ -9,11 +9,11 @@ use Rattle.disk_model.proofs.Moments.{called, follows, at_end, narrows, only_the
 use Rattle.durable.specs.Coding.{heading_bytes, IsHeading}
 use Rattle.durable.specs.Entering.{Durable, IsDurable, empty}
 use Rattle.durable.specs.Laws.{anew}
-use Rattle.durable.specs.Recovery.{Active, Finds, Alike, IsActive, IsConfigured, NoneOpen, Recovers, behind}
+use Rattle.durable.specs.Recovery.{Found, Finds, Alike, IsActive, IsConfigured, NoneOpen, Recovers, behind}
 use Rattle.durable.proofs.Headed.{headed_open, recovers_once}
 use Rattle.durable.proofs.Storable.{empty_durable}
 use Rattle.snapshot.specs.Remaking.{Remade}
-use Rattle.snapshot.specs.Opening.{IsReady, state_of}
+use Rattle.snapshot.specs.Opening.{IsFoundFor, found_state}
 use Rattle.snapshot.specs.declared.opening.Ready.{Ready}
 use Rattle.snapshot.proofs.States.{none_open, same_file, active_same, none_same, configured_by, configured_none, configured_same, alike, alike_same, alike_then}
 use Rattle.snapshot.proofs.Making.{first_active, begun_stands, behind_is}
@@ -23,12 +23,12 @@ pair_same files a b one two A = one
 pair_same files a b one two B = two
 
 -- what files stand for is found in them
-pub found_of : (files : Files) (d : Durable) → Recovers files d → (found : Option Active) × Finds files found
+pub found_of : (files : Files) (d : Durable) → Recovers files d → (found : Option Found) × Finds files found
 found_of files d (inl none) = (None, none.0)
 found_of files d (inr (f, h, end, active)) =
     (Some (record { file = f; generation = h.generation; config = h.config; state = d; start = behind h; end = end }), record { heading = h; active = active; generation = refl; config = refl; start = refl })
 
-pub ready_same : (config : Config) (old new : Files) (r : Ready) → Same old new → IsReady config old r → IsReady config new r
+pub ready_same : (config : Config) (old new : Files) (r : Ready) → Same old new → IsFoundFor config old r → IsFoundFor config new r
 ready_same config old new r same is = record {
   heading = is.heading;
   active = active_same old new r.file is.heading _ r.end same is.active;
@@ -38,25 +38,25 @@ ready_same config old new r same is = record {
 }
 
 -- files that hold something aren't all closed
-pub ready_open : (config : Config) (files : Files) (r : Ready) → IsReady config files r → ¬ NoneOpen files
+pub ready_open : (config : Config) (files : Files) (r : Ready) → IsFoundFor config files r → ¬ NoneOpen files
 ready_open config files r is none = none_open files r.file none (headed_open (files r.file) is.heading is.active.0.headed)
 
 -- what it holds is a state that a gateway may have
-pub ready_sound : (config : Config) (files : Files) (r : Ready) → IsReady config files r → IsDurable config (state_of r)
+pub ready_sound : (config : Config) (files : Files) (r : Ready) → IsFoundFor config files r → IsDurable config (found_state r)
 ready_sound config files r is =
-    subst (λ (c : Config). IsDurable c (state_of r)) is.configured (recovers_once.sound files r.file is.heading (state_of r) r.end is.active)
+    subst (λ (c : Config). IsDurable c (found_state r)) is.configured (recovers_once.sound files r.file is.heading (found_state r) r.end is.active)
 
 -- a file that was made where none was open
 pub begun_ready : (config : Config) (bytes : List ℕ) (r : Ready) → IsHeading (anew r.generation config empty) → IsTrue (is_config config)
     → bytes ≡ heading_bytes (anew r.generation config empty) ++ 0 ∷ [] → (old files : Files) → NoneOpen old → Elsewhere r.file old files
-    → take (1 + length bytes) (files r.file) ≡ 1 ∷ bytes → r.start ≡ length bytes → r.end ≡ length bytes → state_of r ≡ empty → IsReady config files r
+    → take (1 + length bytes) (files r.file) ≡ 1 ∷ bytes → r.start ≡ length bytes → r.end ≡ length bytes → found_state r ≡ empty → IsFoundFor config files r
 begun_ready config bytes r whole is are old files none elsewhere fresh start end state =
     let k = anew r.generation config empty in
     let active = first_active r.file r.generation config bytes whole is (empty_durable config) are old files none elsewhere fresh in
     let size = behind_is k bytes are in
     record {
       heading = k;
-      active = subst (λ (n : ℕ). IsActive files r.file k (state_of r) n) (sym (end ∙ size)) (subst (λ (d : Durable). IsActive files r.file k d (behind k)) (sym state) active);
+      active = subst (λ (n : ℕ). IsActive files r.file k (found_state r) n) (sym (end ∙ size)) (subst (λ (d : Durable). IsActive files r.file k d (behind k)) (sym state) active);
       configured = refl;
       numbered = refl;
       starts = start ∙ size;

@@ -96,7 +96,7 @@ module _ {D : Type 0} (moment : D → ℕ) (left : D → ℕ → Files → Type 
               (renews.stood (seen s.disk) (seen new) f body rest.heading d e s.end t.end rest.active stands.elsewhere stands.before stands.groups own);
           configured = rest.configured ∙ sym config;
           numbered = rest.numbered ∙ sym generation;
-          filled = grown;
+          grows = grown;
         },
         refl,
       )
@@ -145,7 +145,7 @@ module _ {D : Type 0} (moment : D → ℕ) (left : D → ℕ → Files → Type 
                   (subst (λ (n : ℕ). IsActive (seen new) (other f) k d n) (sym (end ∙ size)) active));
               configured = rest.configured ∙ sym config;
               numbered = ap (λ (n : ℕ). n + 1) rest.numbered ∙ sym generation;
-              filled = let e : t.end ≡ behind k + t.grown = omega (arith, end, size, grown) in e;
+              grows = let e : t.end ≡ behind k + t.grown = omega (arith, end, size, grown) in e;
             },
             size,
           )

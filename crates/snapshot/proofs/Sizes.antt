@@ -9,7 +9,7 @@ use Rattle.packet.specs.declared.endpoint.Prefix.{Prefix}
 use Rattle.packet.specs.Numbers.{proto_number}
 use Rattle.sessions.specs.Life.{opener_code}
 use Rattle.sessions.specs.declared.session.Session.{Session}
-use Rattle.durable.specs.Coding.{Heading, Kept, mark, endpoint_bytes, session_bytes, prefix_bytes, text_bytes, list_bytes, config_bytes, snapshot_bytes, heading_bytes}
+use Rattle.durable.specs.Coding.{Heading, Snapshot, mark, endpoint_bytes, session_bytes, prefix_bytes, text_bytes, list_bytes, config_bytes, snapshot_bytes, heading_bytes}
 
 length-endpoint : (e : Endpoint) → length (endpoint_bytes e) ≡ 6
 unfolding endpoint_bytes
@@ -51,7 +51,7 @@ config_short c is =
     let four = length-append (big_bytes 1 (length c.inside)) (flat_map prefix_bytes c.inside) in
     omega (arith, one, two, three, four, length-text 1 c.lan, length-text 1 c.wan, length-prefixes c.inside, length-bytes_high_first 1 (length c.inside), length-bytes_high_first 4 c.external, is.lan.1, is.wan.1, is.count.1)
 
-snapshot_short : (k : Kept) → length k.text ≤ 262144 → length k.sessions ≤ 65536 → length (snapshot_bytes k) ≤ 1638408
+snapshot_short : (k : Snapshot) → length k.text ≤ 262144 → length k.sessions ≤ 65536 → length (snapshot_bytes k) ≤ 1638408
 unfolding snapshot_bytes
 snapshot_short k text count =
     let sessions = list_bytes 4 session_bytes k.sessions in
@@ -59,11 +59,11 @@ snapshot_short k text count =
     let two = length-append (big_bytes 4 (length k.sessions)) (flat_map session_bytes k.sessions) in
     omega (arith, one, two, length-text 4 k.text, length-sessions k.sessions, length-bytes_high_first 4 (length k.sessions), text, count)
 
-pub heading_short : (h : Heading) → IsChecked h.config → length h.kept.text ≤ 262144 → length h.kept.sessions ≤ 65536 → length (heading_bytes h) ≤ 1638537
+pub heading_short : (h : Heading) → IsChecked h.config → length h.snapshot.text ≤ 262144 → length h.snapshot.sessions ≤ 65536 → length (heading_bytes h) ≤ 1638537
 unfolding heading_bytes
 heading_short h is text count =
-    let behind = config_bytes h.config ++ snapshot_bytes h.kept in
+    let behind = config_bytes h.config ++ snapshot_bytes h.snapshot in
     let one = length-append mark (big_bytes 8 h.generation ++ behind) in
     let two = length-append (big_bytes 8 h.generation) behind in
-    let three = length-append (config_bytes h.config) (snapshot_bytes h.kept) in
-    omega (arith, one, two, three, config_short h.config is, snapshot_short h.kept text count, length-bytes_high_first 8 h.generation)
+    let three = length-append (config_bytes h.config) (snapshot_bytes h.snapshot) in
+    omega (arith, one, two, three, config_short h.config is, snapshot_short h.snapshot text count, length-bytes_high_first 8 h.generation)

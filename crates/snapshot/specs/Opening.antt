@@ -8,13 +8,13 @@ use Rattle.durable.specs.Recovery.{IsActive, NoneOpen, behind}
 use Rattle.durable.specs.declared.recovery.Recovered as recovery
 use Rattle.snapshot.specs.declared.opening.Ready as opening
 
-abbrev pub state_of : opening.Ready → Durable
-state_of r = durable r.text.items r.sessions.items
+abbrev pub found_state : opening.Ready → Durable
+found_state r = durable r.text.items r.sessions.items
 
 -- an active file of this configuration
-pub record IsReady (config : Config) (files : Files) (r : opening.Ready) : Type 0 where
+pub record IsFoundFor (config : Config) (files : Files) (r : opening.Ready) : Type 0 where
   pub heading : Heading
-  pub active : IsActive files r.file heading (state_of r) r.end
+  pub active : IsActive files r.file heading (found_state r) r.end
   pub configured : heading.config ≡ config
   pub numbered : heading.generation ≡ r.generation
   pub starts : r.start ≡ behind heading
@@ -22,10 +22,10 @@ pub record IsReady (config : Config) (files : Files) (r : opening.Ready) : Type 
 -- what was found in two files
 abbrev pub IsRecovered : Config → Files → Option opening.Ready → Type 0
 IsRecovered config files None = NoneOpen files
-IsRecovered config files (Some r) = IsReady config files r
+IsRecovered config files (Some r) = IsFoundFor config files r
 
 -- what was recovered, with a text of its own
-pub record IsKept (found : recovery.Recovered) (r : opening.Ready) : Type 0 where
+pub record IsCopied (found : recovery.Recovered) (r : opening.Ready) : Type 0 where
   pub file : r.file ≡ found.file
   pub generation : r.generation ≡ found.generation
   pub bounds : r.bounds ≡ found.bounds

@@ -41,7 +41,7 @@ module _ {D : Type 0} (moment : D → ℕ) (left : D → ℕ → Files → Type 
     pub active : IsActive (seen store.disk) file heading d store.end
     pub configured : heading.config ≡ store.config
     pub numbered : heading.generation ≡ store.generation
-    pub filled : store.end ≡ behind heading + store.grown
+    pub grows : store.end ≡ behind heading + store.grown
 
   -- The files stand for this state as they read, so does whatever a crash leaves now, and one of them is active and
   -- holds it, with the configuration, the generation and the places that the store has.

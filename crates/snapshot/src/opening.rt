@@ -9,11 +9,11 @@ ghost use Rattle.disk_model.specs.declared.disk.FileId.TheVariants.{A, B};
 ghost use Rattle.disk_model.specs.Disk.{Same, Leaves, LeavesNow, LeavesOnly, Looks, Synced, Grew, HasCause, pair};
 ghost use Rattle.durable.specs.Entering.{Durable, IsDurable, empty};
 ghost use Rattle.durable.specs.Recovery.{Alike, IsConfigured, NoneOpen, Recovers};
-ghost use Rattle.snapshot.specs.Opening.{IsReady, IsRecovered, IsKept, state_of};
+ghost use Rattle.snapshot.specs.Opening.{IsFoundFor, IsRecovered, IsCopied, found_state};
 ghost use Rattle.snapshot.specs.Store.{IsFirst};
 
 use crate::OpenFault;
-use crate::front::front_of;
+use crate::closed_heading::closed_heading;
 use crate::remaking::remake;
 use disk_model::{Disk, DiskFault, FileId, contents};
 use durable::{DurableFault, Recovered, heading_fits, recover};
@@ -77,7 +77,7 @@ fn look<D: Disk>(alloc: Global, disk: &mut D) -> Result<(Vec<u8>, Vec<u8>), Open
 
 // What was recovered from two files, kept for the store.
 fn keep(alloc: Global, found: Recovered<'_>) -> Result<Ready, OpenFault>
-    ensures ok { IfOk result (λ r. IsKept found.entry r) }
+    ensures ok { IfOk result (λ r. IsCopied found.entry r) }
     ensures device { IsErrOf result OpenFault.Device → ⊥ }
     ensures damaged { IsErrOf result OpenFault.Damaged → ⊥ }
     ensures differs { IsErrOf result OpenFault.ConfigDiffers → ⊥ }
@@ -134,13 +134,13 @@ fn make_first<D: Disk>(alloc: Global, disk: &mut D, bounds: &Bounds) -> Result<R
         → LeavesOnly D.moment D.left disk.old disk.new (λ files. Recovers files empty) }
     ensures configured { D.honest disk.old
         → LeavesOnly D.moment D.left disk.old disk.new (IsConfigured bounds.now) }
-    ensures ok { D.honest disk.old → IfOk result (λ r. IsReady bounds.now (D.seen disk.new) r) }
+    ensures ok { D.honest disk.old → IfOk result (λ r. IsFoundFor bounds.now (D.seen disk.new) r) }
     ensures synced { D.honest disk.old → OnOk result ((file : FileId)
         → Synced D.moment D.left D.seen disk.new file) }
-    ensures fresh { D.honest disk.old
+    ensures first { D.honest disk.old
         → OnOk result (IsFirst bounds.now (D.seen disk.old) (D.seen disk.new)) }
-    ensures first { IfOk result (λ r. r.generation ≡ 1) }
-    ensures empty { IfOk result (λ r. state_of r ≡ empty) }
+    ensures generation { IfOk result (λ r. r.generation ≡ 1) }
+    ensures empty { IfOk result (λ r. found_state r ≡ empty) }
     ensures bounds { IfOk result (λ r. r.bounds ≡ bounds.now) }
     ensures stays { ¬ IsErrOf result OpenFault.Device → OnErr result (disk.new ≡ disk.old) }
     ensures failures { D.failed disk.old ≤ D.failed disk.new }
@@ -157,7 +157,7 @@ fn make_first<D: Disk>(alloc: Global, disk: &mut D, bounds: &Bounds) -> Result<R
     bounds.facts();
     heading_fits(generation, bounds, &[], &[]);
     let kept = bounds.copy(alloc)?;
-    let bytes = front_of(alloc, generation, bounds, &[], &[])?;
+    let bytes = closed_heading(alloc, generation, bounds, &[], &[])?;
     remake(disk, file, &bytes)?;
     // There stands the closed gate that ends `bytes`: the file's own gate is in front of them.
     let end = bytes.len() as u64;
@@ -187,14 +187,14 @@ pub(crate) fn make_ready<D: Disk>(
     ensures configured { D.honest disk.old
         → LeavesNow D.moment D.left disk.old (IsConfigured bounds.now)
         → LeavesOnly D.moment D.left disk.old disk.new (IsConfigured bounds.now) }
-    ensures ok { D.honest disk.old → IfOk result (λ r. IsReady bounds.now (D.seen disk.new) r) }
+    ensures ok { D.honest disk.old → IfOk result (λ r. IsFoundFor bounds.now (D.seen disk.new) r) }
     ensures recovers { D.honest disk.old
-        → IfOk result (λ r. Recovers (D.seen disk.old) (state_of r)) }
-    ensures sound { IfOk result (λ r. IsDurable bounds.now (state_of r)) }
+        → IfOk result (λ r. Recovers (D.seen disk.old) (found_state r)) }
+    ensures sound { IfOk result (λ r. IsDurable bounds.now (found_state r)) }
     ensures taken { D.honest disk.old → OnOk result (IsConfigured bounds.now (D.seen disk.old)) }
-    ensures fresh { D.honest disk.old → NoneOpen (D.seen disk.old)
-        → OnOk result (IsFirst bounds.now (D.seen disk.old) (D.seen disk.new)) }
     ensures first { D.honest disk.old → NoneOpen (D.seen disk.old)
+        → OnOk result (IsFirst bounds.now (D.seen disk.old) (D.seen disk.new)) }
+    ensures generation { D.honest disk.old → NoneOpen (D.seen disk.old)
         → IfOk result (λ r. r.generation ≡ 1) }
     ensures only_looks { D.honest disk.old → ¬ NoneOpen (D.seen disk.old)
         → OnOk result (Looks D.moment D.left D.seen disk.old disk.new) }

@@ -1,16 +1,18 @@
 //! The store: two files, of which one is active. It is opened (`open`), commits groups (`commit`), and is compacted
 //! (`compact`); once a call of its disk has failed it can only give that back (`into_disk`).
-ghost use Rattle.std.specs.Prelude.{◌≡◌, ◌+◌, ◌-◌, ◌^◌, ◌<◌, ◌≤◌, ◌↔◌, length, MatchResult, IfOk, IfErr, OnOk, IsErrOf, true, false};
-ghost use Rattle.disk_model.specs.Disk.{Leaves, LeavesNow, LeavesOnly, Looks, Called, Grew};
+ghost use Rattle.std.specs.Prelude.{◌≡◌, ◌∷◌, ◌+◌, ◌-◌, ◌^◌, ◌<◌, ◌≤◌, ◌↔◌, length, MatchResult, IfOk, IfErr, OnOk, IsErrOf, true, false};
+ghost use Rattle.disk_model.specs.Disk.{Elsewhere, Leaves, LeavesNow, LeavesOnly, Looks, Put, Called, Grew};
+ghost use Rattle.disk_model.specs.declared.disk.FileId.{FileId};
 ghost use Rattle.durable.specs.Coding.{heading_bytes};
 ghost use Rattle.durable.specs.Entering.{Durable, IsDurable, durable, BodyEnters};
-ghost use Rattle.durable.specs.Laws.{anew};
+ghost use Rattle.durable.specs.Laws.{anew, IsFresh};
 ghost use Rattle.durable.specs.Recovery.{Alike, IsConfigured, NoneOpen, Recovers};
+ghost use Rattle.journal.specs.Groups.{framed};
 ghost use Rattle.snapshot.specs.Store.{Keeps, RecoversEither, IsFirst, Fits};
 
-use crate::front::front_of;
+use crate::closed_heading::closed_heading;
 use crate::opening::{Ready, make_ready};
-use crate::remaking::{beside, remake};
+use crate::remaking::{other, remake};
 use crate::{CommitFault, CompactFault, OpenFault};
 use disk_model::{Disk, FileId};
 use journal::{Group, JournalFault, append};
@@ -116,9 +118,9 @@ impl<D: Disk + Drop> Store<D> {
         ensures taken { D.honest disk → OnOk result (IsConfigured bounds.now (D.seen disk)) }
 
         // Where no file is open, file A is made anew, of the first generation; otherwise the files aren't changed.
-        ensures fresh { D.honest disk → NoneOpen (D.seen disk)
-            → IfOk result (λ o. IsFirst bounds.now (D.seen disk) (D.seen o.store.disk)) }
         ensures first { D.honest disk → NoneOpen (D.seen disk)
+            → IfOk result (λ o. IsFirst bounds.now (D.seen disk) (D.seen o.store.disk)) }
+        ensures generation { D.honest disk → NoneOpen (D.seen disk)
             → IfOk result (λ o. o.store.generation ≡ 1) }
         ensures only_looks { D.honest disk → ¬ NoneOpen (D.seen disk)
             → IfOk result (λ o. Looks D.moment D.left D.seen disk o.store.disk) }
@@ -237,6 +239,12 @@ impl<D: Disk + Drop> Store<D> {
         ensures ok { D.honest self.old.disk → (d e : Durable) → Recovers (D.seen self.old.disk) d
             → BodyEnters self.old.config group.now.body d e
             → OnOk result (Keeps D.moment D.left D.seen self.new e) }
+
+        // One file, the active one, reads as before, but for the open group and the 00 behind it where its groups
+        // ended.
+        ensures written { D.honest self.old.disk → OnOk result ((file : FileId)
+            × Put file self.old.end (1 ∷ framed group.now.body) (D.seen self.old.disk)
+            (D.seen self.new.disk)) }
         ensures config { self.new.config ≡ self.old.config }
         ensures generation { self.new.generation ≡ self.old.generation }
         ensures end { D.honest self.old.disk
@@ -301,6 +309,12 @@ impl<D: Disk + Drop> Store<D> {
         // After Ok it is kept.
         ensures ok { D.honest self.old.disk
             → OnOk result (Keeps D.moment D.left D.seen self.new (durable text.now sessions.now)) }
+
+        // One file was made anew for it, of the next generation, and the other one is as it was.
+        ensures written { D.honest self.old.disk → OnOk result ((file : FileId)
+            × IsFresh (D.seen self.new.disk file)
+            (anew (self.old.generation + 1) self.old.config (durable text.now sessions.now))
+            × Elsewhere file (D.seen self.old.disk) (D.seen self.new.disk)) }
         ensures config { self.new.config ≡ self.old.config }
         ensures generation { OnOk result (self.new.generation ≡ self.old.generation + 1) }
         ensures grown { OnOk result (self.new.grown ≡ 0) }
@@ -326,10 +340,10 @@ impl<D: Disk + Drop> Store<D> {
             return Err(CompactFault::Generations);
         }
         let generation = self.generation + 1;
-        let Ok(bytes) = front_of(alloc, generation, &self.bounds, text, sessions) else {
+        let Ok(bytes) = closed_heading(alloc, generation, &self.bounds, text, sessions) else {
             return Err(CompactFault::NoMemory);
         };
-        let file = beside(self.active);
+        let file = other(self.active);
         match remake(&mut self.disk, file, &bytes) {
             Ok(()) => {
                 self.active = file;

@@ -32,7 +32,7 @@ pub record AreFirst (config : Config) (events : List Event) (judged : List Judge
   pub are_judged : AreJudged config front judged
 
 -- The events were taken, as they are judged, and of the answers that stand out these were handed out; their frames went
--- behind `before`.
+-- behind `before` (none in the definitions; lemmas go on from some).
 pub record Progress (old new : Told) (events : List Event) (before out : List ℕ) : Type 0 where
   pub handed : List (ℕ × Answer)
   pub took : TookAll old new events handed

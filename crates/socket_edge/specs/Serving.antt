@@ -39,9 +39,9 @@ pub record Served (old new : Told) (bytes rest sent : List ℕ) (count : ℕ) : 
   pub none : old.held ≡ [] → new.held ≡ []
 
 -- what the frames at the front came to
-abbrev pub Came : Result ℕ EdgeFault → Told → Told → List ℕ → List ℕ → List ℕ → Type 0
-Came (Ok count) old new bytes rest sent = Served old new bytes rest sent count
-Came (Err fault) old new bytes rest sent = Ends fault old new bytes sent ⊥
+abbrev pub FrontCame : Result ℕ EdgeFault → Told → Told → List ℕ → List ℕ → List ℕ → Type 0
+FrontCame (Ok count) old new bytes rest sent = Served old new bytes rest sent count
+FrontCame (Err fault) old new bytes rest sent = Ends fault old new bytes sent ⊥
 
 -- what one read, and all that it made whole, came to
 abbrev pub Turned : Result Turn EdgeFault → Told → Told → List ℕ → List ℕ → List ℕ → Type 0 → Type 0
@@ -65,9 +65,9 @@ RefusesNone (step.Ends (halt.Bad fault)) = Unit {0}
 RefusesNone (step.Ends (halt.Refused fault)) = ⊥
 
 -- where answers that are held stand in front, behind so many bytes of answers that are not
-abbrev pub held_behind : Step → Option ℕ
-held_behind (step.Took forwarded held) = held
-held_behind (step.Ends s) = None
+abbrev pub where_held : Step → Option ℕ
+where_held (step.Took forwarded held) = held
+where_held (step.Ends s) = None
 
 -- the bytes of the answers in front that are not held
 abbrev pub released : Option ℕ → List ℕ → List ℕ
@@ -94,17 +94,18 @@ module _ {D : Type 0} (honest : D → Type 0) (moment : D → ℕ) (left : D →
   -- one carries on, or breaks off, whatever other answers were handed out before
   abbrev pub CarriesBehind : Kept D → Kept D → List Event → List (ℕ × Answer)
       → List (ℕ × Answer) → Type 0
-  CarriesBehind old new more before out =
-      (handed : List (ℕ × Answer))
-      → CarriesOn honest moment left failed old new more (handed ++ before) (handed ++ out)
+  CarriesBehind old new more from to =
+      (before : List (ℕ × Answer))
+      → CarriesOn honest moment left failed old new more (before ++ from) (before ++ to)
 
   abbrev pub BreaksBehind : Kept D → Kept D → List Event → List (ℕ × Answer) → List (ℕ × Answer)
       → GatewayFault → Type 0
-  BreaksBehind old new more before out why =
-      (handed : List (ℕ × Answer))
-      → BreaksOff honest moment left failed old new more (handed ++ before) (handed ++ out) why
+  BreaksBehind old new more from to why =
+      (before : List (ℕ × Answer))
+      → BreaksOff honest moment left failed old new more (before ++ from) (before ++ to) why
 
-  -- what one frame at the front came to
+  -- What one frame at the front came to. Refused: the bytes read as these events and then `later`, and the first of the
+  -- events were taken.
   abbrev pub Stepped : Step → List ℕ → List ℕ → Kept D → Kept D → List (ℕ × Answer)
       → List (ℕ × Answer) → Type 0
   Stepped (step.Took forwarded held) bytes rest old new before out = (event : Event)
@@ -118,7 +119,7 @@ module _ {D : Type 0} (honest : D → Type 0) (moment : D → ℕ) (left : D →
       (events : List Event) × (later : List ℕ) × Reads bytes events later
       × BreaksOff honest moment left failed old new events before out fault
 
-  -- what all whole frames at the front came to
+  -- what all whole frames at the front came to; refused, as of one
   abbrev pub Offered : Halt → List ℕ → List ℕ → ℕ → Kept D → Kept D → List (ℕ × Answer)
       → List (ℕ × Answer) → Type 0
   Offered halt.Cut bytes rest count old new before out =

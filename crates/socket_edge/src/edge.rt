@@ -9,7 +9,7 @@ ghost use Rattle.std.specs.Io.KnownBytes.{Appends, Consumes, IsAtEnd};
 ghost use Rattle.machine.specs.declared.event.Answer.{Answer};
 ghost use Rattle.frames.specs.Requests.{next, Cut};
 ghost use Rattle.socket_edge.specs.Running.{Explains, Fares, Ran, events_in};
-ghost use Rattle.socket_edge.specs.Serving.{Came, SettledAndSent, Turned};
+ghost use Rattle.socket_edge.specs.Serving.{FrontCame, SettledAndSent, Turned};
 
 use crate::fault::EdgeFault;
 use crate::sending::send_behind;
@@ -77,7 +77,7 @@ fn answer_read<W: Write, D: Disk + Drop>(
     requires stands { gateway.old.fallen ≡ false }
     requires sent { waiting.old.answered ≡ [] }
     ensures served { (sent : List ℕ) × Appends (W.contents writer.old) (W.contents writer.new) sent
-        × Came result gateway.old.told gateway.new.told
+        × FrontCame result gateway.old.told gateway.new.told
         waiting.old.unanswered waiting.new.unanswered sent
         × Fares D.honest D.moment D.left gateway.old gateway.new
         (events_in waiting.old.unanswered) sent }

@@ -25,3 +25,4 @@ mod waiting;
 
 pub use edge::run;
 pub use fault::EdgeFault;
+pub use serving::MOST_GROWN;

@@ -18,7 +18,7 @@ ghost use Rattle.machine.specs.declared.event.Answer.{Answer};
 ghost use Rattle.frames.specs.Answers.{frame, frames};
 ghost use Rattle.frames.specs.Requests.{Whole, next};
 ghost use Rattle.socket_edge.specs.Serving.{CarriesBehind, BreaksBehind, Stepped, Offered, Closed};
-ghost use Rattle.socket_edge.specs.Serving.{AreHeld, Passes, RefusesNone, end_of, held_behind, released};
+ghost use Rattle.socket_edge.specs.Serving.{AreHeld, Passes, RefusesNone, end_of, where_held, released};
 
 use crate::ahead::Ahead;
 use crate::fault::EdgeFault;
@@ -32,7 +32,7 @@ use machine::laws::events_are_judged_once;
 use std::alloc::{AllocError, Global};
 
 /// The most bytes of groups that a file keeps when what was read is answered.
-const MOST_GROWN: u64 = 1_048_576;
+pub const MOST_GROWN: u64 = 1_048_576;
 
 /// The most bodies that are kept, about as many as one read of short packets has.
 const MOST_KEPT: usize = 1_024;
@@ -199,7 +199,7 @@ fn offer_copy<D: Disk + Drop>(
         × ((before : List (ℕ × Answer)) → Stepped D.honest D.moment D.left D.failed result
         waiting.old.unanswered waiting.new.unanswered gateway.old gateway.new
         (before ++ answers.old.items) (before ++ (handed ++ answers.new.items))) }
-    ensures behind { held_behind result ≡ None }
+    ensures none_held { where_held result ≡ None }
     ensures stands { RefusesNone result → gateway.new.fallen ≡ false }
     ensures room { vec_len answers.new + length gateway.new.told.held ≤ vec_capacity answers.new }
 {
@@ -221,7 +221,7 @@ fn offer_copy<D: Disk + Drop>(
     }
 }
 
-/// Whether no answer waits, and the gateway holds none.
+/// Whether no answer stands in `answers`, and the gateway holds none.
 fn is_idle<D: Disk + Drop>(answers: &[(u64, Answer)], gateway: &Gateway<D>) -> bool
     ensures none { result ≡ true → answers.now ≡ [] }
     ensures held { result ≡ true → gateway.now.told.held ≡ [] }
@@ -249,9 +249,9 @@ fn send_at_once<D: Disk + Drop>(
     hopeful && waiting.forward_next(gateway)
 }
 
-/// Offers the frame at the front, where no answer that is held stands in front: where it lies, if no answer waits and
-/// the gateway holds none. Otherwise a copy of it, and also where memory for 64 answers is refused, or the gateway
-/// doesn't take it where it lies.
+/// Offers the frame at the front, where no answer that is held stands in front: where it lies, if none stands in
+/// `answers` and the gateway holds none. Otherwise a copy of it, and also where memory for 64 answers is refused, or
+/// the gateway doesn't take it where it lies.
 fn offer_idle<D: Disk + Drop>(
     alloc: Global,
     hopeful: bool,
@@ -263,13 +263,13 @@ fn offer_idle<D: Disk + Drop>(
     requires stands { gateway.old.fallen ≡ false }
     requires room { vec_len answers.old + length gateway.old.told.held ≤ vec_capacity answers.old }
     ensures step { (handed : List (ℕ × Answer))
-        × (released (held_behind result) waiting.new.answered
+        × (released (where_held result) waiting.new.answered
         ≡ waiting.old.answered ++ frames handed)
         × ((before : List (ℕ × Answer)) → Stepped D.honest D.moment D.left D.failed result
         waiting.old.unanswered waiting.new.unanswered gateway.old gateway.new
         (before ++ answers.old.items) (before ++ (handed ++ answers.new.items))) }
-    ensures held { AreHeld (held_behind result) waiting.new.answered gateway.new.told.held }
-    ensures alone { held_behind result ≢ None
+    ensures held { AreHeld (where_held result) waiting.new.answered gateway.new.told.held }
+    ensures alone { where_held result ≢ None
         → (answers.new.items ≡ []) × (64 ≤ vec_capacity answers.new) }
     ensures stands { RefusesNone result → gateway.new.fallen ≡ false }
     ensures room { vec_len answers.new + length gateway.new.told.held ≤ vec_capacity answers.new }
@@ -283,12 +283,12 @@ fn offer_idle<D: Disk + Drop>(
     if make_places(answers, MOST_HELD).is_err() {
         return offer_copy(alloc, waiting, answers, bodies, gateway);
     }
-    let front = waiting.answered().len();
+    let from = waiting.answered().len();
     let Some(placed) = waiting.pass_next(gateway) else {
         return offer_copy(alloc, waiting, answers, bodies, gateway);
     };
     if placed.held {
-        return Step::Took(false, Some(front));
+        return Step::Took(false, Some(from));
     }
     Step::Took(placed.leaves, None)
 }
@@ -312,106 +312,106 @@ fn pass_behind<D: Disk + Drop>(waiting: &mut Waiting, gateway: &mut Gateway<D>) 
     waiting.pass_next(gateway).is_some()
 }
 
-/// Where answers that are held stand in front, behind so many bytes, has the packet at the front taken where it lies.
-/// If it isn't, they are synced: where 64 are held, where `Gateway::pass` doesn't take it, and where no whole frame is
-/// left or a header is faulty, as behind the last frame of each read. `None` where no answer that is held stands in
-/// front any more, and what is at the front is still to be offered.
+/// Where frames of held answers stand among the answered bytes, from `held_from` on, has the packet at the front taken
+/// where it lies. If it isn't, they are synced: where 64 are held, where `Gateway::pass` doesn't take it, and where no
+/// whole frame is left or a header is faulty, as behind the last frame of each read. `None` where no answer that is
+/// held stands in front any more, and what is at the front is still to be offered.
 fn offer_behind<D: Disk + Drop>(
-    behind: Option<usize>,
+    held_from: Option<usize>,
     waiting: &mut Waiting,
     gateway: &mut Gateway<D>,
 ) -> Option<Step>
     requires stands { gateway.old.fallen ≡ false }
-    requires held { AreHeld behind waiting.old.answered gateway.old.told.held }
+    requires held { AreHeld held_from waiting.old.answered gateway.old.told.held }
     ensures some { IfSome result (λ step.
-        (released (held_behind step) waiting.new.answered ≡ released behind waiting.old.answered)
+        (released (where_held step) waiting.new.answered ≡ released held_from waiting.old.answered)
         × ((before : List (ℕ × Answer)) → Stepped D.honest D.moment D.left D.failed step
         waiting.old.unanswered waiting.new.unanswered gateway.old gateway.new before before)) }
     ensures held { IfSome result (λ step.
-        AreHeld (held_behind step) waiting.new.answered gateway.new.told.held) }
+        AreHeld (where_held step) waiting.new.answered gateway.new.told.held) }
     ensures stands { IfSome result (λ step. RefusesNone step → gateway.new.fallen ≡ false) }
     ensures few { OnSome result (length gateway.new.told.held ≤ 64) }
     ensures none { IfNone result ((handed : List (ℕ × Answer))
         × (waiting.new ≡ record waiting.old {
-          answered = released behind waiting.old.answered ++ frames handed;
+          answered = released held_from waiting.old.answered ++ frames handed;
         })
         × ((before : List (ℕ × Answer)) → CarriesOn D.honest D.moment D.left D.failed
         gateway.old gateway.new [] before (before ++ handed))) }
     ensures goes_on { IfNone result (gateway.new.fallen ≡ false) }
-    ensures settled { behind ≢ None → IfNone result (gateway.new.told.held ≡ []) }
-    ensures unasked { behind ≡ None → (result ≡ None) × (waiting.new ≡ waiting.old)
+    ensures settled { held_from ≢ None → IfNone result (gateway.new.told.held ≡ []) }
+    ensures unasked { held_from ≡ None → (result ≡ None) × (waiting.new ≡ waiting.old)
         × (gateway.new ≡ gateway.old) }
 {
-    let Some(front) = behind else {
+    let Some(from) = held_from else {
         return None;
     };
     if pass_behind(waiting, gateway) {
-        return Some(Step::Took(false, Some(front)));
+        return Some(Step::Took(false, Some(from)));
     }
     match settle(gateway) {
         Ok(()) => None,
         Err(fault) => {
-            waiting.cut_answered(front);
+            waiting.cut_answered(from);
             Some(Step::Ends(Halt::Refused(fault)))
         }
     }
 }
 
-/// Where answers that are held stand in front, behind so many bytes, and a frame comes that `Gateway::pass` never
-/// takes, lets their frames go, unless no more can be held: the gateway has the answers too, and hands them out with
-/// that of the frame, so that they needn't be synced before it. Says behind how many bytes such answers stand then, if
-/// there are any.
+/// Where frames of held answers stand among the answered bytes, from `held_from` on, and a frame comes that
+/// `Gateway::pass` never takes, lets them go, unless no more can be held: the gateway has the answers too, and hands
+/// them out with that of the frame, so that they needn't be synced before it. Says from where on such frames stand
+/// then, if there are any.
 #[inline(always)]
 fn make_way<D: Disk + Drop>(
-    behind: Option<usize>,
+    held_from: Option<usize>,
     waiting: &mut Waiting,
     gateway: &Gateway<D>,
 ) -> Option<usize>
-    requires held { AreHeld behind waiting.old.answered gateway.now.told.held }
+    requires held { AreHeld held_from waiting.old.answered gateway.now.told.held }
     ensures held { AreHeld result waiting.new.answered gateway.now.told.held }
     ensures released { released result waiting.new.answered
-        ≡ released behind waiting.old.answered }
+        ≡ released held_from waiting.old.answered }
     ensures rest { waiting.new.unanswered ≡ waiting.old.unanswered }
-    ensures some { result ≢ None → behind ≢ None }
+    ensures some { result ≢ None → held_from ≢ None }
 {
-    let Some(front) = behind else {
+    let Some(from) = held_from else {
         return None;
     };
     if waiting.wants_copy() && gateway.held() < MOST_HELD {
-        waiting.cut_answered(front);
+        waiting.cut_answered(from);
         return None;
     }
-    behind
+    held_from
 }
 
-/// Offers the frame at the front, behind answers that are held, if such stand in front, behind so many bytes.
+/// Offers the frame at the front, behind the frames of held answers that stand from `held_from` on, if any do.
 fn offer_next<D: Disk + Drop>(
     alloc: Global,
     hopeful: bool,
-    behind: Option<usize>,
+    held_from: Option<usize>,
     waiting: &mut Waiting,
     answers: &mut Vec<(u64, Answer)>,
     bodies: &mut Vec<Vec<u8>>,
     gateway: &mut Gateway<D>,
 ) -> Step
     requires stands { gateway.old.fallen ≡ false }
-    requires held { AreHeld behind waiting.old.answered gateway.old.told.held }
-    requires alone { behind ≢ None → (answers.old.items ≡ []) × (64 ≤ vec_capacity answers.old) }
+    requires held { AreHeld held_from waiting.old.answered gateway.old.told.held }
+    requires alone { held_from ≢ None → (answers.old.items ≡ []) × (64 ≤ vec_capacity answers.old) }
     requires room { vec_len answers.old + length gateway.old.told.held ≤ vec_capacity answers.old }
     ensures step { (handed : List (ℕ × Answer))
-        × (released (held_behind result) waiting.new.answered
-        ≡ released behind waiting.old.answered ++ frames handed)
+        × (released (where_held result) waiting.new.answered
+        ≡ released held_from waiting.old.answered ++ frames handed)
         × ((before : List (ℕ × Answer)) → Stepped D.honest D.moment D.left D.failed result
         waiting.old.unanswered waiting.new.unanswered gateway.old gateway.new
         (before ++ answers.old.items) (before ++ (handed ++ answers.new.items))) }
-    ensures held { AreHeld (held_behind result) waiting.new.answered gateway.new.told.held }
-    ensures alone { held_behind result ≢ None
+    ensures held { AreHeld (where_held result) waiting.new.answered gateway.new.told.held }
+    ensures alone { where_held result ≢ None
         → (answers.new.items ≡ []) × (64 ≤ vec_capacity answers.new) }
     ensures stands { RefusesNone result → gateway.new.fallen ≡ false }
     ensures room { vec_len answers.new + length gateway.new.told.held ≤ vec_capacity answers.new }
 {
-    let behind = make_way(behind, waiting, gateway);
-    match offer_behind(behind, waiting, gateway) {
+    let held_from = make_way(held_from, waiting, gateway);
+    match offer_behind(held_from, waiting, gateway) {
         Some(step) => step,
         None => offer_idle(alloc, hopeful, waiting, answers, bodies, gateway),
     }
@@ -450,13 +450,13 @@ pub fn offer_all<D: Disk + Drop>(
     // events in a row that ended with none handed out, until the next one leaves.
     let mut misses: usize = 0;
     let mut ahead = Ahead::none();
-    let mut behind = None;
+    let mut held_from = None;
     loop {
         ahead = ahead.next(waiting.unanswered(), gateway);
         let hopeful = ahead.is_known() && misses < MOST_MISSES;
-        match offer_next(alloc, hopeful, behind, waiting, answers, bodies, gateway) {
-            Step::Took(forwarded, now_behind) => {
-                behind = now_behind;
+        match offer_next(alloc, hopeful, held_from, waiting, answers, bodies, gateway) {
+            Step::Took(forwarded, now_held_from) => {
+                held_from = now_held_from;
                 prove!(count < most);
                 count += 1;
                 misses = misses_behind(misses, forwarded);

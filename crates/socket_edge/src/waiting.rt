@@ -140,8 +140,8 @@ impl Waiting {
         }
     }
 
-    // The packet at the front, where a whole frame of one stands there that has at most `most` bytes: its interface,
-    // its moment in seconds, and how many bytes the frame has.
+    // The packet at the front, if it has at most `most` bytes and its whole frame stands there: its interface, its
+    // moment in seconds, and how many bytes the frame has.
     #[inline(always)]
     fn front_packet(&self, most: usize) -> Option<(Iface, u64, usize)>
         ensures some { IfSome result (λ front. next self.now.unanswered

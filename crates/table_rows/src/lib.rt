@@ -9,7 +9,7 @@
 //! - `living`: the table of sessions (`sessions`);
 //! - `many`: as many sessions as a table holds, in turned orders;
 //! - `idle`: the sessions that are over (`timers`);
-//! - `pairs`: the mappings (`mappings`);
+//! - `mapped`: the mappings (`mappings`);
 //! - `ports`: the ports of an external address (`portpick`);
 //! - `lines`: sessions as lines of text (`session_lines`).
 #![tactic(auto)]
@@ -25,11 +25,11 @@ mod living;
 #[cfg(test)]
 mod many;
 #[cfg(test)]
+mod mapped;
+#[cfg(test)]
 mod members;
 #[cfg(test)]
 mod ordered;
-#[cfg(test)]
-mod pairs;
 #[cfg(test)]
 mod ports;
 #[cfg(test)]

@@ -1,7 +1,7 @@
 -- How the idle times are kept: a row of links. The first three places are the heads of three rings,
 -- one for each timeout; the place of a slot is three above its number. No public clause cites this
 -- module.
-use Rattle.std.specs.Prelude.{◌≡◌, ◌≢◌, ℕ, ◌+◌, ◌<◌, ◌≤◌, List, [], ◌∷◌, length, Option, Some, None, IsSomeAnd, slice_index_or, slice_index, drop}
+use Rattle.std.specs.Prelude.{◌≡◌, ◌≢◌, ℕ, ◌+◌, ◌<◌, ◌≤◌, List, [], ◌∷◌, length, Option, Some, None, IsSomeAnd, slice_index_or, drop}
 use Rattle.std.specs.List.{Contains}
 use Rattle.std.specs.Option.{option_map}
 use Rattle.timers.specs.declared.due.Idle.{Idle}
@@ -9,7 +9,7 @@ use Rattle.timers.specs.declared.links.Link.{Link}
 use Rattle.timers.specs.declared.links.Queue.{Queue}
 use Rattle.timers.specs.declared.links.Queue.TheVariants.{Short, Middle, Long}
 use Rattle.timers.specs.declared.links.Watch.{Watch}
-use Rattle.timers.specs.Due.{IsOver}
+use Rattle.timers.specs.Due.{AreOnce, IsOver}
 
 -- the place of the queue's head
 abbrev pub head_of : Queue → ℕ
@@ -123,4 +123,4 @@ pub record IsFound (links : List Link) (now queues : ℕ) (slots : List ℕ) : T
       → Contains slots slot
   pub each : (slot : ℕ) → Contains slots slot → (tag links (slot + 3) < queues)
       × IsOverAt links now (slot + 3)
-  pub once : (i j : ℕ) → i < j → j < length slots → slice_index slots i ≢ slice_index slots j
+  pub once : AreOnce slots

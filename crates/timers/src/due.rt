@@ -39,7 +39,7 @@ impl Model for Due {
 
     ghost view = { λ d. record {
       idle = idles d.links.items;
-      ready = length d.links.items - 3;
+      watchable = length d.links.items - 3;
     } };
 
     ghost invariant = { λ d. IsRow d.links.items };
@@ -63,10 +63,10 @@ impl Due {
     /// `AllocError` where a growth was refused, and never where there is that room already. The same slots
     /// are watched in any case, and no room is lost.
     pub fn reserve(&mut self, slots: usize) -> Result<(), AllocError>
-        ensures ok { OnOk result (slots ≤ self.new.ready) }
-        ensures succeeds { slots ≤ self.old.ready → IsOk result }
+        ensures ok { OnOk result (slots ≤ self.new.watchable) }
+        ensures succeeds { slots ≤ self.old.watchable → IsOk result }
         ensures same { (slot : ℕ) → at self.new slot ≡ at self.old slot }
-        ensures ready { self.old.ready ≤ self.new.ready }
+        ensures watchable { self.old.watchable ≤ self.new.watchable }
     {
         grow(&mut self.links, slots)
     }
@@ -87,8 +87,8 @@ impl Due {
           timeout = timeout;
         }))) }
         ensures err { OnErr result ((other : ℕ) → at self.new other ≡ at self.old other) }
-        ensures succeeds { slot < self.old.ready → IsOk result }
-        ensures ready { self.old.ready ≤ self.new.ready }
+        ensures succeeds { slot < self.old.watchable → IsOk result }
+        ensures watchable { self.old.watchable ≤ self.new.watchable }
     {
         grow_past(&mut self.links, slot.number())?;
         append(&mut self.links, slot, Idle { last, timeout });
@@ -105,7 +105,7 @@ impl Due {
           last = last;
           timeout = timeout;
         })) }
-        ensures ready { self.new.ready ≡ self.old.ready }
+        ensures watchable { self.new.watchable ≡ self.old.watchable }
     {
         renew(&mut self.links, slot, Idle { last, timeout });
     }
@@ -114,7 +114,7 @@ impl Due {
     pub fn remove(&mut self, slot: Slot)
         requires { IsSome (at self.old slot) }
         ensures updates { Updates self.old self.new slot None }
-        ensures ready { self.new.ready ≡ self.old.ready }
+        ensures watchable { self.new.watchable ≡ self.old.watchable }
     {
         cut(&mut self.links, slot);
     }

@@ -5,7 +5,7 @@ use Rattle.std.proofs.lemmas.List.{take_all, take-append-le}
 use Rattle.std.proofs.lemmas.Bool.{cases_lt, false≢true}
 use Rattle.disk_model.specs.declared.disk.FileId.{FileId}
 use Rattle.disk_model.specs.declared.disk.FileId.TheVariants.{A, B}
-use Rattle.disk_model.specs.Disk.{Files, Same, Torn, Written, Goes, pair}
+use Rattle.disk_model.specs.Disk.{Files, Same, Torn, TornIn, Goes, pair}
 use Rattle.trial_disk.specs.Recorded.{Since, Done, Wrote, Synced, History, MayLeave, LeftAfter, LeftSince, since, reads, did, is_same, read_after}
 use Rattle.trial_disk.specs.Choices.{crashed}
 use Rattle.trial_disk.proofs.Histories.{since_push, reads_synced}
@@ -71,7 +71,7 @@ goes_by {D = D} history old new to Step is goes =
 
 -- after a write of these bytes, or of a part that was put of them
 pub leads_wrote : (h : History) (of : FileId) (at : ℕ) (part bytes : List ℕ) → ((old new : List ℕ) → Torn at part old new → Torn at bytes old new)
-    → (files : Files) → LeftAfter h (h.done ++ Wrote of at part ∷ []) files → (before : Files) × LeftAfter h h.done before × Written of at bytes before files
+    → (files : Files) → LeftAfter h (h.done ++ Wrote of at part ∷ []) files → (before : Files) × LeftAfter h h.done before × TornIn of at bytes before files
 unfolding Left
 leads_wrote h A at part bytes widens files left =
     let a : Left (record { base = (since h h.done A).base; writes = record { at = at; bytes = part } ∷ (since h h.done A).writes }) (files A) = subst (λ (s : Since). Left s (files A)) (since_push h h.done (Wrote A at part) A) (left A) in

@@ -3,7 +3,7 @@ use Rattle.std.proofs.Common.{◌≡◌, ◌≢◌, ◌⊎◌, inl, inr, ⊎_eli
 use Rattle.std.specs.Prelude.{Result, Ok, Err, OnOk, OnErr}
 use Rattle.disk_model.specs.declared.disk.FileId.{FileId}
 use Rattle.disk_model.specs.declared.disk.FileId.TheVariants.{A, B}
-use Rattle.disk_model.specs.Disk.{Files, Same, Torn, Put, Written, Goes}
+use Rattle.disk_model.specs.Disk.{Files, Same, Torn, Put, TornIn, Goes}
 use Rattle.trial_disk.specs.Recorded.{Wrote, Synced, History, LeftSince, MayLeave, since, reads, did}
 use Rattle.trial_disk.specs.Choices.{crashed, restarted}
 use Rattle.trial_disk.specs.Simulated.{Simulated, passed, failing, half, FailsToWrite}
@@ -43,10 +43,10 @@ part_of old new file at bytes (Err e) ok err =
 
 pub goes_write : {T E : Type 0} (old new : Simulated) (file : FileId) (at : ℕ) (bytes : List ℕ) (r : Result T E)
     → OnOk r (new ≡ passed (did (Wrote file at bytes) old.history) old) → OnErr r (FailsToWrite file at bytes old new)
-    → Goes (λ (d : Simulated). length d.history.done) (λ (d : Simulated). LeftSince d.history) old new (Written file at bytes)
+    → Goes (λ (d : Simulated). length d.history.done) (λ (d : Simulated). LeftSince d.history) old new (TornIn file at bytes)
 goes_write old new file at bytes r ok err =
     let h = old.history in
-    let step = Written file at bytes in
+    let step = TornIn file at bytes in
     ⊎_elim
     (λ (same : new.history ≡ old.history). goes_by history_of old new h step same (goes_nowhere h step (λ files. written_nothing file at bytes files)))
     (λ (did_it : (part : List ℕ) × Widens at part bytes × (new.history ≡ did (Wrote file at part) h)).
@@ -71,7 +71,7 @@ pub put_now : {T E : Type 0} (old new : Simulated) (file : FileId) (at : ℕ) (b
 put_now old new file at bytes (Ok x) ok = subst (λ (h : History). Put file at bytes (reads old.history) (reads h)) (sym (ap history_of ok)) (put_did old.history file at bytes)
 put_now old new file at bytes (Err e) ok = tt
 
-written_did : (h : History) (file : FileId) (at : ℕ) (part bytes : List ℕ) → Widens at part bytes → Written file at bytes (reads h) (reads (did (Wrote file at part) h))
+written_did : (h : History) (file : FileId) (at : ℕ) (part bytes : List ℕ) → Widens at part bytes → TornIn file at bytes (reads h) (reads (did (Wrote file at part) h))
 written_did h file at part bytes widens =
     let puts = put_did h file at part in
     record {
@@ -81,13 +81,13 @@ written_did h file at part bytes widens =
 
 pub written_now : {T E : Type 0} (old new : Simulated) (file : FileId) (at : ℕ) (bytes : List ℕ) (r : Result T E)
     → OnOk r (new ≡ passed (did (Wrote file at bytes) old.history) old) → OnErr r (FailsToWrite file at bytes old new)
-    → Written file at bytes (reads old.history) (reads new.history)
+    → TornIn file at bytes (reads old.history) (reads new.history)
 written_now old new file at bytes r ok err =
     let h = old.history in
     ⊎_elim
-    (λ (same : new.history ≡ old.history). subst (λ (to : History). Written file at bytes (reads h) (reads to)) (sym same) (written_nothing file at bytes (reads h)))
+    (λ (same : new.history ≡ old.history). subst (λ (to : History). TornIn file at bytes (reads h) (reads to)) (sym same) (written_nothing file at bytes (reads h)))
     (λ (did_it : (part : List ℕ) × Widens at part bytes × (new.history ≡ did (Wrote file at part) h)).
-    subst (λ (to : History). Written file at bytes (reads h) (reads to)) (sym did_it.2) (written_did h file at did_it.0 bytes did_it.1))
+    subst (λ (to : History). TornIn file at bytes (reads h) (reads to)) (sym did_it.2) (written_did h file at did_it.0 bytes did_it.1))
     (part_of old new file at bytes r ok err)
 
 pub goes_look : (old new : Simulated) → new.history ≡ old.history → Goes (λ (d : Simulated). length d.history.done) (λ (d : Simulated). LeftSince d.history) old new Same

@@ -1,6 +1,6 @@
 //! `SimDisk`: a disk in memory that can be told to fail and to crash.
 ghost use Rattle.std.specs.Prelude.{◌≡◌, ◌↔◌, ◌⊎◌, ◌+◌, ◌≤◌, ◌<◌, [], length, take, drop, IfOk, OnOk, OnErr, IsOk, ⊤, Some, None};
-ghost use Rattle.disk_model.specs.Disk.{Synced as IsSynced, Put, Written, Goes, Same, Grew, Called, HasCause, pair};
+ghost use Rattle.disk_model.specs.Disk.{Synced as IsSynced, Put, TornIn, Goes, Same, Grew, Called, HasCause, pair};
 ghost use Rattle.trial_disk.specs.Recorded.{Wrote, Synced, did, reads};
 ghost use Rattle.trial_disk.specs.Choices.{crashed, restarted};
 ghost use Rattle.trial_disk.specs.Metered.{failed, turn_of};
@@ -257,8 +257,8 @@ impl Disk for SimDisk {
         ensures turn { IsOk result → turn_of self.old.meter ≡ Passes }
         ensures written { OnOk result (Put file at bytes.now (seen_of self.old)
             (seen_of self.new)) }
-        ensures range { Written file at bytes.now (seen_of self.old) (seen_of self.new) }
-        ensures crash { Goes moment_of MayBeLeft self.old self.new (Written file at bytes.now) }
+        ensures torn { TornIn file at bytes.now (seen_of self.old) (seen_of self.new) }
+        ensures crash { Goes moment_of MayBeLeft self.old self.new (TornIn file at bytes.now) }
         ensures called { Called 1 self.old.meter.calls self.new.meter.calls }
         ensures cause { HasCause self.old.meter.failures self.new.meter.failures result }
     {
@@ -269,7 +269,7 @@ impl Disk for SimDisk {
         ensures ok { OnOk result (self.new ≡ passed (did (Synced file) self.old.history) self.old) }
         ensures err { OnErr result (self.new ≡ failing self.old.history self.old) }
         ensures turn { IsOk result → turn_of self.old.meter ≡ Passes }
-        ensures durable { OnOk result (IsSynced moment_of MayBeLeft seen_of self.new file) }
+        ensures synced { OnOk result (IsSynced moment_of MayBeLeft seen_of self.new file) }
         ensures seen { Same (seen_of self.old) (seen_of self.new) }
         ensures crash { Goes moment_of MayBeLeft self.old self.new Same }
         ensures called { Called 1 self.old.meter.calls self.new.meter.calls }

@@ -1,6 +1,7 @@
-use Rattle.std.proofs.Common.{◌≡◌, false}
+use Rattle.std.proofs.Common.{◌≡◌, false, inl}
+use Rattle.std.proofs.lemmas.Result.{IfErr-weaker}
 use Rattle.refusals.specs.declared.stop.Stop.{Stop}
-use Rattle.commands.specs.Faults.{IsOfServing}
+use Rattle.commands.specs.Faults.{IsOfLooping, IsOfServing}
 use Rattle.commands.proofs.Joined.{error_of_both, first_is_well}
 use Rattle.commands.proofs.sockets.loop_back.Goals as goal
 
@@ -11,4 +12,5 @@ returns-clause-stands g c =
 
 pub returns-clause-causes : goal.returns-clause-causes
 returns-clause-causes g c =
-    error_of_both c.serve_clients-served.result c.print_answers-printed.result c.and.result c.and.ensures (λ (stop : Stop). IsOfServing stop.refusal) c.serve_clients-served.ensures.causes c.print_answers-printed.ensures
+    let causes = IfErr-weaker c.serve_clients-served.result (λ (stop : Stop). IsOfServing stop.refusal) (λ (stop : Stop). IsOfLooping stop.refusal) (λ stop is. inl is) c.serve_clients-served.ensures.causes in
+    error_of_both c.serve_clients-served.result c.print_answers-printed.result c.and.result c.and.ensures (λ (stop : Stop). IsOfLooping stop.refusal) causes c.print_answers-printed.ensures

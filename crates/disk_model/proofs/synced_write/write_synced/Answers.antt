@@ -1,4 +1,4 @@
-use Rattle.disk_model.specs.Disk.{Written, Same}
+use Rattle.disk_model.specs.Disk.{TornIn, Same}
 use Rattle.disk_model.proofs.Moments.{called, follows, written_nothing, written_same}
 use Rattle.std.proofs.Common.{refl}
 use Rattle.disk_model.proofs.synced_write.write_synced.Goals as goal
@@ -12,7 +12,7 @@ returns-clause-any_moment g c =
     let d1 = c.write_at.new.self in
     let d2 = c.sync.new.self in
     let file = c.args.file in
-    let W = Written file c.args.at c.args.bytes.now in
+    let W = TornIn file c.args.at c.args.bytes.now in
     let wrote = c.write_at.ensures.crash honest in
     let synced = c.sync.ensures.crash (c.write_at.ensures.honest.0 honest) in
     follows moment left d0 d1 d2 W Same W
@@ -21,11 +21,11 @@ returns-clause-any_moment g c =
     (λ before files was w. w)
     (λ files from. let first = wrote.now from.0 from.1 in (first.0, first.1, written_same file c.args.at c.args.bytes.now first.0 from.0 files first.2 from.2))
 
-pub returns-in_err-write_at-clause-range : goal.returns-in_err-write_at-clause-range
-returns-in_err-write_at-clause-range g c = λ honest. (g.D.Disk.seen c.args.disk.now, g.met.D.Disk.reads c.args.disk.now honest, c.write_at.ensures.range honest)
+pub returns-in_err-write_at-clause-torn : goal.returns-in_err-write_at-clause-torn
+returns-in_err-write_at-clause-torn g c = λ honest. (g.D.Disk.seen c.args.disk.now, g.met.D.Disk.reads c.args.disk.now honest, c.write_at.ensures.torn honest)
 
-pub returns-clause-range : goal.returns-clause-range
-returns-clause-range g c =
+pub returns-clause-torn : goal.returns-clause-torn
+returns-clause-torn g c =
     λ honest.
     let wrote = c.write_at.ensures.crash honest in
     let mid = c.write_at.ensures.honest.0 honest in

@@ -35,7 +35,7 @@ returns-clause-changed c = λ is.
     let there : at old slot ≡ Some s = sym c.get.ensures.value ∙ c.in-Some-get.is in
     let of_s : is_of f s ≡ true = subst (λ (u : Session). is_of f u ≡ true) (same_Some found.0 s (sym found.1 ∙ there)) found.2 in
     let updates : Updates old new slot (Some (seen_so c.args.seen s)) =
-    subst (λ (o : Option Session). Updates old new slot (option_map (λ u. amended u s.opener c.args.seen) o)) there c.amend.ensures.updates in
+    subst (λ (o : Option Session). Updates old new slot (option_map (amended s.opener c.args.seen) o)) there c.amend.ensures.updates in
     listing-changed old new slot f s c.facts.ensures there of_s (seen_so c.args.seen) (amends-seen c.args.seen) c.facts-2.ensures updates
 
 pub returns-clause-sound : goal.returns-clause-sound

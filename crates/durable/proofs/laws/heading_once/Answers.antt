@@ -1,4 +1,4 @@
-use Rattle.durable.specs.Coding.{IsHeading, heading_bytes, IsCodedConfig, config_bytes, IsKept, snapshot_bytes}
+use Rattle.durable.specs.Coding.{IsHeading, heading_bytes, IsCodedConfig, config_bytes, IsSnapshot, snapshot_bytes}
 use Rattle.durable.specs.Reading.{heading_at, config_at, snapshot_at}
 use Rattle.durable.proofs.Coded.{once}
 use Rattle.durable.proofs.StoredValues.{coded-heading, coded-config, coded-snapshot}
@@ -11,4 +11,4 @@ pub returns-clause-configs : goal.returns-clause-configs
 returns-clause-configs c = once IsCodedConfig config_bytes config_at coded-config
 
 pub returns-clause-snapshots : goal.returns-clause-snapshots
-returns-clause-snapshots c = once IsKept snapshot_bytes snapshot_at coded-snapshot
+returns-clause-snapshots c = once IsSnapshot snapshot_bytes snapshot_at coded-snapshot

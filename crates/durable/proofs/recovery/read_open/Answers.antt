@@ -31,5 +31,5 @@ returns-clause-ok c =
     let ok = c.in_ok-bounds.ensures.ok in
     let more : 0 < length c.in_ok-stored.after.now = search rules in
     let made = headed file c.in-Some.rest.now c.in_ok-stored.after.now (heading_view stored) c.in-Some.ensures.open c.in_ok-stored.ensures.ok ok.1 more in
-    let with_config : Config → Heading = λ b. record { generation = stored.generation; config = b; kept = record { text = stored.snapshot.text.now; sessions = stored.snapshot.sessions.items } } in
+    let with_config : Config → Heading = λ b. record { generation = stored.generation; config = b; snapshot = record { text = stored.snapshot.text.now; sessions = stored.snapshot.sessions.items } } in
     subst (λ (b : Config). IsHeaded file (with_config b) × (c.in_ok-stored.after.now ≡ drop (behind (with_config b)) file)) (sym ok.0) made

@@ -6,10 +6,10 @@ use Rattle.hairpin.proofs.hairpinning.mapped_far.Goals as goal
 pub returns-in-Some : goal.returns-in-Some
 returns-in-Some c =
     let view = c.args.view.now in
-    let m = mapped_in c.args.table.now.held c.args.translations.now.pairs c.requires.counts c.args.bounds.now c.facts.ensures.valid c.requires.sound view.proto c.in-Some.inside view.dst c.in-Some.ensures.found in
+    let m = mapped_in c.args.table.now.held c.args.translations.now.mappings c.requires.counts c.args.bounds.now c.facts.ensures.valid c.requires.sound view.proto c.in-Some.inside view.dst c.in-Some.ensures.found in
     sym (ap or_no_mapping m.1 ∙ ap (λ e. Ok e) m.2)
 
 pub returns-in-None : goal.returns-in-None
 returns-in-None c =
     let view = c.args.view.now in
-    sym (ap or_no_mapping (not_mapped_in c.args.table.now.held c.args.translations.now.pairs c.requires.counts c.args.bounds.now c.facts.ensures.valid c.requires.sound view.proto view.dst c.in-None.ensures.absent))
+    sym (ap or_no_mapping (not_mapped_in c.args.table.now.held c.args.translations.now.mappings c.requires.counts c.args.bounds.now c.facts.ensures.valid c.requires.sound view.proto view.dst c.in-None.ensures.absent))

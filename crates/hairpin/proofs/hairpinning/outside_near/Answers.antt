@@ -20,7 +20,7 @@ returns-in-Some-choose c = λ rules now.
     let view = c.args.view.now in
     let absent = subst (λ o. IfNone o ((outside : Endpoint) → ¬ IsMapping (listing held) view.proto view.src outside)) c.in-None.is c.requires.unmapped in
     ap or_no_port (sym c.in-Some-choose.is)
-    ∙ near_chosen c.args.bounds.now rules held c.args.translations.now.pairs c.requires.translations.counts c.facts.ensures.valid c.requires.translations.sound now view c.args.translations.now.external c.choose.result c.requires.translations.external c.requires.external_destination absent c.choose.ensures
+    ∙ near_chosen c.args.bounds.now rules held c.args.translations.now.mappings c.requires.translations.counts c.facts.ensures.valid c.requires.translations.sound now view c.args.translations.now.external c.choose.result c.requires.translations.external c.requires.external_destination absent c.choose.ensures
 
 pub returns-in-None-choose : goal.returns-in-None-choose
 returns-in-None-choose c = λ rules now.
@@ -28,4 +28,4 @@ returns-in-None-choose c = λ rules now.
     let view = c.args.view.now in
     let absent = subst (λ o. IfNone o ((outside : Endpoint) → ¬ IsMapping (listing held) view.proto view.src outside)) c.in-None.is c.requires.unmapped in
     ap or_no_port (sym c.in-None-choose.is)
-    ∙ near_chosen c.args.bounds.now rules held c.args.translations.now.pairs c.requires.translations.counts c.facts.ensures.valid c.requires.translations.sound now view c.args.translations.now.external c.choose.result c.requires.translations.external c.requires.external_destination absent c.choose.ensures
+    ∙ near_chosen c.args.bounds.now rules held c.args.translations.now.mappings c.requires.translations.counts c.facts.ensures.valid c.requires.translations.sound now view c.args.translations.now.external c.choose.result c.requires.translations.external c.requires.external_destination absent c.choose.ensures

@@ -15,10 +15,10 @@ returns-in-Some c = λ now.
     let rules = c.args.rules.now in
     let view = c.args.view.now in
     let held = c.args.table.now.held in
-    let pairs = c.args.translations.now.pairs in
+    let mappings = c.args.translations.now.mappings in
     let taken = is_taken (listing held) view.proto config.external in
-    let test = taken_test held pairs c.requires.translations.counts config c.facts.ensures.valid c.requires.translations.sound view.proto in
-    let says = subst (λ x. IsTestOf taken (λ q. IsOutside pairs view.proto (endpoint x q))) (sym c.requires.translations.external) test in
+    let test = taken_test held mappings c.requires.translations.counts config c.facts.ensures.valid c.requires.translations.sound view.proto in
+    let says = subst (λ x. IsTestOf taken (λ q. IsOutside mappings view.proto (endpoint x q))) (sym c.requires.translations.external) test in
     let choice = sym c.in-Some.is ∙ c.choose.ensures taken says ∙ ap (λ x. option_map (endpoint x) (port_choice taken view.src.port)) c.requires.translations.external in
     let verdict = ap (λ f. postrouting_verdict config f rules) (sym c.facts_out.ensures) ∙ sym c.postrouting.ensures ∙ c.in-From.is in
     by_rules config rules c.requires.bounded (listing held) now view c.in-From.field-0 verdict (Some c.in-Some.outside) choice
@@ -29,10 +29,10 @@ returns-in-None-choose c = λ now.
     let rules = c.args.rules.now in
     let view = c.args.view.now in
     let held = c.args.table.now.held in
-    let pairs = c.args.translations.now.pairs in
+    let mappings = c.args.translations.now.mappings in
     let taken = is_taken (listing held) view.proto config.external in
-    let test = taken_test held pairs c.requires.translations.counts config c.facts.ensures.valid c.requires.translations.sound view.proto in
-    let says = subst (λ x. IsTestOf taken (λ q. IsOutside pairs view.proto (endpoint x q))) (sym c.requires.translations.external) test in
+    let test = taken_test held mappings c.requires.translations.counts config c.facts.ensures.valid c.requires.translations.sound view.proto in
+    let says = subst (λ x. IsTestOf taken (λ q. IsOutside mappings view.proto (endpoint x q))) (sym c.requires.translations.external) test in
     let choice = sym c.in-None-choose.is ∙ c.choose.ensures taken says ∙ ap (λ x. option_map (endpoint x) (port_choice taken view.src.port)) c.requires.translations.external in
     let verdict = ap (λ f. postrouting_verdict config f rules) (sym c.facts_out.ensures) ∙ sym c.postrouting.ensures ∙ c.in-From.is in
     by_rules config rules c.requires.bounded (listing held) now view c.in-From.field-0 verdict None choice

@@ -12,20 +12,20 @@ returns-in_err-write_synced-2-clause-any_moment g c = λ honest.
     let mid = c.write_synced.ensures.honest.0 honest in
     gate_written g.D.Disk.moment g.D.Disk.left g.D.Disk.seen c.args.file c.args.at c.args.group.now.body c.as_bytes-bytes.result.now _ c.write_synced.new.disk _ c.as_bytes-bytes.ensures.bytes c.as_bytes-bytes.ensures.fits (c.requires honest)
     (λ s t files le since. g.met.D.Disk.earlier c.write_synced.new.disk s t files mid le since)
-    (c.write_synced.ensures.any_moment honest) (c.in_ok-write_synced.ensures.written honest) (c.in_ok-write_synced.ensures.durable honest) (c.write_synced-2.ensures.any_moment mid)
+    (c.write_synced.ensures.any_moment honest) (c.in_ok-write_synced.ensures.written honest) (c.in_ok-write_synced.ensures.synced honest) (c.write_synced-2.ensures.any_moment mid)
 
 pub returns-clause-any_moment : goal.returns-clause-any_moment
 returns-clause-any_moment g c = λ honest.
     let mid = c.write_synced.ensures.honest.0 honest in
     gate_written g.D.Disk.moment g.D.Disk.left g.D.Disk.seen c.args.file c.args.at c.args.group.now.body c.as_bytes-bytes.result.now _ c.write_synced.new.disk _ c.as_bytes-bytes.ensures.bytes c.as_bytes-bytes.ensures.fits (c.requires honest)
     (λ s t files le since. g.met.D.Disk.earlier c.write_synced.new.disk s t files mid le since)
-    (c.write_synced.ensures.any_moment honest) (c.in_ok-write_synced.ensures.written honest) (c.in_ok-write_synced.ensures.durable honest) (c.write_synced-2.ensures.any_moment mid)
+    (c.write_synced.ensures.any_moment honest) (c.in_ok-write_synced.ensures.written honest) (c.in_ok-write_synced.ensures.synced honest) (c.write_synced-2.ensures.any_moment mid)
 
 pub returns-clause-ok : goal.returns-clause-ok
 returns-clause-ok g c = λ honest.
     let mid = c.write_synced.ensures.honest.0 honest in
     stands g.D.Disk.moment g.D.Disk.left g.D.Disk.seen c.args.file c.args.at c.args.group.now.body c.as_bytes-bytes.result.now _ c.write_synced.new.disk _ c.as_bytes-bytes.ensures.bytes c.as_bytes-bytes.ensures.fits (c.requires honest)
-    (c.in_ok-write_synced.ensures.written honest) (c.in_ok-write_synced-2.ensures.written mid) (c.in_ok-write_synced-2.ensures.durable mid)
+    (c.in_ok-write_synced.ensures.written honest) (c.in_ok-write_synced-2.ensures.written mid) (c.in_ok-write_synced-2.ensures.synced mid)
 
 pub returns-clause-written : goal.returns-clause-written
 returns-clause-written g c = λ honest.

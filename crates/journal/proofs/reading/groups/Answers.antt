@@ -4,7 +4,7 @@ use Rattle.std.proofs.lemmas.List.{map_push}
 use Rattle.std.proofs.lemmas.Result.{err_from_is_err_and}
 use Rattle.std.specs.Prelude.{Result, Ok, Err}
 use Rattle.disk_model.proofs.Moments.{looks_then}
-use Rattle.journal.specs.Groups.{bodies_of, IsRead, IsTornAt, GroupAt}
+use Rattle.journal.specs.Groups.{bodies_of, IsRead, IsBrokenAt, GroupAt}
 use Rattle.journal.proofs.Leading.{Read, no_more, read_on, torn_there, first_byte, first_open}
 use Rattle.disk_model.proofs.Looking.{looks_once}
 use Rattle.journal.proofs.reading.groups.Goals as goal
@@ -42,8 +42,8 @@ returns-in_err-body-clause-damaged g c = λ h0 damaged others end groups.
     let h = c.loop-bodies.invariant.honest.0 h0 in
     let p = err_from_is_err_and c.from_residual-in_err-body.result c.from_residual-in_err-body.ensures.1 in
     let file = c.args.file in
-    let torn = c.in_err-body.ensures.torn h (ap Err (sym p.2 ∙ same_error _ _ _ p.1 damaged)) in
-    let here = subst (λ l. IsTornAt l c.loop-bodies.place) ((c.loop-bodies.invariant.looks h0).stays file) torn in
+    let torn = c.in_err-body.ensures.broken h (ap Err (sym p.2 ∙ same_error _ _ _ p.1 damaged)) in
+    let here = subst (λ l. IsBrokenAt l c.loop-bodies.place) ((c.loop-bodies.invariant.looks h0).stays file) torn in
     torn_there _ c.args.at c.loop-bodies.place _ (c.loop-bodies.invariant.read h0) here others end groups
 
 pub returns-in_err-body-clause-memory : goal.returns-in_err-body-clause-memory

@@ -51,16 +51,16 @@ returns-clause-looks g c =
     (record { honest_on = c.read_at-2.ensures.honest; stays = c.read_at-2.ensures.seen; goes = c.read_at-2.ensures.crash })
     (record { honest_on = c.read_at-3.ensures.honest; stays = c.read_at-3.ensures.seen; goes = c.read_at-3.ensures.crash })
 
-pub returns-then-at-end-clause-torn : goal.returns-then-at-end-clause-torn
-returns-then-at-end-clause-torn g c = λ h0 damaged.
+pub returns-then-at-end-clause-broken : goal.returns-then-at-end-clause-broken
+returns-then-at-end-clause-broken g c = λ h0 damaged.
     let file = g.D.Disk.seen c.args.disk.now c.args.file in
     record {
       open_gate = gate_is file c.read_at.new.bytes c.args.at (c.in_ok-read_at.ensures.read h0) c.if-gate-ne1.false;
       no_group = λ body group. omega (arith, group.within, c.requires.size h0);
     }
 
-pub returns-then-end-at-clause-torn : goal.returns-then-end-at-clause-torn
-returns-then-end-at-clause-torn g c = λ h0 damaged.
+pub returns-then-end-at-clause-broken : goal.returns-then-end-at-clause-broken
+returns-then-end-at-clause-broken g c = λ h0 damaged.
     let h1 = c.read_at.ensures.honest.0 h0 in
     let file = g.D.Disk.seen c.args.disk.now c.args.file in
     let same1 = c.read_at.ensures.seen h0 c.args.file in

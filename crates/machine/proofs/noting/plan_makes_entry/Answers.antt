@@ -3,7 +3,7 @@ use Rattle.std.proofs.lemmas.Bool.{false≢true}
 use Rattle.sessions.specs.Listing.{listing}
 use Rattle.hairpin.specs.Plans.{GiveAll}
 use Rattle.machine.specs.Flows.{adds}
-use Rattle.machine.specs.Noted.{noted}
+use Rattle.machine.specs.Noted.{entries_for}
 use Rattle.machine.proofs.Telling.{begin-is-noted, both-told, nil-before, nil-unless, second-gives}
 use Rattle.machine.proofs.noting.plan_makes_entry.Goals as goal
 
@@ -27,9 +27,9 @@ returns-else-adds-gt0 c = λ external now ts all.
     let second = c.in-Some.second in
     let none : adds second ≡ 0 = omega (arith, c.if-adds-gt0.false, c.adds.ensures) in
     let gives : GiveAll external held now first (Some second) ts = rw c.in-Some.is at all in
-    let quiet : noted (listing held) gives.0 ≡ [] = nil-unless (noted (listing held) gives.0) (λ away. false≢true (sym c.if-makes_entry.false ∙ (c.makes_entry.ensures external now gives.0 gives.2).1 away)) in
+    let quiet : entries_for (listing held) gives.0 ≡ [] = nil-unless (entries_for (listing held) gives.0) (λ away. false≢true (sym c.if-makes_entry.false ∙ (c.makes_entry.ensures external now gives.0 gives.2).1 away)) in
     let told = both-told held c.facts.ensures external now first second ts gives none quiet in
     let entry = c.makes_entry-in-Some.ensures external now gives.1 (second-gives held c.facts.ensures external now first second ts gives none) in (
-      (λ some is. entry.0 some (nil-before (noted (listing held) gives.1) [] (sym told ∙ is))),
+      (λ some is. entry.0 some (nil-before (entries_for (listing held) gives.1) [] (sym told ∙ is))),
       (λ away. entry.1 (λ nil. away (told ∙ ap (λ es. es ++ []) nil))),
     )

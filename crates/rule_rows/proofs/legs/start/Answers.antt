@@ -6,4 +6,4 @@ returns-clause-sound c = sound_none c.in_ok-bounds.bounds c.new.result.held c.ne
 
 pub returns-clause-counts : goal.returns-clause-counts
 returns-clause-counts c =
-    counts_none c.in_ok-bounds.translations.pairs c.new.result.held c.in_ok-bounds.ensures.none c.new.ensures.empty
+    counts_none c.in_ok-bounds.translations.mappings c.new.result.held c.in_ok-bounds.ensures.none c.new.ensures.empty

@@ -34,8 +34,8 @@ returns-clause-synced g c = λ honest.
     (λ s t files le since. g.met.D.Disk.earlier c.remake.new.disk s t files (c.remake.ensures.honest.0 honest) le since)
     (c.in_ok-remake.ensures.synced honest) (c.in_ok-remake.ensures.elsewhere honest)
 
-pub returns-clause-fresh : goal.returns-clause-fresh
-returns-clause-fresh g c = λ honest.
+pub returns-clause-first : goal.returns-clause-first
+returns-clause-first g c = λ honest.
     let are = c.deref.ensures.value ∙ c.in_ok-bytes.ensures.code in
     record {
       made = fresh_of (g.D.Disk.seen c.remake.new.disk A) c.deref.result.now (anew 1 c.args.bounds.now empty) are (c.in_ok-remake.ensures.fresh honest);

@@ -8,7 +8,7 @@ use Rattle.durable.specs.Recovery.{IsConfigured, NoneOpen, Recovers}
 use Rattle.durable.proofs.Errors.{same_error}
 use Rattle.durable.proofs.Storable.{empty_durable}
 use Rattle.durable.proofs.Headed.{recovers_once}
-use Rattle.snapshot.specs.Opening.{IsReady, state_of}
+use Rattle.snapshot.specs.Opening.{IsFoundFor, found_state}
 use Rattle.snapshot.specs.declared.opening.Ready.{Ready}
 use Rattle.snapshot.specs.Store.{IsFirst}
 use Rattle.snapshot.proofs.States.{same_back, none_same, configured_by, configured_same}
@@ -54,7 +54,7 @@ returns-in-Some-clause-recovers g c = λ h.
     let files = g.D.Disk.seen c.args.disk.now in
     let read = pair_same files c.deref.result.now c.deref-2.result.now (c.deref.ensures.value ∙ (c.in_ok-a.ensures.ok h).0) (c.deref-2.ensures.value ∙ (c.in_ok-a.ensures.ok h).1) in
     let other = pair c.deref.result.now c.deref-2.result.now in
-    let is : IsReady c.args.bounds.now (pair c.deref.result.now c.deref-2.result.now) c.in-Some.found = search rules in
+    let is : IsFoundFor c.args.bounds.now (pair c.deref.result.now c.deref-2.result.now) c.in-Some.found = search rules in
     recovers_once.same other files _ (same_back files other read) (inr (c.in-Some.found.file, is.heading, c.in-Some.found.end, is.active))
 
 pub returns-in-Some-clause-taken : goal.returns-in-Some-clause-taken
@@ -62,7 +62,7 @@ returns-in-Some-clause-taken g c = λ h.
     let files = g.D.Disk.seen c.args.disk.now in
     let read = pair_same files c.deref.result.now c.deref-2.result.now (c.deref.ensures.value ∙ (c.in_ok-a.ensures.ok h).0) (c.deref-2.ensures.value ∙ (c.in_ok-a.ensures.ok h).1) in
     let other = pair c.deref.result.now c.deref-2.result.now in
-    let is : IsReady c.args.bounds.now (pair c.deref.result.now c.deref-2.result.now) c.in-Some.found = search rules in
+    let is : IsFoundFor c.args.bounds.now (pair c.deref.result.now c.deref-2.result.now) c.in-Some.found = search rules in
     configured_same c.args.bounds.now other files (same_back files other read) (configured_by c.args.bounds.now other c.in-Some.found.file is.heading _ c.in-Some.found.end is.active is.configured)
 
 pub returns-clause-any_moment : goal.returns-clause-any_moment
@@ -79,27 +79,27 @@ returns-clause-configured g c = λ h now.
     (c.make_first.ensures.configured h1)
 
 -- a file was found open
-pub returns-in-Some-clause-fresh : goal.returns-in-Some-clause-fresh
-returns-in-Some-clause-fresh g c = λ h none.
-    let files = g.D.Disk.seen c.args.disk.now in
-    let read = pair_same files c.deref.result.now c.deref-2.result.now (c.deref.ensures.value ∙ (c.in_ok-a.ensures.ok h).0) (c.deref-2.ensures.value ∙ (c.in_ok-a.ensures.ok h).1) in
-    let is : IsReady c.args.bounds.now (pair c.deref.result.now c.deref-2.result.now) c.in-Some.found = search rules in
-    absurd (ready_open c.args.bounds.now (pair c.deref.result.now c.deref-2.result.now) c.in-Some.found is (none_same files (pair c.deref.result.now c.deref-2.result.now) read none))
-
 pub returns-in-Some-clause-first : goal.returns-in-Some-clause-first
 returns-in-Some-clause-first g c = λ h none.
     let files = g.D.Disk.seen c.args.disk.now in
     let read = pair_same files c.deref.result.now c.deref-2.result.now (c.deref.ensures.value ∙ (c.in_ok-a.ensures.ok h).0) (c.deref-2.ensures.value ∙ (c.in_ok-a.ensures.ok h).1) in
-    let is : IsReady c.args.bounds.now (pair c.deref.result.now c.deref-2.result.now) c.in-Some.found = search rules in
+    let is : IsFoundFor c.args.bounds.now (pair c.deref.result.now c.deref-2.result.now) c.in-Some.found = search rules in
+    absurd (ready_open c.args.bounds.now (pair c.deref.result.now c.deref-2.result.now) c.in-Some.found is (none_same files (pair c.deref.result.now c.deref-2.result.now) read none))
+
+pub returns-in-Some-clause-generation : goal.returns-in-Some-clause-generation
+returns-in-Some-clause-generation g c = λ h none.
+    let files = g.D.Disk.seen c.args.disk.now in
+    let read = pair_same files c.deref.result.now c.deref-2.result.now (c.deref.ensures.value ∙ (c.in_ok-a.ensures.ok h).0) (c.deref-2.ensures.value ∙ (c.in_ok-a.ensures.ok h).1) in
+    let is : IsFoundFor c.args.bounds.now (pair c.deref.result.now c.deref-2.result.now) c.in-Some.found = search rules in
     absurd (ready_open c.args.bounds.now (pair c.deref.result.now c.deref-2.result.now) c.in-Some.found is (none_same files (pair c.deref.result.now c.deref-2.result.now) read none))
 
 -- no file is open
-pub returns-clause-fresh : goal.returns-clause-fresh
-returns-clause-fresh g c = λ h none.
+pub returns-clause-first : goal.returns-clause-first
+returns-clause-first g c = λ h none.
     let h1 = c.look.ensures.honest.0 h in
     let looked = c.in_ok-a.ensures.looks h (λ told. absurd cc) in
     let read = g.D.Disk.seen c.look.new.disk in
-    on_ok_weaker c.make_first.result (λ (is : IsFirst c.args.bounds.now read (g.D.Disk.seen c.make_first.new.disk)). record { made = is.made; beside = is.beside ∙ looked.stays B }) (c.make_first.ensures.fresh h1)
+    on_ok_weaker c.make_first.result (λ (is : IsFirst c.args.bounds.now read (g.D.Disk.seen c.make_first.new.disk)). record { made = is.made; beside = is.beside ∙ looked.stays B }) (c.make_first.ensures.first h1)
 
 pub returns-clause-only_looks : goal.returns-clause-only_looks
 returns-clause-only_looks g c = λ h open_so.
@@ -110,9 +110,9 @@ returns-clause-only_looks g c = λ h open_so.
 
 pub returns-in-Some-clause-sound : goal.returns-in-Some-clause-sound
 returns-in-Some-clause-sound g c =
-    let is : IsReady c.args.bounds.now (pair c.deref.result.now c.deref-2.result.now) c.in-Some.found = search rules in
+    let is : IsFoundFor c.args.bounds.now (pair c.deref.result.now c.deref-2.result.now) c.in-Some.found = search rules in
     ready_sound c.args.bounds.now (pair c.deref.result.now c.deref-2.result.now) c.in-Some.found is
 
 pub returns-clause-sound : goal.returns-clause-sound
-returns-clause-sound g c = IfOk-weaker c.make_first.result (λ (r : Ready). state_of r ≡ empty) (λ (r : Ready). IsDurable c.args.bounds.now (state_of r))
+returns-clause-sound g c = IfOk-weaker c.make_first.result (λ (r : Ready). found_state r ≡ empty) (λ (r : Ready). IsDurable c.args.bounds.now (found_state r))
     (λ r none. subst (λ (d : Durable). IsDurable c.args.bounds.now d) (sym none) (empty_durable c.args.bounds.now)) c.make_first.ensures.empty

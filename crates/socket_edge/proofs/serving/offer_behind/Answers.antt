@@ -12,7 +12,7 @@ returns-then-pass_behind-clause-some g c =
     let i = rw c.in-Some.is at c.requires.held in
     let p = c.if-pass_behind.ensures.passed refl in
     let was = c.args.waiting.now.answered in (
-      (held-more c.in-Some.front was c.pass_behind.new.waiting.answered c.args.gateway.now.told.held p.1 i.0 i.1 p.3).0 ∙ ap (λ (h : Option ℕ). released h was) (sym c.in-Some.is),
+      (held-more c.in-Some.from was c.pass_behind.new.waiting.answered c.args.gateway.now.told.held p.1 i.0 i.1 p.3).0 ∙ ap (λ (h : Option ℕ). released h was) (sym c.in-Some.is),
       λ before. (p.0, p.2, p.4.0 before),
     )
 
@@ -21,7 +21,7 @@ returns-in-Ok-clause-none g c =
     let i = rw c.in-Some.is at c.requires.held in
     let same = c.if-pass_behind.ensures.stays refl in
     let waiting = c.args.waiting.now in
-    let front = c.in-Some.front in
+    let front = c.in-Some.from in
     let held = c.args.gateway.now.told.held in (
       held,
       same.0 ∙ ap (λ (x : List ℕ). record waiting { answered = x })
@@ -34,6 +34,6 @@ returns-in-Err-clause-some g c =
     let same = c.if-pass_behind.ensures.stays refl in
     let waiting = c.args.waiting.now in
     let off = rw same.1 at c.in-Err.ensures.err in (
-      ap (λ (x : Exchange). x.answered) c.cut_answered.ensures ∙ ap (λ (x : Exchange). take c.in-Some.front x.answered) same.0 ∙ ap (λ (h : Option ℕ). released h waiting.answered) (sym c.in-Some.is),
+      ap (λ (x : Exchange). x.answered) c.cut_answered.ensures ∙ ap (λ (x : Exchange). take c.in-Some.from x.answered) same.0 ∙ ap (λ (h : Option ℕ). released h waiting.answered) (sym c.in-Some.is),
       λ before. ([], waiting.unanswered, Reads-nil waiting.unanswered, off before),
     )

@@ -30,7 +30,7 @@ returns-then-placed-clause-step g c =
     let p = rw (same.0, same.1) at c.in-Some.ensures.some in
     let passes = rw c.if-placed.true at p.4 in
     let was = c.args.waiting.now.answered in
-    let size : length c.answered-front.result.now ≡ length was = ap length (c.answered-front.ensures ∙ ap (λ (x : Exchange). x.answered) same.0) in (
+    let size : length c.answered-from.result.now ≡ length was = ap length (c.answered-from.ensures ∙ ap (λ (x : Exchange). x.answered) same.0) in (
       [],
       ap (λ (n : ℕ). take n c.pass_next.new.self.answered) size ∙ ap (take (length was)) p.3 ∙ take-append_seam was (frame p.1) ∙ sym (append-nil was),
       λ before. (

@@ -11,9 +11,9 @@ use Rattle.socket_edge.proofs.Passing.{none_or_some}
 use Rattle.socket_edge.proofs.serving.offer_next.Goals as goal
 
 pub returns-in-None-clause-step : goal.returns-in-None-clause-step
-returns-in-None-clause-step g c = rw (← c.make_way-behind.ensures.released, ← c.make_way-behind.ensures.rest) (
-    let held = c.make_way-behind.result in
-    let was = c.make_way-behind.new.waiting.answered in
+returns-in-None-clause-step g c = rw (← c.make_way-held_from.ensures.released, ← c.make_way-held_from.ensures.rest) (
+    let held = c.make_way-held_from.result in
+    let was = c.make_way-held_from.new.waiting.answered in
     let items = c.args.answers.now.items in
     let left = c.offer_idle.new.answers.items in
     let rest = c.offer_idle.new.waiting.unanswered in
@@ -25,7 +25,7 @@ returns-in-None-clause-step g c = rw (← c.make_way-behind.ensures.released, �
       | inr some ↦
           let s = c.in-None.ensures.none in
           let t = c.offer_idle.ensures.step in
-          let lone = (c.requires.alone (c.make_way-behind.ensures.some some)).0 in (
+          let lone = (c.requires.alone (c.make_way-held_from.ensures.some some)).0 in (
             s.0 ++ t.0,
             t.1 ∙ ap (λ (x : Exchange). x.answered ++ frames t.0) s.1 ∙ frames-append (released held was) s.0 t.0,
             λ before.
@@ -37,9 +37,9 @@ returns-in-None-clause-step g c = rw (← c.make_way-behind.ensures.released, �
                 let first = subst (λ (out : List (ℕ × Answer)). CarriesOn g.D.Disk.honest g.D.Disk.moment g.D.Disk.left g.D.Disk.failed c.args.gateway.now c.offer_behind.new.gateway [] (before ++ items) out) between (s.2 (before ++ items)) in
                 let then = subst (λ (bytes : List ℕ). Stepped g.D.Disk.honest g.D.Disk.moment g.D.Disk.left g.D.Disk.failed c.offer_idle.result bytes rest c.offer_behind.new.gateway c.offer_idle.new.gateway
                 ((before ++ s.0) ++ items) ((before ++ s.0) ++ (t.0 ++ left))) (ap (λ (x : Exchange). x.unanswered) s.1) (t.2 (before ++ s.0)) in
-                subst (λ (out : List (ℕ × Answer)). Stepped g.D.Disk.honest g.D.Disk.moment g.D.Disk.left g.D.Disk.failed c.offer_idle.result c.make_way-behind.new.waiting.unanswered rest c.args.gateway.now c.offer_idle.new.gateway
+                subst (λ (out : List (ℕ × Answer)). Stepped g.D.Disk.honest g.D.Disk.moment g.D.Disk.left g.D.Disk.failed c.offer_idle.result c.make_way-held_from.new.waiting.unanswered rest c.args.gateway.now c.offer_idle.new.gateway
                 (before ++ items) out) all
-                (Stepped-behind g.D.Disk.honest g.D.Disk.moment g.D.Disk.left g.D.Disk.failed c.args.gateway.now c.offer_behind.new.gateway c.offer_idle.new.gateway c.offer_idle.result c.make_way-behind.new.waiting.unanswered rest
+                (Stepped-behind g.D.Disk.honest g.D.Disk.moment g.D.Disk.left g.D.Disk.failed c.args.gateway.now c.offer_behind.new.gateway c.offer_idle.new.gateway c.offer_idle.result c.make_way-held_from.new.waiting.unanswered rest
                 (before ++ items) ((before ++ s.0) ++ items) ((before ++ s.0) ++ (t.0 ++ left)) first then),
           )
     ])

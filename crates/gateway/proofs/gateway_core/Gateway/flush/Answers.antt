@@ -5,7 +5,7 @@ use Rattle.disk_model.proofs.Moments.{idle}
 use Rattle.durable.specs.Coding.{Entry, body_bytes}
 use Rattle.durable.specs.Recovery.{IsConfigured}
 use Rattle.machine.specs.Noted.{lasting}
-use Rattle.gateway.specs.Kept.{IsStanding}
+use Rattle.gateway.specs.Kept.{LeadsToPresent}
 use Rattle.gateway.specs.HeldAnswers.{HeldAnswers}
 use Rattle.gateway.proofs.Resting.{nothing_waits, stands_for, body_leads, idle_either, leaves_as}
 use Rattle.gateway.proofs.gateway_core.Gateway.flush.Goals as goal
@@ -50,7 +50,7 @@ invariant_of-self g c =
           let leads = body_leads c.self.inside.core.config c.self.inside.store.config (g.D.Disk.seen c.self.inside.store.disk) c.self.inside.pending.entries c.self.inside.core.state
           c.group.result.now.body is.first c.self.invariant.0 is is.recovers c.group.ensures.coded c.group.ensures.body in
           let keeps = c.in-Ok.ensures.ok honest is.first (lasting c.self.inside.core.state) is.recovers leads in
-          subst (λ (es : List Entry). IsStanding c.self.inside.core.config (g.D.Disk.seen c.commit.new.self.disk) es c.self.inside.core.state) (sym none)
+          subst (λ (es : List Entry). LeadsToPresent c.self.inside.core.config (g.D.Disk.seen c.commit.new.self.disk) es c.self.inside.core.state) (sym none)
           (stands_for c.self.inside.core.config (g.D.Disk.seen c.commit.new.self.disk) c.self.inside.core.state keeps.reads),
     )
 

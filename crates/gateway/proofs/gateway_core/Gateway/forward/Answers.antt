@@ -7,7 +7,7 @@ use Rattle.machine.specs.declared.event.Answer.TheVariants.{Forward}
 use Rattle.machine.specs.declared.event.Event.{Event}
 use Rattle.machine.specs.declared.event.What.TheVariants.{Packet}
 use Rattle.entries.proofs.Needed.{empty-needs}
-use Rattle.gateway.specs.Kept.{IsStanding}
+use Rattle.gateway.specs.Kept.{LeadsToPresent}
 use Rattle.gateway.proofs.Offering.{takes_in}
 use Rattle.gateway.proofs.gateway_core.Gateway.forward.Goals as goal
 
@@ -19,7 +19,7 @@ invariant_of-self-2 g c =
       c.self.invariant.0 ∙ sym c.forward.ensures.config,
       c.self.invariant.1,
       c.self.invariant.2,
-      λ stands honest. subst (λ (k : Config). IsStanding k (g.D.Disk.seen own.store.disk) own.pending.entries c.forward.new.self.state) (sym c.forward.ensures.config)
+      λ stands honest. subst (λ (k : Config). LeadsToPresent k (g.D.Disk.seen own.store.disk) own.pending.entries c.forward.new.self.state) (sym c.forward.ensures.config)
           (takes_in own.core.config (g.D.Disk.seen own.store.disk) own.pending.entries own.pending.entries [] own.core.state c.forward.new.self.state event done.0
           (Forward c.in-Some-forward.out c.forward.new.packet) c.facts.ensures.config c.facts.ensures.sound (c.self.invariant.3 stands honest) done.1 done.2 done.3
           (sym (append-nil own.pending.entries))),

@@ -8,7 +8,7 @@ use Rattle.machine.specs.Machine.{later}
 use Rattle.machine.specs.Noted.{HasEntry}
 use Rattle.machine.specs.Sizes.{most_bytes}
 use Rattle.gateway.specs.Given.{IsNow}
-use Rattle.gateway.specs.Kept.{IsStanding}
+use Rattle.gateway.specs.Kept.{LeadsToPresent}
 use Rattle.gateway.proofs.Bodies.{filled-on}
 use Rattle.gateway.proofs.Offering.{takes_in, took_in, at_once, none_of, roomy_enough}
 use Rattle.gateway.proofs.gateway_core.Gateway.offer.Goals as goal
@@ -20,7 +20,7 @@ invariant_of-self g c =
       c.self.invariant.0 ∙ sym c.step_noted.ensures.config,
       c.give.ensures.none,
       λ stands. c.give.ensures.place ∙ ap (λ (b : Besides). b.place) c.step_noted.ensures.beside ∙ c.self.invariant.2 stands,
-      λ stands honest. subst (λ (k : Config). IsStanding k (g.D.Disk.seen c.self.inside.store.disk) c.give.new.pending.entries c.step_noted.new.self.state) (sym c.step_noted.ensures.config)
+      λ stands honest. subst (λ (k : Config). LeadsToPresent k (g.D.Disk.seen c.self.inside.store.disk) c.give.new.pending.entries c.step_noted.new.self.state) (sym c.step_noted.ensures.config)
           (takes_in c.self.inside.core.config (g.D.Disk.seen c.self.inside.store.disk) c.self.inside.pending.entries c.give.new.pending.entries noted.0 c.self.inside.core.state
           c.step_noted.new.self.state c.args.event done.0 c.in-Ok.answer c.facts.ensures.config c.facts.ensures.sound (c.self.invariant.3 stands honest) done.1 done.2 noted.1
           (c.give.ensures.entries ∙ noted.2)),

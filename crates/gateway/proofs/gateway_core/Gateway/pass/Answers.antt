@@ -6,7 +6,7 @@ use Rattle.machine.specs.Fates.{answer_of}
 use Rattle.machine.specs.Noted.{HasEntry}
 use Rattle.machine.specs.declared.event.Event.{Event}
 use Rattle.machine.specs.declared.event.What.TheVariants.{Packet}
-use Rattle.gateway.specs.Kept.{IsStanding}
+use Rattle.gateway.specs.Kept.{LeadsToPresent}
 use Rattle.gateway.specs.Given.{IsNow, given_by}
 use Rattle.gateway.proofs.Bodies.{filled-on}
 use Rattle.gateway.proofs.Offering.{takes_in, at_once}
@@ -21,7 +21,7 @@ invariant_of-self-2 g c =
       c.self.invariant.0 ∙ sym c.pass_noted.ensures.config,
       c.give_copy.ensures.none,
       λ stands. c.give_copy.ensures.place ∙ ap (λ (b : Besides). b.place) c.pass_noted.ensures.beside ∙ c.self.invariant.2 stands,
-      λ stands honest. subst (λ (k : Config). IsStanding k (g.D.Disk.seen own.store.disk) c.give_copy.new.pending.entries c.pass_noted.new.self.state) (sym c.pass_noted.ensures.config)
+      λ stands honest. subst (λ (k : Config). LeadsToPresent k (g.D.Disk.seen own.store.disk) c.give_copy.new.pending.entries c.pass_noted.new.self.state) (sym c.pass_noted.ensures.config)
           (takes_in own.core.config (g.D.Disk.seen own.store.disk) own.pending.entries c.give_copy.new.pending.entries noted.0 own.core.state
           c.pass_noted.new.self.state event done.0 (answer_of c.in-Some.fate c.pass_noted.new.packet) c.facts.ensures.config c.facts.ensures.sound
           (c.self.invariant.3 stands honest) done.1 done.2 noted.1 (c.give_copy.ensures.entries ∙ noted.2)),

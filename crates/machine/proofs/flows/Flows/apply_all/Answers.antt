@@ -5,7 +5,7 @@ use Rattle.sessions.specs.declared.session.Session.{Session}
 use Rattle.durable.specs.Coding.{Entry}
 use Rattle.hairpin.specs.Plans.{Became, GiveAll, Gives}
 use Rattle.machine.specs.Flows.{adds, adds_second}
-use Rattle.machine.specs.Noted.{noted, noted_all}
+use Rattle.machine.specs.Noted.{entries_for, entries_for_all}
 use Rattle.machine.specs.Sizes.{bytes_of}
 use Rattle.machine.proofs.Changed.{adds-few, ready-fewer}
 use Rattle.machine.proofs.Costs.{bytes_of-one, bytes_of-two}
@@ -13,18 +13,18 @@ use Rattle.machine.proofs.flows.Flows.apply_all.Goals as goal
 
 module _ (external : ℕ) (held : List (Option Session)) (now : ℕ) (first : Change) where
   -- the first change gives a session, for whose entry there is room
-  first-gives : (second : Option Change) (ts : List Session) (room : ℕ) (Keeps : Type 0) → GiveAll external held now first second ts → (Keeps → bytes_of (noted_all ts (listing held)) ≤ room)
-      → (t : Session) × Gives external held now first t × (Keeps → bytes_of (noted (listing held) t) ≤ room)
+  first-gives : (second : Option Change) (ts : List Session) (room : ℕ) (Keeps : Type 0) → GiveAll external held now first second ts → (Keeps → bytes_of (entries_for_all ts (listing held)) ≤ room)
+      → (t : Session) × Gives external held now first t × (Keeps → bytes_of (entries_for (listing held) t) ≤ room)
   first-gives None ts room Keeps give fits =
-      (give.0, give.1, λ keeps. omega (arith, fits keeps, ap (λ us. bytes_of (noted_all us (listing held))) give.2, bytes_of-one give.0 (listing held)))
+      (give.0, give.1, λ keeps. omega (arith, fits keeps, ap (λ us. bytes_of (entries_for_all us (listing held))) give.2, bytes_of-one give.0 (listing held)))
   first-gives (Some second) ts room Keeps give fits =
-      (give.0, give.2, λ keeps. omega (arith, fits keeps, ap (λ us. bytes_of (noted_all us (listing held))) give.5, bytes_of-two give.0 give.1 (listing held)))
+      (give.0, give.2, λ keeps. omega (arith, fits keeps, ap (λ us. bytes_of (entries_for_all us (listing held))) give.5, bytes_of-two give.0 give.1 (listing held)))
 
   module _ (second : Change) (later : List (Option Session)) (became : (t : Session) → Gives external held now first t → Became held first t later) where
     -- the second change then gives one, for whose entry there still is
-    second-gives : (ts : List Session) (room less : ℕ) (Keeps : Type 0) → GiveAll external held now first (Some second) ts → (Keeps → bytes_of (noted_all ts (listing held)) ≤ room)
-        → ((t : Session) → Gives external held now first t → Keeps → room ≤ less + bytes_of (noted (listing held) t))
-        → (u : Session) × Gives external later now second u × (Keeps → bytes_of (noted (listing later) u) ≤ less)
+    second-gives : (ts : List Session) (room less : ℕ) (Keeps : Type 0) → GiveAll external held now first (Some second) ts → (Keeps → bytes_of (entries_for_all ts (listing held)) ≤ room)
+        → ((t : Session) → Gives external held now first t → Keeps → room ≤ less + bytes_of (entries_for (listing held) t))
+        → (u : Session) × Gives external later now second u × (Keeps → bytes_of (entries_for (listing later) u) ≤ less)
     second-gives ts room less Keeps give fits left =
         let is = became give.0 give.2 in (
           give.1,
@@ -33,22 +33,22 @@ module _ (external : ℕ) (held : List (Option Session)) (now : ℕ) (first : Ch
             arith,
             fits keeps,
             left give.0 give.2 keeps,
-            ap (λ us. bytes_of (noted_all us (listing held))) give.5,
+            ap (λ us. bytes_of (entries_for_all us (listing held))) give.5,
             bytes_of-two give.0 give.1 (listing held),
-            ap (λ ss. bytes_of (noted ss give.1)) is.listing,
+            ap (λ ss. bytes_of (entries_for ss give.1)) is.listing,
           ),
         )
 
     -- both are noted
     both-noted : (ts : List Session) (old mid new : List Entry) → GiveAll external held now first (Some second) ts
-        → ((t : Session) → Gives external held now first t → mid ≡ old ++ noted (listing held) t) → ((u : Session) → Gives external later now second u → new ≡ mid ++ noted (listing later) u)
-        → new ≡ old ++ noted_all ts (listing held)
+        → ((t : Session) → Gives external held now first t → mid ≡ old ++ entries_for (listing held) t) → ((u : Session) → Gives external later now second u → new ≡ mid ++ entries_for (listing later) u)
+        → new ≡ old ++ entries_for_all ts (listing held)
     both-noted ts old mid new give one other =
         let is = became give.0 give.2 in
-        let es : List Entry = noted (listing held) give.0 in
-        let fs : List Entry = noted (listing later) give.1 in
+        let es : List Entry = entries_for (listing held) give.0 in
+        let fs : List Entry = entries_for (listing later) give.1 in
         other give.1 (give.4 later is) ∙ ap (λ xs. xs ++ fs) (one give.0 give.2) ∙ append_assoc old es fs
-        ∙ ap (λ ss. old ++ (es ++ noted ss give.1)) is.listing ∙ ap (λ xs. old ++ (es ++ xs)) (sym (append-nil (noted _ give.1))) ∙ ap (λ us. old ++ noted_all us (listing held)) (sym give.5)
+        ∙ ap (λ ss. old ++ (es ++ entries_for ss give.1)) is.listing ∙ ap (λ xs. old ++ (es ++ xs)) (sym (append-nil (entries_for _ give.1))) ∙ ap (λ us. old ++ entries_for_all us (listing held)) (sym give.5)
 
 pub apply_noted-requires-clause-gives : goal.apply_noted-requires-clause-gives
 apply_noted-requires-clause-gives g c =

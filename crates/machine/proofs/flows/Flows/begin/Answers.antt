@@ -2,7 +2,7 @@ use Rattle.std.proofs.Common.{Some, sym, ap, ◌∙◌, ◌≡◌, subst, arith}
 use Rattle.std.proofs.lemmas.Option.{none-some}
 use Rattle.sessions.specs.declared.session.Change.TheVariants.{Begin}
 use Rattle.sessions.specs.Table.{at}
-use Rattle.hairpin.specs.Tallies.{weight, pair_of}
+use Rattle.hairpin.specs.Tallies.{weight, mapping_of}
 use Rattle.hairpin.proofs.Tally.{tally-few}
 use Rattle.machine.proofs.Changed.{became, latest_update}
 use Rattle.machine.proofs.Updated.{Tied-update, one_to_one}
@@ -11,17 +11,17 @@ use Rattle.machine.proofs.flows.Flows.begin.Goals as goal
 pub hold-requires-clause-one_to_one : goal.hold-requires-clause-one_to_one
 hold-requires-clause-one_to_one c =
     let may = rw (← c.self.view_is) at c.requires.may in
-    one_to_one c.self.inside.table c.self.inside.due c.self.inside.translations.pairs c.args.session c.self.invariant may.apart
+    one_to_one c.self.inside.table c.self.inside.due c.self.inside.translations.mappings c.args.session c.self.invariant may.apart
 
 pub hold-requires-clause-few : goal.hold-requires-clause-few
 hold-requires-clause-few c =
     let may = rw (← c.self.view_is) at c.requires.may in
-    omega (arith, may.few, c.facts.ensures.at_most, c.self.invariant.counts (pair_of c.args.session), tally-few (pair_of c.args.session) c.self.inside.table.held)
+    omega (arith, may.few, c.facts.ensures.at_most, c.self.invariant.counts (mapping_of c.args.session), tally-few (mapping_of c.args.session) c.self.inside.table.held)
 
 pub invariant_of-self : goal.invariant_of-self
 invariant_of-self c =
     let free = c.add_reserved-slot.ensures.was_free in
-    Tied-update c.self.inside.table c.add_reserved-slot.new.self c.self.inside.due c.watch.new.due c.self.inside.translations.pairs c.hold.new.self.pairs c.add_reserved-slot.result (Some c.args.session) c.self.invariant c.add_reserved-slot.ensures.updates (rw c.timeout.ensures.value at c.watch.ensures.updates)
+    Tied-update c.self.inside.table c.add_reserved-slot.new.self c.self.inside.due c.watch.new.due c.self.inside.translations.mappings c.hold.new.self.mappings c.add_reserved-slot.result (Some c.args.session) c.self.invariant c.add_reserved-slot.ensures.updates (rw c.timeout.ensures.value at c.watch.ensures.updates)
     (λ p. let a = c.hold.ensures.counts p in let b = ap (weight p) free in omega arith)
 
 pub returns-clause-became : goal.returns-clause-became

@@ -3,7 +3,7 @@ use Rattle.std.specs.Prelude.{find}
 use Rattle.std.proofs.lemmas.Bool.{false≢true}
 use Rattle.std.proofs.lemmas.List.{append-nil}
 use Rattle.sessions.specs.Listing.{listing, same_flow}
-use Rattle.machine.specs.Noted.{noted, noted_all}
+use Rattle.machine.specs.Noted.{entries_for, entries_for_all}
 use Rattle.machine.proofs.Costs.{noted-few}
 use Rattle.machine.proofs.Telling.{nil-before, nil-unless}
 use Rattle.machine.proofs.flows.Flows.carry_out_going.Goals as goal
@@ -17,14 +17,14 @@ pub returns-then-not-makes_entry-clause-noted : goal.returns-then-not-makes_entr
 returns-then-not-makes_entry-clause-noted g c = rw (← c.self.view_is) (λ ts all keeps.
     let sessions = listing c.self.inside.table.held in
     let before = g.N.Notes.noted c.args.notes.now in
-    let none : noted sessions all.0 ≡ [] = nil-unless (noted sessions all.0)
+    let none : entries_for sessions all.0 ≡ [] = nil-unless (entries_for sessions all.0)
     (λ away. false≢true (sym c.if-not-makes_entry.true ∙ (c.makes_entry.ensures c.self.inside.translations.external c.args.now all.0 all.1).1 away)) in
-    sym (append-nil before) ∙ ap (λ es. before ++ es) (sym (ap (λ us. noted_all us sessions) all.2 ∙ append-nil (noted sessions all.0) ∙ none)))
+    sym (append-nil before) ∙ ap (λ es. before ++ es) (sym (ap (λ us. entries_for_all us sessions) all.2 ∙ append-nil (entries_for sessions all.0) ∙ none)))
 
 pub returns-in_err-make_room_for_packet-clause-quiet : goal.returns-in_err-make_room_for_packet-clause-quiet
 returns-in_err-make_room_for_packet-clause-quiet g c = rw (← c.self.view_is) (λ ts all none.
     let sessions = listing c.self.inside.table.held in
-    let nil = nil-before (noted sessions all.0) [] (sym (ap (λ us. noted_all us sessions) all.2) ∙ none) in
+    let nil = nil-before (entries_for sessions all.0) [] (sym (ap (λ us. entries_for_all us sessions) all.2) ∙ none) in
     absurd ((c.makes_entry.ensures c.self.inside.translations.external c.args.now all.0 all.1).0 c.if-not-makes_entry.false nil))
 
 pub apply_noted-requires-clause-gives : goal.apply_noted-requires-clause-gives

@@ -10,7 +10,7 @@ release-requires c = λ p. Tied-at _ _ _ c.args.slot (Some c.in-Some.session) c.
 pub invariant_of-self : goal.invariant_of-self
 invariant_of-self c =
     let is : at c.self.inside.table c.args.slot ≡ Some c.in-Some.session = sym c.get.ensures.value ∙ c.in-Some.is in
-    Tied-update c.self.inside.table c.end.new.self c.self.inside.due c.remove.new.self c.self.inside.translations.pairs c.release.new.self.pairs c.args.slot None c.self.invariant c.end.ensures.updates c.remove.ensures.updates
+    Tied-update c.self.inside.table c.end.new.self c.self.inside.due c.remove.new.self c.self.inside.translations.mappings c.release.new.self.mappings c.args.slot None c.self.invariant c.end.ensures.updates c.remove.ensures.updates
     (λ p. let a = c.release.ensures.counts p in let b = ap (weight p) is in omega arith)
 
 pub returns-in-Some-clause-ready : goal.returns-in-Some-clause-ready

@@ -1,6 +1,6 @@
 use Rattle.std.proofs.Common.{◌≡◌, ◌≢◌, ◌↔◌, ◌<◌, ◌≤◌, ◌+◌, ◌*◌, ◌++◌, ℕ, None, slice_index, take}
 use Rattle.sessions.specs.Table.{at}
-use Rattle.machine.specs.Flows.{IsReady}
+use Rattle.machine.specs.Flows.{TakesMore}
 use Rattle.machine.specs.Noted.{ends, sessions_at}
 use Rattle.machine.proofs.flows.Flows.end_all.Given as goal
 
@@ -10,7 +10,7 @@ invariant-loop-slot g l = record {
   ended : (k : ℕ) → k < l.slot-index → at l.self.table (slice_index l.slots k) ≡ None;
   others : (place : ℕ) → ((k : ℕ) → k < l.slot-index → slice_index l.slots k ≢ place) → at l.self.table place ≡ at l.initial.self.table place;
   external : l.self.translations.external ≡ l.initial.self.translations.external;
-  ready : (n : ℕ) → IsReady n l.initial.self → IsReady n l.self;
+  ready : (n : ℕ) → TakesMore n l.initial.self → TakesMore n l.self;
   keeps : g.N.Notes.keeps l.initial.notes ↔ g.N.Notes.keeps l.notes;
   beside : g.N.Notes.beside l.notes ≡ g.N.Notes.beside l.initial.notes;
   noted : g.N.Notes.keeps l.initial.notes → g.N.Notes.noted l.notes ≡ g.N.Notes.noted l.initial.notes ++ ends (sessions_at l.initial.self.table.held (take l.slot-index l.slots));

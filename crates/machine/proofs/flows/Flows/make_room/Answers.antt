@@ -2,7 +2,7 @@ use Rattle.std.proofs.Common.{◌≤◌, ◌+◌, ◌*◌, ◌≡◌, [], arith,
 use Rattle.std.proofs.lemmas.Bool.{false≢true}
 use Rattle.std.proofs.lemmas.Result.{on_ok_weaker}
 use Rattle.sessions.specs.Listing.{listing}
-use Rattle.machine.specs.Noted.{noted_all}
+use Rattle.machine.specs.Noted.{entries_for_all}
 use Rattle.machine.proofs.Costs.{ok_under}
 use Rattle.machine.proofs.Telling.{nil-unless, plan-few, quiet-adds}
 use Rattle.machine.proofs.flows.Flows.make_room.Goals as goal
@@ -21,7 +21,7 @@ returns-then-not-plan_makes_entry-clause-ready g c = λ some.
     let second = c.args.plan.now.second in
     let ts = c.requires.give.0 in
     let give = rw (← c.self.view_is) at c.requires.give.1 in
-    let none : noted_all ts (listing held) ≡ [] = nil-unless (noted_all ts (listing held)) (λ away. false≢true (sym c.if-not-plan_makes_entry.true ∙ (c.plan_makes_entry.ensures external c.args.now ts give).1 away)) in
+    let none : entries_for_all ts (listing held) ≡ [] = nil-unless (entries_for_all ts (listing held)) (λ away. false≢true (sym c.if-not-plan_makes_entry.true ∙ (c.plan_makes_entry.ensures external c.args.now ts give).1 away)) in
     absurd (omega (arith, some, quiet-adds held c.facts.ensures external c.args.now first second ts give none))
 
 pub returns-clause-room : goal.returns-clause-room

@@ -15,7 +15,7 @@ invariant_of-self c =
     let t = restarted s c.args.opener c.args.last in
     let updates = rw there.1 at c.restart.ensures.updates in
     let watched = rw updates.changed at c.touch.ensures.updates in
-    Tied-update c.self.inside.table c.restart.new.self c.self.inside.due c.touch.new.due c.self.inside.translations.pairs c.self.inside.translations.pairs c.args.slot (Some t) c.self.invariant updates watched
+    Tied-update c.self.inside.table c.restart.new.self c.self.inside.due c.touch.new.due c.self.inside.translations.mappings c.self.inside.translations.mappings c.args.slot (Some t) c.self.invariant updates watched
     (λ p. let b : weight p (at c.self.inside.table c.args.slot) ≡ weight p (Some t) = ap (weight p) there.1 in omega arith)
 
 pub returns-clause-became : goal.returns-clause-became

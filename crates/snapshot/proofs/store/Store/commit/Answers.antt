@@ -26,7 +26,7 @@ invariant_of-self g c = λ stands after.
     let stood = c.in-Ok.ensures.ok honest in
     let t : Stored g.row.D.Denot = record { disk = c.append.new.disk; fallen = i.fallen; config = i.bounds; generation = i.generation; grown = c.in-Ok.next - i.start; end = c.in-Ok.next } in
     let made = commit_rests m left seen _ i.active fits.0 rest.0 c.append.new.disk fits.1 body fits.3 (c.append.ensures.any_moment honest) t refl refl refl
-    (omega (arith, held.2, ap behind rest.1, held.1.filled, stood.next_is))
+    (omega (arith, held.2, ap behind rest.1, held.1.grows, stood.next_is))
     (λ s t files le since. g.met.D.Disk.earlier c.append.new.disk s t files after le since) stood in
     (fits.1, made.0, held.2 ∙ ap behind (sym (made.1 ∙ rest.1)))
 
@@ -86,6 +86,9 @@ returns-in-Ok-clause-ok g c = rw (← c.self.view_is) (λ honest d e recovers en
     let stood = c.in-Ok.ensures.ok honest in
     let t : Stored g.row.D.Denot = record { disk = c.append.new.disk; fallen = i.fallen; config = i.bounds; generation = i.generation; grown = c.in-Ok.next - i.start; end = c.in-Ok.next } in
     let made = commit_rests m left seen _ i.active d rest.0 c.append.new.disk e body enters (c.append.ensures.any_moment honest) t refl refl refl
-    (omega (arith, held.2, ap behind rest.1, held.1.filled, stood.next_is))
+    (omega (arith, held.2, ap behind rest.1, held.1.grows, stood.next_is))
     (λ s t files le since. g.met.D.Disk.earlier c.append.new.disk s t files (c.append.ensures.honest.0 honest) le since) stood in
     keeps m left seen t i.active e made.0)
+
+pub returns-in-Ok-clause-written : goal.returns-in-Ok-clause-written
+returns-in-Ok-clause-written g c = rw (← c.self.view_is) (λ honest. (c.self.inside.active, c.in-Ok.ensures.written honest))

@@ -1,6 +1,6 @@
 //! Two files, of which each call asks one.
 ghost use Rattle.std.specs.Prelude.{◌≡◌};
-ghost use Rattle.file_disk.specs.Filed.{Two, Asks};
+ghost use Rattle.file_disk.specs.Filed.{Asks};
 
 use crate::DiskFile;
 use disk_model::{DiskFault, FileId};
@@ -8,29 +8,29 @@ use std::marker::Model;
 
 /// Two files.
 #[derive(Drop)]
-pub(crate) struct Pair<F: Drop> {
+pub(crate) struct TwoFiles<F: Drop> {
     a: F,
     b: F,
 }
 
-impl<F: Drop> Model for Pair<F> {
-    ghost use Rattle.file_disk.specs.Filed.{Two};
+impl<F: Drop> Model for TwoFiles<F> {
+    ghost use Rattle.file_disk.specs.Filed.{TwoFiles as View};
 
-    ghost Value = { Two F };
+    ghost Value = { View F };
 
-    ghost view = { λ pair. record { a = pair.a; b = pair.b } };
+    ghost view = { λ files. record { a = files.a; b = files.b } };
 }
 
-impl<F: DiskFile + Drop> Pair<F> {
+impl<F: DiskFile + Drop> TwoFiles<F> {
     /// These two.
-    pub(crate) fn of(a: F, b: F) -> Pair<F>
+    pub(crate) fn of(a: F, b: F) -> TwoFiles<F>
         ensures { result ≡ record { a = a; b = b } }
     {
-        Pair { a, b }
+        TwoFiles { a, b }
     }
 
     /// The length of one.
-    pub(crate) fn length_of(&mut self, file: FileId) -> Result<u64, DiskFault>
+    pub(crate) fn len(&mut self, file: FileId) -> Result<u64, DiskFault>
         ensures { Asks (λ old new. F.answers_length old new result) file self.old self.new }
     {
         match file {
@@ -40,7 +40,7 @@ impl<F: DiskFile + Drop> Pair<F> {
     }
 
     /// Fills `bytes` from one.
-    pub(crate) fn read_from(
+    pub(crate) fn read_at(
         &mut self,
         file: FileId,
         at: u64,
@@ -56,12 +56,7 @@ impl<F: DiskFile + Drop> Pair<F> {
     }
 
     /// Puts bytes into one.
-    pub(crate) fn write_into(
-        &mut self,
-        file: FileId,
-        at: u64,
-        bytes: &[u8],
-    ) -> Result<(), DiskFault>
+    pub(crate) fn write_at(&mut self, file: FileId, at: u64, bytes: &[u8]) -> Result<(), DiskFault>
         ensures { Asks (λ old new. F.answers_write old new at bytes.now result) file
             self.old self.new }
     {
@@ -72,7 +67,7 @@ impl<F: DiskFile + Drop> Pair<F> {
     }
 
     /// Syncs one.
-    pub(crate) fn sync_one(&mut self, file: FileId) -> Result<(), DiskFault>
+    pub(crate) fn sync(&mut self, file: FileId) -> Result<(), DiskFault>
         ensures { Asks (λ old new. F.answers_sync old new result) file self.old self.new }
     {
         match file {

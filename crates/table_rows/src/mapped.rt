@@ -1,9 +1,9 @@
 //! A mapping that is held twice, and is gone with its last hold.
 ghost use Rattle.std.specs.Prelude.{◌≡◌, ◌+◌, ◌<◌, IfOk};
-ghost use Rattle.mappings.specs.declared.map.Pair.{Pair};
+ghost use Rattle.mappings.specs.declared.map.Mapping.{Mapping};
 ghost use Rattle.mappings.specs.Map.{times, one_at, KeepsOneToOne};
 
-use mappings::map::{Map, Pair};
+use mappings::map::{Map, Mapping};
 use packet::endpoint::{Endpoint, Proto};
 use std::alloc::AllocError;
 use std::process::Abort;
@@ -19,17 +19,18 @@ const OUTSIDE: Endpoint = Endpoint {
     port: 5002,
 };
 
-// Holds the pair. A refusal of memory must change nothing, and the pair be held at the second try.
-fn hold(rt: &impl Abort, map: &mut Map, pair: Pair) -> Result<(), AllocError>
-    requires one_to_one { KeepsOneToOne map.old pair }
-    requires few { times map.old pair < 65536 }
-    ensures { IfOk result (λ _. (p : Pair) → times map.new p ≡ times map.old p + one_at p pair) }
+// Holds the mapping. A refusal of memory must change nothing, and the mapping be held at the second try.
+fn hold(rt: &impl Abort, map: &mut Map, mapping: Mapping) -> Result<(), AllocError>
+    requires one_to_one { KeepsOneToOne map.old mapping }
+    requires few { times map.old mapping < 65536 }
+    ensures { IfOk result (λ _. (p : Mapping)
+        → times map.new p ≡ times map.old p + one_at p mapping) }
 {
-    let before = map.outside_of(pair.proto, pair.inside);
-    if map.hold(pair).is_err() {
-        let after = map.outside_of(pair.proto, pair.inside);
+    let before = map.outside_of(mapping.proto, mapping.inside);
+    if map.hold(mapping).is_err() {
+        let after = map.outside_of(mapping.proto, mapping.inside);
         assert_eq!(rt; before, after);
-        map.hold(pair)?;
+        map.hold(mapping)?;
     }
     Ok(())
 }
@@ -56,7 +57,7 @@ fn assert_inside(
     assert_eq!(rt; map.inside_of(proto, outside), expected);
 }
 
-// Each endpoint of UDP leads to the other while their pair is held, and to none once it is gone.
+// Each endpoint of UDP leads to the other while their mapping is held, and to none once it is gone.
 fn assert_led(rt: &impl Abort, map: &Map, is_held: bool) {
     let (outside, inside) = if is_held {
         (Some(OUTSIDE), Some(INSIDE))
@@ -74,18 +75,18 @@ fn assert_led_by_udp_alone(rt: &impl Abort, map: &Map) {
     assert_outside(rt, map, Proto::Udp, OUTSIDE, None);
 }
 
-// Gives one hold back, if the pair is held.
-fn release(map: &mut Map, pair: Pair) {
-    if map.outside_of(pair.proto, pair.inside) == Some(pair.outside) {
-        map.release(pair);
+// Gives one hold back, if the mapping is held.
+fn release(map: &mut Map, mapping: Mapping) {
+    if map.outside_of(mapping.proto, mapping.inside) == Some(mapping.outside) {
+        map.release(mapping);
     }
 }
 
 // On a map that holds nothing.
 fn goes_with_its_last_hold(rt: &impl Abort, map: &mut Map) -> Result<(), AllocError>
-    requires { (p : Pair) → times map.old p ≡ 0 }
+    requires { (p : Mapping) → times map.old p ≡ 0 }
 {
-    let udp = Pair {
+    let udp = Mapping {
         proto: Proto::Udp,
         inside: INSIDE,
         outside: OUTSIDE,
@@ -103,7 +104,7 @@ fn goes_with_its_last_hold(rt: &impl Abort, map: &mut Map) -> Result<(), AllocEr
 }
 
 #[test]
-fn pair_goes_with_its_last_hold(rt: HostRuntime) -> Result<(), AllocError> {
+fn mapping_goes_with_its_last_hold(rt: HostRuntime) -> Result<(), AllocError> {
     let mut map = Map::new(rt.alloc());
     let gone = goes_with_its_last_hold(&rt, &mut map);
     drop(map);
@@ -112,12 +113,12 @@ fn pair_goes_with_its_last_hold(rt: HostRuntime) -> Result<(), AllocError> {
 
 // On a map that holds nothing.
 fn assert_held_once_reserved(rt: &impl Abort, map: &mut Map) -> Result<(), AllocError>
-    requires { (p : Pair) → times map.old p ≡ 0 }
+    requires { (p : Mapping) → times map.old p ≡ 0 }
 {
     if map.reserve().is_err() {
         map.reserve()?;
     }
-    let tcp = Pair {
+    let tcp = Mapping {
         proto: Proto::Tcp,
         inside: INSIDE,
         outside: OUTSIDE,
@@ -128,7 +129,7 @@ fn assert_held_once_reserved(rt: &impl Abort, map: &mut Map) -> Result<(), Alloc
 }
 
 #[test]
-fn reserved_pair_is_held(rt: HostRuntime) -> Result<(), AllocError> {
+fn reserved_mapping_is_held(rt: HostRuntime) -> Result<(), AllocError> {
     let mut map = Map::new(rt.alloc());
     let held = assert_held_once_reserved(&rt, &mut map);
     drop(map);

@@ -15,7 +15,7 @@ use std::alloc::{AllocError, Global};
 /// # Errors
 ///
 /// `AllocError` where memory is refused.
-pub(crate) fn front_of(
+pub(crate) fn closed_heading(
     alloc: Global,
     generation: u64,
     bounds: &Bounds,

@@ -3,7 +3,7 @@ use Rattle.durable.specs.Coding.{Heading, heading_bytes}
 use Rattle.durable.specs.Entering.{durable}
 use Rattle.durable.specs.Laws.{anew}
 use Rattle.snapshot.proofs.Sizes.{heading_short}
-use Rattle.snapshot.proofs.front.front_of.Goals as goal
+use Rattle.snapshot.proofs.closed_heading.closed_heading.Goals as goal
 
 pub returns-clause-small : goal.returns-clause-small
 returns-clause-small c =
