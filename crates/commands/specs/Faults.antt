@@ -36,11 +36,11 @@ edge_refusal edge.Output = refusal.Output
 edge_refusal (edge.Gateway fault) = gateway_refusal fault
 
 -- a run that ended well is told as that, and a fault by its refusal
-abbrev pub IsToldAs : Result ℕ EdgeFault → Result (Unit {0}) Refusal → Type 0
-IsToldAs (Ok count) (Ok done) = Unit {0}
-IsToldAs (Ok count) (Err r) = ⊥
-IsToldAs (Err fault) (Ok done) = ⊥
-IsToldAs (Err fault) (Err r) = r ≡ edge_refusal fault
+abbrev pub EndIsToldAs : Result ℕ EdgeFault → Result (Unit {0}) Refusal → Type 0
+EndIsToldAs (Ok count) (Ok done) = Unit {0}
+EndIsToldAs (Ok count) (Err r) = ⊥
+EndIsToldAs (Err fault) (Ok done) = ⊥
+EndIsToldAs (Err fault) (Err r) = r ≡ edge_refusal fault
 
 -- the gateway has failed, and not what came in or went out
 abbrev pub IsOfGateway : EdgeFault → Type 0

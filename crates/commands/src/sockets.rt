@@ -71,7 +71,7 @@ fn next_client(listener: &UnixListener) -> io::Result<UnixStream> {
 
 // Compacts where a client has left the file grown: behind a read that ends in a client's fault the edge doesn't. Where
 // memory for it is refused, it waits for the next client.
-fn compact_grown<D: Disk + Drop>(gateway: &mut Gateway<D>) -> Result<(), Refusal>
+fn compact_between_clients<D: Disk + Drop>(gateway: &mut Gateway<D>) -> Result<(), Refusal>
     ensures causes { IfErr result (λ refusal. (fault : GatewayFault)
         × (refusal ≡ gateway_refusal fault)) }
 {
@@ -96,7 +96,7 @@ fn serve_next<W: Write, D: Disk + Drop>(
     ensures stands { OnOk result (gateway.new.fallen ≡ false) }
     ensures causes { IfErr result (λ stop. IsOfServing stop.refusal) }
 {
-    compact_grown(gateway)?;
+    compact_between_clients(gateway)?;
     let stream = match next_client(listener) {
         Ok(stream) => stream,
         Err(error) => return Err(Stop::at_path(alloc, path, "accepts no client", &error)),

@@ -3,8 +3,8 @@ ghost use Rattle.std.specs.Prelude.{◌≡◌, ℕ, List, Result, IsOk, IfErr, O
 ghost use Rattle.std.specs.Io.KnownBytes.{Appends, Consumes, IsAtEnd};
 ghost use Rattle.refusals.specs.declared.refusal.Refusal.TheVariants.{Output};
 ghost use Rattle.refusals.specs.Words.{first_line};
-ghost use Rattle.commands.specs.Faults.{IsOfGateway, IsOfStream, IsToldAs, edge_refusal};
-ghost use Rattle.socket_edge.specs.Running.{Ran};
+ghost use Rattle.commands.specs.Faults.{IsOfGateway, IsOfStream, EndIsToldAs, edge_refusal};
+ghost use Rattle.socket_edge.specs.Running.{RunEnded};
 ghost use Rattle.socket_edge.specs.declared.fault.EdgeFault.{EdgeFault as Fault};
 
 use crate::faults::{ends_program, of_edge};
@@ -25,7 +25,7 @@ pub(crate) fn answer_all<R: Read, W: Write, D: Disk + Drop>(
     ensures ran { (given written : List ℕ)
         × Consumes (R.remaining reader.old) (R.remaining reader.new) given
         × Appends (W.contents writer.old) (W.contents writer.new) written
-        × Ran result gateway.old.told gateway.new.told given written
+        × RunEnded result gateway.old.told gateway.new.told given written
         (IsAtEnd (R.remaining reader.new)) }
 {
     socket_edge::run(alloc, reader, writer, gateway)
@@ -43,10 +43,10 @@ pub fn replay<R: Read, W: Write, D: Disk + Drop>(
     gateway: &mut Gateway<D>,
 ) -> Result<(), Refusal>
     // What was read and what was written, and how the run ended that this tells of.
-    ensures ran { (ended : Result ℕ Fault) × IsToldAs ended result × (given written : List ℕ)
+    ensures ran { (ended : Result ℕ Fault) × EndIsToldAs ended result × (given written : List ℕ)
         × Consumes (R.remaining reader.old) (R.remaining reader.new) given
         × Appends (W.contents writer.old) (W.contents writer.new) written
-        × Ran ended gateway.old.told gateway.new.told given written
+        × RunEnded ended gateway.old.told gateway.new.told given written
         (IsAtEnd (R.remaining reader.new)) }
     ensures causes { IfErr result IsOfStream }
 {

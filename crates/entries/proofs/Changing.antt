@@ -22,7 +22,7 @@ use Rattle.sessions.specs.Sound.{AreSound}
 use Rattle.sessions.specs.Table.{amended}
 use Rattle.hairpin.proofs.Apart.{find-In}
 use Rattle.hairpin.proofs.Soundness.{Joins, JoinEach, filter-all}
-use Rattle.machine.specs.Noted.{goes_on, is_same, entries_for, entries_for_all, entries_from}
+use Rattle.machine.specs.Noted.{goes_on, is_unchanged, entries_for, entries_for_all, entries_making}
 use Rattle.durable.specs.Coding.{Entry, Begin, Seen, Restart}
 use Rattle.durable.specs.Entering.{durable, Enters, is_of, flow_of, changed, seen_so}
 use Rattle.durable.specs.declared.entry.Flow.{Flow}
@@ -127,7 +127,7 @@ module _ (config : Config) (now : ℕ) (text : List ℕ) where
         )
 
     module _ (s : Session) (in_s : In s ss) (own : same_flow t s ≡ true) where
-      on-enters : (b c : Bool) → is_same s t ≡ b → goes_on s t ≡ c
+      on-enters : (b c : Bool) → is_unchanged s t ≡ b → goes_on s t ≡ c
           → Leads (if b then [] else (if c then Seen (flow_of t) t.seen ∷ [] else Restart (flow_of t) t.opener t.seen ∷ [])) ss (put t ss)
       on-enters true c same e =
           let has = has_inside-true t.proto t.inside t.remote s own in
@@ -144,9 +144,9 @@ module _ (config : Config) (now : ℕ) (text : List ℕ) where
           let fits : amended t.opener t.seen (stilled s) ≡ stilled t = same-stilled (amended t.opener t.seen s) t has.0 has.1 (joins.keeps s in_s own) has.2 refl refl in
           (named-stilled (flow_of t) ss s in_s own, ap (durable text) (sym (changed-put t s ss sound.rises joins.sound.rises in_s own (amended t.opener t.seen) (λ x. refl) fits)))
 
-    by-enters : (o : Option Session) → find (same_flow t) ss ≡ o → Leads (entries_from o t) ss (put t ss)
+    by-enters : (o : Option Session) → find (same_flow t) ss ≡ o → Leads (entries_making o t) ss (put t ss)
     by-enters None e = begin-enters e
-    by-enters (Some s) e = let is = find-In (same_flow t) ss s e in on-enters s is.0 is.1 (is_same s t) (goes_on s t) refl refl
+    by-enters (Some s) e = let is = find-In (same_flow t) ss s e in on-enters s is.0 is.1 (is_unchanged s t) (goes_on s t) refl refl
 
     pub noted-enters : Leads (entries_for ss t) ss (put t ss)
     noted-enters = by-enters (find (same_flow t) ss) refl

@@ -27,7 +27,7 @@ use Rattle.hairpin.specs.declared.cause.Cause.{Cause}
 use Rattle.hairpin.proofs.Soundness.{HaveOwnFlows, IsFine, JoinEach}
 use Rattle.machine.specs.Judged.{Judged, IsRight}
 use Rattle.machine.specs.Machine.{State, act, aged, later, leg, on_route, sent, step, with_fields}
-use Rattle.machine.specs.Noted.{AreDistinct, AreEntriesOf, AreOver, EndsSome, HasEntry, TakesText, between, ends, goes_on, is_same, lasting, entries_for, entries_for_all, entries_from, of_deed, of_fields, of_route, of_way}
+use Rattle.machine.specs.Noted.{AreDistinct, AreEntriesOf, AreOver, EndsSome, HasEntry, TakesText, between, ends, goes_on, is_unchanged, lasting, entries_for, entries_for_all, entries_making, of_deed, of_fields, of_route, of_way}
 use Rattle.machine.specs.Sound.{IsSound}
 use Rattle.machine.specs.declared.deed.Deed.{Deed}
 use Rattle.machine.specs.declared.deed.Deed.TheVariants as deed
@@ -46,7 +46,7 @@ side-itself Remote = refl
 pub number-itself : (n : ℕ) → (n == n) ≡ true
 number-itself n = grind (arith, nat_tests)
 
-pub nothing-between : (s t : Session) → is_same s t ≡ true → between s t ≡ []
+pub nothing-between : (s t : Session) → is_unchanged s t ≡ true → between s t ≡ []
 nothing-between s t same = ap (λ (b : Bool). if b then [] else (if goes_on s t then Seen (flow_of t) t.seen ∷ [] else Restart (flow_of t) t.opener t.seen ∷ [])) same
 
 noted-none : (ss : List Session) (t : Session) → Rises ss → In (stilled t) (map stilled ss) → entries_for ss t ≡ []
@@ -54,10 +54,10 @@ noted-none ss t rises is =
     let u = In-map stilled ss (stilled t) is in
     let own : same_flow t u.0 ≡ true = keys-flow t u.0 (ap key u.2) in
     let found : find (same_flow t) ss ≡ Some u.0 = find-is (same_flow t) ss u.0 u.1 own (λ v in_v h. one-of-key ss rises v u.0 in_v u.1 (flow-keys t v h ∙ ap key u.2)) in
-    let same : is_same u.0 t ≡ true = and_from (same_side u.0.opener t.opener) (u.0.seen == t.seen)
+    let same : is_unchanged u.0 t ≡ true = and_from (same_side u.0.opener t.opener) (u.0.seen == t.seen)
     (ap (λ (x : Session). same_side u.0.opener x.opener) u.2 ∙ side-itself u.0.opener)
     (ap (λ (x : Session). u.0.seen == x.seen) u.2 ∙ number-itself u.0.seen) in
-    ap (λ o. entries_from o t) found ∙ nothing-between u.0 t same
+    ap (λ o. entries_making o t) found ∙ nothing-between u.0 t same
 
 stays : (ts ss : List Session) (t : Session) → ((u : Session) → In u ts → same_flow u t ≡ false) → In t ss → In t (put_all ts ss)
 stays [] ss t own is = is

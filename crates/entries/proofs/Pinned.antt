@@ -13,7 +13,7 @@ use Rattle.sessions.proofs.Stilled.{one-of-key}
 use Rattle.sessions.proofs.Puts.{find-is, flow-keys, keys-flow}
 use Rattle.hairpin.specs.Legs.{passed_by}
 use Rattle.hairpin.proofs.Doubling.{find-put, passed-flow}
-use Rattle.machine.specs.Noted.{between, goes_on, is_same, entries_for, entries_from}
+use Rattle.machine.specs.Noted.{between, goes_on, is_unchanged, entries_for, entries_making}
 use Rattle.durable.specs.Coding.{Restart, Seen}
 use Rattle.durable.specs.Entering.{flow_of}
 use Rattle.entries.proofs.Changing.{side-true}
@@ -23,17 +23,17 @@ right_false : (a b : Bool) → b ≡ false → (a && b) ≡ false
 right_false true b h = h
 right_false false b h = refl
 
-seen-between : (s t : Session) → is_same s t ≡ false → goes_on s t ≡ true → between s t ≡ Seen (flow_of t) t.seen ∷ []
+seen-between : (s t : Session) → is_unchanged s t ≡ false → goes_on s t ≡ true → between s t ≡ Seen (flow_of t) t.seen ∷ []
 seen-between s t other on =
     ap (λ (b : Bool). if b then [] else (if goes_on s t then Seen (flow_of t) t.seen ∷ [] else Restart (flow_of t) t.opener t.seen ∷ [])) other
     ∙ ap (λ (b : Bool). if b then Seen (flow_of t) t.seen ∷ [] else Restart (flow_of t) t.opener t.seen ∷ []) on
 
-restart-between : (s t : Session) → is_same s t ≡ false → goes_on s t ≡ false → between s t ≡ Restart (flow_of t) t.opener t.seen ∷ []
+restart-between : (s t : Session) → is_unchanged s t ≡ false → goes_on s t ≡ false → between s t ≡ Restart (flow_of t) t.opener t.seen ∷ []
 restart-between s t other anew =
     ap (λ (b : Bool). if b then [] else (if goes_on s t then Seen (flow_of t) t.seen ∷ [] else Restart (flow_of t) t.opener t.seen ∷ [])) other
     ∙ ap (λ (b : Bool). if b then Seen (flow_of t) t.seen ∷ [] else Restart (flow_of t) t.opener t.seen ∷ []) anew
 
-other-bits : (s t : Session) → s.seen ≢ t.seen → is_same s t ≡ false
+other-bits : (s t : Session) → s.seen ≢ t.seen → is_unchanged s t ≡ false
 other-bits s t other = right_false (same_side s.opener t.opener) (s.seen == t.seen) (false_from_ne_true _ (λ h. other (same_eq s.seen t.seen h)))
 
 one-side : (a b : Opener) → a ≡ b → same_side a b ≡ true
@@ -73,7 +73,7 @@ module _ (ss : List Session) (rises : Rises ss) (s : Session) (in_s : In s ss) (
   is-between : entries_for ss t ≡ between s t
   is-between =
       let own = passed-flow s sender flags now in
-      ap (λ o. entries_from o t) (find-is (same_flow t) ss s in_s own (λ u in_u h. one-of-key ss rises u s in_u in_s (flow-keys t u h ∙ sym (flow-keys t s own))))
+      ap (λ o. entries_making o t) (find-is (same_flow t) ss s in_s own (λ u in_u h. one-of-key ss rises u s in_u in_s (flow-keys t u h ∙ sym (flow-keys t s own))))
 
   pub pinned-restart : restarts s flags ≡ true → entries_for ss t ≡ Restart (flow_of s) sender 0 ∷ []
   pinned-restart anew =
@@ -96,4 +96,4 @@ other-way : (t u v : Session) → same_flow u t ≡ false → same_flow t v ≡ 
 other-way t u v other h = false_from_ne_true _ (λ k. false≢true (sym other ∙ keys-flow u t (sym (flow-keys u v k) ∙ flow-keys t v h)))
 
 pub noted-apart : (ss : List Session) (t u : Session) → same_flow u t ≡ false → entries_for (put t ss) u ≡ entries_for ss u
-noted-apart ss t u other = ap (λ o. entries_from o u) (find-put (same_flow u) t ss other (λ v in_v h. other-way t u v other h))
+noted-apart ss t u other = ap (λ o. entries_making o u) (find-put (same_flow u) t ss other (λ v in_v h. other-way t u v other h))

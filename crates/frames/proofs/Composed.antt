@@ -18,8 +18,8 @@ use Rattle.frames.specs.declared.request.Kind.TheVariants as kind
 use Rattle.frames.specs.declared.request.Head.{Head}
 use Rattle.frames.specs.declared.request.Head.TheVariants as head
 use Rattle.frames.specs.Requests.{Whole, Cut, Bad, announced, longest, head_with, head_of, what_of, next}
-use Rattle.frames.specs.Framing.{Remainder, Rest, Fault, Framed, behind, whole_frames}
-use Rattle.frames.specs.Streams.{kind_of, interface_of, request_body, longest_body, header, request, Fits, IsNoFrame, header_fault, IsFaulty, Ending, IsStream}
+use Rattle.frames.specs.Framing.{Remainder, Rest, Fault, Framed, with_first, whole_frames}
+use Rattle.frames.specs.Streams.{kind_of, interface_of, request_body, longest_body, header, request, FitsFrame, IsNoFrame, header_fault, IsFaulty, Ending, IsStream}
 use Rattle.frames.proofs.Fronts.{head_stays}
 use Rattle.frames.proofs.Frames.{framed_whole, framed_cut, framed_bad}
 
@@ -78,7 +78,7 @@ longest_small (what.Load text) = omega arith
 longest_small what.Moment = omega arith
 
 -- an event's frame, whatever follows
-pub request_reads : (event : Event) (more : List ℕ) → Fits event → next (request event ++ more) ≡ Whole event more
+pub request_reads : (event : Event) (more : List ℕ) → FitsFrame event → next (request event ++ more) ≡ Whole event more
 request_reads event more f =
     let w = event.what in
     let h = header (kind_of w) (interface_of w) (length (request_body w)) event.moment in
@@ -146,11 +146,11 @@ ending_reads tail (Rest rest) e = ap whole_frames e.0 ∙ framed_cut rest (no_fr
 ending_reads tail (Fault fault) e = framed_bad tail fault (faulty_bad fault tail e)
 
 -- the frames of any events, and then an end
-composed_reads : (events : List Event) (tail : List ℕ) (left : Remainder) → AllByRecursion Fits events → Ending tail left → whole_frames (flat_map request events ++ tail) ≡ record { events = events; remainder = left }
+composed_reads : (events : List Event) (tail : List ℕ) (left : Remainder) → AllByRecursion FitsFrame events → Ending tail left → whole_frames (flat_map request events ++ tail) ≡ record { events = events; remainder = left }
 composed_reads [] tail left fit e = ending_reads tail left e
 composed_reads (event ∷ events) tail left fit e =
     let assoc : flat_map request (event ∷ events) ++ tail ≡ request event ++ (flat_map request events ++ tail) = ap (λ (x : List ℕ). x ++ tail) (flat_map-cons request event events) ∙ append_assoc (request event) (flat_map request events) tail in
-    ap whole_frames assoc ∙ framed_whole _ event (flat_map request events ++ tail) (request_reads event (flat_map request events ++ tail) fit.0) ∙ ap (behind (event ∷ [])) (composed_reads events tail left fit.1 e)
+    ap whole_frames assoc ∙ framed_whole _ event (flat_map request events ++ tail) (request_reads event (flat_map request events ++ tail) fit.0) ∙ ap (with_first (event ∷ [])) (composed_reads events tail left fit.1 e)
 
 pub stream_reads : (bytes : List ℕ) (f : Framed) → IsStream bytes f → whole_frames bytes ≡ f
 stream_reads bytes f s = ap whole_frames s.bytes_are ∙ composed_reads f.events s.tail f.remainder s.fit s.ending

@@ -22,7 +22,7 @@ use Rattle.frames.specs.Answers.{iface_byte}
 use Rattle.frames.specs.Requests.{Next, Whole, Cut, Bad, announced, longest, head_with, head_of, what_of, with_body, next}
 use Rattle.frames.specs.Framing.{Framed, whole_frames}
 use Rattle.packet.specs.Laws.{AreBytes}
-use Rattle.frames.specs.Streams.{kind_of, interface_of, request_body, longest_body, header, request, Fits, IsNoFrame, header_fault, IsFaulty, IsStream}
+use Rattle.frames.specs.Streams.{kind_of, interface_of, request_body, longest_body, header, request, FitsFrame, IsNoFrame, header_fault, IsFaulty, IsStream}
 use Rattle.frames.proofs.Frames.{framed_whole, framed_cut, framed_bad}
 use Rattle.frames.proofs.Fronts.{head_stays, next_shorter}
 
@@ -165,7 +165,7 @@ request_is k i moment kd body a l =
     let n = numbers_are k i kd a in
     rw (kind_is kd body, interface_is kd body, body_is kd body l, n.0, n.1) refl
 
-fits_is : (moment : ℕ) (kd : Kind) (body : List ℕ) → moment < 2 ^ 64 → length body ≤ longest kd → Fits (record { moment = moment; what = what_of kd body })
+fits_is : (moment : ℕ) (kd : Kind) (body : List ℕ) → moment < 2 ^ 64 → length body ≤ longest kd → FitsFrame (record { moment = moment; what = what_of kd body })
 fits_is moment kd body m l = record { moment = m; body = rw (body_is kd body l, kind_is kd body, longest_is kd) l }
 
 -- ---- what stands at the front
@@ -193,7 +193,7 @@ long_not_cut bytes l = λ e. (let t : ltb (length bytes) 14 ≡ false = le-ltb _
 
 -- a header without a fault, and a body of its length, of which some may be lacking
 frame_is : (bytes lacking : List ℕ) (kd : Kind) (moment len : ℕ) → AreBytes bytes → head_of bytes ≡ head.Frame kd moment len → length (drop 14 bytes ++ lacking) ≡ len
-    → (bytes ++ lacking ≡ request (record { moment = moment; what = what_of kd (drop 14 bytes ++ lacking) })) × Fits (record { moment = moment; what = what_of kd (drop 14 bytes ++ lacking) })
+    → (bytes ++ lacking ≡ request (record { moment = moment; what = what_of kd (drop 14 bytes ++ lacking) })) × FitsFrame (record { moment = moment; what = what_of kd (drop 14 bytes ++ lacking) })
 frame_is bytes lacking kd moment len h e l =
     let p = long_head bytes (head.Frame kd moment len) e (λ x. absurd cc) in
     let g = good_with (announced (kind_at bytes) (interface_at bytes)) (kind_at bytes) (interface_at bytes) (length_at bytes) (moment_at bytes) kd len moment refl p.1 in
@@ -205,12 +205,12 @@ frame_is bytes lacking kd moment len h e l =
     rw (l, g.len_is, g.moment_is) refl in
     (a ∙ b ∙ sym (request_is (kind_at bytes) (interface_at bytes) moment kd body g.announces short), fits_is moment kd body (rw g.moment_is (small_moment bytes h)) short)
 
-whole_with : (h : Head) (bytes : List ℕ) (event : Event) (rest : List ℕ) → AreBytes bytes → head_of bytes ≡ h → with_body h bytes ≡ Whole event rest → (bytes ≡ request event ++ rest) × Fits event
+whole_with : (h : Head) (bytes : List ℕ) (event : Event) (rest : List ℕ) → AreBytes bytes → head_of bytes ≡ h → with_body h bytes ≡ Whole event rest → (bytes ≡ request event ++ rest) × FitsFrame event
 whole_with head.Cut bytes event rest h e w = absurd cc
 whole_with (head.Bad fault) bytes event rest h e w = absurd cc
 whole_with (head.Frame kd moment len) bytes event rest h e w = tested (ltb (length bytes) (14 + len)) refl w
   where
-    tested : (b : Bool) → ltb (length bytes) (14 + len) ≡ b → cond b Cut (Whole (record { moment = moment; what = what_of kd (take len (drop 14 bytes)) }) (drop (14 + len) bytes)) ≡ Whole event rest → (bytes ≡ request event ++ rest) × Fits event
+    tested : (b : Bool) → ltb (length bytes) (14 + len) ≡ b → cond b Cut (Whole (record { moment = moment; what = what_of kd (take len (drop 14 bytes)) }) (drop (14 + len) bytes)) ≡ Whole event rest → (bytes ≡ request event ++ rest) × FitsFrame event
     tested true t w = absurd cc
     tested false t w =
         let long : 14 + len ≤ length bytes = ltb-false _ _ t in
@@ -220,12 +220,12 @@ whole_with (head.Frame kd moment len) bytes event rest h e w = tested (ltb (leng
         let e' : head_of front ≡ head.Frame kd moment len = sym (head_stays front (drop (14 + len) bytes) (omega (arith, length-take (14 + len) bytes))) ∙ ap head_of (take-append-drop (14 + len) bytes) ∙ e in
         let f = frame_is front [] kd moment len (take_bytes (14 + len) bytes h) e' n in
         let b : drop 14 front ++ [] ≡ take len (drop 14 bytes) = append-nil (drop 14 front) ∙ body in
-        let f' : (front ++ [] ≡ request (record { moment = moment; what = what_of kd (take len (drop 14 bytes)) })) × Fits (record { moment = moment; what = what_of kd (take len (drop 14 bytes)) }) = rw (← b) f in
+        let f' : (front ++ [] ≡ request (record { moment = moment; what = what_of kd (take len (drop 14 bytes)) })) × FitsFrame (record { moment = moment; what = what_of kd (take len (drop 14 bytes)) }) = rw (← b) f in
         let x : record { moment = moment; what = what_of kd (take len (drop 14 bytes)) } ≡ event = cc in
         let y : drop (14 + len) bytes ≡ rest = cc in
         let whole : bytes ≡ request (record { moment = moment; what = what_of kd (take len (drop 14 bytes)) }) ++ drop (14 + len) bytes =
         sym (take-append-drop (14 + len) bytes) ∙ ap (λ (z : List ℕ). z ++ drop (14 + len) bytes) (sym (append-nil front) ∙ f'.0) in
-        (subst (λ (ev : Event). bytes ≡ request ev ++ rest) x (subst (λ (r : List ℕ). bytes ≡ request (record { moment = moment; what = what_of kd (take len (drop 14 bytes)) }) ++ r) y whole), subst Fits x f'.1)
+        (subst (λ (ev : Event). bytes ≡ request ev ++ rest) x (subst (λ (r : List ℕ). bytes ≡ request (record { moment = moment; what = what_of kd (take len (drop 14 bytes)) }) ++ r) y whole), subst FitsFrame x f'.1)
 
 cut_with : (h : Head) (bytes : List ℕ) → AreBytes bytes → head_of bytes ≡ h → with_body h bytes ≡ Cut → IsNoFrame bytes
 cut_with head.Cut bytes h e w = tested (ltb (length bytes) 14) refl
@@ -294,7 +294,7 @@ faulty_was bytes fault h e =
 
 -- ---- the stream
 
-whole_was : (bytes : List ℕ) (event : Event) (rest : List ℕ) → AreBytes bytes → next bytes ≡ Whole event rest → (bytes ≡ request event ++ rest) × Fits event
+whole_was : (bytes : List ℕ) (event : Event) (rest : List ℕ) → AreBytes bytes → next bytes ≡ Whole event rest → (bytes ≡ request event ++ rest) × FitsFrame event
 unfolding next
 whole_was bytes event rest h w = whole_with (head_of bytes) bytes event rest h refl w
 

@@ -13,13 +13,13 @@ pub record Framed : Type 0 where
   pub events : List Event
   pub remainder : Remainder
 
--- these events first
-abbrev pub behind : List Event → Framed → Framed
-behind events f = record { events = events ++ f.events; remainder = f.remainder }
+-- with these events in front
+abbrev pub with_first : List Event → Framed → Framed
+with_first events f = record { events = events ++ f.events; remainder = f.remainder }
 
 -- what stands at the front, and then what more gives of the rest
 abbrev pub go_on : Next → List ℕ → (List ℕ → Framed) → Framed
-go_on (Whole event rest) bytes more = behind (event ∷ []) (more rest)
+go_on (Whole event rest) bytes more = with_first (event ∷ []) (more rest)
 go_on Cut bytes more = record { events = []; remainder = Rest bytes }
 go_on (Bad fault) bytes more = record { events = []; remainder = Fault fault }
 

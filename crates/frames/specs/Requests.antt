@@ -23,7 +23,8 @@ without_interface iface k = if iface == 0 then Ok k else Err BadInterface
 -- what a kind and an interface announce
 abbrev pub announced : ℕ → ℕ → Result Kind HeaderFault
 announced k iface =
-    if k == 1 then (if iface == 0 then Ok (kind.Packet Lan) else if iface == 1 then Ok (kind.Packet Wan) else Err BadInterface)
+    if k == 1 then (if iface == 0 then Ok (kind.Packet Lan)
+    else if iface == 1 then Ok (kind.Packet Wan) else Err BadInterface)
     else if k == 2 then without_interface iface kind.Load
     else if k == 3 then without_interface iface kind.Moment
     else Err BadKind

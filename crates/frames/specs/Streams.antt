@@ -41,14 +41,14 @@ request event = header (kind_of event.what) (interface_of event.what)
     (length (request_body event.what)) event.moment ++ request_body event.what
 
 -- a frame can carry the event
-pub record Fits (event : Event) : Type 0 where
+pub record FitsFrame (event : Event) : Type 0 where
   pub moment : event.moment < 2 ^ 64
   pub body : length (request_body event.what) ≤ longest_body (kind_of event.what)
 
 -- fewer bytes than a header has, or a frame that lacks some of its end
 abbrev pub IsNoFrame : List ℕ → Type 0
 IsNoFrame rest = (length rest < 14)
-    ⊎ ((event : Event) × (lacking : List ℕ) × Fits event × (lacking ≢ [])
+    ⊎ ((event : Event) × (lacking : List ℕ) × FitsFrame event × (lacking ≢ [])
     × (rest ++ lacking ≡ request event))
 
 -- a header's first fault
@@ -77,7 +77,7 @@ Ending tail (Fault fault) = IsFaulty fault tail
 
 -- the bytes are the frames of these events, and then this end
 pub record IsStream (bytes : List ℕ) (framed : Framed) : Type 0 where
-  pub fit : AllByRecursion Fits framed.events
+  pub fit : AllByRecursion FitsFrame framed.events
   pub tail : List ℕ
   pub bytes_are : bytes ≡ flat_map request framed.events ++ tail
   pub ending : Ending tail framed.remainder

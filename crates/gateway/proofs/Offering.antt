@@ -32,9 +32,9 @@ takes_in config files were are entries s new event judged answer is_one sound wa
     let on : Enters config entries (lasting s) (lasting new) =
     subst (λ (p : State × Answer). Enters config entries (lasting s) (lasting p.0)) steps (step-entered config is_one s judged entries sound is_judged.right of) in
     record {
-      first = was.first;
+      durable = was.durable;
       recovers = was.recovers;
-      enters = subst (λ (es : List Entry). Enters config es was.first (lasting new)) (sym same) ((enters_once config).join were entries was.first (lasting s) (lasting new) was.enters on);
+      enters = subst (λ (es : List Entry). Enters config es was.durable (lasting new)) (sym same) ((enters_once config).join were entries was.durable (lasting s) (lasting new) was.enters on);
     }
 
 right_none : (were entries : List Entry) → were ++ entries ≡ [] → entries ≡ []

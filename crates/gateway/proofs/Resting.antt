@@ -17,12 +17,12 @@ use Rattle.gateway.specs.Kept.{HasPlaces, LeadsToPresent}
 -- where no entry waits, the files stand for the present state
 pub nothing_waits : (config : Config) (files : Files) (entries : List Entry) (s : State) → LeadsToPresent config files entries s → entries ≡ [] → Recovers files (lasting s)
 nothing_waits config files entries s is none =
-    let enters : Enters config [] is.first (lasting s) = subst (λ (es : List Entry). Enters config es is.first (lasting s)) none is.enters in
+    let enters : Enters config [] is.durable (lasting s) = subst (λ (es : List Entry). Enters config es is.durable (lasting s)) none is.enters in
     subst (λ (d : Durable). Recovers files d) (sym enters) is.recovers
 
 -- and where they do, none is to be entered
 pub stands_for : (config : Config) (files : Files) (s : State) → Recovers files (lasting s) → LeadsToPresent config files [] s
-stands_for config files s recovers = record { first = lasting s; recovers = recovers; enters = refl }
+stands_for config files s recovers = record { durable = lasting s; recovers = recovers; enters = refl }
 
 -- the body of the group that waits leads from what the files stand for to the present state
 pub body_leads : (config own : Config) (files : Files) (entries : List Entry) (s : State) (body : List ℕ) (first : Durable) → own ≡ config → LeadsToPresent config files entries s
@@ -32,7 +32,7 @@ body_leads config own files entries s body first same is recovers coded are = (
   coded,
   are,
   subst (λ (k : Config). Enters k entries first (lasting s)) (sym same)
-      (subst (λ (d : Durable). Enters config entries d (lasting s)) (recovers_once.state files is.first first is.recovers recovers) is.enters),
+      (subst (λ (d : Durable). Enters config entries d (lasting s)) (recovers_once.state files is.durable first is.recovers recovers) is.enters),
 )
 
 module _ {D : Type 0} (moment : D → ℕ) (left : D → ℕ → Files → Type 0) (seen : D → Files) where
@@ -53,7 +53,7 @@ module _ {D : Type 0} (moment : D → ℕ) (left : D → ℕ → Files → Type 
   has_places store d keeps = let rests = keeps.rests.1 in record {
     file = keeps.rests.0;
     heading = rests.heading;
-    first = d;
+    durable = d;
     active = rests.active;
     numbered = rests.numbered;
     grows = rests.grows;
@@ -65,7 +65,7 @@ pub begun : (config own : Config) (files : Files) (entries : List Entry) (d : Du
 begun config own files entries d moment s none same sound resumed recovers =
     let again = restart-sound config d moment s sound (recovers_sound.stilled files d recovers) resumed in
     record {
-      first = d;
+      durable = d;
       recovers = recovers;
       enters = subst (λ (es : List Entry). Enters own es d (lasting s)) (sym none) again.1;
     }

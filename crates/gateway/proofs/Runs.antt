@@ -77,7 +77,7 @@ safe-less config s es fs n m files le is = record {
 
 -- what the files stand for, or the present state
 pub safe-either : (config : Config) (s : State) (es : List Event) (js : List Judged) (now : Standing) (files : Files) → AreJudged config es js → StandsFor config s js now
-    → RecoversEither now.first (lasting now.state) files → IsSafe config s es (length es - now.held) files
+    → RecoversEither now.durable (lasting now.state) files → IsSafe config s es (length es - now.held) files
 safe-either config s es js now files are is either =
     let size = AreJudged-length config es js are in
     let n : length js - now.held ≡ length es - now.held = omega (arith, size) in
@@ -165,9 +165,9 @@ module _ {D : Type 0} (honest : D → Type 0) (moment : D → ℕ) (left : D →
           configured = λ h. idle moment left start.disk (IsConfigured start.told.config) (configured h);
         };
         stands = stands;
-        passed = refl;
+        no_failure = refl;
         rests = λ ready. record {
-          first = lasting start.told.state;
+          durable = lasting start.told.state;
           leaves = leaves ready;
           judged = [];
           are_judged = tt;
@@ -187,11 +187,11 @@ module _ {D : Type 0} (honest : D → Type 0) (moment : D → ℕ) (left : D →
     answered ready = omega (arith, counted start.told now.told events out s.ran.took, ap length ready.none)
 
     -- what the files stand for, and the present state, are safe
-    either : (ready : IsReady honest start) (files : Files) → RecoversEither (s.rests ready).first (lasting now.told.state) files → Safe events (length out) files
+    either : (ready : IsReady honest start) (files : Files) → RecoversEither (s.rests ready).durable (lasting now.told.state) files → Safe events (length out) files
     either ready files is =
         let r = s.rests ready in
         subst (λ (n : ℕ). Safe events n files) (answered ready)
-        (safe-either start.told.config start.told.state events r.judged (standing r.first now) files r.are_judged r.stands_for is)
+        (safe-either start.told.config start.told.state events r.judged (standing r.durable now) files r.are_judged r.stands_for is)
 
     any : (files : Files) (n : ℕ) → Safe events n files → Safe events 0 files
     any files n is = record { count = is.count; answered = omega arith; within = is.within; judged = is.judged; are_judged = is.are_judged; recovers = is.recovers }
@@ -234,24 +234,24 @@ module _ {D : Type 0} (honest : D → Type 0) (moment : D → ℕ) (left : D →
         flush-safe ready =
             let r = s.rests ready in
             let h = ready-now ready in
-            narrows moment left now.disk next.disk (λ before files. RecoversEither r.first (lasting now.told.state) files) (λ before files. Safe events (length out) files)
-            (any_moment s.stands h r.first (r.leaves (seen now.disk) (reads now.disk h)))
+            narrows moment left now.disk next.disk (λ before files. RecoversEither r.durable (lasting now.told.state) files) (λ before files. Safe events (length out) files)
+            (any_moment s.stands h r.durable (r.leaves (seen now.disk) (reads now.disk h)))
             (λ before files was is. either ready files is)
 
         pub flushed : (honest now.disk → LeavesNow moment left next.disk (λ files. Recovers files (lasting now.told.state))) → next.told ≡ record now.told { held = [] }
             → next.fallen ≡ false → failed next.disk ≡ failed now.disk → Stands honest moment left failed start next events (out ++ now.told.held)
-        flushed ok none stands passed = record {
+        flushed ok none stands no_failure = record {
           ran = ran-on (out ++ now.told.held) (took_out start.told now.told next.told events out s.ran.took none) flush-safe;
           stands = stands;
-          passed = passed ∙ s.passed;
+          no_failure = no_failure ∙ s.no_failure;
           rests = λ ready.
               let r = s.rests ready in
               record {
-                first = lasting now.told.state;
+                durable = lasting now.told.state;
                 leaves = ok (ready-now ready);
                 judged = r.judged;
                 are_judged = r.are_judged;
-                stands_for = settled-on start.told.config start.told.state r.judged (standing r.first now) (standing (lasting now.told.state) next) r.stands_for
+                stands_for = settled-on start.told.config start.told.state r.judged (standing r.durable now) (standing (lasting now.told.state) next) r.stands_for
                     (record { same = ap (λ (t : Told). t.state) none; present = refl; none = ap (λ (t : Told). length t.held) none });
               };
         }
@@ -269,19 +269,19 @@ module _ {D : Type 0} (honest : D → Type 0) (moment : D → ℕ) (left : D →
             (λ before files was is. either ready files (inr is))
 
         pub compacted : now.told.held ≡ [] → next.fallen ≡ false → failed next.disk ≡ failed now.disk → Stands honest moment left failed start next events out
-        compacted none stands passed = record {
+        compacted none stands no_failure = record {
           ran = ran-on out (subst (λ (t : Told). TookAll start.told t events out) (sym same) s.ran.took) compact-safe;
           stands = stands;
-          passed = passed ∙ s.passed;
+          no_failure = no_failure ∙ s.no_failure;
           rests = λ ready.
               let r = s.rests ready in
               record {
-                first = lasting now.told.state;
+                durable = lasting now.told.state;
                 leaves = only_now moment left now.disk next.disk (λ files. Recovers files (lasting now.told.state))
                     (λ s t files le since. earlier next.disk s t files (next-honest ready) le since) (any_moment s.stands (ready-now ready));
                 judged = r.judged;
                 are_judged = r.are_judged;
-                stands_for = settled-on start.told.config start.told.state r.judged (standing r.first now) (standing (lasting now.told.state) next) r.stands_for
+                stands_for = settled-on start.told.config start.told.state r.judged (standing r.durable now) (standing (lasting now.told.state) next) r.stands_for
                     (record { same = ap (λ (t : Told). t.state) same; present = refl; none = ap (λ (t : Told). length t.held) same ∙ ap length none });
               };
         }
@@ -307,19 +307,19 @@ module _ {D : Type 0} (honest : D → Type 0) (moment : D → ℕ) (left : D →
             configured = λ h. subst (λ (d : D). LeavesOnly moment left start.disk d (IsConfigured start.told.config)) (sym disk) (s.ran.configured h);
           };
           stands = fallen ∙ s.stands;
-          passed = ap failed disk ∙ s.passed;
+          no_failure = ap failed disk ∙ s.no_failure;
           rests = λ ready.
               let r = s.rests ready in
-              let o = offers now next event given r.first t at_once in
+              let o = offers now next event given r.durable t at_once in
               let judged : IsJudged start.told.config event o.judged = subst (λ (c : Config). IsJudged c event o.judged) config o.is_judged in
-              let offer : Offers start.told.config event (standing r.first now) (standing r.first next) =
-              subst (λ (c : Config). Offers c event (standing r.first now) (standing r.first next)) config o in
+              let offer : Offers start.told.config event (standing r.durable now) (standing r.durable next) =
+              subst (λ (c : Config). Offers c event (standing r.durable now) (standing r.durable next)) config o in
               record {
-                first = r.first;
-                leaves = subst (λ (d : D). LeavesNow moment left d (λ files. Recovers files r.first)) (sym disk) r.leaves;
+                durable = r.durable;
+                leaves = subst (λ (d : D). LeavesNow moment left d (λ files. Recovers files r.durable)) (sym disk) r.leaves;
                 judged = r.judged ++ offer.judged ∷ [];
                 are_judged = AreJudged-append start.told.config events (event ∷ []) r.judged (offer.judged ∷ []) r.are_judged (AreJudged-one start.told.config event offer.judged offer.is_judged);
-                stands_for = offered-on start.told.config (subst (λ (c : Config). is_config c ≡ true) config is_one) start.told.state r.judged event (standing r.first now) (standing r.first next)
+                stands_for = offered-on start.told.config (subst (λ (c : Config). is_config c ≡ true) config is_one) start.told.state r.judged event (standing r.durable now) (standing r.durable next)
                     (subst (λ (c : Config). IsSound c now.told.state) config sound) r.stands_for offer;
               };
         }
@@ -336,7 +336,7 @@ module _ {D : Type 0} (honest : D → Type 0) (moment : D → ℕ) (left : D →
           made_room = ((λ held. let bad : fault.Device ≡ fault.HeldFull = sym is ∙ held in absurd cc), (λ full. let bad : fault.Device ≡ fault.Full = sym is ∙ full in absurd cc));
           numbers_out = λ out. let bad : fault.Device ≡ fault.NumbersOut = sym is ∙ out in absurd cc;
           fell = (λ d. (fell.0 d).1, λ up. fell.1 (s.stands, up));
-          device = λ d. subst (λ (n : ℕ). Grew n (failed next.disk)) s.passed (grew d);
+          device = λ d. subst (λ (n : ℕ). Grew n (failed next.disk)) s.no_failure (grew d);
           generations = λ out. let bad : fault.Device ≡ fault.Generations = sym is ∙ out in absurd cc;
         }
 
@@ -374,7 +374,7 @@ module _ {D : Type 0} (honest : D → Type 0) (moment : D → ℕ) (left : D →
         ]
       ];
       fell = (λ d. (fell.0 d).1, λ up. fell.1 (s.stands, up));
-      device = λ d. subst (λ (n : ℕ). Grew n (failed next.disk)) s.passed (grew d);
+      device = λ d. subst (λ (n : ℕ). Grew n (failed next.disk)) s.no_failure (grew d);
       generations = generations;
     }
 

@@ -13,10 +13,10 @@ use Rattle.machine.proofs.Soundness.{run-sound}
 use Rattle.entries.proofs.Needed.{needs-empty, some-entries}
 use Rattle.entries.proofs.Whole.{step-entered}
 use Rattle.gateway.proofs.Taking.{after-append}
-use Rattle.gateway.specs.Standing.{Call, Offered, Flushed, Compacted, Standing, Offers, Settles, Went, StandsFor, taken, settled}
+use Rattle.gateway.specs.Standing.{Call, Offered, Flushed, Compacted, Standing, Offers, Settles, AllCallsLead, StandsFor, events_of, settled_standing}
 
 module _ (config : Config) (start : State) where
-  pub begun-standing : StandsFor config start [] (settled start)
+  pub begun-standing : StandsFor config start [] (settled_standing start)
   begun-standing = record { fewer = omega arith; answered = refl; all = refl }
 
   -- nothing is held any longer
@@ -63,8 +63,8 @@ module _ (config : Config) (is_one : is_config config ≡ true) where
         all = o.steps ∙ ap (λ (s : State). (step config s o.judged).0) is.all ∙ sym (after-append config start past (o.judged ∷ []))
 
     pub went-on : IsSound config start → (calls : List Call) (events : List Event) (past : List Judged) (old new : Standing) → AreJudged config events past
-        → StandsFor config start past old → Went config calls old new
-        → (judged : List Judged) × AreJudged config (events ++ taken calls) judged × StandsFor config start judged new
+        → StandsFor config start past old → AllCallsLead config calls old new
+        → (judged : List Judged) × AreJudged config (events ++ events_of calls) judged × StandsFor config start judged new
     went-on sound [] events past old new are is went =
         (past, subst (λ (es : List Event). AreJudged config es past) (sym (append-nil events)) are, subst (StandsFor config start past) (sym went) is)
     went-on sound (Offered event ∷ calls) events past old new are is went =
@@ -72,6 +72,6 @@ module _ (config : Config) (is_one : is_config config ≡ true) where
         let one = AreJudged-append config events (event ∷ []) past (o.judged ∷ []) are (AreJudged-one config event o.judged o.is_judged) in
         let now : IsSound config old.state = subst (IsSound config) (sym is.all) (run-sound config is_one start events past are sound) in
         let rest = went-on sound calls (events ++ event ∷ []) (past ++ o.judged ∷ []) went.0 new one (offered-on past event old went.0 now is o) went.2 in
-        (rest.0, subst (λ (es : List Event). AreJudged config es rest.0) (append_assoc events (event ∷ []) (taken calls)) rest.1, rest.2)
+        (rest.0, subst (λ (es : List Event). AreJudged config es rest.0) (append_assoc events (event ∷ []) (events_of calls)) rest.1, rest.2)
     went-on sound (Flushed ∷ calls) events past old new are is went = went-on sound calls events past went.0 new are (settled-on config start past old went.0 is went.1) went.2
     went-on sound (Compacted ∷ calls) events past old new are is went = went-on sound calls events past went.0 new are (settled-on config start past old went.0 is went.1.1) went.2

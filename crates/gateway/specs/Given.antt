@@ -1,12 +1,12 @@
--- What becomes of an event: its number, whether it is answered at once, and what a packet that is taken where it lies
+-- What becomes of an event: its number, whether it is answered at once, and what a packet that is taken in place
 -- is answered.
 use Rattle.std.specs.Prelude.{ℕ, List, [], ◌∷◌}
 use Rattle.machine.specs.Fates.{answer_of}
 use Rattle.machine.specs.declared.event.Answer.{Answer}
 use Rattle.gateway.specs.declared.given.Given.{Given}
 use Rattle.gateway.specs.declared.given.Given.TheVariants as given
-use Rattle.gateway.specs.declared.given.Passed.{Passed}
-use Rattle.gateway.specs.declared.given.Passed.TheVariants as passed
+use Rattle.gateway.specs.declared.given.GivenInPlace.{GivenInPlace}
+use Rattle.gateway.specs.declared.given.GivenInPlace.TheVariants as in_place
 
 -- the numbered answers that a call handed out
 abbrev pub handed : Given → List (ℕ × Answer)
@@ -24,11 +24,11 @@ IsNow (given.Now number answer) = Unit {0}
 IsNow (given.Held number) = ⊥
 
 -- what became of the event whose packet has these bytes then
-abbrev pub given_by : Passed → List ℕ → Given
-given_by (passed.Now number fate) packet = given.Now number (answer_of fate packet)
-given_by (passed.Held number fate) packet = given.Held number
+abbrev pub given_by : GivenInPlace → List ℕ → Given
+given_by (in_place.Now number fate) packet = given.Now number (answer_of fate packet)
+given_by (in_place.Held number fate) packet = given.Held number
 
 -- the numbered answer to a packet that has these bytes then
-abbrev pub answered : Passed → List ℕ → ℕ × Answer
-answered (passed.Now number fate) packet = (number, answer_of fate packet)
-answered (passed.Held number fate) packet = (number, answer_of fate packet)
+abbrev pub answer_given : GivenInPlace → List ℕ → ℕ × Answer
+answer_given (in_place.Now number fate) packet = (number, answer_of fate packet)
+answer_given (in_place.Held number fate) packet = (number, answer_of fate packet)

@@ -1,4 +1,4 @@
--- The answers that are held, and the entries of their events.
+-- The answers that are held, and the entries of their events. No public clause cites this module.
 use Rattle.std.specs.Prelude.{◌≡◌, ◌≢◌, ◌⊎◌, ◌<◌, ◌≤◌, ◌+◌, ℕ, zero, suc, List, [], ◌∷◌, ◌++◌, length, take, Option, Some, None}
 use Rattle.machine.specs.declared.event.Answer.{Answer}
 use Rattle.durable.specs.Coding.{Entry, AreEntries, body_bytes}
@@ -12,11 +12,12 @@ pub record HeldAnswers : Type 0 where
   pub place : ℕ
   pub room : ℕ
 
--- an entry that was read, and those behind it
+-- the entry that was read, if one was, and behind it what more gives of the other bytes
 abbrev pub behind_it : (List ℕ → List Entry) → Option (Entry × List ℕ) → List Entry
 behind_it more None = []
 behind_it more (Some read) = read.0 ∷ more read.1
 
+-- the entries that stand in bytes, n of them at most
 abbrev pub entries_at : ℕ → List ℕ → List Entry
 entries_at zero bytes = []
 entries_at (suc n) bytes = behind_it (entries_at n) (entry_at bytes)
@@ -47,7 +48,8 @@ pub record IsPending (body : List ℕ) (spare capacity : ℕ) (held : List (ℕ 
   pub needed : held ≢ [] → body ≢ []
 
 -- where an answer may come, each of 64 that isn't in the list yet has a slot that it could be put in; there are no more
-pub record HasSlots (body : List ℕ) (room : ℕ) (first slots : List (ℕ × Answer)) (used : ℕ) : Type 0 where
+pub record HasSlots (body : List ℕ) (room : ℕ) (first slots : List (ℕ × Answer))
+    (used : ℕ) : Type 0 where
   pub within : used ≤ length slots
   pub most : length slots ≤ 64
   pub enough : IsUsed body room (held_in first slots used) → 64 ≤ length first + length slots

@@ -21,9 +21,10 @@ pub record Kept (D : Type 0) : Type 0 where
   pub fallen : Bool
   -- the generation of the active file
   pub generation : ℕ
-  -- of the active file: how many bytes of groups it has; and the place of the closed gate behind these, with the bytes
-  -- of the entries that wait added: once written, their group ends five bytes later, for its gate and its length
+  -- how many bytes of groups the active file has
   pub grown : ℕ
+  -- where these groups end, and the bytes of the entries that wait added. Once these are written, the groups end five
+  -- bytes later: their group has a gate and a length too
   pub filled : ℕ
   -- the state, the last number, and the answers that are held
   pub told : Told
@@ -32,8 +33,8 @@ pub record Kept (D : Type 0) : Type 0 where
 pub record HasPlaces (files : Files) (generation grown end : ℕ) : Type 0 where
   pub file : FileId
   pub heading : Heading
-  pub first : Durable
-  pub active : IsActive files file heading first end
+  pub durable : Durable
+  pub active : IsActive files file heading durable end
   pub numbered : heading.generation ≡ generation
   pub grows : end ≡ behind heading + grown
 
@@ -69,6 +70,6 @@ pub record IsReady {D : Type 0} (honest : D → Type 0) (gateway : Kept D) : Typ
 -- The files stand for a state that the entries which wait make the present one.
 pub record LeadsToPresent (config : Config) (files : Files) (entries : List Entry)
     (s : State) : Type 0 where
-  pub first : Durable
-  pub recovers : Recovers files first
-  pub enters : Enters config entries first (lasting s)
+  pub durable : Durable
+  pub recovers : Recovers files durable
+  pub enters : Enters config entries durable (lasting s)

@@ -14,18 +14,18 @@ use Rattle.gateway.specs.Standing.{Standing, StandsFor}
 
 -- between calls: what the files stand for, the present state, and how many answers are held
 abbrev pub standing : {D : Type 0} → Durable → Kept D → Standing
-standing first g = record { first = first; state = g.told.state; held = length g.told.held }
+standing d g = record { durable = d; state = g.told.state; held = length g.told.held }
 
 module _ {D : Type 0} (honest : D → Type 0) (moment : D → ℕ) (left : D → ℕ → Files → Type 0)
     (failed : D → ℕ)
     (start now : Kept D) where
   -- What the files stand for, whatever a crash leaves now, and the present state are the model's after these events.
-  pub record Rests (events : List Event) : Type 0 where
-    pub first : Durable
-    pub leaves : LeavesNow moment left now.disk (λ files. Recovers files first)
+  pub record AgreesWithModel (events : List Event) : Type 0 where
+    pub durable : Durable
+    pub leaves : LeavesNow moment left now.disk (λ files. Recovers files durable)
     pub judged : List Judged
     pub are_judged : AreJudged start.told.config events judged
-    pub stands_for : StandsFor start.told.config start.told.state judged (standing first now)
+    pub stands_for : StandsFor start.told.config start.told.state judged (standing durable now)
 
   -- The events were taken, and a crash at any moment since the start leaves what the model has after a beginning of
   -- them.
@@ -43,8 +43,8 @@ module _ {D : Type 0} (honest : D → Type 0) (moment : D → ℕ) (left : D →
   pub record Stands (events : List Event) (out : List (ℕ × Answer)) : Type 0 where
     pub ran : Ran events out
     pub stands : now.fallen ≡ false
-    pub passed : failed now.disk ≡ failed start.disk
-    pub rests : IsReady honest start → Rests events
+    pub no_failure : failed now.disk ≡ failed start.disk
+    pub rests : IsReady honest start → AgreesWithModel events
 
   -- it ends behind these events: a crash now leaves a beginning that holds those whose answers were handed out
   pub record Ends (events : List Event) (out : List (ℕ × Answer)) : Type 0 where

@@ -1,7 +1,7 @@
 //! What became of an event that was taken: its answer is handed out at once, or held (`give`, `give_copy`).
 ghost use Rattle.std.specs.Prelude.{◌≡◌, ◌↔◌, ◌<◌, ◌≤◌, ◌++◌, ◌∷◌, [], length};
 ghost use Rattle.machine.specs.Fates.{answer_of};
-ghost use Rattle.gateway.specs.Given.{IsNow, answered, given_by, handed, number_of};
+ghost use Rattle.gateway.specs.Given.{IsNow, answer_given, given_by, handed, number_of};
 
 use crate::pending::Pending;
 use machine::{Answer, Fate};
@@ -17,7 +17,7 @@ pub enum Given {
 
 /// What became of a packet that was taken where it lies, with the number of its event.
 #[derive(Clone, Copy, Drop)]
-pub enum Passed {
+pub enum GivenInPlace {
     /// It is answered.
     Now(u64, Fate),
     /// Its answer is held: the next `flush` that succeeds hands it out, or `settle` lets it go.
@@ -43,12 +43,17 @@ pub(crate) fn give(pending: &mut Pending, number: u64, answer: Answer) -> Given
 }
 
 // Says what a packet comes to at once where no entry waits, and else holds its answer, with a copy of the packet.
-pub(crate) fn give_copy(pending: &mut Pending, number: u64, fate: Fate, packet: &[u8]) -> Passed
+pub(crate) fn give_copy(
+    pending: &mut Pending,
+    number: u64,
+    fate: Fate,
+    packet: &[u8],
+) -> GivenInPlace
     requires few { length pending.old.held < 64 }
     requires short { length packet.now ≤ 2048 }
     ensures order { handed (given_by result packet.now) ++ pending.new.held
         ≡ pending.old.held ++ (number, answer_of fate packet.now) ∷ [] }
-    ensures answer { answered result packet.now ≡ (number, answer_of fate packet.now) }
+    ensures answer { answer_given result packet.now ≡ (number, answer_of fate packet.now) }
     ensures number { number_of (given_by result packet.now) ≡ number }
     ensures now { IsNow (given_by result packet.now) ↔ (pending.old.entries ≡ []) }
     ensures quiet { IsNow (given_by result packet.now) → pending.old.held ≡ [] }
@@ -58,7 +63,7 @@ pub(crate) fn give_copy(pending: &mut Pending, number: u64, fate: Fate, packet: 
 {
     if !pending.is_quiet() {
         pending.hold_copy(number, fate, packet);
-        return Passed::Held(number, fate);
+        return GivenInPlace::Held(number, fate);
     }
-    Passed::Now(number, fate)
+    GivenInPlace::Now(number, fate)
 }

@@ -5,23 +5,23 @@
 //!
 //! - `given`, `fault`: what becomes of an event, and why it isn't taken.
 //! - `pending`, `slot`: the answers that are held, and the entries of their events.
-//! - `gateway_core`: `Gateway`, to which events are offered. A packet whose session goes on leaves at once, translated
-//!   where it lies, if nothing is held (`forward`); any packet may be taken where it lies (`pass`).
+//! - `calls`: `Gateway`, to which events are offered. A packet whose session goes on leaves at once, translated
+//!   where it lies, if nothing is held (`forward`); any packet may be taken where it lies (`offer_in_place`).
 //! - `running`: a run of events over the gateway's calls, event by event.
 //! - `laws`: what follows from the definitions of `specs/Standing`.
 #![tactic(auto)]
 
+mod calls;
 mod fault;
-mod gateway_core;
 mod given;
 pub mod laws;
 mod pending;
 pub mod running;
 mod slot;
 
+pub use calls::Gateway;
 pub use fault::GatewayFault;
-pub use gateway_core::Gateway;
-pub use given::{Given, Passed};
+pub use given::{Given, GivenInPlace};
 pub use machine::{
     Answer, Bytes, Cause, Coming, Event, Fate, Iface, MOST_AHEAD, NoMemory, Session, What,
 };

@@ -4,8 +4,8 @@
 //! of a group. `Gateway::offer` has the answer held behind them (`hold`), and a flush writes the `group` and lets all
 //! of it go (`release`).
 //!
-//! `Gateway::pass` has a copy of the packet held (`hold_copy`), in a slot that stands ready since `reserve`. A
-//! settlement lets the answers go (`let_go`), and their slots hold others. Where answers are handed out, or one comes
+//! `Gateway::offer_in_place` has a copy of the packet held (`hold_copy`), in a slot that stands ready since `reserve`.
+//! A settlement lets the answers go (`let_go`), and their slots hold others. Where answers are handed out, or one comes
 //! that isn't copied, those in slots are made into such as the others (`move_out`).
 ghost use Rattle.std.specs.Prelude.{◌≡◌, ◌≢◌, ◌↔◌, ◌+◌, ◌*◌, ◌<◌, ◌≤◌, ◌^◌, ◌++◌, ◌∷◌, [], length, take, drop, IfOk, IfSome, IfNone, OnOk, IsTrue, vec_len, vec_capacity};
 ghost use Rattle.durable.specs.Coding.{IsEntry, AreEntries, entry_bytes, body_bytes};
@@ -197,9 +197,9 @@ impl Notes for Pending {
 
     // Compiled into its callers, which know the kind of the entry, or that it is one of a few.
     #[inline(always)]
-    fn note(&mut self, entry: Entry<'_>) {
+    fn note(&mut self, item: Entry<'_>) {
         let before = self.group.len();
-        put(&mut self.group, entry);
+        put(&mut self.group, item);
         self.room -= (self.group.len() - before) as u64;
     }
 }
@@ -288,14 +288,14 @@ fn move_out(held: &mut Vec<(u64, Answer)>, slots: &mut Vec<Slot>, used: usize)
 
 // Puts the bytes of an entry behind the others, for which there is room.
 #[inline(always)]
-fn put(group: &mut Group, entry: Entry<'_>)
-    requires coded { IsEntry (view entry) }
-    requires room { length (entry_bytes (view entry)) ≤ group.old.room }
-    requires fits { length group.old.body + length (entry_bytes (view entry)) < 2 ^ 32 }
-    ensures body { group.new.body ≡ group.old.body ++ entry_bytes (view entry.entry) }
-    ensures room { group.old.room ≤ group.new.room + length (entry_bytes (view entry.entry)) }
+fn put(group: &mut Group, item: Entry<'_>)
+    requires coded { IsEntry (view item) }
+    requires room { length (entry_bytes (view item)) ≤ group.old.room }
+    requires fits { length group.old.body + length (entry_bytes (view item)) < 2 ^ 32 }
+    ensures body { group.new.body ≡ group.old.body ++ entry_bytes (view item.entry) }
+    ensures room { group.old.room ≤ group.new.room + length (entry_bytes (view item.entry)) }
 {
-    match entry {
+    match item {
         Entry::Load(text) => {
             group.put(&load_front(text));
             group.put(text);

@@ -2,11 +2,11 @@
 //! said of any run that stood before it: how far that run is, and what a crash may leave of it.
 //!
 //! - `stands`: a run of no event
-//! - `take`: one more event. Where 64 answers are held `hold_fewer` hands them out first; then `offer` calls
+//! - `take`: one more event. Where 64 answers are held `flush_held_full` hands them out first; then `offer` calls
 //!   `Gateway::offer`, and where that refuses the event as Full, `take_behind_compaction` compacts and offers it again
 //! - `take_all`: several, and a flush behind them (`hand_out`)
 //! - `forward`: one more, if it is a packet whose session goes on, which `Gateway::forward` translates where it lies
-//! - `pass`: one more, if it is a packet, which `Gateway::pass` translates where it lies
+//! - `take_in_place`: one more, if it is a packet, which `Gateway::offer_in_place` translates where it lies
 //! - `hand_out`: what is held is synced and handed out (`Gateway::flush`)
 //! - `settle`: what is held is synced, for those who have its answers (`Gateway::settle`)
 //! - `compact`: what is held is handed out, and the files are made short (`Gateway::compact`)
@@ -16,12 +16,12 @@ ghost use Rattle.machine.specs.declared.event.Answer.{Answer};
 ghost use Rattle.machine.specs.declared.event.Answer.TheVariants.{Forward};
 ghost use Rattle.machine.specs.declared.event.What.TheVariants.{Packet};
 ghost use Rattle.gateway.specs.Kept.{IsRoomy};
-ghost use Rattle.gateway.specs.Given.{IsNow, answered, given_by, handed};
+ghost use Rattle.gateway.specs.Given.{IsNow, answer_given, given_by, handed};
 ghost use Rattle.gateway.specs.Running.{BreaksOff, CarriesOn, Ends, Stands, StopsWithin};
 
-use crate::gateway_core::Gateway;
+use crate::calls::Gateway;
 use crate::pending::MOST_HELD;
-use crate::{GatewayFault, Given, Passed};
+use crate::{GatewayFault, Given, GivenInPlace};
 use disk_model::Disk;
 use machine::{Answer, Event, Iface};
 
@@ -49,7 +49,7 @@ pub(crate) fn take_all<D: Disk + Drop>(
     ensures err { IfErr result (StopsWithin D.honest D.moment D.left D.failed gateway.old
         gateway.new events.items answers.new.items) }
     ensures stands { OnOk result (gateway.new.fallen ≡ false) }
-    ensures passed { OnOk result (D.failed gateway.new.disk ≡ D.failed gateway.old.disk) }
+    ensures no_failure { OnOk result (D.failed gateway.new.disk ≡ D.failed gateway.old.disk) }
 {
     for event in events {
         take(gateway, event, answers)?;
@@ -83,7 +83,7 @@ pub fn take<D: Disk + Drop>(
         ≤ vec_len answers.old + length gateway.old.told.held + 1 }
     ensures capacity { vec_capacity answers.old ≤ vec_capacity answers.new }
 {
-    hold_fewer(gateway, answers)?;
+    flush_held_full(gateway, answers)?;
     let Err((event, fault)) = offer(gateway, event, answers) else {
         return Ok(());
     };
@@ -123,30 +123,30 @@ pub fn forward<D: Disk + Drop>(
 ///
 /// `None` says nothing of the packet: it isn't taken, nothing has changed, and `take` tells what becomes of it.
 #[inline(always)]
-pub fn pass<D: Disk + Drop>(
+pub fn take_in_place<D: Disk + Drop>(
     gateway: &mut Gateway<D>,
     moment: u64,
     iface: Iface,
     packet: &mut [u8],
-) -> Option<Passed>
+) -> Option<GivenInPlace>
     requires stands { gateway.old.fallen ≡ false }
-    ensures some { IfSome result (λ passed. (before : List (ℕ × Answer))
+    ensures some { IfSome result (λ taken. (before : List (ℕ × Answer))
         → CarriesOn D.honest D.moment D.left D.failed gateway.old gateway.new
         (record { moment = moment; what = Packet iface packet.old } ∷ [])
-        before (before ++ handed (given_by passed packet.new))) }
+        before (before ++ handed (given_by taken packet.new))) }
 
     // Its answer has the packet as it lies there then.
-    ensures answer { IfSome result (λ passed.
-        handed (given_by passed packet.new) ++ gateway.new.told.held
-        ≡ gateway.old.told.held ++ answered passed packet.new ∷ []) }
-    ensures now { IfSome result (λ passed. IsNow (given_by passed packet.new)
+    ensures answer { IfSome result (λ taken.
+        handed (given_by taken packet.new) ++ gateway.new.told.held
+        ≡ gateway.old.told.held ++ answer_given taken packet.new ∷ []) }
+    ensures now { IfSome result (λ taken. IsNow (given_by taken packet.new)
         → gateway.old.told.held ≡ []) }
     ensures none { IfNone result ((gateway.new ≡ gateway.old) × (packet.new ≡ packet.old)) }
     ensures stands { gateway.new.fallen ≡ false }
     ensures length { length packet.new ≡ length packet.old }
 {
     gateway.facts();
-    gateway.pass(moment, iface, packet)
+    gateway.offer_in_place(moment, iface, packet)
 }
 
 // Flushes and compacts; then there is room for the event, and it is taken.
@@ -210,7 +210,7 @@ pub fn compact<D: Disk + Drop>(
 }
 
 // Flushes where 64 answers are held.
-fn hold_fewer<D: Disk + Drop>(
+fn flush_held_full<D: Disk + Drop>(
     gateway: &mut Gateway<D>,
     answers: &mut Vec<(u64, Answer)>,
 ) -> Result<(), GatewayFault>
@@ -267,7 +267,7 @@ pub fn hand_out<D: Disk + Drop>(
     Ok(())
 }
 
-/// Flushes, for whoever has the answers that are held already, as `pass` told them.
+/// Flushes, for whoever has the answers that are held already, as `take_in_place` told them.
 ///
 /// # Errors
 ///

@@ -6,8 +6,8 @@ use machine::{Answer, Bytes, Fate};
 use std::alloc::{AllocError, Global};
 use std::marker::Model;
 
-/// The longest packet, in bytes, of which a copy is held, and so the longest that `Gateway::pass` takes: the memory
-/// that is kept for copies stays bounded.
+/// The longest packet, in bytes, of which a copy is held, and so the longest that `Gateway::offer_in_place` takes: the
+/// memory that is kept for copies stays bounded.
 pub const LONGEST_COPY: usize = 2048;
 
 /// The answer to a packet, with its number. It is seen as the two; a copy of the packet lies in memory that is kept.

@@ -12,7 +12,7 @@ use Rattle.verdict.specs.Hooks.{hook_outcome, prerouting_verdict, postrouting_ve
 use Rattle.verdict.specs.declared.facts.Facts.{Facts}
 use Rattle.verdict.specs.declared.hook.Destination.TheVariants as destination
 use Rattle.verdict.specs.declared.hook.Source.TheVariants as source
-use Rattle.hairpin.specs.KeptBounds.{KeepBounds}
+use Rattle.hairpin.specs.KeepBounds.{KeepBounds}
 use Rattle.sessions.specs.Sound.{AreSound}
 use Rattle.hairpin.specs.Tallies.{tally}
 use Rattle.hairpin.proofs.Tally.{tally-same}

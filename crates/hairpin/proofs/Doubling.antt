@@ -28,8 +28,8 @@ use Rattle.verdict.specs.Hooks.{forward_verdict, prerouting_verdict}
 use Rattle.verdict.specs.declared.facts.State.TheVariants.{New}
 use Rattle.verdict.specs.declared.hook.Destination.{Destination}
 use Rattle.verdict.specs.declared.hook.Destination.TheVariants as destination
-use Rattle.hairpin.specs.Legs.{Passage, begun_second, counted, facts_of, first_by, first_state, forwarded, hairpin, inside_by_rules, inside_far, is_taken, maps_inside, maps_outside, needs_session, new_session, or_no_mapping, outside_near, passed_by, second, second_by, then_with, through}
-use Rattle.hairpin.specs.KeptBounds.{KeepBounds}
+use Rattle.hairpin.specs.Legs.{Passage, begun_second, counted, facts_of, first_by, first_state, forwarded, hairpin_leg, inside_by_rules, inside_far, is_taken, maps_inside, maps_outside, needs_session, new_session, or_no_mapping, outside_near, passed_by, second, second_by, then_with, through}
+use Rattle.hairpin.specs.KeepBounds.{KeepBounds}
 use Rattle.sessions.specs.Sound.{AreSound}
 use Rattle.hairpin.specs.Translations.{endpoint}
 use Rattle.hairpin.specs.declared.cause.Cause.{Cause}
@@ -315,5 +315,5 @@ module _ (config : Config) (rules : Spelled) (sessions : List Session) (now : â„
       fine-other first f (same_endpoint first.outside view.dst) refl
 
   -- a packet that hairpins leaves the sessions sound
-  pub fine-hairpin : IsFine config sessions now (hairpin config rules sessions now view)
+  pub fine-hairpin : IsFine config sessions now (hairpin_leg config rules sessions now view)
   fine-hairpin = fine-first (first_by config rules sessions now view found_near) refl

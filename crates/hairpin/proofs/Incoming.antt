@@ -20,9 +20,9 @@ use Rattle.verdict.specs.declared.hook.Destination.{Destination}
 use Rattle.verdict.specs.declared.hook.Destination.TheVariants as destination
 use Rattle.verdict.specs.declared.hook.Forwarding.{Forwarding}
 use Rattle.verdict.specs.declared.hook.Forwarding.TheVariants as forwarding
-use Rattle.hairpin.specs.Legs.{Passage, begun_in, counted, facts_of, in_by, in_leg, inside_by_rules, inside_for, inward, maps_outside, needs_session, new_session, or_no_mapping, passed_by, state_of, then_with, unless_dropped}
+use Rattle.hairpin.specs.Legs.{Passage, begun_in, counted, facts_of, in_by, in_leg, inside_by_rules, inside_for, inward, maps_outside, needs_session, new_session, or_no_mapping, passed_by, connection_of, then_with, unless_dropped}
 use Rattle.hairpin.specs.Plans.{IsPlanOf, MayBegin}
-use Rattle.hairpin.specs.KeptBounds.{KeepBounds}
+use Rattle.hairpin.specs.KeepBounds.{KeepBounds}
 use Rattle.sessions.specs.Sound.{AreSound}
 use Rattle.hairpin.specs.declared.cause.Cause.{Cause}
 use Rattle.hairpin.specs.declared.cause.Cause.TheVariants.{Clash, NoMapping, NoSession, Rule, TableFull}
@@ -199,7 +199,7 @@ module _ (config : Config) (rules : Spelled) (sessions : List Session) (now : �
   fine-by : (o : Option Session) → find (has_outside view.proto view.dst view.src) sessions ≡ o → IsFine config sessions now (in_by config rules sessions now view o)
   fine-by (Some s) e =
       let t = passed_by s Remote view.flags now in
-      fine-filtered config sessions now (forward_verdict config (facts_of config rules sessions now view Wan (Some Lan) view.src s.inside (state_of s Remote view.flags)) rules) (Ok (inward t))
+      fine-filtered config sessions now (forward_verdict config (facts_of config rules sessions now view Wan (Some Lan) view.src s.inside (connection_of s Remote view.flags)) rules) (Ok (inward t))
       (one-joins config sessions now t (passed-joins config sessions sound s Remote view.flags now (find-In (has_outside view.proto view.dst view.src) sessions s e).0))
   fine-by None e =
       let new = then_with (inside_for config rules sessions now view) (begun_in config rules sessions now view) in

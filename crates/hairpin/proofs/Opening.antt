@@ -23,9 +23,9 @@ use Rattle.verdict.specs.declared.facts.Facts.{Facts}
 use Rattle.verdict.specs.declared.facts.State.TheVariants.{New}
 use Rattle.verdict.specs.declared.hook.Source.{Source}
 use Rattle.verdict.specs.declared.hook.Source.TheVariants as source
-use Rattle.hairpin.specs.Legs.{begun_out, chosen, counted, facts_of, forwarded, is_taken, maps_inside, needs_session, new_session, or_no_port, out_by, out_leg, outside_by_rules, outside_for, outward, passed_by, state_of, then_with}
+use Rattle.hairpin.specs.Legs.{begun_out, chosen, counted, facts_of, forwarded, is_taken, maps_inside, needs_session, new_session, or_no_port, out_by, out_leg, outside_by_rules, outside_for, outward, passed_by, connection_of, then_with}
 use Rattle.hairpin.specs.Plans.{IsPlanOf, MayBegin}
-use Rattle.hairpin.specs.KeptBounds.{KeepBounds}
+use Rattle.hairpin.specs.KeepBounds.{KeepBounds}
 use Rattle.sessions.specs.Sound.{AreSound}
 use Rattle.hairpin.specs.Translations.{endpoint}
 use Rattle.hairpin.specs.declared.cause.Cause.{Cause}
@@ -184,7 +184,7 @@ module _ (config : Config) (rules : Spelled) (sessions : List Session) (now : �
   fine_by : (found : Option Session) → find (has_inside view.proto view.src view.dst) sessions ≡ found → IsFine config sessions now (out_by config rules sessions now view found)
   fine_by (Some s) e =
       let t = passed_by s Inside view.flags now in
-      fine-filtered config sessions now (forward_verdict config (facts_of config rules sessions now view Lan (Some Wan) view.src view.dst (state_of s Inside view.flags)) rules) (Ok (outward t))
+      fine-filtered config sessions now (forward_verdict config (facts_of config rules sessions now view Lan (Some Wan) view.src view.dst (connection_of s Inside view.flags)) rules) (Ok (outward t))
       (one-joins config sessions now t (passed-joins config sessions sound s Inside view.flags now (find-In (has_inside view.proto view.src view.dst) sessions s e).0))
   fine_by None e =
       let way = forwarded config rules sessions now view Lan Wan view.src view.dst New (begun_out config rules sessions now view) in

@@ -82,8 +82,9 @@ abbrev pub needs_session : View → Bool
 needs_session view = same_proto view.proto Tcp && not (is_syn_alone view.flags)
 
 -- the state of a packet of this session from this side: one that begins it anew is new too
-abbrev pub state_of : Session → Opener → Flags → State
-state_of s sender flags = if restarts s flags || awaits_reply s sender then New else Established
+abbrev pub connection_of : Session → Opener → Flags → State
+connection_of s sender flags =
+    if restarts s flags || awaits_reply s sender then New else Established
 
 -- the sessions with these, each in place of the one of its protocol, inside and remote endpoint
 abbrev pub put_all : List Session → List Session → List Session
@@ -165,7 +166,7 @@ module _ (config : Config) (rules : Spelled) (sessions : List Session) (now : �
       (λ outside. counted (outward (new_session Inside view.src outside view.dst)))
 
   abbrev pub out_by : Option Session → Result Passage Cause
-  out_by (Some s) = forwarded Lan Wan view.src view.dst (state_of s Inside view.flags)
+  out_by (Some s) = forwarded Lan Wan view.src view.dst (connection_of s Inside view.flags)
       (Ok (outward (passed_by s Inside view.flags now)))
   out_by None =
       if needs_session view then Err NoSession
@@ -196,7 +197,7 @@ module _ (config : Config) (rules : Spelled) (sessions : List Session) (now : �
       else forwarded Wan Lan view.src inside New (counted (inward t))
 
   abbrev pub in_by : Option Session → Result Passage Cause
-  in_by (Some s) = forwarded Wan Lan view.src s.inside (state_of s Remote view.flags)
+  in_by (Some s) = forwarded Wan Lan view.src s.inside (connection_of s Remote view.flags)
       (Ok (inward (passed_by s Remote view.flags now)))
   in_by None = if needs_session view then Err NoSession else then_with inside_for begun_in
 
@@ -219,7 +220,7 @@ module _ (config : Config) (rules : Spelled) (sessions : List Session) (now : �
 
   -- the first leg's packet is new, or of a session
   abbrev pub first_state : Option Session → State
-  first_state (Some s) = state_of s Inside view.flags
+  first_state (Some s) = connection_of s Inside view.flags
   first_state None = New
 
   -- the second session, among the sessions with the first one put in
@@ -246,5 +247,5 @@ module _ (config : Config) (rules : Spelled) (sessions : List Session) (now : �
       then_with (first_by found) (λ first. then_with (second first (put first sessions))
       (λ t. forwarded Lan Lan view.src t.inside (first_state found) (counted (through first t))))
 
-  abbrev pub hairpin : Result Passage Cause
-  hairpin = hairpin_by (find (has_inside view.proto view.src view.dst) sessions)
+  abbrev pub hairpin_leg : Result Passage Cause
+  hairpin_leg = hairpin_by (find (has_inside view.proto view.src view.dst) sessions)

@@ -1,12 +1,12 @@
 //! Why a packet is dropped.
 ghost use Rattle.std.specs.Prelude.{◌≡◌};
-ghost use Rattle.hairpin.specs.Causes.{number};
+ghost use Rattle.hairpin.specs.Causes.{cause_number};
 
 use packet::fault::Fault;
 use packet::route::RouteFault;
 
 /// Why a packet is dropped. The variants stand in the order of their numbers; in which order a leg finds
-/// them is said at `out_leg`, `in_leg` and `both`.
+/// them is said at `out_leg`, `in_leg` and `hairpin_leg`.
 #[derive(Clone, Copy, PartialEq, Eq, Drop)]
 pub enum Cause {
     /// The bytes aren't a packet that the gateway takes. Numbers 1 to 9.
@@ -36,7 +36,7 @@ pub enum Cause {
 impl Cause {
     /// The number that an answer names the cause by, 1 to 20.
     pub fn number(self) -> u8
-        ensures { result ≡ number self }
+        ensures { result ≡ cause_number self }
     {
         match self {
             Cause::Packet(fault) => fault.number(),

@@ -11,7 +11,7 @@ ghost use Rattle.hairpin.specs.Legs.{in_by, in_leg as in_way, out_by, out_leg as
 ghost use Rattle.hairpin.specs.Plans.{Plans};
 
 use crate::cause::Cause;
-use crate::held::{Held, facts_of, state_of};
+use crate::held::{Held, connection_of, facts_of};
 use packet::bounds::Bounds;
 use packet::endpoint::{Endpoint, Flags, Iface};
 use packet::view::View;
@@ -203,7 +203,7 @@ fn on_out(
 {
     let session = &found.session;
     if !passes_all(rules) {
-        let state = state_of(session, Opener::Inside, view.flags);
+        let state = connection_of(session, Opener::Inside, view.flags);
         let facts = facts_of(view, Iface::Lan, Some(Iface::Wan), view.dst, state);
         if forward(rules, bounds, &facts) == Forwarding::Drop {
             return Err(Cause::Rule);
@@ -237,7 +237,7 @@ fn on_in(
 {
     let session = &found.session;
     if !passes_all(rules) {
-        let state = state_of(session, Opener::Remote, view.flags);
+        let state = connection_of(session, Opener::Remote, view.flags);
         let facts = facts_of(view, Iface::Wan, Some(Iface::Lan), session.inside, state);
         if forward(rules, bounds, &facts) == Forwarding::Drop {
             return Err(Cause::Rule);

@@ -1,31 +1,28 @@
 //! Both legs of a packet from an inside endpoint to an outside endpoint of the gateway.
 //!
-//! `both` asks `first_leg` for the session that the packet goes out by (one that is held, or a new one of
+//! `hairpin_leg` asks `first_leg` for the session that the packet goes out by (one that is held, or a new one of
 //! `first_session`), and `after_first` for the rest: the session that it comes in by (`second_leg`: one that is held,
 //! or a new one of `second_session`, to the inside endpoint that the prerouting chains or a mapping tell,
 //! `inside_far`), the forward chains (`is_forwarded`), the plan.
 ghost use Rattle.std.specs.Prelude.{◌≡◌, ◌≢◌, ◌↔◌, ◌<◌, ◌≤◌, ◌+◌, ℕ, List, Option, IsTrue, IfErr, IfOk, IfSome, IfNone, Some, None, Ok, Err, slice_index_or, true, find};
 ghost use Rattle.std.specs.Option.{option_map, option_map_or};
 ghost use Rattle.packet.specs.Config.{Config, is_inside};
-ghost use Rattle.packet.specs.declared.endpoint.Endpoint.{Endpoint};
-ghost use Rattle.mappings.specs.declared.map.Mapping.{Mapping};
-ghost use Rattle.mappings.specs.Map.{times};
 ghost use Rattle.ruletree.specs.declared.tree.Spelled.{Spelled};
-ghost use Rattle.sessions.specs.Laws.{IsMapping};
 ghost use Rattle.sessions.specs.Listing.{In, has_inside, has_outside, listing, put, same_flow};
 ghost use Rattle.sessions.specs.Table.{at, count};
 ghost use Rattle.sessions.specs.declared.session.Session.{Session};
 ghost use Rattle.verdict.specs.Hooks.{forward_verdict};
-ghost use Rattle.hairpin.specs.Legs.{begun_second as begun_second_way, counted, first_by, first_state, forwarded, hairpin as hairpin_way, inside_far as inside_far_way, maps_inside, maps_outside, or_no_mapping, outside_near as outside_near_way, passed_by, second as second_way, second_by, then_with, through};
+ghost use Rattle.hairpin.specs.Legs.{begun_second as begun_second_way, counted, first_by, first_state, forwarded, hairpin_leg as hairpin_way, inside_far as inside_far_way, maps_inside, maps_outside, or_no_mapping, outside_near as outside_near_way, passed_by, second as second_way, second_by, then_with, through};
 ghost use Rattle.hairpin.specs.Plans.{Gives, IsOf, Plans};
-ghost use Rattle.hairpin.specs.KeptBounds.{KeepBounds};
-ghost use Rattle.sessions.specs.Sound.{AreSound};
-ghost use Rattle.hairpin.specs.Tallies.{AreOf, tally};
+ghost use Rattle.hairpin.specs.KeepBounds.{KeepBounds};
+ghost use Rattle.hairpin.specs.Tallies.{AreOf};
+ghost use Rattle.hairpin.specs.WithoutSession.{HairpinsNew, IsBehindFirst};
 ghost use Rattle.hairpin.specs.declared.held.Held.{Held};
 
 use crate::cause::Cause;
 use crate::held::{
-    Held, change_of, facts_of, held_or_mapped, held_outside, needs_session, new_session, state_of,
+    Held, change_of, connection_of, facts_of, held_or_mapped, held_outside, needs_session,
+    new_session,
 };
 use crate::plan::Plan;
 use crate::translations::Translations;
@@ -49,7 +46,7 @@ use verdict::{Destination, Forwarding, Rules, State, forward, prerouting};
 ///
 /// The first cause that holds, in this order: `NoSession` of the first leg, `NoPort`, `SelfMapped`, `NoSession`
 /// of the second one, `Rule` of prerouting, `NoMapping`, `Clash`, `Rule` of forward, `TableFull`.
-pub fn both(
+pub fn hairpin_leg(
     bounds: &Bounds,
     rules: &Rules,
     table: &Table,
@@ -57,9 +54,7 @@ pub fn both(
     view: &View,
     now: u64,
 ) -> Result<Plan, Cause>
-    requires external { translations.now.external ≡ bounds.now.external }
-    requires counts { (p : Mapping) → times translations.now.mappings p ≡ tally p table.now.held }
-    requires sound { AreSound bounds.now (listing table.now.held) }
+    requires translations { AreOf bounds.now table.now.held translations.now }
     requires bounded { KeepBounds bounds.now rules.now }
     requires ports { (0 < view.now.src.port) × (0 < view.now.dst.port) }
     requires inside { IsTrue (is_inside bounds.now view.now.src.addr) }
@@ -109,7 +104,7 @@ fn state_of_first(before: &Option<Held>, view: &View) -> State
         (option_map (λ (h : Held). h.session) before.now) }
 {
     match before {
-        Some(held) => state_of(&held.session, Opener::Inside, view.flags),
+        Some(held) => connection_of(&held.session, Opener::Inside, view.flags),
         None => State::New,
     }
 }
@@ -136,13 +131,7 @@ fn outside_near(
     mapped: Option<Endpoint>,
     view: &View,
 ) -> Result<Endpoint, Cause>
-    requires translations { AreOf bounds.now table.now.held translations.now }
-    requires mapped { IfSome mapped
-        (IsMapping (listing table.now.held) view.now.proto view.now.src) }
-    requires unmapped { IfNone mapped ((outside : Endpoint)
-        → ¬ IsMapping (listing table.now.held) view.now.proto view.now.src outside) }
-    requires port { 0 < view.now.src.port }
-    requires external_destination { view.now.dst.addr ≡ bounds.now.external }
+    requires { HairpinsNew bounds.now table.now.held translations.now mapped view.now }
     ensures { (rules : Spelled) (now : ℕ) → let sessions = listing table.now.held in
         result ≡ outside_near_way bounds.now rules sessions now view.now
         (find (maps_inside view.now.proto view.now.src) sessions) }
@@ -166,13 +155,7 @@ fn first_session(
     view: &View,
     now: u64,
 ) -> Result<Session, Cause>
-    requires translations { AreOf bounds.now table.now.held translations.now }
-    requires mapped { IfSome mapped
-        (IsMapping (listing table.now.held) view.now.proto view.now.src) }
-    requires unmapped { IfNone mapped ((outside : Endpoint)
-        → ¬ IsMapping (listing table.now.held) view.now.proto view.now.src outside) }
-    requires port { 0 < view.now.src.port }
-    requires external_destination { view.now.dst.addr ≡ bounds.now.external }
+    requires { HairpinsNew bounds.now table.now.held translations.now mapped view.now }
     ensures { (rules : Spelled)
         → result ≡ first_by bounds.now rules (listing table.now.held) now view.now None }
 {
@@ -298,11 +281,7 @@ fn second_session(
     first: &Session,
     now: u64,
 ) -> Result<Session, Cause>
-    requires translations { AreOf bounds.now table.now.held translations.now }
-    requires keeps { (u : Session) → In u (listing table.now.held) → same_flow first.now u ≡ true
-        → u.outside ≡ first.now.outside }
-    requires remote { first.now.remote ≡ view.now.dst }
-    requires away { first.now.outside ≢ view.now.dst }
+    requires { IsBehindFirst bounds.now table.now.held translations.now view.now first.now }
     ensures { let sessions = listing table.now.held in
         result ≡ second_by bounds.now rules.now sessions now view.now first.now
         (put first.now sessions) None }
@@ -326,11 +305,7 @@ fn second_leg(
     first: &Session,
     now: u64,
 ) -> Result<Leg, Cause>
-    requires translations { AreOf bounds.now table.now.held translations.now }
-    requires keeps { (u : Session) → In u (listing table.now.held) → same_flow first.now u ≡ true
-        → u.outside ≡ first.now.outside }
-    requires remote { first.now.remote ≡ view.now.dst }
-    requires away { first.now.outside ≢ view.now.dst }
+    requires { IsBehindFirst bounds.now table.now.held translations.now view.now first.now }
     ensures session { let sessions = listing table.now.held in
         IfOk result (λ leg. second_by bounds.now rules.now sessions now view.now first.now
         (put first.now sessions)

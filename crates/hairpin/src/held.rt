@@ -6,7 +6,7 @@ ghost use Rattle.sessions.specs.Laws.{IsMapping};
 ghost use Rattle.sessions.specs.Listing.{has_inside, has_outside, listing};
 ghost use Rattle.sessions.specs.Table.{at};
 ghost use Rattle.sessions.specs.declared.session.Session.{Session};
-ghost use Rattle.hairpin.specs.Legs.{needs_session as has_need, passed_by, state_of as state_by};
+ghost use Rattle.hairpin.specs.Legs.{needs_session as has_need, passed_by, connection_of as connection_by};
 ghost use Rattle.hairpin.specs.Plans.{Gives, IsOf};
 ghost use Rattle.hairpin.specs.declared.held.Held.{Held};
 
@@ -85,8 +85,8 @@ pub fn needs_session(view: &View) -> bool
 }
 
 /// The state that rules see of a packet of the session from this side.
-pub fn state_of(session: &Session, sender: Opener, flags: Flags) -> State
-    ensures { result ≡ state_by session.now sender flags }
+pub fn connection_of(session: &Session, sender: Opener, flags: Flags) -> State
+    ensures { result ≡ connection_by session.now sender flags }
 {
     if session.restarts(flags) || session.awaits_reply(sender) {
         State::New

@@ -8,12 +8,14 @@ ghost use Rattle.sessions.specs.Table.{most_sessions};
 ghost use Rattle.sessions.specs.declared.session.Session.{Session};
 ghost use Rattle.hairpin.specs.Legs.{begun_in as begun_way, in_by, in_leg as in_way, inside_for};
 ghost use Rattle.hairpin.specs.Plans.{Plans};
-ghost use Rattle.hairpin.specs.KeptBounds.{KeepBounds};
+ghost use Rattle.hairpin.specs.KeepBounds.{KeepBounds};
 ghost use Rattle.sessions.specs.Sound.{AreSound};
-ghost use Rattle.hairpin.specs.Tallies.{tally};
+ghost use Rattle.hairpin.specs.Tallies.{AreOf, tally};
 
 use crate::cause::Cause;
-use crate::held::{Held, change_of, facts_of, held_outside, needs_session, new_session, state_of};
+use crate::held::{
+    Held, change_of, connection_of, facts_of, held_outside, needs_session, new_session,
+};
 use crate::plan::Plan;
 use crate::translations::Translations;
 use packet::bounds::Bounds;
@@ -41,9 +43,7 @@ pub fn in_leg(
     view: &View,
     now: u64,
 ) -> Result<Plan, Cause>
-    requires external { translations.now.external ≡ bounds.now.external }
-    requires counts { (p : Mapping) → times translations.now.mappings p ≡ tally p table.now.held }
-    requires sound { AreSound bounds.now (listing table.now.held) }
+    requires translations { AreOf bounds.now table.now.held translations.now }
     requires bounded { KeepBounds bounds.now rules.now }
     requires ports { (0 < view.now.src.port) × (0 < view.now.dst.port) }
     requires routed { IsTrue (is_inside bounds.now view.now.dst.addr)
@@ -71,7 +71,7 @@ fn known_in(bounds: &Bounds, rules: &Rules, found: &Held, view: &View) -> Result
         (Some found.now.session)) }
 {
     let session = &found.session;
-    let state = state_of(session, Opener::Remote, view.flags);
+    let state = connection_of(session, Opener::Remote, view.flags);
     let facts = facts_of(view, Iface::Wan, Some(Iface::Lan), session.inside, state);
     match forward(rules, bounds, &facts) {
         Forwarding::Drop => Err(Cause::Rule),

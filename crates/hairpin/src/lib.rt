@@ -1,11 +1,11 @@
 //! All three legs of a packet: out, in and hairpin. The crate has its name from the last one alone.
 //!
-//! A leg says by which sessions a packet passes and how it leaves (a `Plan`), or why it is dropped (a
-//! `Cause`). `specs/Legs` says what each comes to, over the sessions as a plain list, and `out_leg`, `in_leg`
-//! and `both` are proved to be it. So are the four of `going`, for a packet whose session goes on: the shortest way
-//! (`goes_out`, `comes_in`) and the short one (`goes_out_showing`, `comes_in_showing`).
-//! These change nothing and take no memory: the crate `machine` does what a plan says
-//! (`Flows::carry_out`). It changes `Translations` by that, of which `new` and `reserve` alone take memory.
+//! A leg says by which sessions a packet passes and how it leaves (a `Plan`), or why it is dropped (a `Cause`).
+//! `specs/Legs` says what each comes to, over the sessions as a plain list, and `out_leg`, `in_leg` and `hairpin_leg`
+//! are proved to be it. So are the four of `going`, for a packet whose session goes on: the shortest way (`goes_out`,
+//! `comes_in`) and the short one (`goes_out_showing`, `comes_in_showing`). These change nothing and take no memory: the
+//! crate `machine` does what a plan says (`Flows::carry_out`). It changes `Translations` by that, of which `new` and
+//! `reserve` alone take memory.
 //!
 //! An endpoint is an address with a port. An outside endpoint is what an inside one is called towards its
 //! remote one; where nothing is translated the two are the same.
@@ -15,7 +15,7 @@
 //! - `held`: a packet's session, held or new, and what the rules are asked about the packet.
 //! - `outward`: `out_leg`, from an inside endpoint to a remote one.
 //! - `inward`: `in_leg`, from a remote endpoint to an outside one.
-//! - `hairpinning`: `both`, from an inside endpoint to an outside endpoint of the gateway itself: first out,
+//! - `hairpinning`: `hairpin_leg`, from an inside endpoint to an outside endpoint of the gateway itself: first out,
 //!   then in.
 //! - `going`: `goes_out` and `comes_in`, for a packet whose session goes on, and that shows nothing new of it;
 //!   `goes_out_showing` and `comes_in_showing` where it may show something.
@@ -32,7 +32,7 @@ pub mod translations;
 
 pub use cause::Cause;
 pub use going::{Going, comes_in, comes_in_showing, goes_out, goes_out_showing};
-pub use hairpinning::both;
+pub use hairpinning::hairpin_leg;
 pub use inward::in_leg;
 pub use outward::out_leg;
 pub use plan::Plan;

@@ -1,21 +1,17 @@
 //! The leg of a packet from an inside endpoint to a remote one.
-ghost use Rattle.std.specs.Prelude.{◌≡◌, ◌<◌, ℕ, List, IsTrue, IfSome, IfNone, Option, Some, None, Ok, slice_index_or, find};
+ghost use Rattle.std.specs.Prelude.{◌≡◌, ◌<◌, ℕ, List, IsTrue, Option, Some, None, Ok, slice_index_or, find};
 ghost use Rattle.packet.specs.Config.{is_inside};
-ghost use Rattle.packet.specs.declared.endpoint.Endpoint.{Endpoint};
-ghost use Rattle.mappings.specs.declared.map.Mapping.{Mapping};
-ghost use Rattle.mappings.specs.Map.{times};
-ghost use Rattle.sessions.specs.Laws.{IsMapping};
-ghost use Rattle.sessions.specs.Listing.{has_inside, listing};
+ghost use Rattle.sessions.specs.Listing.{listing};
 ghost use Rattle.sessions.specs.declared.session.Session.{Session};
 ghost use Rattle.hairpin.specs.Legs.{begun_out as begun_way, maps_inside, out_by, out_leg as out_way, outside_for, outward, passed_by};
 ghost use Rattle.hairpin.specs.Plans.{Plans};
-ghost use Rattle.hairpin.specs.KeptBounds.{KeepBounds};
-ghost use Rattle.sessions.specs.Sound.{AreSound};
-ghost use Rattle.hairpin.specs.Tallies.{AreOf, tally};
+ghost use Rattle.hairpin.specs.KeepBounds.{KeepBounds};
+ghost use Rattle.hairpin.specs.Tallies.{AreOf};
+ghost use Rattle.hairpin.specs.WithoutSession.{GoesOutNew, TellsMapping};
 
 use crate::cause::Cause;
 use crate::held::{
-    Held, change_of, facts_of, held_or_mapped, needs_session, new_session, state_of,
+    Held, change_of, connection_of, facts_of, held_or_mapped, needs_session, new_session,
 };
 use crate::plan::Plan;
 use crate::translations::Translations;
@@ -43,9 +39,7 @@ pub fn out_leg(
     view: &View,
     now: u64,
 ) -> Result<Plan, Cause>
-    requires external { translations.now.external ≡ bounds.now.external }
-    requires counts { (p : Mapping) → times translations.now.mappings p ≡ tally p table.now.held }
-    requires sound { AreSound bounds.now (listing table.now.held) }
+    requires translations { AreOf bounds.now table.now.held translations.now }
     requires bounded { KeepBounds bounds.now rules.now }
     requires inside { IsTrue (is_inside bounds.now view.now.src.addr) }
     requires port { 0 < view.now.src.port }
@@ -65,7 +59,7 @@ fn known_out(bounds: &Bounds, rules: &Rules, found: &Held, view: &View) -> Resul
         → Plans external held now result (out_by bounds.now rules.now (listing held) now view.now
         (Some found.now.session)) }
 {
-    let state = state_of(&found.session, Opener::Inside, view.flags);
+    let state = connection_of(&found.session, Opener::Inside, view.flags);
     match forward(rules, bounds, &facts_out(view, state)) {
         Forwarding::Drop => Err(Cause::Rule),
         Forwarding::Pass => Ok(plan_by(found, view.flags)),
@@ -82,16 +76,7 @@ fn new_out(
     view: &View,
     now: u64,
 ) -> Result<Plan, Cause>
-    requires translations { AreOf bounds.now table.now.held translations.now }
-    requires bounded { KeepBounds bounds.now rules.now }
-    requires inside { IsTrue (is_inside bounds.now view.now.src.addr) }
-    requires port { 0 < view.now.src.port }
-    requires mapped { IfSome mapped
-        (IsMapping (listing table.now.held) view.now.proto view.now.src) }
-    requires unmapped { IfNone mapped ((outside : Endpoint)
-        → ¬ IsMapping (listing table.now.held) view.now.proto view.now.src outside) }
-    requires none { find (has_inside view.now.proto view.now.src view.now.dst)
-        (listing table.now.held) ≡ None }
+    requires { GoesOutNew bounds.now rules.now table.now.held translations.now mapped view.now }
     ensures { Plans bounds.now.external table.now.held now result
         (out_by bounds.now rules.now (listing table.now.held) now view.now None) }
 {
@@ -114,16 +99,7 @@ fn begun_out(
     view: &View,
     now: u64,
 ) -> Result<Plan, Cause>
-    requires translations { AreOf bounds.now table.now.held translations.now }
-    requires bounded { KeepBounds bounds.now rules.now }
-    requires inside { IsTrue (is_inside bounds.now view.now.src.addr) }
-    requires port { 0 < view.now.src.port }
-    requires mapped { IfSome mapped
-        (IsMapping (listing table.now.held) view.now.proto view.now.src) }
-    requires unmapped { IfNone mapped ((outside : Endpoint)
-        → ¬ IsMapping (listing table.now.held) view.now.proto view.now.src outside) }
-    requires none { find (has_inside view.now.proto view.now.src view.now.dst)
-        (listing table.now.held) ≡ None }
+    requires { GoesOutNew bounds.now rules.now table.now.held translations.now mapped view.now }
     ensures { Plans bounds.now.external table.now.held now result
         (begun_way bounds.now rules.now (listing table.now.held) now view.now) }
 {
@@ -151,10 +127,7 @@ fn outside_of_new(
 ) -> Result<Endpoint, Cause>
     requires translations { AreOf bounds.now table.now.held translations.now }
     requires bounded { KeepBounds bounds.now rules.now }
-    requires mapped { IfSome mapped
-        (IsMapping (listing table.now.held) view.now.proto view.now.src) }
-    requires unmapped { IfNone mapped ((outside : Endpoint)
-        → ¬ IsMapping (listing table.now.held) view.now.proto view.now.src outside) }
+    requires mapping { TellsMapping (listing table.now.held) view.now.proto view.now.src mapped }
     requires port { 0 < view.now.src.port }
     ensures { (now : ℕ) → let sessions = listing table.now.held in
         result ≡ outside_for bounds.now rules.now sessions now view.now

@@ -21,12 +21,14 @@ use Rattle.ruletree.specs.declared.tree.Spelled.{Spelled}
 use Rattle.rulesyntax.specs.Text.{IsSpelledBy}
 use Rattle.rulesets.specs.Places.{is_not_external, is_not_inside, some_end_in}
 use Rattle.rulesets.specs.Loads.{MayRun}
+use Rattle.ruletext.specs.Texts.{Loads}
 use Rattle.ruletree.specs.declared.fault.Kind.TheVariants.{NotExternal, NotInside}
 use Rattle.verdict.specs.declared.facts.Facts.{Facts}
 use Rattle.verdict.specs.declared.chain.Outcome.{Outcome}
 use Rattle.verdict.specs.declared.chain.Outcome.TheVariants.{Accepts, Drops, To, From, Ends}
 use Rattle.verdict.specs.declared.hook.Destination.TheVariants as destinations
 use Rattle.verdict.specs.declared.hook.Source.TheVariants as sources
+use Rattle.hairpin.specs.KeepBounds.{KeepBounds}
 use Rattle.machine.proofs.Said.{OfEnd, OfRules, OfChains, OfTables}
 use Rattle.machine.proofs.PortsSpelled.{HasPort, ports_spelled}
 use Rattle.verdict.specs.Matching.{holds}
@@ -279,3 +281,11 @@ module _ (config : Config) (facts : Facts) where
       let Fits = DestinationHas (λ e. 0 < facts.dst.port → 0 < e.port) in
       destination_is (λ e. 0 < facts.dst.port → 0 < e.port) endpoint (hook_outcome config facts Prerouting text)
       (hook_has Fits tt tt tt config facts Prerouting text (tables_weaken HasPort (Says config facts Fits) says_port text.tables (ports_spelled bytes text spelled))) is
+
+-- the rules of a text that loads keep within the bounds
+pub bounds-kept : (config : Config) (text : List ℕ) (rules : Spelled) → Loads config text rules → KeepBounds config rules
+bounds-kept config text rules loads = record {
+  to = λ facts inside. destination_inside config facts rules loads.2 inside;
+  port = λ facts inside. port_above_zero config facts text rules loads.1 inside;
+  from = λ facts addr. source_external config facts rules loads.2 addr;
+}

@@ -10,7 +10,7 @@ use Rattle.sessions.specs.declared.session.Opener.{Opener}
 use Rattle.sessions.specs.Table.{Sessions, Updates, IsSound, at, restarted, seen}
 use Rattle.sessions.proofs.Puts.{put-is}
 use Rattle.hairpin.specs.Plans.{Became, Gives, IsOf}
-use Rattle.machine.specs.Flows.{Flows, IsLatest, TakesMore, adds}
+use Rattle.machine.specs.Flows.{Flows, IsNoneLater, TakesMore, adds}
 
 -- the slot, which held none or the session of the change, got this
 pub became : (old new : Sessions) (change : Change) (slot : ℕ) (t : Session) → IsSound old.held → IsSound new.held → Updates old new slot (Some t)
@@ -34,7 +34,7 @@ pub restart_became : (external : ℕ) (held later : List (Option Session)) (now 
 restart_became external held later now slot opener made t gives = subst (λ x. Became held (Restart slot opener) x later) (sym gives.2) (made gives.0 gives.1)
 
 -- no session is seen later than the one that the slot got
-pub latest_update : (old new : Sessions) (slot : ℕ) (t : Session) (now : ℕ) → Updates old new slot (Some t) → t.last ≤ now → IsLatest old.held now → IsLatest new.held now
+pub latest_update : (old new : Sessions) (slot : ℕ) (t : Session) (now : ℕ) → Updates old new slot (Some t) → t.last ≤ now → IsNoneLater old.held now → IsNoneLater new.held now
 latest_update old new slot t now updates last latest = λ k s is. elim (cases_eq k slot) [
   | inl here ↦ subst (λ (u : Session). u.last ≤ now) (sym (same_Some s t (sym is ∙ subst (λ j. at new j ≡ Some t) (sym here) updates.changed))) last
   | inr away ↦ latest k s (sym (updates.others k away) ∙ is)

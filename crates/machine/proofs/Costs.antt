@@ -8,7 +8,7 @@ use Rattle.sessions.specs.Stilled.{stilled}
 use Rattle.durable.specs.Entering.{flow_of}
 use Rattle.durable.specs.declared.entry.Flow.{Flow}
 use Rattle.durable.specs.Coding.{Entry, Begin, End, Restart, Seen, Load, endpoint_bytes, entry_bytes, flow_bytes, session_bytes}
-use Rattle.machine.specs.Noted.{ends, sessions_at, with_it, goes_on, is_same, entries_for, entries_for_all, entries_from}
+use Rattle.machine.specs.Noted.{ends, sessions_at, with_it, goes_on, is_unchanged, entries_for, entries_for_all, entries_making}
 use Rattle.machine.specs.Sizes.{bytes_of}
 
 cost-begin : (s : Session) → length (entry_bytes (Begin s)) ≡ 22
@@ -36,9 +36,9 @@ between-few true c s t = omega arith
 between-few false true s t = let few = cost-seen (flow_of t) t.seen in omega (arith, few)
 between-few false false s t = let few = cost-restart (flow_of t) t.opener t.seen in omega (arith, few)
 
-pub noted-few : (o : Option Session) (t : Session) → bytes_of (entries_from o t) ≤ 22
+pub noted-few : (o : Option Session) (t : Session) → bytes_of (entries_making o t) ≤ 22
 noted-few None t = let few = cost-begin (stilled t) in omega (arith, few)
-noted-few (Some s) t = between-few (is_same s t) (goes_on s t) s t
+noted-few (Some s) t = between-few (is_unchanged s t) (goes_on s t) s t
 
 pub bytes_of-append : (es fs : List Entry) → bytes_of (es ++ fs) ≡ bytes_of es + bytes_of fs
 bytes_of-append [] fs = omega arith

@@ -15,7 +15,7 @@ use Rattle.timers.specs.Due as due
 use Rattle.mappings.specs.Map.{Mappings}
 use Rattle.timers.specs.Laws.{idle_of}
 use Rattle.sessions.specs.Life.{alive}
-use Rattle.machine.specs.Flows.{Tied, IsDue, IsLatest}
+use Rattle.machine.specs.Flows.{Tied, IsDue, IsNoneLater}
 
 pub alive-not_due : (now : ℕ) (s : Session) → alive now s ≡ true → ¬ IsDue now s
 alive-not_due now s h over = let lt = ltb-true _ _ h in omega arith
@@ -59,7 +59,7 @@ latest_map : (o : Option Session) (now : ℕ) → ((s : Session) → o ≡ Some 
 latest_map None now h = tt
 latest_map (Some s) now h = h s refl
 
-pub latest_watched : (t : table.Sessions) (d : due.Watched) (m : Mappings) (now : ℕ) → Tied t d m → IsLatest t.held now → due.IsLatest d now
+pub latest_watched : (t : table.Sessions) (d : due.Watched) (m : Mappings) (now : ℕ) → Tied t d m → IsNoneLater t.held now → due.IsLatest d now
 latest_watched t d m now tied latest = λ slot. subst (λ o. IfSome o (λ (i : Idle). i.last ≤ now)) (sym (tied.idle slot)) (latest_map (table.at t slot) now (λ s is. latest slot s is))
 
 over_map : (o : Option Session) (now : ℕ) → IsSomeAnd (option_map idle_of o) (due.IsOver now) ↔ IsSomeAnd o (IsDue now)
@@ -77,7 +77,7 @@ due_held None now is = absurd is
 due_held (Some s) now is = refl
 
 -- no session is seen later for an expiry
-pub latest_expired : (old new : List (Option Session)) (now : ℕ) → listing new ≡ filter (alive now) (listing old) → IsLatest old now → IsLatest new now
+pub latest_expired : (old new : List (Option Session)) (now : ℕ) → listing new ≡ filter (alive now) (listing old) → IsNoneLater old now → IsNoneLater new now
 latest_expired old new now e latest = λ slot s is.
     let kept = In-filter (alive now) (listing old) s (subst (In s) e (listing-In new s slot is)) in
     let at = In-listing old s kept.0 in

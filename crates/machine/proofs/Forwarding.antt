@@ -13,7 +13,7 @@ use Rattle.hairpin.proofs.Soundness.{filter-all}
 use Rattle.machine.specs.Core.{IsCore, state_of}
 use Rattle.machine.specs.Flows.{Flows}
 use Rattle.machine.specs.Judged.{Judged, IsJudged}
-use Rattle.machine.specs.Machine.{State, EndsNone, aged, later, pass, step}
+use Rattle.machine.specs.Machine.{State, EndsNone, aged, later, on_packet, step}
 use Rattle.machine.specs.Noted.{AreEntriesOf, of_deed, of_fields}
 use Rattle.machine.specs.declared.deed.Deed.TheVariants as deed
 use Rattle.machine.specs.Sound.{IsSound}
@@ -45,8 +45,8 @@ module _ (config : Config) (text : List ℕ) (rules : Spelled) (held : List (Opt
   stays = ap (λ (ss : List Session). record then { sessions = ss }) all-stay
 
   -- what the packet comes to at once is the step
-  pub passes-at-once : (done : State × Answer) → pass config then iface bytes ≡ done → step config s judged ≡ done
-  passes-at-once done comes = step-is config s judged now done is (ap (λ (t : State). pass config t iface bytes) stays ∙ comes)
+  pub passes-at-once : (done : State × Answer) → on_packet config then iface bytes ≡ done → step config s judged ≡ done
+  passes-at-once done comes = step-is config s judged now done is (ap (λ (t : State). on_packet config t iface bytes) stays ∙ comes)
 
   pub quiet-at-once : of_fields config then iface (fields bytes) ≡ [] → AreEntriesOf config s judged []
   quiet-at-once none =
@@ -54,7 +54,7 @@ module _ (config : Config) (text : List ℕ) (rules : Spelled) (held : List (Opt
       (entries-of config s judged now [] is (none-ended now (listing held) (sym all-stay)))
 
   -- so a packet that passed in place was taken as an event, without an entry
-  pub taken-in-place : (new : State) (packet : List ℕ) (out : Iface) → pass config then iface bytes ≡ (new, Forward out packet) → of_fields config then iface (fields bytes) ≡ []
+  pub taken-in-place : (new : State) (packet : List ℕ) (out : Iface) → on_packet config then iface bytes ≡ (new, Forward out packet) → of_fields config then iface (fields bytes) ≡ []
       → (judged : Judged) × IsJudged config (record { moment = moment; what = Packet iface bytes }) judged
       × (step config s judged ≡ (new, Forward out packet)) × AreEntriesOf config s judged []
   taken-in-place new packet out passes quiet = (judged, record { at = refl; what = refl; right = tt }, passes-at-once (new, Forward out packet) passes, quiet-at-once quiet)
@@ -62,7 +62,7 @@ module _ (config : Config) (text : List ℕ) (rules : Spelled) (held : List (Opt
 -- what is kept when a packet was answered
 pub core-after : (config : Config) (text : List ℕ) (rules : Spelled) (old new : Flows) (clock moment now : ℕ) (iface : Iface) (bytes : List ℕ) (answer : Answer)
     → now ≡ later clock moment → IsTrue (is_config config) → IsCore config text rules old clock → new.translations.external ≡ old.translations.external
-    → pass config (aged now (state_of text rules old.table.held clock)) iface bytes ≡ (state_of text rules new.table.held now, answer)
+    → on_packet config (aged now (state_of text rules old.table.held clock)) iface bytes ≡ (state_of text rules new.table.held now, answer)
     → IsCore config text rules new now
 core-after config text rules old new clock moment now iface bytes answer is is_one core external passes =
     let s = state_of text rules old.table.held clock in
@@ -78,8 +78,8 @@ core-after config text rules old new clock moment now iface bytes answer is is_o
 pub core-stays : (config : Config) (text : List ℕ) (rules : Spelled) (old new : Flows) (clock moment now : ℕ) (iface out : Iface) (bytes packet : List ℕ)
     → now ≡ later clock moment → EndsNone now (state_of text rules old.table.held clock) → IsTrue (is_config config) → IsCore config text rules old clock
     → new.translations.external ≡ old.translations.external
-    → pass config (state_of text rules old.table.held now) iface bytes ≡ (state_of text rules new.table.held now, Forward out packet)
+    → on_packet config (state_of text rules old.table.held now) iface bytes ≡ (state_of text rules new.table.held now, Forward out packet)
     → IsCore config text rules new now
 core-stays config text rules old new clock moment now iface out bytes packet is live is_one core external passes =
     core-after config text rules old new clock moment now iface bytes (Forward out packet) is is_one core external
-    (ap (λ (t : State). pass config t iface bytes) (stays config text rules old.table.held clock moment now iface bytes is live) ∙ passes)
+    (ap (λ (t : State). on_packet config t iface bytes) (stays config text rules old.table.held clock moment now iface bytes is live) ∙ passes)

@@ -6,13 +6,13 @@ use Rattle.ruletext.specs.Texts.{Loads}
 use Rattle.machine.specs.declared.deed.Deed.{Deed}
 use Rattle.machine.specs.declared.deed.Deed.TheVariants as deed
 use Rattle.machine.specs.declared.event.Event.{Event}
-use Rattle.machine.specs.Judged.{Judged, AreJudged, IsJudged, IsNoLoad, IsRight, bringer}
+use Rattle.machine.specs.Judged.{Judged, AreJudged, IsJudged, IsNoLoad, IsRight, brought}
 
 -- where a text loads only one ruleset
 abbrev pub LoadsOnce : Type 0
 LoadsOnce = (config : Config) (text : List ℕ) (a b : Spelled) → Loads config text a → Loads config text b → a ≡ b
 
-pub same_deed : LoadsOnce → (config : Config) (a b : Deed) → bringer a ≡ bringer b → IsRight config a → IsRight config b → a ≡ b
+pub same_deed : LoadsOnce → (config : Config) (a b : Deed) → brought a ≡ brought b → IsRight config a → IsRight config b → a ≡ b
 same_deed once config (deed.Take text rules) (deed.Take other others) e right too =
     let t : text ≡ other = cc in
     let r : rules ≡ others = once config other rules others (rw (← t) right) too in
@@ -40,10 +40,10 @@ judged-once once config event a b j k =
     ap (λ n. record { moment = n; deed = a.deed }) m ∙ ap (λ x. record { moment = b.moment; deed = x }) d
 
 -- a deed that no text brings
-pub no_take : (d : Deed) → IsNoLoad (bringer d) → (text : List ℕ) (rules : Spelled) → ¬ (d ≡ deed.Take text rules)
-no_take d none text rules e = none text (ap bringer e)
+pub no_take : (d : Deed) → IsNoLoad (brought d) → (text : List ℕ) (rules : Spelled) → ¬ (d ≡ deed.Take text rules)
+no_take d none text rules e = none text (ap brought e)
 
-pub same_unread : (config : Config) (a b : Deed) → bringer a ≡ bringer b → IsNoLoad (bringer b) → a ≡ b
+pub same_unread : (config : Config) (a b : Deed) → brought a ≡ brought b → IsNoLoad (brought b) → a ≡ b
 same_unread config (deed.Take text rules) b e none = absurd (none text (sym e))
 same_unread config (deed.Refuse text) b e none = absurd (none text (sym e))
 same_unread config (deed.Packet iface bytes) (deed.Take text rules) e none = absurd (none text refl)

@@ -12,7 +12,7 @@ use Rattle.sessions.specs.declared.life.Phase.TheVariants.{Partial, Established,
 use Rattle.sessions.specs.Listing.{In}
 use Rattle.sessions.specs.declared.session.Session.{Session}
 use Rattle.sessions.proofs.Sets.{In-filter, filter-In}
-use Rattle.machine.specs.Judged.{Judged, IsJudged, IsNoLoad, bringer}
+use Rattle.machine.specs.Judged.{Judged, IsJudged, IsNoLoad, brought}
 use Rattle.machine.specs.Machine.{State, act, aged, later, step}
 use Rattle.machine.specs.Sound.{IsSound}
 use Rattle.machine.specs.declared.event.Answer.{Answer}
@@ -121,7 +121,7 @@ module _ (config : Config) (is_one : is_config config ≡ true) where
   abbrev Unchanged : State → State × Answer → Type 0
   Unchanged s done = (done.0.text ≡ s.text) × (done.0.rules ≡ s.rules)
 
-  act-unchanged : (s : State) → IsSound config s → (d : Deed) → IsNoLoad (bringer d) → Unchanged s (act config s d)
+  act-unchanged : (s : State) → IsSound config s → (d : Deed) → IsNoLoad (brought d) → Unchanged s (act config s d)
   act-unchanged s sound d none = act-by config is_one s sound (Unchanged s) (λ a. (refl, refl)) (λ ts iface bytes joins. (refl, refl)) d (λ text rules e. absurd (no_take d none text rules e))
 
   pub step-unchanged : (s : State) (event : Event) (judged : Judged) → IsSound config s → IsJudged config event judged → IsNoLoad event.what → Unchanged s (step config s judged)

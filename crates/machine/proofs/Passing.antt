@@ -28,7 +28,7 @@ use Rattle.sessions.proofs.Puts.{find-is, find-none, find-some, has_inside-from,
 use Rattle.sessions.proofs.Sets.{In-filter, below-itself, below-keys, filter-In}
 use Rattle.verdict.specs.Hooks.{forward_verdict}
 use Rattle.verdict.specs.declared.facts.State.TheVariants.{New}
-use Rattle.hairpin.specs.Legs.{Passage, begun_out, counted, in_by, inward, maps_inside, needs_session, new_session, out_by, outside_for, outward, passed_by, put_all, state_of, then_with, unless_dropped}
+use Rattle.hairpin.specs.Legs.{Passage, begun_out, counted, in_by, inward, maps_inside, needs_session, new_session, out_by, outside_for, outward, passed_by, put_all, connection_of, then_with, unless_dropped}
 use Rattle.hairpin.specs.declared.cause.Cause.{Cause}
 use Rattle.hairpin.specs.declared.cause.Cause.TheVariants.{NoSession, TableFull}
 use Rattle.hairpin.proofs.Apart.{agree, cases_endpoint, maps-from, maps-parts}
@@ -41,7 +41,7 @@ use Rattle.machine.specs.declared.deed.Deed.{Deed}
 use Rattle.machine.specs.declared.deed.Deed.TheVariants as deed
 use Rattle.machine.specs.declared.event.Answer.{Answer}
 use Rattle.machine.specs.declared.event.Answer.TheVariants.{Forward}
-use Rattle.machine.proofs.Steps.{pass-is}
+use Rattle.machine.proofs.Steps.{on_packet-is}
 
 -- the answer to a packet that came is that of its leg, at the sessions that are alive
 answer-of : (config : Config) (s : State) (judged : Judged) (iface : Iface) (bytes : List ℕ) (view : View) (r : Route) → Came config judged iface bytes view r
@@ -49,7 +49,7 @@ answer-of : (config : Config) (s : State) (judged : Judged) (iface : Iface) (byt
 unfolding step
 answer-of config s judged iface bytes view r came =
     let live = aged (later s.clock judged.moment) s in
-    ap (λ w. (act config live w).1) came.deed_is ∙ ap (λ (p : State × Answer). p.1) (pass-is config iface bytes view r came.fields_are came.route_is live)
+    ap (λ w. (act config live w).1) came.deed_is ∙ ap (λ (p : State × Answer). p.1) (on_packet-is config iface bytes view r came.fields_are came.route_is live)
 
 -- a packet of a session leaves with the session's endpoints
 in-answer : (s : State) (bytes : List ℕ) (t : Session) (flags : Flags) (now : ℕ) → (sent s bytes (Ok (inward (passed_by t Remote flags now)))).1 ≡ Forward Lan (translated bytes t.remote t.inside)
@@ -105,7 +105,7 @@ module _ (config : Config) (s : State) (judged : Judged) (bytes : List ℕ) (vie
         let has = has_inside-true view.proto view.src view.dst u passes in
         one-of-flow s.sessions sound.sessions.rises u t (was u in_u) is (keys-from t u (has.0 ∙ sym own.0, has.1 ∙ sym own.1, has.2 ∙ sym own.2)))
 
-    pub comes-in : Came config judged Wan bytes view InRoute → HasOutside view.proto view.dst view.src t → LetsPass config s view Wan Lan view.src t.inside (state_of t Remote view.flags)
+    pub comes-in : Came config judged Wan bytes view InRoute → HasOutside view.proto view.dst view.src t → LetsPass config s view Wan Lan view.src t.inside (connection_of t Remote view.flags)
         → (step config s judged).1 ≡ Forward Lan (translated bytes t.remote t.inside)
     comes-in came own lets =
         answer-of config s judged Wan bytes view InRoute came
@@ -113,7 +113,7 @@ module _ (config : Config) (s : State) (judged : Judged) (bytes : List ℕ) (vie
         ∙ ap (λ f. (sent live bytes (unless_dropped f (Ok (inward (passed_by t Remote view.flags now))))).1) lets
         ∙ in-answer live bytes t view.flags now
 
-    pub goes-out : Came config judged Lan bytes view Out → HasInside view.proto view.src view.dst t → LetsPass config s view Lan Wan view.src view.dst (state_of t Inside view.flags)
+    pub goes-out : Came config judged Lan bytes view Out → HasInside view.proto view.src view.dst t → LetsPass config s view Lan Wan view.src view.dst (connection_of t Inside view.flags)
         → (step config s judged).1 ≡ Forward Wan (translated bytes t.outside t.remote)
     goes-out came own lets =
         answer-of config s judged Lan bytes view Out came

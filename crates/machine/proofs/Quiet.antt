@@ -16,7 +16,7 @@ use Rattle.hairpin.specs.declared.going.Going.{Going}
 use Rattle.hairpin.specs.declared.plan.Plan.{Plan}
 use Rattle.durable.specs.Coding.{Restart, Seen}
 use Rattle.durable.specs.Entering.{flow_of}
-use Rattle.machine.specs.Noted.{between, goes_on, is_same, entries_for_all, of_way}
+use Rattle.machine.specs.Noted.{between, goes_on, is_unchanged, entries_for_all, of_way}
 use Rattle.machine.proofs.Telling.{seen-told}
 
 same_side-itself : (side : Opener) → same_side side side ≡ true
@@ -26,7 +26,7 @@ same_side-itself Remote = refl
 between-seen : (s : Session) (bits now : ℕ) → bit_or s.seen bits ≡ s.seen → between s (seen s bits now) ≡ []
 between-seen s bits now same =
     let t = seen s bits now in
-    let is : is_same s t ≡ true = subst (λ n. (same_side s.opener s.opener && s.seen == n) ≡ true) (sym same) (ap (λ b. b && s.seen == s.seen) (same_side-itself s.opener) ∙ eq-eqb s.seen s.seen refl) in
+    let is : is_unchanged s t ≡ true = subst (λ n. (same_side s.opener s.opener && s.seen == n) ≡ true) (sym same) (ap (λ b. b && s.seen == s.seen) (same_side-itself s.opener) ∙ eq-eqb s.seen s.seen refl) in
     ap (λ b. if b then [] else (if goes_on s t then Seen (flow_of t) t.seen ∷ [] else Restart (flow_of t) t.opener t.seen ∷ [])) is
 
 pub quiet-way : (external : ℕ) (held : List (Option Session)) (now : ℕ) (g : Going) → IsSoundTable held → ((s : Session) → get_or held g.slot None ≡ Some s → bit_or s.seen g.bits ≡ s.seen)

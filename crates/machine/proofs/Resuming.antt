@@ -21,7 +21,7 @@ use Rattle.hairpin.proofs.Soundness.{filter-all, other-flow}
 use Rattle.hairpin.specs.Plans.{MayBegin}
 use Rattle.durable.specs.Entering.{IsRuleset}
 use Rattle.machine.specs.Core.{IsCore}
-use Rattle.machine.specs.Flows.{Flows, IsLatest, MayJoin}
+use Rattle.machine.specs.Flows.{Flows, IsNoneLater, MayJoin}
 use Rattle.machine.proofs.Lasting.{alive-last}
 use Rattle.machine.specs.Sound.{IsInForce}
 
@@ -87,7 +87,7 @@ abbrev pub ArePlaced : ℕ → List Session → List (Option Session) → List S
 ArePlaced moment sessions held rest = listing held ++ map (moved moment) rest ≡ map (moved moment) sessions
 
 -- all that are held had their last packets at the moment
-pub latest-placed : (moment : ℕ) (sessions : List Session) (held : List (Option Session)) (rest : List Session) → ArePlaced moment sessions held rest → IsLatest held moment
+pub latest-placed : (moment : ℕ) (sessions : List Session) (held : List (Option Session)) (rest : List Session) → ArePlaced moment sessions held rest → IsNoneLater held moment
 latest-placed moment sessions held rest are slot s is =
     let last = last-moved moment sessions s (subst (In s) are (In-front (listing held) (map (moved moment) rest) s (listing-In held s slot is))) in
     omega (arith, last)

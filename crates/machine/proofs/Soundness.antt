@@ -21,10 +21,10 @@ use Rattle.sessions.specs.Listing.{put, same_flow}
 use Rattle.sessions.specs.Listing.{In as Member}
 use Rattle.sessions.specs.declared.session.Session.{Session}
 use Rattle.sessions.proofs.Sets.{In-filter, In-insert}
-use Rattle.machine.proofs.Bounded.{source_external, destination_inside, port_above_zero}
-use Rattle.hairpin.specs.Causes.{number}
+use Rattle.machine.proofs.Bounded.{bounds-kept}
+use Rattle.hairpin.specs.Causes.{cause_number}
 use Rattle.hairpin.specs.Legs.{Passage, put_all}
-use Rattle.hairpin.specs.KeptBounds.{KeepBounds}
+use Rattle.hairpin.specs.KeepBounds.{KeepBounds}
 use Rattle.hairpin.specs.declared.cause.Cause.{Cause}
 use Rattle.hairpin.proofs.Beginning.{none-from, none-to}
 use Rattle.hairpin.proofs.Doubling.{fine-hairpin}
@@ -49,11 +49,7 @@ later-above a b = elim (cases_Bool (nat_le a b)) [
 
 -- the rules in force translate to nothing out of bounds
 pub bounded : (config : Config) (text : List ℕ) (rules : Spelled) → IsInForce config text rules → KeepBounds config rules
-bounded config text rules (inr loads) = record {
-  to = λ facts inside. destination_inside config facts rules loads.2 inside;
-  port = λ facts inside. port_above_zero config facts text rules loads.1 inside;
-  from = λ facts addr. source_external config facts rules loads.2 addr;
-}
+bounded config text rules (inr loads) = bounds-kept config text rules loads
 bounded config text rules (inl none) = subst (KeepBounds config) (sym none.1) (record {
   to = λ facts inside h. absurd (none-to config facts inside h);
   port = λ facts inside h. absurd (none-to config facts inside h);
@@ -75,7 +71,7 @@ module _ (config : Config) (is_one : is_config config ≡ true) (s : State) (sou
     (stays : (a : Answer) → P (s, a))
     (puts : (ts : List Session) (iface : Iface) (bytes : List ℕ) → JoinAll config s.sessions s.clock ts → P (record s { sessions = put_all ts s.sessions }, answer.Forward iface bytes)) where
   sent-by : (bytes : List ℕ) (way : Result Passage Cause) → IsFine config s.sessions s.clock way → P (sent s bytes way)
-  sent-by bytes (Err cause) fine = stays (answer.Dropped (number cause))
+  sent-by bytes (Err cause) fine = stays (answer.Dropped (cause_number cause))
   sent-by bytes (Ok passage) fine = puts passage.sessions passage.iface (translated bytes passage.src passage.dst) fine
 
   pub leg-fine : (iface : Iface) (bytes : List ℕ) (view : View) → fields bytes ≡ Ok view → (r : Route) → route config iface view ≡ Ok r → IsFine config s.sessions s.clock (leg config s view r)

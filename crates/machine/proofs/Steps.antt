@@ -24,9 +24,9 @@ use Rattle.hairpin.specs.declared.cause.Cause.{Cause}
 use Rattle.hairpin.specs.declared.plan.Plan.{Plan}
 use Rattle.machine.specs.Core.{Core, IsCore, IsTransition, AddsNoSession, state_of}
 use Rattle.machine.specs.Judged.{Judged}
-use Rattle.machine.specs.Machine.{State, EndsNone, AddsNone, act, aged, later, no_tables, on_route, pass, sent, step, with_fields}
+use Rattle.machine.specs.Machine.{State, EndsNone, AddsNone, act, aged, later, no_tables, on_route, on_packet, sent, step, with_fields}
 use Rattle.machine.specs.Sound.{IsSound}
-use Rattle.machine.specs.Flows.{Flows, IsLatest, adds, adds_second}
+use Rattle.machine.specs.Flows.{Flows, IsNoneLater, adds, adds_second}
 use Rattle.machine.specs.declared.deed.Deed.{Deed}
 use Rattle.machine.specs.declared.event.Answer.{Answer}
 use Rattle.machine.specs.declared.event.Answer.TheVariants as answer
@@ -55,19 +55,19 @@ plan-leads external old new now bytes plan made (Ok passage) is = λ text rules.
 plan-leads external old new now bytes plan made (Err cause) is = absurd is
 
 -- a packet whose fields and route are known
-pub pass-is : (config : Config) (iface : Iface) (bytes : List ℕ) (view : View) (r : Route) → fields bytes ≡ Ok view → route config iface view ≡ Ok r
-    → (s : State) → pass config s iface bytes ≡ on_route config s bytes view (Ok r)
-pass-is config iface bytes view r is on s = ap (with_fields config s iface bytes) is ∙ ap (on_route config s bytes view) on
+pub on_packet-is : (config : Config) (iface : Iface) (bytes : List ℕ) (view : View) (r : Route) → fields bytes ≡ Ok view → route config iface view ≡ Ok r
+    → (s : State) → on_packet config s iface bytes ≡ on_route config s bytes view (Ok r)
+on_packet-is config iface bytes view r is on s = ap (with_fields config s iface bytes) is ∙ ap (on_route config s bytes view) on
 
 -- what is held once the sessions that are alive no longer have ended
 pub live-sound : (config : Config) (old new : List (Option Session)) (now : ℕ) → listing new ≡ filter (alive now) (listing old) → AreSound config (listing old) → AreSound config (listing new)
 live-sound config old new now e sound = subst (AreSound config) (sym e) (filter-sound config (listing old) sound (alive now))
 
 -- what a sound state says of the slots
-pub latest_held : (config : Config) (text : List ℕ) (rules : Spelled) (clock now : ℕ) (held : List (Option Session)) → IsSound config (state_of text rules held clock) → clock ≤ now → IsLatest held now
+pub latest_held : (config : Config) (text : List ℕ) (rules : Spelled) (clock now : ℕ) (held : List (Option Session)) → IsSound config (state_of text rules held clock) → clock ≤ now → IsNoneLater held now
 latest_held config text rules clock now held sound le = λ slot s is. omega (arith, sound.latest s (listing-In held s slot is))
 
-pub latest_later : (config : Config) (text : List ℕ) (rules : Spelled) (clock moment now : ℕ) (held : List (Option Session)) → IsSound config (state_of text rules held clock) → now ≡ later clock moment → IsLatest held now
+pub latest_later : (config : Config) (text : List ℕ) (rules : Spelled) (clock moment now : ℕ) (held : List (Option Session)) → IsSound config (state_of text rules held clock) → now ≡ later clock moment → IsNoneLater held now
 latest_later config text rules clock moment now held sound e = latest_held config text rules clock now held sound (omega (arith, later-above clock moment, e))
 
 pub step-is : (config : Config) (s : State) (judged : Judged) (now : ℕ) (done : State × Answer) → now ≡ later s.clock judged.moment → act config (aged now s) judged.deed ≡ done → step config s judged ≡ done

@@ -18,7 +18,7 @@ use Rattle.sessions.proofs.Stilled.{one-of-key}
 use Rattle.hairpin.specs.Plans.{Gives, GivesThen, GiveAll, IsApart, IsOf, MayBegin}
 use Rattle.durable.specs.Coding.{Begin, Entry}
 use Rattle.machine.specs.Flows.{adds, adds_second}
-use Rattle.machine.specs.Noted.{between, entries_for, entries_for_all, entries_from}
+use Rattle.machine.specs.Noted.{between, entries_for, entries_for_all, entries_making}
 use Rattle.machine.specs.Sizes.{bytes_of}
 use Rattle.machine.proofs.Costs.{bytes_of-one, bytes_of-two, noted-few}
 use Rattle.machine.proofs.Later.{HasSuccessor, change-leads}
@@ -32,11 +32,11 @@ module _ (held : List (Option Session)) (apart : Apart held) where
   pub noted-held : (slot : ℕ) (s t : Session) → get_or held slot None ≡ Some s → same_flow t s ≡ true → entries_for (listing held) t ≡ between s t
   noted-held slot s t is own =
       let in_s = listing-In held s slot is in
-      ap (λ o. entries_from o t) (find-is (same_flow t) (listing held) s in_s own (λ u in_u h. one-of-key (listing held) rises u s in_u in_s (flow-keys t u h ∙ sym (flow-keys t s own))))
+      ap (λ o. entries_making o t) (find-is (same_flow t) (listing held) s in_s own (λ u in_u h. one-of-key (listing held) rises u s in_u in_s (flow-keys t u h ∙ sym (flow-keys t s own))))
 
   pub noted-new : (t : Session) → ¬ AnyClash held t → entries_for (listing held) t ≡ Begin (stilled t) ∷ []
   noted-new t free =
-      ap (λ o. entries_from o t) (find-none (same_flow t) (listing held) (λ u in_u h.
+      ap (λ o. entries_making o t) (find-none (same_flow t) (listing held) (λ u in_u h.
       let at = In-listing held u in_u in
       free (record { place = at.0; held = u; is_held = at.1; clash = inl (has_inside-true t.proto t.inside t.remote u h) })))
 

@@ -39,8 +39,9 @@ pub record TakesMore (n : ℕ) (f : Flows) : Type 0 where
   pub translations : HasRoom n f.translations
 
 -- no session was seen after this moment
-abbrev pub IsLatest : List (Option Session) → ℕ → Type 0
-IsLatest held now = (slot : ℕ) (s : Session) → slice_index_or held slot None ≡ Some s → s.last ≤ now
+abbrev pub IsNoneLater : List (Option Session) → ℕ → Type 0
+IsNoneLater held now =
+    (slot : ℕ) (s : Session) → slice_index_or held slot None ≡ Some s → s.last ≤ now
 
 -- the session may join those that are held: it clashes with none, there are not too many, its bits are of its protocol,
 -- and where it is translated, its outside endpoint is at the external address; as `MayBegin` of hairpin, but whatever

@@ -15,12 +15,12 @@ pub record Judged : Type 0 where
   pub moment : ℕ
   pub deed : Deed
 
--- what brings the deed: a text is taken or refused, a packet and a moment are themselves
-abbrev pub bringer : Deed → What
-bringer (Take text rules) = what.Load text
-bringer (Refuse text) = what.Load text
-bringer (deed.Packet iface bytes) = what.Packet iface bytes
-bringer deed.Moment = what.Moment
+-- what the event brought: a text is taken or refused, a packet and a moment are themselves
+abbrev pub brought : Deed → What
+brought (Take text rules) = what.Load text
+brought (Refuse text) = what.Load text
+brought (deed.Packet iface bytes) = what.Packet iface bytes
+brought deed.Moment = what.Moment
 
 -- the rules of the text, if it loads
 abbrev pub AreRulesOf : Config → List ℕ → Option Spelled → Type 0
@@ -37,7 +37,7 @@ IsRight config deed.Moment = Unit {0}
 -- this is what the event does under the configuration
 pub record IsJudged (config : Config) (event : Event) (judged : Judged) : Type 0 where
   pub at : event.moment ≡ judged.moment
-  pub what : event.what ≡ bringer judged.deed
+  pub what : event.what ≡ brought judged.deed
   pub right : IsRight config judged.deed
 
 -- and this is what each of the events does
@@ -50,4 +50,4 @@ AreJudged config (event ∷ events) (judged ∷ more) = IsJudged config event ju
 
 -- it brings no text
 abbrev pub IsNoLoad : What → Type 0
-IsNoLoad brought = (text : List ℕ) → brought ≢ what.Load text
+IsNoLoad content = (text : List ℕ) → content ≢ what.Load text

@@ -1,4 +1,4 @@
--- What holds of every state that is reached.
+-- What holds of every state that is reached, and of the rules of every text that loads.
 use Rattle.std.specs.Prelude.{◌≡◌, ℕ, ◌≤◌, List, length, nat_lt, IsTrue, IsFalse, Ok, Some}
 use Rattle.packet.specs.Config.{Config, is_config}
 use Rattle.packet.specs.Fields.{fields}
@@ -13,6 +13,7 @@ use Rattle.packet.specs.declared.route.Route.TheVariants.{Out}
 use Rattle.packet.specs.declared.route.Route.TheVariants.{In as InRoute}
 use Rattle.packet.specs.declared.view.View.{View}
 use Rattle.ruletree.specs.declared.tree.Spelled.{Spelled}
+use Rattle.ruletext.specs.Texts.{Loads}
 use Rattle.sessions.specs.Laws.{IsMapping}
 use Rattle.sessions.specs.Life.{IsAlive}
 use Rattle.sessions.specs.Listing.{In}
@@ -23,7 +24,8 @@ use Rattle.verdict.specs.Hooks.{forward_verdict}
 use Rattle.verdict.specs.declared.facts.State.{State as Connection}
 use Rattle.verdict.specs.declared.facts.State.TheVariants.{New}
 use Rattle.verdict.specs.declared.hook.Forwarding.TheVariants.{Pass}
-use Rattle.hairpin.specs.Legs.{Passage, needs_session, put_all, state_of}
+use Rattle.hairpin.specs.KeepBounds.{KeepBounds}
+use Rattle.hairpin.specs.Legs.{Passage, needs_session, put_all, connection_of}
 use Rattle.machine.specs.Judged.{Judged, AreJudged, IsJudged, IsNoLoad}
 use Rattle.machine.specs.Machine.{State, aged, empty_at, later, leg, step, after}
 use Rattle.machine.specs.Sound.{IsSound}
@@ -123,7 +125,7 @@ AnswersComeIn =
     → In t s.sessions → IsAlive (later s.clock judged.moment) t
     → Came config judged Wan bytes view InRoute
     → HasOutside view.proto view.dst view.src t
-    → LetsPass config s view Wan Lan view.src t.inside (state_of t Remote view.flags)
+    → LetsPass config s view Wan Lan view.src t.inside (connection_of t Remote view.flags)
     → (step config s judged).1 ≡ Forward Lan (translated bytes t.remote t.inside)
 
 -- and a packet from lan with the route out, from its inside endpoint to its remote one, goes out from its outside one
@@ -134,7 +136,7 @@ SessionsGoOut =
     → In t s.sessions → IsAlive (later s.clock judged.moment) t
     → Came config judged Lan bytes view Out
     → HasInside view.proto view.src view.dst t
-    → LetsPass config s view Lan Wan view.src view.dst (state_of t Inside view.flags)
+    → LetsPass config s view Lan Wan view.src view.dst (connection_of t Inside view.flags)
     → (step config s judged).1 ≡ Forward Wan (translated bytes t.outside t.remote)
 
 -- a new session of an inside endpoint whose mapping lives has the mapping's outside endpoint, whatever its remote
@@ -188,3 +190,10 @@ OnlyLoadsChangeRules =
     (config : Config) (s : State) (event : Event) (judged : Judged) → IsTrue (is_config config)
     → IsSound config s → IsJudged config event judged → IsNoLoad event.what
     → ((step config s judged).0.text ≡ s.text) × ((step config s judged).0.rules ≡ s.rules)
+
+-- the rules of a text that loads send packets to inside addresses alone, never from a port above 0 to port 0, and let
+-- them come from the external address alone
+abbrev pub TranslationsStayInBounds : Type 0
+TranslationsStayInBounds =
+    (config : Config) (text : List ℕ) (rules : Spelled) → Loads config text rules
+    → KeepBounds config rules

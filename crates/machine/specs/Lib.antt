@@ -8,4 +8,3 @@ pub mod Machine
 pub mod Noted
 pub mod Sizes
 pub mod Sound
-pub mod Translations

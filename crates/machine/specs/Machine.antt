@@ -15,8 +15,8 @@ use Rattle.ruletree.specs.declared.tree.Spelled.{Spelled}
 use Rattle.sessions.specs.Life.{alive}
 use Rattle.sessions.specs.Listing.{In as Member}
 use Rattle.sessions.specs.declared.session.Session.{Session}
-use Rattle.hairpin.specs.Causes.{number}
-use Rattle.hairpin.specs.Legs.{Passage, hairpin, in_leg, out_leg, put_all}
+use Rattle.hairpin.specs.Causes.{cause_number}
+use Rattle.hairpin.specs.Legs.{Passage, hairpin_leg, in_leg, out_leg, put_all}
 use Rattle.hairpin.specs.declared.cause.Cause.{Cause}
 use Rattle.hairpin.specs.declared.cause.Cause.TheVariants as cause
 use Rattle.machine.specs.Judged.{Judged}
@@ -49,7 +49,7 @@ abbrev pub aged : ℕ → State → State
 aged now s = record s { sessions = filter (alive now) s.sessions; clock = now }
 
 abbrev pub dropped : State → Cause → State × Answer
-dropped s why = (s, answer.Dropped (number why))
+dropped s why = (s, answer.Dropped (cause_number why))
 
 -- a packet passes as its leg says, or is dropped
 abbrev pub sent : State → List ℕ → Result Passage Cause → State × Answer
@@ -63,7 +63,7 @@ sent s bytes (Ok passage) = (
 abbrev pub leg : Config → State → View → Route → Result Passage Cause
 leg config s view Out = out_leg config s.rules s.sessions s.clock view
 leg config s view In = in_leg config s.rules s.sessions s.clock view
-leg config s view Hairpin = hairpin config s.rules s.sessions s.clock view
+leg config s view Hairpin = hairpin_leg config s.rules s.sessions s.clock view
 
 -- a packet with these fields, on its route
 abbrev pub on_route : Config → State → List ℕ → View → Result Route RouteFault → State × Answer
@@ -75,14 +75,14 @@ with_fields config s iface bytes (Err fault) = dropped s (cause.Packet fault)
 with_fields config s iface bytes (Ok view) = on_route config s bytes view (route config iface view)
 
 -- a packet passes or is dropped
-abbrev pub pass : Config → State → Iface → List ℕ → State × Answer
-pass config s iface bytes = with_fields config s iface bytes (fields bytes)
+abbrev pub on_packet : Config → State → Iface → List ℕ → State × Answer
+on_packet config s iface bytes = with_fields config s iface bytes (fields bytes)
 
 -- what is done at the clock's moment
 abbrev pub act : Config → State → Deed → State × Answer
 act config s (deed.Take text rules) = (record s { text = text; rules = rules }, answer.Loaded)
 act config s (deed.Refuse text) = (s, answer.Refused)
-act config s (deed.Packet iface bytes) = pass config s iface bytes
+act config s (deed.Packet iface bytes) = on_packet config s iface bytes
 act config s deed.Moment = (s, answer.Ticked)
 
 -- the clock rises to the event's moment, the sessions that are no longer alive end, and then its deed is done

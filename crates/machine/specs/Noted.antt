@@ -56,8 +56,8 @@ sessions_at held (slot ∷ slots) = with_it (slice_index_or held slot None) (ses
 -- ---- sessions that a packet changes
 
 -- the two differ at most in their moments, where they share flow and outside endpoint
-abbrev pub is_same : Session → Session → Bool
-is_same s t = same_side s.opener t.opener && s.seen == t.seen
+abbrev pub is_unchanged : Session → Session → Bool
+is_unchanged s t = same_side s.opener t.opener && s.seen == t.seen
 
 -- the session goes on, and has seen some bit
 abbrev pub goes_on : Session → Session → Bool
@@ -66,17 +66,17 @@ goes_on s t = same_side s.opener t.opener && nat_lt 0 t.seen
 -- what makes the one session the other: nothing, more that was seen, or a beginning anew
 abbrev pub between : Session → Session → List Entry
 between s t =
-    if is_same s t then []
+    if is_unchanged s t then []
     else (if goes_on s t then Seen (flow_of t) t.seen ∷ []
     else Restart (flow_of t) t.opener t.seen ∷ [])
 
-abbrev pub entries_from : Option Session → Session → List Entry
-entries_from None t = Begin (stilled t) ∷ []
-entries_from (Some s) t = between s t
+abbrev pub entries_making : Option Session → Session → List Entry
+entries_making None t = Begin (stilled t) ∷ []
+entries_making (Some s) t = between s t
 
 -- the entries by which a session takes its place among these
 abbrev pub entries_for : List Session → Session → List Entry
-entries_for sessions t = entries_from (find (same_flow t) sessions) t
+entries_for sessions t = entries_making (find (same_flow t) sessions) t
 
 -- and by which several do, in turn
 abbrev pub entries_for_all : List Session → List Session → List Entry

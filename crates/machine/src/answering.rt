@@ -7,19 +7,19 @@ ghost use Rattle.std.specs.Prelude.{◌≡◌, ◌↔◌, ◌<◌, ◌≤◌, �
 ghost use Rattle.packet.specs.Fields.{fields};
 ghost use Rattle.packet.specs.Route.{route as route_for};
 ghost use Rattle.sessions.specs.Listing.{listing};
-ghost use Rattle.hairpin.specs.Causes.{number};
+ghost use Rattle.hairpin.specs.Causes.{cause_number};
 ghost use Rattle.hairpin.specs.Going.{IsQuiet, plan_of, planned};
 ghost use Rattle.hairpin.specs.Legs.{Passage};
 ghost use Rattle.hairpin.specs.Plans.{Plans};
-ghost use Rattle.hairpin.specs.KeptBounds.{KeepBounds};
+ghost use Rattle.hairpin.specs.KeepBounds.{KeepBounds};
 ghost use Rattle.sessions.specs.Sound.{AreSound};
 ghost use Rattle.hairpin.specs.declared.cause.Cause.{Cause};
 ghost use Rattle.machine.specs.Core.{IsTransition, AddsNoSession, state_of};
 ghost use Rattle.machine.specs.Fates.{answer_of};
-ghost use Rattle.machine.specs.Machine.{AddsNone, leg, pass, sent};
+ghost use Rattle.machine.specs.Machine.{AddsNone, leg, on_packet, sent};
 ghost use Rattle.machine.specs.Noted.{of_fields, of_way};
 ghost use Rattle.machine.specs.Sound.{IsInForce};
-ghost use Rattle.machine.specs.Flows.{IsLatest, TakesMore};
+ghost use Rattle.machine.specs.Flows.{IsNoneLater, TakesMore};
 ghost use Rattle.machine.specs.declared.event.Answer.TheVariants.{Forward};
 ghost use Rattle.machine.specs.declared.event.Fate.TheVariants.{Dropped};
 
@@ -29,8 +29,8 @@ use crate::flows::Flows;
 use crate::in_force::InForce;
 use crate::notes::Notes;
 use hairpin::{
-    Cause, Going, Plan, both, comes_in, comes_in_showing, goes_out, goes_out_showing, in_leg,
-    out_leg,
+    Cause, Going, Plan, comes_in, comes_in_showing, goes_out, goes_out_showing, hairpin_leg,
+    in_leg, out_leg,
 };
 use packet::bounds::Bounds;
 use packet::endpoint::Iface;
@@ -41,7 +41,7 @@ use sessions::is_syn_alone;
 use verdict::Rules;
 
 fn drop_for(cause: Cause) -> Fate
-    ensures { result ≡ Dropped (number cause) }
+    ensures { result ≡ Dropped (cause_number cause) }
 {
     Fate::Dropped(cause.number())
 }
@@ -56,7 +56,7 @@ fn answer_planned<N: Notes>(
     notes: &mut N,
 ) -> Result<Fate, StepFault>
     requires read { IsOkAnd (fields packet.old) (λ view. 2 ≤ view.ttl) }
-    requires latest { IsLatest flows.old.table.held now }
+    requires latest { IsNoneLater flows.old.table.held now }
     requires ready { IsTrue ready → TakesMore 2 flows.old }
     requires room { IsTrue ready → N.keeps notes.old → 44 ≤ N.room notes.old }
     requires planned { (way : Result Passage Cause)
@@ -126,7 +126,7 @@ fn plan_for(
     match route {
         Route::Out => out_leg(bounds, rules, table, translations, view, now),
         Route::In => in_leg(bounds, rules, table, translations, view, now),
-        Route::Hairpin => both(bounds, rules, table, translations, view, now),
+        Route::Hairpin => hairpin_leg(bounds, rules, table, translations, view, now),
     }
 }
 
@@ -151,7 +151,7 @@ fn answer_by_plan<N: Notes>(
     requires ports { (0 < view.now.src.port) × (0 < view.now.dst.port) }
     requires routed { (iface : Iface) × (route_for bounds.now iface view.now ≡ Ok route) }
     requires read { IsOkAnd (fields packet.old) (λ view. 2 ≤ view.ttl) }
-    requires latest { IsLatest flows.old.table.held now }
+    requires latest { IsNoneLater flows.old.table.held now }
     requires ready { IsTrue ready → TakesMore 2 flows.old }
     requires room { IsTrue ready → N.keeps notes.old → 44 ≤ N.room notes.old }
     ensures ok { IfOk result (λ fate. (text : List ℕ)
@@ -238,7 +238,7 @@ fn glance_showing(
 #[inline(always)]
 fn send_quiet(flows: &mut Flows, going: &Going, packet: &mut [u8], now: u64)
     requires read { IsOkAnd (fields packet.old) (λ view. 2 ≤ view.ttl) }
-    requires latest { IsLatest flows.old.table.held now }
+    requires latest { IsNoneLater flows.old.table.held now }
     requires planned { (way : Result Passage Cause)
         × Plans flows.old.translations.external flows.old.table.held now
         (Ok (plan_of going.now)) way }
@@ -269,7 +269,7 @@ fn answer_going<N: Notes>(
     notes: &mut N,
 ) -> Result<Fate, StepFault>
     requires read { IsOkAnd (fields packet.old) (λ view. 2 ≤ view.ttl) }
-    requires latest { IsLatest flows.old.table.held now }
+    requires latest { IsNoneLater flows.old.table.held now }
     requires room { IsTrue ready → N.keeps notes.old → 44 ≤ N.room notes.old }
     requires planned { (way : Result Passage Cause)
         × Plans flows.old.translations.external flows.old.table.held now (planned going.now) way }
@@ -320,10 +320,10 @@ pub(crate) fn answer_packet<N: Notes>(
     requires external { flows.old.translations.external ≡ bounds.now.external }
     requires sound { AreSound bounds.now (listing flows.old.table.held) }
     requires in_force { IsInForce bounds.now in_force.now.text in_force.now.rules }
-    requires latest { IsLatest flows.old.table.held now }
+    requires latest { IsNoneLater flows.old.table.held now }
     requires ready { IsTrue ready → TakesMore 2 flows.old }
     requires room { IsTrue ready → N.keeps notes.old → 44 ≤ N.room notes.old }
-    ensures ok { IfOk result (λ fate. pass bounds.now
+    ensures ok { IfOk result (λ fate. on_packet bounds.now
         (state_of in_force.now.text in_force.now.rules flows.old.table.held now) iface
         packet.old
         ≡ (
@@ -337,7 +337,7 @@ pub(crate) fn answer_packet<N: Notes>(
     ensures ready { IsTrue ready → IsOk result }
     ensures adds_none { let s = state_of in_force.now.text in_force.now.rules
         flows.old.table.held now in
-        AddsNone s (pass bounds.now s iface packet.old) → N.grants notes.old → IsOk result }
+        AddsNone s (on_packet bounds.now s iface packet.old) → N.grants notes.old → IsOk result }
     ensures keeps { N.keeps notes.old ↔ N.keeps notes.new }
     ensures beside { N.beside notes.new ≡ N.beside notes.old }
     ensures noted { OnOk result (N.keeps notes.old → N.noted notes.new
@@ -348,7 +348,7 @@ pub(crate) fn answer_packet<N: Notes>(
     ensures full { IfErr result (λ e. e ≡ StepFault.Full → N.too_many notes.old 44) }
     ensures no_memory { let s = state_of in_force.now.text in_force.now.rules
         flows.old.table.held now in
-        AddsNone s (pass bounds.now s iface packet.old)
+        AddsNone s (on_packet bounds.now s iface packet.old)
         → IfErr result (λ e. e ≡ StepFault.NoMemory → ¬ N.too_many notes.old 44) }
     ensures quiet { of_fields bounds.now
         (state_of in_force.now.text in_force.now.rules flows.old.table.held now)
@@ -385,10 +385,10 @@ pub(crate) fn forward_quiet(
     packet: &mut [u8],
     now: u64,
 ) -> Option<Iface>
-    requires latest { IsLatest flows.old.table.held now }
+    requires latest { IsNoneLater flows.old.table.held now }
     ensures some { (text : List ℕ)
-        → IfSome result (λ out. pass bounds.now (state_of text rules.now flows.old.table.held now)
-        iface packet.old
+        → IfSome result (λ out. on_packet bounds.now
+        (state_of text rules.now flows.old.table.held now) iface packet.old
         ≡ (state_of text rules.now flows.new.table.held now, Forward out packet.new)) }
     ensures external { flows.new.translations.external ≡ flows.old.translations.external }
     ensures quiet { (text : List ℕ)

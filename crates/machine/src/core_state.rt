@@ -4,7 +4,7 @@
 //! - `step_noted`: `judge` reads the text of a load; `age_and_answer` ends what is alive no longer
 //!   (`Flows::expire_since`), and `answer_deed` puts rules in force (`in_force`), or asks what a packet comes to
 //!   (`answering::answer_packet`).
-//! - `pass_noted`: the step of a packet, where it lies (`age_and_pass`, `answering::answer_packet`).
+//! - `step_in_place`: the step of a packet, where it lies (`age_and_answer_packet`, `answering::answer_packet`).
 //! - `forward`: the shortest way of a packet (`answering::forward_quiet`).
 //! - `resume`: begins again from what survived (`in_force_again`, `Flows::of`).
 ghost use Rattle.std.specs.Prelude.{◌≡◌, ◌↔◌, ◌<◌, ◌≤◌, ◌+◌, ◌*◌, ◌++◌, [], List, length, OnOk, Ok, Err, IsTrue, IfOk, IfErr, IfNone, IfSome, IsOk, OnErr, OnSome};
@@ -14,15 +14,15 @@ ghost use Rattle.sessions.specs.Listing.{listing};
 ghost use Rattle.sessions.specs.Sound.{AreSound};
 ghost use Rattle.machine.specs.Core.{state_of};
 ghost use Rattle.machine.specs.Fates.{answer_of};
-ghost use Rattle.machine.specs.Judged.{Judged, IsJudged, IsNoLoad, bringer};
-ghost use Rattle.machine.specs.Machine.{AddsNone, EndsNone, act, aged, empty_at, later, pass, step};
+ghost use Rattle.machine.specs.Judged.{Judged, IsJudged, IsNoLoad, brought};
+ghost use Rattle.machine.specs.Machine.{AddsNone, EndsNone, act, aged, empty_at, later, on_packet, step};
 ghost use Rattle.durable.specs.Coding.{Entry as Recorded};
 ghost use Rattle.durable.specs.Entering.{IsDurable, durable};
 ghost use Rattle.machine.specs.Noted.{AreEntriesOf, AreOver, IsResumed, ends, of_deed, of_fields};
 ghost use Rattle.machine.specs.Sizes.{most_bytes};
 ghost use Rattle.sessions.specs.declared.session.Session.{Session};
 ghost use Rattle.machine.specs.Sound.{IsInForce, IsSound};
-ghost use Rattle.machine.specs.Flows.{IsLatest, TakesMore};
+ghost use Rattle.machine.specs.Flows.{IsNoneLater, TakesMore};
 ghost use Rattle.machine.specs.declared.event.Answer.TheVariants.{Forward};
 ghost use Rattle.machine.specs.declared.event.What.TheVariants.{Packet};
 
@@ -85,13 +85,13 @@ fn answer_deed<N: Notes>(
     requires external { flows.old.translations.external ≡ bounds.now.external }
     requires sound { AreSound bounds.now (listing flows.old.table.held) }
     requires in_force { IsInForce bounds.now in_force.old.text in_force.old.rules }
-    requires latest { IsLatest flows.old.table.held now }
+    requires latest { IsNoneLater flows.old.table.held now }
     requires ready { IsTrue ready → TakesMore 2 flows.old }
     requires room { IsTrue ready → N.keeps notes.old → most_bytes deed ≤ N.room notes.old }
     ensures ok { IfOk result (λ answer. act bounds.now
         (state_of in_force.old.text in_force.old.rules flows.old.table.held now) deed
         ≡ (state_of in_force.new.text in_force.new.rules flows.new.table.held now, answer)) }
-    ensures err { IfErr result (λ e. (e.0 ≡ bringer deed)
+    ensures err { IfErr result (λ e. (e.0 ≡ brought deed)
         × (flows.new.table.held ≡ flows.old.table.held)) }
     ensures stays { OnErr result (in_force.new ≡ in_force.old) }
     ensures external { flows.new.translations.external ≡ flows.old.translations.external }
@@ -162,14 +162,14 @@ fn age_and_answer<N: Notes>(
     requires external { flows.old.translations.external ≡ bounds.now.external }
     requires sound { AreSound bounds.now (listing flows.old.table.held) }
     requires in_force { IsInForce bounds.now in_force.old.text in_force.old.rules }
-    requires latest { IsLatest flows.old.table.held now }
+    requires latest { IsNoneLater flows.old.table.held now }
     requires live { EndsNone clock (state_of in_force.old.text in_force.old.rules
         flows.old.table.held clock) }
     ensures ok { IfOk result (λ answer. act bounds.now
         (aged now (state_of in_force.old.text in_force.old.rules flows.old.table.held clock))
         deed
         ≡ (state_of in_force.new.text in_force.new.rules flows.new.table.held now, answer)) }
-    ensures err { IfErr result (λ e. (e.0 ≡ bringer deed)
+    ensures err { IfErr result (λ e. (e.0 ≡ brought deed)
         × (flows.new.table.held ≡ flows.old.table.held)) }
     ensures stays { OnErr result (in_force.new ≡ in_force.old) }
     ensures external { flows.new.translations.external ≡ flows.old.translations.external }
@@ -207,7 +207,7 @@ fn age_and_answer<N: Notes>(
 // memory or room for entries was refused, and nothing has changed: where a session has ended, there is room for the
 // packet too.
 #[inline(always)]
-fn age_and_pass<N: Notes>(
+fn age_and_answer_packet<N: Notes>(
     flows: &mut Flows,
     in_force: &InForce,
     alloc: Global,
@@ -221,10 +221,10 @@ fn age_and_pass<N: Notes>(
     requires external { flows.old.translations.external ≡ bounds.now.external }
     requires sound { AreSound bounds.now (listing flows.old.table.held) }
     requires in_force { IsInForce bounds.now in_force.now.text in_force.now.rules }
-    requires latest { IsLatest flows.old.table.held now }
+    requires latest { IsNoneLater flows.old.table.held now }
     requires live { EndsNone clock (state_of in_force.now.text in_force.now.rules
         flows.old.table.held clock) }
-    ensures some { IfSome result (λ fate. pass bounds.now
+    ensures some { IfSome result (λ fate. on_packet bounds.now
         (aged now (state_of in_force.now.text in_force.now.rules flows.old.table.held clock))
         iface packet.old
         ≡ (
@@ -444,7 +444,7 @@ impl Core {
     /// `None` says nothing of the packet: nothing has changed, nor has what is noted, and `step_noted` tells what it
     /// comes to. It comes only where memory is refused, or the entries don't fit.
     #[inline(always)]
-    pub fn pass_noted<N: Notes>(
+    pub fn step_in_place<N: Notes>(
         &mut self,
         moment: u64,
         iface: Iface,
@@ -468,7 +468,7 @@ impl Core {
     {
         let now = later_of(self.clock, moment);
         self.bounds.facts();
-        let fate = age_and_pass(
+        let fate = age_and_answer_packet(
             &mut self.flows,
             &self.in_force,
             self.alloc,

@@ -1,7 +1,7 @@
 //! What an event does, once its text is read.
 ghost use Rattle.std.specs.Prelude.{◌≡◌, IfOk, IfErr, IsOk};
 ghost use Rattle.machine.specs.Sizes.{most_bytes as most_in};
-ghost use Rattle.machine.specs.Judged.{AreRulesOf, IsNoLoad, IsRight, bringer};
+ghost use Rattle.machine.specs.Judged.{AreRulesOf, IsNoLoad, IsRight, brought};
 
 use crate::bytes::Bytes;
 use crate::event::What;
@@ -32,7 +32,7 @@ pub enum Deed {
 impl Deed {
     /// What the event brought: the text, the packet, or nothing.
     pub fn into_what(self) -> What
-        ensures { result ≡ bringer self }
+        ensures { result ≡ brought self }
     {
         match self {
             Deed::Take(text, _) => What::Load(text),
@@ -80,7 +80,7 @@ pub fn rules_of(alloc: Global, bounds: &Bounds, text: &[u8]) -> Result<Option<Ru
 // Reads the text. Not compiled into its caller, so that a packet clears no room for rules.
 #[inline(never)]
 fn judge_load(alloc: Global, bounds: &Bounds, text: Bytes) -> Result<Deed, Bytes>
-    ensures brings { IfOk result (λ deed. What.Load text ≡ bringer deed) }
+    ensures brings { IfOk result (λ deed. What.Load text ≡ brought deed) }
     ensures right { IfOk result (λ deed. IsRight bounds.now deed) }
     ensures err { IfErr result (λ e. e ≡ text) }
 {
@@ -100,7 +100,7 @@ fn judge_load(alloc: Global, bounds: &Bounds, text: Bytes) -> Result<Deed, Bytes
 ///
 /// The text comes back where memory to read it is refused.
 pub fn judge(alloc: Global, bounds: &Bounds, what: What) -> Result<Deed, Bytes>
-    ensures brings { IfOk result (λ deed. what ≡ bringer deed) }
+    ensures brings { IfOk result (λ deed. what ≡ brought deed) }
     ensures right { IfOk result (λ deed. IsRight bounds.now deed) }
     ensures err { IfErr result (λ text. What.Load text ≡ what) }
     ensures succeeds { IsNoLoad what → IsOk result }

@@ -27,7 +27,7 @@ ghost use Rattle.hairpin.specs.Plans.{Became, Gives, GiveAll};
 ghost use Rattle.hairpin.specs.Tallies.{tally};
 ghost use Rattle.machine.specs.Noted.{AreOver, ends, entries_for, entries_for_all, sessions_at};
 ghost use Rattle.machine.specs.Sizes.{bytes_of};
-ghost use Rattle.machine.specs.Flows.{IsDue, IsLatest, TakesMore, MayJoin, adds as adds_by, adds_second};
+ghost use Rattle.machine.specs.Flows.{IsDue, IsNoneLater, TakesMore, MayJoin, adds as adds_by, adds_second};
 
 use crate::ahead::{count_ending, count_mapped};
 use crate::fault::StepFault;
@@ -187,7 +187,7 @@ impl Flows {
 
     /// The slots of the sessions that are alive no longer, each once.
     fn slots_due(&self, alloc: Global, now: u64) -> Result<Vec<Slot>, AllocError>
-        requires { IsLatest self.now.table.held now }
+        requires { IsNoneLater self.now.table.held now }
         ensures exactly { IfOk result (λ slots. (slot : ℕ)
             → Contains slots.items slot ↔ IsSomeAnd (at self.now.table slot) (IsDue now)) }
         ensures once { IfOk result (λ slots. AreOnce slots.items) }
@@ -203,7 +203,7 @@ impl Flows {
     /// caller, which seldom asks it.
     #[inline(never)]
     fn keeps_all(&self, alloc: Global, now: u64) -> bool
-        requires { IsLatest self.now.table.held now }
+        requires { IsNoneLater self.now.table.held now }
         ensures { IsTrue result
             ↔ ((s : Session) → In s (listing self.now.table.held) → alive now s ≡ true) }
     {
@@ -215,7 +215,7 @@ impl Flows {
 
     /// As `keeps_all`, where all were alive at the moment `clock`: before the clock rises nothing is looked at.
     pub fn keeps_all_since(&self, alloc: Global, clock: u64, now: u64) -> bool
-        requires latest { IsLatest self.now.table.held now }
+        requires latest { IsNoneLater self.now.table.held now }
         requires live { (s : Session) → In s (listing self.now.table.held) → alive clock s ≡ true }
         ensures { IsTrue result
             ↔ ((s : Session) → In s (listing self.now.table.held) → alive now s ≡ true) }
@@ -238,11 +238,11 @@ impl Flows {
     fn see(&mut self, slot: Slot, bits: u8, last: u64)
         requires held { IsSome (at self.old.table slot) }
         requires bits { IfSome (at self.old.table slot) (λ s. IsSeen s.proto bits) }
-        requires latest { IsLatest self.old.table.held last }
+        requires latest { IsNoneLater self.old.table.held last }
         ensures became { (s : Session) → at self.old.table slot ≡ Some s
             → Became self.old.table.held (Change.Seen slot bits) (seen_with s bits last)
             self.new.table.held }
-        ensures latest { IsLatest self.new.table.held last }
+        ensures latest { IsNoneLater self.new.table.held last }
         ensures ready { (n : ℕ) → TakesMore n self.old → TakesMore n self.new }
         ensures external { self.new.translations.external ≡ self.old.translations.external }
     {
@@ -258,11 +258,11 @@ impl Flows {
     fn refresh(&mut self, slot: Slot, bits: u8, last: u64)
         requires held { IsSome (at self.old.table slot) }
         requires bits { IfSome (at self.old.table slot) (λ s. IsSeen s.proto bits) }
-        requires latest { IsLatest self.old.table.held last }
+        requires latest { IsNoneLater self.old.table.held last }
         ensures became { (s : Session) → at self.old.table slot ≡ Some s
             → Became self.old.table.held (Change.Seen slot bits) (seen_with s bits last)
             self.new.table.held }
-        ensures latest { IsLatest self.new.table.held last }
+        ensures latest { IsNoneLater self.new.table.held last }
         ensures ready { (n : ℕ) → TakesMore n self.old → TakesMore n self.new }
         ensures external { self.new.translations.external ≡ self.old.translations.external }
     {
@@ -275,11 +275,11 @@ impl Flows {
     /// Begins the session of the slot anew.
     fn restart(&mut self, slot: Slot, opener: Opener, last: u64)
         requires held { IsSome (at self.old.table slot) }
-        requires latest { IsLatest self.old.table.held last }
+        requires latest { IsNoneLater self.old.table.held last }
         ensures became { (s : Session) → at self.old.table slot ≡ Some s
             → Became self.old.table.held (Change.Restart slot opener) (restarted s opener last)
             self.new.table.held }
-        ensures latest { IsLatest self.new.table.held last }
+        ensures latest { IsNoneLater self.new.table.held last }
         ensures ready { (n : ℕ) → TakesMore n self.old → TakesMore n self.new }
         ensures external { self.new.translations.external ≡ self.old.translations.external }
     {
@@ -296,7 +296,7 @@ impl Flows {
     /// `AllocError` where memory is refused.
     fn place(&mut self, session: Session) -> Result<(), AllocError>
         requires may { MayJoin self.old.translations.external self.old.table.held session }
-        requires latest { IsLatest self.old.table.held session.last }
+        requires latest { IsNoneLater self.old.table.held session.last }
         ensures placed { OnOk result (listing self.new.table.held
             ≡ put session (listing self.old.table.held)) }
         ensures external { self.new.translations.external ≡ self.old.translations.external }
@@ -310,10 +310,10 @@ impl Flows {
     fn begin(&mut self, session: Session)
         requires may { MayJoin self.old.translations.external self.old.table.held session }
         requires ready { TakesMore 1 self.old }
-        requires latest { IsLatest self.old.table.held session.last }
+        requires latest { IsNoneLater self.old.table.held session.last }
         ensures became { Became self.old.table.held (Change.Begin session) session
             self.new.table.held }
-        ensures latest { IsLatest self.new.table.held session.last }
+        ensures latest { IsNoneLater self.new.table.held session.last }
         ensures ready { (n : ℕ) → TakesMore (n + 1) self.old → TakesMore n self.new }
         ensures external { self.new.translations.external ≡ self.old.translations.external }
     {
@@ -327,14 +327,14 @@ impl Flows {
     /// Does what a change says, for which there is room. Compiled into its caller.
     #[inline(always)]
     fn apply(&mut self, change: &Change, now: u64)
-        requires latest { IsLatest self.old.table.held now }
+        requires latest { IsNoneLater self.old.table.held now }
         requires gives { (t : Session)
             × Gives self.old.translations.external self.old.table.held now change.now t }
         requires ready { 0 < adds_by change.now → TakesMore 1 self.old }
         ensures became { (t : Session)
             → Gives self.old.translations.external self.old.table.held now change.now t
             → Became self.old.table.held change.now t self.new.table.held }
-        ensures latest { IsLatest self.new.table.held now }
+        ensures latest { IsNoneLater self.new.table.held now }
         ensures ready { (n : ℕ) → TakesMore (n + adds_by change.now) self.old
             → TakesMore n self.new }
         ensures external { self.new.translations.external ≡ self.old.translations.external }
@@ -350,7 +350,7 @@ impl Flows {
     /// the kind of change, and that it makes an entry.
     #[inline(always)]
     fn apply_noted<N: Notes>(&mut self, change: &Change, now: u64, notes: &mut N)
-        requires latest { IsLatest self.old.table.held now }
+        requires latest { IsNoneLater self.old.table.held now }
         requires gives { (t : Session)
             × Gives self.old.translations.external self.old.table.held now change.now t
             × (N.keeps notes.old → bytes_of (entries_for (listing self.old.table.held) t)
@@ -359,7 +359,7 @@ impl Flows {
         ensures became { (t : Session)
             → Gives self.old.translations.external self.old.table.held now change.now t
             → Became self.old.table.held change.now t self.new.table.held }
-        ensures latest { IsLatest self.new.table.held now }
+        ensures latest { IsNoneLater self.new.table.held now }
         ensures ready { (n : ℕ) → TakesMore (n + adds_by change.now) self.old
             → TakesMore n self.new }
         ensures external { self.new.translations.external ≡ self.old.translations.external }
@@ -382,7 +382,7 @@ impl Flows {
 
     /// Does what a plan says, one change after the other, for which there is room, and notes it.
     fn apply_all<N: Notes>(&mut self, plan: &Plan, now: u64, notes: &mut N)
-        requires latest { IsLatest self.old.table.held now }
+        requires latest { IsNoneLater self.old.table.held now }
         requires give { (ts : List Session)
             × GiveAll self.old.translations.external self.old.table.held now plan.now.first
             plan.now.second ts
@@ -401,7 +401,7 @@ impl Flows {
             → GiveAll self.old.translations.external self.old.table.held now plan.now.first
             plan.now.second ts
             → listing self.new.table.held ≡ put_all ts (listing self.old.table.held) }
-        ensures latest { IsLatest self.new.table.held now }
+        ensures latest { IsNoneLater self.new.table.held now }
         ensures external { self.new.translations.external ≡ self.old.translations.external }
     {
         self.apply_noted(&plan.first, now, notes);
@@ -473,7 +473,7 @@ impl Flows {
         now: u64,
         notes: &mut N,
     ) -> Result<(), StepFault>
-        requires latest { IsLatest self.old.table.held now }
+        requires latest { IsNoneLater self.old.table.held now }
         requires give { (ts : List Session)
             × GiveAll self.old.translations.external self.old.table.held now plan.now.first
             plan.now.second ts }
@@ -484,7 +484,7 @@ impl Flows {
             plan.now.second ts
             → listing self.new.table.held ≡ put_all ts (listing self.old.table.held)) }
         ensures err { OnErr result (self.new.table.held ≡ self.old.table.held) }
-        ensures latest { IsLatest self.new.table.held now }
+        ensures latest { IsNoneLater self.new.table.held now }
         ensures external { self.new.translations.external ≡ self.old.translations.external }
         ensures keeps { N.keeps notes.old ↔ N.keeps notes.new }
         ensures beside { N.beside notes.new ≡ N.beside notes.old }
@@ -528,7 +528,7 @@ impl Flows {
         now: u64,
         notes: &mut N,
     ) -> Result<(), StepFault>
-        requires latest { IsLatest self.old.table.held now }
+        requires latest { IsNoneLater self.old.table.held now }
         requires give { (ts : List Session)
             × GiveAll self.old.translations.external self.old.table.held now
             (plan_of going.now).first (plan_of going.now).second ts }
@@ -568,7 +568,7 @@ impl Flows {
 
     /// A packet passed whose session goes on, at the moment `now`, and that shows nothing new of it.
     pub fn see_going(&mut self, going: &Going, now: u64)
-        requires latest { IsLatest self.old.table.held now }
+        requires latest { IsNoneLater self.old.table.held now }
         requires give { (ts : List Session)
             × GiveAll self.old.translations.external self.old.table.held now
             (plan_of going.now).first (plan_of going.now).second ts }
@@ -576,7 +576,7 @@ impl Flows {
             → GiveAll self.old.translations.external self.old.table.held now
             (plan_of going.now).first (plan_of going.now).second ts
             → listing self.new.table.held ≡ put_all ts (listing self.old.table.held) }
-        ensures latest { IsLatest self.new.table.held now }
+        ensures latest { IsNoneLater self.new.table.held now }
         ensures ready { (n : ℕ) → TakesMore n self.old → TakesMore n self.new }
         ensures external { self.new.translations.external ≡ self.old.translations.external }
     {
@@ -657,7 +657,7 @@ impl Flows {
         others: u64,
         notes: &mut N,
     ) -> Result<bool, StepFault>
-        requires { IsLatest self.old.table.held now }
+        requires { IsNoneLater self.old.table.held now }
         ensures ok { OnOk result (listing self.new.table.held
             ≡ filter (alive now) (listing self.old.table.held)) }
         ensures err { OnErr result (self.new.table.held ≡ self.old.table.held) }
@@ -707,7 +707,7 @@ impl Flows {
         others: u64,
         notes: &mut N,
     ) -> Result<bool, StepFault>
-        requires latest { IsLatest self.old.table.held now }
+        requires latest { IsNoneLater self.old.table.held now }
         requires live { (s : Session) → In s (listing self.old.table.held) → alive clock s ≡ true }
         ensures ok { OnOk result (listing self.new.table.held
             ≡ filter (alive now) (listing self.old.table.held)) }

@@ -3,8 +3,7 @@
 //!
 //! A state is sound where its sessions can be held together, which makes the mappings of each protocol one-to-one,
 //! no packet of theirs is later than the clock, and the rules are those of the text (`specs/Sound`).
-ghost use Rattle.machine.specs.Laws.{AnswersComeIn, ClockNeverFalls, DropsChangeNothing, EventsAreJudgedOnce, ForwardsArePlanned, InsideMapsOnce, LivingMappingsStay, LoadsTakeForce, MappingsAreReused, OnlyLoadsChangeRules, OutsideIsNotShared, RefusalsChangeNothing, RunsKeepSound, SessionsAreAlive, SessionsGoOut, StartIsSound, StepsKeepSound};
-ghost use Rattle.machine.specs.Translations.{DestinationsAreInside, PortsStayAboveZero, SourcesAreExternal};
+ghost use Rattle.machine.specs.Laws.{AnswersComeIn, ClockNeverFalls, DropsChangeNothing, EventsAreJudgedOnce, ForwardsArePlanned, InsideMapsOnce, LivingMappingsStay, LoadsTakeForce, MappingsAreReused, OnlyLoadsChangeRules, OutsideIsNotShared, RefusalsChangeNothing, RunsKeepSound, SessionsAreAlive, SessionsGoOut, StartIsSound, StepsKeepSound, TranslationsStayInBounds};
 
 use rulesyntax::one_ruleset;
 
@@ -105,7 +104,5 @@ pub fn forwards_are_planned()
 /// Translations by a text that has loaded lead where they can: a source becomes the external address, a
 /// destination an inside one, and a port that isn't 0 never becomes 0.
 pub fn translations_stay_in_bounds()
-    ensures sources { SourcesAreExternal }
-    ensures destinations { DestinationsAreInside }
-    ensures ports { PortsStayAboveZero }
+    ensures { TranslationsStayInBounds }
 {}

@@ -50,14 +50,14 @@ pub trait Notes {
         ensures succeeds { grants self.old → IsOk result };
 
     /// Notes an entry, which has a code, and for which there is room. This takes no memory.
-    fn note(&mut self, entry: Entry<'_>)
-        requires coded { keeps self.old → IsEntry (view entry) }
-        requires room { keeps self.old → length (entry_bytes (view entry)) ≤ room self.old }
+    fn note(&mut self, item: Entry<'_>)
+        requires coded { keeps self.old → IsEntry (view item) }
+        requires room { keeps self.old → length (entry_bytes (view item)) ≤ room self.old }
         ensures keeps { keeps self.old ↔ keeps self.new }
         ensures beside { beside self.new ≡ beside self.old }
-        ensures noted { keeps self.old → noted self.new ≡ noted self.old ++ view entry.entry ∷ [] }
+        ensures noted { keeps self.old → noted self.new ≡ noted self.old ++ view item.entry ∷ [] }
         ensures room { keeps self.old
-            → room self.old ≤ room self.new + length (entry_bytes (view entry.entry)) };
+            → room self.old ≤ room self.new + length (entry_bytes (view item.entry)) };
 }
 
 /// Notes that let every entry go.
@@ -83,5 +83,5 @@ impl Notes for Unkept {
         Ok(())
     }
 
-    fn note(&mut self, entry: Entry<'_>) {}
+    fn note(&mut self, item: Entry<'_>) {}
 }

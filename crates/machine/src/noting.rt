@@ -164,17 +164,17 @@ pub fn entry_for(table: &Table, change: &Change) -> Option<Entry<'static>>
 /// Notes an entry if there is one, which has a code, and for which there is room. Compiled into its callers, with which
 /// an entry needn't be moved.
 #[inline(always)]
-pub fn note<N: Notes>(notes: &mut N, entry: Option<Entry<'_>>)
-    requires coded { AreEntries (listed entry) }
-    requires room { N.keeps notes.old → bytes_of (listed entry) ≤ N.room notes.old }
+pub fn note<N: Notes>(notes: &mut N, item: Option<Entry<'_>>)
+    requires coded { AreEntries (listed item) }
+    requires room { N.keeps notes.old → bytes_of (listed item) ≤ N.room notes.old }
     ensures keeps { N.keeps notes.old ↔ N.keeps notes.new }
     ensures beside { N.beside notes.new ≡ N.beside notes.old }
     ensures noted { N.keeps notes.old → N.noted notes.new
-        ≡ N.noted notes.old ++ listed entry.entry }
+        ≡ N.noted notes.old ++ listed item.entry }
     ensures room { N.keeps notes.old
-        → N.room notes.old ≤ N.room notes.new + bytes_of (listed entry.entry) }
+        → N.room notes.old ≤ N.room notes.new + bytes_of (listed item.entry) }
 {
-    if let Some(entry) = entry {
+    if let Some(entry) = item {
         notes.note(entry);
     }
 }

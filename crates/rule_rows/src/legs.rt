@@ -3,12 +3,12 @@ ghost use Rattle.std.specs.Prelude.{◌≡◌, IfSome};
 ghost use Rattle.mappings.specs.declared.map.Mapping.{Mapping};
 ghost use Rattle.mappings.specs.Map.{times};
 ghost use Rattle.sessions.specs.Listing.{listing};
-ghost use Rattle.hairpin.specs.KeptBounds.{KeepBounds};
+ghost use Rattle.hairpin.specs.KeepBounds.{KeepBounds};
 ghost use Rattle.sessions.specs.Sound.{AreSound};
 ghost use Rattle.hairpin.specs.Tallies.{tally};
 
 use hairpin::translations::Translations;
-use hairpin::{Cause, Plan, both, in_leg, out_leg};
+use hairpin::{Cause, Plan, hairpin_leg, in_leg, out_leg};
 use packet::bounds::Bounds;
 use packet::endpoint::{Endpoint, Flags, Iface, Prefix, Proto};
 use packet::fault::Fault;
@@ -276,7 +276,7 @@ fn way_round(alloc: Global) -> Option<Result<Plan, Cause>> {
     };
     let round = packet(HOST, outside);
     let plan = if bounds.is_inside(HOST.addr) {
-        Some(both(bounds, rules, table, translations, &round, 1000))
+        Some(hairpin_leg(bounds, rules, table, translations, &round, 1000))
     } else {
         None
     };

@@ -1,4 +1,4 @@
--- How far an opening has come.
+-- How far an opening has come. No public clause cites this module.
 use Rattle.std.specs.Prelude.{◌≡◌, Option, Some, None}
 use Rattle.packet.specs.Config.{Config}
 use Rattle.disk_model.specs.Disk.{Files}

@@ -25,13 +25,13 @@ abbrev pub RecoversEither : Durable → Durable → Files → Type 0
 RecoversEither d e files = Recovers files d ⊎ Recovers files e
 
 -- File A is made for the empty state, of the first generation, and file B stays.
-pub record IsFirst (config : Config) (old new : Files) : Type 0 where
+pub record MakesFirst (config : Config) (old new : Files) : Type 0 where
   pub made : IsFresh (new A) (anew 1 config empty)
   pub beside : new B ≡ old B
 
 -- the entries of a body fit the state that the files stand for
-abbrev pub Fits : Config → Files → List ℕ → Type 0
-Fits config files body = (d e : Durable) × Recovers files d × BodyEnters config body d e
+abbrev pub BodyFits : Config → Files → List ℕ → Type 0
+BodyFits config files body = (d e : Durable) × Recovers files d × BodyEnters config body d e
 
 module _ {D : Type 0} (moment : D → ℕ) (left : D → ℕ → Files → Type 0) (seen : D → Files) where
   -- Both files are synced, and this one is active and holds the state, as the store has it.

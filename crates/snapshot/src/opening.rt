@@ -10,7 +10,7 @@ ghost use Rattle.disk_model.specs.Disk.{Same, Leaves, LeavesNow, LeavesOnly, Loo
 ghost use Rattle.durable.specs.Entering.{Durable, IsDurable, empty};
 ghost use Rattle.durable.specs.Recovery.{Alike, IsConfigured, NoneOpen, Recovers};
 ghost use Rattle.snapshot.specs.Opening.{IsFoundFor, IsRecovered, IsCopied, found_state};
-ghost use Rattle.snapshot.specs.Store.{IsFirst};
+ghost use Rattle.snapshot.specs.Store.{MakesFirst};
 
 use crate::OpenFault;
 use crate::closed_heading::closed_heading;
@@ -138,7 +138,7 @@ fn make_first<D: Disk>(alloc: Global, disk: &mut D, bounds: &Bounds) -> Result<R
     ensures synced { D.honest disk.old → OnOk result ((file : FileId)
         → Synced D.moment D.left D.seen disk.new file) }
     ensures first { D.honest disk.old
-        → OnOk result (IsFirst bounds.now (D.seen disk.old) (D.seen disk.new)) }
+        → OnOk result (MakesFirst bounds.now (D.seen disk.old) (D.seen disk.new)) }
     ensures generation { IfOk result (λ r. r.generation ≡ 1) }
     ensures empty { IfOk result (λ r. found_state r ≡ empty) }
     ensures bounds { IfOk result (λ r. r.bounds ≡ bounds.now) }
@@ -191,9 +191,10 @@ pub(crate) fn make_ready<D: Disk>(
     ensures recovers { D.honest disk.old
         → IfOk result (λ r. Recovers (D.seen disk.old) (found_state r)) }
     ensures sound { IfOk result (λ r. IsDurable bounds.now (found_state r)) }
-    ensures taken { D.honest disk.old → OnOk result (IsConfigured bounds.now (D.seen disk.old)) }
+    ensures had_config { D.honest disk.old
+        → OnOk result (IsConfigured bounds.now (D.seen disk.old)) }
     ensures first { D.honest disk.old → NoneOpen (D.seen disk.old)
-        → OnOk result (IsFirst bounds.now (D.seen disk.old) (D.seen disk.new)) }
+        → OnOk result (MakesFirst bounds.now (D.seen disk.old) (D.seen disk.new)) }
     ensures generation { D.honest disk.old → NoneOpen (D.seen disk.old)
         → IfOk result (λ r. r.generation ≡ 1) }
     ensures only_looks { D.honest disk.old → ¬ NoneOpen (D.seen disk.old)

@@ -8,7 +8,7 @@ ghost use Rattle.durable.specs.Entering.{Durable, IsDurable, durable, BodyEnters
 ghost use Rattle.durable.specs.Laws.{anew, IsFresh};
 ghost use Rattle.durable.specs.Recovery.{Alike, IsConfigured, NoneOpen, Recovers};
 ghost use Rattle.journal.specs.Groups.{framed};
-ghost use Rattle.snapshot.specs.Store.{Keeps, RecoversEither, IsFirst, Fits};
+ghost use Rattle.snapshot.specs.Store.{Keeps, RecoversEither, MakesFirst, BodyFits};
 
 use crate::closed_heading::closed_heading;
 use crate::opening::{Ready, make_ready};
@@ -115,11 +115,11 @@ impl<D: Disk + Drop> Store<D> {
         // Over any disk it is a state that a gateway with these bounds may have.
         ensures sound { IfOk result (λ o. IsDurable bounds.now
             (durable o.text.items o.sessions.items)) }
-        ensures taken { D.honest disk → OnOk result (IsConfigured bounds.now (D.seen disk)) }
+        ensures had_config { D.honest disk → OnOk result (IsConfigured bounds.now (D.seen disk)) }
 
         // Where no file is open, file A is made anew, of the first generation; otherwise the files aren't changed.
         ensures first { D.honest disk → NoneOpen (D.seen disk)
-            → IfOk result (λ o. IsFirst bounds.now (D.seen disk) (D.seen o.store.disk)) }
+            → IfOk result (λ o. MakesFirst bounds.now (D.seen disk) (D.seen o.store.disk)) }
         ensures generation { D.honest disk → NoneOpen (D.seen disk)
             → IfOk result (λ o. o.store.generation ≡ 1) }
         ensures only_looks { D.honest disk → ¬ NoneOpen (D.seen disk)
@@ -223,7 +223,7 @@ impl<D: Disk + Drop> Store<D> {
     pub fn commit(&mut self, group: &Group) -> Result<(), CommitFault>
         requires stands { self.old.fallen ≡ false }
         requires fits { D.honest self.old.disk
-            → Fits self.old.config (D.seen self.old.disk) group.now.body }
+            → BodyFits self.old.config (D.seen self.old.disk) group.now.body }
         ensures honest { D.honest self.old.disk ↔ D.honest self.new.disk }
 
         // A crash at any moment leaves the state from before, or the one with the group.

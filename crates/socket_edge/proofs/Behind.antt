@@ -15,7 +15,7 @@ use Rattle.machine.specs.declared.event.Event.{Event}
 use Rattle.machine.proofs.Judging.{AreJudged-append, AreJudged-length}
 use Rattle.gateway.specs.declared.fault.GatewayFault.{GatewayFault}
 use Rattle.gateway.specs.Kept.{Kept, IsReady, IsSafe}
-use Rattle.gateway.specs.Running.{Ran, Stands, Rests, Stops, CarriesOn, BreaksOff, standing}
+use Rattle.gateway.specs.Running.{Ran, Stands, AgreesWithModel, Stops, CarriesOn, BreaksOff, standing}
 use Rattle.gateway.specs.Standing.{Standing, StandsFor}
 use Rattle.gateway.specs.Told.{Told, TookAll}
 use Rattle.gateway.proofs.Runs.{counted, safe-either, safe-less}
@@ -111,7 +111,7 @@ module _ {D : Type 0} (honest : D → Type 0) (moment : D → ℕ) (left : D →
     ready : IsReady honest start → IsReady honest base
     any_moment : IsReady honest start → LeavesOnly moment left start.disk base.disk (IsSafe start.told.config start.told.state (es ++ fs) 0)
     configured : honest start.disk → LeavesOnly moment left start.disk base.disk (IsConfigured start.told.config)
-    passed : failed base.disk ≡ failed start.disk
+    no_failure : failed base.disk ≡ failed start.disk
 
   -- ---- what comes behind the second is said of the first
 
@@ -137,15 +137,15 @@ module _ {D : Type 0} (honest : D → Type 0) (moment : D → ℕ) (left : D →
     stands-behind s = record {
       ran = ran-behind s.ran;
       stands = s.stands;
-      passed = s.passed ∙ l.passed;
+      no_failure = s.no_failure ∙ l.no_failure;
       rests = λ ready.
           let r = s.rests (l.ready ready) in
           record {
-            first = r.first;
+            durable = r.durable;
             leaves = r.leaves;
             judged = l.took.judged ++ r.judged;
             are_judged = AreJudged-append start.told.config es (fs ++ more) l.took.judged r.judged l.took.are_judged (subst (λ (k : Config). AreJudged k (fs ++ more) r.judged) l.took.config r.are_judged);
-            stands_for = stands_for-behind start.told base.told l.took.judged r.judged (standing r.first new) l.took.config l.took.state r.stands_for;
+            stands_for = stands_for-behind start.told base.told l.took.judged r.judged (standing r.durable new) l.took.config l.took.state r.stands_for;
           };
     }
 
@@ -163,7 +163,7 @@ module _ {D : Type 0} (honest : D → Type 0) (moment : D → ℕ) (left : D →
         made_room = s.is_why.made_room;
         numbers_out = s.is_why.numbers_out;
         fell = s.is_why.fell;
-        device = λ d. subst (λ (k : ℕ). Grew k (failed new.disk)) l.passed (s.is_why.device d);
+        device = λ d. subst (λ (k : ℕ). Grew k (failed new.disk)) l.no_failure (s.is_why.device d);
         generations = s.is_why.generations;
       };
       stays = λ other. stands-behind (s.stays other);
@@ -205,7 +205,7 @@ module _ {D : Type 0} (honest : D → Type 0) (moment : D → ℕ) (left : D →
             ready = λ r. absurd (some r.none);
             any_moment = λ r. absurd (some r.none);
             configured = s.ran.configured;
-            passed = s.passed;
+            no_failure = s.no_failure;
           };
           stands = record {
             ran = record {
@@ -216,10 +216,10 @@ module _ {D : Type 0} (honest : D → Type 0) (moment : D → ℕ) (left : D →
               configured = begun.ran.configured;
             };
             stands = s.stands;
-            passed = refl;
+            no_failure = refl;
             rests = λ r.
                 let it = begun.rests (ready r) in
-                record { first = it.first; leaves = it.leaves; judged = it.judged; are_judged = it.are_judged; stands_for = it.stands_for };
+                record { durable = it.durable; leaves = it.leaves; judged = it.judged; are_judged = it.are_judged; stands_for = it.stands_for };
           };
         }
 
@@ -250,15 +250,15 @@ module _ {D : Type 0} (honest : D → Type 0) (moment : D → ℕ) (left : D →
         let back : IsReady honest base → IsReady honest start = λ r. record { stands = s.ran.stood; is_honest = s.ran.keeps_honest.1 r.is_honest; none = none } in
         let few : length now.told.held ≤ length ks = omega (arith, size, many, rest, long) in
         let are : AreJudged config fs ks = drop-judged config k events t.judged t.are_judged in
-        let rests : IsReady honest base → Rests honest moment left failed base now fs = λ r.
+        let rests : IsReady honest base → AgreesWithModel honest moment left failed base now fs = λ r.
         let q = s.rests (back r) in
         let same : q.judged ≡ js ++ ks = all-once once config events q.judged t.judged q.are_judged t.are_judged ∙ sym whole in
         record {
-          first = q.first;
+          durable = q.durable;
           leaves = q.leaves;
           judged = ks;
           are_judged = are;
-          stands_for = stands_for-from start.told base.told js ks (standing q.first now) refl refl few (subst (λ (xs : List Judged). StandsFor config start.told.state xs (standing q.first now)) same q.stands_for);
+          stands_for = stands_for-from start.told base.told js ks (standing q.durable now) refl refl few (subst (λ (xs : List Judged). StandsFor config start.told.state xs (standing q.durable now)) same q.stands_for);
         } in
         record {
           base = base;
@@ -279,7 +279,7 @@ module _ {D : Type 0} (honest : D → Type 0) (moment : D → ℕ) (left : D →
             ready = λ r. record { stands = s.stands; is_honest = s.ran.keeps_honest.0 r.is_honest; none = refl };
             any_moment = λ r. subst (λ (xs : List Event). LeavesOnly moment left start.disk now.disk (IsSafe config start.told.state xs 0)) (sym all) (s.ran.any_moment r);
             configured = s.ran.configured;
-            passed = s.passed;
+            no_failure = s.no_failure;
           };
           stands = record {
             ran = record {
@@ -297,13 +297,13 @@ module _ {D : Type 0} (honest : D → Type 0) (moment : D → ℕ) (left : D →
                   let q = rests r in
                   idle moment left now.disk (IsSafe config base.told.state fs 0) (λ files left_now.
                   safe-fewer config base.told.state fs (length fs - length now.told.held) 0 files (omega arith)
-                  (safe-either config base.told.state fs q.judged (standing q.first now) files q.are_judged q.stands_for (inl (q.leaves files left_now))));
+                  (safe-either config base.told.state fs q.judged (standing q.durable now) files q.are_judged q.stands_for (inl (q.leaves files left_now))));
               configured = λ h.
                   idle moment left now.disk (IsConfigured config) (only_now moment left start.disk now.disk (IsConfigured config) (λ s t files le since. earlier now.disk s t files h le since)
                   (s.ran.configured (s.ran.keeps_honest.1 h)));
             };
             stands = s.stands;
-            passed = refl;
+            no_failure = refl;
             rests = rests;
           };
         }

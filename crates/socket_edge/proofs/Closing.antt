@@ -18,11 +18,11 @@ use Rattle.socket_edge.specs.declared.fault.EdgeFault.TheVariants.{BadKind, BadI
 use Rattle.socket_edge.specs.declared.serving.Halt.{Halt}
 use Rattle.socket_edge.specs.declared.serving.Halt.TheVariants as halt
 use Rattle.frames.specs.Requests.{Cut, Bad, next}
-use Rattle.frames.specs.Framing.{Framed, Rest, Fault, behind, whole_frames}
+use Rattle.frames.specs.Framing.{Framed, Rest, Fault, with_first, whole_frames}
 use Rattle.frames.specs.Answers.{frame}
 use Rattle.socket_edge.specs.Progress.{Progress, AnsweredFirst}
 use Rattle.socket_edge.specs.Running.{Answered, Fares, events_in}
-use Rattle.socket_edge.specs.Serving.{Closed, IsBad, IsRefused, Offered, Reads, Served, SettledAndSent, end_of}
+use Rattle.socket_edge.specs.Serving.{Closed, IsBad, GatewayRefuses, Offered, Reads, Served, SettledAndSent, end_of}
 use Rattle.frames.proofs.Frames.{framed_cut, framed_bad}
 use Rattle.socket_edge.proofs.Reading.{Reads-is}
 use Rattle.socket_edge.proofs.Answers.{AnsweredFirst-told, BeginsFrames-told, Progress-told, all_sent}
@@ -30,10 +30,10 @@ use Rattle.socket_edge.proofs.Lasting.{fares}
 
 -- what the bytes are, where no whole frame is left
 pub framed_then_cut : (bytes rest : List ℕ) (events : List Event) → Reads bytes events rest → next rest ≡ Cut → whole_frames bytes ≡ record { events = events; remainder = Rest rest }
-framed_then_cut bytes rest events r e = Reads-is bytes events rest r ∙ ap (behind events) (framed_cut rest e) ∙ ap (λ (xs : List Event). record { events = xs; remainder = Rest rest }) (append-nil events)
+framed_then_cut bytes rest events r e = Reads-is bytes events rest r ∙ ap (with_first events) (framed_cut rest e) ∙ ap (λ (xs : List Event). record { events = xs; remainder = Rest rest }) (append-nil events)
 
 pub framed_then_bad : (bytes rest : List ℕ) (events : List Event) (fault : HeaderFault) → Reads bytes events rest → next rest ≡ Bad fault → whole_frames bytes ≡ record { events = events; remainder = Fault fault }
-framed_then_bad bytes rest events fault r e = Reads-is bytes events rest r ∙ ap (behind events) (framed_bad rest fault e) ∙ ap (λ (xs : List Event). record { events = xs; remainder = Fault fault }) (append-nil events)
+framed_then_bad bytes rest events fault r e = Reads-is bytes events rest r ∙ ap (with_first events) (framed_bad rest fault e) ∙ ap (λ (xs : List Event). record { events = xs; remainder = Fault fault }) (append-nil events)
 
 -- the events were taken and answered
 pub Answered-of : (old new : Told) (bytes sent : List ℕ) → Progress old new (whole_frames bytes).events [] sent → (old.held ≡ [] → new.held ≡ []) → Answered old new bytes sent
@@ -111,7 +111,7 @@ module _ {D : Type 0} (honest : D → Type 0) (moment : D → ℕ) (left : D →
       }
 
   fails-behind : (mid now : Kept D) (bytes later : List ℕ) (events back front : List Event) (b c : List (ℕ × Answer)) (why : GatewayFault) → events ≡ front ++ back → events_in bytes ≡ events ++ events_in later
-      → Up mid front b → BreaksOff honest moment left failed mid now [] b c why → why ≡ fault.Device → IsRefused honest moment left failed why bytes start now c
+      → Up mid front b → BreaksOff honest moment left failed mid now [] b c why → why ≡ fault.Device → GatewayRefuses honest moment left failed why bytes start now c
   fails-behind mid now bytes later events back front b c why split all s breaks device =
       let off = breaks start front s in
       record {
@@ -125,7 +125,7 @@ module _ {D : Type 0} (honest : D → Type 0) (moment : D → ℕ) (left : D →
 
   -- handing out has failed
   pub fails : (s : Halt) (mid now : Kept D) (bytes rest : List ℕ) (count : ℕ) (b c : List (ℕ × Answer)) (why : GatewayFault) → Up start [] [] → Offered honest moment left failed s bytes rest count start mid [] b
-      → BreaksOff honest moment left failed mid now [] b c why → mid.fallen ≡ false → why ≡ fault.Device → IsRefused honest moment left failed why bytes start now c
+      → BreaksOff honest moment left failed mid now [] b c why → mid.fallen ≡ false → why ≡ fault.Device → GatewayRefuses honest moment left failed why bytes start now c
   fails halt.Cut mid now bytes rest count b c why begun o breaks up device =
       fails-behind mid now bytes rest o.0 [] o.0 b c why (all_of o.0 o.0 refl) (events_then bytes rest o.0 o.1) (o.4 start [] begun) breaks device
   fails (halt.Bad h) mid now bytes rest count b c why begun o breaks up device =
@@ -212,7 +212,7 @@ module _ {D : Type 0} (honest : D → Type 0) (moment : D → ℕ) (left : D →
   sent-bad (Gateway why) now bytes rest count out k left_over others =
       (AnsweredFirst-told start.told now.told (events_in bytes) k.front k.back out k.split k.ends.ran.took, fares-all (Err (Gateway why)) now bytes rest count out k, k.is_why)
 
-  -- ---- the file is tidied
+  -- ---- the file is compacted
 
   -- all whole frames at the front were settled, and their answers sent
   pub served : (mid now : Kept D) (bytes rest : List ℕ) (count : ℕ) (out after : List (ℕ × Answer)) (sent : List ℕ) → SettledAndSent honest moment left failed (Ok count) start mid bytes rest out sent
@@ -235,15 +235,15 @@ module _ {D : Type 0} (honest : D → Type 0) (moment : D → ℕ) (left : D →
       fares honest moment left failed start now (events_in bytes) a.0 [] out sent [] (ended honest moment left seen failed reads earlier start now a.0 out s)
       (all_of a.0 (events_in bytes) (events_cut bytes rest a.0 a.1 a.2)) (append-nil sent ∙ a.5) (λ _. none)
 
-  pub served-passed : (mid now : Kept D) (bytes rest : List ℕ) (count : ℕ) (out after : List (ℕ × Answer)) (sent : List ℕ) → SettledAndSent honest moment left failed (Ok count) start mid bytes rest out sent
+  pub served-no_failure : (mid now : Kept D) (bytes rest : List ℕ) (count : ℕ) (out after : List (ℕ × Answer)) (sent : List ℕ) → SettledAndSent honest moment left failed (Ok count) start mid bytes rest out sent
       → CarriesOn honest moment left failed mid now [] out after → failed now.disk ≡ failed start.disk
-  served-passed mid now bytes rest count out after sent a on = (carry mid now a.0 out after on a.4.stands).passed
+  served-no_failure mid now bytes rest count out after sent a on = (carry mid now a.0 out after on a.4.stands).no_failure
 
-  -- it couldn't be tidied
-  pub untidy : (mid now : Kept D) (bytes rest : List ℕ) (count : ℕ) (out after : List (ℕ × Answer)) (sent : List ℕ) (why : GatewayFault) → SettledAndSent honest moment left failed (Ok count) start mid bytes rest out sent
+  -- it couldn't be compacted
+  pub not_compacted : (mid now : Kept D) (bytes rest : List ℕ) (count : ℕ) (out after : List (ℕ × Answer)) (sent : List ℕ) (why : GatewayFault) → SettledAndSent honest moment left failed (Ok count) start mid bytes rest out sent
       → BreaksOff honest moment left failed mid now [] out after why → after ≡ out → now.told.held ≡ []
       → AnsweredFirst start.told now.told (events_in bytes) sent × Fares honest moment left start now (events_in bytes) sent × IsWhy honest moment left failed start now why
-  untidy mid now bytes rest count out after sent why a breaks same none =
+  not_compacted mid now bytes rest count out after sent why a breaks same none =
       let off = breaks start a.0 a.4.stands in
       let front = a.0 ++ off.0 in
       let split : events_in bytes ≡ front ++ (off.1 ++ []) = all_of a.0 (events_in bytes) (events_cut bytes rest a.0 a.1 a.2) ∙ front_none a.0 off.0 off.1 [] off.2 in

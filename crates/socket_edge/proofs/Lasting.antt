@@ -16,7 +16,7 @@ use Rattle.machine.specs.declared.event.Event.{Event}
 use Rattle.machine.proofs.Judging.{AreJudged-append, AreJudged-length}
 use Rattle.gateway.specs.Kept.{Kept, IsReady, IsSafe}
 use Rattle.gateway.specs.Running.{Ends}
-use Rattle.gateway.specs.Told.{Told, TookAll}
+use Rattle.gateway.specs.Told.{Told}
 use Rattle.gateway.proofs.Runs.{safe-less}
 use Rattle.gateway.proofs.Taking.{after-append, length-answers}
 use Rattle.frames.specs.Answers.{frame}

@@ -35,9 +35,9 @@ module _ {D : Type 0} (honest : D → Type 0) (moment : D → ℕ) (left : D →
   }
 
   -- one frame more
-  pub SoFar-next : (old now new : Kept D) (bytes rest later : List ℕ) (count : ℕ) (a b c : List (ℕ × Answer)) (forwarded : Bool) (held : Option ℕ) → SoFar old now bytes rest count a b
-      → Stepped honest moment left failed (step.Took forwarded held) rest later now new b c → SoFar old new bytes later (count + 1) a c
-  SoFar-next old now new bytes rest later count a b c forwarded held s t = record {
+  pub SoFar-next : (old now new : Kept D) (bytes rest later : List ℕ) (count : ℕ) (a b c : List (ℕ × Answer)) (leaves : Bool) (held : Option ℕ) → SoFar old now bytes rest count a b
+      → Stepped honest moment left failed (step.Took leaves held) rest later now new b c → SoFar old new bytes later (count + 1) a c
+  SoFar-next old now new bytes rest later count a b c leaves held s t = record {
     few = omega (arith, s.few, next_shorter rest t.0 later t.1);
     events = s.events ++ t.0 ∷ [];
     reads = Reads-whole bytes rest s.events t.0 later s.reads t.1;
@@ -63,7 +63,7 @@ module _ {D : Type 0} (honest : D → Type 0) (moment : D → ℕ) (left : D →
   -- answers that were held are handed out before a step
   pub Stepped-behind : (old now new : Kept D) (s : Step) (bytes rest : List ℕ) (a b c : List (ℕ × Answer)) → CarriesOn honest moment left failed old now [] a b
       → Stepped honest moment left failed s bytes rest now new b c → Stepped honest moment left failed s bytes rest old new a c
-  Stepped-behind old now new (step.Took forwarded held) bytes rest a b c first t = (t.0, t.1, carries-then honest moment left failed old now new [] (t.0 ∷ []) a b c first t.2)
+  Stepped-behind old now new (step.Took leaves held) bytes rest a b c first t = (t.0, t.1, carries-then honest moment left failed old now new [] (t.0 ∷ []) a b c first t.2)
   Stepped-behind old now new (step.Ends halt.Cut) bytes rest a b c first t = (t.0, t.1, carries-then honest moment left failed old now new [] [] a b c first t.2)
   Stepped-behind old now new (step.Ends (halt.Bad fault)) bytes rest a b c first t = (t.0, t.1, carries-then honest moment left failed old now new [] [] a b c first t.2)
   Stepped-behind old now new (step.Ends (halt.Refused fault)) bytes rest a b c first t = (t.0, t.1, t.2, breaks-then honest moment left failed old now new [] t.0 a b c fault first t.3)

@@ -9,7 +9,7 @@ use Rattle.machine.specs.declared.event.Answer.{Answer}
 use Rattle.machine.specs.declared.event.Event.{Event}
 use Rattle.gateway.specs.Kept.{Kept}
 use Rattle.frames.specs.Answers.{frame, frames}
-use Rattle.socket_edge.specs.Serving.{Passes}
+use Rattle.socket_edge.specs.Serving.{TakenInPlace}
 
 pub some_of : {T : Type 0} {P : T → Type 0} (o : Option T) → is_some o ≡ true → IfSome o P → (x : T) × P x
 some_of None e p = absurd cc
@@ -45,6 +45,6 @@ held-more n old new held answer fits is more = (
 
 module _ {D : Type 0} (honest : D → Type 0) (moment : D → ℕ) (left : D → ℕ → Files → Type 0) (failed : D → ℕ) (old new : Kept D) (event : Event) (answer : ℕ × Answer) where
   -- behind answers that are held none is handed out at once
-  pub held-too : (held : Bool) → Passes honest moment left failed held old new event answer → old.told.held ≢ [] → Passes honest moment left failed true old new event answer
+  pub held-too : (held : Bool) → TakenInPlace honest moment left failed held old new event answer → old.told.held ≢ [] → TakenInPlace honest moment left failed true old new event answer
   held-too true passes some = passes
   held-too false passes some = absurd (some passes.1)

@@ -1,4 +1,4 @@
--- A run: one turn after the other.
+-- A run: one read after the other.
 use Rattle.std.proofs.Common.{◌≡◌, ◌≢◌, ◌↔◌, ℕ, ◌+◌, ◌<◌, ◌≤◌, ◌^◌, List, [], ◌++◌, true, false, length, refl, sym, ap, ◌∙◌, arith, append_assoc, subst, length-append}
 use Rattle.std.specs.List.{flat_map}
 use Rattle.std.proofs.lemmas.List.{append-nil}
@@ -16,10 +16,10 @@ use Rattle.gateway.proofs.Runs.{safe-less, true-false}
 use Rattle.socket_edge.specs.declared.fault.EdgeFault.{EdgeFault}
 use Rattle.socket_edge.specs.declared.fault.EdgeFault.TheVariants.{BadKind, BadInterface, TooLong, Truncated, Input, Output, Gateway}
 use Rattle.frames.specs.Requests.{Cut, next}
-use Rattle.frames.specs.Framing.{Framed, Remainder, Rest, behind, whole_frames}
+use Rattle.frames.specs.Framing.{Framed, Remainder, Rest, with_first, whole_frames}
 use Rattle.frames.specs.Answers.{frame}
 use Rattle.socket_edge.specs.Progress.{answers_due, AreFirst, Progress, AnsweredFirst, BeginsFrames}
-use Rattle.socket_edge.specs.Running.{Answered, Ends, Done, Explains, Fares, events_in}
+use Rattle.socket_edge.specs.Running.{Answered, EndsBy, AllAnswered, Explains, Fares, events_in}
 use Rattle.socket_edge.specs.Serving.{Reads, Served}
 use Rattle.frames.proofs.Frames.{next_nil}
 use Rattle.socket_edge.proofs.Reading.{Reads-nil, Reads-more, Reads-then}
@@ -28,7 +28,7 @@ use Rattle.socket_edge.proofs.Lasting.{any-then, configured-then, fares-then}
 use Rattle.socket_edge.proofs.Closing.{events_cut, framed_then_cut, Answered-of}
 
 -- the events of the bytes that came before, and of those that come
-pub framed_more : (given unanswered got : List ℕ) (events : List Event) → Reads given events unanswered → whole_frames (given ++ got) ≡ behind events (whole_frames (unanswered ++ got))
+pub framed_more : (given unanswered got : List ℕ) (events : List Event) → Reads given events unanswered → whole_frames (given ++ got) ≡ with_first events (whole_frames (unanswered ++ got))
 framed_more given unanswered got events r = r.goes got
 
 -- behind what was sent before
@@ -71,21 +71,21 @@ begins_then a b c es fs w sent p q =
           ∙ sym (flat_map-append frame p.handed (answers_due b q.judged)) ∙ ap (flat_map frame) (sym d);
     }
 
-pub Ends-then : (e : EdgeFault) (a b c : Told) (given unanswered got w sent : List ℕ) (n : ℕ) (at_end : Type 0) → Served a b given unanswered w n → Ends e b c (unanswered ++ got) sent at_end → Ends e a c (given ++ got) (w ++ sent) at_end
-Ends-then BadKind a b c given unanswered got w sent n at_end p q = (stop_then a b given unanswered got w n _ p q.0, answered_then a b c given unanswered got w sent n p q.1)
-Ends-then BadInterface a b c given unanswered got w sent n at_end p q = (stop_then a b given unanswered got w n _ p q.0, answered_then a b c given unanswered got w sent n p q.1)
-Ends-then TooLong a b c given unanswered got w sent n at_end p q = (stop_then a b given unanswered got w n _ p q.0, answered_then a b c given unanswered got w sent n p q.1)
-Ends-then Truncated a b c given unanswered got w sent n at_end p q = (q.0, stop_then a b given unanswered got w n _ p q.1, q.2, answered_then a b c given unanswered got w sent n p q.3, q.4)
-Ends-then Input a b c given unanswered got w sent n at_end p q = answered_then a b c given unanswered got w sent n p q
-Ends-then Output a b c given unanswered got w sent n at_end p q =
+pub EndsBy-then : (e : EdgeFault) (a b c : Told) (given unanswered got w sent : List ℕ) (n : ℕ) (at_end : Type 0) → Served a b given unanswered w n → EndsBy e b c (unanswered ++ got) sent at_end → EndsBy e a c (given ++ got) (w ++ sent) at_end
+EndsBy-then BadKind a b c given unanswered got w sent n at_end p q = (stop_then a b given unanswered got w n _ p q.0, answered_then a b c given unanswered got w sent n p q.1)
+EndsBy-then BadInterface a b c given unanswered got w sent n at_end p q = (stop_then a b given unanswered got w n _ p q.0, answered_then a b c given unanswered got w sent n p q.1)
+EndsBy-then TooLong a b c given unanswered got w sent n at_end p q = (stop_then a b given unanswered got w n _ p q.0, answered_then a b c given unanswered got w sent n p q.1)
+EndsBy-then Truncated a b c given unanswered got w sent n at_end p q = (q.0, stop_then a b given unanswered got w n _ p q.1, q.2, answered_then a b c given unanswered got w sent n p q.3, q.4)
+EndsBy-then Input a b c given unanswered got w sent n at_end p q = answered_then a b c given unanswered got w sent n p q
+EndsBy-then Output a b c given unanswered got w sent n at_end p q =
     let f : (whole_frames (given ++ got)).events ≡ p.events ++ (whole_frames (unanswered ++ got)).events = ap (λ (x : Framed). x.events) (framed_more given unanswered got p.events p.reads) in
     subst (λ (es : List Event). BeginsFrames a c es (w ++ sent)) (sym f) (begins_then a b c p.events (whole_frames (unanswered ++ got)).events w sent p.progress q)
-Ends-then (Gateway fault) a b c given unanswered got w sent n at_end p q =
+EndsBy-then (Gateway fault) a b c given unanswered got w sent n at_end p q =
     subst (λ (f : Framed). AnsweredFirst a c f.events (w ++ sent)) (sym (framed_more given unanswered got p.events p.reads))
     (AnsweredFirst-then a b c p.events (whole_frames (unanswered ++ got)).events w sent p.progress q)
 
-pub Done-then : (a b c : Told) (given unanswered got w sent : List ℕ) (n m : ℕ) (at_end : Type 0) → Served a b given unanswered w n → Done m b c (unanswered ++ got) sent at_end → Done (n + m) a c (given ++ got) (w ++ sent) at_end
-Done-then a b c given unanswered got w sent n m at_end p q = record {
+pub AllAnswered-then : (a b c : Told) (given unanswered got w sent : List ℕ) (n m : ℕ) (at_end : Type 0) → Served a b given unanswered w n → AllAnswered m b c (unanswered ++ got) sent at_end → AllAnswered (n + m) a c (given ++ got) (w ++ sent) at_end
+AllAnswered-then a b c given unanswered got w sent n m at_end p q = record {
   answered = answered_then a b c given unanswered got w sent n p q.answered;
   whole = stop_then a b given unanswered got w n _ p q.whole;
   count_is = omega (arith, p.count_is, q.count_is, length-append p.events (whole_frames (unanswered ++ got)).events, ap (λ (f : Framed). length f.events) (framed_more given unanswered got p.events p.reads));
@@ -120,8 +120,8 @@ module _ {D : Type 0} (honest : D → Type 0) (moment : D → ℕ) (left : D →
     pub any_moment : IsReady honest old → LeavesOnly moment left old.disk now.disk (IsSafe old.told.config old.told.state served.events 0)
     pub stood : old.fallen ≡ false
     pub stands : now.fallen ≡ false
-    pub passed : failed now.disk ≡ failed old.disk
-    pub tidy : 0 < count → now.grown ≤ 1048576
+    pub no_failure : failed now.disk ≡ failed old.disk
+    pub compacted : 0 < count → now.grown ≤ 1048576
 
   pub going-first : (old : Kept D) → Stands honest moment left failed old old [] [] → Going old old [] [] [] 0
   unfolding Served-first
@@ -132,8 +132,8 @@ module _ {D : Type 0} (honest : D → Type 0) (moment : D → ℕ) (left : D →
     any_moment = s.ran.any_moment;
     stood = s.stands;
     stands = s.stands;
-    passed = refl;
-    tidy = λ some. absurd (omega (arith, some));
+    no_failure = refl;
+    compacted = λ some. absurd (omega (arith, some));
   }
 
   -- one more read
@@ -141,7 +141,7 @@ module _ {D : Type 0} (honest : D → Type 0) (moment : D → ℕ) (left : D →
       → Fares honest moment left b c (events_in (unanswered ++ got)) sent → c.fallen ≡ false → failed c.disk ≡ failed b.disk → c.grown ≤ 1048576
       → Going a c (given ++ got) rest (w ++ sent) (n + m)
   unfolding Served-then
-  going-next a b c given unanswered got rest w sent n m g q f stands passed tidy =
+  going-next a b c given unanswered got rest w sent n m g q f stands no_failure compacted =
       let p = g.served in
       record {
         served = Served-then a.told b.told c.told given unanswered got rest w sent n m p q;
@@ -156,8 +156,8 @@ module _ {D : Type 0} (honest : D → Type 0) (moment : D → ℕ) (left : D →
             (λ before files was is. subst (λ (es : List Event). IsSafe b.told.config b.told.state es 0 files) (sym all) (safe-less b.told.config b.told.state o.front o.back 0 0 files (omega arith) is)));
         stood = g.stood;
         stands = stands;
-        passed = passed ∙ g.passed;
-        tidy = λ _. tidy;
+        no_failure = no_failure ∙ g.no_failure;
+        compacted = λ _. compacted;
       }
 
   -- and how it ends
@@ -193,7 +193,7 @@ module _ {D : Type 0} (honest : D → Type 0) (moment : D → ℕ) (left : D →
     made_room = x.made_room;
     numbers_out = x.numbers_out;
     fell = x.fell;
-    device = λ d. subst (λ (k : ℕ). Grew k (failed c.disk)) g.passed (x.device d);
+    device = λ d. subst (λ (k : ℕ). Grew k (failed c.disk)) g.no_failure (x.device d);
     generations = x.generations;
   }
 

@@ -5,7 +5,7 @@ use Rattle.durable.specs.Recovery.{IsConfigured}
 use Rattle.machine.specs.Judged.{Judged, AreJudged}
 use Rattle.machine.specs.declared.event.Event.{Event}
 use Rattle.frames.specs.declared.fault.HeaderFault.TheVariants as header
-use Rattle.frames.specs.Framing.{Rest, Fault, whole_frames}
+use Rattle.frames.specs.Framing.{Remainder, Rest, Fault, whole_frames}
 use Rattle.frames.specs.Answers.{frames}
 use Rattle.gateway.specs.Told.{Told}
 use Rattle.gateway.specs.Kept.{Kept, IsReady, IsSafe}
@@ -14,44 +14,49 @@ use Rattle.socket_edge.specs.declared.fault.EdgeFault.{EdgeFault}
 use Rattle.socket_edge.specs.declared.fault.EdgeFault.TheVariants.{BadKind, BadInterface, TooLong, Truncated, Input, Output, Gateway}
 use Rattle.socket_edge.specs.Progress.{replies, Progress, Reached, AnsweredFirst, BeginsFrames}
 
+-- the events of the bytes
+abbrev pub events_in : List ℕ → List Event
+events_in bytes = (whole_frames bytes).events
+
+-- what is left behind them, or the fault of the header that stands there
+abbrev pub remainder_of : List ℕ → Remainder
+remainder_of bytes = (whole_frames bytes).remainder
+
 -- The events of the bytes were taken. Where nothing was held before, all of them are answered by the bytes sent, and
 -- nothing is held.
 pub record Answered (old new : Told) (bytes sent : List ℕ) : Type 0 where
-  pub progress : Progress old new (whole_frames bytes).events [] sent
+  pub progress : Progress old new (events_in bytes) [] sent
   pub none : old.held ≡ [] → new.held ≡ []
   pub all : old.held ≡ [] → sent ≡ frames (replies old progress.took.judged)
 
 -- what a fault says of the bytes that were read and sent; `at_end` is that the input has ended
-abbrev pub Ends : EdgeFault → Told → Told → List ℕ → List ℕ → Type 0 → Type 0
-Ends BadKind old new bytes sent at_end = ((whole_frames bytes).remainder ≡ Fault header.BadKind)
+abbrev pub EndsBy : EdgeFault → Told → Told → List ℕ → List ℕ → Type 0 → Type 0
+EndsBy BadKind old new bytes sent at_end = (remainder_of bytes ≡ Fault header.BadKind)
     × Answered old new bytes sent
-Ends BadInterface old new bytes sent at_end =
-    ((whole_frames bytes).remainder ≡ Fault header.BadInterface) × Answered old new bytes sent
-Ends TooLong old new bytes sent at_end = ((whole_frames bytes).remainder ≡ Fault header.TooLong)
+EndsBy BadInterface old new bytes sent at_end =
+    (remainder_of bytes ≡ Fault header.BadInterface) × Answered old new bytes sent
+EndsBy TooLong old new bytes sent at_end = (remainder_of bytes ≡ Fault header.TooLong)
     × Answered old new bytes sent
-Ends Truncated old new bytes sent at_end = (rest : List ℕ)
-    × ((whole_frames bytes).remainder ≡ Rest rest) × (rest ≢ [])
+EndsBy Truncated old new bytes sent at_end = (rest : List ℕ)
+    × (remainder_of bytes ≡ Rest rest) × (rest ≢ [])
     × Answered old new bytes sent × at_end
-Ends Input old new bytes sent at_end = Answered old new bytes sent
-Ends Output old new bytes sent at_end = BeginsFrames old new (whole_frames bytes).events sent
-Ends (Gateway fault) old new bytes sent at_end =
-    AnsweredFirst old new (whole_frames bytes).events sent
+EndsBy Input old new bytes sent at_end = Answered old new bytes sent
+EndsBy Output old new bytes sent at_end = BeginsFrames old new (events_in bytes) sent
+EndsBy (Gateway fault) old new bytes sent at_end =
+    AnsweredFirst old new (events_in bytes) sent
 
 -- all was read and answered, and it was whole frames
-pub record Done (count : ℕ) (old new : Told) (bytes sent : List ℕ) (at_end : Type 0) : Type 0 where
+pub record AllAnswered (count : ℕ) (old new : Told) (bytes sent : List ℕ)
+    (at_end : Type 0) : Type 0 where
   pub answered : Answered old new bytes sent
-  pub whole : (whole_frames bytes).remainder ≡ Rest []
-  pub count_is : count ≡ length (whole_frames bytes).events
+  pub whole : remainder_of bytes ≡ Rest []
+  pub count_is : count ≡ length (events_in bytes)
   pub ended : at_end
 
 -- how a run ended
-abbrev pub Ran : Result ℕ EdgeFault → Told → Told → List ℕ → List ℕ → Type 0 → Type 0
-Ran (Ok count) old new bytes sent at_end = Done count old new bytes sent at_end
-Ran (Err fault) old new bytes sent at_end = Ends fault old new bytes sent at_end
-
--- the events of the bytes
-abbrev pub events_in : List ℕ → List Event
-events_in bytes = (whole_frames bytes).events
+abbrev pub RunEnded : Result ℕ EdgeFault → Told → Told → List ℕ → List ℕ → Type 0 → Type 0
+RunEnded (Ok count) old new bytes sent at_end = AllAnswered count old new bytes sent at_end
+RunEnded (Err fault) old new bytes sent at_end = EndsBy fault old new bytes sent at_end
 
 module _ {D : Type 0} (honest : D → Type 0) (moment : D → ℕ) (left : D → ℕ → Files → Type 0)
     (old new : Kept D) where

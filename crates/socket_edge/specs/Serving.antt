@@ -6,28 +6,27 @@ use Rattle.machine.specs.declared.event.Event.{Event}
 use Rattle.frames.specs.declared.fault.HeaderFault.{HeaderFault}
 use Rattle.frames.specs.declared.fault.HeaderFault.TheVariants as header
 use Rattle.frames.specs.Requests.{Whole, Cut, Bad, next}
-use Rattle.frames.specs.Framing.{behind, whole_frames}
+use Rattle.frames.specs.Framing.{with_first, whole_frames}
 use Rattle.frames.specs.Answers.{frames}
 use Rattle.gateway.specs.declared.fault.GatewayFault.{GatewayFault}
 use Rattle.gateway.specs.Told.{Told}
 use Rattle.gateway.specs.Kept.{Kept}
-use Rattle.gateway.specs.Running.{Stands, IsWhy, CarriesOn, BreaksOff}
-use Rattle.gateway.specs.Running as run
+use Rattle.gateway.specs.Running.{Stands, Ends, IsWhy, CarriesOn, BreaksOff}
 use Rattle.socket_edge.specs.declared.fault.EdgeFault.{EdgeFault}
 use Rattle.socket_edge.specs.declared.fault.EdgeFault.TheVariants.{BadKind, BadInterface, TooLong, Truncated, Input, Output, Gateway}
 use Rattle.socket_edge.specs.declared.serving.Halt.{Halt}
 use Rattle.socket_edge.specs.declared.serving.Halt.TheVariants as halt
 use Rattle.socket_edge.specs.declared.serving.Step.{Step}
 use Rattle.socket_edge.specs.declared.serving.Step.TheVariants as step
-use Rattle.socket_edge.specs.declared.edge.Turn.{Turn}
-use Rattle.socket_edge.specs.declared.edge.Turn.TheVariants as turn
+use Rattle.socket_edge.specs.declared.edge.ReadOutcome.{ReadOutcome}
+use Rattle.socket_edge.specs.declared.edge.ReadOutcome.TheVariants as outcome
 use Rattle.socket_edge.specs.Progress.{Progress}
-use Rattle.socket_edge.specs.Running.{Done, Ends, Fares, Explains, events_in}
+use Rattle.socket_edge.specs.Running.{AllAnswered, EndsBy, Fares, Explains, events_in}
 
 -- the stream so far is these events, and then these bytes
 pub record Reads (given : List ℕ) (events : List Event) (unanswered : List ℕ) : Type 0 where
   pub goes : (more : List ℕ) → whole_frames (given ++ more)
-      ≡ behind events (whole_frames (unanswered ++ more))
+      ≡ with_first events (whole_frames (unanswered ++ more))
 
 -- the whole frames at the front were answered, and these bytes are left
 pub record Served (old new : Told) (bytes rest sent : List ℕ) (count : ℕ) : Type 0 where
@@ -41,13 +40,15 @@ pub record Served (old new : Told) (bytes rest sent : List ℕ) (count : ℕ) : 
 -- what the frames at the front came to
 abbrev pub FrontCame : Result ℕ EdgeFault → Told → Told → List ℕ → List ℕ → List ℕ → Type 0
 FrontCame (Ok count) old new bytes rest sent = Served old new bytes rest sent count
-FrontCame (Err fault) old new bytes rest sent = Ends fault old new bytes sent ⊥
+FrontCame (Err fault) old new bytes rest sent = EndsBy fault old new bytes sent ⊥
 
 -- what one read, and all that it made whole, came to
-abbrev pub Turned : Result Turn EdgeFault → Told → Told → List ℕ → List ℕ → List ℕ → Type 0 → Type 0
-Turned (Ok (turn.More count)) old new bytes rest sent at_end = Served old new bytes rest sent count
-Turned (Ok turn.End) old new bytes rest sent at_end = Done 0 old new bytes sent at_end
-Turned (Err fault) old new bytes rest sent at_end = Ends fault old new bytes sent at_end
+abbrev pub ReadCame : Result ReadOutcome EdgeFault → Told → Told → List ℕ → List ℕ → List ℕ → Type 0
+    → Type 0
+ReadCame (Ok (outcome.More count)) old new bytes rest sent at_end =
+    Served old new bytes rest sent count
+ReadCame (Ok outcome.End) old new bytes rest sent at_end = AllAnswered 0 old new bytes sent at_end
+ReadCame (Err fault) old new bytes rest sent at_end = EndsBy fault old new bytes sent at_end
 
 -- what a halt means for the run
 abbrev pub end_of : Halt → Result (Unit {0}) EdgeFault
@@ -59,14 +60,14 @@ end_of (halt.Refused fault) = Err (Gateway fault)
 
 -- the gateway refused nothing
 abbrev pub RefusesNone : Step → Type 0
-RefusesNone (step.Took forwarded held) = Unit {0}
+RefusesNone (step.Took leaves held) = Unit {0}
 RefusesNone (step.Ends halt.Cut) = Unit {0}
 RefusesNone (step.Ends (halt.Bad fault)) = Unit {0}
 RefusesNone (step.Ends (halt.Refused fault)) = ⊥
 
 -- where answers that are held stand in front, behind so many bytes of answers that are not
 abbrev pub where_held : Step → Option ℕ
-where_held (step.Took forwarded held) = held
+where_held (step.Took leaves held) = held
 where_held (step.Ends s) = None
 
 -- the bytes of the answers in front that are not held
@@ -83,11 +84,11 @@ AreHeld (Some n) answered held = (n ≤ length answered) × (drop n answered ≡
 module _ {D : Type 0} (honest : D → Type 0) (moment : D → ℕ) (left : D → ℕ → Files → Type 0)
     (failed : D → ℕ) where
   -- a packet was taken where it lay, and its answer is held, or handed out
-  abbrev pub Passes : Bool → Kept D → Kept D → Event → ℕ × Answer → Type 0
-  Passes true old new event answer = ((before : List (ℕ × Answer))
+  abbrev pub TakenInPlace : Bool → Kept D → Kept D → Event → ℕ × Answer → Type 0
+  TakenInPlace true old new event answer = ((before : List (ℕ × Answer))
       → CarriesOn honest moment left failed old new (event ∷ []) before before)
       × (new.told.held ≡ old.told.held ++ answer ∷ [])
-  Passes false old new event answer = ((before : List (ℕ × Answer))
+  TakenInPlace false old new event answer = ((before : List (ℕ × Answer))
       → CarriesOn honest moment left failed old new (event ∷ []) before (before ++ answer ∷ []))
       × (old.told.held ≡ []) × (new.told.held ≡ [])
 
@@ -108,7 +109,7 @@ module _ {D : Type 0} (honest : D → Type 0) (moment : D → ℕ) (left : D →
   -- events were taken.
   abbrev pub Stepped : Step → List ℕ → List ℕ → Kept D → Kept D → List (ℕ × Answer)
       → List (ℕ × Answer) → Type 0
-  Stepped (step.Took forwarded held) bytes rest old new before out = (event : Event)
+  Stepped (step.Took leaves held) bytes rest old new before out = (event : Event)
       × (next bytes ≡ Whole event rest)
       × CarriesOn honest moment left failed old new (event ∷ []) before out
   Stepped (step.Ends halt.Cut) bytes rest old new before out = (rest ≡ bytes) × (next bytes ≡ Cut)
@@ -147,12 +148,12 @@ module _ {D : Type 0} (honest : D → Type 0) (moment : D → ℕ) (left : D →
     pub settled : IsSettled start now events out
 
   -- the gateway's fault ended it behind the first of the events
-  pub record IsRefused (fault : GatewayFault) (bytes : List ℕ) (start now : Kept D)
+  pub record GatewayRefuses (fault : GatewayFault) (bytes : List ℕ) (start now : Kept D)
       (out : List (ℕ × Answer)) : Type 0 where
     pub front : List Event
     pub back : List Event
     pub split : events_in bytes ≡ front ++ back
-    pub ends : run.Ends honest moment left failed start now front out
+    pub ends : Ends honest moment left failed start now front out
     pub is_why : IsWhy honest moment left failed start now fault
     pub none : now.fallen ≡ false → now.told.held ≡ []
 
@@ -171,7 +172,8 @@ module _ {D : Type 0} (honest : D → Type 0) (moment : D → ℕ) (left : D →
   Closed (Err Truncated) bytes rest count start now out = ⊥
   Closed (Err Input) bytes rest count start now out = ⊥
   Closed (Err Output) bytes rest count start now out = ⊥
-  Closed (Err (Gateway fault)) bytes rest count start now out = IsRefused fault bytes start now out
+  Closed (Err (Gateway fault)) bytes rest count start now out =
+      GatewayRefuses fault bytes start now out
 
   -- all whole frames at the front were settled and their answers sent, or why not
   abbrev pub SettledAndSent : Result ℕ EdgeFault → Kept D → Kept D → List ℕ → List ℕ
@@ -180,6 +182,6 @@ module _ {D : Type 0} (honest : D → Type 0) (moment : D → ℕ) (left : D →
       (events : List Event) × Reads bytes events rest × (next rest ≡ Cut) × (count ≡ length events)
       × IsSettled old new events out × (sent ≡ frames out)
   SettledAndSent (Err fault) old new bytes rest out sent =
-      Ends fault old.told new.told bytes sent ⊥
+      EndsBy fault old.told new.told bytes sent ⊥
       × Fares honest moment left old new (events_in bytes) sent
       × Explains honest moment left failed fault old new

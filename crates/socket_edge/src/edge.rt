@@ -1,19 +1,19 @@
 //! A run: what is read is offered, and the answers are written.
 //!
 //! `run` calls `read_once` until the input ends. That reads (`Waiting::read`) and calls `answer_read`, which has
-//! `answer_front` answer all that is whole then, and compacts a file that has grown (`serving::tidy`). `answer_front`
-//! offers frame after frame (`serving::offer_all`), has what is held synced (`serving::close`), and only then writes
-//! the answers (`sending::send_behind`).
+//! `answer_front` answer all that is whole then, and compacts a file that has grown (`serving::compact_grown`).
+//! `answer_front` offers frame after frame (`serving::offer_all`), has what is held synced (`serving::close`), and only
+//! then writes the answers (`sending::send_behind`).
 ghost use Rattle.std.specs.Prelude.{◌≡◌, ◌≢◌, ◌↔◌, ℕ, List, [], ◌++◌, ◌+◌, ◌<◌, ◌≤◌, ◌^◌, true, false, IfOk, IfErr, OnOk, length, vec_len, vec_capacity};
 ghost use Rattle.std.specs.Io.KnownBytes.{Appends, Consumes, IsAtEnd};
 ghost use Rattle.machine.specs.declared.event.Answer.{Answer};
 ghost use Rattle.frames.specs.Requests.{next, Cut};
-ghost use Rattle.socket_edge.specs.Running.{Explains, Fares, Ran, events_in};
-ghost use Rattle.socket_edge.specs.Serving.{FrontCame, SettledAndSent, Turned};
+ghost use Rattle.socket_edge.specs.Running.{Explains, Fares, RunEnded, events_in};
+ghost use Rattle.socket_edge.specs.Serving.{FrontCame, SettledAndSent, ReadCame};
 
 use crate::fault::EdgeFault;
 use crate::sending::send_behind;
-use crate::serving::{close, empty_for, offer_all, tidy};
+use crate::serving::{close, compact_grown, empty_for, offer_all};
 use crate::waiting::{Unread, Waiting};
 use disk_model::Disk;
 use gateway::running::stands;
@@ -23,7 +23,7 @@ use std::io::{Read, Write};
 
 /// Whether the input goes on.
 #[derive(Clone, Copy, Drop)]
-pub enum Turn {
+pub enum ReadOutcome {
     /// Bytes came, and all whole frames, of which there are so many, are answered.
     More(u64),
     /// The input is read to its end, and no part of a frame is left.
@@ -85,7 +85,7 @@ fn answer_read<W: Write, D: Disk + Drop>(
         gateway.new) }
     ensures stands { OnOk result (gateway.new.fallen ≡ false) }
     ensures sent { OnOk result (waiting.new.answered ≡ []) }
-    ensures passed { OnOk result (D.failed gateway.new.disk ≡ D.failed gateway.old.disk) }
+    ensures no_failure { OnOk result (D.failed gateway.new.disk ≡ D.failed gateway.old.disk) }
     ensures grown { OnOk result (gateway.new.grown ≤ 1048576) }
 {
     stands(gateway);
@@ -100,7 +100,7 @@ fn answer_read<W: Write, D: Disk + Drop>(
         &mut room.answers,
         &mut room.bodies,
     )?;
-    match tidy(gateway, &mut room.answers) {
+    match compact_grown(gateway, &mut room.answers) {
         Ok(()) => Ok(count),
         Err(fault) => Err(EdgeFault::Gateway(fault)),
     }
@@ -114,14 +114,14 @@ fn read_once<R: Read, W: Write, D: Disk + Drop>(
     gateway: &mut Gateway<D>,
     waiting: &mut Waiting,
     room: &mut Room,
-) -> Result<Turn, EdgeFault>
+) -> Result<ReadOutcome, EdgeFault>
     requires stands { gateway.old.fallen ≡ false }
     requires sent { waiting.old.answered ≡ [] }
     requires cut { next waiting.old.unanswered ≡ Cut }
-    ensures turned { (got sent : List ℕ)
+    ensures came { (got sent : List ℕ)
         × Consumes (R.remaining reader.old) (R.remaining reader.new) got
         × Appends (W.contents writer.old) (W.contents writer.new) sent
-        × Turned result gateway.old.told gateway.new.told (waiting.old.unanswered ++ got)
+        × ReadCame result gateway.old.told gateway.new.told (waiting.old.unanswered ++ got)
         waiting.new.unanswered sent
         (IsAtEnd (R.remaining reader.new))
         × Fares D.honest D.moment D.left gateway.old gateway.new
@@ -130,9 +130,9 @@ fn read_once<R: Read, W: Write, D: Disk + Drop>(
         gateway.new) }
     ensures stands { OnOk result (gateway.new.fallen ≡ false) }
     ensures sent { OnOk result (waiting.new.answered ≡ []) }
-    ensures passed { OnOk result (D.failed gateway.new.disk ≡ D.failed gateway.old.disk) }
-    ensures grown { IfOk result (λ turn. (turn ≢ Turn.End) → gateway.new.grown ≤ 1048576) }
-    ensures stays { IfOk result (λ turn. turn ≡ Turn.End → gateway.new ≡ gateway.old) }
+    ensures no_failure { OnOk result (D.failed gateway.new.disk ≡ D.failed gateway.old.disk) }
+    ensures grown { IfOk result (λ outcome. (outcome ≢ ReadOutcome.End) → gateway.new.grown ≤ 1048576) }
+    ensures stays { IfOk result (λ outcome. outcome ≡ ReadOutcome.End → gateway.new ≡ gateway.old) }
 {
     stands(gateway);
     let n = match waiting.read(reader) {
@@ -142,12 +142,12 @@ fn read_once<R: Read, W: Write, D: Disk + Drop>(
     };
     if n == 0 {
         if waiting.unanswered().is_empty() {
-            return Ok(Turn::End);
+            return Ok(ReadOutcome::End);
         }
         return Err(EdgeFault::Truncated);
     }
     match answer_read(alloc, writer, gateway, waiting, room) {
-        Ok(count) => Ok(Turn::More(count)),
+        Ok(count) => Ok(ReadOutcome::More(count)),
         Err(fault) => Err(fault),
     }
 }
@@ -189,7 +189,7 @@ pub fn run<R: Read, W: Write, D: Disk + Drop>(
     ensures ran { (given written : List ℕ)
         × Consumes (R.remaining reader.old) (R.remaining reader.new) given
         × Appends (W.contents writer.old) (W.contents writer.new) written
-        × Ran result gateway.old.told gateway.new.told given written
+        × RunEnded result gateway.old.told gateway.new.told given written
         (IsAtEnd (R.remaining reader.new))
         × Fares D.honest D.moment D.left gateway.old gateway.new (events_in given) written }
     ensures why { gateway.old.fallen ≡ false
@@ -214,11 +214,11 @@ pub fn run<R: Read, W: Write, D: Disk + Drop>(
     let mut count: u64 = 0;
     for _ in 0..u64::MAX {
         match read_once(alloc, reader, writer, gateway, &mut waiting, &mut room) {
-            Ok(Turn::More(more)) => {
+            Ok(ReadOutcome::More(more)) => {
                 gateway.facts();
                 count = sum(count, more);
             }
-            Ok(Turn::End) => return Ok(count),
+            Ok(ReadOutcome::End) => return Ok(count),
             Err(fault) => return Err(fault),
         }
     }

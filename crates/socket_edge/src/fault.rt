@@ -16,13 +16,13 @@ pub enum EdgeFault {
     /// The input ends within a frame's header or body.
     #[error("the input ends within a frame")]
     Truncated,
-    /// A read failed, interruptions included.
+    /// A read failed, interruptions included, or the input hadn't ended behind 2^64 - 1 reads.
     #[error("reading failed")]
     Input,
     /// A write failed, interruptions included, or took no byte.
     #[error("writing failed")]
     Output,
-    /// The gateway's fault, or the edge's own want of memory.
-    #[error("the gateway refused an event: {0}")]
+    /// The gateway refused an event, a sync or a compaction failed, or the edge was refused memory.
+    #[error("the gateway's fault: {0}")]
     Gateway(GatewayFault),
 }

@@ -1,17 +1,17 @@
 //! A packet that is answered in the bytes of the request that brought it: one that leaves at once (`forward_frame`), or
-//! any (`pass_frame`).
+//! any (`answer_in_place`).
 ghost use Rattle.std.specs.Prelude.{◌≡◌, ◌+◌, ◌<◌, ◌≤◌, ◌^◌, ◌++◌, ◌∷◌, [], ℕ, List, IfNone, IfSome, length, take, drop, true, false};
 ghost use Rattle.gateway.specs.Running.{CarriesOn};
 ghost use Rattle.machine.specs.declared.event.Answer.{Answer};
 ghost use Rattle.machine.specs.declared.event.What.TheVariants.{Packet};
 ghost use Rattle.machine.specs.Fates.{answer_of};
 ghost use Rattle.frames.specs.Answers.{frame};
-ghost use Rattle.socket_edge.specs.Serving.{Passes};
+ghost use Rattle.socket_edge.specs.Serving.{TakenInPlace};
 
 use disk_model::Disk;
 use frames::answer::{ANSWER_FRONT, drop_frame, forward_front};
-use gateway::running::{forward, pass};
-use gateway::{Fate, Gateway, Iface, Passed};
+use gateway::running::{forward, take_in_place};
+use gateway::{Fate, Gateway, GivenInPlace, Iface};
 
 /// What became of a packet that was taken where it lay.
 #[derive(Clone, Copy, Drop)]
@@ -89,7 +89,7 @@ fn write_front(front: &mut [u8], number: u64, fate: Fate, len: usize, held: bool
 /// Has the gateway take the packet of a request's frame, where it lies. Where it does, the first bytes become the frame
 /// of the answer, which is held or handed out; otherwise nothing has changed. The moment is in seconds.
 #[inline(always)]
-pub fn pass_frame<D: Disk + Drop>(
+pub fn answer_in_place<D: Disk + Drop>(
     bytes: &mut [u8],
     moment: u64,
     iface: Iface,
@@ -100,7 +100,7 @@ pub fn pass_frame<D: Disk + Drop>(
     requires short { length bytes.old ≤ 14 + 65535 }
     ensures some { IfSome result (λ placed. (answer : ℕ × Answer)
         × (take placed.size bytes.new ≡ frame answer)
-        × Passes D.honest D.moment D.left D.failed placed.held gateway.old gateway.new
+        × TakenInPlace D.honest D.moment D.left D.failed placed.held gateway.old gateway.new
         (record { moment = moment; what = Packet iface (drop 14 bytes.old) }) answer) }
     ensures within { IfSome result (λ placed. placed.size ≤ length bytes.new) }
     ensures none { IfNone result ((bytes.new ≡ bytes.old) × (gateway.new ≡ gateway.old)) }
@@ -108,12 +108,12 @@ pub fn pass_frame<D: Disk + Drop>(
     ensures size { length bytes.new ≡ length bytes.old }
 {
     let (front, packet) = bytes.split_at_mut(ANSWER_FRONT);
-    match pass(gateway, moment, iface, packet) {
+    match take_in_place(gateway, moment, iface, packet) {
         None => None,
-        Some(Passed::Now(number, fate)) => {
+        Some(GivenInPlace::Now(number, fate)) => {
             Some(write_front(front, number, fate, packet.len(), false))
         }
-        Some(Passed::Held(number, fate)) => {
+        Some(GivenInPlace::Held(number, fate)) => {
             Some(write_front(front, number, fate, packet.len(), true))
         }
     }

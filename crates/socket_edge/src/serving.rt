@@ -3,14 +3,14 @@
 //!
 //! - `empty_for`: the answers of the read before are let go, and their memory is kept for bodies (`keep_bodies`);
 //! - `offer_all`: frame after frame is offered, until a `Halt`. `offer_next` has a packet taken where it lies
-//!   (`Waiting::forward_next` and `pass_next`), behind others whose answers are held (`offer_behind`) until these are
+//!   (`Waiting::forward_next` and `take_next`), behind others whose answers are held (`take_or_settle`) until these are
 //!   synced (`gateway::running::settle`), or where none are (`offer_idle`). Of any other frame a copy is offered:
 //!   `offer_copy` takes it (`frames::request::take_frame`), and `offer_event` hands its event to
 //!   `gateway::running::take`. Before one that is never taken so, the frames of held answers make way (`make_way`).
 //!   What is answered goes back into the bytes (`put_back`);
 //! - `close`: what is held is synced and handed out (`give_held`, by `gateway::running::hand_out`) and put back too,
 //!   and `end_at` says what the halt means for the run. Then `edge` writes the answers (`sending::send_behind`);
-//! - `tidy`: a file that has grown is made short (`gateway::running::compact`).
+//! - `compact_grown`: a file that has grown is made short (`gateway::running::compact`).
 ghost use Rattle.std.specs.Prelude.{◌≡◌, ◌≢◌, ◌+◌, ◌∷◌, ◌++◌, [], ℕ, List, ◌<◌, ◌≤◌, false, length, true, None, IfErr, IfNone, IfSome, OnOk, OnSome, vec_len, vec_capacity};
 ghost use Rattle.gateway.specs.Kept.{Kept};
 ghost use Rattle.gateway.specs.Running.{CarriesOn, Stands};
@@ -18,7 +18,7 @@ ghost use Rattle.machine.specs.declared.event.Answer.{Answer};
 ghost use Rattle.frames.specs.Answers.{frame, frames};
 ghost use Rattle.frames.specs.Requests.{Whole, next};
 ghost use Rattle.socket_edge.specs.Serving.{CarriesBehind, BreaksBehind, Stepped, Offered, Closed};
-ghost use Rattle.socket_edge.specs.Serving.{AreHeld, Passes, RefusesNone, end_of, where_held, released};
+ghost use Rattle.socket_edge.specs.Serving.{AreHeld, TakenInPlace, RefusesNone, end_of, where_held, released};
 
 use crate::ahead::Ahead;
 use crate::fault::EdgeFault;
@@ -57,9 +57,13 @@ pub enum Halt {
 /// What the front of the bytes came to.
 #[derive(Clone, Copy, Drop)]
 pub enum Step {
-    /// A frame was taken. First, whether a packet that leaves is the last of the answers that are handed out. Second,
-    /// where answers that are held stand in front, how many bytes of other answers stand before them.
-    Took(bool, Option<usize>),
+    /// A frame was taken.
+    Took {
+        /// Whether the last of the answers that are handed out is a packet that leaves.
+        leaves: bool,
+        /// Where answers that are held stand in front, how many bytes of other answers stand before them.
+        held_from: Option<usize>,
+    },
     /// No more frames are offered.
     Ends(Halt),
 }
@@ -211,9 +215,12 @@ fn offer_copy<D: Disk + Drop>(
             waiting.skip(len);
             match offer_event(event, answers, gateway) {
                 Ok(()) => {
-                    let forwarded = ends_in_forward(answers.as_slice());
+                    let leaves = ends_in_forward(answers.as_slice());
                     put_back(waiting, answers, bodies);
-                    Step::Took(forwarded, None)
+                    Step::Took {
+                        leaves,
+                        held_from: None,
+                    }
                 }
                 Err(fault) => Step::Ends(Halt::Refused(fault)),
             }
@@ -278,30 +285,39 @@ fn offer_idle<D: Disk + Drop>(
         return offer_copy(alloc, waiting, answers, bodies, gateway);
     }
     if send_at_once(hopeful, waiting, gateway) {
-        return Step::Took(true, None);
+        return Step::Took {
+            leaves: true,
+            held_from: None,
+        };
     }
     if make_places(answers, MOST_HELD).is_err() {
         return offer_copy(alloc, waiting, answers, bodies, gateway);
     }
     let from = waiting.answered().len();
-    let Some(placed) = waiting.pass_next(gateway) else {
+    let Some(placed) = waiting.take_next(gateway) else {
         return offer_copy(alloc, waiting, answers, bodies, gateway);
     };
     if placed.held {
-        return Step::Took(false, Some(from));
+        return Step::Took {
+            leaves: false,
+            held_from: Some(from),
+        };
     }
-    Step::Took(placed.leaves, None)
+    Step::Took {
+        leaves: placed.leaves,
+        held_from: None,
+    }
 }
 
 /// Has the packet at the front taken where it lies, behind answers that are held, unless no more can be. Says whether
 /// it was; its answer is held then.
-fn pass_behind<D: Disk + Drop>(waiting: &mut Waiting, gateway: &mut Gateway<D>) -> bool
+fn take_behind<D: Disk + Drop>(waiting: &mut Waiting, gateway: &mut Gateway<D>) -> bool
     requires stands { gateway.old.fallen ≡ false }
     requires some { gateway.old.told.held ≢ [] }
-    ensures passed { result ≡ true → (event : Event) × (answer : ℕ × Answer)
+    ensures taken { result ≡ true → (event : Event) × (answer : ℕ × Answer)
         × (next waiting.old.unanswered ≡ Whole event waiting.new.unanswered)
         × (waiting.new.answered ≡ waiting.old.answered ++ frame answer)
-        × Passes D.honest D.moment D.left D.failed true gateway.old gateway.new event answer }
+        × TakenInPlace D.honest D.moment D.left D.failed true gateway.old gateway.new event answer }
     ensures stays { result ≡ false → (waiting.new ≡ waiting.old) × (gateway.new ≡ gateway.old) }
     ensures few { length gateway.new.told.held ≤ 64 }
     ensures stands { gateway.new.fallen ≡ false }
@@ -309,14 +325,14 @@ fn pass_behind<D: Disk + Drop>(waiting: &mut Waiting, gateway: &mut Gateway<D>) 
     if gateway.held() >= MOST_HELD {
         return false;
     }
-    waiting.pass_next(gateway).is_some()
+    waiting.take_next(gateway).is_some()
 }
 
 /// Where frames of held answers stand among the answered bytes, from `held_from` on, has the packet at the front taken
-/// where it lies. If it isn't, they are synced: where 64 are held, where `Gateway::pass` doesn't take it, and where no
-/// whole frame is left or a header is faulty, as behind the last frame of each read. `None` where no answer that is
-/// held stands in front any more, and what is at the front is still to be offered.
-fn offer_behind<D: Disk + Drop>(
+/// where it lies. If it isn't, they are synced: where 64 are held, where `Gateway::offer_in_place` doesn't take it, and
+/// where no whole frame is left or a header is faulty, as behind the last frame of each read. `None` where no answer
+/// that is held stands in front any more, and what is at the front is still to be offered.
+fn take_or_settle<D: Disk + Drop>(
     held_from: Option<usize>,
     waiting: &mut Waiting,
     gateway: &mut Gateway<D>,
@@ -345,8 +361,11 @@ fn offer_behind<D: Disk + Drop>(
     let Some(from) = held_from else {
         return None;
     };
-    if pass_behind(waiting, gateway) {
-        return Some(Step::Took(false, Some(from)));
+    if take_behind(waiting, gateway) {
+        return Some(Step::Took {
+            leaves: false,
+            held_from: Some(from),
+        });
     }
     match settle(gateway) {
         Ok(()) => None,
@@ -358,9 +377,9 @@ fn offer_behind<D: Disk + Drop>(
 }
 
 /// Where frames of held answers stand among the answered bytes, from `held_from` on, and a frame comes that
-/// `Gateway::pass` never takes, lets them go, unless no more can be held: the gateway has the answers too, and hands
-/// them out with that of the frame, so that they needn't be synced before it. Says from where on such frames stand
-/// then, if there are any.
+/// `Gateway::offer_in_place` never takes, lets them go, unless no more can be held: the gateway has the answers too,
+/// and hands them out with that of the frame, so that they needn't be synced before it. Says from where on such frames
+/// stand then, if there are any.
 #[inline(always)]
 fn make_way<D: Disk + Drop>(
     held_from: Option<usize>,
@@ -411,19 +430,15 @@ fn offer_next<D: Disk + Drop>(
     ensures room { vec_len answers.new + length gateway.new.told.held ≤ vec_capacity answers.new }
 {
     let held_from = make_way(held_from, waiting, gateway);
-    match offer_behind(held_from, waiting, gateway) {
+    match take_or_settle(held_from, waiting, gateway) {
         Some(step) => step,
         None => offer_idle(alloc, hopeful, waiting, answers, bodies, gateway),
     }
 }
 
 /// How many events in a row have now ended with no packet handed out: none behind a packet that left, or else one more.
-fn misses_behind(misses: usize, forwarded: bool) -> usize {
-    if forwarded {
-        0
-    } else {
-        misses.saturating_add(1)
-    }
+fn misses_behind(misses: usize, leaves: bool) -> usize {
+    if leaves { 0 } else { misses.saturating_add(1) }
 }
 
 /// Offers each whole frame at the front, and says how many were taken, and why no more are offered. Answers that are
@@ -455,11 +470,14 @@ pub fn offer_all<D: Disk + Drop>(
         ahead = ahead.next(waiting.unanswered(), gateway);
         let hopeful = ahead.is_known() && misses < MOST_MISSES;
         match offer_next(alloc, hopeful, held_from, waiting, answers, bodies, gateway) {
-            Step::Took(forwarded, now_held_from) => {
+            Step::Took {
+                leaves,
+                held_from: now_held_from,
+            } => {
                 held_from = now_held_from;
                 prove!(count < most);
                 count += 1;
-                misses = misses_behind(misses, forwarded);
+                misses = misses_behind(misses, leaves);
             }
             Step::Ends(halt) => return (count as u64, halt),
         }
@@ -488,7 +506,9 @@ fn give_held<D: Disk + Drop>(
     hand_out(gateway, answers)
 }
 
-/// Hands out what is held, where the gateway has not fallen, and says what the halt means.
+/// Hands out what is held, where the gateway has not fallen, and says what the halt means. Of whatever run began at
+/// `start`, and has come over `bytes` to this halt with so many events and these bytes left (`Offered`), the first
+/// clause says that it is closed by this call (`Closed`).
 pub fn close<D: Disk + Drop>(
     halt: Halt,
     waiting: &mut Waiting,
@@ -521,7 +541,7 @@ pub fn close<D: Disk + Drop>(
 
 /// Compacts where the file has grown by more than `MOST_GROWN`. Nothing is held, so no answer is handed out: `answers`
 /// stays.
-pub fn tidy<D: Disk + Drop>(
+pub fn compact_grown<D: Disk + Drop>(
     gateway: &mut Gateway<D>,
     answers: &mut Vec<(u64, Answer)>,
 ) -> Result<(), GatewayFault>

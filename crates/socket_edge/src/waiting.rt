@@ -1,9 +1,9 @@
 //! The bytes that were read and aren't answered yet, and in front of them, in the same memory, the frames of answers to
 //! those that were. The next read goes right behind them, into memory that is kept.
 //!
-//! `read` puts what comes behind the bytes that wait. A frame leaves their front by `forward_next` and `pass_next`,
-//! which have its packet taken where it lies (`forwarding::forward_frame` and `pass_frame`) and make its answer of it,
-//! or by `skip`, where `serving` offers a copy of it; then `put` writes the answer where the request stood
+//! `read` puts what comes behind the bytes that wait. A frame leaves their front by `forward_next` and `take_next`,
+//! which have its packet taken where it lies (`forwarding::forward_frame` and `answer_in_place`) and make its answer of
+//! it, or by `skip`, where `serving` offers a copy of it; then `put` writes the answer where the request stood
 //! (`frames::answer::fill_frames`), if there is room there. `answered` is what stands here to be written:
 //! `forget_answered` lets it go behind that. `cut_answered` takes the frames of held answers away: where their changes
 //! could not be synced, or where they make way for a frame that is offered as a copy (`serving::make_way`).
@@ -15,9 +15,9 @@ ghost use Rattle.machine.specs.declared.event.Event.{Event};
 ghost use Rattle.machine.specs.declared.event.What.TheVariants.{Packet};
 ghost use Rattle.frames.specs.Answers.{frame, frames};
 ghost use Rattle.frames.specs.Requests.{next, Whole};
-ghost use Rattle.socket_edge.specs.Serving.{Passes};
+ghost use Rattle.socket_edge.specs.Serving.{TakenInPlace};
 
-use crate::forwarding::{Placed, forward_frame, pass_frame};
+use crate::forwarding::{Placed, answer_in_place, forward_frame};
 use disk_model::Disk;
 use frames::answer::fill_frames;
 use frames::request::{Head, Kind, LONGEST_PACKET, REQUEST_HEAD, announces_packet, read_head};
@@ -93,8 +93,8 @@ impl Waiting {
         &self.bytes.as_slice()[..self.answered]
     }
 
-    /// Whether a whole frame stands at the front that `Gateway::pass` never takes: a load, a moment, or a packet of
-    /// more than 2,048 bytes.
+    /// Whether a whole frame stands at the front that `Gateway::offer_in_place` never takes: a load, a moment, or a
+    /// packet of more than 2,048 bytes.
     #[inline(always)]
     pub fn wants_copy(&self) -> bool
         ensures { result ≡ true → (event : Event) × (rest : List ℕ)
@@ -196,12 +196,12 @@ impl Waiting {
     /// frame of its answer stands behind the other answers, also where the answer is held; otherwise nothing has
     /// changed.
     #[inline(always)]
-    pub fn pass_next<D: Disk + Drop>(&mut self, gateway: &mut Gateway<D>) -> Option<Placed>
+    pub fn take_next<D: Disk + Drop>(&mut self, gateway: &mut Gateway<D>) -> Option<Placed>
         requires stands { gateway.old.fallen ≡ false }
         ensures some { IfSome result (λ placed. (event : Event) × (answer : ℕ × Answer)
             × (next self.old.unanswered ≡ Whole event self.new.unanswered)
             × (self.new.answered ≡ self.old.answered ++ frame answer)
-            × Passes D.honest D.moment D.left D.failed placed.held gateway.old gateway.new
+            × TakenInPlace D.honest D.moment D.left D.failed placed.held gateway.old gateway.new
             event answer) }
         ensures none { IfNone result ((self.new ≡ self.old) × (gateway.new ≡ gateway.old)) }
         ensures stands { gateway.new.fallen ≡ false }
@@ -210,7 +210,8 @@ impl Waiting {
             return None;
         };
         let (bytes, end) = (self.bytes.as_mut_slice(), self.start + len);
-        let Some(placed) = pass_frame(&mut bytes[self.start..end], moment, iface, gateway) else {
+        let Some(placed) = answer_in_place(&mut bytes[self.start..end], moment, iface, gateway)
+        else {
             return None;
         };
         move_down(bytes, self.start, placed.size, self.answered);

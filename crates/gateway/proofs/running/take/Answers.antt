@@ -4,33 +4,33 @@ use Rattle.std.proofs.lemmas.Result.{err_from_is_err_and, IfErr-weaker, on_ok_we
 use Rattle.gateway.proofs.Runs.{breaks-before, breaks-then, carries-then}
 use Rattle.gateway.proofs.running.take.Goals as goal
 
-pub returns-in_err-hold_fewer-clause-err : goal.returns-in_err-hold_fewer-clause-err
-returns-in_err-hold_fewer-clause-err g c =
+pub returns-in_err-flush_held_full-clause-err : goal.returns-in_err-flush_held_full-clause-err
+returns-in_err-flush_held_full-clause-err g c =
     let p = err_from_is_err_and c.from_residual.result c.from_residual.ensures.1 in
-    rw (p.1, p.2) (breaks-before g.D.Disk.honest g.D.Disk.moment g.D.Disk.left g.D.Disk.failed c.args.gateway.now c.hold_fewer.new.gateway [] (c.args.event ∷ [])
-    c.args.answers.now.items c.hold_fewer.new.answers.items _ c.in_err-hold_fewer.ensures.err)
+    rw (p.1, p.2) (breaks-before g.D.Disk.honest g.D.Disk.moment g.D.Disk.left g.D.Disk.failed c.args.gateway.now c.flush_held_full.new.gateway [] (c.args.event ∷ [])
+    c.args.answers.now.items c.flush_held_full.new.answers.items _ c.in_err-flush_held_full.ensures.err)
 
 pub returns-in_default-clause-ok : goal.returns-in_default-clause-ok
 returns-in_default-clause-ok g c =
-    carries-then g.D.Disk.honest g.D.Disk.moment g.D.Disk.left g.D.Disk.failed c.args.gateway.now c.hold_fewer.new.gateway c.offer.new.gateway [] (c.args.event ∷ [])
-    c.args.answers.now.items c.hold_fewer.new.answers.items c.offer.new.answers.items c.in_ok-hold_fewer.ensures.ok c.in_default.ensures.ok
+    carries-then g.D.Disk.honest g.D.Disk.moment g.D.Disk.left g.D.Disk.failed c.args.gateway.now c.flush_held_full.new.gateway c.offer.new.gateway [] (c.args.event ∷ [])
+    c.args.answers.now.items c.flush_held_full.new.answers.items c.offer.new.answers.items c.in_ok-flush_held_full.ensures.ok c.in_default.ensures.ok
 
 pub returns-then-is_full-clause-ok : goal.returns-then-is_full-clause-ok
 returns-then-is_full-clause-ok g c =
     let same = c.in-Err.ensures.err in
     on_ok_weaker c.take_behind_compaction.result (λ ok.
-    carries-then g.D.Disk.honest g.D.Disk.moment g.D.Disk.left g.D.Disk.failed c.args.gateway.now c.hold_fewer.new.gateway c.take_behind_compaction.new.gateway [] (c.args.event ∷ [])
-    c.args.answers.now.items c.hold_fewer.new.answers.items c.take_behind_compaction.new.answers.items c.in_ok-hold_fewer.ensures.ok (rw (← same.0, ← same.1, ← same.2) ok)) c.take_behind_compaction.ensures.ok
+    carries-then g.D.Disk.honest g.D.Disk.moment g.D.Disk.left g.D.Disk.failed c.args.gateway.now c.flush_held_full.new.gateway c.take_behind_compaction.new.gateway [] (c.args.event ∷ [])
+    c.args.answers.now.items c.flush_held_full.new.answers.items c.take_behind_compaction.new.answers.items c.in_ok-flush_held_full.ensures.ok (rw (← same.0, ← same.1, ← same.2) ok)) c.take_behind_compaction.ensures.ok
 
 pub returns-then-is_full-clause-err : goal.returns-then-is_full-clause-err
 returns-then-is_full-clause-err g c =
     let same = c.in-Err.ensures.err in
     IfErr-weaker c.take_behind_compaction.result _ _ (λ why off.
-    breaks-then g.D.Disk.honest g.D.Disk.moment g.D.Disk.left g.D.Disk.failed c.args.gateway.now c.hold_fewer.new.gateway c.take_behind_compaction.new.gateway [] (c.args.event ∷ [])
-    c.args.answers.now.items c.hold_fewer.new.answers.items c.take_behind_compaction.new.answers.items why c.in_ok-hold_fewer.ensures.ok (rw (← same.0, ← same.1, ← same.2) off)) c.take_behind_compaction.ensures.err
+    breaks-then g.D.Disk.honest g.D.Disk.moment g.D.Disk.left g.D.Disk.failed c.args.gateway.now c.flush_held_full.new.gateway c.take_behind_compaction.new.gateway [] (c.args.event ∷ [])
+    c.args.answers.now.items c.flush_held_full.new.answers.items c.take_behind_compaction.new.answers.items why c.in_ok-flush_held_full.ensures.ok (rw (← same.0, ← same.1, ← same.2) off)) c.take_behind_compaction.ensures.err
 
 pub returns-clause-err : goal.returns-clause-err
 returns-clause-err g c =
-    breaks-then g.D.Disk.honest g.D.Disk.moment g.D.Disk.left g.D.Disk.failed c.args.gateway.now c.hold_fewer.new.gateway c.offer.new.gateway [] (c.args.event ∷ [])
-    c.args.answers.now.items c.hold_fewer.new.answers.items c.offer.new.answers.items c.in-Err.fault
-    c.in_ok-hold_fewer.ensures.ok (c.in-Err.ensures.why (λ full. false≢true (sym c.if-is_full.false ∙ c.is_full.ensures.1 full)))
+    breaks-then g.D.Disk.honest g.D.Disk.moment g.D.Disk.left g.D.Disk.failed c.args.gateway.now c.flush_held_full.new.gateway c.offer.new.gateway [] (c.args.event ∷ [])
+    c.args.answers.now.items c.flush_held_full.new.answers.items c.offer.new.answers.items c.in-Err.fault
+    c.in_ok-flush_held_full.ensures.ok (c.in-Err.ensures.why (λ full. false≢true (sym c.if-is_full.false ∙ c.is_full.ensures.1 full)))

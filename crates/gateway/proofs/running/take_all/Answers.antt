@@ -59,7 +59,7 @@ returns-clause-err g c =
     })
     c.hand_out.ensures.err
 
-pub returns-clause-passed : goal.returns-clause-passed
-returns-clause-passed g c =
+pub returns-clause-no_failure : goal.returns-clause-no_failure
+returns-clause-no_failure g c =
     let i = c.loop-event.invariant in
-    on_ok_weaker c.hand_out.result (λ ok. (ok c.args.gateway.now c.loop-event.yielded i.stands).passed) c.hand_out.ensures.ok
+    on_ok_weaker c.hand_out.result (λ ok. (ok c.args.gateway.now c.loop-event.yielded i.stands).no_failure) c.hand_out.ensures.ok

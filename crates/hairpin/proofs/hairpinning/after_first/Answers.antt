@@ -9,11 +9,15 @@ use Rattle.hairpin.specs.Legs.{facts_of}
 use Rattle.hairpin.proofs.Planned.{drops_full, drops_rule, is-first, plans}
 use Rattle.hairpin.proofs.hairpinning.after_first.Goals as goal
 
-pub second_leg-requires-clause-keeps : goal.second_leg-requires-clause-keeps
-second_leg-requires-clause-keeps c = (is-first c.args.bounds.now c.args.rules.now c.args.table.now.held c.args.now c.args.view.now c.facts.ensures.valid c.requires.translations.sound c.requires.inside c.requires.external_destination c.requires.ports c.args.first.now.session c.args.first.now.before c.requires.before c.requires.session).keeps
-
-pub second_leg-requires-clause-remote : goal.second_leg-requires-clause-remote
-second_leg-requires-clause-remote c = (is-first c.args.bounds.now c.args.rules.now c.args.table.now.held c.args.now c.args.view.now c.facts.ensures.valid c.requires.translations.sound c.requires.inside c.requires.external_destination c.requires.ports c.args.first.now.session c.args.first.now.before c.requires.before c.requires.session).remote
+pub second_leg-requires : goal.second_leg-requires
+second_leg-requires c =
+    let is = is-first c.args.bounds.now c.args.rules.now c.args.table.now.held c.args.now c.args.view.now c.facts.ensures.valid c.requires.translations.sound c.requires.inside c.requires.external_destination c.requires.ports c.args.first.now.session c.args.first.now.before c.requires.before c.requires.session in
+    record {
+      translations = c.requires.translations;
+      keeps = is.keeps;
+      remote = is.remote;
+      away = λ e. false≢true (sym c.if-eq.false ∙ c.eq.ensures ∙ same_endpoint-from c.args.first.now.session.outside c.args.view.now.dst e);
+    }
 
 pub returns-then-not-is_forwarded : goal.returns-then-not-is_forwarded
 returns-then-not-is_forwarded c =

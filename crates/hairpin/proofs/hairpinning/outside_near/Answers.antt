@@ -11,14 +11,14 @@ pub returns-in-Some : goal.returns-in-Some
 returns-in-Some c = λ rules now.
     let view = c.args.view.now in
     let held = c.args.table.now.held in
-    let m = mapped c.args.bounds.now (listing held) c.requires.translations.sound view.proto view.src c.in-Some.outside (subst (λ o. IfSome o (IsMapping (listing held) view.proto view.src)) c.in-Some.is c.requires.mapped) in
+    let m = mapped c.args.bounds.now (listing held) c.requires.translations.sound view.proto view.src c.in-Some.outside (subst (λ o. IfSome o (IsMapping (listing held) view.proto view.src)) c.in-Some.is c.requires.mapping.mapped) in
     sym (ap (outside_near c.args.bounds.now rules (listing held) now view) m.1 ∙ ap (λ e. Ok e) m.2)
 
 pub returns-in-Some-choose : goal.returns-in-Some-choose
 returns-in-Some-choose c = λ rules now.
     let held = c.args.table.now.held in
     let view = c.args.view.now in
-    let absent = subst (λ o. IfNone o ((outside : Endpoint) → ¬ IsMapping (listing held) view.proto view.src outside)) c.in-None.is c.requires.unmapped in
+    let absent = subst (λ o. IfNone o ((outside : Endpoint) → ¬ IsMapping (listing held) view.proto view.src outside)) c.in-None.is c.requires.mapping.unmapped in
     ap or_no_port (sym c.in-Some-choose.is)
     ∙ near_chosen c.args.bounds.now rules held c.args.translations.now.mappings c.requires.translations.counts c.facts.ensures.valid c.requires.translations.sound now view c.args.translations.now.external c.choose.result c.requires.translations.external c.requires.external_destination absent c.choose.ensures
 
@@ -26,6 +26,6 @@ pub returns-in-None-choose : goal.returns-in-None-choose
 returns-in-None-choose c = λ rules now.
     let held = c.args.table.now.held in
     let view = c.args.view.now in
-    let absent = subst (λ o. IfNone o ((outside : Endpoint) → ¬ IsMapping (listing held) view.proto view.src outside)) c.in-None.is c.requires.unmapped in
+    let absent = subst (λ o. IfNone o ((outside : Endpoint) → ¬ IsMapping (listing held) view.proto view.src outside)) c.in-None.is c.requires.mapping.unmapped in
     ap or_no_port (sym c.in-None-choose.is)
     ∙ near_chosen c.args.bounds.now rules held c.args.translations.now.mappings c.requires.translations.counts c.facts.ensures.valid c.requires.translations.sound now view c.args.translations.now.external c.choose.result c.requires.translations.external c.requires.external_destination absent c.choose.ensures

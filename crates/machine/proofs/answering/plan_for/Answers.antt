@@ -9,8 +9,8 @@ out_leg-requires-clause-inside c = (routed_is_on_route c.args.bounds.now c.requi
 pub in_leg-requires-clause-routed : goal.in_leg-requires-clause-routed
 in_leg-requires-clause-routed c = comes-to c.args.bounds.now c.args.view.now.dst.addr (routed_is_on_route c.args.bounds.now c.requires.routed.0 c.args.view.now In (rw c.in-In.is at c.requires.routed.1)).1.3
 
-pub both-requires-clause-inside : goal.both-requires-clause-inside
-both-requires-clause-inside c = (routed_is_on_route c.args.bounds.now c.requires.routed.0 c.args.view.now Hairpin (rw c.in-Hairpin.is at c.requires.routed.1)).1.1
+pub hairpin_leg-requires-clause-inside : goal.hairpin_leg-requires-clause-inside
+hairpin_leg-requires-clause-inside c = (routed_is_on_route c.args.bounds.now c.requires.routed.0 c.args.view.now Hairpin (rw c.in-Hairpin.is at c.requires.routed.1)).1.1
 
-pub both-requires-clause-external_destination : goal.both-requires-clause-external_destination
-both-requires-clause-external_destination c = external-is c.args.bounds.now c.args.view.now.dst.addr (routed_is_on_route c.args.bounds.now c.requires.routed.0 c.args.view.now Hairpin (rw c.in-Hairpin.is at c.requires.routed.1)).1.2
+pub hairpin_leg-requires-clause-external_destination : goal.hairpin_leg-requires-clause-external_destination
+hairpin_leg-requires-clause-external_destination c = external-is c.args.bounds.now c.args.view.now.dst.addr (routed_is_on_route c.args.bounds.now c.requires.routed.0 c.args.view.now Hairpin (rw c.in-Hairpin.is at c.requires.routed.1)).1.2

@@ -10,7 +10,7 @@ use Rattle.durable.proofs.Storable.{empty_durable}
 use Rattle.durable.proofs.Headed.{recovers_once}
 use Rattle.snapshot.specs.Opening.{IsFoundFor, found_state}
 use Rattle.snapshot.specs.declared.opening.Ready.{Ready}
-use Rattle.snapshot.specs.Store.{IsFirst}
+use Rattle.snapshot.specs.Store.{MakesFirst}
 use Rattle.snapshot.proofs.States.{same_back, none_same, configured_by, configured_same}
 use Rattle.snapshot.proofs.Beginnings.{ready_sound, pair_same, ready_same, ready_open, alike_of, alike_on, configured_of, configured_on, begun_alike}
 use Rattle.snapshot.proofs.opening.make_ready.Goals as goal
@@ -57,8 +57,8 @@ returns-in-Some-clause-recovers g c = λ h.
     let is : IsFoundFor c.args.bounds.now (pair c.deref.result.now c.deref-2.result.now) c.in-Some.found = search rules in
     recovers_once.same other files _ (same_back files other read) (inr (c.in-Some.found.file, is.heading, c.in-Some.found.end, is.active))
 
-pub returns-in-Some-clause-taken : goal.returns-in-Some-clause-taken
-returns-in-Some-clause-taken g c = λ h.
+pub returns-in-Some-clause-had_config : goal.returns-in-Some-clause-had_config
+returns-in-Some-clause-had_config g c = λ h.
     let files = g.D.Disk.seen c.args.disk.now in
     let read = pair_same files c.deref.result.now c.deref-2.result.now (c.deref.ensures.value ∙ (c.in_ok-a.ensures.ok h).0) (c.deref-2.ensures.value ∙ (c.in_ok-a.ensures.ok h).1) in
     let other = pair c.deref.result.now c.deref-2.result.now in
@@ -99,7 +99,7 @@ returns-clause-first g c = λ h none.
     let h1 = c.look.ensures.honest.0 h in
     let looked = c.in_ok-a.ensures.looks h (λ told. absurd cc) in
     let read = g.D.Disk.seen c.look.new.disk in
-    on_ok_weaker c.make_first.result (λ (is : IsFirst c.args.bounds.now read (g.D.Disk.seen c.make_first.new.disk)). record { made = is.made; beside = is.beside ∙ looked.stays B }) (c.make_first.ensures.first h1)
+    on_ok_weaker c.make_first.result (λ (is : MakesFirst c.args.bounds.now read (g.D.Disk.seen c.make_first.new.disk)). record { made = is.made; beside = is.beside ∙ looked.stays B }) (c.make_first.ensures.first h1)
 
 pub returns-clause-only_looks : goal.returns-clause-only_looks
 returns-clause-only_looks g c = λ h open_so.

@@ -18,8 +18,8 @@ none_read a b n got e is h = subst (Consumes a b) (nil_from_length got (sym is �
 none_added : (old new got : List ℕ) (n : ℕ) → n ≡ 0 → n ≡ length got → new ≡ old ++ got → new ≡ old
 none_added old new got n e is h = h ∙ ap (λ more. old ++ more) (nil_from_length got (sym is ∙ e)) ∙ append-nil old
 
-pub returns-in-Err-NoMemory-clause-turned : goal.returns-in-Err-NoMemory-clause-turned
-returns-in-Err-NoMemory-clause-turned g c = (
+pub returns-in-Err-NoMemory-clause-came : goal.returns-in-Err-NoMemory-clause-came
+returns-in-Err-NoMemory-clause-came g c = (
   [],
   [],
   c.in-Err-NoMemory.ensures.err.0,
@@ -28,8 +28,8 @@ returns-in-Err-NoMemory-clause-turned g c = (
   idle-fares g.D.Disk.honest g.D.Disk.moment g.D.Disk.left g.D.Disk.seen g.D.Disk.failed g.met.D.Disk.reads g.met.D.Disk.earlier c.args.gateway.now c.stands.ensures (events_in (c.args.waiting.now.unanswered ++ [])),
 )
 
-pub returns-in-Err-Failed-clause-turned : goal.returns-in-Err-Failed-clause-turned
-returns-in-Err-Failed-clause-turned g c = (
+pub returns-in-Err-Failed-clause-came : goal.returns-in-Err-Failed-clause-came
+returns-in-Err-Failed-clause-came g c = (
   [],
   [],
   c.in-Err-Failed.ensures.err.0,
@@ -38,8 +38,8 @@ returns-in-Err-Failed-clause-turned g c = (
   idle-fares g.D.Disk.honest g.D.Disk.moment g.D.Disk.left g.D.Disk.seen g.D.Disk.failed g.met.D.Disk.reads g.met.D.Disk.earlier c.args.gateway.now c.stands.ensures (events_in (c.args.waiting.now.unanswered ++ [])),
 )
 
-pub returns-then-is_empty-clause-turned : goal.returns-then-is_empty-clause-turned
-returns-then-is_empty-clause-turned g c =
+pub returns-then-is_empty-clause-came : goal.returns-then-is_empty-clause-came
+returns-then-is_empty-clause-came g c =
     let b = c.in-Ok.ensures.ok in
     let same = none_added c.args.waiting.now.unanswered c.read.new.self.unanswered b.0 c.in-Ok.n c.if-n-eq0.true b.3 (ap (λ (x : Exchange). x.unanswered) b.2) in
     let t = c.if-is_empty.true in
@@ -59,8 +59,8 @@ returns-then-is_empty-clause-turned g c =
       idle-fares g.D.Disk.honest g.D.Disk.moment g.D.Disk.left g.D.Disk.seen g.D.Disk.failed g.met.D.Disk.reads g.met.D.Disk.earlier c.args.gateway.now c.stands.ensures (events_in (c.args.waiting.now.unanswered ++ [])),
     )
 
-pub returns-then-n-eq0-clause-turned : goal.returns-then-n-eq0-clause-turned
-returns-then-n-eq0-clause-turned g c =
+pub returns-then-n-eq0-clause-came : goal.returns-then-n-eq0-clause-came
+returns-then-n-eq0-clause-came g c =
     let b = c.in-Ok.ensures.ok in
     let same = none_added c.args.waiting.now.unanswered c.read.new.self.unanswered b.0 c.in-Ok.n c.if-n-eq0.true b.3 (ap (λ (x : Exchange). x.unanswered) b.2) in
     let t = c.if-is_empty.false in

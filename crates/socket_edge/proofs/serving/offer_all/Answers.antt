@@ -27,7 +27,7 @@ loop-hopeful-preserved g c =
     let t = c.in-Took.ensures.step in
     let items = c.offer_next.new.answers.items in
     let on = SoFar-next g.D.Disk.honest g.D.Disk.moment g.D.Disk.left g.D.Disk.failed c.args.gateway.now c.loop-hopeful.gateway c.offer_next.new.gateway c.args.waiting.now.unanswered c.loop-hopeful.waiting.unanswered c.offer_next.new.waiting.unanswered
-    c.loop-hopeful.count c.args.answers.now.items (i.0 ++ c.loop-hopeful.answers.items) (i.0 ++ (t.0 ++ items)) c.in-Took.forwarded c.in-Took.now_held_from i.2 (t.2 i.0) in (
+    c.loop-hopeful.count c.args.answers.now.items (i.0 ++ c.loop-hopeful.answers.items) (i.0 ++ (t.0 ++ items)) c.in-Took.leaves c.in-Took.now_held_from i.2 (t.2 i.0) in (
       i.0 ++ t.0,
       t.1 ∙ ap (λ (x : List ℕ). x ++ frames t.0) i.1 ∙ frames-append c.args.waiting.now.answered i.0 t.0,
       subst (λ (out : List (ℕ × Answer)). SoFar g.D.Disk.honest g.D.Disk.moment g.D.Disk.left g.D.Disk.failed c.args.gateway.now c.offer_next.new.gateway c.args.waiting.now.unanswered c.offer_next.new.waiting.unanswered (c.loop-hopeful.count + 1) c.args.answers.now.items out)

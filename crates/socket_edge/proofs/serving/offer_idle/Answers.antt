@@ -32,11 +32,11 @@ returns-then-placed-clause-step g c =
     let was = c.args.waiting.now.answered in
     let size : length c.answered-from.result.now ≡ length was = ap length (c.answered-from.ensures ∙ ap (λ (x : Exchange). x.answered) same.0) in (
       [],
-      ap (λ (n : ℕ). take n c.pass_next.new.self.answered) size ∙ ap (take (length was)) p.3 ∙ take-append_seam was (frame p.1) ∙ sym (append-nil was),
+      ap (λ (n : ℕ). take n c.take_next.new.self.answered) size ∙ ap (take (length was)) p.3 ∙ take-append_seam was (frame p.1) ∙ sym (append-nil was),
       λ before. (
         p.0,
         p.2,
-        subst (λ (items : List (ℕ × Answer)). CarriesOn g.D.Disk.honest g.D.Disk.moment g.D.Disk.left g.D.Disk.failed c.args.gateway.now c.pass_next.new.gateway (p.0 ∷ []) (before ++ c.args.answers.now.items) (before ++ items))
+        subst (λ (items : List (ℕ × Answer)). CarriesOn g.D.Disk.honest g.D.Disk.moment g.D.Disk.left g.D.Disk.failed c.args.gateway.now c.take_next.new.gateway (p.0 ∷ []) (before ++ c.args.answers.now.items) (before ++ items))
             (sym c.make_places.ensures.items) (passes.0 (before ++ c.args.answers.now.items)),
       ),
     )
@@ -53,11 +53,11 @@ returns-clause-step g c =
       λ before. (
         p.0,
         p.2,
-        subst (λ (items : List (ℕ × Answer)). CarriesOn g.D.Disk.honest g.D.Disk.moment g.D.Disk.left g.D.Disk.failed c.args.gateway.now c.pass_next.new.gateway (p.0 ∷ []) (before ++ c.args.answers.now.items) (before ++ answer ∷ items))
+        subst (λ (items : List (ℕ × Answer)). CarriesOn g.D.Disk.honest g.D.Disk.moment g.D.Disk.left g.D.Disk.failed c.args.gateway.now c.take_next.new.gateway (p.0 ∷ []) (before ++ c.args.answers.now.items) (before ++ answer ∷ items))
             (sym (c.make_places.ensures.items ∙ none))
-            (subst (λ (items : List (ℕ × Answer)). CarriesOn g.D.Disk.honest g.D.Disk.moment g.D.Disk.left g.D.Disk.failed c.args.gateway.now c.pass_next.new.gateway (p.0 ∷ []) (before ++ items) (before ++ answer ∷ []))
+            (subst (λ (items : List (ℕ × Answer)). CarriesOn g.D.Disk.honest g.D.Disk.moment g.D.Disk.left g.D.Disk.failed c.args.gateway.now c.take_next.new.gateway (p.0 ∷ []) (before ++ items) (before ++ answer ∷ []))
             (sym none)
-            (subst (λ (front : List (ℕ × Answer)). CarriesOn g.D.Disk.honest g.D.Disk.moment g.D.Disk.left g.D.Disk.failed c.args.gateway.now c.pass_next.new.gateway (p.0 ∷ []) front (before ++ answer ∷ [])) (sym (append-nil before))
+            (subst (λ (front : List (ℕ × Answer)). CarriesOn g.D.Disk.honest g.D.Disk.moment g.D.Disk.left g.D.Disk.failed c.args.gateway.now c.take_next.new.gateway (p.0 ∷ []) front (before ++ answer ∷ [])) (sym (append-nil before))
             (passes.0 before))),
       ),
     )

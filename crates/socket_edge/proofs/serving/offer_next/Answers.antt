@@ -34,12 +34,12 @@ returns-in-None-clause-step g c = rw (← c.make_way-held_from.ensures.released,
                 ∙ sym (ap (λ (l : List (ℕ × Answer)). (before ++ s.0) ++ l) lone ∙ append-nil (before ++ s.0)) in
                 let all : (before ++ s.0) ++ (t.0 ++ left) ≡ before ++ ((s.0 ++ t.0) ++ left) =
                 append_assoc before s.0 (t.0 ++ left) ∙ ap (λ (l : List (ℕ × Answer)). before ++ l) (sym (append_assoc s.0 t.0 left)) in
-                let first = subst (λ (out : List (ℕ × Answer)). CarriesOn g.D.Disk.honest g.D.Disk.moment g.D.Disk.left g.D.Disk.failed c.args.gateway.now c.offer_behind.new.gateway [] (before ++ items) out) between (s.2 (before ++ items)) in
-                let then = subst (λ (bytes : List ℕ). Stepped g.D.Disk.honest g.D.Disk.moment g.D.Disk.left g.D.Disk.failed c.offer_idle.result bytes rest c.offer_behind.new.gateway c.offer_idle.new.gateway
+                let first = subst (λ (out : List (ℕ × Answer)). CarriesOn g.D.Disk.honest g.D.Disk.moment g.D.Disk.left g.D.Disk.failed c.args.gateway.now c.take_or_settle.new.gateway [] (before ++ items) out) between (s.2 (before ++ items)) in
+                let then = subst (λ (bytes : List ℕ). Stepped g.D.Disk.honest g.D.Disk.moment g.D.Disk.left g.D.Disk.failed c.offer_idle.result bytes rest c.take_or_settle.new.gateway c.offer_idle.new.gateway
                 ((before ++ s.0) ++ items) ((before ++ s.0) ++ (t.0 ++ left))) (ap (λ (x : Exchange). x.unanswered) s.1) (t.2 (before ++ s.0)) in
                 subst (λ (out : List (ℕ × Answer)). Stepped g.D.Disk.honest g.D.Disk.moment g.D.Disk.left g.D.Disk.failed c.offer_idle.result c.make_way-held_from.new.waiting.unanswered rest c.args.gateway.now c.offer_idle.new.gateway
                 (before ++ items) out) all
-                (Stepped-behind g.D.Disk.honest g.D.Disk.moment g.D.Disk.left g.D.Disk.failed c.args.gateway.now c.offer_behind.new.gateway c.offer_idle.new.gateway c.offer_idle.result c.make_way-held_from.new.waiting.unanswered rest
+                (Stepped-behind g.D.Disk.honest g.D.Disk.moment g.D.Disk.left g.D.Disk.failed c.args.gateway.now c.take_or_settle.new.gateway c.offer_idle.new.gateway c.offer_idle.result c.make_way-held_from.new.waiting.unanswered rest
                 (before ++ items) ((before ++ s.0) ++ items) ((before ++ s.0) ++ (t.0 ++ left)) first then),
           )
     ])

@@ -9,7 +9,7 @@ use Rattle.gateway.proofs.pending.PendingNotes.note.Goals as goal
 pub invariant_of-self : goal.invariant_of-self
 invariant_of-self c =
     let own = c.self.inside in
-    let e = view c.args.entry in
+    let e = view c.args.item in
     let room = ap (λ (h : HeldAnswers). h.room) c.self.view_is in
     let enough = c.requires.room tt in
     let le : length (entry_bytes e) ≤ own.room = omega (arith, room, enough) in
@@ -28,6 +28,6 @@ invariant_of-self c =
 pub returns-clause-noted : goal.returns-clause-noted
 returns-clause-noted c = λ _.
     let own = c.self.inside in
-    one_more_noted own.group.body c.put.new.group.body own.group.room _ (held_in own.held.items own.slots.items own.used) own.place own.room (view c.args.entry)
+    one_more_noted own.group.body c.put.new.group.body own.group.room _ (held_in own.held.items own.slots.items own.used) own.place own.room (view c.args.item)
     c.self.invariant.0 (c.requires.coded tt) c.put.ensures.body
-    ∙ ap (λ (h : HeldAnswers). h.entries ++ view c.args.entry ∷ []) c.self.view_is
+    ∙ ap (λ (h : HeldAnswers). h.entries ++ view c.args.item ∷ []) c.self.view_is

@@ -1,0 +1,799 @@
+//! `Gateway`: a `Core`, which has all the state and does the steps (crate `machine`), a `Store`, which keeps in two
+//! files what must survive of it (crate `snapshot`), and the answers that are held between them (`Pending`).
+//!
+//! - `open`: `Store::open` reads the files, and `resume_core` has a core begin again from what they stood for.
+//! - `offer`: `Core::step_noted` does the step and has `Pending` note its entries; `give` answers at once, or holds.
+//! - `forward`: `Core::forward` translates a packet where it lies, if nothing has to be held or noted.
+//! - `offer_in_place`: as `offer`, by `Core::step_in_place` and `give_copy`, for a packet where it lies.
+//! - `flush`: `Store::commit` syncs the group of `Pending`, and `Pending::release` hands out what was held.
+//! - `settle`: as `flush`, but `Pending::let_go` lets go what was held: its caller has it already.
+//! - `compact`: `Store::compact` makes a file of what must survive (`lasting_sessions`), with no groups.
+//! - `run`: `running::take_all` does these calls for a list of events.
+ghost use Rattle.std.specs.Prelude.{◌≡◌, ◌≢◌, ◌↔◌, ◌⊎◌, ◌+◌, ◌-◌, ◌^◌, ◌<◌, ◌≤◌, ◌++◌, ◌∷◌, [], ℕ, List, IfOk, IfErr, IfNone, IfSome, OnOk, OnErr, OnSome, IsOk, IsErrOf, MatchResult, IsTrue, length, map, true, false};
+ghost use Rattle.packet.specs.Config.{is_config};
+ghost use Rattle.disk_model.specs.Disk.{Leaves, LeavesNow, LeavesOnly, Looks, Called, Grew};
+ghost use Rattle.durable.specs.Coding.{Entry, body_bytes};
+ghost use Rattle.durable.specs.Entering.{Durable, IsDurable, durable};
+ghost use Rattle.durable.specs.Recovery.{Alike, IsConfigured, NoneOpen, Recovers};
+ghost use Rattle.snapshot.specs.Store.{MakesFirst, RecoversEither};
+ghost use Rattle.machine.specs.Judged.{Judged, IsJudged, IsNoLoad};
+ghost use Rattle.machine.specs.Machine.{AddsNone, EndsNone, later, step};
+ghost use Rattle.machine.specs.Sizes.{most_bytes};
+ghost use Rattle.machine.specs.Noted.{AreEntriesOf, HasEntry, IsResumed, lasting};
+ghost use Rattle.machine.specs.Sound.{IsSound};
+ghost use Rattle.machine.specs.declared.event.Answer.TheVariants.{Forward};
+ghost use Rattle.machine.specs.declared.event.What.TheVariants.{Packet};
+ghost use Rattle.sessions.specs.Stilled.{stilled};
+ghost use Rattle.gateway.specs.Given.{IsNow, answer_given, given_by, handed};
+ghost use Rattle.gateway.specs.Told.{Took, TookAll, TookFirst};
+ghost use Rattle.gateway.specs.declared.given.Given.TheVariants.{Now};
+ghost use Rattle.gateway.specs.Kept.{HasPlaces, IsReady, IsRoomy, IsSafe, IsTooMuch};
+ghost use Rattle.gateway.specs.Running.{StopsWithin};
+
+use crate::fault::{why_not_compacted, why_refused};
+use crate::given::{give, give_copy};
+use crate::pending::{MOST_HELD, Pending};
+use crate::running::take_all;
+use crate::slot::LONGEST_COPY;
+use crate::{GatewayFault, Given, GivenInPlace, OpenFault};
+use disk_model::Disk;
+use machine::laws::events_are_judged_once;
+use machine::{Answer, Coming, Core, Event, Iface, MOST_AHEAD, NoMemory};
+use packet::bounds::Bounds;
+use sessions::Session;
+use snapshot::{CommitFault, Opened, Store};
+use std::alloc::Global;
+use std::marker::Model;
+
+/// The gateway. Events that are taken have the numbers 1, 2, .. since it was opened. Moments are in seconds.
+///
+/// What must survive is the text that loaded last, and the sessions without when their last packets passed. The answer
+/// of an event that changes it is held until a `flush` has synced the change and hands it out, or a `settle` has synced
+/// it and lets it go.
+#[derive(Drop)]
+pub struct Gateway<D: Disk + Drop> {
+    alloc: Global,
+    store: Store<D>,
+    core: Core,
+    last: u64,
+    pending: Pending,
+}
+
+impl<D: Disk + Drop> Model for Gateway<D> {
+    ghost use Rattle.std.specs.Prelude.{◌≡◌, ◌+◌, [], length, false};
+    ghost use Rattle.durable.specs.Coding.{body_bytes};
+    ghost use Rattle.gateway.specs.Kept.{Kept, LeadsToPresent};
+
+    ghost Value = { Kept D };
+
+    ghost view = { λ g. record {
+      disk = g.store.disk;
+      fallen = g.store.fallen;
+      generation = g.store.generation;
+      grown = g.store.grown;
+      filled = g.pending.place + length (body_bytes g.pending.entries);
+      told = record {
+        config = g.core.config;
+        state = g.core.state;
+        last = g.last;
+        held = g.pending.held;
+      };
+    } };
+
+    ghost invariant = { λ g. (g.store.config ≡ g.core.config)
+        × (g.pending.held ≡ [] → g.pending.entries ≡ [])
+        × (g.store.fallen ≡ false → g.pending.place ≡ g.store.end)
+        × (g.store.fallen ≡ false → D.honest g.store.disk
+        → LeadsToPresent g.core.config (D.seen g.store.disk) g.pending.entries g.core.state) };
+}
+
+impl<D: Disk + Drop> Gateway<D> {
+    /// Opens the gateway that two files keep. Nothing is held, and no number is given yet. The last packet of each
+    /// session is taken to have passed at this moment, in seconds, which is the clock's. Both files are synced, then
+    /// read; where neither gate is open, file A is made anew, for no text and no session.
+    ///
+    /// # Errors
+    ///
+    /// The disk comes back.
+    ///
+    /// - `Device` where a call of the disk has failed. The files stand for what they stood for.
+    /// - `Damaged` only where the files, as they read, stand for no state. They are not changed.
+    /// - `ConfigDiffers` only where they stand for one, and the active file has another configuration than these
+    ///   bounds. They are not changed.
+    /// - `NoMemory` where memory is refused. The files stand for what they stood for.
+    ///
+    /// Where the files stand for no state, or the active one has another configuration, `Damaged` or `ConfigDiffers`
+    /// comes, unless memory is refused or a call of the disk fails.
+    pub fn open(
+        alloc: Global,
+        disk: D,
+        bounds: Bounds,
+        moment: u64,
+    ) -> Result<Gateway<D>, (D, OpenFault)>
+        ensures honest { MatchResult result (λ g. D.honest disk ↔ D.honest g.disk)
+            (λ e. D.honest disk ↔ D.honest e.0) }
+
+        // Whatever a crash leaves since the entry stands for what some pair left at the entry stands for.
+        ensures any_moment { D.honest disk
+            → MatchResult result (λ g. Leaves D.moment D.left disk g.disk Alike)
+            (λ e. Leaves D.moment D.left disk e.0 Alike) }
+
+        // Where each pair left at the entry has this configuration in its active file, if it has one, so has each
+        // since.
+        ensures configured { D.honest disk → LeavesNow D.moment D.left disk (IsConfigured bounds)
+            → MatchResult result (λ g. LeavesOnly D.moment D.left disk g.disk (IsConfigured bounds))
+            (λ e. LeavesOnly D.moment D.left disk e.0 (IsConfigured bounds)) }
+
+        // The state is begun again from what the files stood for, which a crash leaves from now on.
+        ensures ok { D.honest disk → IfOk result (λ g. (d : Durable) × Recovers (D.seen disk) d
+            × IsResumed bounds d moment g.told.state
+            × LeavesNow D.moment D.left g.disk (λ files. Recovers files d)) }
+        ensures had_config { D.honest disk → OnOk result (IsConfigured bounds (D.seen disk)) }
+
+        // Where no file is open, file A is made anew, of the first generation; otherwise both are only looked at.
+        ensures first { D.honest disk → NoneOpen (D.seen disk)
+            → IfOk result (λ g. MakesFirst bounds (D.seen disk) (D.seen g.disk)) }
+        ensures generation { D.honest disk → NoneOpen (D.seen disk)
+            → IfOk result (λ g. g.generation ≡ 1) }
+        ensures only_looks { D.honest disk → ¬ NoneOpen (D.seen disk)
+            → IfOk result (λ g. Looks D.moment D.left D.seen disk g.disk) }
+        ensures config { IfOk result (λ g. g.told.config ≡ bounds) }
+
+        // Whatever the disk: the state is one that survives, begun again at the moment.
+        ensures resumed { IfOk result (λ g. (d : Durable) × IsDurable bounds d
+            × IsResumed bounds d moment g.told.state) }
+        ensures last { IfOk result (λ g. g.told.last ≡ 0) }
+        ensures none { IfOk result (λ g. g.told.held ≡ []) }
+        ensures stands { IfOk result (λ g. g.fallen ≡ false) }
+        ensures damaged { D.honest disk → IfErr result (λ e. e.1 ≡ OpenFault.Damaged → (d : Durable)
+            → ¬ Recovers (D.seen disk) d) }
+        ensures differs { D.honest disk → IfErr result (λ e. e.1 ≡ OpenFault.ConfigDiffers
+            → (d : Durable) × Recovers (D.seen disk) d × ¬ IsConfigured bounds (D.seen disk)) }
+        ensures looks { D.honest disk → IfErr result (λ e. (e.1 ≡ OpenFault.Damaged)
+            ⊎ (e.1 ≡ OpenFault.ConfigDiffers) → Looks D.moment D.left D.seen disk e.0) }
+        ensures device { IfErr result (λ e. e.1 ≡ OpenFault.Device
+            → Grew (D.failed disk) (D.failed e.0)) }
+        ensures only_device { IfErr result (λ e. e.1 ≢ OpenFault.Device
+            → D.failed e.0 ≡ D.failed disk) }
+        ensures no_failure { IfOk result (λ g. D.failed g.disk ≡ D.failed disk) }
+    {
+        match Store::open(alloc, disk, &bounds) {
+            Ok(
+                Opened {
+                    store,
+                    text,
+                    sessions,
+                },
+            ) => match resume_core(
+                alloc,
+                bounds,
+                text,
+                sessions.as_slice(),
+                moment,
+                store.end(),
+            ) {
+                Ok((core, pending)) => Ok(Gateway {
+                    alloc,
+                    store,
+                    core,
+                    last: 0,
+                    pending,
+                }),
+                Err(NoMemory) => Err((store.into_disk(), OpenFault::NoMemory)),
+            },
+            Err(refused) => Err(refused),
+        }
+    }
+
+    /// The text that loaded last; before any has, the empty one.
+    pub fn text(&self) -> &[u8]
+        ensures { result.now ≡ self.now.told.state.text }
+    {
+        self.core.text()
+    }
+
+    /// The sessions after the last event that was taken, in the order of protocol number, inside and remote endpoint.
+    ///
+    /// # Errors
+    ///
+    /// `NoMemory` where memory for the list is refused. Nothing changes.
+    pub fn sessions(&self) -> Result<Vec<Session>, NoMemory>
+        ensures { IfOk result (λ sessions. sessions.items ≡ self.now.told.state.sessions) }
+    {
+        self.core.sessions()
+    }
+
+    /// What every gateway keeps: its bounds are a configuration, its state is sound, and its last number has 64 bits.
+    /// It does nothing but carry these facts.
+    pub fn facts(&self)
+        ensures config { IsTrue (is_config self.now.told.config) }
+        ensures sound { IsSound self.now.told.config self.now.told.state }
+        ensures last { self.now.told.last < 2 ^ 64 }
+    {
+        self.core.facts();
+        fits(self.last);
+    }
+
+    /// How many answers are held, at most 64.
+    pub fn held(&self) -> usize
+        ensures value { result ≡ length self.now.told.held }
+        ensures few { result ≤ 64 }
+    {
+        self.pending.len()
+    }
+
+    /// How many bytes of groups the active file has: 5 and the body for each.
+    pub fn grown(&self) -> u64
+        ensures { result ≡ self.now.grown }
+    {
+        self.store.grown()
+    }
+
+    /// Whether a call of the disk has failed. Then nothing changes any more; `into_disk` gives the disk back.
+    pub fn has_fallen(&self) -> bool
+        ensures value { result ≡ self.now.fallen }
+
+        // Until then the files stand for one state, whatever a crash leaves now; the present one, where nothing is
+        // held.
+        ensures stands { result ≡ false → D.honest self.now.disk
+            → (durable : Durable) × Recovers (D.seen self.now.disk) durable
+            × LeavesNow D.moment D.left self.now.disk (λ files. Recovers files durable) }
+        ensures present { result ≡ false → D.honest self.now.disk → self.now.told.held ≡ []
+            → Recovers (D.seen self.now.disk) (lasting self.now.told.state) }
+        ensures configured { result ≡ false → D.honest self.now.disk
+            → LeavesNow D.moment D.left self.now.disk (IsConfigured self.now.told.config) }
+
+        // The groups of the active file end no later than the entries that wait.
+        ensures places { result ≡ false → D.honest self.now.disk → (end : ℕ)
+            × HasPlaces (D.seen self.now.disk) self.now.generation self.now.grown end
+            × (end ≤ self.now.filled) }
+        ensures filled { result ≡ false → D.honest self.now.disk → self.now.told.held ≡ []
+            → HasPlaces (D.seen self.now.disk) self.now.generation self.now.grown self.now.filled }
+    {
+        self.store.has_fallen()
+    }
+
+    /// Gives the disk back. Answers that are held are lost, and so are the changes of their events.
+    pub fn into_disk(self) -> D
+        ensures { result ≡ self.disk }
+    {
+        let Gateway { core, store, .. } = self;
+        core.discard();
+        store.into_disk()
+    }
+
+    /// Takes an event and gives it the next number. It is answered at once exactly where nothing is held and the event
+    /// has no entry: no session ends, no text is taken, and nothing that must survive changes; otherwise its answer is
+    /// held. No call of the disk is made.
+    ///
+    /// # Errors
+    ///
+    /// The event comes back, and nothing has changed: it has no number, the clock stays, and no session ends. The first
+    /// three come in this order, and before the others.
+    ///
+    /// - `Reopen` exactly where a call of the disk has failed before.
+    /// - `NumbersOut` exactly where the last number was 2^64 - 1.
+    /// - `HeldFull` exactly where 64 answers are held.
+    /// - `Full` only where the entries that wait, those of this event, and 6 bytes around their group would end past
+    ///   the greatest length of a file. The entries of this event are counted as 14 bytes for each session that ends,
+    ///   and 44 for a packet, however few it needs (two sessions that it begins need as many), or 5 and the text for a
+    ///   text that loads. An event that has no entry isn't refused so.
+    /// - `NoMemory` where memory is refused; never where the event brings no text and has no entry. Where it brings no
+    ///   text, and no session ends or begins, it comes only where its entries fit; elsewhere it may come although they
+    ///   don't.
+    #[inline(always)]
+    pub fn offer(&mut self, event: Event) -> Result<Given, (Event, GatewayFault)>
+        ensures disk { self.new.disk ≡ self.old.disk }
+        ensures fallen { self.new.fallen ≡ self.old.fallen }
+        ensures generation { self.new.generation ≡ self.old.generation }
+        ensures grown { self.new.grown ≡ self.old.grown }
+        ensures took { IfOk result (λ given. Took self.old.told self.new.told event given) }
+        ensures now { IfOk result (λ given. (judged : Judged)
+            → IsJudged self.old.told.config event judged
+            → IsNow given ↔ ((self.old.told.held ≡ [])
+            × ¬ HasEntry self.old.told.config self.old.told.state judged)) }
+
+        // What waits has grown by the entries of the event.
+        ensures filled { OnOk result ((judged : Judged) × (entries : List Entry)
+            × IsJudged self.old.told.config event judged
+            × AreEntriesOf self.old.told.config self.old.told.state judged entries
+            × (self.new.filled ≡ self.old.filled + length (body_bytes entries))) }
+        ensures err { IfErr result (λ e. (e.0 ≡ event) × (self.new ≡ self.old)) }
+        ensures reopen { IfErr result (λ e. (e.1 ≡ GatewayFault.Reopen)
+            ↔ (self.old.fallen ≡ true)) }
+        ensures stood { OnOk result (self.old.fallen ≡ false) }
+        ensures numbers_out { IfErr result (λ e. (e.1 ≡ GatewayFault.NumbersOut)
+            ↔ ((self.old.fallen ≡ false) × (self.old.told.last ≡ 2 ^ 64 - 1))) }
+        ensures numbers_left { OnOk result (self.old.told.last < 2 ^ 64 - 1) }
+        ensures held_full { IfErr result (λ e. (e.1 ≡ GatewayFault.HeldFull)
+            ↔ ((self.old.fallen ≡ false) × (self.old.told.last < 2 ^ 64 - 1)
+            × (length self.old.told.held ≡ 64))) }
+        ensures held_few { OnOk result (length self.old.told.held < 64) }
+        ensures full { IfErr result (λ e. e.1 ≡ GatewayFault.Full
+            → IsTooMuch self.old.filled self.old.told.config self.old.told.state event) }
+        ensures roomy { IsRoomy self.old.filled → IfErr result (λ e. e.1 ≢ GatewayFault.Full) }
+
+        // A full file is told as such, where memory is asked for the entries alone.
+        ensures no_memory { IsNoLoad event.what → (judged : Judged)
+            → IsJudged self.old.told.config event judged
+            → EndsNone (later self.old.told.state.clock event.moment) self.old.told.state
+            → AddsNone self.old.told.state (step self.old.told.config self.old.told.state judged)
+            → IfErr result (λ e. e.1 ≡ GatewayFault.NoMemory
+            → self.old.filled + most_bytes judged.deed + 6 ≤ 67108864) }
+        ensures causes { IfErr result (λ e. (e.1 ≢ GatewayFault.Device)
+            × (e.1 ≢ GatewayFault.Generations)) }
+
+        // Where nothing must be noted an event is taken without memory, also behind answers that are held.
+        ensures quiet { self.old.fallen ≡ false → self.old.told.last < 2 ^ 64 - 1
+            → length self.old.told.held < 64 → IsNoLoad event.what
+            → (judged : Judged) → IsJudged self.old.told.config event judged
+            → ¬ HasEntry self.old.told.config self.old.told.state judged → IsOk result }
+    {
+        if let Some(fault) = self.why_none() {
+            return Err((event, fault));
+        }
+        self.core.facts();
+        events_are_judged_once();
+        match self.core.step_noted(event, &mut self.pending) {
+            Ok(answer) => {
+                self.last += 1;
+                Ok(give(&mut self.pending, self.last, answer))
+            }
+            Err((event, fault)) => Err((event, why_refused(fault))),
+        }
+    }
+
+    // Why no event can be taken, whatever it is.
+    #[inline]
+    fn why_none(&self) -> Option<GatewayFault>
+        ensures reopen { IfSome result (λ e. (e ≡ GatewayFault.Reopen) ↔ (self.now.fallen ≡ true)) }
+        ensures numbers_out { IfSome result (λ e. (e ≡ GatewayFault.NumbersOut)
+            ↔ ((self.now.fallen ≡ false) × (self.now.told.last ≡ 2 ^ 64 - 1))) }
+        ensures held_full { IfSome result (λ e. (e ≡ GatewayFault.HeldFull)
+            ↔ ((self.now.fallen ≡ false) × (self.now.told.last < 2 ^ 64 - 1)
+            × (length self.now.told.held ≡ 64))) }
+        ensures causes { IfSome result (λ e. (e ≡ GatewayFault.Reopen)
+            ⊎ (e ≡ GatewayFault.NumbersOut) ⊎ (e ≡ GatewayFault.HeldFull)) }
+        ensures none { IfNone result ((self.now.fallen ≡ false)
+            × (self.now.told.last < 2 ^ 64 - 1) × (length self.now.told.held < 64)) }
+    {
+        if self.store.has_fallen() {
+            return Some(GatewayFault::Reopen);
+        }
+        if self.last == u64::MAX {
+            return Some(GatewayFault::NumbersOut);
+        }
+        if self.pending.len() >= MOST_HELD {
+            return Some(GatewayFault::HeldFull);
+        }
+        None
+    }
+
+    /// Takes a packet whose session goes on, where nothing is held: an event that is answered at once, and whose packet
+    /// is translated where it lies. Says the number of the event, and the interface on which the packet leaves. Nothing
+    /// changes that must survive, no memory is taken, and no call of the disk is made. The moment is in seconds.
+    ///
+    /// `None` says nothing of the packet: it isn't taken, nothing has changed, and `offer` tells what becomes of it. It
+    /// comes wherever a session would end at the moment, an answer is held, no number is left, or a call of the disk
+    /// has failed before.
+    pub fn forward(&mut self, moment: u64, iface: Iface, packet: &mut [u8]) -> Option<(u64, Iface)>
+        ensures disk { self.new.disk ≡ self.old.disk }
+        ensures fallen { self.new.fallen ≡ self.old.fallen }
+        ensures generation { self.new.generation ≡ self.old.generation }
+        ensures grown { self.new.grown ≡ self.old.grown }
+        ensures filled { self.new.filled ≡ self.old.filled }
+        ensures held { self.new.told.held ≡ self.old.told.held }
+        ensures took { IfSome result (λ given. Took self.old.told self.new.told
+            (record { moment = moment; what = Packet iface packet.old })
+            (Now given.0 (Forward given.1 packet.new))) }
+
+        // It is answered at once as where it is offered: nothing is held, and nothing changes that must survive.
+        ensures none_held { OnSome result (self.old.told.held ≡ []) }
+        ensures no_entry { OnSome result ((judged : Judged)
+            → IsJudged self.old.told.config
+            (record { moment = moment; what = Packet iface packet.old }) judged
+            → ¬ HasEntry self.old.told.config self.old.told.state judged) }
+        ensures stood { OnSome result (self.old.fallen ≡ false) }
+        ensures numbers_left { OnSome result (self.old.told.last < 2 ^ 64 - 1) }
+        ensures none { IfNone result ((self.new ≡ self.old) × (packet.new ≡ packet.old)) }
+        ensures length { length packet.new ≡ length packet.old }
+    {
+        if self.store.has_fallen() {
+            return None;
+        }
+        if !self.pending.is_quiet() {
+            return None;
+        }
+        let Some(number) = self.last.checked_add(1) else {
+            return None;
+        };
+        self.core.facts();
+        events_are_judged_once();
+        let Some(out) = self.core.forward(moment, iface, packet) else {
+            return None;
+        };
+        self.last = number;
+        Some((number, out))
+    }
+
+    /// Takes a packet as `offer` does, where it lies: it is translated there, and the event is answered at once or its
+    /// answer is held. No call of the disk is made. The moment is in seconds.
+    ///
+    /// `None` says nothing of the packet: it isn't taken, nothing has changed, and `offer` tells what becomes of it. It
+    /// comes wherever `offer` refuses the event, and where the packet has more than 2,048 bytes (`LONGEST_COPY`).
+    #[inline(always)]
+    pub fn offer_in_place(
+        &mut self,
+        moment: u64,
+        iface: Iface,
+        packet: &mut [u8],
+    ) -> Option<GivenInPlace>
+        ensures disk { self.new.disk ≡ self.old.disk }
+        ensures fallen { self.new.fallen ≡ self.old.fallen }
+        ensures generation { self.new.generation ≡ self.old.generation }
+        ensures grown { self.new.grown ≡ self.old.grown }
+        ensures took { IfSome result (λ taken. Took self.old.told self.new.told
+            (record { moment = moment; what = Packet iface packet.old })
+            (given_by taken packet.new)) }
+
+        // Its answer has the packet as it lies there then.
+        ensures answer { IfSome result (λ taken.
+            handed (given_by taken packet.new) ++ self.new.told.held
+            ≡ self.old.told.held ++ answer_given taken packet.new ∷ []) }
+        ensures now { IfSome result (λ taken. (judged : Judged)
+            → IsJudged self.old.told.config
+            (record { moment = moment; what = Packet iface packet.old }) judged
+            → IsNow (given_by taken packet.new) ↔ ((self.old.told.held ≡ [])
+            × ¬ HasEntry self.old.told.config self.old.told.state judged)) }
+
+        // What waits has grown by the entries of the event.
+        ensures filled { OnSome result ((judged : Judged) × (entries : List Entry)
+            × IsJudged self.old.told.config
+            (record { moment = moment; what = Packet iface packet.old }) judged
+            × AreEntriesOf self.old.told.config self.old.told.state judged entries
+            × (self.new.filled ≡ self.old.filled + length (body_bytes entries))) }
+        ensures stood { OnSome result (self.old.fallen ≡ false) }
+        ensures numbers_left { OnSome result (self.old.told.last < 2 ^ 64 - 1) }
+        ensures held_few { OnSome result (length self.old.told.held < 64) }
+        ensures none { IfNone result ((self.new ≡ self.old) × (packet.new ≡ packet.old)) }
+        ensures length { length packet.new ≡ length packet.old }
+    {
+        if self.why_none().is_some() {
+            return None;
+        }
+        if packet.len() > LONGEST_COPY {
+            return None;
+        }
+        self.core.facts();
+        events_are_judged_once();
+        let Some(fate) = self
+            .core
+            .step_in_place(moment, iface, packet, &mut self.pending)
+        else {
+            return None;
+        };
+        self.last += 1;
+        Some(give_copy(&mut self.pending, self.last, fate, packet))
+    }
+
+    /// Whether so many sessions have been held at once that it serves to look ahead.
+    pub fn is_wide(&self) -> bool {
+        self.core.is_wide()
+    }
+
+    /// How many of these packets seem to be of sessions that are held, or of an inside endpoint that has a mapping. It
+    /// says nothing of what is: whoever asks before they are offered waits once for the memory that they will need.
+    #[inline(never)]
+    pub fn look_ahead(&self, coming: &[Coming; MOST_AHEAD]) -> usize {
+        self.core.look_ahead(coming)
+    }
+
+    /// Writes the entries of all held events as one group, syncs it, and hands out the held answers, in order, each
+    /// with its number. Where nothing is held it hands out none, and no call of the disk is made; where it ends well
+    /// otherwise, four are. It takes no memory.
+    ///
+    /// # Errors
+    ///
+    /// The answers stay held.
+    ///
+    /// - `Reopen` exactly where a call of the disk has failed before. The disk stays.
+    /// - `Device` where a call of the disk has failed. The gateway has fallen.
+    pub fn flush(&mut self) -> Result<Vec<(u64, Answer)>, GatewayFault>
+        ensures honest { D.honest self.old.disk ↔ D.honest self.new.disk }
+
+        // A crash at any moment leaves the state that the files stood for, or the present one.
+        ensures any_moment { self.old.fallen ≡ false → D.honest self.old.disk → (durable : Durable)
+            → Recovers (D.seen self.old.disk) durable
+            → LeavesOnly D.moment D.left self.old.disk self.new.disk
+            (RecoversEither durable (lasting self.old.told.state)) }
+        ensures configured { self.old.fallen ≡ false → D.honest self.old.disk
+            → LeavesOnly D.moment D.left self.old.disk self.new.disk
+            (IsConfigured self.old.told.config) }
+
+        // After Ok the present one is left.
+        ensures ok { D.honest self.old.disk
+            → OnOk result (LeavesNow D.moment D.left self.new.disk
+            (λ files. Recovers files (lasting self.old.told.state))) }
+        ensures reads { D.honest self.old.disk
+            → OnOk result (Recovers (D.seen self.new.disk) (lasting self.old.told.state)) }
+        ensures answers { IfOk result (λ answers. answers.items ≡ self.old.told.held) }
+        ensures none { OnOk result (self.new.told ≡ record self.old.told { held = [] }) }
+        ensures generation { self.new.generation ≡ self.old.generation }
+        ensures err { OnErr result (self.new.told ≡ self.old.told) }
+        ensures reopen { IsErrOf result GatewayFault.Reopen ↔ (self.old.fallen ≡ true) }
+        ensures reopen_stays { IsErrOf result GatewayFault.Reopen → self.new ≡ self.old }
+        ensures fell { IsErrOf result GatewayFault.Device
+            ↔ ((self.old.fallen ≡ false) × (self.new.fallen ≡ true)) }
+        ensures causes { IfErr result (λ e. (e ≡ GatewayFault.Reopen) ⊎ (e ≡ GatewayFault.Device)) }
+        ensures device { IsErrOf result GatewayFault.Device
+            → Grew (D.failed self.old.disk) (D.failed self.new.disk) }
+        ensures no_failure { OnOk result (D.failed self.new.disk ≡ D.failed self.old.disk) }
+
+        // The group that was written has 5 bytes beside its entries.
+        ensures filled { D.honest self.old.disk → self.old.told.held ≢ []
+            → OnOk result (self.new.filled ≡ self.old.filled + 5) }
+        ensures idle { self.old.told.held ≡ [] → (self.new.disk ≡ self.old.disk)
+            × (self.new.filled ≡ self.old.filled) }
+        ensures called { D.honest self.old.disk → self.old.told.held ≢ []
+            → OnOk result (Called 4 (D.called self.old.disk) (D.called self.new.disk)) }
+    {
+        if self.store.has_fallen() {
+            return Err(GatewayFault::Reopen);
+        }
+        if self.pending.is_quiet() {
+            return Ok(Vec::new(self.alloc));
+        }
+        match self.store.commit(self.pending.group()) {
+            Ok(()) => Ok(self.pending.release(self.store.end())),
+            Err(CommitFault::Device) => Err(GatewayFault::Device),
+            // The group fits its file (`fits` of `Pending::group`).
+            Err(CommitFault::Full) => unreachable!(),
+        }
+    }
+
+    /// As `flush`, for whoever has the held answers already, as `offer_in_place` told them: they are let go.
+    ///
+    /// # Errors
+    ///
+    /// The answers stay held.
+    ///
+    /// - `Reopen` exactly where a call of the disk has failed before. The disk stays.
+    /// - `Device` where a call of the disk has failed. The gateway has fallen.
+    pub fn settle(&mut self) -> Result<(), GatewayFault>
+        ensures honest { D.honest self.old.disk ↔ D.honest self.new.disk }
+
+        // A crash at any moment leaves the state that the files stood for, or the present one.
+        ensures any_moment { self.old.fallen ≡ false → D.honest self.old.disk → (durable : Durable)
+            → Recovers (D.seen self.old.disk) durable
+            → LeavesOnly D.moment D.left self.old.disk self.new.disk
+            (RecoversEither durable (lasting self.old.told.state)) }
+        ensures configured { self.old.fallen ≡ false → D.honest self.old.disk
+            → LeavesOnly D.moment D.left self.old.disk self.new.disk
+            (IsConfigured self.old.told.config) }
+
+        // After Ok the present one is left.
+        ensures ok { D.honest self.old.disk
+            → OnOk result (LeavesNow D.moment D.left self.new.disk
+            (λ files. Recovers files (lasting self.old.told.state))) }
+        ensures reads { D.honest self.old.disk
+            → OnOk result (Recovers (D.seen self.new.disk) (lasting self.old.told.state)) }
+        ensures none { OnOk result (self.new.told ≡ record self.old.told { held = [] }) }
+        ensures generation { self.new.generation ≡ self.old.generation }
+        ensures err { OnErr result (self.new.told ≡ self.old.told) }
+        ensures reopen { IsErrOf result GatewayFault.Reopen ↔ (self.old.fallen ≡ true) }
+        ensures reopen_stays { IsErrOf result GatewayFault.Reopen → self.new ≡ self.old }
+        ensures fell { IsErrOf result GatewayFault.Device
+            ↔ ((self.old.fallen ≡ false) × (self.new.fallen ≡ true)) }
+        ensures causes { IfErr result (λ e. (e ≡ GatewayFault.Reopen) ⊎ (e ≡ GatewayFault.Device)) }
+        ensures device { IsErrOf result GatewayFault.Device
+            → Grew (D.failed self.old.disk) (D.failed self.new.disk) }
+        ensures no_failure { OnOk result (D.failed self.new.disk ≡ D.failed self.old.disk) }
+
+        // The group that was written has 5 bytes beside its entries.
+        ensures filled { D.honest self.old.disk → self.old.told.held ≢ []
+            → OnOk result (self.new.filled ≡ self.old.filled + 5) }
+        ensures idle { self.old.told.held ≡ [] → (self.new.disk ≡ self.old.disk)
+            × (self.new.filled ≡ self.old.filled) }
+        ensures called { D.honest self.old.disk → self.old.told.held ≢ []
+            → OnOk result (Called 4 (D.called self.old.disk) (D.called self.new.disk)) }
+    {
+        if self.store.has_fallen() {
+            return Err(GatewayFault::Reopen);
+        }
+        if self.pending.is_quiet() {
+            return Ok(());
+        }
+        let Err(fault) = self.store.commit(self.pending.group()) else {
+            self.pending.let_go(self.store.end());
+            return Ok(());
+        };
+        match fault {
+            CommitFault::Device => Err(GatewayFault::Device),
+            // The group fits its file, as in `flush`.
+            CommitFault::Full => unreachable!(),
+        }
+    }
+
+    /// Makes the file that isn't active anew, with a snapshot of what must survive, and no groups; then it is the
+    /// active one. Nothing is held. Afterwards no single event is refused as `Full`. It makes six calls of the disk.
+    ///
+    /// # Errors
+    ///
+    /// - `Reopen` exactly where a call of the disk has failed before. Nothing changes.
+    /// - `NoMemory` where memory is refused. Nothing changes.
+    /// - `Device` where a call of the disk has failed. The gateway has fallen; the files stand for the same state.
+    /// - `Generations` only where the active file has the greatest generation, 2^64 - 1. Nothing changes.
+    pub fn compact(&mut self) -> Result<(), GatewayFault>
+        requires { self.old.told.held ≡ [] }
+        ensures honest { D.honest self.old.disk ↔ D.honest self.new.disk }
+        ensures told { self.new.told ≡ self.old.told }
+
+        // A crash at any moment leaves the present state.
+        ensures any_moment { self.old.fallen ≡ false → D.honest self.old.disk
+            → LeavesOnly D.moment D.left self.old.disk self.new.disk
+            (λ files. Recovers files (lasting self.old.told.state)) }
+        ensures configured { self.old.fallen ≡ false → D.honest self.old.disk
+            → LeavesOnly D.moment D.left self.old.disk self.new.disk
+            (IsConfigured self.old.told.config) }
+        ensures grown { OnOk result (self.new.grown ≡ 0) }
+        ensures generation { OnOk result (self.new.generation ≡ self.old.generation + 1) }
+        ensures generations { IsErrOf result GatewayFault.Generations
+            → self.old.generation ≡ 2 ^ 64 - 1 }
+        ensures roomy { OnOk result (IsRoomy self.new.filled) }
+        ensures stays { IfErr result (λ e. e ≢ GatewayFault.Device → self.new ≡ self.old) }
+        ensures reopen { IsErrOf result GatewayFault.Reopen ↔ (self.old.fallen ≡ true) }
+        ensures fell { IsErrOf result GatewayFault.Device
+            ↔ ((self.old.fallen ≡ false) × (self.new.fallen ≡ true)) }
+        ensures causes { IfErr result (λ e. (e ≡ GatewayFault.Reopen) ⊎ (e ≡ GatewayFault.NoMemory)
+            ⊎ (e ≡ GatewayFault.Device) ⊎ (e ≡ GatewayFault.Generations)) }
+        ensures device { IsErrOf result GatewayFault.Device
+            → Grew (D.failed self.old.disk) (D.failed self.new.disk) }
+        ensures no_failure { OnOk result (D.failed self.new.disk ≡ D.failed self.old.disk) }
+        ensures called { D.honest self.old.disk
+            → OnOk result (Called 6 (D.called self.old.disk) (D.called self.new.disk)) }
+    {
+        if self.store.has_fallen() {
+            return Err(GatewayFault::Reopen);
+        }
+        self.core.facts();
+        let Ok(sessions) = lasting_sessions(&self.core) else {
+            return Err(GatewayFault::NoMemory);
+        };
+        match self
+            .store
+            .compact(self.alloc, self.core.text(), sessions.as_slice())
+        {
+            Ok(()) => {
+                let _ = self.pending.release(self.store.end());
+                Ok(())
+            }
+            Err(fault) => Err(why_not_compacted(fault)),
+        }
+    }
+
+    /// Takes the events in turn, and hands out the held answers and theirs, in order, each with its number. Where 64
+    /// answers are held it flushes; where an event is refused as `Full` it flushes, compacts, and offers the event
+    /// again; and it flushes at the end. Room for the answers is asked for first. A running natgw doesn't call it:
+    /// `socket_edge` calls the functions of `running`.
+    ///
+    /// # Errors
+    ///
+    /// The answers that were handed out so far, and why the run ended: `Reopen`, `NumbersOut`, `NoMemory`, `Device` or
+    /// `Generations`. A beginning of the events is taken; those behind it are not, and don't come back. Answers of
+    /// events that were taken and are not handed out stay held. `Reopen` comes exactly where a call of the disk had
+    /// failed before the run; then nothing changes.
+    pub fn run(
+        &mut self,
+        events: Vec<Event>,
+    ) -> Result<Vec<(u64, Answer)>, (Vec<(u64, Answer)>, GatewayFault)>
+        ensures honest { D.honest self.old.disk ↔ D.honest self.new.disk }
+        ensures ok { IfOk result (λ answers. TookAll self.old.told self.new.told events.items
+            answers.items) }
+        ensures none { OnOk result (self.new.told.held ≡ []) }
+        ensures err { IfErr result (λ e. TookFirst self.old.told self.new.told events.items
+            e.0.items) }
+
+        // A crash at any moment leaves what the model has after a beginning of the events.
+        ensures any_moment { IsReady D.honest self.old
+            → LeavesOnly D.moment D.left self.old.disk self.new.disk
+            (IsSafe self.old.told.config self.old.told.state events.items 0) }
+
+        // A crash at the exit leaves that of a beginning which holds every event whose answer was handed out.
+        ensures at_exit { IsReady D.honest self.old → MatchResult result
+            (λ answers. LeavesNow D.moment D.left self.new.disk
+            (IsSafe self.old.told.config self.old.told.state events.items
+            (length answers.items)))
+            (λ e. LeavesNow D.moment D.left self.new.disk
+            (IsSafe self.old.told.config self.old.told.state events.items (length e.0.items))) }
+
+        // With a fault, both are said of those that were taken.
+        ensures within { self.old.fallen ≡ false
+            → IfErr result (λ e. StopsWithin D.honest D.moment D.left D.failed self.old self.new
+            events.items e.0.items e.1) }
+        ensures configured { self.old.fallen ≡ false → D.honest self.old.disk
+            → LeavesOnly D.moment D.left self.old.disk self.new.disk
+            (IsConfigured self.old.told.config) }
+        ensures reopen { IfErr result (λ e. (e.1 ≡ GatewayFault.Reopen)
+            ↔ (self.old.fallen ≡ true)) }
+        ensures reopen_stays { self.old.fallen ≡ true → self.new ≡ self.old }
+        ensures stood { OnOk result (self.old.fallen ≡ false) }
+        ensures stands { OnOk result (self.new.fallen ≡ false) }
+        ensures no_failure { OnOk result (D.failed self.new.disk ≡ D.failed self.old.disk) }
+        ensures causes { IfErr result (λ e. (e.1 ≢ GatewayFault.HeldFull)
+            × (e.1 ≢ GatewayFault.Full)) }
+        ensures numbers_out { IfErr result (λ e. e.1 ≡ GatewayFault.NumbersOut
+            → self.new.told.last ≡ 2 ^ 64 - 1) }
+        ensures fell { IfErr result (λ e. (e.1 ≡ GatewayFault.Device)
+            ↔ ((self.old.fallen ≡ false) × (self.new.fallen ≡ true))) }
+        ensures device { IfErr result (λ e. e.1 ≡ GatewayFault.Device
+            → Grew (D.failed self.old.disk) (D.failed self.new.disk)) }
+    {
+        if self.has_fallen() {
+            return Err((Vec::new(self.alloc), GatewayFault::Reopen));
+        }
+        let Ok(mut answers) = Vec::with_capacity(self.alloc, self.held() + events.len()) else {
+            return Err((Vec::new(self.alloc), GatewayFault::NoMemory));
+        };
+        match take_all(self, events, &mut answers) {
+            Ok(()) => Ok(answers),
+            Err(fault) => Err((answers, fault)),
+        }
+    }
+}
+
+// A core that begins again from what survived, with nothing held; the next group will stand at the place.
+fn resume_core(
+    alloc: Global,
+    bounds: Bounds,
+    text: Vec<u8>,
+    sessions: &[Session],
+    moment: u64,
+    place: u64,
+) -> Result<(Core, Pending), NoMemory>
+    requires { IsDurable bounds (durable text.items sessions.now) }
+    ensures config { IfOk result (λ r. r.0.config ≡ bounds) }
+    ensures state { IfOk result (λ r. IsResumed bounds (durable text.items sessions.now) moment
+        r.0.state) }
+    ensures pending { IfOk result (λ r. r.1 ≡ record {
+      held = [];
+      entries = [];
+      place = place;
+      room = 0;
+    }) }
+{
+    // The core comes last, so that no way out of here lets one go (why: `Core::discard`).
+    let Ok(pending) = Pending::new(alloc, place) else {
+        return Err(NoMemory);
+    };
+    match Core::resume(alloc, bounds, text, sessions, moment) {
+        Ok(core) => Ok((core, pending)),
+        Err(fault) => Err(fault),
+    }
+}
+
+// The sessions without when their last packets passed.
+fn lasting_sessions(core: &Core) -> Result<Vec<Session>, NoMemory>
+    ensures { IfOk result (λ sessions. sessions.items ≡ map stilled core.now.state.sessions) }
+{
+    match core.sessions() {
+        Ok(mut sessions) => {
+            forget_moments(sessions.as_mut_slice());
+            Ok(sessions)
+        }
+        Err(NoMemory) => Err(NoMemory),
+    }
+}
+
+// A number of this type has 64 bits.
+fn fits(number: u64)
+    ensures { number < 2 ^ 64 }
+{}
+
+// Forgets when the last packets of the sessions passed.
+fn forget_moments(sessions: &mut [Session])
+    ensures { sessions.new ≡ map stilled sessions.old }
+{
+    for session in sessions.iter_mut() {
+        session.last = 0;
+    }
+}
