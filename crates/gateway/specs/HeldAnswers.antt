@@ -47,7 +47,7 @@ pub record IsPending (body : List ℕ) (spare capacity : ℕ) (held : List (ℕ 
   pub few : length held ≤ 64
   pub needed : held ≢ [] → body ≢ []
 
--- where an answer may come, each of 64 that isn't in the list yet has a slot that it could be put in; there are no more
+-- where an answer may come, the list and the slots together have places for 64; there are 64 slots at most
 pub record HasSlots (body : List ℕ) (room : ℕ) (first slots : List (ℕ × Answer))
     (used : ℕ) : Type 0 where
   pub within : used ≤ length slots

@@ -615,7 +615,7 @@ impl<D: Disk + Drop> Gateway<D> {
     }
 
     /// Makes the file that isn't active anew, with a snapshot of what must survive, and no groups; then it is the
-    /// active one. Nothing is held. Afterwards no single event is refused as `Full`. It makes six calls of the disk.
+    /// active one. It asks that nothing is held. No single event is `Full` then. It makes six calls of the disk.
     ///
     /// # Errors
     ///

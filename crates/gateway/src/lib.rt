@@ -6,7 +6,8 @@
 //! - `given`, `fault`: what becomes of an event, and why it isn't taken.
 //! - `pending`, `slot`: the answers that are held, and the entries of their events.
 //! - `calls`: `Gateway`, to which events are offered. A packet whose session goes on leaves at once, translated
-//!   where it lies, if nothing is held (`forward`); any packet may be taken where it lies (`offer_in_place`).
+//!   where it lies, if nothing is held (`forward`); any packet of at most 2,048 bytes may be taken where it lies
+//!   (`offer_in_place`).
 //! - `running`: a run of events over the gateway's calls, event by event.
 //! - `laws`: what follows from the definitions of `specs/Standing`.
 #![tactic(auto)]

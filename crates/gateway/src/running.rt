@@ -39,6 +39,7 @@ pub(crate) fn take_all<D: Disk + Drop>(
     events: Vec<Event>,
     answers: &mut Vec<(u64, Answer)>,
 ) -> Result<(), GatewayFault>
+    // A run of no event hands none out: so this says that `answers` is empty, and that the gateway stands.
     requires begun { Stands D.honest D.moment D.left D.failed gateway.old gateway.old []
         answers.old.items }
     requires room { vec_len answers.old + length gateway.old.told.held + length events.items

@@ -212,8 +212,9 @@ impl<D: Disk + Drop> Store<D> {
         disk
     }
 
-    /// Puts a group behind the others of the active file. Its entries fit the state that the files stand for, one after
-    /// the other, and no call of the disk has failed. It makes four calls of the disk, and takes no memory.
+    /// Puts a group behind the others of the active file. It asks that its entries fit the state that the files stand
+    /// for, one after the other, and that no call of the disk has failed. It makes four calls of the disk, and takes no
+    /// memory.
     ///
     /// # Errors
     ///

@@ -90,7 +90,8 @@ module _ {D : Type 0} (honest : D → Type 0) (moment : D → ℕ) (left : D →
 
 module _ {D : Type 0} (honest : D → Type 0) (moment : D → ℕ) (left : D → ℕ → Files → Type 0)
     (failed : D → ℕ) where
-  -- where what was read ended it the gateway stands, and a fault of the gateway has its cause
+  -- a run that what was read, or a failed read, has ended leaves a gateway that stands; a fault of the gateway has its
+  -- cause; of a failed write nothing is said here
   abbrev pub Explains : EdgeFault → Kept D → Kept D → Type 0
   Explains BadKind old new = new.fallen ≡ false
   Explains BadInterface old new = new.fallen ≡ false

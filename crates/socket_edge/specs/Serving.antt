@@ -37,7 +37,7 @@ pub record Served (old new : Told) (bytes rest sent : List ℕ) (count : ℕ) : 
   pub progress : Progress old new events [] sent
   pub none : old.held ≡ [] → new.held ≡ []
 
--- what the frames at the front came to
+-- what the frames at the front came to; no end of the input is seen here, so that the fault is never Truncated (⊥)
 abbrev pub FrontCame : Result ℕ EdgeFault → Told → Told → List ℕ → List ℕ → List ℕ → Type 0
 FrontCame (Ok count) old new bytes rest sent = Served old new bytes rest sent count
 FrontCame (Err fault) old new bytes rest sent = EndsBy fault old new bytes sent ⊥
@@ -175,7 +175,7 @@ module _ {D : Type 0} (honest : D → Type 0) (moment : D → ℕ) (left : D →
   Closed (Err (Gateway fault)) bytes rest count start now out =
       GatewayRefuses fault bytes start now out
 
-  -- all whole frames at the front were settled and their answers sent, or why not
+  -- all whole frames at the front were settled and their answers sent, or why not, which is never Truncated (⊥)
   abbrev pub SettledAndSent : Result ℕ EdgeFault → Kept D → Kept D → List ℕ → List ℕ
       → List (ℕ × Answer) → List ℕ → Type 0
   SettledAndSent (Ok count) old new bytes rest out sent =

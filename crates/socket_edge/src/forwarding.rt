@@ -1,5 +1,5 @@
 //! A packet that is answered in the bytes of the request that brought it: one that leaves at once (`forward_frame`), or
-//! any (`answer_in_place`).
+//! any of at most 2,048 bytes (`answer_in_place`).
 ghost use Rattle.std.specs.Prelude.{◌≡◌, ◌+◌, ◌<◌, ◌≤◌, ◌^◌, ◌++◌, ◌∷◌, [], ℕ, List, IfNone, IfSome, length, take, drop, true, false};
 ghost use Rattle.gateway.specs.Running.{CarriesOn};
 ghost use Rattle.machine.specs.declared.event.Answer.{Answer};

@@ -11,6 +11,9 @@
 //! - `close`: what is held is synced and handed out (`give_held`, by `gateway::running::hand_out`) and put back too,
 //!   and `end_at` says what the halt means for the run. Then `edge` writes the answers (`sending::send_behind`);
 //! - `compact_grown`: a file that has grown is made short (`gateway::running::compact`).
+//!
+//! In clauses `handed` are the answers whose frames were put into the bytes; `answers` has those behind them, so that
+//! `handed ++ answers` is what was handed out.
 ghost use Rattle.std.specs.Prelude.{◌≡◌, ◌≢◌, ◌+◌, ◌∷◌, ◌++◌, [], ℕ, List, ◌<◌, ◌≤◌, false, length, true, None, IfErr, IfNone, IfSome, OnOk, OnSome, vec_len, vec_capacity};
 ghost use Rattle.gateway.specs.Kept.{Kept};
 ghost use Rattle.gateway.specs.Running.{CarriesOn, Stands};
@@ -256,9 +259,9 @@ fn send_at_once<D: Disk + Drop>(
     hopeful && waiting.forward_next(gateway)
 }
 
-/// Offers the frame at the front, where no answer that is held stands in front: where it lies, if none stands in
-/// `answers` and the gateway holds none. Otherwise a copy of it, and also where memory for 64 answers is refused, or
-/// the gateway doesn't take it where it lies.
+/// Offers the frame at the front, before which no held answer's frame stands. If `answers` is empty and the gateway
+/// holds none, the packet is taken where it lies. If not, or if memory for 64 answers is refused or the gateway doesn't
+/// take it so, a copy of the frame is offered.
 fn offer_idle<D: Disk + Drop>(
     alloc: Global,
     hopeful: bool,
