@@ -8,7 +8,7 @@ use Rattle.std.specs.Prelude.{IsSomeAnd}
 use Rattle.std.specs.Option.{option_map}
 use Rattle.rows.specs.declared.Entry.{Entry}
 use Rattle.rows.specs.Held.{value_at, Puts}
-use Rattle.buckets.specs.Places.{all_in, Stands, HasKey, HasNowhere, AreApart, IsExtended, IsSetTo}
+use Rattle.buckets.specs.Places.{all_in, HasAt, HasKey, HasNowhere, AreApart, IsExtended, IsSetTo}
 use Rattle.buckets.specs.ByPort.{AreAtHome, ArePlaced, place_of}
 use Rattle.buckets.proofs.Values.{vals, either, some-stands, has-stands, stands-some, stands-inside, same-vals, all-both, all-some, all-none, all-nowhere, nowhere-all}
 
@@ -17,7 +17,7 @@ pub home-apart : (ps : List (Option Entry)) → AreAtHome ps → AreApart ps
 home-apart ps home i j e f is_e is_f same = home i e is_e ∙ ap place_of same ∙ sym (home j f is_f)
 
 -- where another key or none stands at the place of a key, no place has it
-pub home-nowhere : (ps : List (Option Entry)) (key : ℕ) → AreAtHome ps → ((e : Entry) → Stands ps (place_of key) e → e.key ≢ key) → HasNowhere ps key
+pub home-nowhere : (ps : List (Option Entry)) (key : ℕ) → AreAtHome ps → ((e : Entry) → HasAt ps (place_of key) e → e.key ≢ key) → HasNowhere ps key
 home-nowhere ps key home other i e is same = other e (ap (λ k. get_or ps k None) (sym (home i e is ∙ ap place_of same)) ∙ is) same
 
 pub home-none : (ps : List (Option Entry)) (key : ℕ) → AreAtHome ps → get_or ps (place_of key) None ≡ None → HasNowhere ps key
@@ -42,14 +42,14 @@ has-value ps key at o home has =
 
 -- ---- an entry more
 
-module _ (old new : List (Option Entry)) (e : Entry) (over : List Entry) (to : IsSetTo old new (place_of e.key) (Some e)) (home : AreAtHome old) (once : (i : ℕ) (f : Entry) → Stands old i f → value_at over f.key ≡ None) (free : get_or old (place_of e.key) None ≡ None) (absent : value_at (all_in old over) e.key ≡ None) where
-  put-stands : (i : ℕ) (f : Entry) → Stands new i f → (Stands old i f) ⊎ ((i ≡ place_of e.key) × (e ≡ f))
+module _ (old new : List (Option Entry)) (e : Entry) (over : List Entry) (to : IsSetTo old new (place_of e.key) (Some e)) (home : AreAtHome old) (once : (i : ℕ) (f : Entry) → HasAt old i f → value_at over f.key ≡ None) (free : get_or old (place_of e.key) None ≡ None) (absent : value_at (all_in old over) e.key ≡ None) where
+  put-stands : (i : ℕ) (f : Entry) → HasAt new i f → (HasAt old i f) ⊎ ((i ≡ place_of e.key) × (e ≡ f))
   put-stands i f is = elim (cases_eq i (place_of e.key)) [
     | inl here ↦ inr (here, same_Some e f (sym to.there ∙ ap (λ k. get_or new k None) (sym here) ∙ is))
     | inr away ↦ inl (sym (to.others i away) ∙ is)
   ]
 
-  put-keeps : (i : ℕ) (f : Entry) → Stands old i f → Stands new i f
+  put-keeps : (i : ℕ) (f : Entry) → HasAt old i f → HasAt new i f
   put-keeps i f is = to.others i (λ here. none-some f (sym free ∙ ap (λ k. get_or old k None) (sym here) ∙ is)) ∙ is
 
   pub put-home : AreAtHome new
@@ -58,7 +58,7 @@ module _ (old new : List (Option Entry)) (e : Entry) (over : List Entry) (to : I
     | inr here ↦ here.0 ∙ ap (λ (x : Entry). place_of x.key) here.1
   ]
 
-  pub put-once : (i : ℕ) (f : Entry) → Stands new i f → value_at over f.key ≡ None
+  pub put-once : (i : ℕ) (f : Entry) → HasAt new i f → value_at over f.key ≡ None
   put-once i f is = elim (put-stands i f is) [
     | inl was ↦ once i f was
     | inr here ↦ ap (λ (x : Entry). value_at over x.key) (sym here.1) ∙ sym (all-none old over e.key (all-nowhere old over e.key absent)) ∙ absent
@@ -78,14 +78,14 @@ module _ (old new : List (Option Entry)) (e : Entry) (over : List Entry) (to : I
 
 -- ---- an entry less
 
-module _ (old new : List (Option Entry)) (key v : ℕ) (over : List Entry) (to : IsSetTo old new (place_of key) None) (home : AreAtHome old) (found : vals old key ≡ Some v) (once : (i : ℕ) (f : Entry) → Stands old i f → value_at over f.key ≡ None) where
-  taken-stands : (i : ℕ) (f : Entry) → Stands new i f → (i ≢ place_of key) × Stands old i f
+module _ (old new : List (Option Entry)) (key v : ℕ) (over : List Entry) (to : IsSetTo old new (place_of key) None) (home : AreAtHome old) (found : vals old key ≡ Some v) (once : (i : ℕ) (f : Entry) → HasAt old i f → value_at over f.key ≡ None) where
+  taken-stands : (i : ℕ) (f : Entry) → HasAt new i f → (i ≢ place_of key) × HasAt old i f
   taken-stands i f is =
       let away : i ≢ place_of key = λ here. none-some f (sym to.there ∙ ap (λ k. get_or new k None) (sym here) ∙ is) in
       (away, sym (to.others i away) ∙ is)
 
   -- what stood at the place had the key
-  was-own : (i : ℕ) (f : Entry) → i ≡ place_of key → Stands old i f → f.key ≡ key
+  was-own : (i : ℕ) (f : Entry) → i ≡ place_of key → HasAt old i f → f.key ≡ key
   was-own i f here is =
       let there = some-stands old key v found in
       let at : there.0 ≡ place_of key = home there.0 there.1 there.2 ∙ ap place_of there.3 in
@@ -109,14 +109,14 @@ module _ (old new : List (Option Entry)) (key v : ℕ) (over : List Entry) (to :
 
 -- ---- a change of the others
 
-pub others-placed : (ps : List (Option Entry)) (old new : List Entry) (key : ℕ) (value : Option ℕ) → HasNowhere ps key → Puts old new key value → AreAtHome ps → ((i : ℕ) (f : Entry) → Stands ps i f → value_at old f.key ≡ None) → ArePlaced ps new true
+pub others-placed : (ps : List (Option Entry)) (old new : List Entry) (key : ℕ) (value : Option ℕ) → HasNowhere ps key → Puts old new key value → AreAtHome ps → ((i : ℕ) (f : Entry) → HasAt ps i f → value_at old f.key ≡ None) → ArePlaced ps new true
 others-placed ps old new key value nowhere puts home once = record {
   home = home;
   once = λ i e is. puts e.key ∙ ap (λ b. cond b value (value_at old e.key)) (ne_eqb e.key key (nowhere i e is)) ∙ once i e is;
   none = tt;
 }
 
-pub kept-placed : (ps : List (Option Entry)) (old new : List Entry) → ((key : ℕ) → value_at new key ≡ value_at old key) → AreAtHome ps → ((i : ℕ) (f : Entry) → Stands ps i f → value_at old f.key ≡ None) → ArePlaced ps new true
+pub kept-placed : (ps : List (Option Entry)) (old new : List Entry) → ((key : ℕ) → value_at new key ≡ value_at old key) → AreAtHome ps → ((i : ℕ) (f : Entry) → HasAt ps i f → value_at old f.key ≡ None) → ArePlaced ps new true
 kept-placed ps old new same home once = record { home = home; once = λ i e is. same e.key ∙ once i e is; none = tt }
 
 pub others-same : (ps qs : List (Option Entry)) (old new : List Entry) (key : ℕ) → qs ≡ ps → value_at new key ≡ value_at old key → value_at (all_in qs new) key ≡ value_at (all_in ps old) key
@@ -138,5 +138,5 @@ module _ (old new : List (Option Entry)) (over : List Entry) (same : IsExtended 
   pub extended-values : (key : ℕ) → value_at (all_in new over) key ≡ value_at (all_in old over) key
   extended-values key = all-both new over key ∙ ap (λ o. either o (value_at over key)) (same-vals old new key (home-apart new extended-home) (λ i e _ is. same i ∙ is) (λ i e _ is. sym (same i) ∙ is)) ∙ sym (all-both old over key)
 
-  pub extended-placed : (has_others : Bool) → ((i : ℕ) (e : Entry) → Stands old i e → value_at over e.key ≡ None) → OnFalse has_others ((key : ℕ) → value_at over key ≡ None) → ArePlaced new over has_others
+  pub extended-placed : (has_others : Bool) → ((i : ℕ) (e : Entry) → HasAt old i e → value_at over e.key ≡ None) → OnFalse has_others ((key : ℕ) → value_at over key ≡ None) → ArePlaced new over has_others
   extended-placed has_others once none = record { home = extended-home; once = λ i e is. once i e (sym (same i) ∙ is); none = none }

@@ -9,7 +9,7 @@ use Rattle.std.specs.Bool.{OnTrue}
 use Rattle.std.proofs.Math.Nat.{mul-le-mul_right}
 use Rattle.rows.specs.declared.Entry.{Entry}
 use Rattle.rows.specs.Held.{value_at, Puts}
-use Rattle.buckets.specs.Places.{entries_in, all_in, Stands, HasKey, HasNowhere, AreHome, AreApart, AreSound, IsHome, AreInFront, IsFreeFor, IsNextFor, EndsSearch, IsClosed, IsFull, IsFilled, ArePacked, ArePackedBut, IsNext, IsPast, bucket_of, spread, number, IsSetTo, IsCopied, IsMoved, HaveSame}
+use Rattle.buckets.specs.Places.{entries_in, all_in, HasAt, HasKey, HasNowhere, AreHome, AreApart, AreSound, IsHome, AreInFront, IsFreeFor, IsNextFor, EndsSearch, IsClosed, IsFull, IsFilled, ArePacked, ArePackedBut, IsNext, IsPast, bucket_of, spread, number, IsSetTo, IsCopied, IsMoved, HaveSame}
 
 -- the place has the last entry in the bucket of the key
 pub record IsLast (places : List (Option Entry)) (key place : ℕ) : Type 0 where
@@ -65,7 +65,7 @@ none-nowhere (Some f ∷ ps) key none (suc i) e is = elim (cases_eq key f.key) [
 ]
 
 -- an entry that a look-up gave stands somewhere
-pub some-stands : (ps : List (Option Entry)) (key v : ℕ) → vals ps key ≡ Some v → (i : ℕ) × (e : Entry) × (Stands ps i e) × (e.key ≡ key) × (e.value ≡ v)
+pub some-stands : (ps : List (Option Entry)) (key v : ℕ) → vals ps key ≡ Some v → (i : ℕ) × (e : Entry) × (HasAt ps i e) × (e.key ≡ key) × (e.value ≡ v)
 some-stands [] key v some = absurd (none-some v some)
 some-stands (None ∷ ps) key v some = let there = some-stands ps key v some in (suc there.0, there.1, there.2, there.3, there.4)
 some-stands (Some e ∷ ps) key v some = elim (cases_eq key e.key) [
@@ -74,7 +74,7 @@ some-stands (Some e ∷ ps) key v some = elim (cases_eq key e.key) [
 ]
 
 -- an entry that stands is what a look-up gives
-pub stands-some : (ps : List (Option Entry)) → AreApart ps → (i : ℕ) (e : Entry) → Stands ps i e → vals ps e.key ≡ Some e.value
+pub stands-some : (ps : List (Option Entry)) → AreApart ps → (i : ℕ) (e : Entry) → HasAt ps i e → vals ps e.key ≡ Some e.value
 stands-some ps apart i e is = by-cases (vals ps e.key) refl where
   by-cases : (o : Option ℕ) → vals ps e.key ≡ o → vals ps e.key ≡ Some e.value
   by-cases None none = absurd (none-nowhere ps e.key none i e is refl)
@@ -85,7 +85,7 @@ stands-some ps apart i e is = by-cases (vals ps e.key) refl where
       some ∙ ap Some (sym there.4 ∙ ap (λ (x : Entry). x.value) one)
 
 -- places that have the same entries of a key, wherever they stand
-pub same-entries : (ps qs : List (Option Entry)) (key : ℕ) → AreApart qs → ((i : ℕ) (e : Entry) → e.key ≡ key → Stands ps i e → (j : ℕ) × Stands qs j e) → ((i : ℕ) (e : Entry) → e.key ≡ key → Stands qs i e → (j : ℕ) × Stands ps j e) → vals qs key ≡ vals ps key
+pub same-entries : (ps qs : List (Option Entry)) (key : ℕ) → AreApart qs → ((i : ℕ) (e : Entry) → e.key ≡ key → HasAt ps i e → (j : ℕ) × HasAt qs j e) → ((i : ℕ) (e : Entry) → e.key ≡ key → HasAt qs i e → (j : ℕ) × HasAt ps j e) → vals qs key ≡ vals ps key
 same-entries ps qs key apart to from = by-cases (vals ps key) refl where
   by-cases : (o : Option ℕ) → vals ps key ≡ o → vals qs key ≡ vals ps key
   by-cases None none = nowhere-none qs key (λ i e is same. let was = from i e same is in none-nowhere ps key none was.0 e was.1 same) ∙ sym none
@@ -95,20 +95,20 @@ same-entries ps qs key apart to from = by-cases (vals ps key) refl where
       ap (vals qs) (sym there.3) ∙ stands-some qs apart now.0 there.1 now.1 ∙ ap Some there.4 ∙ sym some
 
 -- or in the same places
-pub same-vals : (ps qs : List (Option Entry)) (key : ℕ) → AreApart qs → ((i : ℕ) (e : Entry) → e.key ≡ key → Stands ps i e → Stands qs i e) → ((i : ℕ) (e : Entry) → e.key ≡ key → Stands qs i e → Stands ps i e) → vals qs key ≡ vals ps key
+pub same-vals : (ps qs : List (Option Entry)) (key : ℕ) → AreApart qs → ((i : ℕ) (e : Entry) → e.key ≡ key → HasAt ps i e → HasAt qs i e) → ((i : ℕ) (e : Entry) → e.key ≡ key → HasAt qs i e → HasAt ps i e) → vals qs key ≡ vals ps key
 same-vals ps qs key apart to from = same-entries ps qs key apart (λ i e same is. (i, to i e same is)) (λ i e same is. (i, from i e same is))
 
 -- a place with an entry is one of the places
-pub stands-inside : (ps : List (Option Entry)) (i : ℕ) (e : Entry) → Stands ps i e → i < length ps
+pub stands-inside : (ps : List (Option Entry)) (i : ℕ) (e : Entry) → HasAt ps i e → i < length ps
 stands-inside [] i e is = absurd (none-some e is)
 stands-inside (p ∷ ps) zero e is = omega arith
 stands-inside (p ∷ ps) (suc i) e is = let inside = stands-inside ps i e is in omega (arith, inside)
 
 -- ---- what a look-up among all gives
 
-pub has-stands : (ps : List (Option Entry)) (key i : ℕ) → HasKey ps key i → (e : Entry) × (Stands ps i e) × (e.key ≡ key)
+pub has-stands : (ps : List (Option Entry)) (key i : ℕ) → HasKey ps key i → (e : Entry) × (HasAt ps i e) × (e.key ≡ key)
 has-stands ps key i has = by-cases (get_or ps i None) refl has where
-  by-cases : (o : Option Entry) → get_or ps i None ≡ o → IsSomeAnd o (λ e. e.key ≡ key) → (e : Entry) × (Stands ps i e) × (e.key ≡ key)
+  by-cases : (o : Option Entry) → get_or ps i None ≡ o → IsSomeAnd o (λ e. e.key ≡ key) → (e : Entry) × (HasAt ps i e) × (e.key ≡ key)
   by-cases None is h = absurd h
   by-cases (Some e) is h = (e, is, h)
 
@@ -140,13 +140,13 @@ module _ (ps : List (Option Entry)) (over : List Entry) where
 -- ---- an entry more in a place
 
 module _ (old new : List (Option Entry)) (place : ℕ) (e : Entry) (over : List Entry) (to : IsSetTo old new place (Some e)) (sound : AreSound old over) (free : IsNextFor old e.key place) (absent : value_at (all_in old over) e.key ≡ None) where
-  more-stands : (i : ℕ) (f : Entry) → Stands new i f → (Stands old i f) ⊎ ((i ≡ place) × (e ≡ f))
+  more-stands : (i : ℕ) (f : Entry) → HasAt new i f → (HasAt old i f) ⊎ ((i ≡ place) × (e ≡ f))
   more-stands i f is = elim (cases_eq i place) [
     | inl here ↦ inr (here, same_Some e f (sym to.there ∙ ap (λ k. get_or new k None) (sym here) ∙ is))
     | inr away ↦ inl (sym (to.others i away) ∙ is)
   ]
 
-  more-keeps : (i : ℕ) (f : Entry) → Stands old i f → Stands new i f
+  more-keeps : (i : ℕ) (f : Entry) → HasAt old i f → HasAt new i f
   more-keeps i f is = to.others i (λ here. none-some f (sym free.vacant.free ∙ ap (λ k. get_or old k None) (sym here) ∙ is)) ∙ is
 
   nowhere : HasNowhere old e.key
@@ -179,7 +179,7 @@ module _ (old new : List (Option Entry)) (place : ℕ) (e : Entry) (over : List 
     ]
   ]
 
-  more-once : (i : ℕ) (f : Entry) → Stands new i f → value_at over f.key ≡ None
+  more-once : (i : ℕ) (f : Entry) → HasAt new i f → value_at over f.key ≡ None
   more-once i f is = elim (more-stands i f is) [
     | inl was ↦ sound.once i f was
     | inr here ↦ ap (λ (x : Entry). value_at over x.key) (sym here.1) ∙ sym (all-none old over e.key (all-nowhere old over e.key absent)) ∙ absent
@@ -208,7 +208,7 @@ pub home-same : (count key a b : ℕ) → IsHome count key a → IsHome count ke
 unfolding bucket_of
 home-same count key a b one other = let from_a = one.from in let to_a = one.to in let from_b = other.from in let to_b = other.to in omega (arith, from_a, to_a, from_b, to_b)
 
-module _ (old new : List (Option Entry)) (place last : ℕ) (e : Entry) (over : List Entry) (to : IsClosed old new place last) (sound : AreSound old over) (there : Stands old place e) (end : IsLast old e.key last) where
+module _ (old new : List (Option Entry)) (place last : ℕ) (e : Entry) (over : List Entry) (to : IsClosed old new place last) (sound : AreSound old over) (there : HasAt old place e) (end : IsLast old e.key last) where
   beside : place / 8 ≡ last / 8
   beside = home-same (length old) e.key place last (sound.home place e there) end.home
 
@@ -219,7 +219,7 @@ module _ (old new : List (Option Entry)) (place last : ℕ) (e : Entry) (over : 
   ]
 
   -- where an entry stood
-  origin : (i : ℕ) (f : Entry) → Stands new i f → (i ≢ last) × (((i ≡ place) × Stands old last f) ⊎ ((i ≢ place) × Stands old i f))
+  origin : (i : ℕ) (f : Entry) → HasAt new i f → (i ≢ last) × (((i ≡ place) × HasAt old last f) ⊎ ((i ≢ place) × HasAt old i f))
   origin i f is =
       let differs : i ≢ last = λ here. none-some f (sym to.gone ∙ ap (λ k. get_or new k None) (sym here) ∙ is) in
       elim (cases_eq i place) [
@@ -228,7 +228,7 @@ module _ (old new : List (Option Entry)) (place last : ℕ) (e : Entry) (over : 
       ]
 
   -- where it stands now
-  stays : (j : ℕ) (f : Entry) → Stands old j f → j ≢ place → (i : ℕ) × Stands new i f
+  stays : (j : ℕ) (f : Entry) → HasAt old j f → j ≢ place → (i : ℕ) × HasAt new i f
   stays j f is away = elim (cases_eq j last) [
     | inl here ↦ (place, to.moved (λ same. away (here ∙ sym same)) ∙ ap (λ k. get_or old k None) (sym here) ∙ is)
     | inr differs ↦ (j, to.others j away differs ∙ is)
@@ -278,7 +278,7 @@ module _ (old new : List (Option Entry)) (place last : ℕ) (e : Entry) (over : 
     ]
   ]
 
-  closed-once : (i : ℕ) (f : Entry) → Stands new i f → value_at over f.key ≡ None
+  closed-once : (i : ℕ) (f : Entry) → HasAt new i f → value_at over f.key ≡ None
   closed-once i f is = elim (origin i f is).1 [
     | inl moved ↦ sound.once last f moved.1
     | inr kept ↦ sound.once i f kept.1
@@ -596,7 +596,7 @@ set-to ps place value e inside is = record {
 
 -- what a search among the places of a bucket says of all
 pub search-nowhere : (ps : List (Option Entry)) (key start stop end : ℕ) → AreHome ps → AreInFront ps → start ≡ bucket_of (length ps) key → start ≤ stop → stop < end → end ≤ start + 8 → end ≤ length ps → get_or ps stop None ≡ None
-    → ((k : ℕ) (e : Entry) → start ≤ k → k < stop → Stands ps k e → e.key ≢ key) → IsFreeFor ps key stop × HasNowhere ps key
+    → ((k : ℕ) (e : Entry) → start ≤ k → k < stop → HasAt ps k e → e.key ≢ key) → IsFreeFor ps key stop × HasNowhere ps key
 search-nowhere ps key start stop end homes front begin from to short bound free before =
     let home : IsHome (length ps) key stop = record { from = omega (arith, begin, from); to = omega (arith, begin, to, short) } in (
       record { in_range = omega (arith, to, bound); free = free; home = home },
@@ -686,7 +686,7 @@ module _ (old new : List (Option Entry)) (over : List Entry) (key place last : �
   abbrev entry : Entry
   entry = (has-stands old key place has).0
 
-  there : Stands old place entry
+  there : HasAt old place entry
   there = (has-stands old key place has).1
 
   own : entry.key ≡ key

@@ -28,8 +28,8 @@ pub record IsHome (count key place : ℕ) : Type 0 where
   pub to : place < bucket_of count key + 8
 
 -- the entry stands at this place
-abbrev pub Stands : List (Option Entry) → ℕ → Entry → Type 0
-Stands places place entry = slice_index_or places place None ≡ Some entry
+abbrev pub HasAt : List (Option Entry) → ℕ → Entry → Type 0
+HasAt places place entry = slice_index_or places place None ≡ Some entry
 
 -- by these numbers the overflow is in order: entries of one bucket lie side by side
 unfoldable pub number : ℕ → ℕ
@@ -56,16 +56,16 @@ HasKey places key place = IsSomeAnd (slice_index_or places place None) (λ entry
 
 -- no place has the key
 abbrev pub HasNowhere : List (Option Entry) → ℕ → Type 0
-HasNowhere places key = (place : ℕ) (entry : Entry) → Stands places place entry → entry.key ≢ key
+HasNowhere places key = (place : ℕ) (entry : Entry) → HasAt places place entry → entry.key ≢ key
 
 -- each entry stands in the bucket of its key
 abbrev pub AreHome : List (Option Entry) → Type 0
-AreHome places = (place : ℕ) (entry : Entry) → Stands places place entry
+AreHome places = (place : ℕ) (entry : Entry) → HasAt places place entry
     → IsHome (length places) entry.key place
 
 -- each key stands once
 abbrev pub AreApart : List (Option Entry) → Type 0
-AreApart places = (i j : ℕ) (e f : Entry) → Stands places i e → Stands places j f
+AreApart places = (i j : ℕ) (e f : Entry) → HasAt places i e → HasAt places j f
     → e.key ≡ f.key → i ≡ j
 
 -- in each bucket, no entry stands behind a free place
@@ -79,7 +79,7 @@ pub record AreSound (places : List (Option Entry)) (overflow : List Entry) : Typ
   pub home : AreHome places
   pub front : AreInFront places
   pub apart : AreApart places
-  pub once : (place : ℕ) (entry : Entry) → Stands places place entry
+  pub once : (place : ℕ) (entry : Entry) → HasAt places place entry
       → value_at overflow entry.key ≡ None
 
 -- the place is free, and belongs to the bucket of the key
@@ -161,10 +161,10 @@ IsCopied (Some entry) old new = (place : ℕ) × IsNextFor old entry.key place
 pub record IsMoved (old : List (Option Entry)) (count : ℕ)
     (new : List (Option Entry)) : Type 0 where
   pub sound : AreSound new []
-  pub to : (place : ℕ) (entry : Entry) → place < count → Stands old place entry
-      → (k : ℕ) × Stands new k entry
-  pub from : (place : ℕ) (entry : Entry) → Stands new place entry
-      → (k : ℕ) × (k < count) × Stands old k entry
+  pub to : (place : ℕ) (entry : Entry) → place < count → HasAt old place entry
+      → (k : ℕ) × HasAt new k entry
+  pub from : (place : ℕ) (entry : Entry) → HasAt new place entry
+      → (k : ℕ) × (k < count) × HasAt old k entry
 
 -- the same entries stand in the new places, each in its bucket
 abbrev pub HaveSame : List (Option Entry) → List (Option Entry) → Type 0

@@ -27,7 +27,7 @@ ghost use Rattle.std.specs.Prelude.{◌≡◌, ◌+◌, ◌<◌, ◌≤◌, ℕ,
 ghost use Rattle.rows.specs.Held.{at, Puts};
 ghost use Rattle.buckets.specs.Held.{KeepsAll};
 
-pub mod by_port;
+mod by_port;
 mod overflow;
 mod place;
 mod places;
@@ -35,6 +35,7 @@ mod places;
 use crate::overflow::Overflow;
 use crate::place::Place;
 use crate::places::{add, find, find_or_add, grow, seems_held, take_out};
+pub use by_port::ByPort;
 use std::alloc::{AllocError, Global};
 use std::marker::Model;
 

@@ -5,7 +5,7 @@ ghost use Rattle.std.specs.Option.{option_map};
 ghost use Rattle.rows.specs.Held.{value_at, Puts};
 ghost use Rattle.std.specs.Prelude.{IfOk};
 ghost use Rattle.rows.specs.declared.Entry.{Entry as KeyValue};
-ghost use Rattle.buckets.specs.Places.{all_in, bucket_of, number, Stands, HasKey, HasNowhere, AreHome, AreInFront, AreApart, AreSound, IsFreeFor, IsNextFor, EndsSearch, IsFull, IsFilled, ArePacked, ArePackedBut, IsClosed, IsCopied, HaveSame, IsExtended, IsSetTo};
+ghost use Rattle.buckets.specs.Places.{all_in, bucket_of, number, HasAt, HasKey, HasNowhere, AreHome, AreInFront, AreApart, AreSound, IsFreeFor, IsNextFor, EndsSearch, IsFull, IsFilled, ArePacked, ArePackedBut, IsClosed, IsCopied, HaveSame, IsExtended, IsSetTo};
 
 use crate::overflow::{Overflow, number, spread};
 use crate::place::Place;
@@ -107,11 +107,11 @@ fn search_between(places: &[Place], start: usize, end: usize, key: u64) -> Optio
     ensures from { IfSome result (λ place. start ≤ place) }
     ensures to { IfSome result (λ place. place < end) }
     ensures before { IfSome result (λ stop. (place : ℕ) (entry : KeyValue) → start ≤ place
-        → place < stop → Stands places.now place entry → entry.key ≢ key) }
+        → place < stop → HasAt places.now place entry → entry.key ≢ key) }
     ensures filled { IfSome result (λ stop. (place : ℕ) → start ≤ place → place < stop
         → slice_index_or places.now place None ≢ None) }
     ensures absent { IfNone result ((place : ℕ) (entry : KeyValue) → start ≤ place → place < end
-        → Stands places.now place entry → entry.key ≢ key) }
+        → HasAt places.now place entry → entry.key ≢ key) }
 {
     let mut place = start;
     while place < end {

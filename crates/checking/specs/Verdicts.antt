@@ -11,11 +11,13 @@ use Rattle.text_marks.specs.Reports.{IsReport}
 -- a line with some number, and the name of the kind of fault
 abbrev pub TellsOf : Kind → List ℕ → Type 0
 TellsOf kind line =
-    (number : List ℕ) × (line ≡ codes "line " ++ number ++ codes ": " ++ reason_name kind ++ codes "\n")
+    (number : List ℕ)
+    × (line ≡ codes "line " ++ number ++ codes ": " ++ reason_name kind ++ codes "\n")
 
 -- it says ok of a text that loads, and of another one a kind of fault that the text has
 abbrev pub IsVerdict : Config → List ℕ → Bool → List ℕ → Type 0
-IsVerdict config text true line = (line ≡ codes "ok\n") × ((rules : Spelled) × Loads config text rules)
+IsVerdict config text true line =
+    (line ≡ codes "ok\n") × ((rules : Spelled) × Loads config text rules)
 IsVerdict config text false line =
     (kind : Kind) × (kind ≢ NoMemory) × IsRefused config text kind × TellsOf kind line
 

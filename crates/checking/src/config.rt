@@ -7,8 +7,7 @@ ghost use Rattle.checking.specs.Spelling.{IsNoConfig, SpellsAddress, SpellsNumbe
 
 use itoa::Buffer;
 use options::Sides;
-use packet::bounds::{Bounds, ConfigFault};
-use packet::endpoint::Prefix;
+use packet::{Bounds, ConfigFault, Prefix};
 use refusals::{Refusal, Stop};
 use std::alloc::Global;
 use std::net::Ipv4Addr;

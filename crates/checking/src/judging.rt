@@ -7,16 +7,16 @@ ghost use Rattle.refusals.specs.Words.{IsOfPrinting};
 ghost use Rattle.ruletext.specs.Texts.{IsRefused};
 ghost use Rattle.text_marks.specs.Reports.{IsReport};
 
-use packet::bounds::Bounds;
+use packet::Bounds;
 use refusals::Refusal;
 use ruletext::fault_of;
-use ruletree::fault::{Kind, LoadFault};
+use ruletree::{Kind, LoadFault};
 use std::alloc::{AllocError, Global};
 use std::io::Write;
 
 /// What is found of a text.
 #[derive(Debug, Drop)]
-pub struct Finding {
+pub struct Checked {
     /// Whether it would load.
     pub loads: bool,
     /// `ok`, or the line and the kind of the text's fault, as `line 2: duplicate`; with a newline.
@@ -63,7 +63,7 @@ fn refused(
     bounds: &Bounds,
     explains: bool,
     fault: &LoadFault,
-) -> Result<Finding, Refusal>
+) -> Result<Checked, Refusal>
     requires { IsRefused bounds.now text.now fault.now.kind }
     ensures ok { IfOk result (λ found. IsVerdict bounds.now text.now found.loads found.line.items) }
     ensures marks { IfOk result (λ found. explains ≡ false → found.marks.items ≡ []) }
@@ -76,7 +76,7 @@ fn refused(
     }
     let marks = marks_of(alloc, text, bounds, explains, fault)?;
     let line = line_of(alloc, fault)?;
-    Ok(Finding {
+    Ok(Checked {
         loads: false,
         line,
         marks,
@@ -88,13 +88,13 @@ fn refused(
 ///
 /// # Errors
 ///
-/// `NoMemory` where memory is refused; that is no finding.
+/// `NoMemory` where memory is refused, which says nothing of the text.
 pub fn report(
     alloc: Global,
     text: &[u8],
     bounds: &Bounds,
     explains: bool,
-) -> Result<Finding, Refusal>
+) -> Result<Checked, Refusal>
     ensures ok { IfOk result (λ found. IsVerdict bounds.now text.now found.loads found.line.items) }
     ensures marks { IfOk result (λ found. explains ≡ false → found.marks.items ≡ []) }
     ensures shown { IfOk result (λ found. explains ≡ true
@@ -105,7 +105,7 @@ pub fn report(
         Some(fault) => refused(alloc, text, bounds, explains, &fault),
         None => {
             let line = Vec::from_slice(alloc, b"ok\n")?;
-            Ok(Finding {
+            Ok(Checked {
                 loads: true,
                 line,
                 marks: Vec::new(alloc),
@@ -138,12 +138,12 @@ pub fn check<W: Write, E: Write>(
     ensures memory { IfErr result (λ refusal. refusal ≡ NoMemory
         → (output.new ≡ output.old) × (errors.new ≡ errors.old)) }
 {
-    let finding = report(alloc, text, bounds, explains)?;
-    if output.write_all(finding.line.as_slice()).is_err() {
+    let checked = report(alloc, text, bounds, explains)?;
+    if output.write_all(checked.line.as_slice()).is_err() {
         return Err(Refusal::Output);
     }
-    if explains && errors.write_all(finding.marks.as_slice()).is_err() {
+    if explains && errors.write_all(checked.marks.as_slice()).is_err() {
         return Err(Refusal::Output);
     }
-    Ok(finding.loads)
+    Ok(checked.loads)
 }

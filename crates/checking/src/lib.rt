@@ -11,4 +11,4 @@ mod judging;
 
 pub use config::{address, bounds, number, prefix, prefixes};
 pub use files::read_file;
-pub use judging::{Finding, check, report};
+pub use judging::{Checked, check, report};

@@ -1,7 +1,7 @@
 //! Addresses, prefixes and configurations as they are spelled.
 use checking::{address, bounds, number, prefix};
 use options::Sides;
-use packet::endpoint::Prefix;
+use packet::Prefix;
 use refusals::Refusal;
 use std::alloc::Global;
 use std::test::*;

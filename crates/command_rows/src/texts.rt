@@ -51,9 +51,9 @@ const FINDINGS: [(&[u8], &[u8]); 14] = [
 
 // Whether such a line is found of a text, and whether it says that it loads.
 fn is_found(alloc: Global, text: &[u8], line: &[u8]) -> Result<bool, Stop> {
-    let finding = report(alloc, text, &bounds(alloc, &SIDES)?, false)?;
-    let is_line = finding.line.as_slice() == line;
-    Ok(is_line && finding.loads == (line == b"ok\n".as_slice()))
+    let checked = report(alloc, text, &bounds(alloc, &SIDES)?, false)?;
+    let is_line = checked.line.as_slice() == line;
+    Ok(is_line && checked.loads == (line == b"ok\n".as_slice()))
 }
 
 #[test]

@@ -14,7 +14,7 @@ use diagnosis::{Finding, diagnose};
 use file_disk::{FileDisk, OpenError};
 use gateway::{Gateway, OpenFault};
 use options::{Opening, Sides};
-use packet::bounds::Bounds;
+use packet::Bounds;
 use refusals::{Refusal, Stop};
 use std::alloc::Global;
 

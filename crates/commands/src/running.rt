@@ -6,7 +6,7 @@ use checking::{bounds, check, read_file};
 use disk_model::Disk;
 use gateway::Gateway;
 use options::{Opening, Options, Sides, Task, Work};
-use packet::bounds::Bounds;
+use packet::Bounds;
 use refusals::{Refusal, Stop};
 use rulesyntax::GREATEST_LENGTH;
 use std::alloc::Global;

@@ -9,7 +9,7 @@ use Rattle.disk_model.specs.Disk.{pair}
 use Rattle.durable.specs.Recovery.{Found, Finds, IsHeaded, IsOpen, begun, behind}
 use Rattle.durable.proofs.Headed.{headed_open, headed_once}
 use Rattle.durable.proofs.Growing.{grows}
-use Rattle.diagnosis.specs.Reading.{Begins, HasNoFront}
+use Rattle.diagnosis.specs.Reading.{HasSoundSnapshot, HasNoFront}
 use Rattle.diagnosis.specs.Probing.{Brackets, HasFront, IsFrontEnd, Tells, TellsBegin}
 use Rattle.diagnosis.proofs.Alone.{found_alone, holds_alone}
 
@@ -90,14 +90,14 @@ alone_headed file alone end h on is made =
     let size : behind h < length alone = omega (arith, ap length whole, length-append (1 ∷ heading_bytes h) (0 ∷ [])) in
     (same_front file alone h on same size, ([], whole))
 
-found_begins : (file alone : List ℕ) (end : ℕ) (at : IsFrontEnd file end) → alone ≡ take end file ++ 0 ∷ [] → (found : Option Found) → Finds (pair alone []) found → Begins at.0
+found_begins : (file alone : List ℕ) (end : ℕ) (at : IsFrontEnd file end) → alone ≡ take end file ++ 0 ∷ [] → (found : Option Found) → Finds (pair alone []) found → HasSoundSnapshot at.0
 found_begins file alone end at made None found = absurd (found.0 (headed_open alone at.0 (alone_headed file alone end at.0 at.1 at.2 made).0))
 found_begins file alone end at made (Some x) found =
     let there = alone_headed file alone end at.0 at.1 at.2 made in
     let holds = found_alone alone x found in
-    subst Begins (headed_once alone found.heading at.0 holds.headed there.0) (record { text = holds.text; sessions = holds.sound })
+    subst HasSoundSnapshot (headed_once alone found.heading at.0 holds.headed there.0) (record { text = holds.text; sessions = holds.sound })
 
-nothing_begins : (file alone : List ℕ) (end : ℕ) (at : IsFrontEnd file end) → alone ≡ take end file ++ 0 ∷ [] → ((found : Option Found) → ¬ Finds (pair alone []) found) → ¬ Begins at.0
+nothing_begins : (file alone : List ℕ) (end : ℕ) (at : IsFrontEnd file end) → alone ≡ take end file ++ 0 ∷ [] → ((found : Option Found) → ¬ Finds (pair alone []) found) → ¬ HasSoundSnapshot at.0
 nothing_begins file alone end at made none begins =
     let h = at.0 in
     let there = alone_headed file alone end h at.1 at.2 made in

@@ -10,7 +10,7 @@ use Rattle.durable.specs.Coding.{Heading}
 use Rattle.durable.specs.Entering.{Durable, empty}
 use Rattle.durable.specs.Recovery.{Found, Finds, IsActive, IsConfigured, IsOpen, NoneOpen, Recovers, behind}
 use Rattle.durable.proofs.Headed.{headed_open, recovers_once}
-use Rattle.diagnosis.specs.Reading.{IsRead, IsHeld}
+use Rattle.diagnosis.specs.Reading.{IsReadAs, IsHeld}
 use Rattle.diagnosis.specs.Finding.{HasFault, AreTwins}
 use Rattle.diagnosis.specs.declared.reading.Held.{Held}
 use Rattle.diagnosis.specs.declared.reading.Reading.{Reading}
@@ -61,7 +61,7 @@ both_whole config files held other a b nothing =
       ]
     ]
 
-pub why : (config : Config) (files : Files) (a b : Reading) → IsRead config (files A) a → IsRead config (files B) b → ((d : Durable) → ¬ Recovers files d)
+pub why : (config : Config) (files : Files) (a b : Reading) → IsReadAs config (files A) a → IsReadAs config (files B) b → ((d : Durable) → ¬ Recovers files d)
     → HasFault a ⊎ HasFault b ⊎ AreTwins a b
 why config files (Faulty fault) b one two nothing = inl (fault, refl)
 why config files Empty (Faulty fault) one two nothing = inr (inl (fault, refl))

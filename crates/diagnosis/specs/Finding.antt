@@ -7,7 +7,7 @@ use Rattle.disk_model.specs.declared.disk.FileId.TheVariants.{A, B}
 use Rattle.durable.specs.Coding.{Heading}
 use Rattle.durable.specs.Entering.{Durable}
 use Rattle.durable.specs.Recovery.{IsActive, IsConfigured, Recovers}
-use Rattle.diagnosis.specs.Reading.{IsRead}
+use Rattle.diagnosis.specs.Reading.{IsReadAs}
 use Rattle.diagnosis.specs.declared.reading.Fault.{Fault}
 use Rattle.diagnosis.specs.declared.reading.Held.{Held}
 use Rattle.diagnosis.specs.declared.reading.Reading.{Reading}
@@ -16,6 +16,7 @@ use Rattle.diagnosis.specs.declared.finding.Damage.{Damage}
 use Rattle.diagnosis.specs.declared.finding.Finding.{Finding}
 use Rattle.diagnosis.specs.declared.finding.Finding.TheVariants.{Sound, Damaged, Differs}
 
+-- the file was read as faulty
 abbrev pub HasFault : Reading → Type 0
 HasFault reading = (fault : Fault) × (reading ≡ Faulty fault)
 
@@ -28,8 +29,8 @@ AreTwins a b = (held : Held) × (other : Held) × (a ≡ Whole held) × (b ≡ W
 -- generation, is why.
 pub record IsDamaged (config : Config) (files : Files) (damage : Damage) : Type 0 where
   pub nothing : (d : Durable) → ¬ Recovers files d
-  pub a : IsRead config (files A) damage.a
-  pub b : IsRead config (files B) damage.b
+  pub a : IsReadAs config (files A) damage.a
+  pub b : IsReadAs config (files B) damage.b
   pub why : HasFault damage.a ⊎ HasFault damage.b ⊎ AreTwins damage.a damage.b
 
 -- The files stand for a state, and the active one has another configuration, this one.

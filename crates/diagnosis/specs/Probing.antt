@@ -1,10 +1,10 @@
--- How far a search for the end of a front has come.
+-- How far a search for the end of a front has come. No public clause cites this module.
 use Rattle.std.specs.Prelude.{◌≡◌, ℕ, ◌<◌, ◌≤◌, List, length, take, Bool, true, false, Option}
 use Rattle.durable.specs.Coding.{Heading}
 use Rattle.durable.specs.Entering.{empty}
 use Rattle.durable.specs.Recovery.{Found, Finds, IsOpen, IsHeaded, Holds, behind}
 use Rattle.disk_model.specs.Disk.{Files}
-use Rattle.diagnosis.specs.Reading.{Begins, greatest, HasNoFront}
+use Rattle.diagnosis.specs.Reading.{HasSoundSnapshot, greatest, HasNoFront}
 
 -- whether two files stand for a state
 abbrev pub Tells : Files → Bool → Type 0
@@ -35,5 +35,5 @@ abbrev pub IsFrontEnd : List ℕ → ℕ → Type 0
 IsFrontEnd file end = (h : Heading) × IsHeaded file h × (end ≡ behind h)
 
 abbrev pub TellsBegin : List ℕ → Bool → Type 0
-TellsBegin file true = (h : Heading) × IsHeaded file h × Begins h
-TellsBegin file false = (h : Heading) × IsHeaded file h × ¬ Begins h
+TellsBegin file true = (h : Heading) × IsHeaded file h × HasSoundSnapshot h
+TellsBegin file false = (h : Heading) × IsHeaded file h × ¬ HasSoundSnapshot h

@@ -11,27 +11,27 @@ use Rattle.diagnosis.specs.declared.reading.Reading.{Reading}
 use Rattle.diagnosis.specs.declared.reading.Reading.TheVariants.{Empty, Closed, Faulty, Whole}
 
 -- the mark and the version stand behind the file gate
-abbrev pub IsMarked : List ℕ → Type 0
-IsMarked file = (rest : List ℕ) × (file ≡ 1 ∷ (mark ++ rest))
+abbrev pub HasMark : List ℕ → Type 0
+HasMark file = (rest : List ℕ) × (file ≡ 1 ∷ (mark ++ rest))
 
 -- the greatest generation, which no gateway lives to see
 abbrev pub greatest : ℕ
 greatest = 2 ^ 64 - 1
 
 -- the snapshot is sound and its text loads
-abbrev pub Begins : Heading → Type 0
-Begins h = IsDurable h.config (begun h.snapshot)
+abbrev pub HasSoundSnapshot : Heading → Type 0
+HasSoundSnapshot h = IsDurable h.config (begun h.snapshot)
 
 -- no whole front, but perhaps one of the greatest generation
 abbrev pub HasNoFront : List ℕ → Type 0
 HasNoFront file = (h : Heading) → IsHeaded file h → h.generation ≡ greatest
 
 -- Why a file holds no state.
-abbrev pub IsFaulty : List ℕ → Fault → Type 0
-IsFaulty file Foreign = IsOpen file × ¬ IsMarked file
-IsFaulty file Front = IsOpen file × IsMarked file × HasNoFront file
-IsFaulty file Snapshot = (h : Heading) × IsHeaded file h × ¬ Begins h
-IsFaulty file Changes = (h : Heading) × IsHeaded file h × Begins h
+abbrev pub IsFaultOf : List ℕ → Fault → Type 0
+IsFaultOf file Foreign = IsOpen file × ¬ HasMark file
+IsFaultOf file Front = IsOpen file × HasMark file × HasNoFront file
+IsFaultOf file Snapshot = (h : Heading) × IsHeaded file h × ¬ HasSoundSnapshot h
+IsFaultOf file Changes = (h : Heading) × IsHeaded file h × HasSoundSnapshot h
     × ((d : Durable) (end : ℕ) → ¬ Holds file h d end)
 
 -- what is said of a state that a file holds, to one with this configuration
@@ -40,9 +40,9 @@ IsHeld config file held = (h : Heading) × (d : Durable) × (end : ℕ) × Holds
     × (held.generation ≡ h.generation) × (held.sessions ≡ length d.sessions)
     × (IsTrue held.is_configured ↔ (h.config ≡ config))
 
-abbrev pub IsRead : Config → List ℕ → Reading → Type 0
-IsRead config file Empty = file ≡ []
-IsRead config file Closed = (file ≢ []) × ¬ IsOpen file
-IsRead config file (Faulty fault) = IsFaulty file fault
+abbrev pub IsReadAs : Config → List ℕ → Reading → Type 0
+IsReadAs config file Empty = file ≡ []
+IsReadAs config file Closed = (file ≢ []) × ¬ IsOpen file
+IsReadAs config file (Faulty fault) = IsFaultOf file fault
     × ((h : Heading) (d : Durable) (end : ℕ) → ¬ Holds file h d end)
-IsRead config file (Whole held) = IsHeld config file held
+IsReadAs config file (Whole held) = IsHeld config file held

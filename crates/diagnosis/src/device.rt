@@ -6,7 +6,7 @@ ghost use Rattle.diagnosis.specs.Finding.{IsFinding};
 
 use crate::{Finding, examine};
 use disk_model::{Disk, FileId, ReadFault, contents};
-use packet::bounds::Bounds;
+use packet::Bounds;
 use std::alloc::Global;
 
 /// What the two files of a disk are, as they read, to a gateway with these bounds. They are not changed.

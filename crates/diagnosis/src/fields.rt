@@ -3,7 +3,7 @@ ghost use Rattle.std.specs.Prelude.{◌↔◌, IsTrue};
 ghost use Rattle.diagnosis.specs.Fields.{Agrees};
 
 use durable::same_prefixes;
-use packet::bounds::Bounds;
+use packet::Bounds;
 
 /// A part of a configuration.
 #[derive(Clone, Copy, PartialEq, Eq, Drop)]

@@ -9,7 +9,7 @@ use crate::Reading;
 use crate::probe::probe;
 use crate::reading::reading_of;
 use durable::{DurableFault, recover};
-use packet::bounds::Bounds;
+use packet::Bounds;
 use std::alloc::{AllocError, Global};
 
 /// Two files that stand for no state: what each of them is by itself. One of them has a fault, or both are whole and

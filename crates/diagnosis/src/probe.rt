@@ -3,8 +3,9 @@ ghost use Rattle.std.specs.Prelude.{IfOk};
 ghost use Rattle.disk_model.specs.Disk.{pair};
 ghost use Rattle.diagnosis.specs.Probing.{IsProbe, Tells, TellsFront};
 
-use durable::{DurableFault, growing_laws, heading_fits, put_heading, recover};
-use packet::bounds::Bounds;
+use durable::laws::growing_laws;
+use durable::{DurableFault, heading_fits, put_heading, recover};
+use packet::Bounds;
 use std::alloc::{AllocError, Global};
 
 /// A file of the greatest generation that holds no text and no session.

@@ -3,13 +3,13 @@ ghost use Rattle.std.specs.Prelude.{◌↔◌, ℕ, IfOk, IsTrue};
 ghost use Rattle.durable.specs.Coding.{Heading};
 ghost use Rattle.durable.specs.Entering.{Durable};
 ghost use Rattle.durable.specs.Recovery.{IsOpen, Holds};
-ghost use Rattle.diagnosis.specs.Reading.{IsFaulty, IsMarked, IsRead};
+ghost use Rattle.diagnosis.specs.Reading.{IsFaultOf, HasMark, IsReadAs};
 ghost use Rattle.diagnosis.specs.Probing.{IsProbe};
 
 use crate::front::{begins, front_end};
 use crate::probe::has_front;
 use durable::{DurableFault, recover};
-use packet::bounds::Bounds;
+use packet::Bounds;
 use std::alloc::{AllocError, Global};
 
 /// Why a file holds no state. The variants stand in the order of the tests.
@@ -50,9 +50,9 @@ pub enum Reading {
     Whole(Held),
 }
 
-fn is_marked(file: &[u8]) -> bool
+fn has_mark(file: &[u8]) -> bool
     requires { IsOpen file.now }
-    ensures { IsTrue result ↔ IsMarked file.now }
+    ensures { IsTrue result ↔ HasMark file.now }
 {
     matches!(file, [_, 0x4e, 0x47, 0x57, 0x31, ..])
 }
@@ -62,9 +62,9 @@ fn fault_of(alloc: Global, beside: &[u8], file: &[u8]) -> Result<Fault, AllocErr
     requires probe { IsProbe beside.now }
     requires open { IsOpen file.now }
     requires nothing { (h : Heading) (d : Durable) (end : ℕ) → ¬ Holds file.now h d end }
-    ensures { IfOk result (IsFaulty file.now) }
+    ensures { IfOk result (IsFaultOf file.now) }
 {
-    if !is_marked(file) {
+    if !has_mark(file) {
         return Ok(Fault::Foreign);
     }
     if !has_front(alloc, beside, file)? {
@@ -89,7 +89,7 @@ pub(crate) fn reading_of(
     file: &[u8],
 ) -> Result<Reading, AllocError>
     requires { IsProbe beside.now }
-    ensures { IfOk result (IsRead bounds.now file.now) }
+    ensures { IfOk result (IsReadAs bounds.now file.now) }
 {
     if file.is_empty() {
         return Ok(Reading::Empty);

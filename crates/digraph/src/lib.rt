@@ -10,7 +10,11 @@
 //! - `specs/Edges`: a graph of rows, `specs/Paths`: its paths, as contracts see them.
 #![tactic(auto)]
 
-pub mod nesting;
-pub mod reach;
-pub mod strong;
+mod nesting;
+mod reach;
+mod strong;
 mod witness;
+
+pub use nesting::{has_loop, is_deeper};
+pub use reach::mark_reached;
+pub use strong::components_of;

@@ -1,7 +1,6 @@
 //! What is found in whole, cut and changed files, and what is said of it. The bytes follow the rules of the format.
 use diagnosis::{Fault, Finding, Held, Reading, diagnose, examine};
-use packet::bounds::Bounds;
-use packet::endpoint::Prefix;
+use packet::{Bounds, Prefix};
 use std::alloc::{AllocError, Global};
 use std::process::Abort;
 use std::test::Fail;

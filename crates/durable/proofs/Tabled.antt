@@ -6,7 +6,7 @@ use Rattle.std.proofs.lemmas.Option.{none-some, same_Some}
 use Rattle.packet.specs.Config.{Config}
 use Rattle.sessions.specs.Listing.{key, below, In, Rises, insert, listing}
 use Rattle.sessions.specs.Sound.{AreSound, IsPlaced}
-use Rattle.sessions.specs.Table.{Sessions, Updates, HasInside, ClashesWith, IsSound, at, count, most_sessions}
+use Rattle.sessions.specs.Table.{Sessions, Updates, HasInside, ClashesWith, IsSoundTable, at, count, most_sessions}
 use Rattle.sessions.specs.declared.session.Session.{Session}
 use Rattle.sessions.proofs.Sets.{Apart-sound, In-filter, In-insert, In-listing, Rises-filter, Rises-insert, Rises-listing, below-itself, filter-In, insert-In, listing-In, listing-is}
 use Rattle.sessions.proofs.Puts.{has_inside-true, has_inside-from, keys-from, length-insert, length-listing}
@@ -22,7 +22,7 @@ listing-none (None ∷ held) none = listing-none held (λ k. none (suc k))
 listing-none (Some s ∷ held) none = absurd (none-some s (sym (none zero)))
 
 -- what a sound table holds is a sound set, where each session is in its place
-pub table-sound : (config : Config) (held : List (Option Session)) → IsSound held → ((s : Session) → In s (listing held) → IsPlaced config s) → AreSound config (listing held)
+pub table-sound : (config : Config) (held : List (Option Session)) → IsSoundTable held → ((s : Session) → In s (listing held) → IsPlaced config s) → AreSound config (listing held)
 table-sound config held sound placed = record {
   rises = Rises-listing held (Apart-sound held sound);
   apart = λ s t in_s in_t differ.
@@ -34,7 +34,7 @@ table-sound config held sound placed = record {
   seen = λ s is. let i = In-listing held s is in sound.seen i.0 s i.1;
 }
 
-module _ (old new : Sessions) (slot : ℕ) (s : Session) (sound_old : IsSound old.held) (sound_new : IsSound new.held) (updates : Updates old new slot (Some s)) (free : at old slot ≡ None) where
+module _ (old new : Sessions) (slot : ℕ) (s : Session) (sound_old : IsSoundTable old.held) (sound_new : IsSoundTable new.held) (updates : Updates old new slot (Some s)) (free : at old slot ≡ None) where
   away : (t : Session) (k : ℕ) → at old k ≡ Some t → k ≢ slot
   away t k is = λ same. none-some t (sym free ∙ subst (λ j. at old j ≡ Some t) same is)
 
@@ -139,7 +139,7 @@ same_keys f s t of_s of_t =
     let b = has_inside-true f.proto f.inside f.remote t of_t in
     keys-from s t (b.0 ∙ sym a.0, b.1 ∙ sym a.1, b.2 ∙ sym a.2)
 
-module _ (old new : Sessions) (slot : ℕ) (f : Flow) (s : Session) (sound : IsSound old.held) (is : at old slot ≡ Some s) (of_s : is_of f s ≡ true) where
+module _ (old new : Sessions) (slot : ℕ) (f : Flow) (s : Session) (sound : IsSoundTable old.held) (is : at old slot ≡ Some s) (of_s : is_of f s ≡ true) where
   -- it stands in no other slot
   only : (t : Session) (k : ℕ) → at old k ≡ Some t → k ≢ slot → is_of f t ≡ false
   only t k at_k differ = false_from_ne_true _ (λ of_t. (Apart-sound old.held sound).keys k slot t s differ at_k is (same_keys f s t of_s of_t))
@@ -150,7 +150,7 @@ module _ (old new : Sessions) (slot : ℕ) (f : Flow) (s : Session) (sound : IsS
   here : (t : Session) (k : ℕ) → at old k ≡ Some t → k ≡ slot → t ≡ s
   here t k at_k same = same_Some t s (sym at_k ∙ ap (λ (j : ℕ). at old j) same ∙ is)
 
-  pub listing-changed : (g : Session → Session) → Amends g → IsSound new.held → Updates old new slot (Some (g s)) → listing new.held ≡ changed f g (listing old.held)
+  pub listing-changed : (g : Session → Session) → Amends g → IsSoundTable new.held → Updates old new slot (Some (g s)) → listing new.held ≡ changed f g (listing old.held)
   listing-changed g amends sound_new updates =
       let h = changes f g in
       let no_change : (t : Session) → is_of f t ≡ false → h t ≡ t = λ t not_of. ap (λ (b : Bool). cond b (g t) t) not_of in
@@ -173,7 +173,7 @@ module _ (old new : Sessions) (slot : ℕ) (f : Flow) (s : Session) (sound : IsS
             subst (λ (u : Session). In u (map h (listing old.held))) (no_change t (only t k was differ)) (map-In h (listing old.held) t (listing-In old.held t k was))
       ])
 
-  pub listing-ended : IsSound new.held → Updates old new slot None → listing new.held ≡ ended f (listing old.held)
+  pub listing-ended : IsSoundTable new.held → Updates old new slot None → listing new.held ≡ ended f (listing old.held)
   listing-ended sound_new updates =
       let test : Session → Bool = λ t. not (is_of f t) in
       listing-is new.held (filter test (listing old.held)) (Apart-sound new.held sound_new)

@@ -1,7 +1,9 @@
 -- What the definitions promise.
-use Rattle.std.specs.Prelude.{◌≡◌, ◌⊎◌, ◌<◌, ◌+◌, ℕ, IsTrue, List, [], ◌∷◌, ◌++◌, length, take}
+use Rattle.std.specs.Prelude.{◌≡◌, ◌⊎◌, ◌↔◌, ◌<◌, ◌+◌, ℕ, IsTrue, List, [], ◌∷◌, ◌++◌, length, take}
+use Rattle.std.specs.List.{IsDistinct}
+use Rattle.std.specs.List.Sorted.{IsPermutation, IsSorted, IsStable}
 use Rattle.packet.specs.Config.{Config, is_config}
-use Rattle.sessions.specs.Listing.{Rises}
+use Rattle.sessions.specs.Listing.{Rises, order, same_flow}
 use Rattle.sessions.specs.Stilled.{AreStilled}
 use Rattle.sessions.specs.declared.session.Session.{Session}
 use Rattle.disk_model.specs.Disk.{Files, Same, Elsewhere, other}
@@ -39,6 +41,21 @@ pub record KeepsDurable (config : Config) : Type 0 where
   pub entries : (es : List Entry) (old new : Durable) → AreEntries es → Enters config es old new
       → IsDurable config old
       → IsDurable config new
+
+-- The sessions in their order are the one list that a stable sort makes of them: just these sessions, none below the
+-- one before it, and those of one flow as they stood.
+abbrev pub ArrangedIsTheSort : Type 0
+ArrangedIsTheSort = (ss ts : List Session)
+    → (arranged ss ≡ ts) ↔ (IsPermutation ss ts × IsSorted order ts × IsStable order ss ts)
+
+-- A list comes to a set exactly where it has each session of the set once, and no other, in whatever order.
+abbrev pub ArrangedIsTheSet : Type 0
+ArrangedIsTheSet = (ss set : List Session) → Rises set
+    → (arranged ss ≡ set) ↔ IsPermutation ss set
+
+-- It comes to some set exactly where no two of its sessions are of one flow: neither of two such is dropped.
+abbrev pub ArrangedIsASet : Type 0
+ArrangedIsASet = (ss : List Session) → Rises (arranged ss) ↔ IsDistinct same_flow ss
 
 -- Two files stand for one state at most, by one active file, and that state is one that a gateway may have.
 pub record RecoversOnce : Type 0 where

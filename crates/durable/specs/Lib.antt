@@ -5,4 +5,4 @@ pub mod Laws
 pub mod Reading
 pub mod Leading
 pub mod Viewing
-pub mod Found
+pub mod FoundViews

@@ -16,7 +16,7 @@ abbrev pub arranged_on : List Session → List Session → List Session
 arranged_on ss [] = ss
 arranged_on ss (t ∷ ts) = arranged_on (insert t ss) ts
 
--- the sessions in their order
+-- the sessions in their order: what a stable sort makes of them, as a law says
 abbrev pub arranged : List Session → List Session
 arranged ts = arranged_on [] ts
 

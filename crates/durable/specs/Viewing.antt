@@ -1,7 +1,7 @@
 -- Values without where their texts lie in memory.
 use Rattle.packet.specs.Config.{Config}
 use Rattle.durable.specs.declared.entry.Entry as declared
-use Rattle.durable.specs.declared.entry.Entry.TheVariants as variants
+use Rattle.durable.specs.declared.entry.Entry.TheVariants as entry
 use Rattle.durable.specs.declared.heading.StoredConfig as stored_config
 use Rattle.durable.specs.declared.heading.StoredSnapshot as stored_snapshot
 use Rattle.durable.specs.declared.heading.StoredHeading as stored
@@ -9,11 +9,11 @@ use Rattle.durable.specs.declared.recovery.Headed as headed
 use Rattle.durable.specs.Coding.{Entry, Load, Begin, Seen, Restart, End, Snapshot, Heading}
 
 abbrev pub view : declared.Entry → Entry
-view (variants.Load text) = Load text.now
-view (variants.Begin s) = Begin s
-view (variants.Seen f seen) = Seen f seen
-view (variants.Restart f opener seen) = Restart f opener seen
-view (variants.End f) = End f
+view (entry.Load text) = Load text.now
+view (entry.Begin s) = Begin s
+view (entry.Seen f seen) = Seen f seen
+view (entry.Restart f opener seen) = Restart f opener seen
+view (entry.End f) = End f
 
 abbrev pub config_view : stored_config.StoredConfig → Config
 config_view c =

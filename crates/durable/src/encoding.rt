@@ -10,8 +10,7 @@ ghost use Rattle.durable.specs.Entering.{durable};
 ghost use Rattle.durable.specs.Laws.{anew};
 
 use crate::entry::Flow;
-use packet::bounds::Bounds;
-use packet::endpoint::{Endpoint, Prefix};
+use packet::{Bounds, Endpoint, Prefix};
 use sessions::{Opener, Session};
 use std::alloc::AllocError;
 

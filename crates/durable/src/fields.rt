@@ -3,7 +3,7 @@
 ghost use Rattle.durable.specs.Reading.{Gives, byte_at, number_at, text_at, proto_at, opener_at, endpoint_at};
 
 use byteorder::{BigEndian, ByteOrder};
-use packet::endpoint::{Endpoint, Proto};
+use packet::{Endpoint, Proto};
 use sessions::Opener;
 
 /// A byte by itself.

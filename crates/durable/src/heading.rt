@@ -7,7 +7,7 @@ ghost use Rattle.durable.specs.Viewing.{config_view, snapshot_view, heading_view
 use crate::DurableFault;
 use crate::decoding::read_session;
 use crate::fields::{byte_of, name_of, text_of, u8_of, u32_of, u64_of};
-use packet::endpoint::Prefix;
+use packet::Prefix;
 use sessions::Session;
 use std::alloc::Global;
 

@@ -1,7 +1,7 @@
 //! What follows from the definitions: each function is proved to meet its clauses.
 ghost use Rattle.packet.specs.Config.{Config};
 ghost use Rattle.durable.specs.Coding.{IsSession, session_bytes, IsEntry, entry_bytes, IsCodedConfig, config_bytes, IsSnapshot, snapshot_bytes, IsHeading, heading_bytes};
-ghost use Rattle.durable.specs.Laws.{CodedOnce, BodiesOnce, EntersOnce, KeepsDurable, RecoversOnce, RecoversSound, Grows, Renews};
+ghost use Rattle.durable.specs.Laws.{ArrangedIsTheSet, ArrangedIsTheSort, ArrangedIsASet, CodedOnce, BodiesOnce, EntersOnce, KeepsDurable, RecoversOnce, RecoversSound, Grows, Renews};
 
 /// A code at the front of bytes determines the session, or the entry, and the rest; and a body its entries.
 pub fn coded_once()
@@ -22,6 +22,14 @@ pub fn heading_once()
 pub fn entering_laws()
     ensures once { (config : Config) → EntersOnce config }
     ensures kept { (config : Config) → KeepsDurable config }
+{}
+
+/// A snapshot's sessions, in whatever order they stand, are put in order as by a stable sort, and none is dropped. They
+/// come to a set exactly where no two are of one flow, and then to the one set that has just them.
+pub fn arranging_laws()
+    ensures sorted { ArrangedIsTheSort }
+    ensures set { ArrangedIsTheSet }
+    ensures rises { ArrangedIsASet }
 {}
 
 /// Two files stand for one state at most, by one active file, and a gateway with the stored configuration may have

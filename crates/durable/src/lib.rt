@@ -22,7 +22,7 @@ mod fault;
 mod fields;
 mod groups;
 mod heading;
-mod laws;
+pub mod laws;
 mod recovery;
 mod texts;
 
@@ -33,8 +33,4 @@ pub use encoding::{
 };
 pub use entry::{Entry, Flow};
 pub use fault::DurableFault;
-pub use laws::{
-    coded_once, entering_laws, growing_laws, heading_once, recovers_once, recovers_sound,
-    renewing_laws,
-};
 pub use recovery::{Recovered, recover};

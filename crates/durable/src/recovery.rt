@@ -11,7 +11,7 @@ ghost use Rattle.sessions.specs.Listing.{listing};
 ghost use Rattle.sessions.specs.Sound.{AreSound};
 ghost use Rattle.durable.specs.Coding.{Heading, IsHeading};
 ghost use Rattle.durable.specs.Entering.{Durable, IsRuleset, durable};
-ghost use Rattle.durable.specs.Found.{HeldBy, IsReadOpen, found_view};
+ghost use Rattle.durable.specs.FoundViews.{HeldBy, IsReadOpen, found_view};
 ghost use Rattle.durable.specs.Leading.{StateLeads};
 ghost use Rattle.disk_model.specs.Disk.{pair};
 ghost use Rattle.durable.specs.Recovery.{Found, Finds, Holds, IsHeaded, IsOpen, arranged, arranged_on, behind};
@@ -24,7 +24,7 @@ use crate::groups::{behind_gate, enter_groups};
 use crate::heading::{StoredHeading, heading_of};
 use crate::texts::check_text;
 use disk_model::FileId;
-use packet::bounds::Bounds;
+use packet::Bounds;
 use sessions::{Session, Table};
 use std::alloc::Global;
 

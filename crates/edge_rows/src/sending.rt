@@ -1,8 +1,7 @@
 //! Writers that take little at a time, or fail: what they get, and how often they are called.
 use crate::pieces::End;
 use gateway::{Answer, Bytes, Iface};
-use socket_edge::EdgeFault;
-use socket_edge::sending::{send, send_all};
+use socket_edge::{EdgeFault, send, send_all};
 use std::alloc::{AllocError, Global};
 use std::io::{self, Write};
 use std::process::Abort;

@@ -1,7 +1,6 @@
 //! Streams that several tests begin with, and gateways over a disk in memory.
 use gateway::{Gateway, GatewayFault};
-use packet::bounds::Bounds;
-use packet::endpoint::Prefix;
+use packet::{Bounds, Prefix};
 use socket_edge::EdgeFault;
 use std::alloc::{AllocError, AllocFailed, Global};
 use std::io::{Read, Write};

@@ -5,11 +5,11 @@ use Rattle.ruletree.specs.declared.tree.Spelled.{Spelled}
 use Rattle.sessions.specs.declared.session.Session.{Session}
 use Rattle.sessions.specs.Listing.{In}
 use Rattle.sessions.specs.Sound.{AreSound}
-use Rattle.sessions.specs.Stilled.{AreStilled, moved, stilled}
+use Rattle.sessions.specs.Stilled.{AreStilled, at_moment, stilled}
 use Rattle.sessions.proofs.Stilled.{last-moved, sound-moved, stilled-moved}
 use Rattle.machine.specs.Machine.{State, no_tables}
 use Rattle.machine.specs.Noted.{IsResumed, lasting}
-use Rattle.machine.specs.Sound.{IsInForce, IsSound}
+use Rattle.machine.specs.Sound.{IsInForce, IsSoundState}
 use Rattle.durable.specs.Entering.{Durable, durable, IsDurable, IsRuleset}
 
 is-ruleset : (config : Config) (text : List ℕ) (rules : Spelled) → IsInForce config text rules → IsRuleset config text
@@ -20,7 +20,7 @@ in-force : (config : Config) (text : List ℕ) → IsRuleset config text → (ru
 in-force config text (inl none) = (no_tables, inl (none, refl))
 in-force config text (inr loaded) = (loaded.0, inr loaded.1)
 
-pub lasting-sound : (config : Config) (s : State) → IsSound config s → IsDurable config (lasting s) × AreStilled (lasting s).sessions
+pub lasting-sound : (config : Config) (s : State) → IsSoundState config s → IsDurable config (lasting s) × AreStilled (lasting s).sessions
 lasting-sound config s sound = (
   record { text = is-ruleset config s.text s.rules sound.in_force; sessions = sound-moved config 0 s.sessions sound.sessions },
   (λ t is. last-moved 0 s.sessions t is),
@@ -29,10 +29,10 @@ lasting-sound config s sound = (
 pub restart-there : (config : Config) (d : Durable) (moment : ℕ) → IsDurable config d → (s : State) × IsResumed config d moment s
 restart-there config d moment is =
     let rules = in-force config d.text is.text in
-    (record { text = d.text; rules = rules.0; sessions = map (moved moment) d.sessions; clock = moment }, record { sessions = refl; text = refl; clock = refl; rules = rules.1 })
+    (record { text = d.text; rules = rules.0; sessions = map (at_moment moment) d.sessions; clock = moment }, record { sessions = refl; text = refl; clock = refl; rules = rules.1 })
 
 pub restart-sound : (config : Config) (d : Durable) (moment : ℕ) (s : State) → IsDurable config d → AreStilled d.sessions → IsResumed config d moment s
-    → IsSound config s × (lasting s ≡ d)
+    → IsSoundState config s × (lasting s ≡ d)
 restart-sound config d moment s is are again = (
   record {
     sessions = subst (AreSound config) (sym again.sessions) (sound-moved config moment d.sessions is.sessions);

@@ -28,7 +28,7 @@ use Rattle.hairpin.proofs.Soundness.{HaveOwnFlows, IsFine, JoinEach}
 use Rattle.machine.specs.Judged.{Judged, IsRight}
 use Rattle.machine.specs.Machine.{State, act, aged, later, leg, on_route, sent, step, with_fields}
 use Rattle.machine.specs.Noted.{AreDistinct, AreEntriesOf, AreOver, EndsSome, HasEntry, TakesText, between, ends, goes_on, is_unchanged, lasting, entries_for, entries_for_all, entries_making, of_deed, of_fields, of_route, of_way}
-use Rattle.machine.specs.Sound.{IsSound}
+use Rattle.machine.specs.Sound.{IsSoundState}
 use Rattle.machine.specs.declared.deed.Deed.{Deed}
 use Rattle.machine.specs.declared.deed.Deed.TheVariants as deed
 use Rattle.machine.proofs.Soundness.{aged-sound, later-above}
@@ -89,7 +89,7 @@ gone-none now s [] are none = refl
 gone-none now s (t ∷ ts) are none = let over = are.over t (inl refl) in absurd (none (t, over.0, over.1))
 
 module _ (config : Config) (is_one : is_config config ≡ true) where
-  module _ (s : State) (sound : IsSound config s) where
+  module _ (s : State) (sound : IsSoundState config s) where
     way-none : (bytes : List ℕ) (way : Result Passage Cause) → IsFine config s.sessions s.clock way → lasting (sent s bytes way).0 ≡ lasting s → of_way s.sessions way ≡ []
     way-none bytes (Err why) fine same = refl
     way-none bytes (Ok passage) fine same = all-none config s.clock passage.sessions s.sessions sound.sessions fine.each fine.flows (ap (λ (d : Durable). d.sessions) same)
@@ -109,14 +109,14 @@ module _ (config : Config) (is_one : is_config config ≡ true) where
     deed-none (deed.Packet iface bytes) none same = fields-none iface bytes (fields bytes) refl same
     deed-none deed.Moment none same = refl
 
-  module _ (s : State) (judged : Judged) (es : List Entry) (sound : IsSound config s) (right : IsRight config judged.deed) (are : AreEntriesOf config s judged es) where
+  module _ (s : State) (judged : Judged) (es : List Entry) (sound : IsSoundState config s) (right : IsRight config judged.deed) (are : AreEntriesOf config s judged es) where
     abbrev now : ℕ
     now = later s.clock judged.moment
 
     abbrev live : State
     live = aged now s
 
-    live-sound : IsSound config live
+    live-sound : IsSoundState config live
     live-sound = aged-sound config is_one s sound now (later-above s.clock judged.moment)
 
     pub empty-needs : es ≡ [] → ¬ HasEntry config s judged
@@ -163,7 +163,7 @@ some-over now ss rises = record {
   all = λ t is dead. filter-In (λ u. not (alive now u)) ss t is (ap not dead);
 }
 
-pub some-entries : (config : Config) (s : State) (judged : Judged) → IsSound config s → (es : List Entry) × AreEntriesOf config s judged es
+pub some-entries : (config : Config) (s : State) (judged : Judged) → IsSoundState config s → (es : List Entry) × AreEntriesOf config s judged es
 some-entries config s judged sound =
     let now = later s.clock judged.moment in
     let gone : List Session = filter (λ t. not (alive now t)) s.sessions in

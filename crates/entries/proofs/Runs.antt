@@ -4,7 +4,7 @@ use Rattle.packet.specs.Config.{Config, is_config}
 use Rattle.machine.specs.Judged.{Judged, AreJudged}
 use Rattle.machine.specs.Machine.{State, after, step}
 use Rattle.machine.specs.Noted.{AreEntriesOfAll, lasting}
-use Rattle.machine.specs.Sound.{IsSound}
+use Rattle.machine.specs.Sound.{IsSoundState}
 use Rattle.machine.specs.declared.event.Event.{Event}
 use Rattle.machine.proofs.Soundness.{step-sound}
 use Rattle.durable.specs.Coding.{Entry}
@@ -13,7 +13,7 @@ use Rattle.entries.proofs.Stilled.{join}
 use Rattle.entries.proofs.Whole.{step-entered}
 
 module _ (config : Config) (is_one : is_config config ≡ true) where
-  pub run-entered : (s : State) (events : List Event) (judged : List Judged) (es : List Entry) → AreJudged config events judged → IsSound config s → AreEntriesOfAll config s judged es
+  pub run-entered : (s : State) (events : List Event) (judged : List Judged) (es : List Entry) → AreJudged config events judged → IsSoundState config s → AreEntriesOfAll config s judged es
       → Enters config es (lasting s) (lasting (after config s judged))
   run-entered s [] [] es are sound of = subst (λ l. Enters config l (lasting s) (lasting s)) (sym of) refl
   run-entered s [] (j ∷ more) es are sound of = absurd are

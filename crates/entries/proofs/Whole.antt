@@ -14,7 +14,7 @@ use Rattle.hairpin.proofs.Soundness.{IsFine}
 use Rattle.machine.specs.Judged.{Judged, IsRight}
 use Rattle.machine.specs.Machine.{State, act, aged, later, leg, on_route, sent, step, with_fields}
 use Rattle.machine.specs.Noted.{AreEntriesOf, ends, lasting, of_deed, of_fields, of_route, of_way}
-use Rattle.machine.specs.Sound.{IsSound}
+use Rattle.machine.specs.Sound.{IsSoundState}
 use Rattle.machine.specs.declared.deed.Deed.{Deed}
 use Rattle.machine.specs.declared.deed.Deed.TheVariants as deed
 use Rattle.machine.proofs.Soundness.{aged-sound, later-above, leg-fine}
@@ -28,7 +28,7 @@ module _ (config : Config) (is_one : is_config config ≡ true) where
   abbrev Leads : List Entry → State → State → Type 0
   Leads es old new = Enters config es (lasting old) (lasting new)
 
-  module _ (s : State) (sound : IsSound config s) where
+  module _ (s : State) (sound : IsSoundState config s) where
     way-enters : (bytes : List ℕ) (way : Result Passage Cause) → IsFine config s.sessions s.clock way → Leads (of_way s.sessions way) s (sent s bytes way).0
     way-enters bytes (Err why) fine = refl
     way-enters bytes (Ok passage) fine = all-enter config s.clock s.text passage.sessions s.sessions sound.sessions fine.each
@@ -51,7 +51,7 @@ module _ (config : Config) (is_one : is_config config ≡ true) where
     deed-enters (deed.Packet iface bytes) right = fields-enter iface bytes (fields bytes) refl
     deed-enters deed.Moment right = refl
 
-  pub step-entered : (s : State) (judged : Judged) (es : List Entry) → IsSound config s → IsRight config judged.deed → AreEntriesOf config s judged es → Leads es s (step config s judged).0
+  pub step-entered : (s : State) (judged : Judged) (es : List Entry) → IsSoundState config s → IsRight config judged.deed → AreEntriesOf config s judged es → Leads es s (step config s judged).0
   unfolding step
   step-entered s judged es sound right are =
       let now = later s.clock judged.moment in

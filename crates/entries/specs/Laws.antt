@@ -5,7 +5,7 @@ use Rattle.packet.specs.Config.{Config, is_config}
 use Rattle.packet.specs.declared.endpoint.Flags.{Flags}
 use Rattle.sessions.specs.Life.{restarts, shown}
 use Rattle.sessions.specs.Listing.{In, listing, put, same_flow}
-use Rattle.sessions.specs.Table.{AnyClash, IsSound as IsSoundTable}
+use Rattle.sessions.specs.Table.{AnyClash, IsSoundTable}
 use Rattle.sessions.specs.declared.session.Opener.{Opener}
 use Rattle.sessions.specs.declared.session.Session.{Session}
 use Rattle.hairpin.specs.Legs.{passed_by}
@@ -16,7 +16,7 @@ use Rattle.machine.specs.Flows.{IsDue}
 use Rattle.machine.specs.Judged.{Judged, AreJudged, IsJudged}
 use Rattle.machine.specs.Machine.{State, after, step}
 use Rattle.machine.specs.Noted.{AreEntriesOf, AreEntriesOfAll, AreOver, HasEntry, IsResumed, between, lasting, entries_for, sessions_at}
-use Rattle.machine.specs.Sound.{IsSound}
+use Rattle.machine.specs.Sound.{IsSoundState}
 use Rattle.machine.specs.declared.event.Event.{Event}
 use Rattle.durable.specs.Coding.{Begin, Entry, Restart, Seen}
 use Rattle.durable.specs.Entering.{Durable, Enters, IsDurable, flow_of}
@@ -25,7 +25,7 @@ use Rattle.durable.specs.Entering.{Durable, Enters, IsDurable, flow_of}
 abbrev pub EntriesAreTheStep : Type 0
 EntriesAreTheStep =
     (config : Config) (s : State) (event : Event) (judged : Judged) (entries : List Entry)
-    → IsTrue (is_config config) → IsSound config s → IsJudged config event judged
+    → IsTrue (is_config config) → IsSoundState config s → IsJudged config event judged
     → AreEntriesOf config s judged entries
     → Enters config entries (lasting s) (lasting (step config s judged).0)
 
@@ -34,7 +34,7 @@ abbrev pub RunsAreEntered : Type 0
 RunsAreEntered =
     (config : Config) (s : State) (events : List Event) (judged : List Judged)
     (entries : List Entry)
-    → IsTrue (is_config config) → IsSound config s → AreJudged config events judged
+    → IsTrue (is_config config) → IsSoundState config s → AreJudged config events judged
     → AreEntriesOfAll config s judged entries
     → Enters config entries (lasting s) (lasting (after config s judged))
 
@@ -42,20 +42,20 @@ RunsAreEntered =
 abbrev pub EntriesAreNeeded : Type 0
 EntriesAreNeeded =
     (config : Config) (s : State) (event : Event) (judged : Judged) (entries : List Entry)
-    → IsTrue (is_config config) → IsSound config s → IsJudged config event judged
+    → IsTrue (is_config config) → IsSoundState config s → IsJudged config event judged
     → AreEntriesOf config s judged entries
     → (entries ≡ []) ↔ ¬ HasEntry config s judged
 
 -- of every event there is a list of entries, which may be empty
 abbrev pub EntriesAreThere : Type 0
-EntriesAreThere = (config : Config) (s : State) (judged : Judged) → IsSound config s
+EntriesAreThere = (config : Config) (s : State) (judged : Judged) → IsSoundState config s
     → (entries : List Entry) × AreEntriesOf config s judged entries
 
 -- an event with no entries leaves what must survive as it is
 abbrev pub QuietStepsKeep : Type 0
 QuietStepsKeep =
     (config : Config) (s : State) (event : Event) (judged : Judged)
-    → IsTrue (is_config config) → IsSound config s → IsJudged config event judged
+    → IsTrue (is_config config) → IsSoundState config s → IsJudged config event judged
     → AreEntriesOf config s judged []
     → lasting (step config s judged).0 ≡ lasting s
 
@@ -125,7 +125,7 @@ DueSlotsAreOver =
 
 -- what must survive of a sound state is what a gateway may have, without moments
 abbrev pub LastingIsSound : Type 0
-LastingIsSound = (config : Config) (s : State) → IsSound config s
+LastingIsSound = (config : Config) (s : State) → IsSoundState config s
     → IsDurable config (lasting s) × AreStilled (lasting s).sessions
 
 -- from whatever a gateway may have a state can be begun again
@@ -139,4 +139,4 @@ abbrev pub RestartsAreSound : Type 0
 RestartsAreSound =
     (config : Config) (d : Durable) (moment : ℕ) (s : State) → IsDurable config d
     → AreStilled d.sessions
-    → IsResumed config d moment s → IsSound config s × (lasting s ≡ d)
+    → IsResumed config d moment s → IsSoundState config s × (lasting s ≡ d)

@@ -11,9 +11,9 @@ use std::os::unix::fs::FileExt;
 
 /// One file of a disk. Places and lengths are in bytes.
 ///
-/// The ghost members relate a file before a call to the file after it, and to what was asked and answered. A type says
-/// by them what it promises of its calls; to a caller that serves every type each of them tells that this very call
-/// was made.
+/// Each ghost member is a relation between the file before a call, the file after it, what was asked and what was
+/// answered. By it a type says what the call promises. A function that is written for every such type knows by it only
+/// that the call was made, and answered so.
 pub trait DiskFile {
     /// The length was asked for and answered so.
     ghost answers_length: { Self → Self → Result ℕ Fault → Type 0 };

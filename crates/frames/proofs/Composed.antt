@@ -18,7 +18,7 @@ use Rattle.frames.specs.declared.request.Kind.TheVariants as kind
 use Rattle.frames.specs.declared.request.Head.{Head}
 use Rattle.frames.specs.declared.request.Head.TheVariants as head
 use Rattle.frames.specs.Requests.{Whole, Cut, Bad, announced, longest, head_with, head_of, what_of, next}
-use Rattle.frames.specs.Framing.{Remainder, Rest, Fault, Framed, with_first, whole_frames}
+use Rattle.frames.specs.Framing.{Remainder, Rest, Fault, EventsAndRest, with_first, whole_frames}
 use Rattle.frames.specs.Streams.{kind_of, interface_of, request_body, longest_body, header, request, FitsFrame, IsNoFrame, header_fault, IsFaulty, Ending, IsStream}
 use Rattle.frames.proofs.Fronts.{head_stays}
 use Rattle.frames.proofs.Frames.{framed_whole, framed_cut, framed_bad}
@@ -152,5 +152,5 @@ composed_reads (event ∷ events) tail left fit e =
     let assoc : flat_map request (event ∷ events) ++ tail ≡ request event ++ (flat_map request events ++ tail) = ap (λ (x : List ℕ). x ++ tail) (flat_map-cons request event events) ∙ append_assoc (request event) (flat_map request events) tail in
     ap whole_frames assoc ∙ framed_whole _ event (flat_map request events ++ tail) (request_reads event (flat_map request events ++ tail) fit.0) ∙ ap (with_first (event ∷ [])) (composed_reads events tail left fit.1 e)
 
-pub stream_reads : (bytes : List ℕ) (f : Framed) → IsStream bytes f → whole_frames bytes ≡ f
+pub stream_reads : (bytes : List ℕ) (f : EventsAndRest) → IsStream bytes f → whole_frames bytes ≡ f
 stream_reads bytes f s = ap whole_frames s.bytes_are ∙ composed_reads f.events s.tail f.remainder s.fit s.ending

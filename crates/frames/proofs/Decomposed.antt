@@ -20,7 +20,7 @@ use Rattle.frames.specs.declared.request.Head.{Head}
 use Rattle.frames.specs.declared.request.Head.TheVariants as head
 use Rattle.frames.specs.Answers.{iface_byte}
 use Rattle.frames.specs.Requests.{Next, Whole, Cut, Bad, announced, longest, head_with, head_of, what_of, with_body, next}
-use Rattle.frames.specs.Framing.{Framed, whole_frames}
+use Rattle.frames.specs.Framing.{EventsAndRest, whole_frames}
 use Rattle.packet.specs.Laws.{AreBytes}
 use Rattle.frames.specs.Streams.{kind_of, interface_of, request_body, longest_body, header, request, FitsFrame, IsNoFrame, header_fault, IsFaulty, IsStream}
 use Rattle.frames.proofs.Frames.{framed_whole, framed_cut, framed_bad}
@@ -308,9 +308,9 @@ bad_was bytes fault h w = faulty_was bytes fault h (bad_with (head_of bytes) byt
 
 stream_of : (n : ℕ) (bytes : List ℕ) (front : Next) → length bytes ≤ n → AreBytes bytes → next bytes ≡ front → IsStream bytes (whole_frames bytes)
 stream_of n bytes Cut l h e =
-    subst (λ (f : Framed). IsStream bytes f) (sym (framed_cut bytes e)) (record { fit = tt; tail = bytes; bytes_are = refl; ending = (refl, cut_was bytes h e) })
+    subst (λ (f : EventsAndRest). IsStream bytes f) (sym (framed_cut bytes e)) (record { fit = tt; tail = bytes; bytes_are = refl; ending = (refl, cut_was bytes h e) })
 stream_of n bytes (Bad fault) l h e =
-    subst (λ (f : Framed). IsStream bytes f) (sym (framed_bad bytes fault e)) (record { fit = tt; tail = bytes; bytes_are = refl; ending = bad_was bytes fault h e })
+    subst (λ (f : EventsAndRest). IsStream bytes f) (sym (framed_bad bytes fault e)) (record { fit = tt; tail = bytes; bytes_are = refl; ending = bad_was bytes fault h e })
 stream_of zero bytes (Whole event rest) l h e = absurd (omega (arith, next_shorter bytes event rest e))
 stream_of (suc n) bytes (Whole event rest) l h e =
     let p = whole_was bytes event rest h e in
@@ -320,8 +320,8 @@ stream_of (suc n) bytes (Whole event rest) l h e =
     let all : bytes ≡ flat_map request (event ∷ (whole_frames rest).events) ++ s.tail =
     p.0 ∙ ap (λ (x : List ℕ). request event ++ x) s.bytes_are ∙ sym (append_assoc (request event) (flat_map request (whole_frames rest).events) s.tail)
     ∙ ap (λ (x : List ℕ). x ++ s.tail) (sym (flat_map-cons request event (whole_frames rest).events)) in
-    subst (λ (f : Framed). IsStream bytes f) (sym (framed_whole bytes event rest e)) (record { fit = (p.1, s.fit); tail = s.tail; bytes_are = all; ending = s.ending })
+    subst (λ (f : EventsAndRest). IsStream bytes f) (sym (framed_whole bytes event rest e)) (record { fit = (p.1, s.fit); tail = s.tail; bytes_are = all; ending = s.ending })
 
 -- bytes are a stream of what they read as
-pub bytes_stream : (bytes : List ℕ) (f : Framed) → AreBytes bytes → whole_frames bytes ≡ f → IsStream bytes f
-bytes_stream bytes f h e = subst (λ (x : Framed). IsStream bytes x) e (stream_of (length bytes) bytes (next bytes) (omega arith) h refl)
+pub bytes_stream : (bytes : List ℕ) (f : EventsAndRest) → AreBytes bytes → whole_frames bytes ≡ f → IsStream bytes f
+bytes_stream bytes f h e = subst (λ (x : EventsAndRest). IsStream bytes x) e (stream_of (length bytes) bytes (next bytes) (omega arith) h refl)

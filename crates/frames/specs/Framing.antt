@@ -9,25 +9,25 @@ pub data Remainder : Type 0 where
   Rest : List ℕ → Remainder
   Fault : HeaderFault → Remainder
 
-pub record Framed : Type 0 where
+pub record EventsAndRest : Type 0 where
   pub events : List Event
   pub remainder : Remainder
 
 -- with these events in front
-abbrev pub with_first : List Event → Framed → Framed
+abbrev pub with_first : List Event → EventsAndRest → EventsAndRest
 with_first events f = record { events = events ++ f.events; remainder = f.remainder }
 
 -- what stands at the front, and then what more gives of the rest
-abbrev pub go_on : Next → List ℕ → (List ℕ → Framed) → Framed
+abbrev pub go_on : Next → List ℕ → (List ℕ → EventsAndRest) → EventsAndRest
 go_on (Whole event rest) bytes more = with_first (event ∷ []) (more rest)
 go_on Cut bytes more = record { events = []; remainder = Rest bytes }
 go_on (Bad fault) bytes more = record { events = []; remainder = Fault fault }
 
 -- of at most n frames
-unfoldable pub whole_frames_within : ℕ → List ℕ → Framed
+unfoldable pub whole_frames_within : ℕ → List ℕ → EventsAndRest
 whole_frames_within zero bytes = record { events = []; remainder = Rest bytes }
 whole_frames_within (suc n) bytes = go_on (next bytes) bytes (λ rest. whole_frames_within n rest)
 
 -- the whole frames at the front; each has a byte at least, so there are no more than bytes
-unfoldable pub whole_frames : List ℕ → Framed
+unfoldable pub whole_frames : List ℕ → EventsAndRest
 whole_frames bytes = whole_frames_within (length bytes) bytes

@@ -9,7 +9,7 @@ use Rattle.machine.specs.declared.event.What.TheVariants as what
 use Rattle.frames.specs.declared.fault.HeaderFault.{HeaderFault}
 use Rattle.frames.specs.declared.fault.HeaderFault.TheVariants.{BadKind, BadInterface, TooLong}
 use Rattle.frames.specs.Answers.{iface_byte}
-use Rattle.frames.specs.Framing.{Remainder, Rest, Fault, Framed}
+use Rattle.frames.specs.Framing.{Remainder, Rest, Fault, EventsAndRest}
 
 -- 1 packet, 2 load, 3 moment
 abbrev pub kind_of : What → ℕ
@@ -76,7 +76,7 @@ Ending tail (Rest rest) = (tail ≡ rest) × IsNoFrame rest
 Ending tail (Fault fault) = IsFaulty fault tail
 
 -- the bytes are the frames of these events, and then this end
-pub record IsStream (bytes : List ℕ) (framed : Framed) : Type 0 where
+pub record IsStream (bytes : List ℕ) (framed : EventsAndRest) : Type 0 where
   pub fit : AllByRecursion FitsFrame framed.events
   pub tail : List ℕ
   pub bytes_are : bytes ≡ flat_map request framed.events ++ tail

@@ -1,6 +1,6 @@
 //! What holds of every stream of frames. The function does nothing: its clause is a theorem, which is proved.
 ghost use Rattle.std.specs.Prelude.{◌≡◌, ◌↔◌, ℕ, List};
-ghost use Rattle.frames.specs.Framing.{Framed, whole_frames};
+ghost use Rattle.frames.specs.Framing.{EventsAndRest, whole_frames};
 ghost use Rattle.packet.specs.Laws.{AreBytes};
 ghost use Rattle.frames.specs.Streams.{IsStream};
 
@@ -8,6 +8,6 @@ ghost use Rattle.frames.specs.Streams.{IsStream};
 /// those events and that end. Bytes read as nothing else: they are the frames of the events that
 /// they read as, and then that end.
 pub fn streams_read_exactly()
-    ensures law { (bytes : List ℕ) (f : Framed) → AreBytes bytes
+    ensures law { (bytes : List ℕ) (f : EventsAndRest) → AreBytes bytes
         → (whole_frames bytes ≡ f) ↔ IsStream bytes f }
 {}

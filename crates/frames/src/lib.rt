@@ -8,7 +8,16 @@
 //! - `fault`: what is wrong in a request's header.
 #![tactic(auto)]
 
-pub mod answer;
-pub mod fault;
+mod answer;
+mod fault;
 pub mod laws;
-pub mod request;
+mod request;
+
+pub use answer::{
+    ANSWER_FRONT, ANSWER_HEAD, byte_of, drop_frame, fill_frames, forward_front, head_bytes,
+    put_frames,
+};
+pub use fault::HeaderFault;
+pub use request::{
+    Head, Kind, LONGEST_PACKET, REQUEST_HEAD, Taken, announces_packet, read_head, take_frame,
+};

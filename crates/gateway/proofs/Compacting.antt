@@ -11,7 +11,7 @@ use Rattle.durable.specs.Entering.{Durable, durable}
 use Rattle.durable.specs.Recovery.{Recovers}
 use Rattle.machine.specs.Machine.{State}
 use Rattle.machine.specs.Noted.{lasting}
-use Rattle.machine.specs.Sound.{IsInForce, IsSound}
+use Rattle.machine.specs.Sound.{IsInForce, IsSoundState}
 use Rattle.gateway.specs.Kept.{IsRoomy}
 
 pub lasting_is : (s : State) (text : List ℕ) (sessions : List Session) → text ≡ s.text → sessions ≡ map stilled s.sessions → durable text sessions ≡ lasting s
@@ -25,10 +25,10 @@ short_rules : (config : Config) (text : List ℕ) (rules : Spelled) → IsInForc
 short_rules config text rules (inl none) = let long = ap length none.0 in omega (arith, long)
 short_rules config text rules (inr loads) = let le = loads.0 in omega (arith, le)
 
-pub short_text : (config : Config) (s : State) (text : List ℕ) → IsSound config s → text ≡ s.text → length text ≤ 262144
+pub short_text : (config : Config) (s : State) (text : List ℕ) → IsSoundState config s → text ≡ s.text → length text ≤ 262144
 short_text config s text sound same = let few = short_rules config s.text s.rules sound.in_force in let long = ap length same in omega (arith, few, long)
 
-pub few_sessions : (config : Config) (s : State) (sessions : List Session) → IsSound config s → sessions ≡ map stilled s.sessions → length sessions ≤ 65536
+pub few_sessions : (config : Config) (s : State) (sessions : List Session) → IsSoundState config s → sessions ≡ map stilled s.sessions → length sessions ≤ 65536
 few_sessions config s sessions sound still =
     let most = sound.sessions.at_most in let long = ap length still ∙ length-map s.sessions stilled in omega (arith, most, long)
 

@@ -12,7 +12,7 @@ use Rattle.machine.specs.Judged.{Judged, IsJudged, IsRight}
 use Rattle.machine.specs.Machine.{State, step}
 use Rattle.machine.specs.Noted.{AreDistinct, AreEntriesOf, AreOver, HasEntry, lasting}
 use Rattle.machine.specs.Sizes.{most_bytes}
-use Rattle.machine.specs.Sound.{IsSound}
+use Rattle.machine.specs.Sound.{IsSoundState}
 use Rattle.machine.specs.declared.deed.Deed.{Deed}
 use Rattle.machine.specs.declared.deed.Deed.TheVariants as deed
 use Rattle.machine.specs.declared.event.Answer.{Answer}
@@ -26,7 +26,7 @@ use Rattle.gateway.specs.Kept.{IsRoomy, LeadsToPresent}
 
 -- the entries of one more event make what the files stand for the present state
 pub takes_in : (config : Config) (files : Files) (were are entries : List Entry) (s new : State) (event : Event) (judged : Judged) (answer : Answer) → IsTrue (is_config config)
-    → IsSound config s → LeadsToPresent config files were s → IsJudged config event judged → step config s judged ≡ (new, answer) → AreEntriesOf config s judged entries
+    → IsSoundState config s → LeadsToPresent config files were s → IsJudged config event judged → step config s judged ≡ (new, answer) → AreEntriesOf config s judged entries
     → are ≡ were ++ entries → LeadsToPresent config files are new
 takes_in config files were are entries s new event judged answer is_one sound was is_judged steps of same =
     let on : Enters config entries (lasting s) (lasting new) =
@@ -46,7 +46,7 @@ both_none were entries none also = ap (λ (es : List Entry). es ++ entries) none
 
 -- when an answer needn't wait
 pub at_once : (config : Config) (s : State) (event : Event) (judged : Judged) (entries were are : List Entry) (held mid : List (ℕ × Answer)) (IsNow : Type 0) → IsTrue (is_config config)
-    → IsSound config s → IsJudged config event judged → AreEntriesOf config s judged entries → are ≡ were ++ entries → (held ≡ [] → were ≡ []) → mid ≡ held
+    → IsSoundState config s → IsJudged config event judged → AreEntriesOf config s judged entries → are ≡ were ++ entries → (held ≡ [] → were ≡ []) → mid ≡ held
     → IsNow ↔ (are ≡ []) → (IsNow → mid ≡ []) → IsNow ↔ ((held ≡ []) × ¬ HasEntry config s judged)
 at_once config s event judged entries were are held mid IsNow is_one sound is_judged of same none stays now quiet = (
   λ is. (sym stays ∙ quiet is, empty-needs config is_one s judged entries sound is_judged.right of (right_none were entries (sym same ∙ now.0 is))),
@@ -55,7 +55,7 @@ at_once config s event judged entries were are held mid IsNow is_one sound is_ju
 )
 
 -- an event with nothing that must survive has no entries
-pub none_of : (config : Config) (s : State) (event : Event) (judged : Judged) → IsTrue (is_config config) → IsSound config s → IsJudged config event judged
+pub none_of : (config : Config) (s : State) (event : Event) (judged : Judged) → IsTrue (is_config config) → IsSoundState config s → IsJudged config event judged
     → ¬ HasEntry config s judged → AreEntriesOf config s judged []
 none_of config s event judged is_one sound is_judged needless =
     let some = some-entries config s judged sound in
@@ -80,7 +80,7 @@ few_distinct (x ∷ xs) ys distinct within =
     let long = r.1 in
     omega (arith, rest, long)
 
-pub few_over : (config : Config) (s : State) (now : ℕ) (gone : List Session) → IsSound config s → AreOver now s.sessions gone → length gone ≤ 65536
+pub few_over : (config : Config) (s : State) (now : ℕ) (gone : List Session) → IsSoundState config s → AreOver now s.sessions gone → length gone ≤ 65536
 few_over config s now gone sound over =
     let few = few_distinct gone s.sessions over.distinct (λ t is. (over.over t is).0) in
     let most = sound.sessions.at_most in
@@ -93,7 +93,7 @@ few_bytes config (deed.Packet iface bytes) right = omega arith
 few_bytes config deed.Moment right = omega arith
 
 -- where there is room for every event, none is too much
-pub roomy_enough : (config : Config) (s : State) (now filled : ℕ) (gone : List Session) (d : Deed) → IsSound config s → AreOver now s.sessions gone → IsRight config d → IsRoomy filled
+pub roomy_enough : (config : Config) (s : State) (now filled : ℕ) (gone : List Session) (d : Deed) → IsSoundState config s → AreOver now s.sessions gone → IsRight config d → IsRoomy filled
     → 67108864 < filled + (14 * length gone + most_bytes d) + 6 → ⊥
 roomy_enough config s now filled gone d sound over right roomy too =
     let few = few_over config s now gone sound over in let bytes = few_bytes config d right in omega (arith, roomy, too, few, bytes)

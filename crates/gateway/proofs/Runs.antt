@@ -13,7 +13,7 @@ use Rattle.snapshot.specs.Store.{RecoversEither}
 use Rattle.machine.specs.Judged.{Judged, IsJudged, AreJudged}
 use Rattle.machine.specs.Machine.{State, step, after, answers, numbered}
 use Rattle.machine.specs.Noted.{HasEntry, lasting}
-use Rattle.machine.specs.Sound.{IsSound}
+use Rattle.machine.specs.Sound.{IsSoundState}
 use Rattle.machine.specs.declared.event.Answer.{Answer}
 use Rattle.machine.specs.declared.event.Event.{Event}
 use Rattle.machine.proofs.Judging.{AreJudged-append, AreJudged-length, AreJudged-one}
@@ -24,7 +24,7 @@ use Rattle.gateway.specs.declared.fault.GatewayFault.{GatewayFault}
 use Rattle.gateway.specs.declared.fault.GatewayFault.TheVariants as fault
 use Rattle.gateway.proofs.Taking.{length-answers, took_more, took_none}
 use Rattle.gateway.specs.Given.{IsNow, handed}
-use Rattle.gateway.specs.Kept.{Kept, IsReady, IsSafe}
+use Rattle.gateway.specs.Kept.{Kept, IsAtRest, IsSafe}
 use Rattle.gateway.specs.Running.{Ran, Stands, Ends, IsWhy, Stops, StopsWithin, CarriesOn, BreaksOff, standing}
 use Rattle.gateway.specs.Standing.{Standing, Offers, StandsFor}
 use Rattle.gateway.proofs.Standings.{offered-on, settled-on}
@@ -152,7 +152,7 @@ module _ {D : Type 0} (honest : D → Type 0) (moment : D → ℕ) (left : D →
       → (honest start.disk → start.told.held ≡ [] → Recovers (seen start.disk) (lasting start.told.state))
       → (honest start.disk → LeavesNow moment left start.disk (IsConfigured start.told.config)) → Stands honest moment left failed start start [] []
   begun stands recovers present configured =
-      let leaves : IsReady honest start → LeavesNow moment left start.disk (λ files. Recovers files (lasting start.told.state)) = λ ready files now.
+      let leaves : IsAtRest honest start → LeavesNow moment left start.disk (λ files. Recovers files (lasting start.told.state)) = λ ready files now.
       let is = recovers ready.is_honest in
       subst (Recovers files) (recovers_once.state (seen start.disk) is.0 (lasting start.told.state) is.1 (present ready.is_honest ready.none)) (is.2 files now) in
       record {
@@ -180,14 +180,14 @@ module _ {D : Type 0} (honest : D → Type 0) (moment : D → ℕ) (left : D →
       }
 
   module _ (now : Kept D) (events : List Event) (out : List (ℕ × Answer)) (s : Stands honest moment left failed start now events out) where
-    ready-now : IsReady honest start → honest now.disk
+    ready-now : IsAtRest honest start → honest now.disk
     ready-now ready = s.ran.keeps_honest.0 ready.is_honest
 
-    answered : IsReady honest start → length events - length now.told.held ≡ length out
+    answered : IsAtRest honest start → length events - length now.told.held ≡ length out
     answered ready = omega (arith, counted start.told now.told events out s.ran.took, ap length ready.none)
 
     -- what the files stand for, and the present state, are safe
-    either : (ready : IsReady honest start) (files : Files) → RecoversEither (s.rests ready).durable (lasting now.told.state) files → Safe events (length out) files
+    either : (ready : IsAtRest honest start) (files : Files) → RecoversEither (s.rests ready).durable (lasting now.told.state) files → Safe events (length out) files
     either ready files is =
         let r = s.rests ready in
         subst (λ (n : ℕ). Safe events n files) (answered ready)
@@ -202,11 +202,11 @@ module _ {D : Type 0} (honest : D → Type 0) (moment : D → ℕ) (left : D →
 
     module _ (next : Kept D) (keeps : honest now.disk ↔ honest next.disk)
         (configured : now.fallen ≡ false → honest now.disk → LeavesOnly moment left now.disk next.disk (IsConfigured now.told.config)) where
-      next-honest : IsReady honest start → honest next.disk
+      next-honest : IsAtRest honest start → honest next.disk
       next-honest ready = keeps.0 (ready-now ready)
 
       ran-on : (others : List (ℕ × Answer)) → TookAll start.told next.told events others
-          → (IsReady honest start → LeavesOnly moment left now.disk next.disk (Safe events (length out))) → Ran honest moment left failed start next events others
+          → (IsAtRest honest start → LeavesOnly moment left now.disk next.disk (Safe events (length out))) → Ran honest moment left failed start next events others
       ran-on others took safe = record {
         took = took;
         stood = s.ran.stood;
@@ -221,7 +221,7 @@ module _ {D : Type 0} (honest : D → Type 0) (moment : D → ℕ) (left : D →
             (λ files is. is) (λ files is. is);
       }
 
-      ends-on : next.told ≡ now.told → (IsReady honest start → LeavesOnly moment left now.disk next.disk (Safe events (length out))) → Ends honest moment left failed start next events out
+      ends-on : next.told ≡ now.told → (IsAtRest honest start → LeavesOnly moment left now.disk next.disk (Safe events (length out))) → Ends honest moment left failed start next events out
       ends-on same safe = record {
         ran = ran-on out (subst (λ (t : Told). TookAll start.told t events out) (sym same) s.ran.took) safe;
         at_exit = λ ready. only_now moment left now.disk next.disk (Safe events (length out)) (λ s t files le since. earlier next.disk s t files (next-honest ready) le since) (safe ready);
@@ -230,7 +230,7 @@ module _ {D : Type 0} (honest : D → Type 0) (moment : D → ℕ) (left : D →
       -- a flush: what a crash leaves of it is safe, whatever comes of it
       module _ (any_moment : now.fallen ≡ false → honest now.disk → (first : Durable) → Recovers (seen now.disk) first
           → LeavesOnly moment left now.disk next.disk (RecoversEither first (lasting now.told.state))) where
-        flush-safe : IsReady honest start → LeavesOnly moment left now.disk next.disk (Safe events (length out))
+        flush-safe : IsAtRest honest start → LeavesOnly moment left now.disk next.disk (Safe events (length out))
         flush-safe ready =
             let r = s.rests ready in
             let h = ready-now ready in
@@ -262,7 +262,7 @@ module _ {D : Type 0} (honest : D → Type 0) (moment : D → ℕ) (left : D →
       -- a compaction
       module _ (any_moment : now.fallen ≡ false → honest now.disk → LeavesOnly moment left now.disk next.disk (λ files. Recovers files (lasting now.told.state)))
           (same : next.told ≡ now.told) where
-        compact-safe : IsReady honest start → LeavesOnly moment left now.disk next.disk (Safe events (length out))
+        compact-safe : IsAtRest honest start → LeavesOnly moment left now.disk next.disk (Safe events (length out))
         compact-safe ready =
             narrows moment left now.disk next.disk (λ before files. Recovers files (lasting now.told.state)) (λ before files. Safe events (length out) files)
             (any_moment s.stands (ready-now ready))
@@ -290,7 +290,7 @@ module _ {D : Type 0} (honest : D → Type 0) (moment : D → ℕ) (left : D →
         compact-stopped = ends-on same compact-safe
 
     -- an event more is taken
-    pub offered : (next : Kept D) (event : Event) (given : Given) → is_config now.told.config ≡ true → IsSound now.told.config now.told.state
+    pub offered : (next : Kept D) (event : Event) (given : Given) → is_config now.told.config ≡ true → IsSoundState now.told.config now.told.state
         → next.disk ≡ now.disk → next.fallen ≡ now.fallen → (t : Took now.told next.told event given)
         → ((judged : Judged) → IsJudged now.told.config event judged → IsNow given ↔ ((now.told.held ≡ []) × ¬ HasEntry now.told.config now.told.state judged))
         → Stands honest moment left failed start next (events ++ event ∷ []) (out ++ handed given)
@@ -320,7 +320,7 @@ module _ {D : Type 0} (honest : D → Type 0) (moment : D → ℕ) (left : D →
                 judged = r.judged ++ offer.judged ∷ [];
                 are_judged = AreJudged-append start.told.config events (event ∷ []) r.judged (offer.judged ∷ []) r.are_judged (AreJudged-one start.told.config event offer.judged offer.is_judged);
                 stands_for = offered-on start.told.config (subst (λ (c : Config). is_config c ≡ true) config is_one) start.told.state r.judged event (standing r.durable now) (standing r.durable next)
-                    (subst (λ (c : Config). IsSound c now.told.state) config sound) r.stands_for offer;
+                    (subst (λ (c : Config). IsSoundState c now.told.state) config sound) r.stands_for offer;
               };
         }
 
@@ -400,14 +400,14 @@ module _ {D : Type 0} (honest : D → Type 0) (moment : D → ℕ) (left : D →
   pub within-took : TookFirst start.told now.told events out
   within-took = record { front = s.front; back = s.back; split = s.split; took = s.stops.ends.ran.took }
 
-  pub within-any_moment : IsReady honest start → LeavesOnly moment left start.disk now.disk (IsSafe start.told.config start.told.state events 0)
+  pub within-any_moment : IsAtRest honest start → LeavesOnly moment left start.disk now.disk (IsSafe start.told.config start.told.state events 0)
   within-any_moment ready =
       narrows moment left start.disk now.disk (λ before files. IsSafe start.told.config start.told.state s.front 0 files)
       (λ before files. IsSafe start.told.config start.told.state events 0 files) (s.stops.ends.ran.any_moment ready)
       (λ before files was is. subst (λ (es : List Event). IsSafe start.told.config start.told.state es 0 files) (sym s.split)
       (safe-less start.told.config start.told.state s.front s.back 0 0 files (omega arith) is))
 
-  pub within-at_exit : IsReady honest start → LeavesNow moment left now.disk (IsSafe start.told.config start.told.state events (length out))
+  pub within-at_exit : IsAtRest honest start → LeavesNow moment left now.disk (IsSafe start.told.config start.told.state events (length out))
   within-at_exit ready files left_now =
       subst (λ (es : List Event). IsSafe start.told.config start.told.state es (length out) files) (sym s.split)
       (safe-less start.told.config start.told.state s.front s.back (length out) (length out) files (omega arith) (s.stops.ends.at_exit ready files left_now))

@@ -6,7 +6,7 @@ use Rattle.durable.specs.Entering.{Enters}
 use Rattle.machine.specs.Judged.{Judged, IsJudged, AreJudged}
 use Rattle.machine.specs.Machine.{State, step, after}
 use Rattle.machine.specs.Noted.{HasEntry, lasting}
-use Rattle.machine.specs.Sound.{IsSound}
+use Rattle.machine.specs.Sound.{IsSoundState}
 use Rattle.machine.specs.declared.event.Event.{Event}
 use Rattle.machine.proofs.Judging.{AreJudged-append, AreJudged-one}
 use Rattle.machine.proofs.Soundness.{run-sound}
@@ -29,7 +29,7 @@ module _ (config : Config) (start : State) where
 
 module _ (config : Config) (is_one : is_config config ≡ true) where
   -- an event without entries leaves what must survive as it is
-  pub quiet-keeps : (s : State) (event : Event) (judged : Judged) → IsSound config s → IsJudged config event judged → ¬ HasEntry config s judged
+  pub quiet-keeps : (s : State) (event : Event) (judged : Judged) → IsSoundState config s → IsJudged config event judged → ¬ HasEntry config s judged
       → lasting (step config s judged).0 ≡ lasting s
   quiet-keeps s event judged sound is none =
       let some = some-entries config s judged sound in
@@ -38,7 +38,7 @@ module _ (config : Config) (is_one : is_config config ≡ true) where
 
   module _ (start : State) where
     -- an event more is taken
-    pub offered-on : (past : List Judged) (event : Event) (old new : Standing) → IsSound config old.state → StandsFor config start past old
+    pub offered-on : (past : List Judged) (event : Event) (old new : Standing) → IsSoundState config old.state → StandsFor config start past old
         → (o : Offers config event old new) → StandsFor config start (past ++ o.judged ∷ []) new
     offered-on past event old new sound is o = elim o.given [
       | inl held ↦ record {
@@ -62,7 +62,7 @@ module _ (config : Config) (is_one : is_config config ≡ true) where
         all : new.state ≡ after config start (past ++ o.judged ∷ [])
         all = o.steps ∙ ap (λ (s : State). (step config s o.judged).0) is.all ∙ sym (after-append config start past (o.judged ∷ []))
 
-    pub went-on : IsSound config start → (calls : List Call) (events : List Event) (past : List Judged) (old new : Standing) → AreJudged config events past
+    pub went-on : IsSoundState config start → (calls : List Call) (events : List Event) (past : List Judged) (old new : Standing) → AreJudged config events past
         → StandsFor config start past old → AllCallsLead config calls old new
         → (judged : List Judged) × AreJudged config (events ++ events_of calls) judged × StandsFor config start judged new
     went-on sound [] events past old new are is went =
@@ -70,7 +70,7 @@ module _ (config : Config) (is_one : is_config config ≡ true) where
     went-on sound (Offered event ∷ calls) events past old new are is went =
         let o = went.1 in
         let one = AreJudged-append config events (event ∷ []) past (o.judged ∷ []) are (AreJudged-one config event o.judged o.is_judged) in
-        let now : IsSound config old.state = subst (IsSound config) (sym is.all) (run-sound config is_one start events past are sound) in
+        let now : IsSoundState config old.state = subst (IsSoundState config) (sym is.all) (run-sound config is_one start events past are sound) in
         let rest = went-on sound calls (events ++ event ∷ []) (past ++ o.judged ∷ []) went.0 new one (offered-on past event old went.0 now is o) went.2 in
         (rest.0, subst (λ (es : List Event). AreJudged config es rest.0) (append_assoc events (event ∷ []) (events_of calls)) rest.1, rest.2)
     went-on sound (Flushed ∷ calls) events past old new are is went = went-on sound calls events past went.0 new are (settled-on config start past old went.0 is went.1) went.2

@@ -6,7 +6,7 @@ use Rattle.machine.specs.declared.event.Answer.{Answer}
 use Rattle.gateway.specs.declared.given.Given.{Given}
 use Rattle.gateway.specs.declared.given.Given.TheVariants as given
 use Rattle.gateway.specs.declared.given.GivenInPlace.{GivenInPlace}
-use Rattle.gateway.specs.declared.given.GivenInPlace.TheVariants as in_place
+use Rattle.gateway.specs.declared.given.GivenInPlace.TheVariants as given_in_place
 
 -- the numbered answers that a call handed out
 abbrev pub handed : Given → List (ℕ × Answer)
@@ -25,10 +25,10 @@ IsNow (given.Held number) = ⊥
 
 -- what became of the event whose packet has these bytes then
 abbrev pub given_by : GivenInPlace → List ℕ → Given
-given_by (in_place.Now number fate) packet = given.Now number (answer_of fate packet)
-given_by (in_place.Held number fate) packet = given.Held number
+given_by (given_in_place.Now number fate) packet = given.Now number (answer_of fate packet)
+given_by (given_in_place.Held number fate) packet = given.Held number
 
 -- the numbered answer to a packet that has these bytes then
 abbrev pub answer_given : GivenInPlace → List ℕ → ℕ × Answer
-answer_given (in_place.Now number fate) packet = (number, answer_of fate packet)
-answer_given (in_place.Held number fate) packet = (number, answer_of fate packet)
+answer_given (given_in_place.Now number fate) packet = (number, answer_of fate packet)
+answer_given (given_in_place.Held number fate) packet = (number, answer_of fate packet)

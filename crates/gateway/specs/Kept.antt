@@ -62,7 +62,7 @@ pub record IsSafe (config : Config) (s : State) (events : List Event) (n : ℕ)
   pub recovers : Recovers files (lasting (after config s judged))
 
 -- it stands over an honest disk, and holds nothing
-pub record IsReady {D : Type 0} (honest : D → Type 0) (gateway : Kept D) : Type 0 where
+pub record IsAtRest {D : Type 0} (honest : D → Type 0) (gateway : Kept D) : Type 0 where
   pub stands : gateway.fallen ≡ false
   pub is_honest : honest gateway.disk
   pub none : gateway.told.held ≡ []

@@ -8,8 +8,8 @@ use Rattle.machine.specs.declared.event.Answer.{Answer}
 use Rattle.machine.specs.declared.event.Event.{Event}
 use Rattle.gateway.specs.Told.{TookAll}
 use Rattle.gateway.specs.declared.fault.GatewayFault.{GatewayFault}
-use Rattle.gateway.specs.declared.fault.GatewayFault.TheVariants as fault
-use Rattle.gateway.specs.Kept.{Kept, IsReady, IsSafe}
+use Rattle.gateway.specs.declared.fault.GatewayFault.TheVariants as gateway_fault
+use Rattle.gateway.specs.Kept.{Kept, IsAtRest, IsSafe}
 use Rattle.gateway.specs.Standing.{Standing, StandsFor}
 
 -- between calls: what the files stand for, the present state, and how many answers are held
@@ -33,7 +33,7 @@ module _ {D : Type 0} (honest : D → Type 0) (moment : D → ℕ) (left : D →
     pub took : TookAll start.told now.told events out
     pub stood : start.fallen ≡ false
     pub keeps_honest : honest start.disk ↔ honest now.disk
-    pub any_moment : IsReady honest start
+    pub any_moment : IsAtRest honest start
         → LeavesOnly moment left start.disk now.disk
         (IsSafe start.told.config start.told.state events 0)
     pub configured : honest start.disk
@@ -44,23 +44,23 @@ module _ {D : Type 0} (honest : D → Type 0) (moment : D → ℕ) (left : D →
     pub ran : Ran events out
     pub stands : now.fallen ≡ false
     pub no_failure : failed now.disk ≡ failed start.disk
-    pub rests : IsReady honest start → AgreesWithModel events
+    pub rests : IsAtRest honest start → AgreesWithModel events
 
   -- it ends behind these events: a crash now leaves a beginning that holds those whose answers were handed out
   pub record Ends (events : List Event) (out : List (ℕ × Answer)) : Type 0 where
     pub ran : Ran events out
-    pub at_exit : IsReady honest start
+    pub at_exit : IsAtRest honest start
         → LeavesNow moment left now.disk
         (IsSafe start.told.config start.told.state events (length out))
 
   -- why a run ends that stood at its start
   pub record IsWhy (why : GatewayFault) : Type 0 where
-    pub stood : why ≢ fault.Reopen
-    pub made_room : (why ≢ fault.HeldFull) × (why ≢ fault.Full)
-    pub numbers_out : why ≡ fault.NumbersOut → now.told.last ≡ 2 ^ 64 - 1
-    pub fell : (why ≡ fault.Device) ↔ (now.fallen ≡ true)
-    pub device : why ≡ fault.Device → Grew (failed start.disk) (failed now.disk)
-    pub generations : why ≡ fault.Generations → now.generation ≡ 2 ^ 64 - 1
+    pub stood : why ≢ gateway_fault.Reopen
+    pub made_room : (why ≢ gateway_fault.HeldFull) × (why ≢ gateway_fault.Full)
+    pub numbers_out : why ≡ gateway_fault.NumbersOut → now.told.last ≡ 2 ^ 64 - 1
+    pub fell : (why ≡ gateway_fault.Device) ↔ (now.fallen ≡ true)
+    pub device : why ≡ gateway_fault.Device → Grew (failed start.disk) (failed now.disk)
+    pub generations : why ≡ gateway_fault.Generations → now.generation ≡ 2 ^ 64 - 1
 
   -- it ends behind these events, with a fault
   pub record Stops (events : List Event) (out : List (ℕ × Answer))
@@ -68,7 +68,7 @@ module _ {D : Type 0} (honest : D → Type 0) (moment : D → ℕ) (left : D →
     pub ends : Ends events out
     pub is_why : IsWhy why
     -- where no call of the disk failed, it stands as before, and may go on
-    pub stays : why ≢ fault.Device → Stands events out
+    pub stays : why ≢ gateway_fault.Device → Stands events out
 
   -- it ends behind the first of these events, with a fault, and takes none behind them
   pub record StopsWithin (events : List Event) (out : List (ℕ × Answer))

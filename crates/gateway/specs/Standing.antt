@@ -6,7 +6,7 @@ use Rattle.durable.specs.Entering.{Durable}
 use Rattle.machine.specs.Judged.{Judged, IsJudged, AreJudged}
 use Rattle.machine.specs.Machine.{State, step, after}
 use Rattle.machine.specs.Noted.{HasEntry, lasting}
-use Rattle.machine.specs.Sound.{IsSound}
+use Rattle.machine.specs.Sound.{IsSoundState}
 use Rattle.machine.specs.declared.event.Event.{Event}
 
 -- calls that no device fault ended
@@ -69,6 +69,6 @@ pub record StandsFor (config : Config) (start : State) (judged : List Judged)
 abbrev pub CallsStandForTheModel : Type 0
 CallsStandForTheModel =
     (config : Config) (start : State) (calls : List Call) (now : Standing)
-    → IsTrue (is_config config) → IsSound config start
+    → IsTrue (is_config config) → IsSoundState config start
     → AllCallsLead config calls (settled_standing start) now → (judged : List Judged)
     × AreJudged config (events_of calls) judged × StandsFor config start judged now

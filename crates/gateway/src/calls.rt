@@ -20,14 +20,14 @@ ghost use Rattle.machine.specs.Judged.{Judged, IsJudged, IsNoLoad};
 ghost use Rattle.machine.specs.Machine.{AddsNone, EndsNone, later, step};
 ghost use Rattle.machine.specs.Sizes.{most_bytes};
 ghost use Rattle.machine.specs.Noted.{AreEntriesOf, HasEntry, IsResumed, lasting};
-ghost use Rattle.machine.specs.Sound.{IsSound};
+ghost use Rattle.machine.specs.Sound.{IsSoundState};
 ghost use Rattle.machine.specs.declared.event.Answer.TheVariants.{Forward};
 ghost use Rattle.machine.specs.declared.event.What.TheVariants.{Packet};
 ghost use Rattle.sessions.specs.Stilled.{stilled};
 ghost use Rattle.gateway.specs.Given.{IsNow, answer_given, given_by, handed};
 ghost use Rattle.gateway.specs.Told.{Took, TookAll, TookFirst};
 ghost use Rattle.gateway.specs.declared.given.Given.TheVariants.{Now};
-ghost use Rattle.gateway.specs.Kept.{HasPlaces, IsReady, IsRoomy, IsSafe, IsTooMuch};
+ghost use Rattle.gateway.specs.Kept.{HasPlaces, IsAtRest, IsRoomy, IsSafe, IsTooMuch};
 ghost use Rattle.gateway.specs.Running.{StopsWithin};
 
 use crate::fault::{why_not_compacted, why_refused};
@@ -39,7 +39,7 @@ use crate::{GatewayFault, Given, GivenInPlace, OpenFault};
 use disk_model::Disk;
 use machine::laws::events_are_judged_once;
 use machine::{Answer, Coming, Core, Event, Iface, MOST_AHEAD, NoMemory};
-use packet::bounds::Bounds;
+use packet::Bounds;
 use sessions::Session;
 use snapshot::{CommitFault, Opened, Store};
 use std::alloc::Global;
@@ -207,7 +207,7 @@ impl<D: Disk + Drop> Gateway<D> {
     /// It does nothing but carry these facts.
     pub fn facts(&self)
         ensures config { IsTrue (is_config self.now.told.config) }
-        ensures sound { IsSound self.now.told.config self.now.told.state }
+        ensures sound { IsSoundState self.now.told.config self.now.told.state }
         ensures last { self.now.told.last < 2 ^ 64 }
     {
         self.core.facts();
@@ -694,12 +694,12 @@ impl<D: Disk + Drop> Gateway<D> {
             e.0.items) }
 
         // A crash at any moment leaves what the model has after a beginning of the events.
-        ensures any_moment { IsReady D.honest self.old
+        ensures any_moment { IsAtRest D.honest self.old
             → LeavesOnly D.moment D.left self.old.disk self.new.disk
             (IsSafe self.old.told.config self.old.told.state events.items 0) }
 
         // A crash at the exit leaves that of a beginning which holds every event whose answer was handed out.
-        ensures at_exit { IsReady D.honest self.old → MatchResult result
+        ensures at_exit { IsAtRest D.honest self.old → MatchResult result
             (λ answers. LeavesNow D.moment D.left self.new.disk
             (IsSafe self.old.told.config self.old.told.state events.items
             (length answers.items)))

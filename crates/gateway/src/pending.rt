@@ -12,7 +12,7 @@ ghost use Rattle.durable.specs.Coding.{IsEntry, AreEntries, entry_bytes, body_by
 ghost use Rattle.durable.specs.Viewing.{view};
 ghost use Rattle.machine.specs.Fates.{answer_of};
 
-use crate::slot::Slot;
+use crate::slot::AnswerSlot;
 use durable::{END_LEN, Entry, begin_code, end_code, load_front, restart_code, seen_code};
 use journal::{Group, LIMIT};
 use machine::{Answer, Fate, Notes, StepFault};
@@ -31,7 +31,7 @@ pub(crate) struct Pending {
     alloc: Global,
     held: Vec<(u64, Answer)>,
     /// Answers that are held behind these, and behind them slots for others.
-    slots: Vec<Slot>,
+    slots: Vec<AnswerSlot>,
     /// How many of the slots hold an answer.
     used: usize,
     group: Group,
@@ -243,7 +243,7 @@ fn push(held: &mut Vec<(u64, Answer)>, number: u64, answer: Answer)
 
 // Makes slots for all answers that may be held, behind those that there are.
 #[inline(always)]
-fn make_slots(alloc: Global, slots: &mut Vec<Slot>) -> Result<(), AllocError>
+fn make_slots(alloc: Global, slots: &mut Vec<AnswerSlot>) -> Result<(), AllocError>
     requires { length slots.old.items ≤ 64 }
     ensures ok { OnOk result (length slots.new.items ≡ 64) }
     ensures kept { take (length slots.old.items) slots.new.items ≡ slots.old.items }
@@ -257,14 +257,14 @@ fn make_slots(alloc: Global, slots: &mut Vec<Slot>) -> Result<(), AllocError>
 
 // As `make_slots`, where there are too few.
 #[inline(never)]
-fn make_more_slots(alloc: Global, slots: &mut Vec<Slot>) -> Result<(), AllocError>
+fn make_more_slots(alloc: Global, slots: &mut Vec<AnswerSlot>) -> Result<(), AllocError>
     requires { length slots.old.items ≤ 64 }
     ensures ok { OnOk result (length slots.new.items ≡ 64) }
     ensures kept { take (length slots.old.items) slots.new.items ≡ slots.old.items }
     ensures most { length slots.new.items ≤ 64 }
 {
     for _ in slots.len()..MOST_HELD {
-        let slot = Slot::new(alloc)?;
+        let slot = AnswerSlot::new(alloc)?;
         if slots.push(slot).is_err() {
             return Err(AllocError);
         }
@@ -273,7 +273,7 @@ fn make_more_slots(alloc: Global, slots: &mut Vec<Slot>) -> Result<(), AllocErro
 }
 
 // Makes the answers in the slots that are used into such as the others, and puts them behind these.
-fn move_out(held: &mut Vec<(u64, Answer)>, slots: &mut Vec<Slot>, used: usize)
+fn move_out(held: &mut Vec<(u64, Answer)>, slots: &mut Vec<AnswerSlot>, used: usize)
     requires within { used ≤ length slots.old.items }
     requires room { length held.old.items + used ≤ vec_capacity held.old }
     ensures held { held.new.items ≡ held.old.items ++ take used slots.old.items }

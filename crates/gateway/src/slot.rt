@@ -12,7 +12,7 @@ pub const LONGEST_COPY: usize = 2048;
 
 /// The answer to a packet, with its number. It is seen as the two; a copy of the packet lies in memory that is kept.
 #[derive(Drop)]
-pub(crate) struct Slot {
+pub(crate) struct AnswerSlot {
     number: u64,
     fate: Fate,
     /// How many bytes the packet has.
@@ -21,7 +21,7 @@ pub(crate) struct Slot {
     bytes: Vec<u8>,
 }
 
-impl Model for Slot {
+impl Model for AnswerSlot {
     ghost use Rattle.std.specs.Prelude.{◌≡◌, ℕ, ◌≤◌, length, take};
     ghost use Rattle.machine.specs.Fates.{answer_of};
     ghost use Rattle.machine.specs.declared.event.Answer.{Answer};
@@ -33,14 +33,14 @@ impl Model for Slot {
     ghost invariant = { λ s. (s.len ≤ 2048) × (length s.bytes.items ≡ 2048) };
 }
 
-impl Slot {
+impl AnswerSlot {
     /// A slot with room for a packet. What lies in it means nothing yet.
     ///
     /// # Errors
     ///
     /// `AllocError` where memory is refused.
-    pub(crate) fn new(alloc: Global) -> Result<Slot, AllocError> {
-        Ok(Slot {
+    pub(crate) fn new(alloc: Global) -> Result<AnswerSlot, AllocError> {
+        Ok(AnswerSlot {
             number: 0,
             fate: Fate::Dropped(0),
             len: 0,
@@ -64,7 +64,7 @@ impl Slot {
     pub(crate) fn into_answer(self) -> (u64, Answer)
         ensures { result ≡ self }
     {
-        let Slot {
+        let AnswerSlot {
             number,
             fate,
             len,

@@ -8,7 +8,7 @@ use crate::shared::{
     Answer, Event, GatewayFault, Given, Iface, OpenFault, Trials, close, disk_of, open, some_bounds,
 };
 use crate::words::read_event;
-use packet::bounds::Bounds;
+use packet::Bounds;
 use std::alloc::Global;
 use std::test::*;
 use trial_disk::Trial;

@@ -4,8 +4,7 @@ pub use gateway::{
     Answer, Bytes, Event, Gateway, GatewayFault, Given, Iface, OpenFault, Session, What,
 };
 use machine::Core;
-use packet::bounds::Bounds;
-use packet::endpoint::Prefix;
+use packet::{Bounds, Prefix};
 use std::alloc::{AllocFailed, Global};
 use std::process::Abort;
 use std::test::Fail;

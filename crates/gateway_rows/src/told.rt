@@ -5,7 +5,7 @@ use crate::shared::{
     Answer, Event, GatewayFault, Given, OpenFault, Trials, Trouble, disk, expect_trouble, open,
     opened, some_bounds,
 };
-use packet::bounds::Bounds;
+use packet::Bounds;
 use std::alloc::Global;
 use std::test::Fail;
 use trial_disk::Trial;

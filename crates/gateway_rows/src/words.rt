@@ -6,7 +6,7 @@
 //! - `udp 192.168.1.2:5000 203.0.113.1:5000 198.51.100.7:53 inside 0 at 1000`: a session: inside, outside, remote,
 //!   opener, the bits seen, the moment of the last packet.
 use crate::shared::{Answer, Bytes, Event, Given, Iface, Session, What};
-use packet::endpoint::{Endpoint, Proto};
+use packet::{Endpoint, Proto};
 use sessions::Opener;
 use std::alloc::{AllocError, Global};
 use std::net::Ipv4Addr;

@@ -2,8 +2,7 @@
 pub use gateway::{
     Answer, Bytes, Event, Gateway, GatewayFault, Given, Iface, OpenFault, Session, What,
 };
-use packet::bounds::Bounds;
-use packet::endpoint::Prefix;
+use packet::{Bounds, Prefix};
 use std::alloc::{AllocFailed, Global};
 use trial_disk::Trial;
 

@@ -1,8 +1,8 @@
 //! Texts of rulesets, each of which takes another way through the reader.
 use crate::shared::{Stop, bounds, must};
-use packet::bounds::Bounds;
+use packet::Bounds;
 use ruletext::fault_of;
-use ruletree::fault::{Kind, LoadFault};
+use ruletree::{Kind, LoadFault};
 use std::alloc::Global;
 use std::io;
 

@@ -62,14 +62,15 @@ module _ (external : ℕ) (held : List (Option Session)) (now : ℕ) where
       (t : Session) × (u : Session) × Gives external held now first t × IsApart held first second
       × GivesThen external held now first t second u × (sessions ≡ t ∷ u ∷ [])
 
-  -- the plan is the way on which the packet passes
+  -- the plan does what the passage says: its changes give the sessions of the passage, and the packet leaves with the
+  -- same endpoints and on the same interface
   pub record IsPlanOf (plan : Plan) (passage : Passage) : Type 0 where
     pub sessions : GiveAll plan.first plan.second passage.sessions
     pub src : plan.src ≡ passage.src
     pub dst : plan.dst ≡ passage.dst
     pub iface : plan.iface ≡ passage.iface
 
-  -- the plan, or the drop, is what the leg comes to
+  -- a leg's code and its definition agree: on a plan and the passage that it does, or on the cause of a drop
   abbrev pub Plans : Result Plan Cause → Result Passage Cause → Type 0
   Plans (Ok plan) (Ok passage) = IsPlanOf plan passage
   Plans (Ok plan) (Err cause) = ⊥

@@ -26,6 +26,11 @@ IsOutside mappings proto outside = (inside : Endpoint)
 abbrev pub IsOutsideOf : Mapping → Proto → Endpoint → Type 0
 IsOutsideOf p proto outside = (proto ≡ p.proto) × (outside ≡ p.outside)
 
+-- the mapping is at one of these ports: its outside endpoint is at one of their addresses, and not at port 0
+pub record IsPlacedIn (ports : TakenPorts) (p : Mapping) : Type 0 where
+  pub address : Contains ports.external p.outside.addr
+  pub port : 0 < p.outside.port
+
 -- just the outside ports of the mappings are taken, and each mapping is at the external address
 pub record Follows (external : ℕ) (mappings : Mappings) (ports : TakenPorts) : Type 0 where
   pub address : Contains ports.external external

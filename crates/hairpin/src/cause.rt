@@ -2,8 +2,7 @@
 ghost use Rattle.std.specs.Prelude.{◌≡◌};
 ghost use Rattle.hairpin.specs.Causes.{cause_number};
 
-use packet::fault::Fault;
-use packet::route::RouteFault;
+use packet::{Fault, RouteFault};
 
 /// Why a packet is dropped. The variants stand in the order of their numbers; in which order a leg finds
 /// them is said at `out_leg`, `in_leg` and `hairpin_leg`.

@@ -12,9 +12,7 @@ ghost use Rattle.hairpin.specs.Plans.{Plans};
 
 use crate::cause::Cause;
 use crate::held::{Held, connection_of, facts_of};
-use packet::bounds::Bounds;
-use packet::endpoint::{Endpoint, Flags, Iface};
-use packet::view::View;
+use packet::{Bounds, Endpoint, Flags, Iface, View};
 use sessions::{Opener, Session, Slot, Table};
 use verdict::{Forwarding, Rules, forward, passes_all};
 

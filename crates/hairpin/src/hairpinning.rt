@@ -4,11 +4,11 @@
 //! `first_session`), and `after_first` for the rest: the session that it comes in by (`second_leg`: one that is held,
 //! or a new one of `second_session`, to the inside endpoint that the prerouting chains or a mapping tell,
 //! `inside_far`), the forward chains (`is_forwarded`), the plan.
-ghost use Rattle.std.specs.Prelude.{◌≡◌, ◌≢◌, ◌↔◌, ◌<◌, ◌≤◌, ◌+◌, ℕ, List, Option, IsTrue, IfErr, IfOk, IfSome, IfNone, Some, None, Ok, Err, slice_index_or, true, find};
+ghost use Rattle.std.specs.Prelude.{◌≡◌, ◌↔◌, ◌<◌, ◌≤◌, ◌+◌, ℕ, List, Option, IsTrue, IfErr, IfOk, IfSome, IfNone, Some, None, Ok, Err, slice_index_or, find};
 ghost use Rattle.std.specs.Option.{option_map, option_map_or};
 ghost use Rattle.packet.specs.Config.{Config, is_inside};
 ghost use Rattle.ruletree.specs.declared.tree.Spelled.{Spelled};
-ghost use Rattle.sessions.specs.Listing.{In, has_inside, has_outside, listing, put, same_flow};
+ghost use Rattle.sessions.specs.Listing.{has_inside, has_outside, listing, put};
 ghost use Rattle.sessions.specs.Table.{at, count};
 ghost use Rattle.sessions.specs.declared.session.Session.{Session};
 ghost use Rattle.verdict.specs.Hooks.{forward_verdict};
@@ -16,7 +16,7 @@ ghost use Rattle.hairpin.specs.Legs.{begun_second as begun_second_way, counted, 
 ghost use Rattle.hairpin.specs.Plans.{Gives, IsOf, Plans};
 ghost use Rattle.hairpin.specs.KeepBounds.{KeepBounds};
 ghost use Rattle.hairpin.specs.Tallies.{AreOf};
-ghost use Rattle.hairpin.specs.WithoutSession.{HairpinsNew, IsBehindFirst};
+ghost use Rattle.hairpin.specs.FromInside.{GoesOutFirst, Hairpins, HairpinsNew, IsBehindFirst};
 ghost use Rattle.hairpin.specs.declared.held.Held.{Held};
 
 use crate::cause::Cause;
@@ -26,9 +26,7 @@ use crate::held::{
 };
 use crate::plan::Plan;
 use crate::translations::Translations;
-use packet::bounds::Bounds;
-use packet::endpoint::{Endpoint, Flags, Iface};
-use packet::view::View;
+use packet::{Bounds, Endpoint, Flags, Iface, View};
 use sessions::{Change, MOST_SESSIONS, Opener, Session, Table, breaks_mapping};
 use verdict::{Destination, Forwarding, Rules, State, forward, prerouting};
 
@@ -176,9 +174,7 @@ fn first_leg(
     view: &View,
     now: u64,
 ) -> Result<Leg, Cause>
-    requires translations { AreOf bounds.now table.now.held translations.now }
-    requires port { 0 < view.now.src.port }
-    requires external_destination { view.now.dst.addr ≡ bounds.now.external }
+    requires { Hairpins bounds.now table.now.held translations.now view.now }
     ensures session { let sessions = listing table.now.held in
         (rules : Spelled) → IfOk result (λ leg. first_by bounds.now rules sessions now view.now
         (find (has_inside view.now.proto view.now.src view.now.dst) sessions)
@@ -254,9 +250,7 @@ fn begun_second(
     inside: Endpoint,
     now: u64,
 ) -> Result<Session, Cause>
-    requires keeps { (u : Session) → In u (listing table.now.held) → same_flow first.now u ≡ true
-        → u.outside ≡ first.now.outside }
-    requires away { first.now.remote ≢ first.now.outside }
+    requires { GoesOutFirst table.now.held view.now first.now }
     ensures { (config : Config) (rules : Spelled) (sessions : List Session)
         → result ≡ begun_second_way config rules sessions now view.now first.now
         (put first.now (listing table.now.held)) inside }
@@ -388,10 +382,7 @@ fn after_first(
     first: &Leg,
     now: u64,
 ) -> Result<Plan, Cause>
-    requires translations { AreOf bounds.now table.now.held translations.now }
-    requires ports { (0 < view.now.src.port) × (0 < view.now.dst.port) }
-    requires inside { IsTrue (is_inside bounds.now view.now.src.addr) }
-    requires external_destination { view.now.dst.addr ≡ bounds.now.external }
+    requires hairpins { Hairpins bounds.now table.now.held translations.now view.now }
     requires before { option_map (λ (h : Held). h.session) first.now.before
         ≡ find (has_inside view.now.proto view.now.src view.now.dst) (listing table.now.held) }
     requires slot { IfSome first.now.before (λ h. at table.now h.slot ≡ Some h.session) }

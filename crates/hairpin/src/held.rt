@@ -10,8 +10,7 @@ ghost use Rattle.hairpin.specs.Legs.{needs_session as has_need, passed_by, conne
 ghost use Rattle.hairpin.specs.Plans.{Gives, IsOf};
 ghost use Rattle.hairpin.specs.declared.held.Held.{Held};
 
-use packet::endpoint::{Endpoint, Flags, Iface, Proto};
-use packet::view::View;
+use packet::{Endpoint, Flags, Iface, Proto, View};
 use sessions::{Change, Opener, Session, Slot, Table, is_syn_alone};
 use verdict::{Facts, State};
 

@@ -18,9 +18,7 @@ use crate::held::{
 };
 use crate::plan::Plan;
 use crate::translations::Translations;
-use packet::bounds::Bounds;
-use packet::endpoint::{Endpoint, Iface};
-use packet::view::View;
+use packet::{Bounds, Endpoint, Iface, View};
 use sessions::{Change, MOST_SESSIONS, Opener, Table};
 use verdict::{Destination, Forwarding, Rules, State, forward, prerouting};
 

@@ -28,7 +28,7 @@ mod held;
 mod inward;
 mod outward;
 mod plan;
-pub mod translations;
+mod translations;
 
 pub use cause::Cause;
 pub use going::{Going, comes_in, comes_in_showing, goes_out, goes_out_showing};
@@ -36,3 +36,4 @@ pub use hairpinning::hairpin_leg;
 pub use inward::in_leg;
 pub use outward::out_leg;
 pub use plan::Plan;
+pub use translations::Translations;

@@ -7,7 +7,7 @@ ghost use Rattle.hairpin.specs.Legs.{begun_out as begun_way, maps_inside, out_by
 ghost use Rattle.hairpin.specs.Plans.{Plans};
 ghost use Rattle.hairpin.specs.KeepBounds.{KeepBounds};
 ghost use Rattle.hairpin.specs.Tallies.{AreOf};
-ghost use Rattle.hairpin.specs.WithoutSession.{GoesOutNew, TellsMapping};
+ghost use Rattle.hairpin.specs.FromInside.{GoesOut, GoesOutNew};
 
 use crate::cause::Cause;
 use crate::held::{
@@ -15,9 +15,7 @@ use crate::held::{
 };
 use crate::plan::Plan;
 use crate::translations::Translations;
-use packet::bounds::Bounds;
-use packet::endpoint::{Endpoint, Flags, Iface};
-use packet::view::View;
+use packet::{Bounds, Endpoint, Flags, Iface, View};
 use sessions::{Change, MOST_SESSIONS, Opener, Session, Table};
 use verdict::{Facts, Forwarding, Rules, Source, State, forward, postrouting};
 
@@ -125,10 +123,7 @@ fn outside_of_new(
     mapped: Option<Endpoint>,
     view: &View,
 ) -> Result<Endpoint, Cause>
-    requires translations { AreOf bounds.now table.now.held translations.now }
-    requires bounded { KeepBounds bounds.now rules.now }
-    requires mapping { TellsMapping (listing table.now.held) view.now.proto view.now.src mapped }
-    requires port { 0 < view.now.src.port }
+    requires { GoesOutNew bounds.now rules.now table.now.held translations.now mapped view.now }
     ensures { (now : ℕ) → let sessions = listing table.now.held in
         result ≡ outside_for bounds.now rules.now sessions now view.now
         (find (maps_inside view.now.proto view.now.src) sessions) }
@@ -147,9 +142,7 @@ fn outside_by_rules(
     translations: &Translations,
     view: &View,
 ) -> Result<Endpoint, Cause>
-    requires translations { AreOf bounds.now table.now.held translations.now }
-    requires bounded { KeepBounds bounds.now rules.now }
-    requires port { 0 < view.now.src.port }
+    requires { GoesOut bounds.now rules.now table.now.held translations.now view.now }
     ensures { (now : ℕ)
         → result ≡ outside_for bounds.now rules.now (listing table.now.held) now view.now None }
 {

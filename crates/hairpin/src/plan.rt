@@ -1,6 +1,6 @@
 //! What a packet that passes changes, and how it leaves.
 
-use packet::endpoint::{Endpoint, Iface};
+use packet::{Endpoint, Iface};
 use sessions::Change;
 
 /// What a packet that passes changes, in turn, and how it leaves. Nothing has changed yet.

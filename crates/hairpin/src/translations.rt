@@ -1,6 +1,5 @@
 //! The mappings, and the outside ports that they take, which change together.
 ghost use Rattle.std.specs.Prelude.{◌≡◌, ◌↔◌, ◌⊎◌, ◌+◌, ◌<◌, ◌≤◌, ℕ, Bool, Some, false, OnOk, IfOk, IsOk, IfSome, IfNone};
-ghost use Rattle.std.specs.List.{Contains};
 ghost use Rattle.std.specs.Option.{option_map};
 ghost use Rattle.packet.specs.Same.{same_endpoint};
 ghost use Rattle.packet.specs.declared.endpoint.Endpoint.{Endpoint};
@@ -10,11 +9,11 @@ ghost use Rattle.portpick.specs.Taken.{IsTaken};
 ghost use Rattle.mappings.specs.Map.{times, mapping as mapping_with, Gains, KeepsOneToOne, SameTimes};
 ghost use Rattle.mappings.specs.declared.map.Mapping.{Mapping};
 ghost use Rattle.hairpin.specs.Tallies.{mapping_of, weight};
-ghost use Rattle.hairpin.specs.Translations.{HasRoom, IsOutside, IsOutsideOf, endpoint};
+ghost use Rattle.hairpin.specs.Translations.{HasRoom, IsPlacedIn, IsOutside, IsOutsideOf, endpoint};
 
-use mappings::map::{Map, Mapping};
-use packet::endpoint::{Endpoint, Proto};
-use portpick::ports::Ports;
+use mappings::{Map, Mapping};
+use packet::{Endpoint, Proto};
+use portpick::Ports;
 use sessions::Session;
 use std::alloc::{AllocError, Global};
 use std::marker::Model;
@@ -171,8 +170,7 @@ impl Translations {
     fn hold_mapping(&mut self, mapping: Mapping)
         requires one_to_one { KeepsOneToOne self.old.mappings mapping }
         requires few { times self.old.mappings mapping < 65536 }
-        requires address { mapping.outside.addr ≡ self.old.external }
-        requires port { 0 < mapping.outside.port }
+        requires placed { (mapping.outside.addr ≡ self.old.external) × (0 < mapping.outside.port) }
         requires room { HasRoom 1 self.old }
         ensures gains { Gains self.old.mappings self.new.mappings mapping }
         ensures room { (n : ℕ) → HasRoom (n + 1) self.old → HasRoom n self.new }
@@ -207,10 +205,9 @@ fn mapping_of(session: &Session) -> Mapping
     }
 }
 
-// The mapping's port is taken, if it isn't yet.
+// Takes the outside port of a mapping that is about to be held, unless an earlier hold has taken it.
 fn take_port(ports: &mut Ports, mapping: Mapping)
-    requires address { Contains ports.old.external mapping.outside.addr }
-    requires not_zero { 0 < mapping.outside.port }
+    requires placed { IsPlacedIn ports.old mapping }
     requires room { 0 < ports.old.room }
     ensures taken { (proto : Proto) (port : ℕ) → IsTaken ports.new proto mapping.outside.addr port
         ↔ (IsTaken ports.old proto mapping.outside.addr port
@@ -227,10 +224,9 @@ fn take_port(ports: &mut Ports, mapping: Mapping)
     }
 }
 
-// The port of a mapping that was released is free, if the mapping is held no more.
+// Frees the outside port of a mapping that the map has just released once, unless the map still holds it.
 fn free_port(map: &Map, ports: &mut Ports, mapping: Mapping)
-    requires address { Contains ports.old.external mapping.outside.addr }
-    requires not_zero { 0 < mapping.outside.port }
+    requires placed { IsPlacedIn ports.old mapping }
     requires taken { (proto : Proto) (port : ℕ) → IsTaken ports.old proto mapping.outside.addr port
         ↔ (IsOutside map.now proto (endpoint mapping.outside.addr port)
         ⊎ IsOutsideOf mapping proto (endpoint mapping.outside.addr port)) }

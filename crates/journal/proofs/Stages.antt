@@ -3,7 +3,7 @@ use Rattle.std.proofs.Common.{◌≡◌, ◌≢◌, ℕ, ◌+◌, ◌<◌, ◌�
 use Rattle.disk_model.specs.declared.disk.FileId.{FileId}
 use Rattle.disk_model.specs.Disk.{Files, Torn, TornIn, Put, put, Leaves, Synced}
 use Rattle.disk_model.proofs.Moments.{follows, at_end, narrows}
-use Rattle.journal.specs.Groups.{Groups, Extended, Appended, Resting, Stands, framed}
+use Rattle.journal.specs.Groups.{Groups, Extended, Appended, Resting, GroupStands, framed}
 use Rattle.journal.proofs.Behind.{torn_body, torn_gate, opened, put_whole, one_more, none, closed_there, length-framed}
 
 module _ {D : Type 0} (moment : D → ℕ) (left : D → ℕ → Files → Type 0) (seen : D → Files) (file : FileId) (at : ℕ) (body buffer : List ℕ) where
@@ -49,7 +49,7 @@ module _ {D : Type 0} (moment : D → ℕ) (left : D → ℕ → Files → Type 
 
   pub stands : (old mid new : D) → buffer ≡ framed body → length body < 2 ^ 32 → Resting moment left seen old file at
       → Put file (at + 1) buffer (seen old) (seen mid) → Put file at (1 ∷ []) (seen mid) (seen new) → Synced moment left seen new file
-      → Stands moment left seen old new file at body (at + length buffer)
+      → GroupStands moment left seen old new file at body (at + length buffer)
   stands old mid new is fits rest stored opens synced =
       let whole : seen new file ≡ put at (1 ∷ []) (put (at + 1) (framed body) (seen old file)) = opens.here ∙ ap (λ l. put at (1 ∷ []) l) (stored.here ∙ ap (λ b. put (at + 1) b (seen old file)) is) in
       let parts = opened at body (seen old file) rest.within (seen new file) whole in

@@ -75,7 +75,8 @@ module _ {D : Type 0} (moment : D → ℕ) (left : D → ℕ → Files → Type 
     pub closed : get_or (seen disk file) at 0 ≢ 1
 
   -- a group stands behind the others, and the file rests at the gate behind it
-  pub record Stands (old new : D) (file : FileId) (at : ℕ) (body : List ℕ) (next : ℕ) : Type 0 where
+  pub record GroupStands (old new : D) (file : FileId) (at : ℕ) (body : List ℕ)
+      (next : ℕ) : Type 0 where
     pub next_is : next ≡ at + length body + 5
     pub resting : Resting new file next
     pub before : take at (seen new file) ≡ take at (seen old file)

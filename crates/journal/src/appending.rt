@@ -1,7 +1,7 @@
 //! Putting a group behind the others of a file.
 ghost use Rattle.std.specs.Prelude.{◌≡◌, ◌+◌, ◌<◌, ◌≤◌, ◌↔◌, ◌∷◌, length, IfOk, OnOk, IsErrOf};
 ghost use Rattle.disk_model.specs.Disk.{FromLeft, Leaves, Put, Called, Grew};
-ghost use Rattle.journal.specs.Groups.{Resting, Appended, Stands, framed};
+ghost use Rattle.journal.specs.Groups.{Resting, Appended, GroupStands, framed};
 
 use crate::{Group, JournalFault};
 use disk_model::{Disk, FileId, write_synced};
@@ -31,7 +31,7 @@ pub fn append<D: Disk>(
 
     // At `Ok` it stands: the file is synced and has the new group, and so has it whatever a crash leaves.
     ensures ok { D.honest disk.old
-        → IfOk result (λ next. Stands D.moment D.left D.seen disk.old disk.new file at
+        → IfOk result (λ next. GroupStands D.moment D.left D.seen disk.old disk.new file at
         group.now.body next) }
 
     // It reads as before, but for the open group and the 00 behind it.

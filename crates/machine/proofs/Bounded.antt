@@ -20,7 +20,7 @@ use Rattle.ruletree.specs.declared.tree.Table.{Table}
 use Rattle.ruletree.specs.declared.tree.Spelled.{Spelled}
 use Rattle.rulesyntax.specs.Text.{IsSpelledBy}
 use Rattle.rulesets.specs.Places.{is_not_external, is_not_inside, some_end_in}
-use Rattle.rulesets.specs.Loads.{MayRun}
+use Rattle.rulesets.specs.Faults.{MayRun}
 use Rattle.ruletext.specs.Texts.{Loads}
 use Rattle.ruletree.specs.declared.fault.Kind.TheVariants.{NotExternal, NotInside}
 use Rattle.verdict.specs.declared.facts.Facts.{Facts}

@@ -7,13 +7,13 @@ use Rattle.sessions.specs.declared.session.Change.TheVariants.{Begin, Seen, Rest
 use Rattle.sessions.specs.declared.session.Session.{Session}
 use Rattle.sessions.specs.Listing.{key}
 use Rattle.sessions.specs.declared.session.Opener.{Opener}
-use Rattle.sessions.specs.Table.{Sessions, Updates, IsSound, at, restarted, seen}
+use Rattle.sessions.specs.Table.{Sessions, Updates, IsSoundTable, at, restarted, seen}
 use Rattle.sessions.proofs.Puts.{put-is}
 use Rattle.hairpin.specs.Plans.{Became, Gives, IsOf}
 use Rattle.machine.specs.Flows.{Flows, IsNoneLater, TakesMore, adds}
 
 -- the slot, which held none or the session of the change, got this
-pub became : (old new : Sessions) (change : Change) (slot : ℕ) (t : Session) → IsSound old.held → IsSound new.held → Updates old new slot (Some t)
+pub became : (old new : Sessions) (change : Change) (slot : ℕ) (t : Session) → IsSoundTable old.held → IsSoundTable new.held → Updates old new slot (Some t)
     → ((s : Session) → at old slot ≡ Some s → key s ≡ key t)
     → ((k : ℕ) (s : Session) → at old k ≡ Some s → ¬ IsOf change k → k ≢ slot)
     → Became old.held change t new.held
@@ -57,7 +57,7 @@ adds-few (Restart slot opener) = omega arith
 seen_again : (s : Session) (bits last : ℕ) → bit_or s.seen bits ≡ s.seen → s.last ≡ last → seen s bits last ≡ s
 seen_again s bits last shown now = ap (λ n. record s { seen = n; last = last }) shown ∙ ap (λ (n : ℕ). record s { last = n }) (sym now)
 
-pub became_again : (old : Sessions) (slot : ℕ) (s : Session) (bits last : ℕ) → IsSound old.held → at old slot ≡ Some s
+pub became_again : (old : Sessions) (slot : ℕ) (s : Session) (bits last : ℕ) → IsSoundTable old.held → at old slot ≡ Some s
     → (bit_or s.seen bits ≡ s.seen) × (s.last ≡ last) → Became old.held (Seen slot bits) (seen s bits last) old.held
 became_again old slot s bits last sound is stays =
     let same = seen_again s bits last stays.0 stays.1 in

@@ -8,7 +8,7 @@ use Rattle.std.proofs.lemmas.Option.{none-some}
 use Rattle.sessions.specs.declared.session.Session.{Session}
 use Rattle.sessions.specs.Listing.{In, listing}
 use Rattle.sessions.specs.Table as table
-use Rattle.sessions.specs.Table.{IsSound}
+use Rattle.sessions.specs.Table.{IsSoundTable}
 use Rattle.sessions.proofs.Sets.{Apart-sound, Rises-listing, Rises-filter, In-filter, filter-In, In-listing, listing-In, listing-is}
 use Rattle.timers.specs.declared.due.Idle.{Idle}
 use Rattle.timers.specs.Due as due
@@ -29,7 +29,7 @@ IsSomeAnd-from P o s is holds = subst (λ q. IsSomeAnd q P) (sym is) holds
 IsSomeAnd-to : (P : Session → Type 0) (o : Option Session) (s : Session) → o ≡ Some s → IsSomeAnd o P → P s
 IsSomeAnd-to P o s is holds = subst (λ q. IsSomeAnd q P) is holds
 
-pub expired : (old new : List (Option Session)) (slots : List ℕ) (now : ℕ) → IsSound old → IsSound new
+pub expired : (old new : List (Option Session)) (slots : List ℕ) (now : ℕ) → IsSoundTable old → IsSoundTable new
     → ((slot : ℕ) → Contains slots slot ↔ IsSomeAnd (get_or old slot None) (IsDue now))
     → ((k : ℕ) → k < length slots → get_or new (get_or slots k 0) None ≡ None)
     → ((slot : ℕ) → ¬ Contains slots slot → get_or new slot None ≡ get_or old slot None)

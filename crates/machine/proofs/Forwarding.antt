@@ -16,7 +16,7 @@ use Rattle.machine.specs.Judged.{Judged, IsJudged}
 use Rattle.machine.specs.Machine.{State, EndsNone, aged, later, on_packet, step}
 use Rattle.machine.specs.Noted.{AreEntriesOf, of_deed, of_fields}
 use Rattle.machine.specs.declared.deed.Deed.TheVariants as deed
-use Rattle.machine.specs.Sound.{IsSound}
+use Rattle.machine.specs.Sound.{IsSoundState}
 use Rattle.machine.specs.declared.event.Answer.{Answer}
 use Rattle.machine.specs.declared.event.Answer.TheVariants.{Forward}
 use Rattle.machine.specs.declared.event.What.TheVariants.{Packet}
@@ -70,7 +70,7 @@ core-after config text rules old new clock moment now iface bytes answer is is_o
     let e = step-is config s judged now _ is passes in
     record {
       external = external ∙ core.external;
-      sound = subst (IsSound config) (ap (λ (p : State × Answer). p.0) e) (step-sound config is_one s judged tt core.sound);
+      sound = subst (IsSoundState config) (ap (λ (p : State × Answer). p.0) e) (step-sound config is_one s judged tt core.sound);
       live = subst (λ (t : State). EndsNone t.clock t) (ap (λ (p : State × Answer). p.0) e) (λ t is. lt-ltb _ _ (step-alive config is_one s judged t core.sound is));
     }
 

@@ -14,7 +14,7 @@ use Rattle.sessions.specs.declared.session.Session.{Session}
 use Rattle.sessions.proofs.Sets.{In-filter, filter-In}
 use Rattle.machine.specs.Judged.{Judged, IsJudged, IsNoLoad, brought}
 use Rattle.machine.specs.Machine.{State, act, aged, later, step}
-use Rattle.machine.specs.Sound.{IsSound}
+use Rattle.machine.specs.Sound.{IsSoundState}
 use Rattle.machine.specs.declared.event.Answer.{Answer}
 use Rattle.machine.specs.declared.event.Answer.TheVariants.{Dropped}
 use Rattle.machine.specs.declared.event.Answer.TheVariants as answer
@@ -26,7 +26,7 @@ use Rattle.machine.proofs.Judging.{no_take}
 use Rattle.machine.proofs.Soundness.{act-by, aged-sound, later-above, put_all-member}
 
 -- the endpoints of two mappings of a protocol are one at one side where they are one at the other
-pub mappings-agree : (config : Config) (s : State) (proto : Proto) (inside inside' outside outside' : Endpoint) → IsSound config s → IsMapping s.sessions proto inside outside → IsMapping s.sessions proto inside' outside'
+pub mappings-agree : (config : Config) (s : State) (proto : Proto) (inside inside' outside outside' : Endpoint) → IsSoundState config s → IsMapping s.sessions proto inside outside → IsMapping s.sessions proto inside' outside'
     → (inside ≡ inside' → outside ≡ outside') × (outside ≡ outside' → inside ≡ inside')
 mappings-agree config s proto inside inside' outside outside' sound a b =
     let same = agree s.sessions sound.sessions.apart a.session b.session a.is_held b.is_held a.translated b.translated (a.proto ∙ sym b.proto) in (
@@ -48,25 +48,25 @@ pub alive-last : (now : ℕ) (t : Session) → t.last ≡ now → IsAlive now t
 alive-last now t e = omega (arith, timeout-some t.proto t.seen, e)
 
 module _ (config : Config) (is_one : is_config config ≡ true) where
-  act-clock : (s : State) → IsSound config s → (d : Deed) → (act config s d).0.clock ≡ s.clock
+  act-clock : (s : State) → IsSoundState config s → (d : Deed) → (act config s d).0.clock ≡ s.clock
   act-clock s sound d = act-by config is_one s sound (λ p. p.0.clock ≡ s.clock) (λ a. refl) (λ ts iface bytes joins. refl) d (λ text rules e. refl)
 
-  pub step-clock : (s : State) (judged : Judged) → IsSound config s → (step config s judged).0.clock ≡ later s.clock judged.moment
+  pub step-clock : (s : State) (judged : Judged) → IsSoundState config s → (step config s judged).0.clock ≡ later s.clock judged.moment
   unfolding step
   step-clock s judged sound =
       let now = later s.clock judged.moment in
       act-clock (aged now s) (aged-sound config is_one s sound now (later-above s.clock judged.moment)) judged.deed
 
-  act-dropped : (s : State) → IsSound config s → (d : Deed) (number : ℕ) → (act config s d).1 ≡ Dropped number → (act config s d).0 ≡ s
+  act-dropped : (s : State) → IsSoundState config s → (d : Deed) (number : ℕ) → (act config s d).1 ≡ Dropped number → (act config s d).0 ≡ s
   act-dropped s sound d number = act-by config is_one s sound (λ p. p.1 ≡ Dropped number → p.0 ≡ s) (λ a e. refl) (λ ts iface bytes joins e. cc) d (λ text rules e dropped. cc)
 
-  pub step-dropped : (s : State) (judged : Judged) (number : ℕ) → IsSound config s → (step config s judged).1 ≡ Dropped number → (step config s judged).0 ≡ aged (later s.clock judged.moment) s
+  pub step-dropped : (s : State) (judged : Judged) (number : ℕ) → IsSoundState config s → (step config s judged).1 ≡ Dropped number → (step config s judged).0 ≡ aged (later s.clock judged.moment) s
   unfolding step
   step-dropped s judged number sound e =
       let now = later s.clock judged.moment in
       act-dropped (aged now s) (aged-sound config is_one s sound now (later-above s.clock judged.moment)) judged.deed number e
 
-  act-alive : (s : State) → IsSound config s → ((t : Session) → In t s.sessions → IsAlive s.clock t) → (d : Deed) (t : Session) → In t (act config s d).0.sessions → IsAlive s.clock t
+  act-alive : (s : State) → IsSoundState config s → ((t : Session) → In t s.sessions → IsAlive s.clock t) → (d : Deed) (t : Session) → In t (act config s d).0.sessions → IsAlive s.clock t
   act-alive s sound lives d = act-by config is_one s sound (λ p. (t : Session) → In t p.0.sessions → IsAlive s.clock t) (λ a. lives)
       (λ ts iface bytes joins u is. elim (put_all-member ts s.sessions u is) [
         | inl new ↦ alive-last s.clock u (joins.last u new)
@@ -75,18 +75,18 @@ module _ (config : Config) (is_one : is_config config ≡ true) where
       d
       (λ text rules e. lives)
 
-  lives-then : (s : State) (judged : Judged) (t : Session) → IsSound config s → In t (step config s judged).0.sessions → IsAlive (later s.clock judged.moment) t
+  lives-then : (s : State) (judged : Judged) (t : Session) → IsSoundState config s → In t (step config s judged).0.sessions → IsAlive (later s.clock judged.moment) t
   unfolding step
   lives-then s judged t sound is =
       let now = later s.clock judged.moment in
       act-alive (aged now s) (aged-sound config is_one s sound now (later-above s.clock judged.moment))
       (λ u in_u. ltb-true _ _ (In-filter (alive now) s.sessions u in_u).1) judged.deed t is
 
-  pub step-alive : (s : State) (judged : Judged) (t : Session) → IsSound config s → In t (step config s judged).0.sessions → IsAlive (step config s judged).0.clock t
+  pub step-alive : (s : State) (judged : Judged) (t : Session) → IsSoundState config s → In t (step config s judged).0.sessions → IsAlive (step config s judged).0.clock t
   step-alive s judged t sound is = subst (λ n. IsAlive n t) (sym (step-clock s judged sound)) (lives-then s judged t sound is)
 
   -- a mapping stays where what is done puts a session in
-  module _ (s : State) (sound : IsSound config s) (proto : Proto) (inside outside : Endpoint) (m : IsMapping s.sessions proto inside outside) where
+  module _ (s : State) (sound : IsSoundState config s) (proto : Proto) (inside outside : Endpoint) (m : IsMapping s.sessions proto inside outside) where
     act-maps : (d : Deed) → IsMapping (act config s d).0.sessions proto inside outside
     act-maps d = act-by config is_one s sound (λ p. IsMapping p.0.sessions proto inside outside) (λ a. m)
         (λ ts iface bytes joins.
@@ -102,7 +102,7 @@ module _ (config : Config) (is_one : is_config config ≡ true) where
         d
         (λ text rules e. m)
 
-  pub step-maps : (s : State) (judged : Judged) (proto : Proto) (inside outside : Endpoint) (m : IsMapping s.sessions proto inside outside) → IsSound config s → IsAlive (later s.clock judged.moment) m.session
+  pub step-maps : (s : State) (judged : Judged) (proto : Proto) (inside outside : Endpoint) (m : IsMapping s.sessions proto inside outside) → IsSoundState config s → IsAlive (later s.clock judged.moment) m.session
       → IsMapping (step config s judged).0.sessions proto inside outside
   unfolding step
   step-maps s judged proto inside outside m sound lives =
@@ -121,10 +121,10 @@ module _ (config : Config) (is_one : is_config config ≡ true) where
   abbrev Unchanged : State → State × Answer → Type 0
   Unchanged s done = (done.0.text ≡ s.text) × (done.0.rules ≡ s.rules)
 
-  act-unchanged : (s : State) → IsSound config s → (d : Deed) → IsNoLoad (brought d) → Unchanged s (act config s d)
+  act-unchanged : (s : State) → IsSoundState config s → (d : Deed) → IsNoLoad (brought d) → Unchanged s (act config s d)
   act-unchanged s sound d none = act-by config is_one s sound (Unchanged s) (λ a. (refl, refl)) (λ ts iface bytes joins. (refl, refl)) d (λ text rules e. absurd (no_take d none text rules e))
 
-  pub step-unchanged : (s : State) (event : Event) (judged : Judged) → IsSound config s → IsJudged config event judged → IsNoLoad event.what → Unchanged s (step config s judged)
+  pub step-unchanged : (s : State) (event : Event) (judged : Judged) → IsSoundState config s → IsJudged config event judged → IsNoLoad event.what → Unchanged s (step config s judged)
   unfolding step
   step-unchanged s event judged sound is none =
       let now = later s.clock judged.moment in

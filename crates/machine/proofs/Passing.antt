@@ -36,7 +36,7 @@ use Rattle.hairpin.proofs.Soundness.{filter-most}
 use Rattle.machine.specs.Judged.{Judged}
 use Rattle.machine.specs.Laws.{Came, LetsPass}
 use Rattle.machine.specs.Machine.{State, act, aged, later, leg, on_route, sent, step, with_fields}
-use Rattle.machine.specs.Sound.{IsSound}
+use Rattle.machine.specs.Sound.{IsSoundState}
 use Rattle.machine.specs.declared.deed.Deed.{Deed}
 use Rattle.machine.specs.declared.deed.Deed.TheVariants as deed
 use Rattle.machine.specs.declared.event.Answer.{Answer}
@@ -78,7 +78,7 @@ one-of-flow (x ∷ xs) rises s t (inr s_in) (inl t_is) e =
     absurd (below-itself t (sym (below-keys t t t s refl e) ∙ subst (λ y. below y s ≡ true) (sym t_is) (rises.0 s s_in)))
 one-of-flow (x ∷ xs) rises s t (inr s_in) (inr t_in) e = one-of-flow xs rises.1 s t s_in t_in e
 
-module _ (config : Config) (s : State) (judged : Judged) (bytes : List ℕ) (view : View) (sound : IsSound config s) where
+module _ (config : Config) (s : State) (judged : Judged) (bytes : List ℕ) (view : View) (sound : IsSoundState config s) where
   abbrev now : ℕ
   now = later s.clock judged.moment
 

@@ -3,7 +3,7 @@ use Rattle.std.proofs.Common.{◌≡◌, ◌++◌, ◌==◌, ◌&&◌, ℕ, List
 use Rattle.std.proofs.lemmas.Bool.{eq-eqb}
 use Rattle.sessions.specs.Life.{same_side}
 use Rattle.sessions.specs.Listing.{listing}
-use Rattle.sessions.specs.Table.{IsSound as IsSoundTable, seen}
+use Rattle.sessions.specs.Table.{IsSoundTable, seen}
 use Rattle.sessions.specs.declared.session.Opener.{Opener}
 use Rattle.sessions.specs.declared.session.Opener.TheVariants.{Inside, Remote}
 use Rattle.sessions.specs.declared.session.Session.{Session}

@@ -12,7 +12,7 @@ use Rattle.sessions.specs.declared.session.Session.{Session}
 use Rattle.sessions.specs.declared.session.Opener.TheVariants.{Inside}
 use Rattle.sessions.specs.Listing.{In, Rises, below, insert, listing, put, same_flow}
 use Rattle.sessions.specs.Sound.{AreSound}
-use Rattle.sessions.specs.Stilled.{moved}
+use Rattle.sessions.specs.Stilled.{at_moment}
 use Rattle.sessions.specs.Table.{Clash}
 use Rattle.sessions.proofs.Puts.{length-listing}
 use Rattle.sessions.proofs.Sets.{below-itself, below-trans, listing-In}
@@ -84,31 +84,31 @@ joins-next config external held s ys at sound =
 
 -- these are held, and those are still to be
 abbrev pub ArePlaced : ℕ → List Session → List (Option Session) → List Session → Type 0
-ArePlaced moment sessions held rest = listing held ++ map (moved moment) rest ≡ map (moved moment) sessions
+ArePlaced moment sessions held rest = listing held ++ map (at_moment moment) rest ≡ map (at_moment moment) sessions
 
 -- all that are held had their last packets at the moment
 pub latest-placed : (moment : ℕ) (sessions : List Session) (held : List (Option Session)) (rest : List Session) → ArePlaced moment sessions held rest → IsNoneLater held moment
 latest-placed moment sessions held rest are slot s is =
-    let last = last-moved moment sessions s (subst (In s) are (In-front (listing held) (map (moved moment) rest) s (listing-In held s slot is))) in
+    let last = last-moved moment sessions s (subst (In s) are (In-front (listing held) (map (at_moment moment) rest) s (listing-In held s slot is))) in
     omega (arith, last)
 
 module _ (config : Config) (moment : ℕ) (sessions : List Session) (sound : AreSound config sessions) (held : List (Option Session)) (s : Session) (rest : List Session)
     (are : ArePlaced moment sessions held (s ∷ rest)) where
-  sound-placed : AreSound config (listing held ++ moved moment s ∷ map (moved moment) rest)
+  sound-placed : AreSound config (listing held ++ at_moment moment s ∷ map (at_moment moment) rest)
   sound-placed = subst (AreSound config) (sym are) (sound-moved config moment sessions sound)
 
-  pub joins-placed : (external : ℕ) → external ≡ config.external → MayJoin external held (moved moment s)
-  joins-placed external at = joins-next config external held (moved moment s) (map (moved moment) rest) at sound-placed
+  pub joins-placed : (external : ℕ) → external ≡ config.external → MayJoin external held (at_moment moment s)
+  joins-placed external at = joins-next config external held (at_moment moment s) (map (at_moment moment) rest) at sound-placed
 
-  pub placed-next : (later : List (Option Session)) → listing later ≡ put (moved moment s) (listing held) → ArePlaced moment sessions later rest
+  pub placed-next : (later : List (Option Session)) → listing later ≡ put (at_moment moment s) (listing held) → ArePlaced moment sessions later rest
   placed-next later put_in =
-      let more = map (moved moment) rest in
-      ap (λ (l : List Session). l ++ more) (put_in ∙ put-next config (listing held) (moved moment s) more sound-placed)
-      ∙ append_assoc (listing held) (moved moment s ∷ []) more
+      let more = map (at_moment moment) rest in
+      ap (λ (l : List Session). l ++ more) (put_in ∙ put-next config (listing held) (at_moment moment s) more sound-placed)
+      ∙ append_assoc (listing held) (at_moment moment s ∷ []) more
       ∙ are
 
 pub placed-all : (moment : ℕ) (sessions : List Session) (held : List (Option Session)) (i : ℕ) → length sessions ≤ i → ArePlaced moment sessions held (drop i sessions)
-    → listing held ≡ map (moved moment) sessions
+    → listing held ≡ map (at_moment moment) sessions
 placed-all moment sessions held i le are = sym (append-nil (listing held)) ∙ subst (ArePlaced moment sessions held) (drop_all i sessions le) are
 
 -- the session that stands for none, where a list has no such place
@@ -135,7 +135,7 @@ begun-joins external held now s may = record {
 -- ---- the core
 
 pub resumed : (config : Config) (text : List ℕ) (rules : Spelled) (flows : Flows) (moment : ℕ) (sessions : List Session) → AreSound config sessions
-    → flows.translations.external ≡ config.external → listing flows.table.held ≡ map (moved moment) sessions → IsInForce config text rules → IsCore config text rules flows moment
+    → flows.translations.external ≡ config.external → listing flows.table.held ≡ map (at_moment moment) sessions → IsInForce config text rules → IsCore config text rules flows moment
 resumed config text rules flows moment sessions sound external listed in_force = record {
   external = external;
   sound = record {

@@ -6,7 +6,7 @@ use Rattle.std.proofs.lemmas.List.{get_or_default}
 use Rattle.sessions.specs.declared.session.Session.{Session}
 use Rattle.sessions.specs.Life.{alive}
 use Rattle.sessions.specs.Listing.{In, listing}
-use Rattle.sessions.specs.Table.{IsSound}
+use Rattle.sessions.specs.Table.{IsSoundTable}
 use Rattle.sessions.proofs.Sets.{In-listing, listing-In}
 use Rattle.timers.specs.Due.{AreOnce}
 use Rattle.machine.specs.Flows.{IsDue}
@@ -49,7 +49,7 @@ module _ (held : List (Option Session)) where
     | inr there ↦ behind (get_or held x None) (sessions_at held more) t (at-In more slot t there at)
   ]
 
-  module _ (sound : IsSound held) where
+  module _ (sound : IsSoundTable held) where
     distinct-slot : (x : ℕ) (more : List ℕ) → AreOnce (x ∷ more) → AreDistinct (sessions_at held more) → (o : Option Session) → get_or held x None ≡ o → AreDistinct (with_it o (sessions_at held more))
     distinct-slot x more once rest None e = rest
     distinct-slot x more once rest (Some s) e = (
@@ -91,7 +91,7 @@ pub some-at : (held : List (Option Session)) (now : ℕ) (slots : List ℕ) → 
 some-at held now slots exactly k lt = due_held (get_or held (slice_index slots k) None) now ((exactly (slice_index slots k)).0 (k, lt, get_or_default slots k (slice_index slots k) 0 lt))
 
 -- where no slot is due, none ends
-pub none-over : (held : List (Option Session)) → IsSound held → (now : ℕ) (slots : List ℕ) → ((slot : ℕ) → Contains slots slot ↔ IsSomeAnd (get_or held slot None) (IsDue now))
+pub none-over : (held : List (Option Session)) → IsSoundTable held → (now : ℕ) (slots : List ℕ) → ((slot : ℕ) → Contains slots slot ↔ IsSomeAnd (get_or held slot None) (IsDue now))
     → AreOnce slots → length slots ≡ 0 → AreOver now (listing held) []
 none-over held sound now [] exactly once none = slots-over held sound now [] exactly once
 none-over held sound now (x ∷ more) exactly once none = absurd (omega (arith, none))

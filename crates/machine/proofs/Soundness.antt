@@ -33,7 +33,7 @@ use Rattle.hairpin.proofs.Opening.{fine-out}
 use Rattle.hairpin.proofs.Soundness.{JoinAll, IsFine, filter-sound}
 use Rattle.machine.specs.Judged.{Judged, AreJudged, IsRight}
 use Rattle.machine.specs.Machine.{State, step, act, with_fields, on_route, leg, sent, aged, later, after, empty_at}
-use Rattle.machine.specs.Sound.{IsInForce, IsSound}
+use Rattle.machine.specs.Sound.{IsInForce, IsSoundState}
 use Rattle.machine.specs.declared.deed.Deed.{Deed}
 use Rattle.machine.specs.declared.deed.Deed.TheVariants as deed
 use Rattle.machine.specs.declared.event.Answer.{Answer}
@@ -67,7 +67,7 @@ comes-to config addr h = elim (or_cases (is_external config addr) (is_inside con
 ]
 
 -- what is done changes nothing, or puts sessions in
-module _ (config : Config) (is_one : is_config config ≡ true) (s : State) (sound : IsSound config s) (P : State × Answer → Type 0)
+module _ (config : Config) (is_one : is_config config ≡ true) (s : State) (sound : IsSoundState config s) (P : State × Answer → Type 0)
     (stays : (a : Answer) → P (s, a))
     (puts : (ts : List Session) (iface : Iface) (bytes : List ℕ) → JoinAll config s.sessions s.clock ts → P (record s { sessions = put_all ts s.sessions }, answer.Forward iface bytes)) where
   sent-by : (bytes : List ℕ) (way : Result Passage Cause) → IsFine config s.sessions s.clock way → P (sent s bytes way)
@@ -114,15 +114,15 @@ put_all-member (t ∷ ts) sessions u is = elim (put_all-member ts (put t session
 ]
 
 module _ (config : Config) (is_one : is_config config ≡ true) where
-  pub aged-sound : (s : State) → IsSound config s → (now : ℕ) → s.clock ≤ now → IsSound config (aged now s)
+  pub aged-sound : (s : State) → IsSoundState config s → (now : ℕ) → s.clock ≤ now → IsSoundState config (aged now s)
   aged-sound s sound now le = record {
     sessions = filter-sound config s.sessions sound.sessions (alive now);
     latest = λ t is. omega (arith, sound.latest t (In-filter (alive now) s.sessions t is).0);
     in_force = sound.in_force;
   }
 
-  act-sound : (s : State) → IsSound config s → (d : Deed) → IsRight config d → IsSound config (act config s d).0
-  act-sound s sound d right = act-by config is_one s sound (λ p. IsSound config p.0) (λ a. sound)
+  act-sound : (s : State) → IsSoundState config s → (d : Deed) → IsRight config d → IsSoundState config (act config s d).0
+  act-sound s sound d right = act-by config is_one s sound (λ p. IsSoundState config p.0) (λ a. sound)
       (λ ts iface bytes joins. record {
         sessions = joins.sound;
         latest = λ u is. elim (put_all-member ts s.sessions u is) [
@@ -134,19 +134,19 @@ module _ (config : Config) (is_one : is_config config ≡ true) where
       d
       (λ text rules e. record { sessions = sound.sessions; latest = sound.latest; in_force = inr (subst (IsRight config) e right) })
 
-  pub step-sound : (s : State) (judged : Judged) → IsRight config judged.deed → IsSound config s → IsSound config (step config s judged).0
+  pub step-sound : (s : State) (judged : Judged) → IsRight config judged.deed → IsSoundState config s → IsSoundState config (step config s judged).0
   unfolding step
   step-sound s judged right sound =
       let now = later s.clock judged.moment in
       act-sound (aged now s) (aged-sound s sound now (later-above s.clock judged.moment)) judged.deed right
 
-  pub run-sound : (s : State) (events : List Event) (judged : List Judged) → AreJudged config events judged → IsSound config s → IsSound config (after config s judged)
+  pub run-sound : (s : State) (events : List Event) (judged : List Judged) → AreJudged config events judged → IsSoundState config s → IsSoundState config (after config s judged)
   run-sound s [] [] are sound = sound
   run-sound s [] (j ∷ more) are sound = absurd are
   run-sound s (event ∷ events) [] are sound = absurd are
   run-sound s (event ∷ events) (j ∷ more) are sound = run-sound (step config s j).0 events more are.1 (step-sound s j are.0.right sound)
 
-pub start-sound : (config : Config) (moment : ℕ) → IsSound config (empty_at moment)
+pub start-sound : (config : Config) (moment : ℕ) → IsSoundState config (empty_at moment)
 start-sound config moment = record {
   sessions = record {
     rises = tt;

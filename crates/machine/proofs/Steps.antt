@@ -13,7 +13,7 @@ use Rattle.ruletree.specs.declared.tree.Spelled.{Spelled}
 use Rattle.sessions.specs.Life.{alive}
 use Rattle.sessions.specs.Listing.{listing}
 use Rattle.sessions.specs.declared.session.Session.{Session}
-use Rattle.sessions.specs.Table.{IsSound as IsHeldSound}
+use Rattle.sessions.specs.Table.{IsSoundTable}
 use Rattle.sessions.proofs.Sets.{Apart-sound, listing-In}
 use Rattle.sessions.specs.Sound.{AreSound}
 use Rattle.hairpin.proofs.Beginning.{listing-none}
@@ -25,7 +25,7 @@ use Rattle.hairpin.specs.declared.plan.Plan.{Plan}
 use Rattle.machine.specs.Core.{Core, IsCore, IsTransition, AddsNoSession, state_of}
 use Rattle.machine.specs.Judged.{Judged}
 use Rattle.machine.specs.Machine.{State, EndsNone, AddsNone, act, aged, later, no_tables, on_route, on_packet, sent, step, with_fields}
-use Rattle.machine.specs.Sound.{IsSound}
+use Rattle.machine.specs.Sound.{IsSoundState}
 use Rattle.machine.specs.Flows.{Flows, IsNoneLater, adds, adds_second}
 use Rattle.machine.specs.declared.deed.Deed.{Deed}
 use Rattle.machine.specs.declared.event.Answer.{Answer}
@@ -34,7 +34,7 @@ use Rattle.machine.proofs.Later.{plan-adds}
 use Rattle.machine.proofs.Soundness.{later-above, start-sound}
 
 -- a plan that leads to no more sessions adds none
-pub plans-few : (external : ℕ) (held : List (Option Session)) (now : ℕ) (bytes : List ℕ) (plan : Plan) (way : Result Passage Cause) → IsHeldSound held → Plans external held now (Ok plan) way
+pub plans-few : (external : ℕ) (held : List (Option Session)) (now : ℕ) (bytes : List ℕ) (plan : Plan) (way : Result Passage Cause) → IsSoundTable held → Plans external held now (Ok plan) way
     → AddsNoSession (λ s. sent s bytes way) held now → adds plan.first + adds_second plan.second ≡ 0
 plans-few external held now bytes plan (Ok passage) sound is few =
     omega (arith, plan-adds external held now plan.first plan.second passage.sessions (Apart-sound held sound) is.sessions, few [] no_tables)
@@ -64,10 +64,10 @@ pub live-sound : (config : Config) (old new : List (Option Session)) (now : ℕ)
 live-sound config old new now e sound = subst (AreSound config) (sym e) (filter-sound config (listing old) sound (alive now))
 
 -- what a sound state says of the slots
-pub latest_held : (config : Config) (text : List ℕ) (rules : Spelled) (clock now : ℕ) (held : List (Option Session)) → IsSound config (state_of text rules held clock) → clock ≤ now → IsNoneLater held now
+pub latest_held : (config : Config) (text : List ℕ) (rules : Spelled) (clock now : ℕ) (held : List (Option Session)) → IsSoundState config (state_of text rules held clock) → clock ≤ now → IsNoneLater held now
 latest_held config text rules clock now held sound le = λ slot s is. omega (arith, sound.latest s (listing-In held s slot is))
 
-pub latest_later : (config : Config) (text : List ℕ) (rules : Spelled) (clock moment now : ℕ) (held : List (Option Session)) → IsSound config (state_of text rules held clock) → now ≡ later clock moment → IsNoneLater held now
+pub latest_later : (config : Config) (text : List ℕ) (rules : Spelled) (clock moment now : ℕ) (held : List (Option Session)) → IsSoundState config (state_of text rules held clock) → now ≡ later clock moment → IsNoneLater held now
 latest_later config text rules clock moment now held sound e = latest_held config text rules clock now held sound (omega (arith, later-above clock moment, e))
 
 pub step-is : (config : Config) (s : State) (judged : Judged) (now : ℕ) (done : State × Answer) → now ≡ later s.clock judged.moment → act config (aged now s) judged.deed ≡ done → step config s judged ≡ done
@@ -92,6 +92,6 @@ pub started : (config : Config) (text : List ℕ) (rules : Spelled) (flows : Flo
     → ((slot : ℕ) → get_or flows.table.held slot None ≡ None) → IsCore config text rules flows moment
 started config text rules flows moment external none_said none_ruled none = record {
   external = external;
-  sound = subst (IsSound config) (sym (ap (λ (c : Core). c.state) (begins config text rules flows.table.held moment none_said none_ruled none))) (start-sound config moment);
+  sound = subst (IsSoundState config) (sym (ap (λ (c : Core). c.state) (begins config text rules flows.table.held moment none_said none_ruled none))) (start-sound config moment);
   live = subst (EndsNone moment) (sym (ap (λ (c : Core). c.state) (begins config text rules flows.table.held moment none_said none_ruled none))) (λ s held. absurd held);
 }

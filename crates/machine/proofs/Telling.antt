@@ -10,7 +10,7 @@ use Rattle.sessions.specs.declared.session.Change as changes
 use Rattle.sessions.specs.declared.session.Change.TheVariants as change
 use Rattle.sessions.specs.declared.session.Opener.{Opener}
 use Rattle.sessions.specs.Stilled.{stilled}
-use Rattle.sessions.specs.Table.{AnyClash, IsSound as IsSoundTable, restarted, seen}
+use Rattle.sessions.specs.Table.{AnyClash, IsSoundTable, restarted, seen}
 use Rattle.sessions.proofs.LifeLemmas.{IsSeen-or}
 use Rattle.sessions.proofs.Puts.{find-is, find-none, flow-keys, has_inside-true, keys-flow}
 use Rattle.sessions.proofs.Sets.{Apart, Apart-sound, In-listing, Rises-listing, listing-In}

@@ -5,7 +5,7 @@ use Rattle.ruletree.specs.declared.tree.Spelled.{Spelled}
 use Rattle.sessions.specs.Listing.{listing}
 use Rattle.sessions.specs.declared.session.Session.{Session}
 use Rattle.machine.specs.Machine.{State, AddsNone, EndsNone}
-use Rattle.machine.specs.Sound.{IsSound}
+use Rattle.machine.specs.Sound.{IsSoundState}
 use Rattle.machine.specs.Flows.{Flows}
 use Rattle.machine.specs.declared.event.Answer.{Answer}
 
@@ -23,7 +23,7 @@ state_of text rules held now =
 pub record IsCore (config : Config) (text : List ℕ) (rules : Spelled) (flows : Flows)
     (clock : ℕ) : Type 0 where
   pub external : flows.translations.external ≡ config.external
-  pub sound : IsSound config (state_of text rules flows.table.held clock)
+  pub sound : IsSoundState config (state_of text rules flows.table.held clock)
   pub live : EndsNone clock (state_of text rules flows.table.held clock)
 
 -- what is done leads from the sessions that were held to those that are held, whatever text and rules

@@ -28,45 +28,45 @@ use Rattle.hairpin.specs.KeepBounds.{KeepBounds}
 use Rattle.hairpin.specs.Legs.{Passage, needs_session, put_all, connection_of}
 use Rattle.machine.specs.Judged.{Judged, AreJudged, IsJudged, IsNoLoad}
 use Rattle.machine.specs.Machine.{State, aged, empty_at, later, leg, step, after}
-use Rattle.machine.specs.Sound.{IsSound}
+use Rattle.machine.specs.Sound.{IsSoundState}
 use Rattle.machine.specs.declared.event.Answer.TheVariants.{Dropped, Forward, Loaded, Refused}
 use Rattle.machine.specs.declared.event.Event.{Event}
 use Rattle.machine.specs.declared.deed.Deed.TheVariants.{Packet, Refuse, Take}
 
 -- a gateway begins sound
 abbrev pub StartIsSound : Type 0
-StartIsSound = (config : Config) (moment : ℕ) → IsSound config (empty_at moment)
+StartIsSound = (config : Config) (moment : ℕ) → IsSoundState config (empty_at moment)
 
 -- and each step keeps it so
 abbrev pub StepsKeepSound : Type 0
 StepsKeepSound =
     (config : Config) (s : State) (event : Event) (judged : Judged) → IsTrue (is_config config)
-    → IsJudged config event judged → IsSound config s
-    → IsSound config (step config s judged).0
+    → IsJudged config event judged → IsSoundState config s
+    → IsSoundState config (step config s judged).0
 
 abbrev pub RunsKeepSound : Type 0
 RunsKeepSound =
     (config : Config) (s : State) (events : List Event) (judged : List Judged)
-    → IsTrue (is_config config) → AreJudged config events judged → IsSound config s
-    → IsSound config (after config s judged)
+    → IsTrue (is_config config) → AreJudged config events judged → IsSoundState config s
+    → IsSoundState config (after config s judged)
 
 -- the clock never falls
 abbrev pub ClockNeverFalls : Type 0
 ClockNeverFalls = (config : Config) (s : State) (judged : Judged) → IsTrue (is_config config)
-    → IsSound config s → s.clock ≤ (step config s judged).0.clock
+    → IsSoundState config s → s.clock ≤ (step config s judged).0.clock
 
 -- no session outlives its timeout
 abbrev pub SessionsAreAlive : Type 0
 SessionsAreAlive =
     (config : Config) (s : State) (judged : Judged) (t : Session) → IsTrue (is_config config)
-    → IsSound config s
+    → IsSoundState config s
     → In t (step config s judged).0.sessions → IsAlive (step config s judged).0.clock t
 
 -- a packet that is dropped changes nothing: only the clock rises, and sessions that are no longer alive end
 abbrev pub DropsChangeNothing : Type 0
 DropsChangeNothing =
     (config : Config) (s : State) (judged : Judged) (number : ℕ) → IsTrue (is_config config)
-    → IsSound config s
+    → IsSoundState config s
     → (step config s judged).1 ≡ Dropped number
     → (step config s judged).0 ≡ aged (later s.clock judged.moment) s
 
@@ -74,7 +74,7 @@ DropsChangeNothing =
 abbrev pub OutsideIsNotShared : Type 0
 OutsideIsNotShared =
     (config : Config) (s : State) (proto : Proto) (inside inside' outside : Endpoint)
-    → IsSound config s
+    → IsSoundState config s
     → IsMapping s.sessions proto inside outside → IsMapping s.sessions proto inside' outside
     → inside ≡ inside'
 
@@ -82,7 +82,7 @@ OutsideIsNotShared =
 abbrev pub InsideMapsOnce : Type 0
 InsideMapsOnce =
     (config : Config) (s : State) (proto : Proto) (inside outside outside' : Endpoint)
-    → IsSound config s
+    → IsSoundState config s
     → IsMapping s.sessions proto inside outside → IsMapping s.sessions proto inside outside'
     → outside ≡ outside'
 
@@ -91,7 +91,7 @@ abbrev pub LivingMappingsStay : Type 0
 LivingMappingsStay =
     (config : Config) (s : State) (judged : Judged) (proto : Proto) (inside outside : Endpoint)
     (mapping : IsMapping s.sessions proto inside outside)
-    → IsTrue (is_config config) → IsSound config s
+    → IsTrue (is_config config) → IsSoundState config s
     → IsAlive (later s.clock judged.moment) mapping.session
     → IsMapping (step config s judged).0.sessions proto inside outside
 
@@ -121,7 +121,7 @@ LetsPass config s view iif oif src dst connection =
 abbrev pub AnswersComeIn : Type 0
 AnswersComeIn =
     (config : Config) (s : State) (judged : Judged) (bytes : List ℕ) (view : View) (t : Session)
-    → IsSound config s
+    → IsSoundState config s
     → In t s.sessions → IsAlive (later s.clock judged.moment) t
     → Came config judged Wan bytes view InRoute
     → HasOutside view.proto view.dst view.src t
@@ -132,7 +132,7 @@ AnswersComeIn =
 abbrev pub SessionsGoOut : Type 0
 SessionsGoOut =
     (config : Config) (s : State) (judged : Judged) (bytes : List ℕ) (view : View) (t : Session)
-    → IsSound config s
+    → IsSoundState config s
     → In t s.sessions → IsAlive (later s.clock judged.moment) t
     → Came config judged Lan bytes view Out
     → HasInside view.proto view.src view.dst t
@@ -145,7 +145,7 @@ abbrev pub MappingsAreReused : Type 0
 MappingsAreReused =
     (config : Config) (s : State) (judged : Judged) (bytes : List ℕ) (view : View)
     (outside : Endpoint) (mapping : IsMapping s.sessions view.proto view.src outside)
-    → IsSound config s → IsAlive (later s.clock judged.moment) mapping.session
+    → IsSoundState config s → IsAlive (later s.clock judged.moment) mapping.session
     → Came config judged Lan bytes view Out
     → ((u : Session) → In u s.sessions → IsAlive (later s.clock judged.moment) u
     → ¬ HasInside view.proto view.src view.dst u)
@@ -188,7 +188,7 @@ LoadsTakeForce =
 abbrev pub OnlyLoadsChangeRules : Type 0
 OnlyLoadsChangeRules =
     (config : Config) (s : State) (event : Event) (judged : Judged) → IsTrue (is_config config)
-    → IsSound config s → IsJudged config event judged → IsNoLoad event.what
+    → IsSoundState config s → IsJudged config event judged → IsNoLoad event.what
     → ((step config s judged).0.text ≡ s.text) × ((step config s judged).0.rules ≡ s.rules)
 
 -- the rules of a text that loads send packets to inside addresses alone, never from a port above 0 to port 0, and let

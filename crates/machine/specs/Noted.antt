@@ -11,7 +11,7 @@ use Rattle.packet.specs.declared.view.View.{View}
 use Rattle.ruletree.specs.declared.tree.Spelled.{Spelled}
 use Rattle.sessions.specs.Life.{alive, same_side}
 use Rattle.sessions.specs.Listing.{In, put, same_flow}
-use Rattle.sessions.specs.Stilled.{moved, stilled}
+use Rattle.sessions.specs.Stilled.{at_moment, stilled}
 use Rattle.sessions.specs.declared.session.Session.{Session}
 use Rattle.hairpin.specs.Legs.{Passage}
 use Rattle.hairpin.specs.declared.cause.Cause.{Cause}
@@ -135,7 +135,7 @@ AreEntriesOfAll config s (judged ∷ more) entries =
 -- ---- a state that is begun again from what is durable
 
 pub record IsResumed (config : Config) (d : Durable) (moment : ℕ) (s : State) : Type 0 where
-  pub sessions : s.sessions ≡ map (moved moment) d.sessions
+  pub sessions : s.sessions ≡ map (at_moment moment) d.sessions
   pub text : s.text ≡ d.text
   pub clock : s.clock ≡ moment
   pub rules : IsInForce config s.text s.rules

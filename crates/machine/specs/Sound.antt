@@ -14,7 +14,7 @@ abbrev pub IsInForce : Config → List ℕ → Spelled → Type 0
 IsInForce config text rules = ((text ≡ []) × (rules ≡ no_tables)) ⊎ Loads config text rules
 
 -- what every state keeps
-pub record IsSound (config : Config) (state : State) : Type 0 where
+pub record IsSoundState (config : Config) (state : State) : Type 0 where
   pub sessions : AreSound config state.sessions
   pub latest : (s : Session) → In s state.sessions → s.last ≤ state.clock
   pub in_force : IsInForce config state.text state.rules

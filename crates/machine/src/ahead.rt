@@ -1,7 +1,7 @@
 //! Looking ahead: the memory that packets and ends of sessions are going to read is fetched before, for several of them
 //! at once; none is allocated. Nothing rests on what is told here but time.
-use hairpin::translations::Translations;
-use packet::endpoint::{Endpoint, Proto};
+use hairpin::Translations;
+use packet::{Endpoint, Proto};
 use sessions::{Coming, MOST_AHEAD, Session, Slot, Table};
 
 /// How many slots are too many for a processor's near caches to hold their sessions, with all that leads to them.

@@ -32,11 +32,7 @@ use hairpin::{
     Cause, Going, Plan, comes_in, comes_in_showing, goes_out, goes_out_showing, hairpin_leg,
     in_leg, out_leg,
 };
-use packet::bounds::Bounds;
-use packet::endpoint::Iface;
-use packet::rewriting::rewrite;
-use packet::route::Route;
-use packet::view::View;
+use packet::{Bounds, Iface, Route, View, rewrite};
 use sessions::is_syn_alone;
 use verdict::Rules;
 

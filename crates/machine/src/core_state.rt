@@ -21,7 +21,7 @@ ghost use Rattle.durable.specs.Entering.{IsDurable, durable};
 ghost use Rattle.machine.specs.Noted.{AreEntriesOf, AreOver, IsResumed, ends, of_deed, of_fields};
 ghost use Rattle.machine.specs.Sizes.{most_bytes};
 ghost use Rattle.sessions.specs.declared.session.Session.{Session};
-ghost use Rattle.machine.specs.Sound.{IsInForce, IsSound};
+ghost use Rattle.machine.specs.Sound.{IsInForce, IsSoundState};
 ghost use Rattle.machine.specs.Flows.{IsNoneLater, TakesMore};
 ghost use Rattle.machine.specs.declared.event.Answer.TheVariants.{Forward};
 ghost use Rattle.machine.specs.declared.event.What.TheVariants.{Packet};
@@ -35,8 +35,7 @@ use crate::fault::{NoMemory, StepFault};
 use crate::flows::Flows;
 use crate::in_force::{InForce, in_force_again, note_load, put_in_force};
 use crate::notes::{MOST_OF_PACKET, Notes, Unkept};
-use packet::bounds::Bounds;
-use packet::endpoint::Iface;
+use packet::{Bounds, Iface};
 use sessions::{Coming, MOST_AHEAD, Session};
 use std::alloc::Global;
 use std::marker::Model;
@@ -332,7 +331,7 @@ impl Core {
     /// facts.
     pub fn facts(&self)
         ensures config { IsTrue (is_config self.now.config) }
-        ensures sound { IsSound self.now.config self.now.state }
+        ensures sound { IsSoundState self.now.config self.now.state }
     {
         self.bounds.facts();
         // What the flows keep is known once the field is read.

@@ -1,6 +1,6 @@
 //! What comes in and what goes out: events, and their answers.
 use crate::bytes::Bytes;
-use packet::endpoint::Iface;
+use packet::Iface;
 
 /// What an event brings.
 #[derive(Drop)]

@@ -15,8 +15,8 @@ ghost use Rattle.std.specs.Option.{option_map};
 ghost use Rattle.sessions.specs.Life.{IsSeen, IsTimeout, alive, timeout_of};
 ghost use Rattle.sessions.specs.Listing.{In, listing, put};
 ghost use Rattle.sessions.specs.Sound.{AreSound};
-ghost use Rattle.sessions.specs.Stilled.{moved};
-ghost use Rattle.sessions.specs.Table.{at, Updates, IsSound, seen as seen_with, restarted};
+ghost use Rattle.sessions.specs.Stilled.{at_moment};
+ghost use Rattle.sessions.specs.Table.{at, Updates, IsSoundTable, seen as seen_with, restarted};
 ghost use Rattle.sessions.specs.declared.session.Session.{Session};
 ghost use Rattle.timers.specs.Due.{AreOnce, at as idle_at, IsLatest as IsLatestIdle, Updates as IdleUpdates};
 ghost use Rattle.mappings.specs.declared.map.Mapping.{Mapping};
@@ -36,9 +36,8 @@ use crate::noting::{
     adds_any, entry_for, flow_of, make_room_for_packet, makes_entry, note, plan_makes_entry,
 };
 use durable::Entry;
-use hairpin::translations::Translations;
-use hairpin::{Going, Plan};
-use packet::bounds::Bounds;
+use hairpin::{Going, Plan, Translations};
+use packet::Bounds;
 use sessions::{Change, Coming, MOST_AHEAD, Opener, Session, Slot, Table};
 use std::alloc::{AllocError, Global};
 use std::marker::Model;
@@ -101,7 +100,7 @@ impl Flows {
     ) -> Result<Flows, AllocError>
         requires { AreSound bounds.now sessions.now }
         ensures sessions { IfOk result (λ f. listing f.table.held
-            ≡ map (moved moment) sessions.now) }
+            ≡ map (at_moment moment) sessions.now) }
         ensures external { IfOk result (λ f. f.translations.external ≡ bounds.now.external) }
     {
         let mut flows = Flows::new(alloc, bounds.external())?;
@@ -191,7 +190,7 @@ impl Flows {
         ensures exactly { IfOk result (λ slots. (slot : ℕ)
             → Contains slots.items slot ↔ IsSomeAnd (at self.now.table slot) (IsDue now)) }
         ensures once { IfOk result (λ slots. AreOnce slots.items) }
-        ensures sound { IsSound self.now.table.held }
+        ensures sound { IsSoundTable self.now.table.held }
         ensures succeeds { ((slot : ℕ) → ¬ IsSomeAnd (at self.now.table slot) (IsDue now))
             → IsOk result }
     {
@@ -626,7 +625,7 @@ impl Flows {
             → at self.new.table (slice_index slots.now k) ≡ None }
         ensures others { (slot : ℕ) → ¬ Contains slots.now slot
             → at self.new.table slot ≡ at self.old.table slot }
-        ensures sound { IsSound self.new.table.held }
+        ensures sound { IsSoundTable self.new.table.held }
         ensures ready { (n : ℕ) → TakesMore n self.old → TakesMore n self.new }
         ensures external { self.new.translations.external ≡ self.old.translations.external }
         ensures keeps { N.keeps notes.old ↔ N.keeps notes.new }

@@ -9,7 +9,7 @@ use crate::deed::rules_of;
 use crate::fault::{NoMemory, StepFault};
 use crate::notes::Notes;
 use durable::{Entry, LOAD_FRONT_LEN};
-use packet::bounds::Bounds;
+use packet::Bounds;
 use sqlite_items::Boxed;
 use std::alloc::Global;
 use verdict::Rules;

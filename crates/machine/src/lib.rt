@@ -41,5 +41,5 @@ pub use event::{Answer, Event, Fate, What};
 pub use fault::{NoMemory, StepFault};
 pub use hairpin::Cause;
 pub use notes::{Notes, Unkept};
-pub use packet::endpoint::Iface;
+pub use packet::Iface;
 pub use sessions::{Coming, MOST_AHEAD, Session};

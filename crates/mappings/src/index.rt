@@ -7,8 +7,8 @@ ghost use Rattle.mappings.specs.Map.{times_in, mapping, GainsIn, KeepsOneToOneIn
 ghost use Rattle.mappings.specs.Indexed.{IsIndexed, held_in, room_in};
 
 use crate::map::{Counted, Mapping};
-use buckets::by_port::ByPort;
-use packet::endpoint::{Endpoint, Proto, mapping_key};
+use buckets::ByPort;
+use packet::{Endpoint, Proto, mapping_key};
 use slab::Slab;
 use std::alloc::AllocError;
 

@@ -17,4 +17,6 @@
 #![tactic(auto)]
 
 mod index;
-pub mod map;
+mod map;
+
+pub use map::{Counted, Map, Mapping};

@@ -5,8 +5,8 @@ ghost use Rattle.mappings.specs.declared.map.Mapping.{Mapping};
 ghost use Rattle.mappings.specs.Map.{times, mapping, KeepsOneToOne, IsOneToOne, Gains, SameTimes};
 
 use crate::index::{Index, add, find_inside, find_outside, reserve, seems_held, take_one};
-use buckets::by_port::ByPort;
-use packet::endpoint::{Endpoint, Proto};
+use buckets::ByPort;
+use packet::{Endpoint, Proto};
 use slab::Slab;
 use std::alloc::{AllocError, Global};
 use std::marker::Model;

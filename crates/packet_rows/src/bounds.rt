@@ -1,10 +1,6 @@
 //! Configurations, the routes between their interfaces, and counted steps.
 use crate::shared::{EXTERNAL, HOST, SERVER, endpoint};
-use packet::bounds::{Bounds, ConfigFault};
-use packet::endpoint::{Flags, Iface, Prefix, Proto};
-use packet::route::{Route, RouteFault};
-use packet::steps::Steps;
-use packet::view::View;
+use packet::{Bounds, ConfigFault, Flags, Iface, Prefix, Proto, Route, RouteFault, Steps, View};
 use std::alloc::Global;
 use std::process::Abort;
 use std::test::*;

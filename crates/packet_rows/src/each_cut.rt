@@ -2,8 +2,7 @@
 use crate::leaving::{COMES_TO_ZERO, NEIGHBOUR, OPTIONS_AND_ODD};
 use crate::shared::{SYN, UDP};
 use crate::sums::sum_header;
-use packet::fault::Fault;
-use packet::view::View;
+use packet::{Fault, View};
 use std::process::Abort;
 use std::test::*;
 

@@ -1,6 +1,6 @@
 //! Packets that leave with other endpoints.
 use crate::shared::{EXTERNAL, HOST, SERVER, SYN, changed, endpoint, is_rewritten};
-use packet::endpoint::Endpoint;
+use packet::Endpoint;
 use std::test::*;
 
 const UDP_OUT: [u8; 28] = [

@@ -1,8 +1,6 @@
 //! The fields of packets, and their faults.
 use crate::shared::{HOST, SERVER, SYN, UDP, changed, endpoint};
-use packet::endpoint::{Flags, Proto};
-use packet::fault::Fault;
-use packet::view::View;
+use packet::{Fault, Flags, Proto, View};
 use std::test::*;
 
 const EMPTY: [u8; 0] = [];

@@ -1,7 +1,5 @@
 //! Two packets and their endpoints, for the other rows.
-use packet::endpoint::Endpoint;
-use packet::rewriting::rewrite;
-use packet::view::View;
+use packet::{Endpoint, View, rewrite};
 
 pub const HOST: u32 = 0xc0a80102;
 

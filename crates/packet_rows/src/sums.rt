@@ -1,8 +1,6 @@
 //! The checksums of packets that leave, against whole sums: each made anew here, over every byte.
 use crate::shared::{EXTERNAL, HOST, SERVER, endpoint, is_rewritten};
-use packet::endpoint::{Endpoint, Proto};
-use packet::fault::Fault;
-use packet::view::View;
+use packet::{Endpoint, Fault, Proto, View};
 use std::test::*;
 
 fn total(bytes: &[u8]) -> u64 {

@@ -7,8 +7,7 @@ ghost use Rattle.portpick.specs.Choice.{IsAlike, IsNearest, AllTaken, IsTestOf, 
 ghost use Rattle.portpick.specs.Words.{AreFresh, fresh_word, lane_words};
 
 use crate::lanes::{clear_port, has_port, nearest_free, set_port};
-use packet::endpoint::Proto;
-use packet::steps::Steps;
+use packet::{Proto, Steps};
 use std::alloc::{AllocError, Global};
 use std::marker::Model;
 

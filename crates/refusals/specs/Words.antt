@@ -2,7 +2,7 @@
 use Rattle.std.specs.Prelude.{◌≡◌, ◌⊎◌, ℕ, Bool, List, Option, None, Some, ◌++◌, ◌&&◌, nat_lt, length, codes, option_map, string_bytes, if◌then◌else◌}
 use Rattle.std.specs.List.{list_all}
 use Rattle.std.specs.declared.io.ErrorKind.{ErrorKind}
-use Rattle.std.specs.declared.io.ErrorKind.TheVariants as kind
+use Rattle.std.specs.declared.io.ErrorKind.TheVariants as error_kind
 use Rattle.refusals.specs.declared.refusal.Refusal.{Refusal}
 use Rattle.refusals.specs.declared.refusal.Refusal.TheVariants as refusal
 use Rattle.refusals.specs.declared.stop.Stop.{Stop}
@@ -40,9 +40,11 @@ sentence_of refusal.Damaged =
     codes "natgw.a and natgw.b hold what natgw didn't write: put both back from one backup, or name another directory"
 sentence_of refusal.ConfigDiffers =
     codes "the files were written with another configuration: start natgw with that one, or name another directory"
-sentence_of refusal.Generations = codes "the files can't be made anew any more: name a new directory"
+sentence_of refusal.Generations =
+    codes "the files can't be made anew any more: name a new directory"
 sentence_of refusal.NoMemory = codes "memory was refused: allow natgw more, and start again"
-sentence_of refusal.Reopen = codes "a read, write or sync of natgw.a or natgw.b failed before: start again"
+sentence_of refusal.Reopen =
+    codes "a read, write or sync of natgw.a or natgw.b failed before: start again"
 sentence_of refusal.NumbersOut = codes "the last event had the greatest number: start again"
 sentence_of refusal.BadKind =
     codes "the first byte of a request is none of 1, 2 and 3: correct what sends the requests"
@@ -71,7 +73,7 @@ second_line stop = advised stop.refusal (option_map string_bytes stop.advice)
 
 -- of a call of the system on a path
 abbrev pub path_refusal : ErrorKind → Refusal
-path_refusal kind.OutOfMemory = refusal.NoMemory
+path_refusal error_kind.OutOfMemory = refusal.NoMemory
 path_refusal _ = refusal.File
 
 -- what may be the matter with a path

@@ -1,12 +1,12 @@
 //! Texts of one's own, packets, and what they come to by the rules of reading.
 use crate::shared::{EXTERNAL, Loaded, bounds, load_rules};
-use packet::endpoint::{Endpoint, Iface, Prefix, Proto};
+use packet::{Endpoint, Iface, Prefix, Proto};
 use std::alloc::{AllocError, Global};
 use std::process::Abort;
 use std::test::Fail;
-use verdict::facts::{Facts, State};
-use verdict::hook::{
-    Destination, Forwarding, Source, forward, forward_counted, postrouting, prerouting,
+use verdict::{
+    Destination, Facts, Forwarding, Source, State, forward, forward_counted, postrouting,
+    prerouting,
 };
 
 const HOST: u32 = 0xc0a80102;

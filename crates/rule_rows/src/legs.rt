@@ -7,13 +7,8 @@ ghost use Rattle.hairpin.specs.KeepBounds.{KeepBounds};
 ghost use Rattle.sessions.specs.Sound.{AreSound};
 ghost use Rattle.hairpin.specs.Tallies.{tally};
 
-use hairpin::translations::Translations;
-use hairpin::{Cause, Plan, hairpin_leg, in_leg, out_leg};
-use packet::bounds::Bounds;
-use packet::endpoint::{Endpoint, Flags, Iface, Prefix, Proto};
-use packet::fault::Fault;
-use packet::route::RouteFault;
-use packet::view::View;
+use hairpin::{Cause, Plan, Translations, hairpin_leg, in_leg, out_leg};
+use packet::{Bounds, Endpoint, Fault, Flags, Iface, Prefix, Proto, RouteFault, View};
 use sessions::{Change, Opener, Session, Table};
 use std::alloc::{AllocError, Global};
 use std::process::Abort;

@@ -1,6 +1,6 @@
 //! Reports of wrong texts.
 use crate::shared::bounds;
-use packet::endpoint::Prefix;
+use packet::Prefix;
 use ruletext::read;
 use std::alloc::{AllocError, Global};
 use std::process::Abort;

@@ -1,11 +1,10 @@
 //! Configurations, and the rules of a text.
-use packet::bounds::Bounds;
-use packet::endpoint::Prefix;
-use rulesets::load::load;
+use packet::{Bounds, Prefix};
+use rulesets::load;
 use rulesyntax::parse;
 use std::alloc::Global;
 use std::test::Fail;
-use verdict::rules::Rules;
+use verdict::Rules;
 
 /// The outside address of each configuration.
 pub const EXTERNAL: u32 = 0xcb00_7101;

@@ -8,7 +8,7 @@ use Rattle.ruletree.specs.declared.tree.Hook.{Hook}
 use Rattle.ruletree.specs.declared.tree.Hook.TheVariants.{Prerouting, Forward, Output, Postrouting}
 use Rattle.ruletree.specs.declared.tree.Base.{Base}
 use Rattle.ruletree.specs.declared.tree.End.{End}
-use Rattle.ruletree.specs.declared.tree.End.TheVariants as ends
+use Rattle.ruletree.specs.declared.tree.End.TheVariants as end
 use Rattle.ruletree.specs.declared.tree.Rule.{Rule}
 use Rattle.ruletree.specs.declared.tree.Chain.{Chain}
 use Rattle.rulesets.specs.declared.hooks.Translation.{Translation}
@@ -30,7 +30,8 @@ may_stand Filter _ = true
 may_stand Nat Forward = false
 may_stand Nat _ = true
 
--- the destination is translated before routing, or of the gateway's own packets; the source behind it, or of packets for the gateway; masquerading behind it alone
+-- the destination is translated before routing, or of the gateway's own packets; the source behind it, or of packets
+-- for the gateway; masquerading behind it alone
 abbrev pub may_translate : Translation → Hook → Bool
 may_translate Destination Prerouting = true
 may_translate Destination Output = true
@@ -48,9 +49,9 @@ forbids wrong.Hook translation base = is_nat base.kind && not (may_translate tra
 forbids wrong.Type translation base = not (is_nat base.kind)
 
 abbrev pub ends_in : Translation → End → Bool
-ends_in Destination (ends.Dnat dnat) = true
-ends_in Source (ends.Snat snat) = true
-ends_in Masquerade (ends.Masquerade line) = true
+ends_in Destination (end.Dnat dnat) = true
+ends_in Source (end.Snat snat) = true
+ends_in Masquerade (end.Masquerade line) = true
 ends_in _ _ = false
 
 abbrev pub translates : Translation → Rule → Bool

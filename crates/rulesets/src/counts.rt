@@ -4,8 +4,7 @@ ghost use Rattle.std.specs.Prelude.{◌≡◌, min, length, sum_by, is_some, IfO
 ghost use Rattle.rulesets.specs.Counts.{elements_of_side, pairs_of, elements_of_rule, elements_of_set, elements_of_table, rules_of_table, is_much};
 
 use crate::excess::line_of_excess;
-use ruletree::line::Line;
-use ruletree::tree::{Chain, End, Match, Rule, Set, SetElements, Side, Table};
+use ruletree::{Chain, End, Line, Match, Rule, Set, SetElements, Side, Table};
 use std::alloc::{AllocError, Global};
 
 /// The most chains of a text.

@@ -8,8 +8,7 @@ ghost use Rattle.rulesets.specs.Duplicate.{has_twice, is_of, names_in, has_line_
 use crate::earlier::earlier;
 use crate::named::Named;
 use crate::names::Names;
-use ruletree::line::Line;
-use ruletree::tree::{Family, Set, SetElements, SetType, Table};
+use ruletree::{Family, Line, Set, SetElements, SetType, Table};
 use std::alloc::{AllocError, Global};
 
 // The first thing whose name stands before it, by names of which none is known yet.

@@ -1,8 +1,7 @@
 //! Where a text has one chain, rule or element too many.
 
 use crate::counts::{CHAINS, ELEMENTS, RULES};
-use ruletree::line::Line;
-use ruletree::tree::{Chain, Element, End, Match, Pair, Rule, Set, Side, Table};
+use ruletree::{Chain, Element, End, Line, Match, Pair, Rule, Set, Side, Table};
 use std::alloc::{AllocError, Global};
 
 // The line of the first chain that is one too many.

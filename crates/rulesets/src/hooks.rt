@@ -11,9 +11,8 @@ ghost use Rattle.rulesets.specs.Hooks.{is_nat, may_stand, may_translate, forbids
 
 use crate::earlier::earlier;
 use crate::graph::graph_of;
-use digraph::reach::mark_reached;
-use ruletree::line::Line;
-use ruletree::tree::{Base, Chain, ChainType, End, Hook, Rule, Table};
+use digraph::mark_reached;
+use ruletree::{Base, Chain, ChainType, End, Hook, Line, Rule, Table};
 use sqlite_items::Items;
 use std::alloc::{AllocError, Global};
 

@@ -3,7 +3,7 @@
 //! `refusal_of` answers the least kind of fault that holds of rules, with the line, and `load` the rules as a `Ruleset`
 //! where none holds. Where a function answers an `AllocError`, a growth was refused, and nothing else is wrong.
 //!
-//! - `load`, `ruleset`: from what a text spells to rules that may run.
+//! - `loading`, `ruleset`: from what a text spells to rules that may run.
 //! - `refusal`: the kinds in the order in which they count. Which of them hold is told by `unknown`,
 //!   `duplicate`, `loops`, `hooks`, `types`, `places`, `counts` and `overlap`.
 //! - `class`, `parts`: the classes of values, and the parts of sets that values stand for.
@@ -14,7 +14,7 @@
 #![tactic(auto)]
 
 mod calls;
-pub mod class;
+mod class;
 mod counts;
 mod duplicate;
 mod earlier;
@@ -22,17 +22,20 @@ mod excess;
 mod graph;
 mod hooks;
 mod lines;
-pub mod load;
+mod loading;
 mod loops;
 mod named;
 mod names;
 mod overlap;
-pub mod parts;
+mod parts;
 mod places;
-pub mod refusal;
-pub mod ruleset;
+mod refusal;
+mod ruleset;
 mod types;
 mod unknown;
 
+pub use class::{Class, class_in, class_of, protocol_named, service_named, state_named};
+pub use loading::load;
+pub use parts::part_of;
 pub use refusal::refusal_of;
 pub use ruleset::Ruleset;

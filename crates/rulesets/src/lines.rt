@@ -8,9 +8,8 @@ use crate::calls::place_led_to;
 use crate::graph::graph_of;
 use crate::named::names_of;
 use crate::names::Names;
-use digraph::strong::components_of;
-use ruletree::line::Line;
-use ruletree::tree::{Chain, End, Pair, Rule, Verdict};
+use digraph::components_of;
+use ruletree::{Chain, End, Line, Pair, Rule, Verdict};
 use sqlite_items::Items;
 use std::alloc::{AllocError, Global};
 

@@ -7,9 +7,8 @@ ghost use Rattle.rulesets.specs.Calls.{OfSome, IsLooped, IsDeep, AreDistinct};
 
 use crate::graph::graph_of;
 use crate::lines::{line_of_depth, line_of_loop};
-use digraph::nesting::{has_loop, is_deeper};
-use ruletree::line::Line;
-use ruletree::tree::{Chain, Table};
+use digraph::{has_loop, is_deeper};
+use ruletree::{Chain, Line, Table};
 use std::alloc::{AllocError, Global};
 
 // Whether some chain of a table reaches itself.

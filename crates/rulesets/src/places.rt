@@ -7,9 +7,8 @@ ghost use Rattle.rulesets.specs.Places.{is_misled, some_end_in};
 ghost use Rattle.packet.specs.Config.{is_external, is_inside};
 
 use crate::hooks::Translation;
-use packet::bounds::Bounds;
-use ruletree::line::Line;
-use ruletree::tree::{Chain, Dnat, End, Rule, Snat, Table};
+use packet::Bounds;
+use ruletree::{Chain, Dnat, End, Line, Rule, Snat, Table};
 
 fn misled_source(bounds: &Bounds, snat: &Snat) -> Option<Line>
     ensures { is_some result ≡ not (is_external bounds.now snat.now.address) }

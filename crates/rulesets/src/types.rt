@@ -15,9 +15,8 @@ use crate::earlier::earlier;
 use crate::hooks::{Wrong, forbidden_translation};
 use crate::named::names_of;
 use crate::names::Names;
-use ruletree::line::Line;
-use ruletree::tree::{
-    Chain, Element, End, Match, Pair, Rule, Set, SetElements, SetName, Side, Table,
+use ruletree::{
+    Chain, Element, End, Line, Match, Pair, Rule, Set, SetElements, SetName, Side, Table,
 };
 use std::alloc::{AllocError, Global};
 

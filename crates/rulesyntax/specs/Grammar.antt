@@ -137,7 +137,8 @@ HeadIs Iifname ts rest = MayMeta (codes "iifname") ts rest ⊎ MayMeta (codes "i
 HeadIs Oifname ts rest = MayMeta (codes "oifname") ts rest ⊎ MayMeta (codes "oif") ts rest
 HeadIs Saddr ts rest = ts ≡ Name (codes "ip") ∷ Name (codes "saddr") ∷ rest
 HeadIs Daddr ts rest = ts ≡ Name (codes "ip") ∷ Name (codes "daddr") ∷ rest
-HeadIs Protocol ts rest = (ts ≡ Name (codes "ip") ∷ Name (codes "protocol") ∷ rest) ⊎ (ts ≡ Name (codes "meta") ∷ Name (codes "l4proto") ∷ rest)
+HeadIs Protocol ts rest = (ts ≡ Name (codes "ip") ∷ Name (codes "protocol") ∷ rest)
+    ⊎ (ts ≡ Name (codes "meta") ∷ Name (codes "l4proto") ∷ rest)
 HeadIs (Sport t) ts rest = ts ≡ Name (transport_name t) ∷ Name (codes "sport") ∷ rest
 HeadIs (Dport t) ts rest = ts ≡ Name (transport_name t) ∷ Name (codes "dport") ∷ rest
 HeadIs State ts rest = ts ≡ Name (codes "ct") ∷ Name (codes "state") ∷ rest
@@ -169,7 +170,8 @@ MatchIs m ts rest = (a b : Tokens) × HeadIs m.head ts a × OperatorIs m.negated
 
 abbrev pub CounterIs : Tokens → Tokens → Type 0
 CounterIs ts rest = (ts ≡ Name (codes "counter") ∷ rest)
-    ⊎ ((packets bytes : ℕ) × (ts ≡ Name (codes "counter") ∷ Name (codes "packets") ∷ Number packets ∷ Name (codes "bytes") ∷ Number bytes ∷ rest))
+    ⊎ ((packets bytes : ℕ) × (ts ≡ Name (codes "counter") ∷ Name (codes "packets") ∷ Number packets
+    ∷ Name (codes "bytes") ∷ Number bytes ∷ rest))
 
 pub data Part : Type 0 where
   counter : Part
@@ -185,11 +187,13 @@ matches_of (counter ∷ parts) = matches_of parts
 matches_of (test m ∷ parts) = m ∷ matches_of parts
 
 abbrev pub VmapIs : Spelling Vmap
-VmapIs v ts rest = (a : Tokens) × HeadIs v.head ts (Name (codes "vmap") ∷ a) × Braces PairIs v.pairs a rest
+VmapIs v ts rest = (a : Tokens) × HeadIs v.head ts (Name (codes "vmap") ∷ a)
+    × Braces PairIs v.pairs a rest
 
 -- perhaps with `ip` before it
 abbrev pub ToIs : Spelling ℕ
-ToIs address ts rest = (ts ≡ Name (codes "to") ∷ Address address ∷ rest) ⊎ (ts ≡ Name (codes "ip") ∷ Name (codes "to") ∷ Address address ∷ rest)
+ToIs address ts rest = (ts ≡ Name (codes "to") ∷ Address address ∷ rest)
+    ⊎ (ts ≡ Name (codes "ip") ∷ Name (codes "to") ∷ Address address ∷ rest)
 
 abbrev pub PortIs : Spelling (Option ℕ)
 PortIs None ts rest = ts ≡ rest
@@ -198,7 +202,8 @@ PortIs (Some port) ts rest = (ts ≡ Symbol Colon ∷ Number port ∷ rest) × (
 abbrev pub EndIs : Spelling End
 EndIs (end.Verdict v) ts rest = VerdictIs v ts rest
 EndIs (end.Vmap v) ts rest = VmapIs v ts rest
-EndIs (end.Dnat d) ts rest = (a b : Tokens) × (ts ≡ Name (codes "dnat") ∷ a) × ToIs d.address a b × PortIs d.port b rest
+EndIs (end.Dnat d) ts rest = (a b : Tokens) × (ts ≡ Name (codes "dnat") ∷ a)
+    × ToIs d.address a b × PortIs d.port b rest
 EndIs (end.Snat s) ts rest = (a : Tokens) × (ts ≡ Name (codes "snat") ∷ a) × ToIs s.address a rest
 EndIs (end.Masquerade line) ts rest = ts ≡ Name (codes "masquerade") ∷ rest
 
@@ -243,7 +248,8 @@ PriorityIs z ts rest = PlusIs (pos 0) z ts rest
 -- the policy aside
 abbrev pub BaseIs : Spelling Base
 BaseIs b ts rest = (a : Tokens)
-    × (ts ≡ Name (codes "type") ∷ Name (type_name b.kind) ∷ Name (codes "hook") ∷ Name (hook_name b.hook) ∷ Name (codes "priority") ∷ a)
+    × (ts ≡ Name (codes "type") ∷ Name (type_name b.kind) ∷ Name (codes "hook")
+    ∷ Name (hook_name b.hook) ∷ Name (codes "priority") ∷ a)
     × PriorityIs b.priority a rest
 
 pub data Member : Type 0 where
@@ -263,7 +269,13 @@ MemberIs (rule_member r) ts rest = RuleIs r ts rest
 abbrev pub AreMembers : List Member → Option Base → List Rule → Type 0
 AreMembers (comment_member ∷ members) b rules = AreMembers members b rules
 AreMembers (base_member x ∷ policy_member p ∷ members) b rules =
-    (b ≡ Some (record { line = tt; kind = x.kind; hook = x.hook; priority = x.priority; policy = p }))
+    (b ≡ Some (record {
+      line = tt;
+      kind = x.kind;
+      hook = x.hook;
+      priority = x.priority;
+      policy = p;
+    }))
     × (members ≡ map rule_member rules)
 AreMembers (base_member x ∷ members) b rules = (b ≡ Some x) × (members ≡ map rule_member rules)
 AreMembers members b rules = (b ≡ None) × (members ≡ map rule_member rules)
@@ -288,8 +300,10 @@ pub data SetLine : Type 0 where
 
 abbrev pub SetLineIs : Spelling SetLine
 SetLineIs (type_line t) ts rest = ts ≡ Name (codes "type") ∷ Name t.name ∷ rest
-SetLineIs (elements_line e) ts rest = (a : Tokens) × (ts ≡ Name (codes "elements") ∷ Symbol Equal ∷ a) × Braces ElementIs e.elements a rest
-SetLineIs (flags_line flags) ts rest = (a : Tokens) × (ts ≡ Name (codes "flags") ∷ a) × Entries FlagIs false flags a rest
+SetLineIs (elements_line e) ts rest = (a : Tokens)
+    × (ts ≡ Name (codes "elements") ∷ Symbol Equal ∷ a) × Braces ElementIs e.elements a rest
+SetLineIs (flags_line flags) ts rest = (a : Tokens) × (ts ≡ Name (codes "flags") ∷ a)
+    × Entries FlagIs false flags a rest
 SetLineIs merge_line ts rest = ts ≡ Name (codes "auto-merge") ∷ rest
 SetLineIs comment_line ts rest = CommentIs ts rest
 

@@ -12,7 +12,7 @@ use Rattle.ruletree.specs.declared.tree.Hook.TheVariants as hook
 use Rattle.ruletree.specs.declared.tree.Policy.{Policy}
 use Rattle.ruletree.specs.declared.tree.Policy.TheVariants as policy
 use Rattle.rulesyntax.specs.declared.keyword.PriorityName.{PriorityName}
-use Rattle.rulesyntax.specs.declared.keyword.PriorityName.TheVariants as priority
+use Rattle.rulesyntax.specs.declared.keyword.PriorityName.TheVariants as priority_names
 use Rattle.ruletree.specs.declared.tree.Transport.{Transport}
 use Rattle.ruletree.specs.declared.tree.Transport.TheVariants as transport
 
@@ -40,12 +40,12 @@ policy_name policy.Accept = codes "accept"
 policy_name policy.Drop = codes "drop"
 
 abbrev pub priority_name : PriorityName → List ℕ
-priority_name priority.Raw = codes "raw"
-priority_name priority.Mangle = codes "mangle"
-priority_name priority.Dstnat = codes "dstnat"
-priority_name priority.Filter = codes "filter"
-priority_name priority.Security = codes "security"
-priority_name priority.Srcnat = codes "srcnat"
+priority_name priority_names.Raw = codes "raw"
+priority_name priority_names.Mangle = codes "mangle"
+priority_name priority_names.Dstnat = codes "dstnat"
+priority_name priority_names.Filter = codes "filter"
+priority_name priority_names.Security = codes "security"
+priority_name priority_names.Srcnat = codes "srcnat"
 
 abbrev pub transport_name : Transport → List ℕ
 transport_name transport.Tcp = codes "tcp"
@@ -53,13 +53,15 @@ transport_name transport.Udp = codes "udp"
 
 -- what a name of a priority means
 abbrev pub priority_value : PriorityName → ℤ
-priority_value priority.Raw = neg_ℤ (pos 300)
-priority_value priority.Mangle = neg_ℤ (pos 150)
-priority_value priority.Dstnat = neg_ℤ (pos 100)
-priority_value priority.Filter = pos 0
-priority_value priority.Security = pos 50
-priority_value priority.Srcnat = pos 100
+priority_value priority_names.Raw = neg_ℤ (pos 300)
+priority_value priority_names.Mangle = neg_ℤ (pos 150)
+priority_value priority_names.Dstnat = neg_ℤ (pos 100)
+priority_value priority_names.Filter = pos 0
+priority_value priority_names.Security = pos 50
+priority_value priority_names.Srcnat = pos 100
 
 -- no table has such a name
 abbrev pub is_reserved : List ℕ → Bool
-is_reserved n = bytes_eq n (codes "ip") || bytes_eq n (codes "inet") || bytes_eq n (codes "ip6") || bytes_eq n (codes "arp") || bytes_eq n (codes "bridge") || bytes_eq n (codes "netdev")
+is_reserved n =
+    bytes_eq n (codes "ip") || bytes_eq n (codes "inet") || bytes_eq n (codes "ip6")
+    || bytes_eq n (codes "arp") || bytes_eq n (codes "bridge") || bytes_eq n (codes "netdev")

@@ -9,7 +9,7 @@ use Rattle.ruletokens.specs.declared.token.Token.TheVariants as token
 use Rattle.ruletokens.specs.declared.token.Symbol as symbol
 use Rattle.ruletokens.specs.declared.token.Symbol.TheVariants.{Open, Close, Comma, Semicolon, Colon, Slash, Minus, Plus, Equal, Equals, Differs, At}
 use Rattle.rulesyntax.specs.declared.error.ReadError.{ReadError}
-use Rattle.rulesyntax.specs.declared.error.ReadError.TheVariants as errors
+use Rattle.rulesyntax.specs.declared.error.ReadError.TheVariants as read_error
 use Rattle.rulesyntax.specs.declared.keyword.Flag.{Flag}
 use Rattle.rulesyntax.specs.declared.keyword.VerdictWord.{VerdictWord}
 use Rattle.rulesyntax.specs.declared.keyword.VerdictWord.TheVariants as verdict_word
@@ -83,13 +83,13 @@ if_some None found missing = missing
 -- ---- what functions return
 
 abbrev pub IsSyntax : ReadError → Type 0
-IsSyntax errors.Memory = ⊥
-IsSyntax (errors.Syntax spot) = Unit {0}
+IsSyntax read_error.Memory = ⊥
+IsSyntax (read_error.Syntax spot) = Unit {0}
 
 -- What a function returned is what reading gives, unless memory ran out.
 abbrev pub Fails : {Y : Type 0} → ReadError → Option Y → Type 0
-Fails errors.Memory read = Unit {0}
-Fails (errors.Syntax spot) read = read ≡ None
+Fails read_error.Memory read = Unit {0}
+Fails (read_error.Syntax spot) read = read ≡ None
 
 -- without the NEWLINEs in front
 unfoldable pub skip : Tokens → Tokens
@@ -350,7 +350,8 @@ unfoldable pub several_behind : Reader Side
 several_behind ts = opened_at element_at ts >>= λ xs. Some (Several xs.0, xs.1)
 
 unfoldable pub plain_at : Bool → Reader Side
-plain_at state ts = if_some (word_at (codes "vmap") ts) (λ _. None) (if state then states_at ts else one_at ts)
+plain_at state ts =
+    if_some (word_at (codes "vmap") ts) (λ _. None) (if state then states_at ts else one_at ts)
 
 unfoldable pub side_at : Bool → Reader Side
 side_at state ts = if_some (symbol_at At ts) named_behind
@@ -384,10 +385,13 @@ unfoldable pub begins_vmap : Tokens → Bool
 begins_vmap ts = if_some (head_at ts) (λ h. begins_word (codes "vmap") h.1) false
 
 unfoldable pub begins_part : Tokens → Bool
-begins_part ts = if begins_word (codes "counter") ts then true else (begins_head ts && not (begins_vmap ts))
+begins_part ts =
+    if begins_word (codes "counter") ts then true else (begins_head ts && not (begins_vmap ts))
 
 unfoldable pub part_at : Reader Part
-part_at ts = if_some (word_at (codes "counter") ts) (λ a. counter_behind a >>= λ rest. Some (part.Counter, rest)) (match_at ts >>= λ m. Some (part.Match m.0, m.1))
+part_at ts = if_some (word_at (codes "counter") ts)
+    (λ a. counter_behind a >>= λ rest. Some (part.Counter, rest))
+    (match_at ts >>= λ m. Some (part.Match m.0, m.1))
 
 abbrev pub with_part : Parts → Part → Parts
 with_part ps part.Counter = record { matches = ps.matches; any = true }
@@ -396,7 +400,8 @@ with_part ps (part.Match m) = record { matches = ps.matches ++ m ∷ []; any = t
 unfoldable pub parts_from : ℕ → Parts → Reader Parts
 parts_from zero ps ts = None
 parts_from (suc n) ps ts =
-    if begins_part ts then (part_at ts >>= λ x. parts_from n (with_part ps x.0) x.1) else Some (ps, ts)
+    if begins_part ts then (part_at ts >>= λ x. parts_from n (with_part ps x.0) x.1)
+    else Some (ps, ts)
 
 abbrev pub no_parts : Parts
 no_parts = record { matches = []; any = false }
@@ -599,7 +604,16 @@ elements_behind s ts = do
   a ← symbol_at Equal ts
   b ← symbol_at Open a
   xs ← opened_at element_at b
-  Some ((record { types = s.types; elements = s.elements ++ record { line = tt; elements = xs.0 } ∷ [] }, false), xs.1)
+  Some (
+    (
+      record {
+        types = s.types;
+        elements = s.elements ++ record { line = tt; elements = xs.0 } ∷ [];
+      },
+      false,
+    ),
+    xs.1,
+  )
 
 unfoldable pub line_behind : SetBody → LineWord → Tokens → Option ((SetBody × Bool) × Tokens)
 line_behind s line_word.Type ts = type_behind s ts
@@ -620,14 +634,24 @@ unfoldable pub set_behind : Reader Set
 set_behind ts = do
   n ← name_at ts
   x ← block_at set_step no_lines n.1
-  Some (record { line = tt; name_line = tt; name = n.0; types = x.0.types; elements = x.0.elements }, x.1)
+  Some (
+    record {
+      line = tt;
+      name_line = tt;
+      name = n.0;
+      types = x.0.types;
+      elements = x.0.elements;
+    },
+    x.1,
+  )
 
 -- ---- tables
 
 unfoldable pub item_behind : TableBody → ItemWord → Tokens → Option ((TableBody × Bool) × Tokens)
 item_behind t item_word.Comment ts = quoted_at ts >>= λ rest. Some ((t, false), rest)
 item_behind t item_word.Set ts =
-    set_behind ts >>= λ s. Some ((record { sets = t.sets ++ s.0 ∷ []; chains = t.chains }, true), s.1)
+    set_behind ts >>= λ s. Some
+    ((record { sets = t.sets ++ s.0 ∷ []; chains = t.chains }, true), s.1)
 item_behind t item_word.Chain ts = chain_behind ts >>= λ c. Some
     ((record { sets = t.sets; chains = t.chains ++ c.0 ∷ [] }, true), c.1)
 
@@ -650,10 +674,21 @@ unfoldable pub table_behind : Reader Table
 table_behind ts = do
   n ← free_name_at (family_at ts).1
   x ← block_at table_step no_items n.1
-  Some (record { line = tt; family = (family_at ts).0; name = n.0; sets = x.0.sets; chains = x.0.chains }, x.1)
+  Some (
+    record {
+      line = tt;
+      family = (family_at ts).0;
+      name = n.0;
+      sets = x.0.sets;
+      chains = x.0.chains;
+    },
+    x.1,
+  )
 
 unfoldable pub flush_behind : Spelled → Tokens → Option ((Spelled × Bool) × Tokens)
-flush_behind s ts = if length s.tables == 0 then (word_at (codes "ruleset") ts >>= λ rest. Some ((s, false), rest)) else None
+flush_behind s ts =
+    if length s.tables == 0 then (word_at (codes "ruleset") ts >>= λ rest. Some ((s, false), rest))
+    else None
 
 unfoldable pub statement_behind : Spelled → StatementWord → Tokens
     → Option ((Spelled × Bool) × Tokens)
@@ -670,4 +705,6 @@ Answers (Ok x) read = read ≡ Some x
 Answers (Err e) read = Fails e read
 
 unfoldable pub text_at : Tokens → Option Spelled
-text_at ts = list_from text_step (suc (length ts)) (record { tables = [] }) ts >>= λ x. if length x.1 == 0 then Some x.0 else None
+text_at ts =
+    list_from text_step (suc (length ts)) (record { tables = [] }) ts
+    >>= λ x. if length x.1 == 0 then Some x.0 else None

@@ -6,7 +6,7 @@ use Rattle.ruletree.specs.declared.fault.Kind.{Kind}
 use Rattle.ruletree.specs.declared.fault.Kind.TheVariants.{TooLong, Syntax, Unsupported, Family, NoMemory}
 use Rattle.ruletree.specs.declared.fault.LoadFault.{LoadFault}
 use Rattle.rulesyntax.specs.declared.error.ReadError.{ReadError}
-use Rattle.rulesyntax.specs.declared.error.ReadError.TheVariants as errors
+use Rattle.rulesyntax.specs.declared.error.ReadError.TheVariants as read_error
 use Rattle.ruletokens.specs.Tokens.{AreTokens}
 use Rattle.rulesyntax.specs.Grammar.{Spells}
 
@@ -53,5 +53,5 @@ IsUnreadFor text kind = IsUnspelled kind × IsShort text × IsSenseless text
 
 -- the fault that tells of the error
 abbrev pub IsFault : LoadFault → ReadError → Type 0
-IsFault fault errors.Memory = fault.kind ≡ NoMemory
-IsFault fault (errors.Syntax spot) = IsUnspelled fault.kind
+IsFault fault read_error.Memory = fault.kind ≡ NoMemory
+IsFault fault (read_error.Syntax spot) = IsUnspelled fault.kind

@@ -24,7 +24,7 @@ use Rattle.ruletree.specs.declared.tree.Hook.TheVariants as hook
 use Rattle.ruletree.specs.declared.tree.Policy.{Policy}
 use Rattle.ruletree.specs.declared.tree.Policy.TheVariants as policy
 use Rattle.rulesyntax.specs.declared.keyword.PriorityName.{PriorityName}
-use Rattle.rulesyntax.specs.declared.keyword.PriorityName.TheVariants as priority
+use Rattle.rulesyntax.specs.declared.keyword.PriorityName.TheVariants as priority_names
 use Rattle.rulesyntax.specs.declared.keyword.StatementWord.{StatementWord}
 use Rattle.rulesyntax.specs.declared.keyword.StatementWord.TheVariants as statement_word
 use Rattle.rulesyntax.specs.declared.keyword.ItemWord.{ItemWord}
@@ -126,8 +126,9 @@ policy_words = words_of policy_name (policy.Accept ∷ policy.Drop ∷ [])
 
 abbrev pub priority_words : List (List ℕ × PriorityName)
 priority_words = words_of priority_name
-    (priority.Raw ∷ priority.Mangle ∷ priority.Dstnat ∷ priority.Filter ∷ priority.Security ∷
-    priority.Srcnat ∷ [])
+    (priority_names.Raw ∷ priority_names.Mangle ∷ priority_names.Dstnat ∷ priority_names.Filter ∷
+    priority_names.Security ∷
+    priority_names.Srcnat ∷ [])
 
 abbrev pub statement_name : StatementWord → List ℕ
 statement_name statement_word.Flush = codes "flush"

@@ -10,10 +10,8 @@ use crate::keyword::{MemberWord, PriorityName};
 use crate::list::{Body, block};
 use crate::next::{choice, eat, eat_symbol, keyword, name, number, quoted, stop, word};
 use crate::rule::rule;
-use ruletokens::line::Line;
-use ruletokens::source::Source;
-use ruletokens::token::{Symbol, Token};
-use ruletree::tree::{Base, Chain, ChainType, Hook, Policy, Rule};
+use ruletokens::{Line, Source, Symbol, Token};
+use ruletree::{Base, Chain, ChainType, Hook, Policy, Rule};
 use sqlite_items::Items;
 
 const GREATEST: u64 = 1_000_000_000;

@@ -9,9 +9,8 @@ use crate::keyword::Flag;
 use crate::next::{
     address, closed, eat_symbol, is_close, keyword, line, next, number, stop, symbol,
 };
-use ruletokens::source::Source;
-use ruletokens::token::{Symbol, Token};
-use ruletree::tree::{Element, Value};
+use ruletokens::{Source, Symbol, Token};
+use ruletree::{Element, Value};
 use sqlite_items::Items;
 
 #[tactic(auto, unfolding(crate::specs::Reading::prefix_behind))]

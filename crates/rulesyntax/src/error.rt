@@ -3,7 +3,7 @@ ghost use Rattle.std.specs.Prelude.{◌≡◌};
 ghost use Rattle.rulesyntax.specs.Reading.{IsSyntax};
 ghost use Rattle.rulesyntax.specs.declared.error.ReadError.TheVariants.{Memory};
 
-use ruletokens::token::Token;
+use ruletokens::Token;
 use std::alloc::{AllocError, AllocFailed};
 
 /// The first token that can't stand where it does.

@@ -4,7 +4,7 @@ ghost use Rattle.std.specs.Prelude.{◌≡◌, ℕ, List, map};
 ghost use Rattle.std.specs.Str.{bytes_eq};
 ghost use Rattle.rulesyntax.specs.Words.{lookup, flag_words, verdict_words, nat_words, head_words, meta_words, ip_words, port_words, family_words, type_words, hook_words, policy_words, priority_words, statement_words, item_words, line_words, member_words};
 
-use ruletree::tree::{ChainType, Family, Hook, Policy};
+use ruletree::{ChainType, Family, Hook, Policy};
 
 /// Whether the word has these bytes.
 pub fn is(word: &[u8], expected: &[u8]) -> bool

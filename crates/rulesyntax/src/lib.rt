@@ -18,7 +18,7 @@ mod keyword;
 mod list;
 mod next;
 mod rule;
-pub mod ruleset;
+mod ruleset;
 mod set;
 mod table;
 

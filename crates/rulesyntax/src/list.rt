@@ -5,8 +5,7 @@ ghost use Rattle.rulesyntax.specs.Reading.{Gives, Fails, Step, ends, closes, fil
 
 use crate::error::ReadError;
 use crate::next::{closed, stop, symbol};
-use ruletokens::source::Source;
-use ruletokens::token::{Symbol, Token};
+use ruletokens::{Source, Symbol, Token};
 
 /// What a list's items are put into as they come.
 pub trait Body: Sized {

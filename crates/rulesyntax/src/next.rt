@@ -6,9 +6,7 @@ ghost use Rattle.rulesyntax.specs.Reading.{Gives, ◌>>=◌ as and_then, Goes, F
 
 use crate::error::ReadError;
 use crate::keyword::{Keyword, meaning};
-use ruletokens::line::Line;
-use ruletokens::source::Source;
-use ruletokens::token::{Symbol, Token};
+use ruletokens::{Line, Source, Symbol, Token};
 use sqlite_items::Items;
 
 #[tactic(auto, unfolding(crate::specs::Reading::skip))]

@@ -11,10 +11,8 @@ use crate::keyword::{HeadWord, IpWord, MetaWord, NatWord, PortWord, VerdictWord}
 use crate::next::{
     address, choice, eat, eat_symbol, keyword, line, name, number, quoted, stop, symbol, word,
 };
-use ruletokens::line::Line;
-use ruletokens::source::Source;
-use ruletokens::token::{Symbol, Token};
-use ruletree::tree::{
+use ruletokens::{Line, Source, Symbol, Token};
+use ruletree::{
     Dnat, Element, End, Head, Match, Pair, Rule, SetName, Side, Snat, Target, Transport, Verdict,
     Vmap,
 };

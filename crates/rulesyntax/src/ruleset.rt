@@ -9,12 +9,8 @@ ghost use Rattle.ruletree.specs.declared.fault.Kind.TheVariants.{TooLong};
 
 use crate::error::{ReadError, Spot};
 use crate::table::text;
-use ruletokens::line::Line;
-use ruletokens::source::Source;
-use ruletokens::token::Token;
-use ruletokens::{one_token_list, tokens};
-use ruletree::fault::{Kind, LoadFault};
-use ruletree::tree::Spelled;
+use ruletokens::{Line, Source, Token, one_token_list, tokens};
+use ruletree::{Kind, LoadFault, Spelled};
 use std::alloc::Global;
 
 /// The most bytes of a text.

@@ -8,10 +8,8 @@ use crate::error::ReadError;
 use crate::keyword::{Flag, LineWord};
 use crate::list::{Body, block};
 use crate::next::{keyword, name, quoted, symbol};
-use ruletokens::line::Line;
-use ruletokens::source::Source;
-use ruletokens::token::{Symbol, Token};
-use ruletree::tree::{Element, Set, SetElements, SetType};
+use ruletokens::{Line, Source, Symbol, Token};
+use ruletree::{Element, Set, SetElements, SetType};
 use sqlite_items::Items;
 
 /// What stands in a set so far.

@@ -12,10 +12,8 @@ use crate::keyword::{ItemWord, StatementWord, is};
 use crate::list::{Body, block, list_of};
 use crate::next::{choice, keyword, name, quoted, stop, word};
 use crate::set::set;
-use ruletokens::line::Line;
-use ruletokens::source::Source;
-use ruletokens::token::Token;
-use ruletree::tree::{Chain, Family, Set, Spelled, Table};
+use ruletokens::{Line, Source, Token};
+use ruletree::{Chain, Family, Set, Spelled, Table};
 use sqlite_items::Items;
 
 /// What stands in a table so far.

@@ -7,7 +7,7 @@ use Rattle.ruletree.specs.declared.fault.Kind.{Kind}
 use Rattle.ruletree.specs.declared.fault.Kind.TheVariants.{TooLong, Syntax, Unsupported, Family, UnknownChain, UnknownSet, Duplicate, Loop, Depth, WrongHook, WrongType, NotExternal, NotInside, Limit, Overlap, NoMemory}
 use Rattle.ruletree.specs.declared.fault.LoadFault.{LoadFault}
 use Rattle.rulesyntax.specs.Text.{IsShort, IsSpelledBy, IsSenseless, IsOkOrNoMemory, IsOfSyntax}
-use Rattle.rulesets.specs.Loads.{Holds, IsLeast}
+use Rattle.rulesets.specs.Faults.{FaultHolds, IsLeast}
 use Rattle.ruletext.specs.Texts.{Loads, IsRefused}
 
 fault_is : (a b : LoadFault) (x : Result Spelled LoadFault) → x ≡ Err a → x ≡ Err b → a ≡ b
@@ -49,11 +49,11 @@ module _ (config : Config) (text : List ℕ) (parsed : Result Spelled LoadFault)
   only_memory fault is rules loads = subst (IsOkOrNoMemory rules) is (only rules loads.1 loads.0)
 
   pub only_loaded : (spelled : Spelled) → parsed ≡ Ok spelled → (loaded : Result Spelled LoadFault) → IfOk loaded (λ rules. rules ≡ spelled)
-      → IfErr loaded (λ fault. (fault.kind ≡ NoMemory) ⊎ IsLeast (Holds config spelled) (Some fault.kind)) → (rules : Spelled) → Loads config text rules → IsOkOrNoMemory rules loaded
+      → IfErr loaded (λ fault. (fault.kind ≡ NoMemory) ⊎ IsLeast (FaultHolds config spelled) (Some fault.kind)) → (rules : Spelled) → Loads config text rules → IsOkOrNoMemory rules loaded
   only_loaded spelled is (Ok found) same why rules loads = same ∙ subst (IsOkOrNoMemory rules) is (only rules loads.1 loads.0)
   only_loaded spelled is (Err fault) same why rules loads = elim why [
     | inl memory ↦ memory
     | inr least ↦
         let one : spelled ≡ rules = subst (IsOkOrNoMemory rules) is (only rules loads.1 loads.0) in
-        absurd (loads.2 fault.kind (subst (λ (s : Spelled). Holds config s fault.kind) one least.0))
+        absurd (loads.2 fault.kind (subst (λ (s : Spelled). FaultHolds config s fault.kind) one least.0))
   ]

@@ -5,7 +5,7 @@ use Rattle.ruletree.specs.declared.tree.Spelled.{Spelled}
 use Rattle.ruletree.specs.declared.fault.Kind.{Kind}
 use Rattle.ruletree.specs.declared.fault.Kind.TheVariants.{TooLong, Syntax, Unsupported, Family, NoMemory}
 use Rattle.rulesyntax.specs.Text.{greatest_length, IsShort, IsSpelledBy, IsSenseless}
-use Rattle.rulesets.specs.Loads.{Holds, IsLeast, MayRun}
+use Rattle.rulesets.specs.Faults.{FaultHolds, IsLeast, MayRun}
 
 -- a text that isn't too long, spells these rules, and has no kind of fault
 abbrev pub Loads : Config → List ℕ → Spelled → Type 0
@@ -19,4 +19,4 @@ IsRefused config text Unsupported = IsShort text × IsSenseless text
 IsRefused config text Family = IsShort text × IsSenseless text
 IsRefused config text NoMemory = IsShort text
 IsRefused config text kind = IsShort text
-    × ((rules : Spelled) × IsSpelledBy rules text × IsLeast (Holds config rules) (Some kind))
+    × ((rules : Spelled) × IsSpelledBy rules text × IsLeast (FaultHolds config rules) (Some kind))

@@ -5,6 +5,6 @@
 //! `fault_of` and `spelling_fault_of` tell the fault alone, and let the rules go.
 #![tactic(auto)]
 
-pub mod reading;
+mod reading;
 
 pub use reading::{fault_of, read, spelling_fault_of};

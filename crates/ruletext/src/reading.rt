@@ -5,11 +5,10 @@ ghost use Rattle.ruletree.specs.declared.tree.Spelled.{Spelled};
 ghost use Rattle.rulesyntax.specs.Text.{IsOkOrNoMemory, IsSpelledBy, IsUnreadFor};
 ghost use Rattle.ruletext.specs.Texts.{Loads, IsRefused};
 
-use packet::bounds::Bounds;
-use rulesets::load::load;
-use rulesets::ruleset::Ruleset;
+use packet::Bounds;
+use rulesets::{Ruleset, load};
 use rulesyntax::parse;
-use ruletree::fault::{Kind, LoadFault};
+use ruletree::{Kind, LoadFault};
 use std::alloc::Global;
 
 /// The rules of a text, where it loads under these bounds.

@@ -58,7 +58,8 @@ is_plain (b ∷ c ∷ bs) = not (b == 48)
 -- the decimal number that the bytes, all of them, are
 unfoldable pub decimal : ℕ → Text → Option ℕ
 decimal most bs =
-    if is_plain bs && list_all is_ascii_digit bs && nat_le (decimal_from 0 bs) most then Some (decimal_from 0 bs)
+    if is_plain bs && list_all is_ascii_digit bs && nat_le (decimal_from 0 bs) most
+    then Some (decimal_from 0 bs)
     else None
 
 -- in front of the first part
@@ -218,7 +219,8 @@ with_digit most n b =
 unfoldable pub digits_from : ℕ → ℕ → Text → Option ℕ
 digits_from most n [] = Some n
 digits_from most n (b ∷ bs) =
-    if is_ascii_digit b && nat_le (n * 10 + (b - 48)) most then digits_from most (n * 10 + (b - 48)) bs
+    if is_ascii_digit b && nat_le (n * 10 + (b - 48)) most
+    then digits_from most (n * 10 + (b - 48)) bs
     else None
 
 abbrev pub octets : Text → List (Option ℕ)

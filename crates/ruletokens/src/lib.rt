@@ -7,8 +7,11 @@
 #![tactic(auto)]
 
 mod lex;
-pub mod line;
-pub mod source;
-pub mod token;
+mod line;
+mod source;
+mod token;
 
 pub use lex::{one_token_list, tokens};
+pub use line::Line;
+pub use source::Source;
+pub use token::{Symbol, Token};

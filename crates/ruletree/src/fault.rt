@@ -5,7 +5,7 @@ ghost use Rattle.std.specs.Prelude.{◌≡◌};
 ghost use Rattle.ruletree.specs.Reasons.{reason_name};
 ghost use Rattle.ruletree.specs.declared.fault.Kind.TheVariants.{NoMemory};
 
-use ruletokens::line::Line;
+use ruletokens::Line;
 use std::alloc::{AllocError, AllocFailed};
 use std::fmt;
 

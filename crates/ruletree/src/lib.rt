@@ -3,11 +3,18 @@
 //! Whoever asks rules, or tests what is spelled, stands on this crate; the crate `rulesyntax`, which reads texts, too.
 //!
 //! - `tree`: tables, sets, chains, rules, and what they are made of;
-//! - `fault`: the reasons for which a text isn't taken, in the order in which they count, and the line;
-//! - `line`: the number of a line, of the crate `ruletokens`.
+//! - `fault`: the reasons for which a text isn't taken, in the order in which they count, and the line.
+//!
+//! `Line`, the number of a line, is the crate `ruletokens`'.
 #![tactic(auto)]
 
-pub mod fault;
-pub mod tree;
+mod fault;
+mod tree;
 
-pub use ruletokens::line;
+pub use fault::{Kind, LoadFault};
+pub use ruletokens::Line;
+pub use tree::{
+    Base, Chain, ChainType, Dnat, Element, End, Family, Head, Hook, Match, Pair, Policy, Rule, Set,
+    SetElements, SetName, SetType, Side, Snat, Spelled, Table, Target, Transport, Value, Verdict,
+    Vmap,
+};

@@ -4,7 +4,7 @@
 //! octet. What has no effect isn't kept: `flush ruleset`, flags of sets, `auto-merge`, counters and
 //! comments. A `Line` stands wherever a report may have to name one.
 
-use ruletokens::line::Line;
+use ruletokens::Line;
 use sqlite_items::Items;
 
 /// The tables of a text, in its order.

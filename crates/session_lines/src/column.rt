@@ -3,7 +3,7 @@ ghost use Rattle.std.specs.Prelude.{◌≡◌, ◌++◌, ◌-◌, OnOk, OnErr, c
 ghost use Rattle.session_lines.specs.Lines.{column, dotted, endpoint_text};
 
 use itoa::Buffer;
-use packet::endpoint::Endpoint;
+use packet::Endpoint;
 use std::alloc::AllocError;
 
 /// The places of a column. The longest endpoint, 255.255.255.255:65535, fills them.

@@ -10,8 +10,7 @@
 #![tactic(auto)]
 
 mod column;
-mod laws;
+pub mod laws;
 mod line;
 
-pub use laws::columns_are_aligned;
 pub use line::{put_line, put_lines};

@@ -4,7 +4,7 @@ ghost use Rattle.std.specs.List.{flat_map};
 ghost use Rattle.session_lines.specs.Lines.{columns, line, proto_word, state_word};
 
 use crate::column::put_column;
-use packet::endpoint::Proto;
+use packet::Proto;
 use sessions::{Phase, Session};
 use std::alloc::AllocError;
 

@@ -19,7 +19,7 @@ use Rattle.packet.specs.Numbers.{IsEndpoint}
 use Rattle.sessions.specs.Index.{AreEndpoints, Finds, LacksKey, PutsKey, flow_number, inside_number, key_number, outside_number, untranslated_key}
 use Rattle.sessions.specs.Indexed.{AddsTo, EndsIn, IsIndexed, KeepsIndex}
 use Rattle.sessions.specs.Translated.{AreFound, HasPlace, IsFirst, IsNowhereTranslated, IsTold, LacksMapping, Lead, first_of}
-use Rattle.sessions.proofs.Held.{SameKeys, SameKeys-refl, IsSound-set, IsSound-more, IsSound-kept, held_in_range}
+use Rattle.sessions.proofs.Held.{SameKeys, SameKeys-refl, IsSoundTable-set, IsSoundTable-more, IsSoundTable-kept, held_in_range}
 use Rattle.sessions.proofs.Finding.{Finds-add, Finds-end, Finds-lacks, Finds-set}
 use Rattle.sessions.proofs.KeyNumbers.{key-from, key-parts, mapping-from}
 use Rattle.sessions.proofs.Moved.{lacks}
@@ -179,7 +179,7 @@ module _ (held held' : List (Option Session)) (index index' : Index) (slot : ℕ
     IsIndexed-add few seen puts adds = record {
       untranslated = Finds-add untranslated_key held held' slot s index.untranslated.held index'.untranslated.held others indexed.untranslated free here (lacks-untranslated held index s indexed fits none) puts;
       translated = record {
-        sound = IsSound-more held held' slot s none here others few seen told.sound;
+        sound = IsSoundTable-more held held' slot s none here others few seen told.sound;
         endpoints = λ k t is. elim (cases_eq k slot) [
           | inl k_is ↦ subst AreEndpoints (same_Some s t (sym here ∙ subst (λ q. get_or held' q None ≡ Some t) k_is is)) fits
           | inr away ↦ told.endpoints k t (sym (others k away) ∙ is)
@@ -209,7 +209,7 @@ module _ (held held' : List (Option Session)) (index index' : Index) (slot : ℕ
     IsIndexed-end fewer puts ends = record {
       untranslated = Finds-end untranslated_key held held' slot s index.untranslated.held index'.untranslated.held others indexed.untranslated was gone puts;
       translated = record {
-        sound = IsSound-kept held held' told.sound (record { from = λ k t is. (t, was_held k t is, SameKeys-refl t) }) fewer (λ k t is. told.sound.seen k t (was_held k t is));
+        sound = IsSoundTable-kept held held' told.sound (record { from = λ k t is. (t, was_held k t is, SameKeys-refl t) }) fewer (λ k t is. told.sound.seen k t (was_held k t is));
         endpoints = λ k t is. told.endpoints k t (was_held k t is);
         found = found-end (is_translated s) refl ends;
       };
@@ -239,7 +239,7 @@ module _ (held : List (Option Session)) (index : Index) (slot : ℕ) (s t : Sess
   IsIndexed-set seen indexed = record {
     untranslated = Finds-set untranslated_key held index.untranslated.held indexed.untranslated slot s t is (same-name s t same);
     translated = record {
-      sound = IsSound-set held slot s t is same seen indexed.translated.sound;
+      sound = IsSoundTable-set held slot s t is same seen indexed.translated.sound;
       endpoints = λ k u at. elim (cases_eq k slot) [
         | inl k_is ↦ subst AreEndpoints (same_Some t u (sym here ∙ subst (λ q. get_or after q None ≡ Some u) k_is at)) (same-endpoints s t same (indexed.translated.endpoints slot s is))
         | inr away ↦ indexed.translated.endpoints k u (sym (get_or-set_other held slot k (Some t) None away) ∙ at)

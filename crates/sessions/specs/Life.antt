@@ -100,7 +100,8 @@ bit_if mark bit = if mark then bit else 0
 abbrev pub shown_flags : Proto → Opener → Flags → ℕ
 shown_flags Udp sender flags = 0
 shown_flags Tcp sender flags =
-    bit_if flags.ack (ack_bit sender) + bit_if flags.fin (fin_bit sender) + bit_if flags.rst reset_bit
+    bit_if flags.ack (ack_bit sender) + bit_if flags.fin (fin_bit sender)
+    + bit_if flags.rst reset_bit
 
 -- the bits that a packet from this side shows
 abbrev pub shown : Proto → Opener → Opener → Flags → ℕ

@@ -61,7 +61,7 @@ abbrev pub ClashesWith : Sessions → Session → Type 0
 ClashesWith t session = AnyClash t.held session
 
 -- no two sessions that are held clash, there are at most 65,536, and each has seen bits of its protocol
-pub record IsSound (held : List (Option Session)) : Type 0 where
+pub record IsSoundTable (held : List (Option Session)) : Type 0 where
   pub apart : (i j : ℕ) (s t : Session) → i ≢ j → slice_index_or held i None ≡ Some s
       → slice_index_or held j None ≡ Some t → ¬ Clash s t
   pub at_most : count_by is_some held ≤ most_sessions

@@ -17,7 +17,7 @@ mod ahead;
 mod hints;
 mod index;
 mod keys;
-mod laws;
+pub mod laws;
 mod life;
 mod listing;
 mod session;
@@ -25,10 +25,6 @@ mod table;
 mod translated;
 
 pub use ahead::{Coming, MOST_AHEAD};
-pub use laws::{
-    clashes_tells_clash, listing_is_the_set, mappings_are_one_to_one, moments_do_not_count,
-    restarted_awaits_reply,
-};
 pub use life::{Phase, are_known_bits, is_syn_alone};
 pub use session::{Change, Opener, Session, breaks_mapping, order};
 pub use table::{AddFault, MOST_SESSIONS, Slot, Table};

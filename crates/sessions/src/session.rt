@@ -6,8 +6,7 @@ ghost use Rattle.sessions.specs.Sound.{IsPlaced};
 ghost use Rattle.sessions.specs.Table.{Clash, HasInside, HasOutside};
 
 use crate::table::Slot;
-use packet::bounds::Bounds;
-use packet::endpoint::{Endpoint, Proto};
+use packet::{Bounds, Endpoint, Proto};
 use std::cmp::Ordering;
 
 /// A side of the gateway, as the one that began a session.

@@ -6,7 +6,7 @@ ghost use Rattle.slab.specs.Slab.{HasRoomFor};
 ghost use Rattle.sessions.specs.Laws.{IsMapping};
 ghost use Rattle.sessions.specs.Life.{IsSeen};
 ghost use Rattle.sessions.specs.Listing.{listing};
-ghost use Rattle.sessions.specs.Table.{at, count, most_sessions, Updates, HasInside, HasOutside, Clash, ClashesWith, IsSound, amended, seen as seen_with, restarted};
+ghost use Rattle.sessions.specs.Table.{at, count, most_sessions, Updates, HasInside, HasOutside, Clash, ClashesWith, IsSoundTable, amended, seen as seen_with, restarted};
 
 use crate::ahead::{Coming, MOST_AHEAD, guess_all};
 use crate::hints::Hints;
@@ -16,7 +16,7 @@ use crate::index::{
 use crate::keys::endpoint_facts;
 use crate::listing::sorted;
 use crate::{Opener, Session};
-use packet::endpoint::{Endpoint, Proto};
+use packet::{Endpoint, Proto};
 use slab::Slab;
 use std::alloc::{AllocError, Global};
 use std::marker::Model;
@@ -128,7 +128,7 @@ impl Table {
     /// The session that the slot holds, if it holds one.
     pub fn get(&self, slot: Slot) -> Option<Session>
         ensures value { result ≡ at self.now slot }
-        ensures sound { IsSound self.now.held }
+        ensures sound { IsSoundTable self.now.held }
     {
         self.sessions.get(slot.number()).copied()
     }
@@ -136,7 +136,7 @@ impl Table {
     /// What every table keeps: no two sessions clash, they aren't too many, and each has seen bits of
     /// its protocol alone.
     pub fn facts(&self)
-        ensures { IsSound self.now.held }
+        ensures { IsSoundTable self.now.held }
     {
         // What a table keeps is known once a field of it is read.
         let _sessions = &self.sessions;

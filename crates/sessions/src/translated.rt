@@ -15,9 +15,8 @@ ghost use Rattle.sessions.specs.Translated.{Finishes, HasNoHeir, IsHeir, IsNowhe
 
 use crate::Session;
 use crate::keys::{endpoint_facts, key};
-use buckets::Buckets;
-use buckets::by_port::ByPort;
-use packet::endpoint::{Endpoint, Proto, mapping_key};
+use buckets::{Buckets, ByPort};
+use packet::{Endpoint, Proto, mapping_key};
 use rows::Rows;
 use slab::Slab;
 use std::alloc::{AllocError, Global};

@@ -7,7 +7,7 @@ use Rattle.std.specs.List.{AllPairs}
 use Rattle.std.specs.List.Sorted.{IsSortedBy}
 use Rattle.sets.specs.declared.element.Element.{Element}
 use Rattle.sets.specs.declared.element.Pair.{Pair}
-use Rattle.sets.specs.Intervals.{IsBelow, Stands}
+use Rattle.sets.specs.Intervals.{IsBelow, StandsBesideElement}
 use Rattle.sets.specs.Members.{Fact, IsIn, Overlaps}
 use Rattle.sets.specs.Order.{is_key_before}
 use Rattle.sets.proofs.Places.{not_where_less, not_where_greater, not_below, not_above, below_unless_shared}
@@ -20,7 +20,7 @@ halved (suc r) left some lt = let p = pow-succ' 2 r in (r, omega arith, omega ar
 
 module _ {X : Type 0} (key : X → Element) (fact : Fact) (row : List X) (rising : AllPairs (λ one next. IsBelow (key one) (key next)) row) where
   -- what stands before an element lies in none from it on
-  pub none_behind : (m : ℕ) (one : X) → m < length row → one ≡ slice_index_or row m one → Stands Less fact (key one)
+  pub none_behind : (m : ℕ) (one : X) → m < length row → one ≡ slice_index_or row m one → StandsBesideElement Less fact (key one)
       → (k : ℕ) (d : X) → m ≤ k → k < length row → ¬ IsIn fact (key (slice_index_or row k d))
   none_behind m one lm at stands k d le lk i = elim (cases_eq k m) [
     | inl e ↦
@@ -33,7 +33,7 @@ module _ {X : Type 0} (key : X → Element) (fact : Fact) (row : List X) (rising
   ]
 
   -- what stands behind an element lies in none up to it
-  pub none_before : (m : ℕ) (one : X) → m < length row → one ≡ slice_index_or row m one → Stands Greater fact (key one)
+  pub none_before : (m : ℕ) (one : X) → m < length row → one ≡ slice_index_or row m one → StandsBesideElement Greater fact (key one)
       → (k : ℕ) (d : X) → k ≤ m → ¬ IsIn fact (key (slice_index_or row k d))
   none_before m one lm at stands k d le i = elim (cases_eq k m) [
     | inl e ↦

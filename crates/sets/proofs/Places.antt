@@ -6,7 +6,7 @@ use Rattle.std.specs.Cmp.Lexicographic.{slice_cmp}
 use Rattle.std.specs.Ordering.{nat_cmp, is_lt, ordering_reverse}
 use Rattle.sets.specs.declared.element.Range.{Range}
 use Rattle.sets.specs.declared.element.Element.{Element}
-use Rattle.sets.specs.Intervals.{IsBelow, IsApart, Stands}
+use Rattle.sets.specs.Intervals.{IsBelow, IsApart, StandsBesideElement}
 use Rattle.sets.specs.Joining.{IsJoined}
 use Rattle.sets.specs.Members.{Fact, IsIn, Share}
 use Rattle.sets.specs.Order.{place_of, is_before}
@@ -31,30 +31,30 @@ equal_itself a b e = subst (λ c. slice_cmp nat_cmp a c ≡ Equal) e (tied_itsel
 turned : (a b : List ℕ) → slice_cmp nat_cmp a b ≡ Less → slice_cmp nat_cmp b a ≡ Greater
 turned a b e = nat_list_cmp_total.antisymm b a ∙ ap ordering_reverse e
 
-pub in_where_equal : (f : Fact) (m : Element) → Stands Equal f m → IsIn f m
-unfolding Stands IsIn
+pub in_where_equal : (f : Fact) (m : Element) → StandsBesideElement Equal f m → IsIn f m
+unfolding StandsBesideElement IsIn
 in_where_equal (Fact.Number n) (Element.Numbers r) h = h
 in_where_equal (Fact.Number n) (Element.Name own) h = cc
 in_where_equal (Fact.Name n) (Element.Numbers r) h = cc
 in_where_equal (Fact.Name n) (Element.Name own) h = same_name n own.items h
 
-pub not_where_less : (f : Fact) (m : Element) → Stands Less f m → ¬ IsIn f m
-unfolding Stands IsIn
+pub not_where_less : (f : Fact) (m : Element) → StandsBesideElement Less f m → ¬ IsIn f m
+unfolding StandsBesideElement IsIn
 not_where_less (Fact.Number n) (Element.Numbers r) h i = let from = i.from in absurd (omega arith)
 not_where_less (Fact.Number n) (Element.Name own) h i = i
 not_where_less (Fact.Name n) (Element.Numbers r) h i = i
 not_where_less (Fact.Name n) (Element.Name own) h i = let e = equal_itself n own.items i in cc
 
-pub not_where_greater : (f : Fact) (m : Element) → Stands Greater f m → ¬ IsIn f m
-unfolding Stands IsIn
+pub not_where_greater : (f : Fact) (m : Element) → StandsBesideElement Greater f m → ¬ IsIn f m
+unfolding StandsBesideElement IsIn
 not_where_greater (Fact.Number n) (Element.Numbers r) h i = let to = i.to in absurd (omega arith)
 not_where_greater (Fact.Number n) (Element.Name own) h i = i
 not_where_greater (Fact.Name n) (Element.Numbers r) h i = i
 not_where_greater (Fact.Name n) (Element.Name own) h i = let e = equal_itself n own.items i in cc
 
 -- what stands behind an element lies in none that is below it
-pub not_below : (f : Fact) (k m : Element) → IsBelow k m → Stands Greater f m → ¬ IsIn f k
-unfolding Stands IsIn IsBelow
+pub not_below : (f : Fact) (k m : Element) → IsBelow k m → StandsBesideElement Greater f m → ¬ IsIn f k
+unfolding StandsBesideElement IsIn IsBelow
 not_below (Fact.Number n) (Element.Numbers a) (Element.Numbers b) below h i = let to = i.to in let up = b.rises in absurd (omega arith)
 not_below (Fact.Number n) (Element.Numbers a) (Element.Name b) below h i = cc
 not_below (Fact.Number n) (Element.Name a) m below h i = i
@@ -65,8 +65,8 @@ not_below (Fact.Name w) (Element.Name a) (Element.Name b) below h i =
     cc
 
 -- what stands before an element lies in none that it is below
-pub not_above : (f : Fact) (m k : Element) → IsBelow m k → Stands Less f m → ¬ IsIn f k
-unfolding Stands IsIn IsBelow
+pub not_above : (f : Fact) (m k : Element) → IsBelow m k → StandsBesideElement Less f m → ¬ IsIn f k
+unfolding StandsBesideElement IsIn IsBelow
 not_above (Fact.Number n) (Element.Numbers a) (Element.Numbers b) below h i = let from = i.from in let up = a.rises in absurd (omega arith)
 not_above (Fact.Number n) m (Element.Name b) below h i = i
 not_above (Fact.Number n) (Element.Name a) (Element.Numbers b) below h i = below

@@ -34,8 +34,10 @@ StandsBeside Equal number range = IsWithin number range
 StandsBeside Greater number range = range.high < number
 
 -- the fact stands before the element, in it or behind it
-unfoldable pub Stands : Ordering → Fact → Element → Type 0
-Stands place (Fact.Number number) (Element.Numbers range) = StandsBeside place number range
-Stands place (Fact.Number number) (Element.Name own) = place ≡ Less
-Stands place (Fact.Name name) (Element.Numbers range) = place ≡ Greater
-Stands place (Fact.Name name) (Element.Name own) = place ≡ slice_cmp nat_cmp name own.items
+unfoldable pub StandsBesideElement : Ordering → Fact → Element → Type 0
+StandsBesideElement place (Fact.Number number) (Element.Numbers range) =
+    StandsBeside place number range
+StandsBesideElement place (Fact.Number number) (Element.Name own) = place ≡ Less
+StandsBesideElement place (Fact.Name name) (Element.Numbers range) = place ≡ Greater
+StandsBesideElement place (Fact.Name name) (Element.Name own) =
+    place ≡ slice_cmp nat_cmp name own.items

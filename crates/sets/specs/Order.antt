@@ -1,4 +1,4 @@
--- The order in which the keys of a map are looked through for an overlap.
+-- The order in which the keys of a map are looked through for an overlap. No public clause cites this module.
 use Rattle.std.specs.Prelude.{ℕ, Bool, List, [], ◌∷◌}
 use Rattle.std.specs.Cmp.Lexicographic.{slice_cmp}
 use Rattle.std.specs.Ordering.{nat_cmp, is_lt}

@@ -2,8 +2,7 @@
 ghost use Rattle.std.specs.Prelude.{◌≤◌};
 
 use crate::parts::{are_same, beside, by_bytes, meet};
-use packet::bounds::size_of_prefix;
-use packet::endpoint::Prefix;
+use packet::{Prefix, size_of_prefix};
 use std::cmp::Ordering;
 
 /// What a packet has where a match looks.
@@ -83,13 +82,13 @@ impl Range {
 
 impl Element {
     ghost use Rattle.std.specs.Prelude.{◌↔◌, IsTrue};
-    ghost use Rattle.sets.specs.Intervals.{Stands};
+    ghost use Rattle.sets.specs.Intervals.{StandsBesideElement};
     ghost use Rattle.sets.specs.Members.{fact_of, IsIn, Share};
 
     /// Where the value stands beside the element: before it (`Less`), in it (`Equal`) or behind it. Numbers
     /// stand before names, and names by their bytes.
     pub(crate) fn compare(&self, value: Value<'_>) -> Ordering
-        ensures { Stands result (fact_of value.entry) self.now }
+        ensures { StandsBesideElement result (fact_of value.entry) self.now }
     {
         match (value, self) {
             (Value::Number(number), Element::Numbers(range)) => beside(number, *range),

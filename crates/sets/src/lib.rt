@@ -12,14 +12,14 @@
 //! - `laws`: what follows for unions and keys.
 #![tactic(auto)]
 
-pub mod element;
-pub mod fault;
+mod element;
+mod fault;
 mod joining;
 pub mod laws;
 mod parts;
 mod search;
-pub mod set;
-pub mod vmap;
+mod set;
+mod vmap;
 
 pub use element::{Element, Pair, Range, Value};
 pub use fault::SetFault;

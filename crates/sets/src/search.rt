@@ -2,11 +2,11 @@
 
 ghost use Rattle.std.specs.Prelude.{◌≡◌, ◌<◌, ◌≤◌, ◌+◌, ◌-◌, ◌^◌, ℕ, IfSome, IfNone, length};
 ghost use Rattle.std.specs.List.{Any, AllPairs, Contains};
-ghost use Rattle.sets.specs.Intervals.{Stands, IsBelow};
+ghost use Rattle.sets.specs.Intervals.{StandsBesideElement, IsBelow};
 ghost use Rattle.sets.specs.Members.{fact_of, IsIn};
 
 use crate::element::{Element, Pair, Value};
-use packet::steps::Steps;
+use packet::Steps;
 use std::cmp::Ordering;
 
 /// What stands in a row by its element.
@@ -39,7 +39,7 @@ impl<V> Keyed for Pair<V> {
 // Compares one element with the value: a probe, which is the step that is counted.
 fn probe(element: &Element, value: Value<'_>, steps: &mut Steps) -> Ordering
     requires { steps.old < 64 }
-    ensures place { Stands result (fact_of value.entry) element.now }
+    ensures place { StandsBesideElement result (fact_of value.entry) element.now }
     ensures counted { steps.new ≡ steps.old + 1 }
 {
     steps.tick();

@@ -8,7 +8,7 @@ use crate::fault::SetFault;
 use crate::joining::join_touching;
 use crate::search::search;
 use crate::vmap::order;
-use packet::steps::Steps;
+use packet::Steps;
 use std::marker::Model;
 
 /// The most elements of a set, and the most keys of a verdict map.

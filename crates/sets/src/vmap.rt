@@ -11,7 +11,7 @@ use crate::fault::SetFault;
 use crate::parts::by_bytes;
 use crate::search::search;
 use crate::set::LIMIT;
-use packet::steps::Steps;
+use packet::Steps;
 use std::cmp::Ordering;
 use std::marker::Model;
 

@@ -4,7 +4,7 @@ use Rattle.packet.specs.Config.{Config}
 use Rattle.disk_model.specs.Disk.{Files, LeftNow, Leaves, LeavesNow, LeavesOnly, Synced, Elsewhere, other}
 use Rattle.disk_model.specs.declared.disk.FileId.{FileId}
 use Rattle.disk_model.proofs.Moments.{at_end, narrows, idle}
-use Rattle.journal.specs.Groups.{Appended, Resting, Stands}
+use Rattle.journal.specs.Groups.{Appended, Resting, GroupStands}
 use Rattle.journal.proofs.Behind.{closed_there}
 use Rattle.durable.specs.Coding.{Heading, heading_bytes}
 use Rattle.durable.specs.Entering.{Durable, BodyEnters}
@@ -80,7 +80,7 @@ module _ {D : Type 0} (moment : D → ℕ) (left : D → ℕ → Files → Type 
 
       pub commit_rests : (t : Stored D) → t.disk ≡ new → t.config ≡ s.config → t.generation ≡ s.generation → t.end ≡ behind rest.heading + t.grown
           → ((a b : ℕ) (files : Files) → a ≤ b → left new b files → left new a files)
-          → Stands moment left seen s.disk new f s.end body t.end → (r : Rests moment left seen t f e) × (r.heading ≡ rest.heading)
+          → GroupStands moment left seen s.disk new f s.end body t.end → (r : Rests moment left seen t f e) × (r.heading ≡ rest.heading)
       unfolding own
       commit_rests t disk config generation grown earlier stands = (
         record {

@@ -5,7 +5,7 @@ ghost use Rattle.durable.specs.Entering.{durable};
 ghost use Rattle.durable.specs.Laws.{anew};
 
 use durable::put_heading;
-use packet::bounds::Bounds;
+use packet::Bounds;
 use sessions::Session;
 use std::alloc::{AllocError, Global};
 

@@ -1,7 +1,7 @@
 //! Why a call of the store is refused.
 ghost use Rattle.std.specs.Prelude.{◌≡◌};
-ghost use Rattle.disk_model.specs.declared.reading.ReadFault.TheVariants as reading;
-ghost use Rattle.snapshot.specs.declared.fault.OpenFault.TheVariants as opening;
+ghost use Rattle.disk_model.specs.declared.reading.ReadFault.TheVariants as read_fault;
+ghost use Rattle.snapshot.specs.declared.fault.OpenFault.TheVariants as open_fault;
 
 use disk_model::{DiskFault, ReadFault};
 use std::alloc::AllocError;
@@ -49,7 +49,7 @@ pub enum CompactFault {
 }
 
 impl From<DiskFault> for OpenFault {
-    ghost from_gives = { λ _ e. e ≡ opening.Device };
+    ghost from_gives = { λ _ e. e ≡ open_fault.Device };
 
     fn from(_: DiskFault) -> Self {
         OpenFault::Device
@@ -57,8 +57,8 @@ impl From<DiskFault> for OpenFault {
 }
 
 impl From<ReadFault> for OpenFault {
-    ghost from_gives = { λ read e. (read ≡ reading.Device → e ≡ opening.Device)
-        × (read ≡ reading.NoMemory → e ≡ opening.NoMemory) };
+    ghost from_gives = { λ read e. (read ≡ read_fault.Device → e ≡ open_fault.Device)
+        × (read ≡ read_fault.NoMemory → e ≡ open_fault.NoMemory) };
 
     fn from(fault: ReadFault) -> Self {
         match fault {
@@ -69,7 +69,7 @@ impl From<ReadFault> for OpenFault {
 }
 
 impl From<AllocError> for OpenFault {
-    ghost from_gives = { λ _ e. e ≡ opening.NoMemory };
+    ghost from_gives = { λ _ e. e ≡ open_fault.NoMemory };
 
     fn from(_: AllocError) -> Self {
         OpenFault::NoMemory

@@ -17,7 +17,7 @@ use crate::closed_heading::closed_heading;
 use crate::remaking::remake;
 use disk_model::{Disk, DiskFault, FileId, contents};
 use durable::{DurableFault, Recovered, heading_fits, recover};
-use packet::bounds::Bounds;
+use packet::Bounds;
 use sessions::Session;
 use std::alloc::Global;
 

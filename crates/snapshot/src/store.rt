@@ -16,7 +16,7 @@ use crate::remaking::{other, remake};
 use crate::{CommitFault, CompactFault, OpenFault};
 use disk_model::{Disk, FileId};
 use journal::{Group, JournalFault, append};
-use packet::bounds::Bounds;
+use packet::Bounds;
 use sessions::Session;
 use std::alloc::Global;
 use std::marker::Model;

@@ -14,7 +14,7 @@ use Rattle.machine.specs.declared.event.Answer.{Answer}
 use Rattle.machine.specs.declared.event.Event.{Event}
 use Rattle.machine.proofs.Judging.{AreJudged-append, AreJudged-length}
 use Rattle.gateway.specs.declared.fault.GatewayFault.{GatewayFault}
-use Rattle.gateway.specs.Kept.{Kept, IsReady, IsSafe}
+use Rattle.gateway.specs.Kept.{Kept, IsAtRest, IsSafe}
 use Rattle.gateway.specs.Running.{Ran, Stands, AgreesWithModel, Stops, CarriesOn, BreaksOff, standing}
 use Rattle.gateway.specs.Standing.{Standing, StandsFor}
 use Rattle.gateway.specs.Told.{Told, TookAll}
@@ -108,8 +108,8 @@ module _ {D : Type 0} (honest : D → Type 0) (moment : D → ℕ) (left : D →
     took : TookAll start.told base.told es handed
     stood : start.fallen ≡ false
     keeps_honest : honest start.disk ↔ honest base.disk
-    ready : IsReady honest start → IsReady honest base
-    any_moment : IsReady honest start → LeavesOnly moment left start.disk base.disk (IsSafe start.told.config start.told.state (es ++ fs) 0)
+    ready : IsAtRest honest start → IsAtRest honest base
+    any_moment : IsAtRest honest start → LeavesOnly moment left start.disk base.disk (IsSafe start.told.config start.told.state (es ++ fs) 0)
     configured : honest start.disk → LeavesOnly moment left start.disk base.disk (IsConfigured start.told.config)
     no_failure : failed base.disk ≡ failed start.disk
 
@@ -185,7 +185,7 @@ module _ {D : Type 0} (honest : D → Type 0) (moment : D → ℕ) (left : D →
     parts-held : ((start.told.held ≡ []) → ⊥) → Stands honest moment left failed now now [] [] → Parts start now events handed before
     parts-held some begun =
         let base : Kept D = record now { told = record now.told { held = before ++ now.told.held } } in
-        let ready : IsReady honest base → IsReady honest now = λ r. record { stands = r.stands; is_honest = r.is_honest; none = none-behind before now.told.held r.none } in
+        let ready : IsAtRest honest base → IsAtRest honest now = λ r. record { stands = r.stands; is_honest = r.is_honest; none = none-behind before now.told.held r.none } in
         record {
           base = base;
           es = events;
@@ -247,10 +247,10 @@ module _ {D : Type 0} (honest : D → Type 0) (moment : D → ℕ) (left : D →
         sym (append_assoc handed before now.told.held) ∙ t.order ∙ ap (λ (xs : List (ℕ × Answer)). xs ++ replies start.told t.judged) none ∙ ap (replies start.told) (sym whole)
         ∙ replies-append start.told base.told js ks refl refl (omega (arith, long)) in
         let parts = same_parts handed (before ++ now.told.held) (replies start.told js) (replies base.told ks) (sym long ∙ sym (replies-length start.told js)) in_order in
-        let back : IsReady honest base → IsReady honest start = λ r. record { stands = s.ran.stood; is_honest = s.ran.keeps_honest.1 r.is_honest; none = none } in
+        let back : IsAtRest honest base → IsAtRest honest start = λ r. record { stands = s.ran.stood; is_honest = s.ran.keeps_honest.1 r.is_honest; none = none } in
         let few : length now.told.held ≤ length ks = omega (arith, size, many, rest, long) in
         let are : AreJudged config fs ks = drop-judged config k events t.judged t.are_judged in
-        let rests : IsReady honest base → AgreesWithModel honest moment left failed base now fs = λ r.
+        let rests : IsAtRest honest base → AgreesWithModel honest moment left failed base now fs = λ r.
         let q = s.rests (back r) in
         let same : q.judged ≡ js ++ ks = all-once once config events q.judged t.judged q.are_judged t.are_judged ∙ sym whole in
         record {

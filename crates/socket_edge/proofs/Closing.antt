@@ -18,7 +18,7 @@ use Rattle.socket_edge.specs.declared.fault.EdgeFault.TheVariants.{BadKind, BadI
 use Rattle.socket_edge.specs.declared.serving.Halt.{Halt}
 use Rattle.socket_edge.specs.declared.serving.Halt.TheVariants as halt
 use Rattle.frames.specs.Requests.{Cut, Bad, next}
-use Rattle.frames.specs.Framing.{Framed, Rest, Fault, with_first, whole_frames}
+use Rattle.frames.specs.Framing.{EventsAndRest, Rest, Fault, with_first, whole_frames}
 use Rattle.frames.specs.Answers.{frame}
 use Rattle.socket_edge.specs.Progress.{Progress, AnsweredFirst}
 use Rattle.socket_edge.specs.Running.{Answered, Fares, events_in}
@@ -41,13 +41,13 @@ Answered-of old new bytes sent p none = record { progress = p; none = none; all 
 
 -- the events of the bytes are those of a front, and those behind it
 pub events_then : (bytes later : List ℕ) (events : List Event) → Reads bytes events later → events_in bytes ≡ events ++ events_in later
-events_then bytes later events r = ap (λ (f : Framed). f.events) (Reads-is bytes events later r)
+events_then bytes later events r = ap (λ (f : EventsAndRest). f.events) (Reads-is bytes events later r)
 
 pub events_cut : (bytes rest : List ℕ) (events : List Event) → Reads bytes events rest → next rest ≡ Cut → events_in bytes ≡ events
-events_cut bytes rest events r e = ap (λ (f : Framed). f.events) (framed_then_cut bytes rest events r e)
+events_cut bytes rest events r e = ap (λ (f : EventsAndRest). f.events) (framed_then_cut bytes rest events r e)
 
 pub events_bad : (bytes rest : List ℕ) (events : List Event) (fault : HeaderFault) → Reads bytes events rest → next rest ≡ Bad fault → events_in bytes ≡ events
-events_bad bytes rest events fault r e = ap (λ (f : Framed). f.events) (framed_then_bad bytes rest events fault r e)
+events_bad bytes rest events fault r e = ap (λ (f : EventsAndRest). f.events) (framed_then_bad bytes rest events fault r e)
 
 all_of : (events : List Event) (all : List Event) → all ≡ events → all ≡ events ++ []
 all_of events all e = e ∙ sym (append-nil events)
@@ -166,9 +166,9 @@ module _ {D : Type 0} (honest : D → Type 0) (moment : D → ℕ) (left : D →
       → ((whole_frames bytes).remainder ≡ Fault h) × Answered start.told now.told bytes (flat_map frame out)
   bad-answered h now bytes rest out k =
       let f = framed_then_bad bytes rest k.events h k.reads k.bad in (
-        ap (λ (x : Framed). x.remainder) f,
+        ap (λ (x : EventsAndRest). x.remainder) f,
         Answered-of start.told now.told bytes (flat_map frame out)
-            (subst (λ (x : Framed). Progress start.told now.told x.events [] (flat_map frame out)) (sym f) (Progress-told start.told now.told k.events out k.settled.stands.ran.took)) (λ _. k.settled.none),
+            (subst (λ (x : EventsAndRest). Progress start.told now.told x.events [] (flat_map frame out)) (sym f) (Progress-told start.told now.told k.events out k.settled.stands.ran.took)) (λ _. k.settled.none),
       )
 
   -- the first of the events that the bytes hold were taken

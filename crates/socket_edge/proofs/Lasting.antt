@@ -14,7 +14,7 @@ use Rattle.machine.specs.Noted.{lasting}
 use Rattle.machine.specs.declared.event.Answer.{Answer}
 use Rattle.machine.specs.declared.event.Event.{Event}
 use Rattle.machine.proofs.Judging.{AreJudged-append, AreJudged-length}
-use Rattle.gateway.specs.Kept.{Kept, IsReady, IsSafe}
+use Rattle.gateway.specs.Kept.{Kept, IsAtRest, IsSafe}
 use Rattle.gateway.specs.Running.{Ends}
 use Rattle.gateway.specs.Told.{Told}
 use Rattle.gateway.proofs.Runs.{safe-less}
@@ -148,7 +148,7 @@ module _ {D : Type 0} (honest : D → Type 0) (moment : D → ℕ) (left : D →
 
     -- how they fare together
     pub fares-then : (es fs : List Event) (w sent : List ℕ) (p : Progress a.told b.told es [] w) → (a.told.held ≡ [] → b.told.held ≡ []) → honest a.disk ↔ honest b.disk
-        → (honest a.disk → LeavesOnly moment left a.disk b.disk (IsConfigured a.told.config)) → (IsReady honest a → LeavesOnly moment left a.disk b.disk (IsSafe a.told.config a.told.state es 0))
+        → (honest a.disk → LeavesOnly moment left a.disk b.disk (IsConfigured a.told.config)) → (IsAtRest honest a → LeavesOnly moment left a.disk b.disk (IsSafe a.told.config a.told.state es 0))
         → b.fallen ≡ false → Fares honest moment left b c fs sent → Fares honest moment left a c (es ++ fs) (w ++ sent)
     fares-then es fs w sent p none keeps configured any stands f = record {
       keeps_honest = (λ h. f.keeps_honest.0 (keeps.0 h), λ h. keeps.1 (f.keeps_honest.1 h));
@@ -156,7 +156,7 @@ module _ {D : Type 0} (honest : D → Type 0) (moment : D → ℕ) (left : D →
       none = λ held up. f.none (none held) up;
       outlives = λ ready.
           let there : honest b.disk = keeps.0 ready.is_honest in
-          let ready_b : IsReady honest b = record { stands = stands; is_honest = there; none = none ready.none } in
+          let ready_b : IsAtRest honest b = record { stands = stands; is_honest = there; none = none ready.none } in
           let o = f.outlives ready_b in
           let is_w : w ≡ flat_map frame (replies a.told p.took.judged) = all_sent a.told b.told es w p none ready.none in
           let both : replies a.told (p.took.judged ++ o.judged) ≡ replies a.told p.took.judged ++ replies b.told o.judged =

@@ -3,7 +3,7 @@ use Rattle.std.proofs.Common.{◌≡◌, ℕ, List, [], ◌∷◌, ◌++◌, ref
 use Rattle.std.proofs.lemmas.List.{append-nil}
 use Rattle.machine.specs.declared.event.Event.{Event}
 use Rattle.frames.specs.Requests.{Whole, next}
-use Rattle.frames.specs.Framing.{Framed, with_first, whole_frames}
+use Rattle.frames.specs.Framing.{EventsAndRest, with_first, whole_frames}
 use Rattle.frames.proofs.Fronts.{next_more}
 use Rattle.frames.proofs.Frames.{framed_whole}
 use Rattle.socket_edge.specs.Serving.{Reads}
@@ -15,7 +15,7 @@ Reads-nil given = record { goes = λ more. refl }
 pub Reads-more : (given unanswered : List ℕ) (events : List Event) (got : List ℕ) → Reads given events unanswered → Reads (given ++ got) events (unanswered ++ got)
 Reads-more given unanswered events got r = record { goes = λ more. rw (append_assoc given got more, append_assoc unanswered got more) (r.goes (got ++ more)) }
 
-with_first_twice : (es fs : List Event) (f : Framed) → with_first es (with_first fs f) ≡ with_first (es ++ fs) f
+with_first_twice : (es fs : List Event) (f : EventsAndRest) → with_first es (with_first fs f) ≡ with_first (es ++ fs) f
 with_first_twice es fs f = ap (λ (xs : List Event). record { events = xs; remainder = f.remainder }) (sym (append_assoc es fs f.events))
 
 -- the next frame is taken

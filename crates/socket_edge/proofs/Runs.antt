@@ -9,14 +9,14 @@ use Rattle.disk_model.proofs.Moments.{narrows}
 use Rattle.durable.specs.Recovery.{IsConfigured}
 use Rattle.machine.specs.declared.event.Event.{Event}
 use Rattle.gateway.specs.declared.fault.GatewayFault.TheVariants as fault
-use Rattle.gateway.specs.Kept.{Kept, IsReady, IsSafe}
+use Rattle.gateway.specs.Kept.{Kept, IsAtRest, IsSafe}
 use Rattle.gateway.specs.Running.{Stands}
 use Rattle.gateway.specs.Told.{Told}
 use Rattle.gateway.proofs.Runs.{safe-less, true-false}
 use Rattle.socket_edge.specs.declared.fault.EdgeFault.{EdgeFault}
 use Rattle.socket_edge.specs.declared.fault.EdgeFault.TheVariants.{BadKind, BadInterface, TooLong, Truncated, Input, Output, Gateway}
 use Rattle.frames.specs.Requests.{Cut, next}
-use Rattle.frames.specs.Framing.{Framed, Remainder, Rest, with_first, whole_frames}
+use Rattle.frames.specs.Framing.{EventsAndRest, Remainder, Rest, with_first, whole_frames}
 use Rattle.frames.specs.Answers.{frame}
 use Rattle.socket_edge.specs.Progress.{answers_due, AreFirst, Progress, AnsweredFirst, BeginsFrames}
 use Rattle.socket_edge.specs.Running.{Answered, EndsBy, AllAnswered, Explains, Fares, events_in}
@@ -51,12 +51,12 @@ Served-then a b c given unanswered got rest w sent n m p q = record {
 answered_then : (a b c : Told) (given unanswered got w sent : List ℕ) (n : ℕ) → Served a b given unanswered w n → Answered b c (unanswered ++ got) sent → Answered a c (given ++ got) (w ++ sent)
 answered_then a b c given unanswered got w sent n p q =
     Answered-of a c (given ++ got) (w ++ sent)
-    (subst (λ (f : Framed). Progress a c f.events [] (w ++ sent)) (sym (framed_more given unanswered got p.events p.reads))
+    (subst (λ (f : EventsAndRest). Progress a c f.events [] (w ++ sent)) (sym (framed_more given unanswered got p.events p.reads))
     (Progress-then a b c p.events (whole_frames (unanswered ++ got)).events [] w (w ++ sent) p.progress (Progress-shift b c (whole_frames (unanswered ++ got)).events w sent q.progress)))
     (λ h. q.none (p.none h))
 
 stop_then : (a b : Told) (given unanswered got w : List ℕ) (n : ℕ) (s : Remainder) → Served a b given unanswered w n → (whole_frames (unanswered ++ got)).remainder ≡ s → (whole_frames (given ++ got)).remainder ≡ s
-stop_then a b given unanswered got w n s p e = ap (λ (f : Framed). f.remainder) (framed_more given unanswered got p.events p.reads) ∙ e
+stop_then a b given unanswered got w n s p e = ap (λ (f : EventsAndRest). f.remainder) (framed_more given unanswered got p.events p.reads) ∙ e
 
 begins_then : (a b c : Told) (es fs : List Event) (w sent : List ℕ) → Progress a b es [] w → BeginsFrames b c fs sent → BeginsFrames a c (es ++ fs) (w ++ sent)
 begins_then a b c es fs w sent p q =
@@ -78,36 +78,36 @@ EndsBy-then TooLong a b c given unanswered got w sent n at_end p q = (stop_then 
 EndsBy-then Truncated a b c given unanswered got w sent n at_end p q = (q.0, stop_then a b given unanswered got w n _ p q.1, q.2, answered_then a b c given unanswered got w sent n p q.3, q.4)
 EndsBy-then Input a b c given unanswered got w sent n at_end p q = answered_then a b c given unanswered got w sent n p q
 EndsBy-then Output a b c given unanswered got w sent n at_end p q =
-    let f : (whole_frames (given ++ got)).events ≡ p.events ++ (whole_frames (unanswered ++ got)).events = ap (λ (x : Framed). x.events) (framed_more given unanswered got p.events p.reads) in
+    let f : (whole_frames (given ++ got)).events ≡ p.events ++ (whole_frames (unanswered ++ got)).events = ap (λ (x : EventsAndRest). x.events) (framed_more given unanswered got p.events p.reads) in
     subst (λ (es : List Event). BeginsFrames a c es (w ++ sent)) (sym f) (begins_then a b c p.events (whole_frames (unanswered ++ got)).events w sent p.progress q)
 EndsBy-then (Gateway fault) a b c given unanswered got w sent n at_end p q =
-    subst (λ (f : Framed). AnsweredFirst a c f.events (w ++ sent)) (sym (framed_more given unanswered got p.events p.reads))
+    subst (λ (f : EventsAndRest). AnsweredFirst a c f.events (w ++ sent)) (sym (framed_more given unanswered got p.events p.reads))
     (AnsweredFirst-then a b c p.events (whole_frames (unanswered ++ got)).events w sent p.progress q)
 
 pub AllAnswered-then : (a b c : Told) (given unanswered got w sent : List ℕ) (n m : ℕ) (at_end : Type 0) → Served a b given unanswered w n → AllAnswered m b c (unanswered ++ got) sent at_end → AllAnswered (n + m) a c (given ++ got) (w ++ sent) at_end
 AllAnswered-then a b c given unanswered got w sent n m at_end p q = record {
   answered = answered_then a b c given unanswered got w sent n p q.answered;
   whole = stop_then a b given unanswered got w n _ p q.whole;
-  count_is = omega (arith, p.count_is, q.count_is, length-append p.events (whole_frames (unanswered ++ got)).events, ap (λ (f : Framed). length f.events) (framed_more given unanswered got p.events p.reads));
+  count_is = omega (arith, p.count_is, q.count_is, length-append p.events (whole_frames (unanswered ++ got)).events, ap (λ (f : EventsAndRest). length f.events) (framed_more given unanswered got p.events p.reads));
   ended = q.ended;
 }
 
 -- the loop gave up
 pub Served-answered : (a b : Told) (given unanswered w : List ℕ) (n : ℕ) → Served a b given unanswered w n → Answered a b given w
 Served-answered a b given unanswered w n p =
-    Answered-of a b given w (subst (λ (f : Framed). Progress a b f.events [] w) (sym (framed_then_cut given unanswered p.events p.reads p.cut)) p.progress) p.none
+    Answered-of a b given w (subst (λ (f : EventsAndRest). Progress a b f.events [] w) (sym (framed_then_cut given unanswered p.events p.reads p.cut)) p.progress) p.none
 
 -- nothing more came
 pub nothing : (b : Told) (unanswered : List ℕ) → next unanswered ≡ Cut → Answered b b (unanswered ++ []) []
 nothing b unanswered cut =
     let f : whole_frames (unanswered ++ []) ≡ record { events = []; remainder = Rest unanswered } = ap whole_frames (append-nil unanswered) ∙ framed_then_cut unanswered unanswered [] (Reads-nil unanswered) cut in
-    Answered-of b b (unanswered ++ []) [] (subst (λ (x : Framed). Progress b b x.events [] []) (sym f) (Progress-nil b [])) (λ h. h)
+    Answered-of b b (unanswered ++ []) [] (subst (λ (x : EventsAndRest). Progress b b x.events [] []) (sym f) (Progress-nil b [])) (λ h. h)
 
 pub nothing_stops : (unanswered : List ℕ) → next unanswered ≡ Cut → (whole_frames (unanswered ++ [])).remainder ≡ Rest unanswered
-nothing_stops unanswered cut = ap (λ (f : Framed). f.remainder) (ap whole_frames (append-nil unanswered) ∙ framed_then_cut unanswered unanswered [] (Reads-nil unanswered) cut)
+nothing_stops unanswered cut = ap (λ (f : EventsAndRest). f.remainder) (ap whole_frames (append-nil unanswered) ∙ framed_then_cut unanswered unanswered [] (Reads-nil unanswered) cut)
 
 pub nothing_counts : (unanswered : List ℕ) → next unanswered ≡ Cut → 0 ≡ length (whole_frames (unanswered ++ [])).events
-nothing_counts unanswered cut = sym (ap (λ (f : Framed). length f.events) (ap whole_frames (append-nil unanswered) ∙ framed_then_cut unanswered unanswered [] (Reads-nil unanswered) cut))
+nothing_counts unanswered cut = sym (ap (λ (f : EventsAndRest). length f.events) (ap whole_frames (append-nil unanswered) ∙ framed_then_cut unanswered unanswered [] (Reads-nil unanswered) cut))
 
 -- ---- how far a run has come
 
@@ -117,7 +117,7 @@ module _ {D : Type 0} (honest : D → Type 0) (moment : D → ℕ) (left : D →
     pub served : Served old.told now.told given unanswered written count
     pub keeps_honest : honest old.disk ↔ honest now.disk
     pub configured : honest old.disk → LeavesOnly moment left old.disk now.disk (IsConfigured old.told.config)
-    pub any_moment : IsReady honest old → LeavesOnly moment left old.disk now.disk (IsSafe old.told.config old.told.state served.events 0)
+    pub any_moment : IsAtRest honest old → LeavesOnly moment left old.disk now.disk (IsSafe old.told.config old.told.state served.events 0)
     pub stood : old.fallen ≡ false
     pub stands : now.fallen ≡ false
     pub no_failure : failed now.disk ≡ failed old.disk
@@ -165,7 +165,7 @@ module _ {D : Type 0} (honest : D → Type 0) (moment : D → ℕ) (left : D →
       → Fares honest moment left a c (events_in (given ++ got)) (w ++ sent)
   going-ends a b c given unanswered got w sent n g f =
       let p = g.served in
-      subst (λ (x : Framed). Fares honest moment left a c x.events (w ++ sent)) (sym (framed_more given unanswered got p.events p.reads))
+      subst (λ (x : EventsAndRest). Fares honest moment left a c x.events (w ++ sent)) (sym (framed_more given unanswered got p.events p.reads))
       (fares-then honest moment left failed earlier a b c p.events (events_in (unanswered ++ got)) w sent p.progress p.none g.keeps_honest g.configured g.any_moment g.stands f)
 
   -- the loop gave up

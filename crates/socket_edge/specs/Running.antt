@@ -4,11 +4,11 @@ use Rattle.disk_model.specs.Disk.{Files, LeavesNow, LeavesOnly}
 use Rattle.durable.specs.Recovery.{IsConfigured}
 use Rattle.machine.specs.Judged.{Judged, AreJudged}
 use Rattle.machine.specs.declared.event.Event.{Event}
-use Rattle.frames.specs.declared.fault.HeaderFault.TheVariants as header
+use Rattle.frames.specs.declared.fault.HeaderFault.TheVariants as header_fault
 use Rattle.frames.specs.Framing.{Remainder, Rest, Fault, whole_frames}
 use Rattle.frames.specs.Answers.{frames}
 use Rattle.gateway.specs.Told.{Told}
-use Rattle.gateway.specs.Kept.{Kept, IsReady, IsSafe}
+use Rattle.gateway.specs.Kept.{Kept, IsAtRest, IsSafe}
 use Rattle.gateway.specs.Running.{IsWhy}
 use Rattle.socket_edge.specs.declared.fault.EdgeFault.{EdgeFault}
 use Rattle.socket_edge.specs.declared.fault.EdgeFault.TheVariants.{BadKind, BadInterface, TooLong, Truncated, Input, Output, Gateway}
@@ -31,11 +31,11 @@ pub record Answered (old new : Told) (bytes sent : List ℕ) : Type 0 where
 
 -- what a fault says of the bytes that were read and sent; `at_end` is that the input has ended
 abbrev pub EndsBy : EdgeFault → Told → Told → List ℕ → List ℕ → Type 0 → Type 0
-EndsBy BadKind old new bytes sent at_end = (remainder_of bytes ≡ Fault header.BadKind)
+EndsBy BadKind old new bytes sent at_end = (remainder_of bytes ≡ Fault header_fault.BadKind)
     × Answered old new bytes sent
 EndsBy BadInterface old new bytes sent at_end =
-    (remainder_of bytes ≡ Fault header.BadInterface) × Answered old new bytes sent
-EndsBy TooLong old new bytes sent at_end = (remainder_of bytes ≡ Fault header.TooLong)
+    (remainder_of bytes ≡ Fault header_fault.BadInterface) × Answered old new bytes sent
+EndsBy TooLong old new bytes sent at_end = (remainder_of bytes ≡ Fault header_fault.TooLong)
     × Answered old new bytes sent
 EndsBy Truncated old new bytes sent at_end = (rest : List ℕ)
     × (remainder_of bytes ≡ Rest rest) × (rest ≢ [])
@@ -84,7 +84,7 @@ module _ {D : Type 0} (honest : D → Type 0) (moment : D → ℕ) (left : D →
     pub keeps_honest : honest old.disk ↔ honest new.disk
     pub configured : honest old.disk → old.fallen ≡ false
         → LeavesOnly moment left old.disk new.disk (IsConfigured old.told.config)
-    pub outlives : IsReady honest old → Outlives events sent
+    pub outlives : IsAtRest honest old → Outlives events sent
     -- unless a call of the disk has failed, nothing is held behind it
     pub none : old.told.held ≡ [] → new.fallen ≡ false → new.told.held ≡ []
 

@@ -4,7 +4,7 @@ use Rattle.disk_model.specs.Disk.{Files}
 use Rattle.machine.specs.declared.event.Answer.{Answer}
 use Rattle.machine.specs.declared.event.Event.{Event}
 use Rattle.frames.specs.declared.fault.HeaderFault.{HeaderFault}
-use Rattle.frames.specs.declared.fault.HeaderFault.TheVariants as header
+use Rattle.frames.specs.declared.fault.HeaderFault.TheVariants as header_fault
 use Rattle.frames.specs.Requests.{Whole, Cut, Bad, next}
 use Rattle.frames.specs.Framing.{with_first, whole_frames}
 use Rattle.frames.specs.Answers.{frames}
@@ -19,7 +19,7 @@ use Rattle.socket_edge.specs.declared.serving.Halt.TheVariants as halt
 use Rattle.socket_edge.specs.declared.serving.Step.{Step}
 use Rattle.socket_edge.specs.declared.serving.Step.TheVariants as step
 use Rattle.socket_edge.specs.declared.edge.ReadOutcome.{ReadOutcome}
-use Rattle.socket_edge.specs.declared.edge.ReadOutcome.TheVariants as outcome
+use Rattle.socket_edge.specs.declared.edge.ReadOutcome.TheVariants as read_outcome
 use Rattle.socket_edge.specs.Progress.{Progress}
 use Rattle.socket_edge.specs.Running.{AllAnswered, EndsBy, Fares, Explains, events_in}
 
@@ -45,17 +45,18 @@ FrontCame (Err fault) old new bytes rest sent = EndsBy fault old new bytes sent 
 -- what one read, and all that it made whole, came to
 abbrev pub ReadCame : Result ReadOutcome EdgeFault → Told → Told → List ℕ → List ℕ → List ℕ → Type 0
     → Type 0
-ReadCame (Ok (outcome.More count)) old new bytes rest sent at_end =
+ReadCame (Ok (read_outcome.More count)) old new bytes rest sent at_end =
     Served old new bytes rest sent count
-ReadCame (Ok outcome.End) old new bytes rest sent at_end = AllAnswered 0 old new bytes sent at_end
+ReadCame (Ok read_outcome.End) old new bytes rest sent at_end =
+    AllAnswered 0 old new bytes sent at_end
 ReadCame (Err fault) old new bytes rest sent at_end = EndsBy fault old new bytes sent at_end
 
 -- what a halt means for the run
 abbrev pub end_of : Halt → Result (Unit {0}) EdgeFault
 end_of halt.Cut = Ok tt
-end_of (halt.Bad header.BadKind) = Err BadKind
-end_of (halt.Bad header.BadInterface) = Err BadInterface
-end_of (halt.Bad header.TooLong) = Err TooLong
+end_of (halt.Bad header_fault.BadKind) = Err BadKind
+end_of (halt.Bad header_fault.BadInterface) = Err BadInterface
+end_of (halt.Bad header_fault.TooLong) = Err TooLong
 end_of (halt.Refused fault) = Err (Gateway fault)
 
 -- the gateway refused nothing
@@ -164,11 +165,11 @@ module _ {D : Type 0} (honest : D → Type 0) (moment : D → ℕ) (left : D →
       (events : List Event) × Reads bytes events rest × (next rest ≡ Cut) × (count ≡ length events)
       × IsSettled start now events out
   Closed (Err BadKind) bytes rest count start now out =
-      IsBad header.BadKind bytes rest start now out
+      IsBad header_fault.BadKind bytes rest start now out
   Closed (Err BadInterface) bytes rest count start now out =
-      IsBad header.BadInterface bytes rest start now out
+      IsBad header_fault.BadInterface bytes rest start now out
   Closed (Err TooLong) bytes rest count start now out =
-      IsBad header.TooLong bytes rest start now out
+      IsBad header_fault.TooLong bytes rest start now out
   Closed (Err Truncated) bytes rest count start now out = ⊥
   Closed (Err Input) bytes rest count start now out = ⊥
   Closed (Err Output) bytes rest count start now out = ⊥

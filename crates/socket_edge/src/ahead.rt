@@ -4,9 +4,9 @@ ghost use Rattle.std.specs.Prelude.{◌≡◌, length};
 
 use byteorder::{BigEndian, ByteOrder};
 use disk_model::Disk;
-use frames::request::{Head, Kind, REQUEST_HEAD, read_head};
+use frames::{Head, Kind, REQUEST_HEAD, read_head};
 use gateway::{Coming, Gateway, Iface, MOST_AHEAD};
-use packet::endpoint::{Endpoint, Proto};
+use packet::{Endpoint, Proto};
 
 /// Where fewer of the packets at the front than this come from another flow than the one before, their sessions are
 /// close together in memory.

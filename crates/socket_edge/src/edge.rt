@@ -131,7 +131,8 @@ fn read_once<R: Read, W: Write, D: Disk + Drop>(
     ensures stands { OnOk result (gateway.new.fallen ≡ false) }
     ensures sent { OnOk result (waiting.new.answered ≡ []) }
     ensures no_failure { OnOk result (D.failed gateway.new.disk ≡ D.failed gateway.old.disk) }
-    ensures grown { IfOk result (λ outcome. (outcome ≢ ReadOutcome.End) → gateway.new.grown ≤ 1048576) }
+    ensures grown { IfOk result (λ outcome. (outcome ≢ ReadOutcome.End)
+        → gateway.new.grown ≤ 1048576) }
     ensures stays { IfOk result (λ outcome. outcome ≡ ReadOutcome.End → gateway.new ≡ gateway.old) }
 {
     stands(gateway);

@@ -9,7 +9,7 @@ ghost use Rattle.frames.specs.Answers.{frame};
 ghost use Rattle.socket_edge.specs.Serving.{TakenInPlace};
 
 use disk_model::Disk;
-use frames::answer::{ANSWER_FRONT, drop_frame, forward_front};
+use frames::{ANSWER_FRONT, drop_frame, forward_front};
 use gateway::running::{forward, take_in_place};
 use gateway::{Fate, Gateway, GivenInPlace, Iface};
 

@@ -19,10 +19,11 @@ mod ahead;
 mod edge;
 mod fault;
 mod forwarding;
-pub mod sending;
+mod sending;
 mod serving;
 mod waiting;
 
 pub use edge::run;
 pub use fault::EdgeFault;
+pub use sending::{send, send_all};
 pub use serving::MOST_GROWN;

@@ -6,7 +6,7 @@ ghost use Rattle.frames.specs.Answers.{answer_body, frame_head, frame, frames};
 ghost use Rattle.socket_edge.specs.Progress.{AppendsFront};
 
 use crate::fault::EdgeFault;
-use frames::answer::{byte_of, head_bytes, put_frames};
+use frames::{byte_of, head_bytes, put_frames};
 use gateway::Answer;
 use std::alloc::Global;
 use std::io::Write;

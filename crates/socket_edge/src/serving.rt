@@ -5,7 +5,7 @@
 //! - `offer_all`: frame after frame is offered, until a `Halt`. `offer_next` has a packet taken where it lies
 //!   (`Waiting::forward_next` and `take_next`), behind others whose answers are held (`take_or_settle`) until these are
 //!   synced (`gateway::running::settle`), or where none are (`offer_idle`). Of any other frame a copy is offered:
-//!   `offer_copy` takes it (`frames::request::take_frame`), and `offer_event` hands its event to
+//!   `offer_copy` takes it (`frames::take_frame`), and `offer_event` hands its event to
 //!   `gateway::running::take`. Before one that is never taken so, the frames of held answers make way (`make_way`).
 //!   What is answered goes back into the bytes (`put_back`);
 //! - `close`: what is held is synced and handed out (`give_held`, by `gateway::running::hand_out`) and put back too,
@@ -27,8 +27,7 @@ use crate::ahead::Ahead;
 use crate::fault::EdgeFault;
 use crate::waiting::Waiting;
 use disk_model::Disk;
-use frames::fault::HeaderFault;
-use frames::request::{Taken, take_frame};
+use frames::{HeaderFault, Taken, take_frame};
 use gateway::running::{compact, hand_out, settle, stands, take};
 use gateway::{Answer, Event, Gateway, GatewayFault, MOST_HELD};
 use machine::laws::events_are_judged_once;

@@ -4,7 +4,7 @@
 //! `read` puts what comes behind the bytes that wait. A frame leaves their front by `forward_next` and `take_next`,
 //! which have its packet taken where it lies (`forwarding::forward_frame` and `answer_in_place`) and make its answer of
 //! it, or by `skip`, where `serving` offers a copy of it; then `put` writes the answer where the request stood
-//! (`frames::answer::fill_frames`), if there is room there. `answered` is what stands here to be written:
+//! (`frames::fill_frames`), if there is room there. `answered` is what stands here to be written:
 //! `forget_answered` lets it go behind that. `cut_answered` takes the frames of held answers away: where their changes
 //! could not be synced, or where they make way for a frame that is offered as a copy (`serving::make_way`).
 ghost use Rattle.std.specs.Prelude.{◌≡◌, ◌≢◌, ◌+◌, ◌-◌, ◌≤◌, ◌++◌, ◌∷◌, [], ℕ, List, IfNone, IfOk, IfSome, OnOk, OnErr, length, take, drop, true, false};
@@ -19,8 +19,7 @@ ghost use Rattle.socket_edge.specs.Serving.{TakenInPlace};
 
 use crate::forwarding::{Placed, answer_in_place, forward_frame};
 use disk_model::Disk;
-use frames::answer::fill_frames;
-use frames::request::{Head, Kind, LONGEST_PACKET, REQUEST_HEAD, announces_packet, read_head};
+use frames::{Head, Kind, LONGEST_PACKET, REQUEST_HEAD, announces_packet, fill_frames, read_head};
 use gateway::{Answer, Gateway, Iface, LONGEST_COPY};
 use std::alloc::{AllocError, Global};
 use std::io::Read;

@@ -6,8 +6,7 @@ use durable::{
     DurableFault, Flow, Recovered, begin_code, end_code, load_front, put_heading, recover,
     restart_code, seen_code,
 };
-use packet::bounds::Bounds;
-use packet::endpoint::Proto;
+use packet::{Bounds, Proto};
 use sessions::{Opener, Session};
 use std::alloc::{AllocError, Global};
 use std::process::Abort;

@@ -1,8 +1,7 @@
 //! Bytes of files, and what they stand for.
 
 use durable::Flow;
-use packet::bounds::Bounds;
-use packet::endpoint::{Endpoint, Prefix, Proto};
+use packet::{Bounds, Endpoint, Prefix, Proto};
 use sessions::{Opener, Session};
 use std::alloc::{AllocError, Global};
 use std::test::Fail;

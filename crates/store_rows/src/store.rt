@@ -4,7 +4,7 @@ use crate::shared::{BEGIN, FLOW, FRESH, LOAD, MASQUERADE, QUERY, bounds, joined}
 use disk_model::{Disk, FileId};
 use durable::{begin_code, end_code, load_front};
 use journal::Group;
-use packet::bounds::Bounds;
+use packet::Bounds;
 use snapshot::{CommitFault, CompactFault, OpenFault, Opened, Store};
 use std::alloc::{AllocError, Global};
 use std::process::Abort;

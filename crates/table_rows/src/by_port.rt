@@ -1,4 +1,4 @@
-use buckets::by_port::ByPort;
+use buckets::ByPort;
 use std::alloc::{AllocError, Global};
 use std::process::Abort;
 use std::test::*;

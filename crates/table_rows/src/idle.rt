@@ -3,7 +3,7 @@ ghost use Rattle.std.specs.Prelude.{◌≡◌, ◌≢◌, ℕ, None, IfOk, IsSom
 ghost use Rattle.sessions.specs.Life.{IsSeen};
 ghost use Rattle.timers.specs.Due.{at, IsLatest};
 
-use packet::endpoint::{Endpoint, Proto};
+use packet::{Endpoint, Proto};
 use sessions::{Opener, Session, Slot, Table};
 use std::alloc::{AllocError, Global};
 use std::process::Abort;

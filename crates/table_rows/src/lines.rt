@@ -1,5 +1,5 @@
 //! Lines as people see them, set by hand.
-use packet::endpoint::{Endpoint, Proto};
+use packet::{Endpoint, Proto};
 use session_lines::{put_line, put_lines};
 use sessions::{Opener, Session};
 use std::alloc::{AllocError, Global};

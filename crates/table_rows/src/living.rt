@@ -1,5 +1,4 @@
-use packet::bounds::Bounds;
-use packet::endpoint::{Endpoint, Flags, Prefix, Proto};
+use packet::{Bounds, Endpoint, Flags, Prefix, Proto};
 use sessions::Opener::{self, Inside, Remote};
 use sessions::Phase::{self, Closing, Established, Partial};
 use sessions::{AddFault, Session, Slot, Table, are_known_bits};

@@ -1,5 +1,5 @@
 //! A table that is filled, half emptied and filled again, each time in another order.
-use packet::endpoint::{Endpoint, Proto};
+use packet::{Endpoint, Proto};
 use sessions::{Opener, Session, Table, are_known_bits, order};
 use std::alloc::Global;
 use std::cmp::Ordering;

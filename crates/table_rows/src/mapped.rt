@@ -3,8 +3,8 @@ ghost use Rattle.std.specs.Prelude.{◌≡◌, ◌+◌, ◌<◌, IfOk};
 ghost use Rattle.mappings.specs.declared.map.Mapping.{Mapping};
 ghost use Rattle.mappings.specs.Map.{times, one_at, KeepsOneToOne};
 
-use mappings::map::{Map, Mapping};
-use packet::endpoint::{Endpoint, Proto};
+use mappings::{Map, Mapping};
+use packet::{Endpoint, Proto};
 use std::alloc::AllocError;
 use std::process::Abort;
 use std::test::*;

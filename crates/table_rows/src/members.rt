@@ -1,4 +1,4 @@
-use packet::endpoint::Prefix;
+use packet::Prefix;
 use sets::{Element, Pair, Range, Set, SetFault, Value, Vmap};
 use std::alloc::{AllocError, AllocFailed, Global};
 use std::process::Abort;

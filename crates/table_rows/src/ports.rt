@@ -1,8 +1,8 @@
 ghost use Rattle.std.specs.Prelude.{◌≡◌, ◌+◌, ◌*◌, ◌<◌, [], ◌∷◌, IfOk};
 ghost use Rattle.std.specs.List.{Contains};
 
-use packet::endpoint::Proto;
-use portpick::ports::Ports;
+use packet::Proto;
+use portpick::Ports;
 use std::alloc::{AllocError, Global};
 use std::process::Abort;
 use std::test::*;

@@ -51,7 +51,9 @@ room front rest = width - (length front - hidden front rest)
 
 -- what is shown before the place
 unfoldable pub lead : ℕ → Text → Text → Text
-lead number front rest = codes "line " ++ decimal number ++ codes ": " ++ dots_if (nat_lt 0 (hidden front rest)) ++ map visible (drop (hidden front rest) front)
+lead number front rest =
+    codes "line " ++ decimal number ++ codes ": " ++ dots_if (nat_lt 0 (hidden front rest))
+    ++ map visible (drop (hidden front rest) front)
 
 -- what is shown from the place on
 unfoldable pub trail : Text → Text → Text

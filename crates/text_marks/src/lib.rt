@@ -12,7 +12,7 @@
 //! - `laws`: what holds of every report.
 #![tactic(auto)]
 
-mod laws;
+pub mod laws;
 mod line;
 mod mark;
 mod piece;
@@ -22,5 +22,4 @@ mod sentence;
 mod texts;
 mod wanted;
 
-pub use laws::{marks_are_short, the_line_holds_the_place};
 pub use report::explain;

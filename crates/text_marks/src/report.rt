@@ -8,8 +8,8 @@ use crate::search::place_of;
 use crate::sentence::{right, wrong};
 use crate::texts::put_all;
 use crate::wanted::what_fits;
-use packet::bounds::Bounds;
-use ruletree::fault::{Kind, LoadFault};
+use packet::Bounds;
+use ruletree::{Kind, LoadFault};
 use std::alloc::{AllocError, Global};
 
 // What would be right for a fault behind a text.

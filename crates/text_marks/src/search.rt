@@ -7,10 +7,10 @@ ghost use Rattle.std.specs.Prelude.{◌≤◌, ◌<◌, IfOk, length};
 
 use crate::piece::token_length;
 use crate::texts::put_all;
-use packet::bounds::Bounds;
+use packet::Bounds;
 use rulesyntax::GREATEST_LENGTH;
 use ruletext::fault_of;
-use ruletree::fault::{Kind, LoadFault};
+use ruletree::{Kind, LoadFault};
 use std::alloc::{AllocError, Global};
 
 /// A token of a text.

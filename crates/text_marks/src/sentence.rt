@@ -1,5 +1,5 @@
 //! What is wrong, and what would be right, for each kind of fault.
-use ruletree::fault::Kind;
+use ruletree::Kind;
 
 /// What is wrong where a fault of this kind is.
 pub(crate) fn wrong(kind: Kind) -> &'static str {

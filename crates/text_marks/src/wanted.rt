@@ -6,7 +6,7 @@ use crate::line::newlines;
 use crate::texts::put_all;
 use rulesyntax::GREATEST_LENGTH;
 use ruletext::spelling_fault_of;
-use ruletree::fault::{Kind, LoadFault};
+use ruletree::{Kind, LoadFault};
 use std::alloc::{AllocError, Global};
 
 /// A kind of token, and texts of it.

@@ -2,9 +2,9 @@
 
 use crate::limits::{repeated, row_of_chains};
 use crate::loading::{Row, bounds, check};
-use packet::bounds::Bounds;
-use ruletext::reading::read;
-use ruletree::fault::Kind;
+use packet::Bounds;
+use ruletext::read;
+use ruletree::Kind;
 use std::alloc::{AllocError, Global};
 use std::test::*;
 

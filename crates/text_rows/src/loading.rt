@@ -1,9 +1,8 @@
 //! Texts with what is answered for them, worked from the rules of the format by hand.
 
-use packet::bounds::Bounds;
-use packet::endpoint::Prefix;
-use ruletext::reading::read;
-use ruletree::fault::LoadFault;
+use packet::{Bounds, Prefix};
+use ruletext::read;
+use ruletree::LoadFault;
 use std::alloc::{AllocError, Global};
 use std::process::Abort;
 use std::test::*;

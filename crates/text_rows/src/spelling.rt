@@ -1,9 +1,7 @@
 //! Which texts spell a ruleset, and what is told of the others.
 
 use rulesyntax::{one_ruleset, parse};
-use ruletree::fault::Kind;
-use ruletree::line::Line;
-use ruletree::tree::{Chain, Element, End, Rule, Set, Side, Table, Verdict};
+use ruletree::{Chain, Element, End, Kind, Line, Rule, Set, Side, Table, Verdict};
 use std::alloc::{AllocError, Global};
 use std::process::Abort;
 use std::test::*;

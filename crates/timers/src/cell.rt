@@ -1,6 +1,6 @@
 //! A link as the row keeps it.
 ghost use Rattle.std.specs.Prelude.{◌≡◌, ◌^◌, ◌<◌};
-ghost use Rattle.timers.specs.Kept.{watch_of};
+ghost use Rattle.timers.specs.KeptWatch.{watch_of};
 ghost use Rattle.timers.specs.Links.{alone};
 
 use crate::links::{Queue, Watch};
@@ -12,12 +12,12 @@ use std::marker::Model;
 pub struct Cell {
     previous: u32,
     next: u32,
-    kept: Kept,
+    kept: KeptWatch,
 }
 
 /// What is watched at a place, by its queue: the slot, and the second of the last packet.
 #[derive(Clone, Copy, Drop)]
-pub enum Kept {
+pub enum KeptWatch {
     Nothing,
     Short(Slot, u64),
     Middle(Slot, u64),
@@ -31,7 +31,7 @@ impl Model for Cell {
 
     ghost Value = { Linked };
 
-    ghost use Rattle.timers.specs.Kept.{watch_of};
+    ghost use Rattle.timers.specs.KeptWatch.{watch_of};
 
     ghost view = { λ c. record { previous = c.previous; next = c.next; watch = watch_of c.kept } };
 }
@@ -44,7 +44,7 @@ impl Cell {
         Cell {
             previous: place,
             next: place,
-            kept: Kept::Nothing,
+            kept: KeptWatch::Nothing,
         }
     }
 
@@ -87,27 +87,27 @@ impl Cell {
     }
 }
 
-fn watch_of(kept: Kept) -> Option<Watch>
+fn watch_of(kept: KeptWatch) -> Option<Watch>
     ensures { result ≡ watch_of kept }
 {
     let (slot, last, queue) = match kept {
-        Kept::Nothing => return None,
-        Kept::Short(slot, last) => (slot, last, Queue::Short),
-        Kept::Middle(slot, last) => (slot, last, Queue::Middle),
-        Kept::Long(slot, last) => (slot, last, Queue::Long),
+        KeptWatch::Nothing => return None,
+        KeptWatch::Short(slot, last) => (slot, last, Queue::Short),
+        KeptWatch::Middle(slot, last) => (slot, last, Queue::Middle),
+        KeptWatch::Long(slot, last) => (slot, last, Queue::Long),
     };
     Some(Watch { slot, last, queue })
 }
 
-fn packed(watch: Option<Watch>) -> Kept
+fn packed(watch: Option<Watch>) -> KeptWatch
     ensures { watch_of result ≡ watch }
 {
     let Some(Watch { slot, last, queue }) = watch else {
-        return Kept::Nothing;
+        return KeptWatch::Nothing;
     };
     match queue {
-        Queue::Short => Kept::Short(slot, last),
-        Queue::Middle => Kept::Middle(slot, last),
-        Queue::Long => Kept::Long(slot, last),
+        Queue::Short => KeptWatch::Short(slot, last),
+        Queue::Middle => KeptWatch::Middle(slot, last),
+        Queue::Long => KeptWatch::Long(slot, last),
     }
 }

@@ -21,9 +21,8 @@
 mod ahead;
 mod cell;
 mod due;
-mod laws;
+pub mod laws;
 mod links;
 mod walk;
 
 pub use due::{Due, Idle};
-pub use laws::over_is_not_alive;

@@ -1,4 +1,4 @@
--- The invariant of a loop: how far a reading of a record has come.
+-- The invariant of a loop: how far a reading of a record has come. No public clause cites this module.
 use Rattle.std.specs.Prelude.{◌≡◌, ℕ, ◌%◌, List, length}
 use Rattle.trial_disk.specs.Recorded.{Since, read_after}
 use Rattle.trial_disk.specs.Choices.{chosen}

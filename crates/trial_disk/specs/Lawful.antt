@@ -1,5 +1,6 @@
 -- Proofs, no definitions: for a disk that keeps a record of its calls, what a read gives may be left by a crash, and
 -- what a crash since a moment might have left, one since an earlier moment might have left too.
+-- They stand here since an `impl` of `Disk` can name nothing of proofs/. No public clause cites this module.
 use Rattle.std.specs.Prelude.{◌≡◌, ◌⊎◌, ℕ, ◌+◌, ◌-◌, ◌<◌, ◌≤◌, List, [], ◌∷◌, ◌++◌, length, take, drop, get_or, refl}
 use Rattle.std.proofs.Common.{inl, inr, sym, ◌∙◌, ap, subst, arith, length-append, length-take, length-drop, append_assoc}
 use Rattle.std.proofs.lemmas.List.{take_all, length-take-le, get_or_at, get_or_append_left, get_or-append_right, get_or-take, get_or-drop, get_or_past}

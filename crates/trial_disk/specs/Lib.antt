@@ -2,7 +2,7 @@
 -- is the model's; these words say besides what exactly it does.
 pub mod Recorded
 pub mod Choices
-pub mod Calls
+pub mod DoneCalls
 pub mod Metered
 pub mod Simulated
 -- Machinery, with nothing to believe in it: the proof of the two laws of a disk for the disk in memory, and the

@@ -39,7 +39,8 @@ MayLeave (w ∷ earlier) base left = (before : List ℕ) × MayLeave earlier bas
 -- one call more
 abbrev pub heard : FileId → Done → Since → Since
 heard file (Wrote of at bytes) since =
-    if is_same file of then record { base = since.base; writes = record { at = at; bytes = bytes } ∷ since.writes }
+    if is_same file of
+    then record { base = since.base; writes = record { at = at; bytes = bytes } ∷ since.writes }
     else since
 heard file (Synced of) since =
     if is_same file of then record { base = read_after since.writes since.base; writes = [] }

@@ -10,8 +10,8 @@
 //!   meant to behave as the model says all the same. A meter of its own says which of its calls fail.
 //!
 //! The words of `specs/` say what a record tells of two files, the outcomes that a crash chooses from, and the calls
-//! that fail; no public clause cites `Calls`, nor `Lawful` and `Following`, which serve proofs. The model itself is the
-//! crate `disk_model`.
+//! that fail; no public clause cites `DoneCalls`, nor `Lawful` and `Following`, which serve proofs. The model itself is
+//! the crate `disk_model`.
 #![tactic(auto)]
 
 mod call;

@@ -3,7 +3,7 @@ ghost use Rattle.std.specs.Prelude.{◌≡◌, ◌+◌, ◌≤◌, [], ◌∷◌
 ghost use Rattle.disk_model.specs.Disk.{put};
 ghost use Rattle.trial_disk.specs.Recorded.{History, Wrote, Synced, did, reads};
 ghost use Rattle.trial_disk.specs.Choices.{restarted};
-ghost use Rattle.trial_disk.specs.Calls.{done_of};
+ghost use Rattle.trial_disk.specs.DoneCalls.{done_of};
 
 use crate::call::Call;
 use crate::place::place;
@@ -29,7 +29,7 @@ impl Model for Record {
 
     ghost Value = { History };
 
-    ghost use Rattle.trial_disk.specs.Calls.{done_of};
+    ghost use Rattle.trial_disk.specs.DoneCalls.{done_of};
 
     ghost view = { λ r. record {
       first_a = r.first_a.items;

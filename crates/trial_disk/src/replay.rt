@@ -4,7 +4,7 @@ ghost use Rattle.disk_model.specs.Disk.{put};
 ghost use Rattle.trial_disk.specs.Recorded.{Since, heard, heard_all, is_same};
 ghost use Rattle.trial_disk.specs.Choices.{ones, comes, laid, chosen, placed};
 ghost use Rattle.trial_disk.specs.Following.{Follows};
-ghost use Rattle.trial_disk.specs.Calls.{done_of};
+ghost use Rattle.trial_disk.specs.DoneCalls.{done_of};
 
 use crate::call::Call;
 use crate::place::place;

@@ -31,7 +31,8 @@ looked_up class (pair ∷ pairs) fact =
 -- the verdict of a map, which has none for a packet of another protocol than its head's
 unfoldable pub mapped : Config → Facts → Vmap → Option Verdict
 mapped config facts vmap =
-    if has_protocol vmap.head facts.proto then looked_up (class_of vmap.head) vmap.pairs (asked config facts vmap.head)
+    if has_protocol vmap.head facts.proto
+    then looked_up (class_of vmap.head) vmap.pairs (asked config facts vmap.head)
     else None
 
 -- a called chain that ended lets the rules behind the jump go on
@@ -65,7 +66,8 @@ taken config facts call end = translation config facts end
 -- the end of a rule is taken where all its matches hold; without an end the next rule is asked
 unfoldable pub after : Config → Facts → Table → (List ℕ → Outcome) → Rule → Option Outcome
 after config facts table call rule =
-    if list_all (holds config table.sets facts) rule.matches then option_and_then (taken config facts call) rule.end
+    if list_all (holds config table.sets facts) rule.matches
+    then option_and_then (taken config facts call) rule.end
     else None
 
 -- a list of rules, read from the first on

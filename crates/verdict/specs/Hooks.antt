@@ -14,11 +14,11 @@ use Rattle.verdict.specs.declared.facts.Facts.{Facts}
 use Rattle.verdict.specs.declared.chain.Outcome.{Outcome}
 use Rattle.verdict.specs.declared.chain.Outcome.TheVariants.{Accepts, Drops, To, From, Ends}
 use Rattle.verdict.specs.declared.hook.Forwarding.{Forwarding}
-use Rattle.verdict.specs.declared.hook.Forwarding.TheVariants as forwardings
+use Rattle.verdict.specs.declared.hook.Forwarding.TheVariants as forwarding
 use Rattle.verdict.specs.declared.hook.Destination.{Destination}
-use Rattle.verdict.specs.declared.hook.Destination.TheVariants as destinations
+use Rattle.verdict.specs.declared.hook.Destination.TheVariants as destination
 use Rattle.verdict.specs.declared.hook.Source.{Source}
-use Rattle.verdict.specs.declared.hook.Source.TheVariants as sources
+use Rattle.verdict.specs.declared.hook.Source.TheVariants as source
 use Rattle.verdict.specs.Evaluation.{chain_outcome}
 
 abbrev pub same_hook : Hook → Hook → Bool
@@ -93,18 +93,18 @@ hook_outcome config facts hook text =
 
 -- a packet passes where every base chain accepts
 abbrev pub filtered_by : Outcome → Forwarding
-filtered_by Accepts = forwardings.Pass
-filtered_by _ = forwardings.Drop
+filtered_by Accepts = forwarding.Pass
+filtered_by _ = forwarding.Drop
 
 abbrev pub destination_by : Outcome → Destination
-destination_by (To endpoint) = destinations.To endpoint
-destination_by Drops = destinations.Drop
-destination_by _ = destinations.None
+destination_by (To endpoint) = destination.To endpoint
+destination_by Drops = destination.Drop
+destination_by _ = destination.None
 
 abbrev pub source_by : Outcome → Source
-source_by (From addr) = sources.From addr
-source_by Drops = sources.Drop
-source_by _ = sources.None
+source_by (From addr) = source.From addr
+source_by Drops = source.Drop
+source_by _ = source.None
 
 unfoldable pub forward_verdict : Config → Facts → Spelled → Forwarding
 forward_verdict config facts text = filtered_by (hook_outcome config facts Forward text)

@@ -1,4 +1,5 @@
--- Keys of lines, by which lines are passed over that ask for other numbers than a packet has.
+-- Keys of lines, by which lines are passed over that ask for other numbers than a packet has. No public clause cites
+-- this module.
 use Rattle.std.specs.Prelude.{◌≡◌, ◌⊎◌, ℕ, ◌+◌, ◌*◌, ◌<◌, ◌≤◌, List, Some, length, min, slice_get, slice_index}
 use Rattle.std.specs.List.{Contains}
 use Rattle.std.specs.List.Sorted.{IsNonDecreasingBy}

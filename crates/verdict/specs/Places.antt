@@ -59,7 +59,8 @@ move_at config facts chains end = option_map_or Gives (translation config facts 
 -- what a rule makes of it
 abbrev pub move_of : Config → Facts → Table → Rule → Move
 move_of config facts table rule =
-    if list_all (holds config table.sets facts) rule.matches then option_map_or (move_at config facts table.chains) rule.end Next
+    if list_all (holds config table.sets facts) rule.matches
+    then option_map_or (move_at config facts table.chains) rule.end Next
     else Next
 
 -- what a move makes of its chain, given what each chain comes to
@@ -133,7 +134,8 @@ abbrev pub Fit : List Chain → List Place → Type 0
 Fit chains [] = Unit {0}
 Fit chains (place ∷ places) =
     (place.chain < length chains) × (place.at ≤ length (rules_at chains place.chain))
-    × AllByRecursion (TargetsHave (EndsWithin chains (16 - length places))) (rules_at chains place.chain)
+    × AllByRecursion (TargetsHave (EndsWithin chains (16 - length places)))
+    (rules_at chains place.chain)
     × Fit chains places
 
 -- the rules of all chains

@@ -9,9 +9,8 @@ ghost use Rattle.verdict.specs.Evaluation.{mapped as mapped_to, unless_ended as 
 
 use crate::facts::Facts;
 use crate::matching::{asked, has_protocol};
-use packet::bounds::Bounds;
-use packet::endpoint::Endpoint;
-use ruletree::tree::{End, Vmap};
+use packet::{Bounds, Endpoint};
+use ruletree::{End, Vmap};
 use sets::{Value as Fact, Vmap as Map};
 
 /// What a chain comes to for a packet.

@@ -32,10 +32,8 @@ use crate::facts::Facts;
 use crate::row::Laid;
 use crate::rules::Rules;
 use crate::walk::chain_outcome;
-use packet::bounds::Bounds;
-use packet::endpoint::Endpoint;
-use packet::steps::Steps;
-use ruletree::tree::{Base, Hook, Policy, Table};
+use packet::{Bounds, Endpoint, Steps};
+use ruletree::{Base, Hook, Policy, Table};
 
 /// What the forward chains decide about a packet.
 #[derive(Clone, Copy, Debug, PartialEq, Eq, Drop)]

@@ -8,7 +8,7 @@ ghost use Rattle.std.specs.Prelude.{◌≡◌, ◌+◌, ◌<◌, ◌≤◌, ◌^
 ghost use Rattle.verdict.specs.Keyed.{head_of as head_at, IsKey, AreOrdered, AreKeys, HasNone, HasNoneOf, IsPassed};
 
 use crate::row::{Line, Probe};
-use packet::steps::Steps;
+use packet::Steps;
 use sqlite_items::Items;
 use std::alloc::{AllocError, Global};
 

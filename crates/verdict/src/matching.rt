@@ -10,9 +10,8 @@ ghost use Rattle.verdict.specs.Matching.{name_of as name_of_iface, name_out as n
 
 use crate::facts::{Facts, State};
 use crate::row::Span;
-use packet::bounds::Bounds;
-use packet::endpoint::{Iface, Proto};
-use ruletree::tree::{Head, Transport};
+use packet::{Bounds, Iface, Proto};
+use ruletree::{Head, Transport};
 use sets::{Element, Set as Pool, Value as Fact};
 
 /// A match of a rule, whose side is one of the pools of its table.

@@ -11,7 +11,7 @@ ghost use Rattle.ruletree.specs.declared.tree.Match.{Match as MatchOf};
 ghost use Rattle.ruletree.specs.declared.tree.Rule.{Rule as RuleOf};
 ghost use Rattle.ruletree.specs.declared.tree.Set.{Set as SetOf};
 ghost use Rattle.verdict.specs.Pools.{ArePools};
-ghost use Rattle.verdict.specs.Tests.{IsTest, AreTests, AreTestsLaid, IsReady};
+ghost use Rattle.verdict.specs.Tests.{IsTest, AreTests, AreTestsLaid, IsRunnableRule};
 ghost use Rattle.verdict.specs.Lines.{numbers_of as numbers_of_facts, port_of as port_of_facts, place_of_head, may_hold as may_hold_of, Tells, TellsIn, place_among, place_led, IsLaid, AreLaid, IsRuleLaid, IsChainLaid};
 
 use crate::facts::Facts;
@@ -20,7 +20,7 @@ use crate::map::lay_map;
 use crate::matching::{Test, is_of, state_number};
 use crate::named::Named;
 use crate::pool::{ends_of, lay_side, pools_of};
-use ruletree::tree::{Chain, End, Head, Match, Pair, Rule, Table, Transport, Verdict};
+use ruletree::{Chain, End, Head, Match, Pair, Rule, Table, Transport, Verdict};
 use sets::{LIMIT, Set as Pool, Vmap as Map};
 use sqlite_items::Items;
 use std::alloc::{AllocError, Global};
@@ -287,7 +287,7 @@ fn lay_rule(
 ) -> Result<(), AllocError>
     requires named { sets.now ≡ table.now.sets }
     requires sets { ArePools table.now.sets row.old.pools }
-    requires ready { IsReady table.now.sets rule.now }
+    requires runnable { IsRunnableRule table.now.sets rule.now }
     ensures { OnOk result (IsRuleLaid table.now rule.now row.old row.new) }
 {
     let first = row.targets.len();
@@ -316,8 +316,8 @@ fn lay_chain(
 ) -> Result<(), AllocError>
     requires named { sets.now ≡ table.now.sets }
     requires sets { ArePools table.now.sets row.old.pools }
-    requires ready { (i : ℕ) (rule : RuleOf) → slice_get rules.now i ≡ Some rule
-        → IsReady table.now.sets rule }
+    requires runnable { (i : ℕ) (rule : RuleOf) → slice_get rules.now i ≡ Some rule
+        → IsRunnableRule table.now.sets rule }
     ensures { OnOk result (IsChainLaid table.now rules.now row.old row.new) }
 {
     for rule in rules {

@@ -7,8 +7,8 @@ ghost use Rattle.verdict.specs.Noted.{IsNoted};
 
 use crate::bases::{Asked, AskedByHook, asked_at, asked_by_hook};
 use crate::row::{Laid, lay_all};
-use rulesets::ruleset::Ruleset;
-use ruletree::tree::{Hook, Spelled};
+use rulesets::Ruleset;
+use ruletree::{Hook, Spelled};
 use sqlite_items::Items;
 use std::alloc::{AllocError, Global};
 use std::marker::Model;

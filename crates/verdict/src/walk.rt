@@ -33,9 +33,8 @@ use crate::keys::{NEAR, next_met, pass};
 use crate::matching::all_hold;
 use crate::row::{Laid, Line, NO_NUMBER, Probe, Row, Span, may_hold, numbers_of};
 use crate::stack::{Place, Stack};
-use packet::bounds::Bounds;
-use packet::steps::Steps;
-use ruletree::tree::{End, Rule, Table, Verdict};
+use packet::{Bounds, Steps};
+use ruletree::{End, Rule, Table, Verdict};
 
 /// What a rule makes of the walk. Chains are meant by their places in the table.
 #[derive(Clone, Copy)]

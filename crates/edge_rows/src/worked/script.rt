@@ -12,7 +12,7 @@ use crate::shared::{
     Trials, close, hex, joined, length_of, opened, put_hex, request, run, run_over,
 };
 use gateway::Session;
-use packet::endpoint::{Endpoint, Proto};
+use packet::{Endpoint, Proto};
 use sessions::{Opener, Phase};
 use socket_edge::EdgeFault;
 use std::alloc::{AllocError, Global};

@@ -3,11 +3,10 @@ use crate::beside::drawn::{Draw, Packet, Ruleset};
 use crate::beside::plain::passes;
 use crate::beside::spelled::text;
 use crate::shared::{Loaded, bounds, load_rules};
-use packet::endpoint::{Endpoint, Iface, Prefix, Proto};
+use packet::{Endpoint, Iface, Prefix, Proto};
 use std::alloc::Global;
 use std::test::Fail;
-use verdict::facts::{Facts, State};
-use verdict::hook::{Forwarding, forward};
+use verdict::{Facts, Forwarding, State, forward};
 
 const INSIDE: Prefix = Prefix {
     addr: 0x0a000000,

@@ -1,7 +1,7 @@
 use Rattle.std.proofs.Common.{rules, ◌≡◌, ◌∙◌, inl, inr, refl, sym, ap, subst}
 use Rattle.std.specs.Prelude.{Err, Option}
 use Rattle.durable.specs.Entering.{empty}
-use Rattle.durable.specs.Found.{found_view, state_view}
+use Rattle.durable.specs.FoundViews.{found_view, state_view}
 use Rattle.disk_model.specs.Disk.{pair}
 use Rattle.durable.specs.Recovery.{Finds}
 use Rattle.durable.specs.declared.recovery.Recovered.{Recovered}

@@ -1,6 +1,6 @@
 use Rattle.std.proofs.Common.{ap}
 use Rattle.std.specs.Prelude.{Err}
-use Rattle.durable.specs.Found.{found_view}
+use Rattle.durable.specs.FoundViews.{found_view}
 use Rattle.diagnosis.proofs.probe.is_found.Goals as goal
 use Rattle.diagnosis.proofs.probe.is_found.Goals.{in-Ok, in-Err-Damaged, in-Err-NoMemory}
 

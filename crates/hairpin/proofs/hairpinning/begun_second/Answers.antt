@@ -35,4 +35,4 @@ returns c = λ config rules sessions.
     let stays : breaks_mapping t first ≡ false = subst (λ (u : Session). breaks_mapping u first ≡ false) c.new_session-session.ensures (sym c.breaks_mapping.ensures ∙ c.if-breaks_mapping.false) in
     let none : ¬ AnyClash held t = λ any. false≢true (sym c.if-clashes_with.false ∙ c.clashes_with.ensures.1 (subst (λ (u : Session). AnyClash held u) (sym c.new_session-session.ensures) any)) in
     subst (λ (u : Session). Ok u ≡ begun_second config rules sessions c.args.now view first (put first (listing held)) c.args.inside) (sym c.new_session-session.ensures)
-    (begun-new config rules sessions c.args.now view first (put first (listing held)) c.args.inside (clash-none held first t c.requires.away stays none))
+    (begun-new config rules sessions c.args.now view first (put first (listing held)) c.args.inside (clash-none held first t (λ e. c.requires.away (sym e ∙ c.requires.remote)) stays none))

@@ -16,7 +16,7 @@ returns-then-count-eq-MOST_SESSIONS c =
     let now = c.args.now in
     let view = c.args.view.now in
     let many = length-listing held ∙ sym c.count.ensures ∙ c.if-count-eq-MOST_SESSIONS.true in
-    let way = no_room config rules c.requires.bounded (listing held) now view c.facts.ensures.valid c.requires.translations.sound c.requires.inside c.requires.port c.requires.none
+    let way = no_room config rules c.requires.goes_out.bounded (listing held) now view c.facts.ensures.valid c.requires.goes_out.translations.sound c.requires.goes_out.inside c.requires.goes_out.port c.requires.none
     c.in-Ok.outside (sym (c.in-Ok.ensures now)) many in
     subst (Plans config.external held now (Err TableFull)) (sym way) refl
 
@@ -29,11 +29,11 @@ returns-else-count-eq-MOST_SESSIONS c =
     let view = c.args.view.now in
     let outside = c.in-Ok.outside in
     let few : count_by is_some held ≢ 65536 = λ e. c.if-count-eq-MOST_SESSIONS.false (c.count.ensures ∙ e) in
-    let most : count_by is_some held ≤ 65536 = omega (arith, c.requires.translations.sound.at_most, length-listing held) in
+    let most : count_by is_some held ≤ 65536 = omega (arith, c.requires.goes_out.translations.sound.at_most, length-listing held) in
     let t = new_session config rules (listing held) now view Inside view.src outside view.dst in
-    let o = opened config rules c.requires.bounded (listing held) now view c.facts.ensures.valid c.requires.translations.sound c.requires.inside c.requires.port c.requires.none
+    let o = opened config rules c.requires.goes_out.bounded (listing held) now view c.facts.ensures.valid c.requires.goes_out.translations.sound c.requires.goes_out.inside c.requires.goes_out.port c.requires.none
     outside (sym (c.in-Ok.ensures now)) in
-    let way = room_left config rules c.requires.bounded (listing held) now view c.facts.ensures.valid c.requires.translations.sound c.requires.inside c.requires.port c.requires.none
+    let way = room_left config rules c.requires.goes_out.bounded (listing held) now view c.facts.ensures.valid c.requires.goes_out.translations.sound c.requires.goes_out.inside c.requires.goes_out.port c.requires.none
     outside (sym (c.in-Ok.ensures now)) (omega (arith, few, most, length-listing held)) in
     let plan = c.plan_of_new.ensures ∙ ap plan_begun c.new_session-session.ensures in
     subst (λ p. Plans config.external held now (Ok p) (begun_out config rules (listing held) now view)) (sym plan)

@@ -1,5 +1,5 @@
 use Rattle.std.proofs.Common.{Less, Equal, Greater, ◌<◌, ◌^◌, length, sym, subst, arith}
-use Rattle.sets.specs.Intervals.{Stands}
+use Rattle.sets.specs.Intervals.{StandsBesideElement}
 use Rattle.sets.specs.Members.{fact_of}
 use Rattle.sets.proofs.Places.{in_where_equal}
 use Rattle.sets.proofs.Halving.{halved, none_behind, none_before}
@@ -14,7 +14,7 @@ probe-requires g c =
 
 pub loop-from-preserved-in-Less : goal.loop-from-preserved-in-Less
 loop-from-preserved-in-Less g c =
-    let stands = subst (Stands Less (fact_of c.args.value)) c.key.ensures c.in-Less.ensures.place in
+    let stands = subst (StandsBesideElement Less (fact_of c.args.value)) c.key.ensures c.in-Less.ensures.place in
     record {
       within = omega arith;
       before = c.loop-from.invariant.before;
@@ -27,7 +27,7 @@ loop-from-preserved-in-Less g c =
 
 pub loop-from-preserved : goal.loop-from-preserved
 loop-from-preserved g c =
-    let stands = subst (Stands Greater (fact_of c.args.value)) c.key.ensures c.in-Greater.ensures.place in
+    let stands = subst (StandsBesideElement Greater (fact_of c.args.value)) c.key.ensures c.in-Greater.ensures.place in
     let none = none_before g.K.Keyed.key_of (fact_of c.args.value) c.args.row.now c.requires _ c.index-row-middle.result (omega arith) c.index-row-middle.is stands in
     record {
       within = c.loop-from.invariant.within;
@@ -41,5 +41,5 @@ loop-from-preserved g c =
 
 pub returns-in-Equal-clause-found : goal.returns-in-Equal-clause-found
 returns-in-Equal-clause-found g c =
-    let stands = subst (Stands Equal (fact_of c.args.value)) c.key.ensures c.in-Equal.ensures.place in
+    let stands = subst (StandsBesideElement Equal (fact_of c.args.value)) c.key.ensures c.in-Equal.ensures.place in
     ((_, omega arith, sym c.index-row-middle.is), in_where_equal (fact_of c.args.value) _ stands)

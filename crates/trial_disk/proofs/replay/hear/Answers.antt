@@ -2,7 +2,7 @@ use Rattle.std.proofs.Common.{◌∙◌, sym, subst, ℕ, List}
 use Rattle.std.specs.Prelude.{OnOk}
 use Rattle.trial_disk.specs.declared.call.Call.{Call}
 use Rattle.trial_disk.specs.Recorded.{Since, Wrote, heard}
-use Rattle.trial_disk.specs.Calls.{done_of}
+use Rattle.trial_disk.specs.DoneCalls.{done_of}
 use Rattle.trial_disk.specs.Following.{Follows}
 use Rattle.trial_disk.proofs.Steps.{after_write}
 use Rattle.trial_disk.proofs.replay.hear.Goals as goal

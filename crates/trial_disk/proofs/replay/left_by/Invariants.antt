@@ -1,7 +1,7 @@
 use Rattle.std.proofs.Common.{◌≡◌, [], length, map}
 use Rattle.trial_disk.specs.Recorded.{Since, heard_all}
 use Rattle.trial_disk.specs.Following.{Follows}
-use Rattle.trial_disk.specs.Calls.{done_of}
+use Rattle.trial_disk.specs.DoneCalls.{done_of}
 use Rattle.trial_disk.proofs.replay.left_by.Given as goal
 
 abbrev pub invariant-loop-rest : goal.invariant-loop-rest

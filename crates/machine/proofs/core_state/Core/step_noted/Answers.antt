@@ -5,7 +5,7 @@ use Rattle.machine.specs.Machine.{State, EndsNone, later}
 use Rattle.machine.specs.Core.{state_of}
 use Rattle.machine.specs.Noted.{AreOver}
 use Rattle.machine.specs.Sizes.{most_bytes}
-use Rattle.machine.specs.Sound.{IsSound}
+use Rattle.machine.specs.Sound.{IsSoundState}
 use Rattle.machine.specs.declared.event.Answer.{Answer}
 use Rattle.machine.specs.declared.fault.StepFault.TheVariants.{NoMemory}
 use Rattle.machine.proofs.Judging.{same_unread}
@@ -28,7 +28,7 @@ invariant_of-self g c =
     let e = step-is own.bounds old judged c.later_of-now.result _ c.later_of-now.ensures c.in-Ok-age_and_answer.ensures.ok in
     record {
       external = c.in-Ok-age_and_answer.ensures.external ∙ c.self.invariant.external;
-      sound = subst (IsSound own.bounds) (ap (λ (p : State × Answer). p.0) e) (step-sound own.bounds c.facts.ensures.valid old judged c.in-Ok.ensures.right c.self.invariant.sound);
+      sound = subst (IsSoundState own.bounds) (ap (λ (p : State × Answer). p.0) e) (step-sound own.bounds c.facts.ensures.valid old judged c.in-Ok.ensures.right c.self.invariant.sound);
       live = subst (λ (s : State). EndsNone s.clock s) (ap (λ (p : State × Answer). p.0) e) (λ t is. lt-ltb _ _ (step-alive own.bounds c.facts.ensures.valid old judged t c.self.invariant.sound is));
     }
 

@@ -1,13 +1,13 @@
 use Rattle.std.proofs.Common.{◌++◌, ◌+◌, drop, get_or, map, ap, ◌∙◌, subst}
 use Rattle.std.proofs.lemmas.List.{drop_more}
-use Rattle.sessions.specs.Stilled.{moved}
+use Rattle.sessions.specs.Stilled.{at_moment}
 use Rattle.hairpin.proofs.Beginning.{listing-none}
 use Rattle.machine.proofs.Resuming.{ArePlaced, joins-placed, latest-placed, nobody, placed-all, placed-next}
 use Rattle.machine.proofs.flows.Flows.of.Goals as goal
 
 pub loop-session-init : goal.loop-session-init
 loop-session-init c = record {
-  placed = ap (λ held. held ++ map (moved c.args.moment) c.args.sessions.now) (listing-none c.in_ok-flows.flows.table.held c.in_ok-flows.ensures.none);
+  placed = ap (λ held. held ++ map (at_moment c.args.moment) c.args.sessions.now) (listing-none c.in_ok-flows.flows.table.held c.in_ok-flows.ensures.none);
   external = c.in_ok-flows.ensures.external ∙ c.external.ensures;
 }
 

@@ -1,6 +1,6 @@
 use Rattle.std.proofs.Common.{◌≡◌, ⊎_elim, inl, inr, ap, ◌∷◌, ◌++◌, [], map}
 use Rattle.trial_disk.specs.Recorded.{Synced}
-use Rattle.trial_disk.specs.Calls.{done_of}
+use Rattle.trial_disk.specs.DoneCalls.{done_of}
 use Rattle.trial_disk.proofs.Histories.{either, kept_sync}
 use Rattle.trial_disk.proofs.record.Record.sync.Goals as goal
 

@@ -5,7 +5,7 @@ use Rattle.disk_model.specs.declared.disk.FileId.{FileId}
 use Rattle.disk_model.specs.declared.disk.FileId.TheVariants.{A, B}
 use Rattle.std.specs.Prelude.{Result, Ok, Err, OnOk, OnErr}
 use Rattle.trial_disk.specs.declared.call.Call.{Call}
-use Rattle.trial_disk.specs.Calls.{done_of}
+use Rattle.trial_disk.specs.DoneCalls.{done_of}
 use Rattle.trial_disk.proofs.Histories.{kept_write_a, kept_write_b}
 use Rattle.trial_disk.proofs.record.Record.write.Goals as goal
 

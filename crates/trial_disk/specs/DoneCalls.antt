@@ -1,4 +1,4 @@
--- The calls of a record, as a history tells them.
+-- The calls of a record, as a history tells them. No public clause cites this module.
 use Rattle.trial_disk.specs.Recorded.{Done, Wrote, Synced}
 use Rattle.trial_disk.specs.declared.call.Call.{Call}
 use Rattle.trial_disk.specs.declared.call.Call.TheVariants.{Write, Sync}
