@@ -1,2 +1,2 @@
 pub mod Spelling
-pub mod Verdicts
+pub mod CheckLines

@@ -2,7 +2,7 @@
 ghost use Rattle.std.specs.Prelude.{◌≡◌, ℕ, List, true, false, [], IfOk, IfErr};
 ghost use Rattle.std.specs.Io.KnownBytes.{Appends};
 ghost use Rattle.refusals.specs.declared.refusal.Refusal.TheVariants.{NoMemory};
-ghost use Rattle.checking.specs.Verdicts.{IsShown, IsVerdict, TellsOf};
+ghost use Rattle.checking.specs.CheckLines.{IsShown, IsCheckLine, TellsOf};
 ghost use Rattle.refusals.specs.Words.{IsOfPrinting};
 ghost use Rattle.ruletext.specs.Texts.{IsRefused};
 ghost use Rattle.text_marks.specs.Reports.{IsReport};
@@ -65,7 +65,8 @@ fn refused(
     fault: &LoadFault,
 ) -> Result<Checked, Refusal>
     requires { IsRefused bounds.now text.now fault.now.kind }
-    ensures ok { IfOk result (λ found. IsVerdict bounds.now text.now found.loads found.line.items) }
+    ensures ok { IfOk result (λ found.
+        IsCheckLine bounds.now text.now found.loads found.line.items) }
     ensures marks { IfOk result (λ found. explains ≡ false → found.marks.items ≡ []) }
     ensures shown { IfOk result (λ found. explains ≡ true
         → IsShown text.now found.loads found.marks.items) }
@@ -95,7 +96,8 @@ pub fn report(
     bounds: &Bounds,
     explains: bool,
 ) -> Result<Checked, Refusal>
-    ensures ok { IfOk result (λ found. IsVerdict bounds.now text.now found.loads found.line.items) }
+    ensures ok { IfOk result (λ found.
+        IsCheckLine bounds.now text.now found.loads found.line.items) }
     ensures marks { IfOk result (λ found. explains ≡ false → found.marks.items ≡ []) }
     ensures shown { IfOk result (λ found. explains ≡ true
         → IsShown text.now found.loads found.marks.items) }
@@ -128,7 +130,7 @@ pub fn check<W: Write, E: Write>(
     output: &mut W,
     errors: &mut E,
 ) -> Result<bool, Refusal>
-    ensures ok { IfOk result (λ loads. (line : List ℕ) × IsVerdict bounds.now text.now loads line
+    ensures ok { IfOk result (λ loads. (line : List ℕ) × IsCheckLine bounds.now text.now loads line
         × Appends (W.contents output.old) (W.contents output.new) line) }
     ensures quiet { explains ≡ false → errors.new ≡ errors.old }
     ensures shown { IfOk result (λ loads. explains ≡ true

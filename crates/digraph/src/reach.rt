@@ -48,7 +48,7 @@ pub(crate) fn spread(rows: &[Items<usize>], marks: &mut [bool])
 pub fn mark_reached(rows: &[Items<usize>], marks: &mut [bool], most: usize)
     requires within { AreWithin rows.now }
     requires same { length marks.old ≡ length rows.now }
-    requires flat { ¬ IsDeeper (HasEdge rows.now) most }
+    requires shallow { ¬ IsDeeper (HasEdge rows.now) most }
     ensures { (b : ℕ) → IsMarked marks.new b
         ↔ IsReachedFrom (HasEdge rows.now) (IsMarked marks.old) b }
 {

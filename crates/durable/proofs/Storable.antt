@@ -13,7 +13,7 @@ use Rattle.sessions.proofs.Sets.{In-insert, In-filter}
 use Rattle.durable.specs.declared.entry.Flow.{Flow}
 use Rattle.packet.specs.Numbers.{IsEndpoint}
 use Rattle.durable.specs.Coding.{Heading, Snapshot, Entry, Load, Begin, Seen, Restart, End, IsEntry, AreEntries, IsSession, IsSnapshot}
-use Rattle.durable.specs.Entering.{Durable, IsDurable, empty, is_of, seen_so, changed, entered, Enters, BodiesEnter}
+use Rattle.durable.specs.Entering.{Durable, IsDurable, empty, is_of_flow, seen_so, changed, entered, Enters, BodiesEnter}
 use Rattle.durable.specs.Laws.{RecoversSound}
 use Rattle.durable.specs.Recovery.{IsActive, IsConfigured, Recovers, arranged_on, begun}
 use Rattle.durable.proofs.Keeping.{In-map, Amends, changes, amends-one, amends-seen, amends-anew}
@@ -55,7 +55,7 @@ coded_entry (Load text) d is was = record { text = is; bare = was.bare }
 coded_entry (Begin s) d is was = record { text = was.text; bare = bare_insert s d.sessions (bare_of s is) was.bare }
 coded_entry (Seen f seen) d is was = record { text = was.text; bare = bare_changed f (seen_so seen) (amends-seen seen) d.sessions was.bare }
 coded_entry (Restart f opener seen) d is was = record { text = was.text; bare = bare_changed f (amended opener seen) (amends-anew opener seen) d.sessions was.bare }
-coded_entry (End f) d is was = record { text = was.text; bare = λ t still. was.bare t (In-filter (λ s. not (is_of f s)) d.sessions t still).0 }
+coded_entry (End f) d is was = record { text = was.text; bare = λ t still. was.bare t (In-filter (λ s. not (is_of_flow f s)) d.sessions t still).0 }
 
 coded_entries : (config : Config) (es : List Entry) (old new : Durable) → AreEntries es → Enters config es old new → Coded old → Coded new
 coded_entries config [] old new are enters was = subst Coded (sym enters) was

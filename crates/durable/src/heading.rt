@@ -44,7 +44,7 @@ fn read_prefix(bytes: &[u8]) -> Option<(Prefix, &[u8])>
     Some((Prefix { addr, len }, rest))
 }
 
-fn count_prefixes(
+fn read_counted_prefixes(
     alloc: Global,
     count: u8,
     bytes: &[u8],
@@ -63,7 +63,7 @@ fn count_prefixes(
     Ok((items, rest))
 }
 
-fn count_sessions(
+fn read_counted_sessions(
     alloc: Global,
     count: u32,
     bytes: &[u8],
@@ -89,7 +89,7 @@ fn read_prefixes(alloc: Global, bytes: &[u8]) -> Result<(Vec<Prefix>, &[u8]), Du
     let Some((count, rest)) = u8_of(bytes) else {
         return Err(DurableFault::Damaged);
     };
-    count_prefixes(alloc, count, rest)
+    read_counted_prefixes(alloc, count, rest)
 }
 
 #[tactic(auto, unfolding(crate::specs::Reading::sessions_at))]
@@ -99,7 +99,7 @@ fn read_sessions(alloc: Global, bytes: &[u8]) -> Result<(Vec<Session>, &[u8]), D
     let Some((count, rest)) = u32_of(bytes) else {
         return Err(DurableFault::Damaged);
     };
-    count_sessions(alloc, count, rest)
+    read_counted_sessions(alloc, count, rest)
 }
 
 #[tactic(auto, unfolding(crate::specs::Reading::config_at))]

@@ -24,7 +24,7 @@ use Rattle.hairpin.proofs.Apart.{find-In}
 use Rattle.hairpin.proofs.Soundness.{Joins, JoinEach, filter-all}
 use Rattle.machine.specs.Noted.{goes_on, is_unchanged, entries_for, entries_for_all, entries_making}
 use Rattle.durable.specs.Coding.{Entry, Begin, Seen, Restart}
-use Rattle.durable.specs.Entering.{durable, Enters, is_of, flow_of, changed, seen_so}
+use Rattle.durable.specs.Entering.{durable, Enters, is_of_flow, flow_of, changed, seen_so}
 use Rattle.durable.specs.declared.entry.Flow.{Flow}
 use Rattle.entries.proofs.Stilled.{join, named-stilled, stilled-of}
 
@@ -52,7 +52,7 @@ side-true Remote Remote h = refl
 
 unchanged : (f : Flow) (ss : List Session) → changed f (λ s. s) ss ≡ ss
 unchanged f [] = refl
-unchanged f (s ∷ ss) = elim (cases_Bool (is_of f s)) [
+unchanged f (s ∷ ss) = elim (cases_Bool (is_of_flow f s)) [
   | inl yes_of ↦ ap (λ (b : Bool). cond b s s ∷ changed f (λ x. x) ss) yes_of ∙ ap (λ (l : List Session). s ∷ l) (unchanged f ss)
   | inr no_of ↦ ap (λ (b : Bool). cond b s s ∷ changed f (λ x. x) ss) no_of ∙ ap (λ (l : List Session). s ∷ l) (unchanged f ss)
 ]
@@ -62,7 +62,7 @@ unchanged f (s ∷ ss) = elim (cases_Bool (is_of f s)) [
 module _ (t s : Session) (ss : List Session) (rises : Rises ss) (rises_put : Rises (put t ss)) (in_s : In s ss) (own : same_flow t s ≡ true)
     (g : Session → Session) (keeps : (x : Session) → key (g x) ≡ key x) (fits : g (stilled s) ≡ stilled t) where
   abbrev h : Session → Session
-  h x = cond (is_of (flow_of t) x) (g x) x
+  h x = cond (is_of_flow (flow_of t) x) (g x) x
 
   h-own : h (stilled s) ≡ stilled t
   h-own = ap (λ (b : Bool). cond b (g (stilled s)) (stilled s)) (stilled-of (flow_of t) s ∙ own) ∙ fits
@@ -71,7 +71,7 @@ module _ (t s : Session) (ss : List Session) (rises : Rises ss) (rises_put : Ris
   h-other u other = ap (λ (b : Bool). cond b (g (stilled u)) (stilled u)) (stilled-of (flow_of t) u ∙ other)
 
   h-key : (x : Session) → key (h x) ≡ key x
-  h-key x = elim (cases_Bool (is_of (flow_of t) x)) [
+  h-key x = elim (cases_Bool (is_of_flow (flow_of t) x)) [
     | inl yes_of ↦ ap (λ (b : Bool). key (cond b (g x) x)) yes_of ∙ keeps x
     | inr no_of ↦ ap (λ (b : Bool). key (cond b (g x) x)) no_of
   ]

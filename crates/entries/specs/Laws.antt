@@ -81,7 +81,7 @@ ChangesAreTold = (s t : Session) → TellsChange s t
 
 -- The entry of a packet of a session that is held: a restart where a SYN alone begins a closing session anew, else what
 -- was seen where a bit of it is new, else none.
-pub record ArePinned (sessions : List Session) (s : Session) (sender : Opener) (flags : Flags)
+pub record TellsPacket (sessions : List Session) (s : Session) (sender : Opener) (flags : Flags)
     (now : ℕ) : Type 0 where
   pub anew : restarts s flags ≡ true → entries_for sessions (passed_by s sender flags now)
       ≡ Restart (flow_of s) sender 0 ∷ []
@@ -92,11 +92,11 @@ pub record ArePinned (sessions : List Session) (s : Session) (sender : Opener) (
       → entries_for sessions (passed_by s sender flags now)
       ≡ Seen (flow_of s) (bit_or s.seen (shown s.proto s.opener sender flags)) ∷ []
 
-abbrev pub EntriesArePinned : Type 0
-EntriesArePinned =
+abbrev pub PacketsAreTold : Type 0
+PacketsAreTold =
     (config : Config) (sessions : List Session) (s : Session) (sender : Opener)
     (flags : Flags) (now : ℕ)
-    → AreSound config sessions → In s sessions → ArePinned sessions s sender flags now
+    → AreSound config sessions → In s sessions → TellsPacket sessions s sender flags now
 
 -- A table tells the entry of a session that takes its place there: by the session of its flow that a slot holds, or it
 -- begins, where it clashes with none.

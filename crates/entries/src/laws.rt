@@ -1,6 +1,6 @@
 //! What follows from the definitions: each function is proved to meet its clause.
 ghost use Rattle.entries.specs.Laws.{ChangesAreTold, DueSlotsAreOver, EntriesAreNeeded, EntriesAgreeOnNone};
-ghost use Rattle.entries.specs.Laws.{EntriesArePinned, EntriesAreTheStep, EntriesAreThere, FlowsAreNotedApart};
+ghost use Rattle.entries.specs.Laws.{PacketsAreTold, EntriesAreTheStep, EntriesAreThere, FlowsAreNotedApart};
 ghost use Rattle.entries.specs.Laws.{LastingIsSound, QuietStepsKeep, RestartsAreSound, RestartsAreThere};
 ghost use Rattle.entries.specs.Laws.{RunsAreEntered, TablesTellEntries};
 
@@ -36,8 +36,8 @@ pub fn changes_are_told()
 {}
 
 /// A packet of a session that is held makes one entry or none, which session and packet tell.
-pub fn entries_are_pinned()
-    ensures { EntriesArePinned }
+pub fn packets_are_told()
+    ensures { PacketsAreTold }
 {}
 
 /// The entries of a run do to what is durable what the run does to the state.

@@ -4,7 +4,7 @@ ghost use Rattle.disk_model.specs.declared.disk.DiskFault.{DiskFault as Fault};
 ghost use Rattle.file_disk.specs.WithoutCause.{WithoutCause};
 
 use disk_model::DiskFault;
-use journal::LIMIT;
+use journal::LONGEST_FILE;
 use std::fs::File;
 use std::io;
 use std::os::unix::fs::FileExt;
@@ -71,8 +71,8 @@ fn without_cause<T: Drop>(answer: io::Result<T>) -> Result<T, DiskFault>
 
 // A read or a write goes on where a signal interrupts it, or where it moved only some of the bytes. A sync is
 // fdatasync: by POSIX it has the device keep the bytes and what is needed to read them back, so a new length too, and
-// leaves out the times of the file, which would cost a second write. A file ends at `LIMIT`, behind which no natgw has
-// written, so that one which somebody made longer is not read whole.
+// leaves out the times of the file, which would cost a second write. A file ends at `LONGEST_FILE`, behind which no
+// natgw has written, so that one which somebody made longer is not read whole.
 impl DiskFile for File {
     ghost answers_length = { λ _ _ _. Unit {0} };
 
@@ -83,7 +83,7 @@ impl DiskFile for File {
     ghost answers_sync = { λ _ _ _. Unit {0} };
 
     fn length(&mut self) -> Result<u64, DiskFault> {
-        without_cause(self.metadata().map(|data| data.len().min(LIMIT)))
+        without_cause(self.metadata().map(|data| data.len().min(LONGEST_FILE)))
     }
 
     fn read_fully(&mut self, at: u64, bytes: &mut [u8]) -> Result<(), DiskFault> {

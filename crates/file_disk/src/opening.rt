@@ -138,7 +138,7 @@ fn make_room(file: &File) -> Result<(), OpenError> {
 }
 
 // Syncs a file, and asks the system to drop its copy in memory, which the system may refuse, or leave undone and not
-// tell: behind a failed sync of another program that copy may differ from what the device has.
+// tell: behind a sync that failed, of an earlier run say, that copy may differ from what the device has.
 fn sync_and_uncache(file: &File) -> Result<(), OpenError> {
     file.sync_all()?;
     let _ = libc::posix_fadvise(file.as_raw_fd(), 0, 0, libc::POSIX_FADV_DONTNEED);

@@ -1,5 +1,5 @@
 -- The entries that a body has.
-use Rattle.std.proofs.Common.{◌≡◌, inl, ℕ, zero, suc, ◌+◌, ◌≤◌, List, [], ◌∷◌, ◌++◌, length, refl, sym, ap, subst, ◌∙◌, length-append, arith}
+use Rattle.std.proofs.Common.{◌≡◌, ◌≢◌, inl, ℕ, zero, suc, ◌+◌, ◌<◌, ◌≤◌, List, [], ◌∷◌, ◌++◌, length, refl, sym, ap, subst, ◌∙◌, length-append, arith}
 use Rattle.std.proofs.lemmas.List.{append-nil}
 use Rattle.std.proofs.lemmas.List.Concat.{flat_map-cons, flat_map-append}
 use Rattle.durable.specs.Coding.{Entry, entry_bytes, body_bytes, IsEntry, AreEntries}
@@ -45,6 +45,10 @@ none_where_empty body es are is none = ap entries_in none
 
 pub empty_where_none : (body : List ℕ) (es : List Entry) → AreEntries es → body ≡ body_bytes es → entries_in body ≡ [] → body ≡ []
 empty_where_none body es are is none = body_is body es are is ∙ ap body_bytes none
+
+pub some_bytes : (body : List ℕ) (room : ℕ) → body ≢ [] → 0 < length body + room
+some_bytes [] room some = absurd (some refl)
+some_bytes (b ∷ body) room some = omega arith
 
 pub more_bytes : (es : List Entry) (e : Entry) → body_bytes (es ++ e ∷ []) ≡ body_bytes es ++ entry_bytes e
 more_bytes es e = flat_map-append entry_bytes es (e ∷ []) ∙ ap (λ (l : List ℕ). body_bytes es ++ l) (flat_map-cons entry_bytes e [] ∙ append-nil (entry_bytes e))

@@ -12,7 +12,7 @@ use Rattle.machine.specs.Machine.{State}
 use Rattle.machine.specs.Noted.{IsResumed, lasting}
 use Rattle.entries.proofs.Again.{restart-sound}
 use Rattle.snapshot.specs.Store.{Keeps, RecoversEither, Stored}
-use Rattle.gateway.specs.Kept.{HasPlaces, LeadsToPresent}
+use Rattle.gateway.specs.Kept.{GroupsEndAt, LeadsToPresent}
 
 -- where no entry waits, the files stand for the present state
 pub nothing_waits : (config : Config) (files : Files) (entries : List Entry) (s : State) → LeadsToPresent config files entries s → entries ≡ [] → Recovers files (lasting s)
@@ -49,8 +49,8 @@ module _ {D : Type 0} (moment : D → ℕ) (left : D → ℕ → Files → Type 
       subst (λ (d : Durable). Recovers files d) (recovers_once.state (seen disk) kept first also recovers) (leaves files now)
 
   -- where the store has its groups
-  pub has_places : (store : Stored D) (d : Durable) → Keeps moment left seen store d → HasPlaces (seen store.disk) store.generation store.grown store.end
-  has_places store d keeps = let rests = keeps.rests.1 in record {
+  pub groups_end : (store : Stored D) (d : Durable) → Keeps moment left seen store d → GroupsEndAt (seen store.disk) store.generation store.grown store.end
+  groups_end store d keeps = let rests = keeps.rests.1 in record {
     file = keeps.rests.0;
     heading = rests.heading;
     durable = d;

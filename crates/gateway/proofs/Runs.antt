@@ -326,9 +326,9 @@ module _ {D : Type 0} (honest : D → Type 0) (moment : D → ℕ) (left : D →
 
     -- why it ends: a fault of a flush
     pub flush-why : (next : Kept D) (why : GatewayFault) → (why ≡ fault.Reopen) ↔ (now.fallen ≡ true) → (why ≡ fault.Device) ↔ ((now.fallen ≡ false) × (next.fallen ≡ true))
-        → (why ≡ fault.Reopen) ⊎ (why ≡ fault.Device) → (why ≡ fault.Device → Grew (failed now.disk) (failed next.disk))
+        → (why ≡ fault.Reopen) ⊎ (why ≡ fault.Device) → (why ≡ fault.Device → Grew (failed now.disk) (failed next.disk)) → failed next.disk ≤ failed now.disk + 1
         → IsWhy honest moment left failed start next why
-    flush-why next why reopen fell causes grew =
+    flush-why next why reopen fell causes grew by_one =
         let stood : why ≢ fault.Reopen = λ is. true-false now.fallen (reopen.0 is) s.stands in
         let is : why ≡ fault.Device = ⊎_elim (λ r. absurd (stood r)) (λ d. d) causes in
         record {
@@ -337,6 +337,7 @@ module _ {D : Type 0} (honest : D → Type 0) (moment : D → ℕ) (left : D →
           numbers_out = λ out. let bad : fault.Device ≡ fault.NumbersOut = sym is ∙ out in absurd cc;
           fell = (λ d. (fell.0 d).1, λ up. fell.1 (s.stands, up));
           device = λ d. subst (λ (n : ℕ). Grew n (failed next.disk)) s.no_failure (grew d);
+          by_one = omega (arith, by_one, s.no_failure);
           generations = λ out. let bad : fault.Device ≡ fault.Generations = sym is ∙ out in absurd cc;
         }
 
@@ -347,8 +348,8 @@ module _ {D : Type 0} (honest : D → Type 0) (moment : D → ℕ) (left : D →
     -- of a compaction
     pub compact-why : (next : Kept D) (why : GatewayFault) → (why ≡ fault.Reopen) ↔ (now.fallen ≡ true) → (why ≡ fault.Device) ↔ ((now.fallen ≡ false) × (next.fallen ≡ true))
         → (why ≡ fault.Reopen) ⊎ (why ≡ fault.NoMemory) ⊎ (why ≡ fault.Device) ⊎ (why ≡ fault.Generations) → (why ≡ fault.Device → Grew (failed now.disk) (failed next.disk))
-        → (why ≡ fault.Generations → next.generation ≡ 2 ^ 64 - 1) → IsWhy honest moment left failed start next why
-    compact-why next why reopen fell causes grew generations = record {
+        → failed next.disk ≤ failed now.disk + 1 → (why ≡ fault.Generations → next.generation ≡ 2 ^ 64 - 1) → IsWhy honest moment left failed start next why
+    compact-why next why reopen fell causes grew by_one generations = record {
       stood = λ is. true-false now.fallen (reopen.0 is) s.stands;
       made_room = (
         (λ held. elim causes [
@@ -375,6 +376,7 @@ module _ {D : Type 0} (honest : D → Type 0) (moment : D → ℕ) (left : D →
       ];
       fell = (λ d. (fell.0 d).1, λ up. fell.1 (s.stands, up));
       device = λ d. subst (λ (n : ℕ). Grew n (failed next.disk)) s.no_failure (grew d);
+      by_one = omega (arith, by_one, s.no_failure);
       generations = generations;
     }
 
@@ -389,6 +391,7 @@ module _ {D : Type 0} (honest : D → Type 0) (moment : D → ℕ) (left : D →
       numbers_out = λ is. ap (λ (g : Kept D). g.told.last) same ∙ (numbers.0 is).1;
       fell = (λ d. absurd (causes.0 d), λ up. absurd (true-false now.fallen (sym (ap (λ (g : Kept D). g.fallen) same) ∙ up) s.stands));
       device = λ d. absurd (causes.0 d);
+      by_one = omega (arith, ap (λ (g : Kept D). failed g.disk) same, s.no_failure);
       generations = λ d. absurd (causes.1 d);
     }
 
@@ -414,13 +417,14 @@ module _ {D : Type 0} (honest : D → Type 0) (moment : D → ℕ) (left : D →
 
 -- memory was refused
 pub memory-why : {D : Type 0} (honest : D → Type 0) (moment : D → ℕ) (left : D → ℕ → Files → Type 0) (failed : D → ℕ) (start now : Kept D)
-    → now.fallen ≡ false → IsWhy honest moment left failed start now fault.NoMemory
-memory-why honest moment left failed start now stands = record {
+    → now.fallen ≡ false → failed now.disk ≡ failed start.disk → IsWhy honest moment left failed start now fault.NoMemory
+memory-why honest moment left failed start now stands no_failure = record {
   stood = λ is. absurd cc;
   made_room = ((λ is. absurd cc), (λ is. absurd cc));
   numbers_out = λ is. absurd cc;
   fell = ((λ is. absurd cc), λ up. absurd (true-false now.fallen up stands));
   device = λ is. absurd cc;
+  by_one = omega (arith, no_failure);
   generations = λ is. absurd cc;
 }
 
@@ -429,7 +433,7 @@ pub refused : {D : Type 0} (honest : D → Type 0) (moment : D → ℕ) (left : 
     → Stands honest moment left failed start start [] [] → Ends honest moment left failed start start [] [] → out ≡ [] → StopsWithin honest moment left failed start start events out fault.NoMemory
 refused honest moment left failed start events out stands ends none =
     subst (λ (l : List (ℕ × Answer)). StopsWithin honest moment left failed start start events l fault.NoMemory) (sym none)
-    (record { front = []; back = events; split = refl; stops = record { ends = ends; is_why = memory-why honest moment left failed start start stands.stands; stays = λ other. stands } })
+    (record { front = []; back = events; split = refl; stops = record { ends = ends; is_why = memory-why honest moment left failed start start stands.stands stands.no_failure; stays = λ other. stands } })
 
 module _ {D : Type 0} (honest : D → Type 0) (moment : D → ℕ) (left : D → ℕ → Files → Type 0) (failed : D → ℕ) where
   -- through no events

@@ -30,7 +30,7 @@ pub record Kept (D : Type 0) : Type 0 where
   pub told : Told
 
 -- One of the files is active, of this generation; behind its snapshot it has groups of so many bytes, which end here.
-pub record HasPlaces (files : Files) (generation grown end : ℕ) : Type 0 where
+pub record GroupsEndAt (files : Files) (generation grown end : ℕ) : Type 0 where
   pub file : FileId
   pub heading : Heading
   pub durable : Durable

@@ -1,5 +1,5 @@
 -- How far a run of events has come, against where it began.
-use Rattle.std.specs.Prelude.{◌≡◌, ◌≢◌, ◌↔◌, ℕ, ◌-◌, ◌^◌, List, ◌++◌, length, true, false}
+use Rattle.std.specs.Prelude.{◌≡◌, ◌≢◌, ◌↔◌, ℕ, ◌+◌, ◌-◌, ◌^◌, ◌≤◌, List, ◌++◌, length, true, false}
 use Rattle.disk_model.specs.Disk.{Files, LeavesNow, LeavesOnly, Grew}
 use Rattle.durable.specs.Entering.{Durable}
 use Rattle.durable.specs.Recovery.{IsConfigured, Recovers}
@@ -60,6 +60,8 @@ module _ {D : Type 0} (honest : D → Type 0) (moment : D → ℕ) (left : D →
     pub numbers_out : why ≡ gateway_fault.NumbersOut → now.told.last ≡ 2 ^ 64 - 1
     pub fell : (why ≡ gateway_fault.Device) ↔ (now.fallen ≡ true)
     pub device : why ≡ gateway_fault.Device → Grew (failed start.disk) (failed now.disk)
+    -- no call of the disk followed one that failed, since that one might have failed too
+    pub by_one : failed now.disk ≤ failed start.disk + 1
     pub generations : why ≡ gateway_fault.Generations → now.generation ≡ 2 ^ 64 - 1
 
   -- it ends behind these events, with a fault

@@ -9,25 +9,24 @@
 //! - `settle`: as `flush`, but `Pending::let_go` lets go what was held: its caller has it already.
 //! - `compact`: `Store::compact` makes a file of what must survive (`lasting_sessions`), with no groups.
 //! - `run`: `running::take_all` does these calls for a list of events.
-ghost use Rattle.std.specs.Prelude.{◌≡◌, ◌≢◌, ◌↔◌, ◌⊎◌, ◌+◌, ◌-◌, ◌^◌, ◌<◌, ◌≤◌, ◌++◌, ◌∷◌, [], ℕ, List, IfOk, IfErr, IfNone, IfSome, OnOk, OnErr, OnSome, IsOk, IsErrOf, MatchResult, IsTrue, length, map, true, false};
+ghost use Rattle.std.specs.Prelude.{◌≡◌, ◌≢◌, ◌↔◌, ◌⊎◌, ◌+◌, ◌-◌, ◌^◌, ◌<◌, ◌≤◌, ◌++◌, ◌∷◌, [], ℕ, List, IfOk, IfErr, IfNone, IfSome, OnOk, OnErr, OnSome, IsOk, IsErrOf, MatchResult, IsTrue, length, true, false};
 ghost use Rattle.packet.specs.Config.{is_config};
 ghost use Rattle.disk_model.specs.Disk.{Leaves, LeavesNow, LeavesOnly, Looks, Called, Grew};
 ghost use Rattle.durable.specs.Coding.{Entry, body_bytes};
-ghost use Rattle.durable.specs.Entering.{Durable, IsDurable, durable};
+ghost use Rattle.durable.specs.Entering.{Durable, IsDurable};
 ghost use Rattle.durable.specs.Recovery.{Alike, IsConfigured, NoneOpen, Recovers};
 ghost use Rattle.snapshot.specs.Store.{MakesFirst, RecoversEither};
 ghost use Rattle.machine.specs.Judged.{Judged, IsJudged, IsNoLoad};
-ghost use Rattle.machine.specs.Machine.{AddsNone, EndsNone, later, step};
+ghost use Rattle.machine.specs.Machine.{KeepsCount, EndsNone, later, step};
 ghost use Rattle.machine.specs.Sizes.{most_bytes};
 ghost use Rattle.machine.specs.Noted.{AreEntriesOf, HasEntry, IsResumed, lasting};
 ghost use Rattle.machine.specs.Sound.{IsSoundState};
 ghost use Rattle.machine.specs.declared.event.Answer.TheVariants.{Forward};
 ghost use Rattle.machine.specs.declared.event.What.TheVariants.{Packet};
-ghost use Rattle.sessions.specs.Stilled.{stilled};
 ghost use Rattle.gateway.specs.Given.{IsNow, answer_given, given_by, handed};
 ghost use Rattle.gateway.specs.Told.{Took, TookAll, TookFirst};
 ghost use Rattle.gateway.specs.declared.given.Given.TheVariants.{Now};
-ghost use Rattle.gateway.specs.Kept.{HasPlaces, IsAtRest, IsRoomy, IsSafe, IsTooMuch};
+ghost use Rattle.gateway.specs.Kept.{GroupsEndAt, IsAtRest, IsRoomy, IsSafe, IsTooMuch};
 ghost use Rattle.gateway.specs.Running.{StopsWithin};
 
 use crate::fault::{why_not_compacted, why_refused};
@@ -35,6 +34,7 @@ use crate::given::{give, give_copy};
 use crate::pending::{MOST_HELD, Pending};
 use crate::running::take_all;
 use crate::slot::LONGEST_COPY;
+use crate::surviving::{lasting_sessions, resume_core};
 use crate::{GatewayFault, Given, GivenInPlace, OpenFault};
 use disk_model::Disk;
 use machine::laws::events_are_judged_once;
@@ -96,7 +96,8 @@ impl<D: Disk + Drop> Gateway<D> {
     ///
     /// The disk comes back.
     ///
-    /// - `Device` where a call of the disk has failed. The files stand for what they stood for.
+    /// - `Device` where a call of the disk has failed, which is the last one made. The files stand for what they stood
+    ///   for.
     /// - `Damaged` only where the files, as they read, stand for no state. They are not changed.
     /// - `ConfigDiffers` only where they stand for one, and the active file has another configuration than these
     ///   bounds. They are not changed.
@@ -153,6 +154,9 @@ impl<D: Disk + Drop> Gateway<D> {
             ⊎ (e.1 ≡ OpenFault.ConfigDiffers) → Looks D.moment D.left D.seen disk e.0) }
         ensures device { IfErr result (λ e. e.1 ≡ OpenFault.Device
             → Grew (D.failed disk) (D.failed e.0)) }
+
+        // No call of the disk follows one that has failed, since that one might fail too.
+        ensures by_one { IfErr result (λ e. D.failed e.0 ≤ D.failed disk + 1) }
         ensures only_device { IfErr result (λ e. e.1 ≢ OpenFault.Device
             → D.failed e.0 ≡ D.failed disk) }
         ensures no_failure { IfOk result (λ g. D.failed g.disk ≡ D.failed disk) }
@@ -218,6 +222,9 @@ impl<D: Disk + Drop> Gateway<D> {
     pub fn held(&self) -> usize
         ensures value { result ≡ length self.now.told.held }
         ensures few { result ≤ 64 }
+
+        // Their group, and the closed gate behind it, end within the greatest length of a file.
+        ensures fits { self.now.told.held ≢ [] → self.now.filled + 6 ≤ 67108864 }
     {
         self.pending.len()
     }
@@ -244,16 +251,18 @@ impl<D: Disk + Drop> Gateway<D> {
             → LeavesNow D.moment D.left self.now.disk (IsConfigured self.now.told.config) }
 
         // The groups of the active file end no later than the entries that wait.
-        ensures places { result ≡ false → D.honest self.now.disk → (end : ℕ)
-            × HasPlaces (D.seen self.now.disk) self.now.generation self.now.grown end
+        ensures groups { result ≡ false → D.honest self.now.disk → (end : ℕ)
+            × GroupsEndAt (D.seen self.now.disk) self.now.generation self.now.grown end
             × (end ≤ self.now.filled) }
         ensures filled { result ≡ false → D.honest self.now.disk → self.now.told.held ≡ []
-            → HasPlaces (D.seen self.now.disk) self.now.generation self.now.grown self.now.filled }
+            → GroupsEndAt (D.seen self.now.disk) self.now.generation self.now.grown
+            self.now.filled }
     {
         self.store.has_fallen()
     }
 
-    /// Gives the disk back. Answers that are held are lost, and so are the changes of their events.
+    /// Gives the disk back. Answers that are held are lost. So are the changes of their events, unless a call of the
+    /// disk has failed: then all of them are kept, or none.
     pub fn into_disk(self) -> D
         ensures { result ≡ self.disk }
     {
@@ -317,7 +326,7 @@ impl<D: Disk + Drop> Gateway<D> {
         ensures no_memory { IsNoLoad event.what → (judged : Judged)
             → IsJudged self.old.told.config event judged
             → EndsNone (later self.old.told.state.clock event.moment) self.old.told.state
-            → AddsNone self.old.told.state (step self.old.told.config self.old.told.state judged)
+            → KeepsCount self.old.told.state (step self.old.told.config self.old.told.state judged)
             → IfErr result (λ e. e.1 ≡ GatewayFault.NoMemory
             → self.old.filled + most_bytes judged.deed + 6 ≤ 67108864) }
         ensures causes { IfErr result (λ e. (e.1 ≢ GatewayFault.Device)
@@ -455,6 +464,7 @@ impl<D: Disk + Drop> Gateway<D> {
         ensures stood { OnSome result (self.old.fallen ≡ false) }
         ensures numbers_left { OnSome result (self.old.told.last < 2 ^ 64 - 1) }
         ensures held_few { OnSome result (length self.old.told.held < 64) }
+        ensures short { OnSome result (length packet.old ≤ 2048) }
         ensures none { IfNone result ((self.new ≡ self.old) × (packet.new ≡ packet.old)) }
         ensures length { length packet.new ≡ length packet.old }
     {
@@ -497,7 +507,7 @@ impl<D: Disk + Drop> Gateway<D> {
     /// The answers stay held.
     ///
     /// - `Reopen` exactly where a call of the disk has failed before. The disk stays.
-    /// - `Device` where a call of the disk has failed. The gateway has fallen.
+    /// - `Device` where a call of the disk has failed, which is the last one made. The gateway has fallen.
     pub fn flush(&mut self) -> Result<Vec<(u64, Answer)>, GatewayFault>
         ensures honest { D.honest self.old.disk ↔ D.honest self.new.disk }
 
@@ -527,6 +537,9 @@ impl<D: Disk + Drop> Gateway<D> {
         ensures causes { IfErr result (λ e. (e ≡ GatewayFault.Reopen) ⊎ (e ≡ GatewayFault.Device)) }
         ensures device { IsErrOf result GatewayFault.Device
             → Grew (D.failed self.old.disk) (D.failed self.new.disk) }
+
+        // No call of the disk follows one that has failed, since that one might fail too.
+        ensures by_one { D.failed self.new.disk ≤ D.failed self.old.disk + 1 }
         ensures no_failure { OnOk result (D.failed self.new.disk ≡ D.failed self.old.disk) }
 
         // The group that was written has 5 bytes beside its entries.
@@ -558,7 +571,7 @@ impl<D: Disk + Drop> Gateway<D> {
     /// The answers stay held.
     ///
     /// - `Reopen` exactly where a call of the disk has failed before. The disk stays.
-    /// - `Device` where a call of the disk has failed. The gateway has fallen.
+    /// - `Device` where a call of the disk has failed, which is the last one made. The gateway has fallen.
     pub fn settle(&mut self) -> Result<(), GatewayFault>
         ensures honest { D.honest self.old.disk ↔ D.honest self.new.disk }
 
@@ -587,6 +600,9 @@ impl<D: Disk + Drop> Gateway<D> {
         ensures causes { IfErr result (λ e. (e ≡ GatewayFault.Reopen) ⊎ (e ≡ GatewayFault.Device)) }
         ensures device { IsErrOf result GatewayFault.Device
             → Grew (D.failed self.old.disk) (D.failed self.new.disk) }
+
+        // No call of the disk follows one that has failed, since that one might fail too.
+        ensures by_one { D.failed self.new.disk ≤ D.failed self.old.disk + 1 }
         ensures no_failure { OnOk result (D.failed self.new.disk ≡ D.failed self.old.disk) }
 
         // The group that was written has 5 bytes beside its entries.
@@ -621,7 +637,8 @@ impl<D: Disk + Drop> Gateway<D> {
     ///
     /// - `Reopen` exactly where a call of the disk has failed before. Nothing changes.
     /// - `NoMemory` where memory is refused. Nothing changes.
-    /// - `Device` where a call of the disk has failed. The gateway has fallen; the files stand for the same state.
+    /// - `Device` where a call of the disk has failed, which is the last one made. The gateway has fallen; the files
+    ///   stand for the same state.
     /// - `Generations` only where the active file has the greatest generation, 2^64 - 1. Nothing changes.
     pub fn compact(&mut self) -> Result<(), GatewayFault>
         requires { self.old.told.held ≡ [] }
@@ -648,6 +665,9 @@ impl<D: Disk + Drop> Gateway<D> {
             ⊎ (e ≡ GatewayFault.Device) ⊎ (e ≡ GatewayFault.Generations)) }
         ensures device { IsErrOf result GatewayFault.Device
             → Grew (D.failed self.old.disk) (D.failed self.new.disk) }
+
+        // No call of the disk follows one that has failed, since that one might fail too.
+        ensures by_one { D.failed self.new.disk ≤ D.failed self.old.disk + 1 }
         ensures no_failure { OnOk result (D.failed self.new.disk ≡ D.failed self.old.disk) }
         ensures called { D.honest self.old.disk
             → OnOk result (Called 6 (D.called self.old.disk) (D.called self.new.disk)) }
@@ -727,6 +747,9 @@ impl<D: Disk + Drop> Gateway<D> {
             ↔ ((self.old.fallen ≡ false) × (self.new.fallen ≡ true))) }
         ensures device { IfErr result (λ e. e.1 ≡ GatewayFault.Device
             → Grew (D.failed self.old.disk) (D.failed self.new.disk)) }
+
+        // No call of the disk follows one that has failed, since that one might fail too.
+        ensures by_one { D.failed self.new.disk ≤ D.failed self.old.disk + 1 }
     {
         if self.has_fallen() {
             return Err((Vec::new(self.alloc), GatewayFault::Reopen));
@@ -741,59 +764,7 @@ impl<D: Disk + Drop> Gateway<D> {
     }
 }
 
-// A core that begins again from what survived, with nothing held; the next group will stand at the place.
-fn resume_core(
-    alloc: Global,
-    bounds: Bounds,
-    text: Vec<u8>,
-    sessions: &[Session],
-    moment: u64,
-    place: u64,
-) -> Result<(Core, Pending), NoMemory>
-    requires { IsDurable bounds (durable text.items sessions.now) }
-    ensures config { IfOk result (λ r. r.0.config ≡ bounds) }
-    ensures state { IfOk result (λ r. IsResumed bounds (durable text.items sessions.now) moment
-        r.0.state) }
-    ensures pending { IfOk result (λ r. r.1 ≡ record {
-      held = [];
-      entries = [];
-      place = place;
-      room = 0;
-    }) }
-{
-    // The core comes last, so that no way out of here lets one go (why: `Core::discard`).
-    let Ok(pending) = Pending::new(alloc, place) else {
-        return Err(NoMemory);
-    };
-    match Core::resume(alloc, bounds, text, sessions, moment) {
-        Ok(core) => Ok((core, pending)),
-        Err(fault) => Err(fault),
-    }
-}
-
-// The sessions without when their last packets passed.
-fn lasting_sessions(core: &Core) -> Result<Vec<Session>, NoMemory>
-    ensures { IfOk result (λ sessions. sessions.items ≡ map stilled core.now.state.sessions) }
-{
-    match core.sessions() {
-        Ok(mut sessions) => {
-            forget_moments(sessions.as_mut_slice());
-            Ok(sessions)
-        }
-        Err(NoMemory) => Err(NoMemory),
-    }
-}
-
 // A number of this type has 64 bits.
 fn fits(number: u64)
     ensures { number < 2 ^ 64 }
 {}
-
-// Forgets when the last packets of the sessions passed.
-fn forget_moments(sessions: &mut [Session])
-    ensures { sessions.new ≡ map stilled sessions.old }
-{
-    for session in sessions.iter_mut() {
-        session.last = 0;
-    }
-}

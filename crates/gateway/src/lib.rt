@@ -8,6 +8,7 @@
 //! - `calls`: `Gateway`, to which events are offered. A packet whose session goes on leaves at once, translated
 //!   where it lies, if nothing is held (`forward`); any packet of at most 2,048 bytes may be taken where it lies
 //!   (`offer_in_place`).
+//! - `surviving`: a core that begins again from what survived, and what survives of one.
 //! - `running`: a run of events over the gateway's calls, event by event.
 //! - `laws`: what follows from the definitions of `specs/Standing`.
 #![tactic(auto)]
@@ -19,6 +20,7 @@ pub mod laws;
 mod pending;
 pub mod running;
 mod slot;
+mod surviving;
 
 pub use calls::Gateway;
 pub use fault::GatewayFault;

@@ -14,7 +14,7 @@ ghost use Rattle.machine.specs.Fates.{answer_of};
 
 use crate::slot::AnswerSlot;
 use durable::{END_LEN, Entry, begin_code, end_code, load_front, restart_code, seen_code};
-use journal::{Group, LIMIT};
+use journal::{Group, LONGEST_FILE};
 use machine::{Answer, Fate, Notes, StepFault};
 use std::alloc::{AllocError, Global};
 use std::marker::Model;
@@ -89,6 +89,8 @@ impl Pending {
     pub(crate) fn len(&self) -> usize
         ensures value { result ≡ length self.now.held }
         ensures few { result ≤ 64 }
+        ensures fits { self.now.held ≢ []
+            → self.now.place + length (body_bytes self.now.entries) + 6 ≤ 67108864 }
     {
         self.held.len() + self.used
     }
@@ -205,17 +207,21 @@ impl Notes for Pending {
 }
 
 // How many bytes the entries take, 14 for each session that ends and those of the others, if they fit the file
-// behind those that wait: it takes `LIMIT` bytes, 67,108,864, at most.
+// behind those that wait: it takes `LONGEST_FILE` bytes, 67,108,864, at most.
 fn room_for(place: u64, waiting: u64, ends: u64, others: u64) -> Option<u64>
     ensures some { IfSome result (λ bytes. (bytes ≡ 14 * ends + others)
         × (place + waiting + bytes + 6 ≤ 67108864)) }
     ensures none { IfNone result (67108864 < place + waiting + (14 * ends + others) + 6) }
 {
-    if place > LIMIT || waiting > LIMIT || ends > LIMIT || others > LIMIT {
+    if place > LONGEST_FILE
+        || waiting > LONGEST_FILE
+        || ends > LONGEST_FILE
+        || others > LONGEST_FILE
+    {
         return None;
     }
     let bytes = END_LEN as u64 * ends + others;
-    if place + waiting + bytes + AROUND > LIMIT {
+    if place + waiting + bytes + AROUND > LONGEST_FILE {
         return None;
     }
     Some(bytes)

@@ -1,5 +1,5 @@
 -- What a plan means for the sessions that are held.
-use Rattle.std.specs.Prelude.{◌≡◌, ◌≢◌, ℕ, ◌<◌, List, [], ◌∷◌, Option, Some, None, Result, Ok, Err, slice_index_or, count_by, is_some, false}
+use Rattle.std.specs.Prelude.{◌≡◌, ◌≢◌, ℕ, List, [], ◌∷◌, Option, Some, None, Result, Ok, Err, slice_index_or, count_by, is_some, false}
 use Rattle.packet.specs.Same.{same_endpoint}
 use Rattle.sessions.specs.Life.{IsSeen}
 use Rattle.sessions.specs.Listing.{listing, put}
@@ -8,6 +8,7 @@ use Rattle.sessions.specs.declared.session.Change.{Change}
 use Rattle.sessions.specs.declared.session.Change.TheVariants.{Begin, Seen, Restart}
 use Rattle.sessions.specs.declared.session.Session.{Session}
 use Rattle.hairpin.specs.Legs.{Passage}
+use Rattle.hairpin.specs.Translations.{IsExternal}
 use Rattle.hairpin.specs.declared.cause.Cause.{Cause}
 use Rattle.hairpin.specs.declared.plan.Plan.{Plan}
 
@@ -18,8 +19,7 @@ pub record MayBegin (external : ℕ) (held : List (Option Session)) (now : ℕ)
   pub last : s.last ≡ now
   pub apart : ¬ AnyClash held s
   pub few : count_by is_some held ≢ most_sessions
-  pub placed : same_endpoint s.inside s.outside ≡ false
-      → (s.outside.addr ≡ external) × (0 < s.outside.port)
+  pub placed : same_endpoint s.inside s.outside ≡ false → IsExternal external s.outside
 
 -- the change is of the session that the slot holds
 abbrev pub IsOf : Change → ℕ → Type 0

@@ -17,6 +17,10 @@ pub record Translations : Type 0 where
 abbrev pub endpoint : ℕ → ℕ → Endpoint
 endpoint addr port = record { addr = addr; port = port }
 
+-- by this endpoint the world may call a host: it is at the external address, and not at port 0
+abbrev pub IsExternal : ℕ → Endpoint → Type 0
+IsExternal external e = (e.addr ≡ external) × (0 < e.port)
+
 -- some mapping of the protocol that is held has this outside endpoint
 abbrev pub IsOutside : Mappings → Proto → Endpoint → Type 0
 IsOutside mappings proto outside = (inside : Endpoint)
@@ -36,8 +40,7 @@ pub record Follows (external : ℕ) (mappings : Mappings) (ports : TakenPorts) :
   pub address : Contains ports.external external
   pub taken : (proto : Proto) (port : ℕ) → IsTaken ports proto external port
       ↔ IsOutside mappings proto (endpoint external port)
-  pub placed : (p : Mapping) → 0 < times mappings p
-      → (p.outside.addr ≡ external) × (0 < p.outside.port)
+  pub placed : (p : Mapping) → 0 < times mappings p → IsExternal external p.outside
 
 -- so many more mappings take no memory
 pub record HasRoom (n : ℕ) (t : Translations) : Type 0 where

@@ -35,10 +35,9 @@ use verdict::{Destination, Forwarding, Rules, State, forward, prerouting};
 /// seconds (RFC 4787, REQ-9; RFC 5382, REQ-8).
 ///
 /// It goes out by one session and comes in by another, and leaves on lan with its external source (REQ-9a): the leg
-/// `hairpin` of specs/Legs.
-/// Without a session or a mapping the first session's port is chosen at the destination's address,
-/// whatever the rules say. The second leg is that of a packet from the first one's outside endpoint. The forward
-/// chains see the packet once, between its inside endpoints. Nothing is changed, and no memory taken.
+/// `hairpin_leg` of specs/Legs. Without a session or a mapping the first session's port is chosen at the destination's
+/// address, whatever the rules say. The second leg is that of a packet from the first one's outside endpoint. The
+/// forward chains see the packet once, between its inside endpoints. Nothing is changed, and no memory taken.
 ///
 /// # Errors
 ///

@@ -11,6 +11,7 @@ ghost use Rattle.hairpin.specs.Plans.{Plans};
 ghost use Rattle.hairpin.specs.KeepBounds.{KeepBounds};
 ghost use Rattle.sessions.specs.Sound.{AreSound};
 ghost use Rattle.hairpin.specs.Tallies.{AreOf, tally};
+ghost use Rattle.hairpin.specs.Translations.{IsExternal};
 
 use crate::cause::Cause;
 use crate::held::{
@@ -120,8 +121,7 @@ fn begun_in(
     now: u64,
 ) -> Result<Plan, Cause>
     requires few { length (listing table.now.held) ≤ most_sessions }
-    requires placed { (inside ≡ view.now.dst)
-        ⊎ ((view.now.dst.addr ≡ bounds.now.external) × (0 < view.now.dst.port)) }
+    requires placed { (inside ≡ view.now.dst) ⊎ IsExternal bounds.now.external view.now.dst }
     ensures { Plans bounds.now.external table.now.held now result
         (begun_way bounds.now rules.now (listing table.now.held) now view.now inside) }
 {

@@ -9,7 +9,7 @@ ghost use Rattle.portpick.specs.Taken.{IsTaken};
 ghost use Rattle.mappings.specs.Map.{times, mapping as mapping_with, Gains, KeepsOneToOne, SameTimes};
 ghost use Rattle.mappings.specs.declared.map.Mapping.{Mapping};
 ghost use Rattle.hairpin.specs.Tallies.{mapping_of, weight};
-ghost use Rattle.hairpin.specs.Translations.{HasRoom, IsPlacedIn, IsOutside, IsOutsideOf, endpoint};
+ghost use Rattle.hairpin.specs.Translations.{HasRoom, IsExternal, IsPlacedIn, IsOutside, IsOutsideOf, endpoint};
 
 use mappings::{Map, Mapping};
 use packet::{Endpoint, Proto};
@@ -140,7 +140,7 @@ impl Translations {
             → KeepsOneToOne self.old.mappings (mapping_of session.now) }
         requires few { times self.old.mappings (mapping_of session.now) < 65536 }
         requires placed { same_endpoint session.now.inside session.now.outside ≡ false
-            → (session.now.outside.addr ≡ self.old.external) × (0 < session.now.outside.port) }
+            → IsExternal self.old.external session.now.outside }
         requires ready { HasRoom 1 self.old }
         ensures counts { (p : Mapping) → times self.new.mappings p
             ≡ times self.old.mappings p + weight p (Some session.now) }
@@ -170,7 +170,7 @@ impl Translations {
     fn hold_mapping(&mut self, mapping: Mapping)
         requires one_to_one { KeepsOneToOne self.old.mappings mapping }
         requires few { times self.old.mappings mapping < 65536 }
-        requires placed { (mapping.outside.addr ≡ self.old.external) × (0 < mapping.outside.port) }
+        requires placed { IsExternal self.old.external mapping.outside }
         requires room { HasRoom 1 self.old }
         ensures gains { Gains self.old.mappings self.new.mappings mapping }
         ensures room { (n : ℕ) → HasRoom (n + 1) self.old → HasRoom n self.new }

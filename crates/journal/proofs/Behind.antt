@@ -6,11 +6,11 @@ use Rattle.std.proofs.lemmas.Bool.{cases_eq}
 use Rattle.byteorder.specs.Endian.{big_bytes}
 use Rattle.byteorder.specs.Numbers.{length-bytes_high_first}
 use Rattle.disk_model.specs.Disk.{Torn, put}
-use Rattle.journal.specs.Groups.{Groups, Extended, framed, open_groups}
+use Rattle.journal.specs.Groups.{Groups, Extended, sealed, open_groups}
 use Rattle.journal.proofs.Torn.{torn_before, torn_behind, take-put, drop-put, length-put}
 
-pub length-framed : (body : List ℕ) → length (framed body) ≡ length body + 5
-length-framed body = omega (arith, length-append (big_bytes 4 (length body)) (body ++ 0 ∷ []), length-append body (0 ∷ []), length-bytes_high_first 4 (length body))
+pub length-sealed : (body : List ℕ) → length (sealed body) ≡ length body + 5
+length-sealed body = omega (arith, length-append (big_bytes 4 (length body)) (body ++ 0 ∷ []), length-append body (0 ∷ []), length-bytes_high_first 4 (length body))
 
 pub open_groups-push : (bodies : List (List ℕ)) (body tail : List ℕ) → open_groups (bodies ++ body ∷ []) ++ tail ≡ open_groups bodies ++ 1 ∷ (big_bytes 4 (length body) ++ (body ++ tail))
 open_groups-push [] body tail = ap (λ l. 1 ∷ l) (append_assoc (big_bytes 4 (length body)) (body ++ []) tail ∙ ap (λ l. big_bytes 4 (length body) ++ l) (append_assoc body [] tail))
@@ -59,7 +59,7 @@ still at gate rest old new same is shut start bodies g = record {
 }
 
 -- an open one with a whole body and a closed gate behind it: the new group too
-pub one_more : (at : ℕ) (body rest old new : List ℕ) → length body < 2 ^ 32 → take at new ≡ take at old → drop at new ≡ 1 ∷ (framed body ++ rest)
+pub one_more : (at : ℕ) (body rest old new : List ℕ) → length body < 2 ^ 32 → take at new ≡ take at old → drop at new ≡ 1 ∷ (sealed body ++ rest)
     → (start : ℕ) (bodies : List (List ℕ)) → Groups old start bodies at → Groups new start (bodies ++ body ∷ []) (at + length body + 5)
 one_more at body rest old new fits same is start bodies g = record {
   gate = 0;
@@ -109,40 +109,40 @@ torn_body at buffer old new body within shut torn =
 
 module _ (at : ℕ) (body old : List ℕ) (within : at < length old) where
   -- The second leaves it closed, or open with the body behind it.
-  pub torn_gate : (new : List ℕ) → length body < 2 ^ 32 → Torn at (1 ∷ []) (put (at + 1) (framed body) old) new → Extended at body old new
+  pub torn_gate : (new : List ℕ) → length body < 2 ^ 32 → Torn at (1 ∷ []) (put (at + 1) (sealed body) old) new → Extended at body old new
   torn_gate new fits torn =
-      let s = put (at + 1) (framed body) old in
-      let size = length-put (at + 1) (framed body) old (omega (arith, within)) in
-      let same : take at new ≡ take at old = torn_before at at (1 ∷ []) s new torn (omega arith) (omega (arith, within, size.0)) ∙ take-put (at + 1) at (framed body) old (omega arith) (omega (arith, within)) in
-      let behind : drop (at + 1) new ≡ framed body ++ (drop (at + 1 + length (framed body)) old ++ drop (length s) new) =
+      let s = put (at + 1) (sealed body) old in
+      let size = length-put (at + 1) (sealed body) old (omega (arith, within)) in
+      let same : take at new ≡ take at old = torn_before at at (1 ∷ []) s new torn (omega arith) (omega (arith, within, size.0)) ∙ take-put (at + 1) at (sealed body) old (omega arith) (omega (arith, within)) in
+      let behind : drop (at + 1) new ≡ sealed body ++ (drop (at + 1 + length (sealed body)) old ++ drop (length s) new) =
       torn_behind at (at + 1) (1 ∷ []) s new torn (omega arith) (omega (arith, size.1))
-      ∙ ap (λ l. l ++ drop (length s) new) (drop-put (at + 1) (framed body) old (omega (arith, within)))
-      ∙ append_assoc (framed body) (drop (at + 1 + length (framed body)) old) (drop (length s) new) in
+      ∙ ap (λ l. l ++ drop (length s) new) (drop-put (at + 1) (sealed body) old (omega (arith, within)))
+      ∙ append_assoc (sealed body) (drop (at + 1 + length (sealed body)) old) (drop (length s) new) in
       let is : drop at new ≡ get_or new at 0 ∷ drop (at + 1) new = drop_more new at 0 (omega (arith, within, size.0, torn.no_shorter)) in
       record {
         before = same;
         groups = λ start bodies g. elim (cases_eq (get_or new at 0) 1) [
-          | inl open_gate ↦ inr (one_more at body (drop (at + 1 + length (framed body)) old ++ drop (length s) new) old new fits same (is ∙ ap (λ k. k ∷ drop (at + 1) new) open_gate ∙ ap (λ l. 1 ∷ l) behind) start bodies g)
+          | inl open_gate ↦ inr (one_more at body (drop (at + 1 + length (sealed body)) old ++ drop (length s) new) old new fits same (is ∙ ap (λ k. k ∷ drop (at + 1) new) open_gate ∙ ap (λ l. 1 ∷ l) behind) start bodies g)
           | inr shut ↦ inl (still at (get_or new at 0) (drop (at + 1) new) old new same is shut start bodies g)
         ];
       }
 
   -- both are done: the group is open, and the gate behind it closed
-  pub opened : (new : List ℕ) → new ≡ put at (1 ∷ []) (put (at + 1) (framed body) old)
-      → (take at new ≡ take at old) × (drop at new ≡ 1 ∷ (framed body ++ drop (at + 1 + length (framed body)) old))
+  pub opened : (new : List ℕ) → new ≡ put at (1 ∷ []) (put (at + 1) (sealed body) old)
+      → (take at new ≡ take at old) × (drop at new ≡ 1 ∷ (sealed body ++ drop (at + 1 + length (sealed body)) old))
   opened new is =
-      let s = put (at + 1) (framed body) old in
-      let size = length-put (at + 1) (framed body) old (omega (arith, within)) in (
-        ap (λ l. take at l) is ∙ take-put at at (1 ∷ []) s (omega arith) (omega (arith, size.0, within)) ∙ take-put (at + 1) at (framed body) old (omega arith) (omega (arith, within)),
-        ap (λ l. drop at l) is ∙ drop-put at (1 ∷ []) s (omega (arith, size.0, within)) ∙ ap (λ l. 1 ∷ l) (drop-put (at + 1) (framed body) old (omega (arith, within))),
+      let s = put (at + 1) (sealed body) old in
+      let size = length-put (at + 1) (sealed body) old (omega (arith, within)) in (
+        ap (λ l. take at l) is ∙ take-put at at (1 ∷ []) s (omega arith) (omega (arith, size.0, within)) ∙ take-put (at + 1) at (sealed body) old (omega arith) (omega (arith, within)),
+        ap (λ l. drop at l) is ∙ drop-put at (1 ∷ []) s (omega (arith, size.0, within)) ∙ ap (λ l. 1 ∷ l) (drop-put (at + 1) (sealed body) old (omega (arith, within))),
       )
 
-  pub put_whole : (new : List ℕ) → new ≡ put at (1 ∷ []) (put (at + 1) (framed body) old) → new ≡ put at (1 ∷ framed body) old
+  pub put_whole : (new : List ℕ) → new ≡ put at (1 ∷ []) (put (at + 1) (sealed body) old) → new ≡ put at (1 ∷ sealed body) old
   put_whole new is =
       let parts = opened new is in
-      let n = length (framed body) in
+      let n = length (sealed body) in
       sym (take-append-drop at new)
       ∙ ap (λ l. l ++ drop at new) parts.0
       ∙ ap (λ l. take at old ++ l) parts.1
-      ∙ sym (append_assoc (take at old) (1 ∷ framed body) (drop (at + 1 + n) old))
-      ∙ ap (λ k. (take at old ++ (1 ∷ framed body)) ++ drop k old) (let e : at + 1 + n ≡ at + length (1 ∷ framed body) = omega arith in e)
+      ∙ sym (append_assoc (take at old) (1 ∷ sealed body) (drop (at + 1 + n) old))
+      ∙ ap (λ k. (take at old ++ (1 ∷ sealed body)) ++ drop k old) (let e : at + 1 + n ≡ at + length (1 ∷ sealed body) = omega arith in e)

@@ -3,8 +3,8 @@ use Rattle.std.proofs.Common.{◌≡◌, ◌≢◌, ℕ, ◌+◌, ◌<◌, ◌�
 use Rattle.disk_model.specs.declared.disk.FileId.{FileId}
 use Rattle.disk_model.specs.Disk.{Files, Torn, TornIn, Put, put, Leaves, Synced}
 use Rattle.disk_model.proofs.Moments.{follows, at_end, narrows}
-use Rattle.journal.specs.Groups.{Groups, Extended, Appended, Resting, GroupStands, framed}
-use Rattle.journal.proofs.Behind.{torn_body, torn_gate, opened, put_whole, one_more, none, closed_there, length-framed}
+use Rattle.journal.specs.Groups.{Groups, Extended, Appended, Resting, GroupStands, sealed}
+use Rattle.journal.proofs.Behind.{torn_body, torn_gate, opened, put_whole, one_more, none, closed_there, length-sealed}
 
 module _ {D : Type 0} (moment : D → ℕ) (left : D → ℕ → Files → Type 0) (seen : D → Files) (file : FileId) (at : ℕ) (body buffer : List ℕ) where
   pub body_written : (old new : D) → Resting moment left seen old file at → Leaves moment left old new (TornIn file (at + 1) buffer) → Leaves moment left old new (Appended file at body)
@@ -15,7 +15,7 @@ module _ {D : Type 0} (moment : D → ℕ) (left : D → ℕ → Files → Type 
         elsewhere = written.elsewhere;
       })
 
-  pub gate_written : (old mid new : D) → buffer ≡ framed body → length body < 2 ^ 32 → Resting moment left seen old file at
+  pub gate_written : (old mid new : D) → buffer ≡ sealed body → length body < 2 ^ 32 → Resting moment left seen old file at
       → ((s t : ℕ) (files : Files) → s ≤ t → left mid t files → left mid s files)
       → Leaves moment left old mid (TornIn file (at + 1) buffer) → Put file (at + 1) buffer (seen old) (seen mid) → Synced moment left seen mid file
       → Leaves moment left mid new (TornIn file at (1 ∷ [])) → Leaves moment left old new (Appended file at body)
@@ -28,8 +28,8 @@ module _ {D : Type 0} (moment : D → ℕ) (left : D → ℕ → Files → Type 
       (λ files from.
       let origin = at_end moment left old mid step earlier first from.0 from.1 in
       let was : origin.0 file ≡ seen old file = rest.synced origin.0 origin.1 in
-      let staged : from.0 file ≡ put (at + 1) (framed body) (seen old file) = synced from.0 from.1 ∙ stored.here ∙ ap (λ b. put (at + 1) b (seen old file)) is in
-      let torn : Torn at (1 ∷ []) (put (at + 1) (framed body) (seen old file)) (files file) = subst (λ l. Torn at (1 ∷ []) l (files file)) staged from.2.here in (
+      let staged : from.0 file ≡ put (at + 1) (sealed body) (seen old file) = synced from.0 from.1 ∙ stored.here ∙ ap (λ b. put (at + 1) b (seen old file)) is in
+      let torn : Torn at (1 ∷ []) (put (at + 1) (sealed body) (seen old file)) (files file) = subst (λ l. Torn at (1 ∷ []) l (files file)) staged from.2.here in (
         origin.0,
         origin.1,
         record {
@@ -38,23 +38,23 @@ module _ {D : Type 0} (moment : D → ℕ) (left : D → ℕ → Files → Type 
         },
       ))
 
-  pub reads_group : (old mid new : D) → buffer ≡ framed body → Resting moment left seen old file at
-      → Put file (at + 1) buffer (seen old) (seen mid) → Put file at (1 ∷ []) (seen mid) (seen new) → Put file at (1 ∷ framed body) (seen old) (seen new)
+  pub reads_group : (old mid new : D) → buffer ≡ sealed body → Resting moment left seen old file at
+      → Put file (at + 1) buffer (seen old) (seen mid) → Put file at (1 ∷ []) (seen mid) (seen new) → Put file at (1 ∷ sealed body) (seen old) (seen new)
   reads_group old mid new is rest stored opens =
-      let whole : seen new file ≡ put at (1 ∷ []) (put (at + 1) (framed body) (seen old file)) = opens.here ∙ ap (λ l. put at (1 ∷ []) l) (stored.here ∙ ap (λ b. put (at + 1) b (seen old file)) is) in
+      let whole : seen new file ≡ put at (1 ∷ []) (put (at + 1) (sealed body) (seen old file)) = opens.here ∙ ap (λ l. put at (1 ∷ []) l) (stored.here ∙ ap (λ b. put (at + 1) b (seen old file)) is) in
       record {
         here = put_whole at body (seen old file) rest.within (seen new file) whole;
         elsewhere = λ other ne. opens.elsewhere other ne ∙ stored.elsewhere other ne;
       }
 
-  pub stands : (old mid new : D) → buffer ≡ framed body → length body < 2 ^ 32 → Resting moment left seen old file at
+  pub stands : (old mid new : D) → buffer ≡ sealed body → length body < 2 ^ 32 → Resting moment left seen old file at
       → Put file (at + 1) buffer (seen old) (seen mid) → Put file at (1 ∷ []) (seen mid) (seen new) → Synced moment left seen new file
       → GroupStands moment left seen old new file at body (at + length buffer)
   stands old mid new is fits rest stored opens synced =
-      let whole : seen new file ≡ put at (1 ∷ []) (put (at + 1) (framed body) (seen old file)) = opens.here ∙ ap (λ l. put at (1 ∷ []) l) (stored.here ∙ ap (λ b. put (at + 1) b (seen old file)) is) in
+      let whole : seen new file ≡ put at (1 ∷ []) (put (at + 1) (sealed body) (seen old file)) = opens.here ∙ ap (λ l. put at (1 ∷ []) l) (stored.here ∙ ap (λ b. put (at + 1) b (seen old file)) is) in
       let parts = opened at body (seen old file) rest.within (seen new file) whole in
-      let tail = drop (at + 1 + length (framed body)) (seen old file) in
-      let next : at + length buffer ≡ at + length body + 5 = omega (arith, ap length is, length-framed body) in
+      let tail = drop (at + 1 + length (sealed body)) (seen old file) in
+      let next : at + length buffer ≡ at + length body + 5 = omega (arith, ap length is, length-sealed body) in
       let there = closed_there (seen new file) at (at + length body + 5) (body ∷ []) (one_more at body tail (seen old file) (seen new file) fits parts.0 parts.1 at [] (none (seen old file) at rest.within rest.closed)) in
       record {
         next_is = next;

@@ -7,8 +7,8 @@ use Rattle.disk_model.specs.declared.disk.FileId.{FileId}
 use Rattle.disk_model.specs.Disk.{Files, Elsewhere, Synced}
 
 -- a body with its length before it and a closed gate behind it
-abbrev pub framed : List ℕ → List ℕ
-framed body = big_bytes 4 (length body) ++ (body ++ 0 ∷ [])
+abbrev pub sealed : List ℕ → List ℕ
+sealed body = big_bytes 4 (length body) ++ (body ++ 0 ∷ [])
 
 -- a body that grows, and how many bytes can be put behind it without memory
 pub record Growing : Type 0 where
@@ -18,8 +18,8 @@ pub record Growing : Type 0 where
 abbrev pub body_of : List ℕ → List ℕ
 body_of bytes = take (length bytes - 5) (drop 4 bytes)
 
-pub record IsFramed (buffer : List ℕ) : Type 0 where
-  pub bytes : buffer ≡ framed (body_of buffer)
+pub record IsSealed (buffer : List ℕ) : Type 0 where
+  pub bytes : buffer ≡ sealed (body_of buffer)
   pub fits : length (body_of buffer) < 2 ^ 32
 
 -- open groups of these bodies: each an open gate, its length and its body

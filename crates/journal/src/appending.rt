@@ -1,13 +1,13 @@
 //! Putting a group behind the others of a file.
 ghost use Rattle.std.specs.Prelude.{◌≡◌, ◌+◌, ◌<◌, ◌≤◌, ◌↔◌, ◌∷◌, length, IfOk, OnOk, IsErrOf};
 ghost use Rattle.disk_model.specs.Disk.{FromLeft, Leaves, Put, Called, Grew};
-ghost use Rattle.journal.specs.Groups.{Resting, Appended, GroupStands, framed};
+ghost use Rattle.journal.specs.Groups.{Resting, Appended, GroupStands, sealed};
 
 use crate::{Group, JournalFault};
 use disk_model::{Disk, FileId, write_synced};
 
 /// The greatest length of a file, in bytes.
-pub const LIMIT: u64 = 67_108_864;
+pub const LONGEST_FILE: u64 = 67_108_864;
 
 /// Puts a group behind the groups of a file, which is synced and whose closed gate is at a place, and gives the place
 /// of the closed gate behind the new one.
@@ -17,7 +17,7 @@ pub const LIMIT: u64 = 67_108_864;
 ///
 /// # Errors
 ///
-/// - `Full` exactly where the group, with the 00 behind it, would end past `LIMIT`. No call of the disk is made.
+/// - `Full` exactly where the group, with the 00 behind it, would end past `LONGEST_FILE`. No call of the disk is made.
 /// - `Device` only where a call of the disk has failed, which is the last one made. The old groups stand, and the new
 ///   one stands behind them, whole, or doesn't.
 pub fn append<D: Disk>(
@@ -36,7 +36,7 @@ pub fn append<D: Disk>(
 
     // It reads as before, but for the open group and the 00 behind it.
     ensures written { D.honest disk.old
-        → OnOk result (Put file at (1 ∷ framed group.now.body) (D.seen disk.old)
+        → OnOk result (Put file at (1 ∷ sealed group.now.body) (D.seen disk.old)
         (D.seen disk.new)) }
 
     // A crash at any moment leaves the groups from before, with the new one, whole, or without it, and the other file.
@@ -50,6 +50,8 @@ pub fn append<D: Disk>(
         → OnOk result (Called 4 (D.called disk.old) (D.called disk.new)) }
     ensures calls { D.honest disk.old → D.called disk.new ≤ D.called disk.old + 4 }
     ensures failures { D.failed disk.old ≤ D.failed disk.new }
+
+    // No call follows one that has failed, since that one might fail too.
     ensures by_one { D.failed disk.new ≤ D.failed disk.old + 1 }
     ensures no_failure { OnOk result (D.failed disk.new ≡ D.failed disk.old) }
     ensures device { IsErrOf result JournalFault.Device
@@ -61,7 +63,7 @@ pub fn append<D: Disk>(
 {
     let bytes = group.as_bytes();
     let count = bytes.len() as u64;
-    if at >= LIMIT || count >= LIMIT - at {
+    if at >= LONGEST_FILE || count >= LONGEST_FILE - at {
         return Err(JournalFault::Full);
     }
     write_synced(disk, file, at + 1, bytes)?;

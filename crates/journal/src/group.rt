@@ -1,7 +1,7 @@
 //! The buffer in which the body of a group grows.
 ghost use Rattle.std.specs.Prelude.{◌≡◌, ◌+◌, ◌-◌, ◌<◌, ◌≤◌, ◌^◌, [], ◌∷◌, ◌++◌, length, take, drop, IfOk, OnOk, OnErr, IsOk, nat_eq, vec_capacity};
 ghost use Rattle.byteorder.specs.Endian.{big_bytes};
-ghost use Rattle.journal.specs.Groups.{body_of, framed, IsFramed};
+ghost use Rattle.journal.specs.Groups.{body_of, sealed, IsSealed};
 
 use byteorder::{BigEndian, ByteOrder};
 use std::alloc::{AllocError, Global};
@@ -17,7 +17,7 @@ pub struct Group {
 
 impl Model for Group {
     ghost use Rattle.std.specs.Prelude.{◌-◌, length, vec_capacity};
-    ghost use Rattle.journal.specs.Groups.{Growing, body_of, IsFramed};
+    ghost use Rattle.journal.specs.Groups.{Growing, body_of, IsSealed};
 
     ghost Value = { Growing };
 
@@ -26,7 +26,7 @@ impl Model for Group {
       room = vec_capacity g.bytes - length g.bytes.items;
     } };
 
-    ghost invariant = { λ g. IsFramed g.bytes.items };
+    ghost invariant = { λ g. IsSealed g.bytes.items };
 }
 
 impl Group {
@@ -44,7 +44,7 @@ impl Group {
 
     /// The bytes that follow the gate in a file: the length of the body (4 bytes, big-endian), the body, and 00.
     pub fn as_bytes(&self) -> &[u8]
-        ensures bytes { result.now ≡ framed self.now.body }
+        ensures bytes { result.now ≡ sealed self.now.body }
         ensures fits { length self.now.body < 2 ^ 32 }
     {
         &self.bytes
@@ -126,9 +126,9 @@ impl Group {
 
 // Puts bytes between the body and the 00 behind it.
 fn grow(bytes: &mut Vec<u8>, entry: &[u8]) -> Result<(), AllocError>
-    requires framed { 5 ≤ length bytes.old.items }
+    requires long { 5 ≤ length bytes.old.items }
     requires fits { length bytes.old.items + length entry.now < 2 ^ 32 + 5 }
-    ensures ok { OnOk result (bytes.new.items ≡ framed (body_of bytes.old.items ++ entry.now)) }
+    ensures ok { OnOk result (bytes.new.items ≡ sealed (body_of bytes.old.items ++ entry.now)) }
     ensures err { OnErr result (bytes.new.items ≡ bytes.old.items) }
     ensures succeeds { length bytes.old.items + length entry.now ≤ vec_capacity bytes.old
         → IsOk result }
@@ -155,11 +155,11 @@ fn put_before_last(bytes: &mut Vec<u8>, entry: &[u8])
 }
 
 // Writes the length before the body, and the 00 behind it.
-#[tactic(auto, using(crate::proofs::Framing::sealed))]
+#[tactic(auto, using(crate::proofs::Sealing::is_seal))]
 fn seal(bytes: &mut [u8])
-    requires framed { 5 ≤ length bytes.old }
+    requires long { 5 ≤ length bytes.old }
     requires fits { length bytes.old < 2 ^ 32 + 5 }
-    ensures { bytes.new ≡ framed (body_of bytes.old) }
+    ensures { bytes.new ≡ sealed (body_of bytes.old) }
 {
     close(bytes);
     write_size(bytes, (bytes.len() - 5) as u32);

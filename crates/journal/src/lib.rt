@@ -17,7 +17,7 @@ mod fault;
 mod group;
 mod reading;
 
-pub use appending::{LIMIT, append};
+pub use appending::{LONGEST_FILE, append};
 pub use fault::JournalFault;
 pub use group::Group;
 pub use reading::{groups, groups_once};

@@ -24,7 +24,7 @@ use Rattle.hairpin.specs.declared.cause.Cause.{Cause}
 use Rattle.hairpin.specs.declared.plan.Plan.{Plan}
 use Rattle.machine.specs.Core.{Core, IsCore, IsTransition, AddsNoSession, state_of}
 use Rattle.machine.specs.Judged.{Judged}
-use Rattle.machine.specs.Machine.{State, EndsNone, AddsNone, act, aged, later, no_tables, on_route, on_packet, sent, step, with_fields}
+use Rattle.machine.specs.Machine.{State, EndsNone, KeepsCount, act, aged, later, no_tables, on_route, on_packet, sent, step, with_fields}
 use Rattle.machine.specs.Sound.{IsSoundState}
 use Rattle.machine.specs.Flows.{Flows, IsNoneLater, adds, adds_second}
 use Rattle.machine.specs.declared.deed.Deed.{Deed}
@@ -74,10 +74,10 @@ pub step-is : (config : Config) (s : State) (judged : Judged) (now : ℕ) (done 
 unfolding step
 step-is config s judged now done is e = subst (λ n. act config (aged n s) judged.deed ≡ done) is e
 
-pub few-acts : (config : Config) (s : State) (judged : Judged) (now : ℕ) (d : Deed) → now ≡ later s.clock judged.moment → judged.deed ≡ d → AddsNone s (step config s judged) → AddsNone s (act config (aged now s) d)
+pub few-acts : (config : Config) (s : State) (judged : Judged) (now : ℕ) (d : Deed) → now ≡ later s.clock judged.moment → judged.deed ≡ d → KeepsCount s (step config s judged) → KeepsCount s (act config (aged now s) d)
 unfolding step
 few-acts config s judged now d e is few =
-    subst (λ n. AddsNone s (act config (aged n s) d)) (sym e) (subst (λ x. AddsNone s (act config (aged (later s.clock judged.moment) s) x)) is few)
+    subst (λ n. KeepsCount s (act config (aged n s) d)) (sym e) (subst (λ x. KeepsCount s (act config (aged (later s.clock judged.moment) s) x)) is few)
 
 abbrev core_at : Config → List ℕ → Spelled → List Session → ℕ → Core
 core_at config text rules sessions clock = record { config = config; state = record { text = text; rules = rules; sessions = sessions; clock = clock } }

@@ -4,7 +4,7 @@ use Rattle.packet.specs.Config.{Config}
 use Rattle.ruletree.specs.declared.tree.Spelled.{Spelled}
 use Rattle.sessions.specs.Listing.{listing}
 use Rattle.sessions.specs.declared.session.Session.{Session}
-use Rattle.machine.specs.Machine.{State, AddsNone, EndsNone}
+use Rattle.machine.specs.Machine.{State, KeepsCount, EndsNone}
 use Rattle.machine.specs.Sound.{IsSoundState}
 use Rattle.machine.specs.Flows.{Flows}
 use Rattle.machine.specs.declared.event.Answer.{Answer}
@@ -35,4 +35,4 @@ IsTransition does old new now answer = (text : List ℕ) (rules : Spelled)
 -- what is done adds no session, whatever text and rules
 abbrev pub AddsNoSession : (State → State × Answer) → List (Option Session) → ℕ → Type 0
 AddsNoSession does held now = (text : List ℕ) (rules : Spelled)
-    → AddsNone (state_of text rules held now) (does (state_of text rules held now))
+    → KeepsCount (state_of text rules held now) (does (state_of text rules held now))

@@ -1,5 +1,5 @@
 -- What contracts see of the sessions with their timers and mappings, and what ties these to the sessions.
-use Rattle.std.specs.Prelude.{◌≡◌, ◌≢◌, ℕ, ◌<◌, ◌≤◌, List, Option, Some, None, count_by, is_some, false, slice_index_or}
+use Rattle.std.specs.Prelude.{◌≡◌, ◌≢◌, ℕ, ◌≤◌, List, Option, Some, None, count_by, is_some, false, slice_index_or}
 use Rattle.std.specs.Option.{option_map}
 use Rattle.packet.specs.Same.{same_endpoint}
 use Rattle.sessions.specs.Life.{IsSeen}
@@ -12,7 +12,7 @@ use Rattle.timers.specs.Laws.{idle_of}
 use Rattle.mappings.specs.declared.map.Mapping.{Mapping}
 use Rattle.mappings.specs.Map.{Mappings, times}
 use Rattle.hairpin.specs.Tallies.{tally}
-use Rattle.hairpin.specs.Translations.{Translations, HasRoom}
+use Rattle.hairpin.specs.Translations.{Translations, HasRoom, IsExternal}
 
 -- each session that is held, and no other slot, is watched with its last moment and its timeout; each
 -- mapping is held as often as translated sessions have it
@@ -50,8 +50,7 @@ pub record MayJoin (external : ℕ) (held : List (Option Session)) (s : Session)
   pub seen : IsSeen s.proto s.seen
   pub apart : ¬ table.AnyClash held s
   pub few : count_by is_some held ≢ table.most_sessions
-  pub placed : same_endpoint s.inside s.outside ≡ false
-      → (s.outside.addr ≡ external) × (0 < s.outside.port)
+  pub placed : same_endpoint s.inside s.outside ≡ false → IsExternal external s.outside
 
 -- how many sessions the change adds
 abbrev pub adds : Change → ℕ

@@ -94,8 +94,8 @@ abbrev pub EndsNone : ℕ → State → Type 0
 EndsNone now s = (t : Session) → Member t s.sessions → alive now t ≡ true
 
 -- what is done leaves as many sessions as there were
-abbrev pub AddsNone : State → State × Answer → Type 0
-AddsNone s done = length done.0.sessions ≡ length s.sessions
+abbrev pub KeepsCount : State → State × Answer → Type 0
+KeepsCount s done = length done.0.sessions ≡ length s.sessions
 
 -- the state after these events
 abbrev pub after : Config → State → List Judged → State

@@ -16,7 +16,7 @@ ghost use Rattle.sessions.specs.Sound.{AreSound};
 ghost use Rattle.hairpin.specs.declared.cause.Cause.{Cause};
 ghost use Rattle.machine.specs.Core.{IsTransition, AddsNoSession, state_of};
 ghost use Rattle.machine.specs.Fates.{answer_of};
-ghost use Rattle.machine.specs.Machine.{AddsNone, leg, on_packet, sent};
+ghost use Rattle.machine.specs.Machine.{KeepsCount, leg, on_packet, sent};
 ghost use Rattle.machine.specs.Noted.{of_fields, of_way};
 ghost use Rattle.machine.specs.Sound.{IsInForce};
 ghost use Rattle.machine.specs.Flows.{IsNoneLater, TakesMore};
@@ -161,7 +161,7 @@ fn answer_by_plan<N: Notes>(
     ensures ready { IsTrue ready → IsOk result }
     ensures adds_none { (text : List ℕ)
         → let s = state_of text rules.now flows.old.table.held now in
-        AddsNone s (sent s packet.old (leg bounds.now s view.now route)) → N.grants notes.old
+        KeepsCount s (sent s packet.old (leg bounds.now s view.now route)) → N.grants notes.old
         → IsOk result }
     ensures keeps { N.keeps notes.old ↔ N.keeps notes.new }
     ensures beside { N.beside notes.new ≡ N.beside notes.old }
@@ -172,7 +172,7 @@ fn answer_by_plan<N: Notes>(
     ensures full { IfErr result (λ e. e ≡ StepFault.Full → N.too_many notes.old 44) }
     ensures no_memory { (text : List ℕ)
         → let s = state_of text rules.now flows.old.table.held now in
-        AddsNone s (sent s packet.old (leg bounds.now s view.now route))
+        KeepsCount s (sent s packet.old (leg bounds.now s view.now route))
         → IfErr result (λ e. e ≡ StepFault.NoMemory → ¬ N.too_many notes.old 44) }
     ensures quiet { (text : List ℕ) → of_way (listing flows.old.table.held)
         (leg bounds.now (state_of text rules.now flows.old.table.held now) view.now route) ≡ []
@@ -333,7 +333,7 @@ pub(crate) fn answer_packet<N: Notes>(
     ensures ready { IsTrue ready → IsOk result }
     ensures adds_none { let s = state_of in_force.now.text in_force.now.rules
         flows.old.table.held now in
-        AddsNone s (on_packet bounds.now s iface packet.old) → N.grants notes.old → IsOk result }
+        KeepsCount s (on_packet bounds.now s iface packet.old) → N.grants notes.old → IsOk result }
     ensures keeps { N.keeps notes.old ↔ N.keeps notes.new }
     ensures beside { N.beside notes.new ≡ N.beside notes.old }
     ensures noted { OnOk result (N.keeps notes.old → N.noted notes.new
@@ -344,7 +344,7 @@ pub(crate) fn answer_packet<N: Notes>(
     ensures full { IfErr result (λ e. e ≡ StepFault.Full → N.too_many notes.old 44) }
     ensures no_memory { let s = state_of in_force.now.text in_force.now.rules
         flows.old.table.held now in
-        AddsNone s (on_packet bounds.now s iface packet.old)
+        KeepsCount s (on_packet bounds.now s iface packet.old)
         → IfErr result (λ e. e ≡ StepFault.NoMemory → ¬ N.too_many notes.old 44) }
     ensures quiet { of_fields bounds.now
         (state_of in_force.now.text in_force.now.rules flows.old.table.held now)

@@ -15,7 +15,7 @@ ghost use Rattle.sessions.specs.Sound.{AreSound};
 ghost use Rattle.machine.specs.Core.{state_of};
 ghost use Rattle.machine.specs.Fates.{answer_of};
 ghost use Rattle.machine.specs.Judged.{Judged, IsJudged, IsNoLoad, brought};
-ghost use Rattle.machine.specs.Machine.{AddsNone, EndsNone, act, aged, empty_at, later, on_packet, step};
+ghost use Rattle.machine.specs.Machine.{KeepsCount, EndsNone, act, aged, empty_at, later, on_packet, step};
 ghost use Rattle.durable.specs.Coding.{Entry as Recorded};
 ghost use Rattle.durable.specs.Entering.{IsDurable, durable};
 ghost use Rattle.machine.specs.Noted.{AreEntriesOf, AreOver, IsResumed, ends, of_deed, of_fields};
@@ -97,7 +97,7 @@ fn answer_deed<N: Notes>(
     ensures ready { IsTrue ready → IsOk result }
     ensures adds_none { let s = state_of in_force.old.text in_force.old.rules
         flows.old.table.held now in
-        AddsNone s (act bounds.now s deed) → N.grants notes.old → IsOk result }
+        KeepsCount s (act bounds.now s deed) → N.grants notes.old → IsOk result }
     ensures keeps { N.keeps notes.old ↔ N.keeps notes.new }
     ensures beside { N.beside notes.new ≡ N.beside notes.old }
     ensures noted { OnOk result (N.keeps notes.old → N.noted notes.new ≡ N.noted notes.old
@@ -108,7 +108,7 @@ fn answer_deed<N: Notes>(
         → N.too_many notes.old (most_bytes deed)) }
     ensures no_memory { let s = state_of in_force.old.text in_force.old.rules
         flows.old.table.held now in
-        AddsNone s (act bounds.now s deed) → IfErr result (λ e. e.1 ≡ StepFault.NoMemory
+        KeepsCount s (act bounds.now s deed) → IfErr result (λ e. e.1 ≡ StepFault.NoMemory
         → ¬ N.too_many notes.old (most_bytes deed)) }
     ensures quiet { of_deed bounds.now
         (state_of in_force.old.text in_force.old.rules flows.old.table.held now) deed ≡ []
@@ -174,7 +174,7 @@ fn age_and_answer<N: Notes>(
     ensures external { flows.new.translations.external ≡ flows.old.translations.external }
     ensures succeeds { let s = state_of in_force.old.text in_force.old.rules
         flows.old.table.held clock in
-        EndsNone now s → AddsNone s (act bounds.now (aged now s) deed) → N.grants notes.old
+        EndsNone now s → KeepsCount s (act bounds.now (aged now s) deed) → N.grants notes.old
         → IsOk result }
     ensures keeps { N.keeps notes.old ↔ N.keeps notes.new }
     ensures beside { N.beside notes.new ≡ N.beside notes.old }
@@ -189,7 +189,7 @@ fn age_and_answer<N: Notes>(
         × N.too_many notes.old (14 * length gone + most_bytes deed)) }
     ensures no_memory { let s = state_of in_force.old.text in_force.old.rules
         flows.old.table.held clock in
-        EndsNone now s → AddsNone s (act bounds.now (aged now s) deed)
+        EndsNone now s → KeepsCount s (act bounds.now (aged now s) deed)
         → IfErr result (λ e. e.1 ≡ StepFault.NoMemory
         → ¬ N.too_many notes.old (most_bytes deed)) }
     ensures quiet { let s = state_of in_force.old.text in_force.old.rules
@@ -354,7 +354,7 @@ impl Core {
         ensures succeeds { IsNoLoad event.what → (judged : Judged)
             → IsJudged self.old.config event judged
             → EndsNone (later self.old.state.clock event.moment) self.old.state
-            → AddsNone self.old.state (step self.old.config self.old.state judged) → IsOk result }
+            → KeepsCount self.old.state (step self.old.config self.old.state judged) → IsOk result }
     {
         match self.step_noted(event, &mut Unkept) {
             Ok(answer) => Ok(answer),
@@ -397,13 +397,13 @@ impl Core {
         ensures no_memory { IsNoLoad event.what → (judged : Judged)
             → IsJudged self.old.config event judged
             → EndsNone (later self.old.state.clock event.moment) self.old.state
-            → AddsNone self.old.state (step self.old.config self.old.state judged)
+            → KeepsCount self.old.state (step self.old.config self.old.state judged)
             → IfErr result (λ e. e.1 ≡ StepFault.NoMemory
             → ¬ N.too_many notes.old (most_bytes judged.deed)) }
         ensures succeeds { IsNoLoad event.what → (judged : Judged)
             → IsJudged self.old.config event judged
             → EndsNone (later self.old.state.clock event.moment) self.old.state
-            → AddsNone self.old.state (step self.old.config self.old.state judged)
+            → KeepsCount self.old.state (step self.old.config self.old.state judged)
             → N.grants notes.old → IsOk result }
         ensures quiet { IsNoLoad event.what → (judged : Judged)
             → IsJudged self.old.config event judged

@@ -39,13 +39,13 @@ phase_word Established = codes "established"
 phase_word Closing = codes "closing"
 
 -- UDP has no phases
-abbrev pub state_by : Proto → ℕ → List ℕ
-state_by Tcp seen = phase_word (phase_of seen)
-state_by Udp seen = codes "-"
+abbrev pub progress_by : Proto → ℕ → List ℕ
+progress_by Tcp seen = phase_word (phase_of seen)
+progress_by Udp seen = codes "-"
 
 -- how far the session has come
-abbrev pub state_word : Session → List ℕ
-state_word s = state_by s.proto s.seen
+abbrev pub progress_word : Session → List ℕ
+progress_word s = progress_by s.proto s.seen
 
 -- its three endpoints
 unfoldable pub columns : Session → List ℕ
@@ -53,4 +53,4 @@ columns s = column s.inside ++ column s.outside ++ column s.remote
 
 -- the line of a session, with its end
 unfoldable pub line : Session → List ℕ
-line s = proto_word s.proto ++ codes " " ++ columns s ++ state_word s ++ codes "\n"
+line s = proto_word s.proto ++ codes " " ++ columns s ++ progress_word s ++ codes "\n"

@@ -1,7 +1,7 @@
 //! The lines of sessions.
 ghost use Rattle.std.specs.Prelude.{◌≡◌, ◌++◌, OnOk, OnErr, length, take};
 ghost use Rattle.std.specs.List.{flat_map};
-ghost use Rattle.session_lines.specs.Lines.{columns, line, proto_word, state_word};
+ghost use Rattle.session_lines.specs.Lines.{columns, line, proto_word, progress_word};
 
 use crate::column::put_column;
 use packet::Proto;
@@ -19,8 +19,8 @@ fn proto_word(proto: Proto) -> &'static str
 }
 
 // How far a session has come: `partial`, `established` or `closing`; `-` for UDP.
-fn state_word(session: &Session) -> &'static str
-    ensures { result.now ≡ state_word session.now }
+fn progress_word(session: &Session) -> &'static str
+    ensures { result.now ≡ progress_word session.now }
 {
     match session.proto {
         Proto::Udp => "-",
@@ -64,7 +64,7 @@ pub fn put_line(out: &mut Vec<u8>, session: &Session) -> Result<(), AllocError>
     put_word(out, proto_word(session.proto))?;
     out.push(b' ')?;
     put_columns(out, session)?;
-    put_word(out, state_word(session))?;
+    put_word(out, progress_word(session))?;
     out.push(b'\n')?;
     Ok(())
 }

@@ -51,7 +51,7 @@ impl Slot {
 /// Why a session can't be taken into a table. The variants stand in the order of the tests.
 #[derive(Clone, Copy, Debug, PartialEq, Eq, Drop, thiserror::Error)]
 pub enum AddFault {
-    #[error("the session would share a flow with another, or break a mapping")]
+    #[error("the session would share protocol, remote and an endpoint with another, or break a mapping")]
     Clash,
     #[error("the table holds 65,536 sessions")]
     TableFull,

@@ -241,7 +241,7 @@ impl Translated {
         endpoint_facts(session);
         let least = Endpoint { addr: 0, port: 0 };
         let slot = first_from(&self.others, key(session.proto, session.inside, least))?;
-        if !is_of(sessions, slot, session.proto, session.inside) {
+        if !has_this_inside(sessions, slot, session.proto, session.inside) {
             return None;
         }
         Some(slot)
@@ -322,7 +322,7 @@ fn first_from(row: &Rows, from: u128) -> Option<usize>
 }
 
 // Whether the slot holds a session of this protocol and inside endpoint.
-fn is_of(sessions: &Slab<Session>, slot: usize, proto: Proto, inside: Endpoint) -> bool
+fn has_this_inside(sessions: &Slab<Session>, slot: usize, proto: Proto, inside: Endpoint) -> bool
     ensures { IsTrue result
         ↔ IsAt sessions.now.slots (λ s. (s.proto ≡ proto) × (s.inside ≡ inside)) slot }
 {

@@ -3,7 +3,7 @@
 //! `make_ready` syncs both files and reads them whole (`look`, by `sync_both` and `contents`). `recover_for` asks
 //! `durable::recover` what they stand for, compares the configuration, and keeps what was found (`keep`). Where neither
 //! gate is open, `make_first` makes file A anew.
-ghost use Rattle.std.specs.Prelude.{◌≡◌, ◌<◌, ◌≤◌, ◌↔◌, [], IfOk, IfSome, OnOk, OnErr, IsErrOf};
+ghost use Rattle.std.specs.Prelude.{◌≡◌, ◌+◌, ◌<◌, ◌≤◌, ◌↔◌, [], IfOk, IfSome, OnOk, OnErr, IsErrOf};
 ghost use Rattle.disk_model.specs.declared.disk.FileId.{FileId};
 ghost use Rattle.disk_model.specs.declared.disk.FileId.TheVariants.{A, B};
 ghost use Rattle.disk_model.specs.Disk.{Same, Leaves, LeavesNow, LeavesOnly, Looks, Synced, Grew, HasCause, pair};
@@ -61,6 +61,7 @@ fn look<D: Disk>(alloc: Global, disk: &mut D) -> Result<(Vec<u8>, Vec<u8>), Open
     ensures looks { D.honest disk.old → ¬ IsErrOf result OpenFault.Device
         → Looks D.moment D.left D.seen disk.old disk.new }
     ensures failures { D.failed disk.old ≤ D.failed disk.new }
+    ensures by_one { D.failed disk.new ≤ D.failed disk.old + 1 }
     ensures no_failure { OnOk result (D.failed disk.new ≡ D.failed disk.old) }
     ensures only_device { ¬ IsErrOf result OpenFault.Device
         → D.failed disk.new ≡ D.failed disk.old }
@@ -144,6 +145,7 @@ fn make_first<D: Disk>(alloc: Global, disk: &mut D, bounds: &Bounds) -> Result<R
     ensures bounds { IfOk result (λ r. r.bounds ≡ bounds.now) }
     ensures stays { ¬ IsErrOf result OpenFault.Device → OnErr result (disk.new ≡ disk.old) }
     ensures failures { D.failed disk.old ≤ D.failed disk.new }
+    ensures by_one { D.failed disk.new ≤ D.failed disk.old + 1 }
     ensures no_failure { OnOk result (D.failed disk.new ≡ D.failed disk.old) }
     ensures only_device { ¬ IsErrOf result OpenFault.Device
         → D.failed disk.new ≡ D.failed disk.old }
@@ -210,6 +212,7 @@ pub(crate) fn make_ready<D: Disk>(
     ensures looks { D.honest disk.old → ¬ IsErrOf result OpenFault.Device
         → OnErr result (Looks D.moment D.left D.seen disk.old disk.new) }
     ensures failures { D.failed disk.old ≤ D.failed disk.new }
+    ensures by_one { D.failed disk.new ≤ D.failed disk.old + 1 }
     ensures no_failure { OnOk result (D.failed disk.new ≡ D.failed disk.old) }
     ensures only_device { ¬ IsErrOf result OpenFault.Device
         → D.failed disk.new ≡ D.failed disk.old }

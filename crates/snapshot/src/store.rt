@@ -7,7 +7,7 @@ ghost use Rattle.durable.specs.Coding.{heading_bytes};
 ghost use Rattle.durable.specs.Entering.{Durable, IsDurable, durable, BodyEnters};
 ghost use Rattle.durable.specs.Laws.{anew, IsFresh};
 ghost use Rattle.durable.specs.Recovery.{Alike, IsConfigured, NoneOpen, Recovers};
-ghost use Rattle.journal.specs.Groups.{framed};
+ghost use Rattle.journal.specs.Groups.{sealed};
 ghost use Rattle.snapshot.specs.Store.{Keeps, RecoversEither, MakesFirst, BodyFits};
 
 use crate::closed_heading::closed_heading;
@@ -83,7 +83,8 @@ impl<D: Disk + Drop> Store<D> {
     ///
     /// The disk comes back.
     ///
-    /// - `Device` where a call of the disk has failed. The files stand for what they stood for.
+    /// - `Device` where a call of the disk has failed, which is the last one made. The files stand for what they stood
+    ///   for.
     /// - `Damaged` only where the files, as they read, stand for no state. They are not changed.
     /// - `ConfigDiffers` only where they stand for one, and the active file has another configuration than these
     ///   bounds. They are not changed.
@@ -134,6 +135,9 @@ impl<D: Disk + Drop> Store<D> {
             → Looks D.moment D.left D.seen disk e.0) }
         ensures failures { MatchResult result (λ o. D.failed o.store.disk ≡ D.failed disk)
             (λ e. D.failed disk ≤ D.failed e.0) }
+
+        // No call follows one that has failed, since that one might fail too.
+        ensures by_one { IfErr result (λ e. D.failed e.0 ≤ D.failed disk + 1) }
         ensures only_device { IfErr result (λ e. ¬ (e.1 ≡ OpenFault.Device)
             → D.failed e.0 ≡ D.failed disk) }
         ensures device { IfErr result (λ e. e.1 ≡ OpenFault.Device
@@ -220,7 +224,7 @@ impl<D: Disk + Drop> Store<D> {
     ///
     /// - `Full` exactly where the group, with the 00 behind it, would end past the greatest length of a file. Nothing
     ///   changes.
-    /// - `Device` where a call of the disk has failed. The store has fallen.
+    /// - `Device` where a call of the disk has failed, which is the last one made. The store has fallen.
     pub fn commit(&mut self, group: &Group) -> Result<(), CommitFault>
         requires stands { self.old.fallen ≡ false }
         requires fits { D.honest self.old.disk
@@ -244,7 +248,7 @@ impl<D: Disk + Drop> Store<D> {
         // One file, the active one, reads as before, but for the open group and the 00 behind it where its groups
         // ended.
         ensures written { D.honest self.old.disk → OnOk result ((file : FileId)
-            × Put file self.old.end (1 ∷ framed group.now.body) (D.seen self.old.disk)
+            × Put file self.old.end (1 ∷ sealed group.now.body) (D.seen self.old.disk)
             (D.seen self.new.disk)) }
         ensures config { self.new.config ≡ self.old.config }
         ensures generation { self.new.generation ≡ self.old.generation }
@@ -259,6 +263,9 @@ impl<D: Disk + Drop> Store<D> {
         ensures called { D.honest self.old.disk
             → OnOk result (Called 4 (D.called self.old.disk) (D.called self.new.disk)) }
         ensures failures { D.failed self.old.disk ≤ D.failed self.new.disk }
+
+        // No call follows one that has failed, since that one might fail too.
+        ensures by_one { D.failed self.new.disk ≤ D.failed self.old.disk + 1 }
         ensures no_failure { OnOk result (D.failed self.new.disk ≡ D.failed self.old.disk) }
         ensures device { IsErrOf result CommitFault.Device
             → Grew (D.failed self.old.disk) (D.failed self.new.disk) }
@@ -285,7 +292,8 @@ impl<D: Disk + Drop> Store<D> {
     ///
     /// - `Generations` exactly where the active file has the greatest generation. Nothing changes.
     /// - `NoMemory` where memory is refused. Nothing changes.
-    /// - `Device` where a call of the disk has failed. The store has fallen; the files stand for the same state.
+    /// - `Device` where a call of the disk has failed, which is the last one made. The store has fallen; the files
+    ///   stand for the same state.
     pub fn compact(
         &mut self,
         alloc: Global,
@@ -333,6 +341,9 @@ impl<D: Disk + Drop> Store<D> {
         ensures called { D.honest self.old.disk
             → OnOk result (Called 6 (D.called self.old.disk) (D.called self.new.disk)) }
         ensures failures { D.failed self.old.disk ≤ D.failed self.new.disk }
+
+        // No call follows one that has failed, since that one might fail too.
+        ensures by_one { D.failed self.new.disk ≤ D.failed self.old.disk + 1 }
         ensures no_failure { OnOk result (D.failed self.new.disk ≡ D.failed self.old.disk) }
         ensures device { IsErrOf result CompactFault.Device
             → Grew (D.failed self.old.disk) (D.failed self.new.disk) }

@@ -164,6 +164,7 @@ module _ {D : Type 0} (honest : D → Type 0) (moment : D → ℕ) (left : D →
         numbers_out = s.is_why.numbers_out;
         fell = s.is_why.fell;
         device = λ d. subst (λ (k : ℕ). Grew k (failed new.disk)) l.no_failure (s.is_why.device d);
+        by_one = omega (arith, s.is_why.by_one, l.no_failure);
         generations = s.is_why.generations;
       };
       stays = λ other. stands-behind (s.stays other);

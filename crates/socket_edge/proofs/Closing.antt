@@ -74,13 +74,14 @@ module _ {D : Type 0} (honest : D → Type 0) (moment : D → ℕ) (left : D →
 
   -- a fault, behind which what was held is handed out
   still-why : (mid now : Kept D) (events : List Event) (b c : List (ℕ × Answer)) (why : GatewayFault) → IsWhy honest moment left failed start mid why → why ≢ fault.Device
-      → TookAll start.told mid.told events b → TookAll start.told now.told events c → now.generation ≡ mid.generation → now.fallen ≡ false → IsWhy honest moment left failed start now why
-  still-why mid now events b c why is other before after same up = record {
+      → TookAll start.told mid.told events b → TookAll start.told now.told events c → now.generation ≡ mid.generation → now.fallen ≡ false → failed now.disk ≡ failed start.disk → IsWhy honest moment left failed start now why
+  still-why mid now events b c why is other before after same up no_failure = record {
     stood = is.stood;
     made_room = is.made_room;
     numbers_out = λ out. let last = is.numbers_out out in omega (arith, last, before.last, after.last);
     fell = (λ d. absurd (other d), λ fell. absurd (true-false now.fallen fell up));
     device = λ d. absurd (other d);
+    by_one = omega (arith, no_failure);
     generations = λ g. same ∙ is.generations g;
   }
 
@@ -106,7 +107,7 @@ module _ {D : Type 0} (honest : D → Type 0) (moment : D → ℕ) (left : D →
         back = off.1 ++ events_in o.1;
         split = split_more (events_in bytes) o.0 off.0 off.1 (events_in o.1) (events_then bytes o.1 o.0 o.2) off.2;
         ends = ended honest moment left seen failed reads earlier start now off.0 c after;
-        is_why = still-why mid now off.0 b c why stops.is_why other before.ran.took after.ran.took same after.stands;
+        is_why = still-why mid now off.0 b c why stops.is_why other before.ran.took after.ran.took same after.stands after.no_failure;
         none = λ _. none;
       }
 

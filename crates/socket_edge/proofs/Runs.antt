@@ -194,6 +194,7 @@ module _ {D : Type 0} (honest : D → Type 0) (moment : D → ℕ) (left : D →
     numbers_out = x.numbers_out;
     fell = x.fell;
     device = λ d. subst (λ (k : ℕ). Grew k (failed c.disk)) g.no_failure (x.device d);
+    by_one = omega (arith, x.by_one, g.no_failure);
     generations = x.generations;
   }
 

@@ -24,7 +24,7 @@ module _ {D : Type 0} (honest : D → Type 0) (moment : D → ℕ) (left : D →
       (breaks-here honest moment left failed now now more before before fault.NoMemory
       (λ start events s. record {
         ends = ended honest moment left seen failed reads earlier start now events before s;
-        is_why = memory-why honest moment left failed start now s.stands;
+        is_why = memory-why honest moment left failed start now s.stands s.no_failure;
         stays = λ other. s;
       }))
 

@@ -34,7 +34,7 @@ pub fn forward_frame<D: Disk + Drop>(
 ) -> bool
     requires stands { gateway.old.fallen ≡ false }
     requires size { 14 ≤ length bytes.old }
-    requires short { length bytes.old ≤ 14 + 65535 }
+    requires longest { length bytes.old ≤ 14 + 65535 }
     ensures left { result ≡ true → (answer : ℕ × Answer) × (bytes.new ≡ frame answer)
         × ((before : List (ℕ × Answer)) → CarriesOn D.honest D.moment D.left D.failed
         gateway.old gateway.new
@@ -97,7 +97,7 @@ pub fn answer_in_place<D: Disk + Drop>(
 ) -> Option<Placed>
     requires stands { gateway.old.fallen ≡ false }
     requires size { 14 ≤ length bytes.old }
-    requires short { length bytes.old ≤ 14 + 65535 }
+    requires longest { length bytes.old ≤ 14 + 65535 }
     ensures some { IfSome result (λ placed. (answer : ℕ × Answer)
         × (take placed.size bytes.new ≡ frame answer)
         × TakenInPlace D.honest D.moment D.left D.failed placed.held gateway.old gateway.new

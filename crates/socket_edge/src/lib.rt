@@ -7,7 +7,8 @@
 //! answers, in whatever pieces the bytes come and go. What a frame is, the crate `frames` says. The modules:
 //! - `edge`: the run, one read after the other;
 //! - `waiting`: the bytes that were read and aren't answered yet, and the answers in front of them;
-//! - `forwarding`: a packet that is answered in the bytes of its request: one that leaves at once, or any short one;
+//! - `forwarding`: a packet that is answered in the bytes of its request: one that leaves at once, or any that has at
+//!   most 2,048 bytes;
 //! - `ahead`: among many sessions, a look at the next packets before they are taken;
 //! - `serving`: all whole frames at the front, offered in order;
 //! - `sending`: what stands in the bytes of the requests is written in one piece, and behind it, one by one, the frames

@@ -191,9 +191,9 @@ impl Waiting {
         true
     }
 
-    /// Has the gateway take the packet at the front, where a whole frame of a short one stands there. If it does, the
-    /// frame of its answer stands behind the other answers, also where the answer is held; otherwise nothing has
-    /// changed.
+    /// Has the gateway take the packet at the front, where a whole frame of one of at most 2,048 bytes stands there. If
+    /// it does, the frame of its answer stands behind the other answers, also where the answer is held; otherwise
+    /// nothing has changed.
     #[inline(always)]
     pub fn take_next<D: Disk + Drop>(&mut self, gateway: &mut Gateway<D>) -> Option<Placed>
         requires stands { gateway.old.fallen ≡ false }

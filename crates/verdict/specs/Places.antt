@@ -32,9 +32,9 @@ stacked places (suc depth) =
     slice_index_or places depth (record { chain = 0; at = 0 }) ∷ stacked places depth
 
 -- the key of the map that has the verdict which was found, or none was found
-abbrev pub IsKey : List Pair → Option Verdict → Option ℕ → Type 0
-IsKey pairs found None = found ≡ None
-IsKey pairs found (Some key) = (pair : Pair) × (slice_get pairs key ≡ Some pair)
+abbrev pub IsFoundPlace : List Pair → Option Verdict → Option ℕ → Type 0
+IsFoundPlace pairs found None = found ≡ None
+IsFoundPlace pairs found (Some key) = (pair : Pair) × (slice_get pairs key ≡ Some pair)
     × (found ≡ Some pair.verdict)
 
 -- what a verdict makes of the walk, where it leads to the chain at this place if it leads to one

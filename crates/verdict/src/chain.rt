@@ -4,7 +4,7 @@ ghost use Rattle.std.specs.Prelude.{◌≡◌, ◌↔◌, ℕ, Some, None, IfSom
 ghost use Rattle.sets.specs.Members.{fact_of, MapsTo};
 ghost use Rattle.ruletree.specs.declared.tree.End.TheVariants as ends;
 ghost use Rattle.verdict.specs.Tests.{HasMap};
-ghost use Rattle.verdict.specs.Places.{IsKey};
+ghost use Rattle.verdict.specs.Places.{IsFoundPlace};
 ghost use Rattle.verdict.specs.Evaluation.{mapped as mapped_to, unless_ended as outcome_unless_ended, translation as translation_of};
 
 use crate::facts::Facts;
@@ -52,7 +52,7 @@ pub(crate) fn key_for(
     at: usize,
 ) -> Option<usize>
     requires { HasMap maps.now at (Some (ends.Vmap vmap.now)) }
-    ensures { IsKey vmap.now.pairs (mapped_to bounds.now facts.now vmap.now) result }
+    ensures { IsFoundPlace vmap.now.pairs (mapped_to bounds.now facts.now vmap.now) result }
 {
     if !has_protocol(vmap.head, facts.proto) {
         return None;

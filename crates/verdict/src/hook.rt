@@ -33,6 +33,7 @@ use crate::row::Laid;
 use crate::rules::Rules;
 use crate::walk::chain_outcome;
 use packet::{Bounds, Endpoint, Steps};
+use rulesets::MOST_CHAINS;
 use ruletree::{Base, Hook, Policy, Table};
 
 /// What the forward chains decide about a packet.
@@ -67,9 +68,6 @@ pub enum Source {
     /// The packet is dropped.
     Drop,
 }
-
-// The most chains of a loaded text.
-const CHAINS: usize = 256;
 
 // What most tables have no more of.
 const FEW_CHAINS: usize = 8;
@@ -209,7 +207,7 @@ fn final_among_many(
     if !any_stands_at(table.chains.as_slice(), hook) {
         return;
     }
-    let mut known = [None; CHAINS];
+    let mut known = [None; MOST_CHAINS];
     final_over(bounds, facts, hook, table, laid, first, &mut known, steps);
 }
 

@@ -20,7 +20,7 @@ returns-in_err-compact-clause-err g c =
       ends = compact-stopped g.D.Disk.honest g.D.Disk.moment g.D.Disk.left g.D.Disk.seen g.D.Disk.failed g.met.D.Disk.reads g.met.D.Disk.earlier start
           c.hand_out.new.gateway events out s c.compact.new.self e.honest e.configured e.any_moment e.told;
       is_why = compact-why g.D.Disk.honest g.D.Disk.moment g.D.Disk.left g.D.Disk.seen g.D.Disk.failed g.met.D.Disk.reads g.met.D.Disk.earlier start
-          c.hand_out.new.gateway events out s c.compact.new.self why (fault-is why fault.Reopen e.reopen) (fault-is why fault.Device e.fell) e.causes (λ is. e.device (ap Err is))
+          c.hand_out.new.gateway events out s c.compact.new.self why (fault-is why fault.Reopen e.reopen) (fault-is why fault.Device e.fell) e.causes (λ is. e.device (ap Err is)) e.by_one
           (λ is. ap (λ n. n.generation) (e.stays (λ d. let bad : fault.Generations ≡ fault.Device = sym is ∙ d in absurd cc)) ∙ e.generations (ap Err is));
       stays = λ other. subst (λ (n : Kept _). Stands g.D.Disk.honest g.D.Disk.moment g.D.Disk.left g.D.Disk.failed start n events out) (sym (e.stays other)) s;
     })))

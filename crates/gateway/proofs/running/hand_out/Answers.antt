@@ -15,7 +15,7 @@ returns-in_err-held-clause-err g c =
       ends = flush-stopped g.D.Disk.honest g.D.Disk.moment g.D.Disk.left g.D.Disk.seen g.D.Disk.failed g.met.D.Disk.reads g.met.D.Disk.earlier start
           c.args.gateway.now events c.args.answers.now.items s c.flush.new.self e.honest e.configured e.any_moment e.err;
       is_why = flush-why g.D.Disk.honest g.D.Disk.moment g.D.Disk.left g.D.Disk.seen g.D.Disk.failed g.met.D.Disk.reads g.met.D.Disk.earlier start
-          c.args.gateway.now events c.args.answers.now.items s c.flush.new.self c.in_err-held.field-0.0 (fault-is c.in_err-held.field-0.0 fault.Reopen e.reopen) (fault-is c.in_err-held.field-0.0 fault.Device e.fell) e.causes (λ is. e.device (ap Err is));
+          c.args.gateway.now events c.args.answers.now.items s c.flush.new.self c.in_err-held.field-0.0 (fault-is c.in_err-held.field-0.0 fault.Reopen e.reopen) (fault-is c.in_err-held.field-0.0 fault.Device e.fell) e.causes (λ is. e.device (ap Err is)) e.by_one;
       stays = λ other. absurd (other (flush-device g.D.Disk.honest g.D.Disk.moment g.D.Disk.left g.D.Disk.seen g.D.Disk.failed g.met.D.Disk.reads g.met.D.Disk.earlier start
           c.args.gateway.now events c.args.answers.now.items s c.in_err-held.field-0.0 (fault-is c.in_err-held.field-0.0 fault.Reopen e.reopen) e.causes));
     }))

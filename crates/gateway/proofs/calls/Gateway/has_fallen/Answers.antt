@@ -3,8 +3,8 @@ use Rattle.packet.specs.Config.{Config}
 use Rattle.disk_model.specs.Disk.{LeavesNow}
 use Rattle.durable.specs.Coding.{Entry, body_bytes}
 use Rattle.durable.specs.Recovery.{IsConfigured}
-use Rattle.gateway.specs.Kept.{HasPlaces}
-use Rattle.gateway.proofs.Resting.{has_places, nothing_waits}
+use Rattle.gateway.specs.Kept.{GroupsEndAt}
+use Rattle.gateway.proofs.Resting.{groups_end, nothing_waits}
 use Rattle.gateway.proofs.calls.Gateway.has_fallen.Goals as goal
 
 pub returns-clause-stands : goal.returns-clause-stands
@@ -20,16 +20,16 @@ pub returns-clause-configured : goal.returns-clause-configured
 returns-clause-configured g c = rw (← c.self.view_is) (λ stands honest.
     subst (λ (k : Config). LeavesNow g.D.Disk.moment g.D.Disk.left c.self.inside.store.disk (IsConfigured k)) c.self.invariant.0 (c.has_fallen.ensures.configured stands honest))
 
-pub returns-clause-places : goal.returns-clause-places
-returns-clause-places g c = rw (← c.self.view_is) (λ stands honest.
+pub returns-clause-groups : goal.returns-clause-groups
+returns-clause-groups g c = rw (← c.self.view_is) (λ stands honest.
     let keeps = c.has_fallen.ensures.stands stands honest in
     let place = c.self.invariant.2 (sym c.has_fallen.ensures.value ∙ stands) in
-    (c.self.inside.store.end, has_places g.D.Disk.moment g.D.Disk.left g.D.Disk.seen c.self.inside.store keeps.0 keeps.1, omega (arith, place)))
+    (c.self.inside.store.end, groups_end g.D.Disk.moment g.D.Disk.left g.D.Disk.seen c.self.inside.store keeps.0 keeps.1, omega (arith, place)))
 
 pub returns-clause-filled : goal.returns-clause-filled
 returns-clause-filled g c = rw (← c.self.view_is) (λ stands honest none.
     let keeps = c.has_fallen.ensures.stands stands honest in
     let place = c.self.invariant.2 (sym c.has_fallen.ensures.value ∙ stands) in
     let empty = ap (λ (es : List Entry). length (body_bytes es)) (c.self.invariant.1 none) in
-    subst (λ (end : ℕ). HasPlaces (g.D.Disk.seen c.self.inside.store.disk) c.self.inside.store.generation c.self.inside.store.grown end) (omega (arith, place, empty))
-    (has_places g.D.Disk.moment g.D.Disk.left g.D.Disk.seen c.self.inside.store keeps.0 keeps.1))
+    subst (λ (end : ℕ). GroupsEndAt (g.D.Disk.seen c.self.inside.store.disk) c.self.inside.store.generation c.self.inside.store.grown end) (omega (arith, place, empty))
+    (groups_end g.D.Disk.moment g.D.Disk.left g.D.Disk.seen c.self.inside.store keeps.0 keeps.1))

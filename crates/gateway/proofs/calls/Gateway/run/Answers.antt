@@ -85,6 +85,9 @@ returns-in-Err-clause-fell g c = (λ is. ((sym c.has_fallen.ensures.value ∙ c.
 pub returns-in-Err-clause-device : goal.returns-in-Err-clause-device
 returns-in-Err-clause-device g c = c.in-Err.ensures.err.stops.is_why.device
 
+pub returns-in-Err-clause-by_one : goal.returns-in-Err-clause-by_one
+returns-in-Err-clause-by_one g c = c.in-Err.ensures.err.stops.is_why.by_one
+
 pub returns-in_default-clause-within : goal.returns-in_default-clause-within
 returns-in_default-clause-within g c =
     let self = c.args.self.now in

@@ -5,7 +5,7 @@ use Rattle.packet.specs.declared.endpoint.Proto.TheVariants.{Tcp}
 use Rattle.sessions.specs.Stilled.{stilled}
 use Rattle.sessions.specs.declared.session.Opener.TheVariants.{Inside}
 use Rattle.sessions.specs.declared.session.Session.{Session}
-use Rattle.gateway.proofs.calls.forget_moments.Goals as goal
+use Rattle.gateway.proofs.surviving.forget_moments.Goals as goal
 
 abbrev no_one : Session
 no_one = record { proto = Tcp; inside = record { addr = 0; port = 0 }; outside = record { addr = 0; port = 0 }; remote = record { addr = 0; port = 0 }; opener = Inside; seen = 0; last = 0 }

@@ -1,21 +1,21 @@
--- The body of a framed buffer.
+-- The body of a sealed buffer.
 use Rattle.std.proofs.Common.{◌≡◌, ℕ, ◌+◌, ◌-◌, ◌<◌, ◌≤◌, ◌^◌, List, [], ◌∷◌, ◌++◌, length, take, drop, sym, ◌∙◌, ap, subst, arith, length-append, length-drop, append_assoc}
 use Rattle.std.proofs.lemmas.List.{take_at, drop_at, take-take, drop-take, drop-append-le, length-take-le}
 use Rattle.byteorder.specs.Endian.{big_bytes}
 use Rattle.byteorder.specs.Numbers.{length-bytes_high_first}
-use Rattle.journal.specs.Groups.{framed, body_of, IsFramed}
-use Rattle.journal.proofs.Behind.{length-framed}
+use Rattle.journal.specs.Groups.{sealed, body_of, IsSealed}
+use Rattle.journal.proofs.Behind.{length-sealed}
 
-pub body_of-framed : (body bytes : List ℕ) → bytes ≡ framed body → body_of bytes ≡ body
-body_of-framed body bytes is =
+pub body_of-sealed : (body bytes : List ℕ) → bytes ≡ sealed body → body_of bytes ≡ body
+body_of-sealed body bytes is =
     ap body_of is
-    ∙ ap (λ l. take (length (framed body) - 5) l) (drop_at (big_bytes 4 (length body)) (body ++ 0 ∷ []) 4 (length-bytes_high_first 4 (length body)))
-    ∙ take_at body (0 ∷ []) (length (framed body) - 5) (omega (arith, length-framed body))
+    ∙ ap (λ l. take (length (sealed body) - 5) l) (drop_at (big_bytes 4 (length body)) (body ++ 0 ∷ []) 4 (length-bytes_high_first 4 (length body)))
+    ∙ take_at body (0 ∷ []) (length (sealed body) - 5) (omega (arith, length-sealed body))
 
-pub is_framed : (body bytes : List ℕ) → bytes ≡ framed body → length body < 2 ^ 32 → IsFramed bytes
-is_framed body bytes is fits =
-    let e = body_of-framed body bytes is in
-    record { bytes = is ∙ ap framed (sym e); fits = subst (λ l. length l < 2 ^ 32) (sym e) fits }
+pub is_sealed : (body bytes : List ℕ) → bytes ≡ sealed body → length body < 2 ^ 32 → IsSealed bytes
+is_sealed body bytes is fits =
+    let e = body_of-sealed body bytes is in
+    record { bytes = is ∙ ap sealed (sym e); fits = subst (λ l. length l < 2 ^ 32) (sym e) fits }
 
 length-body_of : (bytes : List ℕ) → 5 ≤ length bytes → length (body_of bytes) ≡ length bytes - 5
 length-body_of bytes long = length-take-le (length bytes - 5) (drop 4 bytes) (omega (arith, length-drop 4 bytes))
@@ -24,8 +24,8 @@ body_behind : (bytes : List ℕ) → 5 ≤ length bytes → drop 4 (take (length
 body_behind bytes long = ap (λ n. drop 4 (take n bytes)) (let e : length bytes - 1 ≡ 4 + (length bytes - 5) = omega (arith, long) in e) ∙ drop-take 4 (length bytes - 5) bytes
 
 -- the length before the body, and the 0 behind it
-pub sealed : (bytes : List ℕ) (count : ℕ) → 5 ≤ length bytes → count ≡ length bytes - 5 → big_bytes 4 count ++ drop 4 (take (length bytes - 1) bytes ++ 0 ∷ []) ≡ framed (body_of bytes)
-sealed bytes count long is =
+pub is_seal : (bytes : List ℕ) (count : ℕ) → 5 ≤ length bytes → count ≡ length bytes - 5 → big_bytes 4 count ++ drop 4 (take (length bytes - 1) bytes ++ 0 ∷ []) ≡ sealed (body_of bytes)
+is_seal bytes count long is =
     let front = take (length bytes - 1) bytes in
     let size : length front ≡ length bytes - 1 = length-take-le (length bytes - 1) bytes (omega arith) in
     ap (λ l. big_bytes 4 count ++ l) (drop-append-le 4 front (0 ∷ []) (omega (arith, size, long)) ∙ ap (λ l. l ++ 0 ∷ []) (body_behind bytes long))

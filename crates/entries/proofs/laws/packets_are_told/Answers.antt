@@ -1,5 +1,5 @@
 use Rattle.entries.proofs.Pinned.{pinned-nothing, pinned-restart, pinned-seen}
-use Rattle.entries.proofs.laws.entries_are_pinned.Goals as goal
+use Rattle.entries.proofs.laws.packets_are_told.Goals as goal
 
 pub returns : goal.returns
 returns c = λ config ss s sender flags now sound is. record {

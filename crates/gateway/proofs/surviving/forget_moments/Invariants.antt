@@ -1,6 +1,6 @@
 use Rattle.std.proofs.Common.{◌≡◌, ◌++◌, map, take, drop}
 use Rattle.sessions.specs.Stilled.{stilled}
-use Rattle.gateway.proofs.calls.forget_moments.Given as goal
+use Rattle.gateway.proofs.surviving.forget_moments.Given as goal
 
 -- those before this one are stilled
 abbrev pub invariant-loop-session : goal.invariant-loop-session

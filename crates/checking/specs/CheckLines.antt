@@ -15,10 +15,10 @@ TellsOf kind line =
     × (line ≡ codes "line " ++ number ++ codes ": " ++ reason_name kind ++ codes "\n")
 
 -- it says ok of a text that loads, and of another one a kind of fault that the text has
-abbrev pub IsVerdict : Config → List ℕ → Bool → List ℕ → Type 0
-IsVerdict config text true line =
+abbrev pub IsCheckLine : Config → List ℕ → Bool → List ℕ → Type 0
+IsCheckLine config text true line =
     (line ≡ codes "ok\n") × ((rules : Spelled) × Loads config text rules)
-IsVerdict config text false line =
+IsCheckLine config text false line =
     (kind : Kind) × (kind ≢ NoMemory) × IsRefused config text kind × TellsOf kind line
 
 -- nothing is shown of a text that loads, and of another one a place in it
