@@ -1,6 +1,8 @@
 //! Configurations, the routes between their interfaces, and counted steps.
 use crate::shared::{EXTERNAL, HOST, SERVER, endpoint};
-use packet::{Bounds, ConfigFault, Flags, Iface, Prefix, Proto, Route, RouteFault, Steps, View};
+use packet::{
+    Bounds, ConfigFault, Filtering, Flags, Iface, Prefix, Proto, Route, RouteFault, Steps, View,
+};
 use std::alloc::Global;
 use std::process::Abort;
 use std::test::*;
@@ -11,12 +13,13 @@ fn bounds(
     names: (&str, &str),
     prefix: Prefix,
     count: usize,
-    external: u32,
+    external: &[u32],
 ) -> Result<Result<Bounds, ConfigFault>, Fail> {
     let lan = String::from_str(alloc, names.0)?;
     let wan = String::from_str(alloc, names.1)?;
     let inside = vec![in alloc; prefix; count]?;
-    Ok(Bounds::new(lan, wan, inside, external))
+    let external = Vec::from_slice(alloc, external)?;
+    Ok(Bounds::new(lan, wan, inside, external, Filtering::Address))
 }
 
 // Why these bounds aren't taken, if they aren't.
@@ -25,12 +28,14 @@ fn fault_of(
     names: (&str, &str),
     prefix: Prefix,
     count: usize,
-    external: u32,
+    external: &[u32],
 ) -> Result<Option<ConfigFault>, Fail> {
     Ok(bounds(alloc, names, prefix, count, external)?.err())
 }
 
 const BOTH: (&str, &str) = ("lan", "wan");
+
+const SECOND: u32 = 0xcb007102;
 
 const INSIDE: Prefix = Prefix {
     addr: 0xc0a80000,
@@ -60,30 +65,44 @@ const BAD_NAMES: [(&str, &str, &str, usize, ConfigFault); 4] = [
 
 fn names_are_refused(rt: &impl Abort, alloc: Global) -> Result<(), Fail> {
     for (case, lan, wan, count, expected) in &BAD_NAMES {
-        let found = fault_of(alloc, (*lan, *wan), INSIDE, *count, EXTERNAL)?;
+        let found = fault_of(alloc, (*lan, *wan), INSIDE, *count, &[])?;
         assert_eq!(rt; found, Some(*expected), "at {case}");
     }
     Ok(())
 }
 
-// An inside prefix, how many of it there are, and the external address.
-const BAD_ADDRESSES: [(&str, Prefix, usize, u32, ConfigFault); 5] = [
-    ("no prefix", INSIDE, 0, EXTERNAL, ConfigFault::PrefixCount),
-    ("17 prefixes", INSIDE, 17, HOST, ConfigFault::PrefixCount),
-    ("host bits", HOST_BITS, 1, HOST, ConfigFault::BadPrefix),
-    ("33 bits", TOO_LONG, 1, HOST, ConfigFault::BadPrefix),
+// One address more than a configuration may have. But for the fourth none is near another one.
+const FIVE: [u32; 5] = [EXTERNAL, SECOND, 0xc6336401, 0, 0xffffffff];
+
+// An inside prefix, how many of it there are, and the external addresses. Those of a row are at fault for a later row
+// too.
+const BAD_ADDRESSES: [(&str, Prefix, usize, &[u32], ConfigFault); 9] = [
+    ("no prefix", INSIDE, 0, &[], ConfigFault::PrefixCount),
+    ("17 prefixes", INSIDE, 17, &FIVE, ConfigFault::PrefixCount),
+    ("host bits", HOST_BITS, 1, &[], ConfigFault::BadPrefix),
+    ("33 bits", TOO_LONG, 1, &[HOST], ConfigFault::BadPrefix),
+    ("no address", INSIDE, 1, &[], ConfigFault::ExternalCount),
+    ("five", INSIDE, 1, &[HOST; 5], ConfigFault::ExternalCount),
     (
-        "external inside",
+        "twice",
         INSIDE,
         1,
-        HOST,
+        &[HOST, EXTERNAL, HOST],
+        ConfigFault::ExternalTwice,
+    ),
+    ("inside", INSIDE, 1, &[HOST], ConfigFault::ExternalInside),
+    (
+        "last inside",
+        INSIDE,
+        1,
+        &[1, 2, 3, HOST],
         ConfigFault::ExternalInside,
     ),
 ];
 
 fn addresses_are_refused(rt: &impl Abort, alloc: Global) -> Result<(), Fail> {
     for (case, prefix, count, external, expected) in &BAD_ADDRESSES {
-        let found = fault_of(alloc, BOTH, *prefix, *count, *external)?;
+        let found = fault_of(alloc, BOTH, *prefix, *count, external)?;
         assert_eq!(rt; found, Some(*expected), "at {case}");
     }
     Ok(())
@@ -97,12 +116,21 @@ fn configurations_are_refused(rt: HostRuntime) -> Result<(), Fail> {
 
 #[test]
 fn sixteen_prefixes_are_taken(rt: HostRuntime) -> Result<(), Fail> {
-    assert_eq!(rt; fault_of(rt.alloc(), BOTH, INSIDE, 16, EXTERNAL)?, None);
+    assert_eq!(rt; fault_of(rt.alloc(), BOTH, INSIDE, 16, &[EXTERNAL])?, None);
+    Ok(())
+}
+
+#[test]
+fn four_addresses_are_taken(rt: HostRuntime) -> Result<(), Fail> {
+    let [first, second, third, fourth, _] = FIVE;
+    let pool = [first, second, third, fourth];
+    assert_eq!(rt; fault_of(rt.alloc(), BOTH, INSIDE, 1, &pool)?, None);
     Ok(())
 }
 
 fn boxed(alloc: Global) -> Result<Box<Bounds>, Fail> {
-    match bounds(alloc, ("en-0.a_B", "0123456789abcde"), INSIDE, 1, EXTERNAL)? {
+    let names = ("en-0.a_B", "0123456789abcde");
+    match bounds(alloc, names, INSIDE, 1, &[EXTERNAL, SECOND])? {
         Ok(bounds) => Ok(Box::new(alloc, bounds)?),
         Err(_) => Err("refused".into()),
     }
@@ -112,7 +140,7 @@ fn has_names(bounds: &Bounds, lan: &[u8], wan: &[u8]) -> bool {
     bounds.lan() == lan && bounds.wan() == wan
 }
 
-fn has_addresses(bounds: &Bounds, inside: &[Prefix], external: u32) -> bool {
+fn has_addresses(bounds: &Bounds, inside: &[Prefix], external: &[u32]) -> bool {
     bounds.inside() == inside && bounds.external() == external
 }
 
@@ -121,7 +149,8 @@ fn configurations_are_shown(rt: HostRuntime) -> Result<(), Fail> {
     let bounds = boxed(rt.alloc())?;
     bounds.facts();
     assert!(rt; has_names(&bounds, b"en-0.a_B", b"0123456789abcde"));
-    assert!(rt; has_addresses(&bounds, &[INSIDE], EXTERNAL));
+    assert!(rt; has_addresses(&bounds, &[INSIDE], &[EXTERNAL, SECOND]));
+    assert_eq!(rt; bounds.filtering(), Filtering::Address);
     Ok(())
 }
 
@@ -129,7 +158,8 @@ fn configurations_are_shown(rt: HostRuntime) -> Result<(), Fail> {
 fn addresses_are_placed(rt: HostRuntime) -> Result<(), Fail> {
     let bounds = boxed(rt.alloc())?;
     assert!(rt; bounds.is_inside(0xc0a8ffff) && !bounds.is_inside(0xc0a90000));
-    assert!(rt; bounds.is_external(EXTERNAL) && !bounds.is_external(HOST));
+    assert!(rt; bounds.is_external(EXTERNAL) && bounds.is_external(SECOND));
+    assert!(rt; !bounds.is_external(HOST) && !bounds.is_external(SECOND + 1));
     Ok(())
 }
 
@@ -151,7 +181,7 @@ fn route_of(
     bounds.route(from, &view)
 }
 
-const ROUTES: [(&str, Iface, u32, u32, u8, Result<Route, RouteFault>); 10] = [
+const ROUTES: [(&str, Iface, u32, u32, u8, Result<Route, RouteFault>); 14] = [
     ("out", Iface::Lan, HOST, SERVER, 2, Ok(Route::Out)),
     ("in", Iface::Wan, SERVER, EXTERNAL, 2, Ok(Route::In)),
     (
@@ -163,6 +193,23 @@ const ROUTES: [(&str, Iface, u32, u32, u8, Result<Route, RouteFault>); 10] = [
         Ok(Route::In),
     ),
     ("hairpin", Iface::Lan, HOST, EXTERNAL, 2, Ok(Route::Hairpin)),
+    ("in, second", Iface::Wan, SERVER, SECOND, 2, Ok(Route::In)),
+    (
+        "hairpin, second",
+        Iface::Lan,
+        HOST,
+        SECOND,
+        2,
+        Ok(Route::Hairpin),
+    ),
+    (
+        "behind the pool",
+        Iface::Wan,
+        SERVER,
+        SECOND + 1,
+        2,
+        Err(RouteFault::NoRoute),
+    ),
     (
         "last hop",
         Iface::Lan,
@@ -191,6 +238,14 @@ const ROUTES: [(&str, Iface, u32, u32, u8, Result<Route, RouteFault>); 10] = [
         "own source",
         Iface::Wan,
         EXTERNAL,
+        SERVER,
+        2,
+        Err(RouteFault::Spoofed),
+    ),
+    (
+        "own second source",
+        Iface::Wan,
+        SECOND,
         SERVER,
         2,
         Err(RouteFault::Spoofed),
