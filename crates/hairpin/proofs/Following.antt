@@ -1,8 +1,6 @@
 -- The ports that are taken follow the mappings that are held.
-use Rattle.std.proofs.Common.{◌≡◌, ◌⊎◌, ◌↔◌, ℕ, ◌<◌, List, [], ◌∷◌, ◌++◌, Bool, cond, refl, sym, ap, ◌∙◌, subst, inl, inr, arith}
-use Rattle.std.specs.List.{Contains}
+use Rattle.std.proofs.Common.{◌≡◌, ◌⊎◌, ◌↔◌, ℕ, ◌<◌, List, Bool, cond, refl, sym, ap, ◌∙◌, subst, inl, inr, arith}
 use Rattle.std.proofs.lemmas.Bool.{cases_Bool}
-use Rattle.std.proofs.lemmas.List.Elements.{Contains-push}
 use Rattle.portpick.specs.Choice.{IsTestOf}
 use Rattle.packet.specs.declared.endpoint.Proto.{Proto}
 use Rattle.packet.specs.declared.endpoint.Endpoint.{Endpoint}
@@ -10,7 +8,8 @@ use Rattle.portpick.specs.Taken.{TakenPorts, IsTaken, Takes, SameTaken}
 use Rattle.mappings.specs.declared.map.Mapping.{Mapping}
 use Rattle.mappings.specs.Map.{Mappings, times, mapping, one_at, same_mapping, Gains, SameTimes}
 use Rattle.mappings.proofs.Times.{same_mapping-true, one_at-itself}
-use Rattle.hairpin.specs.Translations.{endpoint, IsOutside, IsOutsideOf, Follows}
+use Rattle.hairpin.specs.Translations.{IsExternal, IsOutside, IsOutsideOf, Follows}
+use Rattle.portpick.specs.Pool.{endpoint}
 
 pub as_held : (m : Mappings) (p : Mapping) (q : Proto) (e : Endpoint) → IsOutsideOf p q e → IsOutside m p.proto p.outside → IsOutside m q e
 as_held m p q e is held = subst (λ r. IsOutside m r e) (sym is.0) (subst (λ f. IsOutside m p.proto f) (sym is.1) held)
@@ -18,60 +17,60 @@ as_held m p q e is held = subst (λ r. IsOutside m r e) (sym is.0) (subst (λ f.
 module _ (p : Mapping) (old new : TakenPorts) where
   -- a port is taken that is taken already, or that was free
   pub took_again : IsTaken old p.proto p.outside.addr p.outside.port
-      → (q : Proto) (r : ℕ) → IsTaken old q p.outside.addr r ↔ (IsTaken old q p.outside.addr r ⊎ IsOutsideOf p q (endpoint p.outside.addr r))
-  took_again taken q r = (
+      → (q : Proto) (a r : ℕ) → IsTaken old q a r ↔ (IsTaken old q a r ⊎ IsOutsideOf p q (endpoint a r))
+  took_again taken q a r = (
     inl,
     (λ h. elim h [
       | inl was ↦ was
-      | inr is ↦ subst (λ x. IsTaken old x p.outside.addr r) (sym is.0) (subst (λ x. IsTaken old p.proto p.outside.addr x) (sym (ap (λ (e : Endpoint). e.port) is.1)) taken)
+      | inr is ↦ subst (λ x. IsTaken old x a r) (sym is.0) (subst (λ (e : Endpoint). IsTaken old p.proto e.addr e.port) (sym is.1) taken)
     ]),
   )
 
   pub took_new : Takes old new p.proto p.outside.addr p.outside.port
-      → (q : Proto) (r : ℕ) → IsTaken new q p.outside.addr r ↔ (IsTaken old q p.outside.addr r ⊎ IsOutsideOf p q (endpoint p.outside.addr r))
-  took_new takes q r = (
-    (λ t. elim ((takes q p.outside.addr r).0 t) [
+      → (q : Proto) (a r : ℕ) → IsTaken new q a r ↔ (IsTaken old q a r ⊎ IsOutsideOf p q (endpoint a r))
+  took_new takes q a r = (
+    (λ t. elim ((takes q a r).0 t) [
       | inl was ↦ inl was
-      | inr is ↦ inr (is.0, ap (endpoint p.outside.addr) is.2)
+      | inr is ↦ inr (is.0, ap (λ x. endpoint x r) is.1 ∙ ap (endpoint p.outside.addr) is.2)
     ]),
     (λ h. elim h [
-      | inl was ↦ (takes q p.outside.addr r).1 (inl was)
-      | inr is ↦ (takes q p.outside.addr r).1 (inr (is.0, refl, ap (λ (e : Endpoint). e.port) is.1))
+      | inl was ↦ (takes q a r).1 (inl was)
+      | inr is ↦ (takes q a r).1 (inr (is.0, ap (λ (e : Endpoint). e.addr) is.1, ap (λ (e : Endpoint). e.port) is.1))
     ]),
   )
 
 module _ (m : Mappings) (p : Mapping) (old new : TakenPorts) where
   -- a port is free again, or stays taken
-  pub freed_none : ((q : Proto) (r : ℕ) → IsTaken old q p.outside.addr r ↔ (IsOutside m q (endpoint p.outside.addr r) ⊎ IsOutsideOf p q (endpoint p.outside.addr r))) → IsOutside m p.proto p.outside
-      → (q : Proto) (r : ℕ) → IsTaken old q p.outside.addr r ↔ IsOutside m q (endpoint p.outside.addr r)
-  freed_none taken held q r = (
-    (λ t. elim ((taken q r).0 t) [
+  pub freed_none : ((q : Proto) (a r : ℕ) → IsTaken old q a r ↔ (IsOutside m q (endpoint a r) ⊎ IsOutsideOf p q (endpoint a r))) → IsOutside m p.proto p.outside
+      → (q : Proto) (a r : ℕ) → IsTaken old q a r ↔ IsOutside m q (endpoint a r)
+  freed_none taken held q a r = (
+    (λ t. elim ((taken q a r).0 t) [
       | inl o ↦ o
-      | inr is ↦ as_held m p q (endpoint p.outside.addr r) is held
+      | inr is ↦ as_held m p q (endpoint a r) is held
     ]),
-    (λ o. (taken q r).1 (inl o)),
+    (λ o. (taken q a r).1 (inl o)),
   )
 
-  pub freed_one : ((q : Proto) (r : ℕ) → IsTaken old q p.outside.addr r ↔ (IsOutside m q (endpoint p.outside.addr r) ⊎ IsOutsideOf p q (endpoint p.outside.addr r)))
+  pub freed_one : ((q : Proto) (a r : ℕ) → IsTaken old q a r ↔ (IsOutside m q (endpoint a r) ⊎ IsOutsideOf p q (endpoint a r)))
       → ((inside : Endpoint) → times m (mapping p.proto inside p.outside) ≡ 0) → Takes new old p.proto p.outside.addr p.outside.port → ¬ IsTaken new p.proto p.outside.addr p.outside.port
-      → (q : Proto) (r : ℕ) → IsTaken new q p.outside.addr r ↔ IsOutside m q (endpoint p.outside.addr r)
-  freed_one taken none takes free q r = (
-    (λ t. elim ((taken q r).0 ((takes q p.outside.addr r).1 (inl t))) [
+      → (q : Proto) (a r : ℕ) → IsTaken new q a r ↔ IsOutside m q (endpoint a r)
+  freed_one taken none takes free q a r = (
+    (λ t. elim ((taken q a r).0 ((takes q a r).1 (inl t))) [
       | inl o ↦ o
-      | inr is ↦ absurd (free (subst (λ x. IsTaken new x p.outside.addr p.outside.port) is.0 (subst (λ x. IsTaken new q p.outside.addr x) (ap (λ (e : Endpoint). e.port) is.1) t)))
+      | inr is ↦ absurd (free (subst (λ x. IsTaken new x p.outside.addr p.outside.port) is.0 (subst (λ (e : Endpoint). IsTaken new q e.addr e.port) is.1 t)))
     ]),
-    (λ o. elim ((takes q p.outside.addr r).0 ((taken q r).1 (inl o))) [
+    (λ o. elim ((takes q a r).0 ((taken q a r).1 (inl o))) [
       | inl t ↦ t
       | inr is ↦
-          let e : endpoint p.outside.addr r ≡ p.outside = ap (endpoint p.outside.addr) is.2 in
+          let e : endpoint a r ≡ p.outside = ap (λ x. endpoint x r) is.1 ∙ ap (endpoint p.outside.addr) is.2 in
           let here : 0 < times m (mapping p.proto o.0 p.outside) = subst (λ x. 0 < times m (mapping x o.0 p.outside)) is.0 (subst (λ x. 0 < times m (mapping q o.0 x)) e o.1) in
           absurd (omega (arith, here, none o.0))
     ]),
   )
 
-  pub was_taken : ((q : Proto) (r : ℕ) → IsTaken old q p.outside.addr r ↔ (IsOutside m q (endpoint p.outside.addr r) ⊎ IsOutsideOf p q (endpoint p.outside.addr r)))
+  pub was_taken : ((q : Proto) (a r : ℕ) → IsTaken old q a r ↔ (IsOutside m q (endpoint a r) ⊎ IsOutsideOf p q (endpoint a r)))
       → IsTaken old p.proto p.outside.addr p.outside.port
-  was_taken taken = (taken p.proto p.outside.port).1 (inr (refl, refl))
+  was_taken taken = (taken p.proto p.outside.addr p.outside.port).1 (inr (refl, refl))
 
 -- the outside endpoints once a mapping is held once more
 gained_here : (old new : Mappings) (g p : Mapping) → Gains old new g → 0 < times new p → (0 < times old p) ⊎ (p ≡ g)
@@ -92,19 +91,15 @@ gains_outside old new g gains q e = (
   ]),
 )
 
-module _ (external : ℕ) (old new : Mappings) (p : Mapping) (ports ports' : TakenPorts) (follows : Follows external old ports) where
-  taken_at : p.outside.addr ≡ external → (q : Proto) (r : ℕ) → IsTaken ports q p.outside.addr r ↔ IsOutside old q (endpoint p.outside.addr r)
-  taken_at at q r = subst (λ a. IsTaken ports q a r ↔ IsOutside old q (endpoint a r)) (sym at) (follows.taken q r)
-
-  pub after_hold : p.outside.addr ≡ external → 0 < p.outside.port → Gains old new p → ports'.external ≡ ports.external
-      → ((q : Proto) (r : ℕ) → IsTaken ports' q p.outside.addr r ↔ (IsTaken ports q p.outside.addr r ⊎ IsOutsideOf p q (endpoint p.outside.addr r)))
-      → Follows external new ports'
-  after_hold at some gains same taken = record {
-    address = subst (λ (xs : List ℕ). Contains xs external) (sym same) follows.address;
-    taken = λ q r.
-        let t = subst (λ a. IsTaken ports' q a r ↔ (IsTaken ports q a r ⊎ IsOutsideOf p q (endpoint a r))) at (taken q r) in
-        let f = follows.taken q r in
-        let g = gains_outside old new p gains q (endpoint external r) in (
+module _ (old new : Mappings) (p : Mapping) (ports ports' : TakenPorts) (follows : Follows old ports) where
+  pub after_hold : IsExternal ports.external p.outside → Gains old new p → ports'.external ≡ ports.external
+      → ((q : Proto) (a r : ℕ) → IsTaken ports' q a r ↔ (IsTaken ports q a r ⊎ IsOutsideOf p q (endpoint a r)))
+      → Follows new ports'
+  after_hold at gains same taken = record {
+    taken = λ q a r.
+        let t = taken q a r in
+        let f = follows.taken q a r in
+        let g = gains_outside old new p gains q (endpoint a r) in (
           (λ h. g.1 (elim (t.0 h) [
             | inl was ↦ inl (f.0 was)
             | inr is ↦ inr is
@@ -114,56 +109,50 @@ module _ (external : ℕ) (old new : Mappings) (p : Mapping) (ports ports' : Tak
             | inr is ↦ inr is
           ])),
         );
-    placed = λ x lt. elim (gained_here old new p x gains lt) [
+    placed = λ x lt. subst (λ (xs : List ℕ). IsExternal xs x.outside) (sym same) (elim (gained_here old new p x gains lt) [
       | inl was ↦ follows.placed x was
-      | inr is ↦ (ap (λ (y : Mapping). y.outside.addr) is ∙ at, subst (λ (y : Mapping). 0 < y.outside.port) (sym is) some)
-    ];
+      | inr is ↦ subst (λ (y : Mapping). IsExternal ports.external y.outside) (sym is) at
+    ]);
   }
 
-  pub before_release : Gains new old p → 0 < times old p
-      → (q : Proto) (r : ℕ) → IsTaken ports q p.outside.addr r ↔ (IsOutside new q (endpoint p.outside.addr r) ⊎ IsOutsideOf p q (endpoint p.outside.addr r))
-  before_release loses some q r =
-      let t = taken_at (follows.placed p some).0 q r in
-      let g = gains_outside new old p loses q (endpoint p.outside.addr r) in
+  pub before_release : Gains new old p
+      → (q : Proto) (a r : ℕ) → IsTaken ports q a r ↔ (IsOutside new q (endpoint a r) ⊎ IsOutsideOf p q (endpoint a r))
+  before_release loses q a r =
+      let t = follows.taken q a r in
+      let g = gains_outside new old p loses q (endpoint a r) in
       ((λ h. g.0 (t.0 h)), (λ h. t.1 (g.1 h)))
 
-  pub after_release : Gains new old p → 0 < times old p → ports'.external ≡ ports.external
-      → ((q : Proto) (r : ℕ) → IsTaken ports' q p.outside.addr r ↔ IsOutside new q (endpoint p.outside.addr r))
-      → Follows external new ports'
-  after_release loses some same taken = record {
-    address = subst (λ (xs : List ℕ). Contains xs external) (sym same) follows.address;
-    taken = λ q r. subst (λ a. IsTaken ports' q a r ↔ IsOutside new q (endpoint a r)) (follows.placed p some).0 (taken q r);
-    placed = λ x lt. follows.placed x (omega (arith, loses x));
+  pub after_release : Gains new old p → ports'.external ≡ ports.external
+      → ((q : Proto) (a r : ℕ) → IsTaken ports' q a r ↔ IsOutside new q (endpoint a r))
+      → Follows new ports'
+  after_release loses same taken = record {
+    taken = taken;
+    placed = λ x lt. subst (λ (xs : List ℕ). IsExternal xs x.outside) (sym same) (follows.placed x (omega (arith, loses x)));
   }
 
 -- the same mappings and the same ports
-pub follows-same : (external : ℕ) (old new : Mappings) (ports ports' : TakenPorts) → Follows external old ports → SameTimes old new → SameTaken ports ports' → ports'.external ≡ ports.external → Follows external new ports'
-follows-same external old new ports ports' follows times_same taken_same same = record {
-  address = subst (λ (xs : List ℕ). Contains xs external) (sym same) follows.address;
-  taken = λ q r.
-      let t = follows.taken q r in
-      let s = taken_same q external r in (
-        (λ h. let o = t.0 (s.0 h) in (o.0, omega (arith, o.1, times_same (mapping q o.0 (endpoint external r))))),
-        (λ h. s.1 (t.1 (h.0, omega (arith, h.1, times_same (mapping q h.0 (endpoint external r)))))),
+pub follows-same : (old new : Mappings) (ports ports' : TakenPorts) → Follows old ports → SameTimes old new → SameTaken ports ports' → ports'.external ≡ ports.external → Follows new ports'
+follows-same old new ports ports' follows times_same taken_same same = record {
+  taken = λ q a r.
+      let t = follows.taken q a r in
+      let s = taken_same q a r in (
+        (λ h. let o = t.0 (s.0 h) in (o.0, omega (arith, o.1, times_same (mapping q o.0 (endpoint a r))))),
+        (λ h. s.1 (t.1 (h.0, omega (arith, h.1, times_same (mapping q h.0 (endpoint a r)))))),
       );
-  placed = λ x lt. follows.placed x (omega (arith, times_same x));
+  placed = λ x lt. subst (λ (xs : List ℕ). IsExternal xs x.outside) (sym same) (follows.placed x (omega (arith, times_same x)));
 }
 
-pub follows-none : (external : ℕ) (m : Mappings) (ports : TakenPorts) → Contains ports.external external → ((p : Mapping) → times m p ≡ 0)
-    → ((q : Proto) (a r : ℕ) → ¬ IsTaken ports q a r) → Follows external m ports
-follows-none external m ports address none free = record {
-  address = address;
-  taken = λ q r. ((λ t. absurd (free q external r t)), (λ h. absurd (omega (arith, h.1, none (mapping q h.0 (endpoint external r))))));
+pub follows-none : (m : Mappings) (ports : TakenPorts) → ((p : Mapping) → times m p ≡ 0)
+    → ((q : Proto) (a r : ℕ) → ¬ IsTaken ports q a r) → Follows m ports
+follows-none m ports none free = record {
+  taken = λ q a r. ((λ t. absurd (free q a r t)), (λ h. absurd (omega (arith, h.1, none (mapping q h.0 (endpoint a r))))));
   placed = λ p lt. absurd (omega (arith, none p));
 }
 
-pub one_address : (external : ℕ) (xs ys : List ℕ) → xs ≡ ys ++ external ∷ [] → Contains xs external
-one_address external xs ys e = subst (λ (zs : List ℕ). Contains zs external) (sym e) (Contains-push ys external)
-
 -- a test that says which outside endpoints are held says which ports are taken
-pub chosen : (external : ℕ) (m : Mappings) (ports : TakenPorts) → Follows external m ports → (proto : Proto) (test : ℕ → Bool) → IsTestOf test (λ q. IsOutside m proto (endpoint external q))
-    → IsTestOf test (IsTaken ports proto external)
-chosen external m ports follows proto test says port = (
-  (λ h. (follows.taken proto port).1 ((says port).0 h)),
-  (λ t. (says port).1 ((follows.taken proto port).0 t)),
+pub chosen : (m : Mappings) (ports : TakenPorts) → Follows m ports → (proto : Proto) (addr : ℕ) (test : ℕ → Bool) → IsTestOf test (λ q. IsOutside m proto (endpoint addr q))
+    → IsTestOf test (IsTaken ports proto addr)
+chosen m ports follows proto addr test says port = (
+  (λ h. (follows.taken proto addr port).1 ((says port).0 h)),
+  (λ t. (says port).1 ((follows.taken proto addr port).0 t)),
 )

@@ -1,11 +1,15 @@
 pub mod Apart
 pub mod Beginning
+pub mod Choosing
 pub mod Clashing
 pub mod Doubling
 pub mod Following
 pub mod Incoming
 pub mod Mapped
 pub mod Opening
+pub mod Pairs
 pub mod Planned
+pub mod Same
 pub mod Soundness
 pub mod Tally
+pub mod UsedLemmas

@@ -1,5 +1,6 @@
 -- What holds where a packet from an inside endpoint goes out or hairpins. No public clause cites this module.
 use Rattle.std.specs.Prelude.{◌≡◌, ◌≢◌, ◌<◌, List, Option, None, IfSome, IfNone, IsTrue, true, find}
+use Rattle.std.specs.List.{Contains}
 use Rattle.packet.specs.Config.{Config, is_inside}
 use Rattle.packet.specs.declared.endpoint.Endpoint.{Endpoint}
 use Rattle.packet.specs.declared.endpoint.Proto.{Proto}
@@ -34,14 +35,14 @@ pub record GoesOutNew (config : Config) (rules : Spelled) (held : List (Option S
   pub mapping : TellsMapping (listing held) view.proto view.src mapped
   pub none : find (has_inside view.proto view.src view.dst) (listing held) ≡ None
 
--- a packet goes from an inside endpoint to the external address, neither from port 0 nor to it, and the translations
+-- a packet goes from an inside endpoint to an external address, neither from port 0 nor to it, and the translations
 -- are those of the sessions
 pub record Hairpins (config : Config) (held : List (Option Session)) (t : Translations)
     (view : View) : Type 0 where
   pub translations : AreOf config held t
   pub ports : (0 < view.src.port) × (0 < view.dst.port)
   pub inside : IsTrue (is_inside config view.src.addr)
-  pub external_destination : view.dst.addr ≡ config.external
+  pub external_destination : Contains config.external view.dst.addr
 
 -- a packet hairpins, and this tells the mapping of its source
 pub record HairpinsNew (config : Config) (held : List (Option Session)) (t : Translations)

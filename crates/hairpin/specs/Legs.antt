@@ -1,8 +1,9 @@
 -- The legs: how a packet passes and by which sessions, or the cause of its drop.
-use Rattle.std.specs.Prelude.{ℕ, nat_lt, Bool, not, ◌&&◌, ◌||◌, List, [], ◌∷◌, length, Option, Some, None, is_some, Result, Ok, Err, if◌then◌else◌, find}
-use Rattle.std.specs.Option.{option_map}
+use Rattle.std.specs.Prelude.{ℕ, nat_lt, Bool, true, not, ◌&&◌, ◌||◌, ◌==◌, List, [], ◌∷◌, length, Option, Some, None, is_some, Result, Ok, Err, if◌then◌else◌, find}
 use Rattle.packet.specs.Config.{Config, is_inside}
 use Rattle.packet.specs.Same.{same_proto, same_endpoint}
+use Rattle.packet.specs.declared.bounds.Filtering.{Filtering}
+use Rattle.packet.specs.declared.bounds.Filtering.TheVariants as filtering
 use Rattle.packet.specs.declared.endpoint.Endpoint.{Endpoint}
 use Rattle.packet.specs.declared.endpoint.Flags.{Flags}
 use Rattle.packet.specs.declared.endpoint.Iface.{Iface}
@@ -10,10 +11,10 @@ use Rattle.packet.specs.declared.endpoint.Iface.TheVariants.{Lan, Wan}
 use Rattle.packet.specs.declared.endpoint.Proto.{Proto}
 use Rattle.packet.specs.declared.endpoint.Proto.TheVariants.{Tcp}
 use Rattle.packet.specs.declared.view.View.{View}
-use Rattle.portpick.specs.Choice.{port_choice}
+use Rattle.portpick.specs.Pool.{endpoint, near_choice, pool_choice, port_at}
 use Rattle.ruletree.specs.declared.tree.Spelled.{Spelled}
 use Rattle.sessions.specs.Life.{awaits_reply, is_syn_alone, restarts, shown}
-use Rattle.sessions.specs.Listing.{clashes, has_inside, has_outside, is_translated, put}
+use Rattle.sessions.specs.Listing.{clashes, has_inside, has_outside, has_peer, is_translated, put}
 use Rattle.sessions.specs.Table.{most_sessions, restarted, seen}
 use Rattle.sessions.specs.declared.session.Opener.{Opener}
 use Rattle.sessions.specs.declared.session.Opener.TheVariants.{Inside, Remote}
@@ -28,9 +29,8 @@ use Rattle.verdict.specs.declared.hook.Forwarding.{Forwarding}
 use Rattle.verdict.specs.declared.hook.Forwarding.TheVariants as forwarding
 use Rattle.verdict.specs.declared.hook.Source.{Source}
 use Rattle.verdict.specs.declared.hook.Source.TheVariants as source
-use Rattle.hairpin.specs.Translations.{endpoint}
 use Rattle.hairpin.specs.declared.cause.Cause.{Cause}
-use Rattle.hairpin.specs.declared.cause.Cause.TheVariants.{NoMapping, NoSession, Rule, Clash, SelfMapped, NoPort, TableFull}
+use Rattle.hairpin.specs.declared.cause.Cause.TheVariants.{NoMapping, Filtered, NoSession, Rule, Clash, SelfMapped, NoPort, TableFull}
 
 -- how a packet passes: the sessions that it makes, or passes by as they are then, in turn; the endpoints that it leaves
 -- with, and the interface that it leaves on
@@ -71,6 +71,20 @@ is_at proto outside s = same_proto s.proto proto && same_endpoint s.outside outs
 abbrev pub is_taken : List Session → Proto → ℕ → ℕ → Bool
 is_taken sessions proto addr port = is_some (find (is_at proto (endpoint addr port)) sessions)
 
+-- the session's mapping is of an inside endpoint of this host, and at this external address
+unfoldable pub uses : ℕ → ℕ → Session → Bool
+uses host external s = is_translated s && (s.inside.addr == host && s.outside.addr == external)
+
+-- the host uses the external address: some session's mapping is so
+abbrev pub uses_in : List Session → ℕ → ℕ → Bool
+uses_in sessions host external = is_some (find (uses host external) sessions)
+
+-- a mapping lets a remote address in: any, or one at which a session of it has its remote endpoint (RFC 4787, REQ-8)
+abbrev pub lets_in : Filtering → List Session → Session → ℕ → Bool
+lets_in filtering.Endpoint sessions m remote = true
+lets_in filtering.Address sessions m remote =
+    is_some (find (has_peer m.proto m.inside m.outside remote) sessions)
+
 -- the session once a packet of it from this side has passed: a SYN alone begins a closing one anew
 abbrev pub passed_by : Session → Opener → Flags → ℕ → Session
 passed_by s sender flags now =
@@ -101,9 +115,11 @@ abbrev pub or_no_port : Option Endpoint → Result Endpoint Cause
 or_no_port None = Err NoPort
 or_no_port (Some outside) = Ok outside
 
-abbrev pub or_no_mapping : Option Session → Result Endpoint Cause
-or_no_mapping None = Err NoMapping
-or_no_mapping (Some m) = Ok m.inside
+-- what a mapping gives a packet from this remote address
+abbrev pub by_mapping : Filtering → List Session → ℕ → Option Session → Result Endpoint Cause
+by_mapping filter sessions remote None = Err NoMapping
+by_mapping filter sessions remote (Some m) =
+    if lets_in filter sessions m remote then Ok m.inside else Err Filtered
 
 abbrev pub then_with : {A B : Type 0} → Result A Cause → (A → Result B Cause) → Result B Cause
 then_with (Err cause) next = Err cause
@@ -129,9 +145,7 @@ module _ (config : Config) (rules : Spelled) (sessions : List Session) (now : �
 
   -- the outside endpoint at this address that the port of the inside endpoint is given
   abbrev pub chosen : ℕ → Endpoint → Result Endpoint Cause
-  chosen addr inside =
-      or_no_port (option_map (endpoint addr)
-      (port_choice (is_taken sessions view.proto addr) inside.port))
+  chosen addr inside = or_no_port (port_at (is_taken sessions view.proto) inside.port addr)
 
   abbrev pub new_session : Opener → Endpoint → Endpoint → Endpoint → Session
   new_session opener inside outside remote =
@@ -147,10 +161,14 @@ module _ (config : Config) (rules : Spelled) (sessions : List Session) (now : �
 
   -- ---- out: from an inside endpoint to a remote one
 
-  -- what the postrouting chains decide about the outside endpoint
+  -- what the postrouting chains decide about the outside endpoint: to masquerade is to be at the first address of the
+  -- pool that the host uses, or else at the first that has a port (RFC 4787, REQ-2)
   abbrev pub outside_by_rules : Source → Result Endpoint Cause
   outside_by_rules source.None = Ok view.src
   outside_by_rules (source.From addr) = chosen addr view.src
+  outside_by_rules source.Masquerade =
+      or_no_port (pool_choice (uses_in sessions view.src.addr)
+      (is_taken sessions view.proto) config.external view.src.port)
   outside_by_rules source.Drop = Err Rule
 
   -- a mapping of the inside endpoint gives its outside endpoint, and no nat chain is asked; without one the rules
@@ -180,15 +198,18 @@ module _ (config : Config) (rules : Spelled) (sessions : List Session) (now : �
 
   -- what the prerouting chains decide about the inside endpoint; without a translation, the mapping of the outside
   -- endpoint gives it
-  abbrev pub inside_by_rules : Option Session → Destination → Result Endpoint Cause
-  inside_by_rules found destination.None = or_no_mapping found
-  inside_by_rules found (destination.To inside) = Ok inside
-  inside_by_rules found destination.Drop = Err Rule
+  abbrev pub inside_by_rules : List Session → ℕ → Option Session → Destination
+      → Result Endpoint Cause
+  inside_by_rules held remote found destination.None =
+      by_mapping config.filtering held remote found
+  inside_by_rules held remote found (destination.To inside) = Ok inside
+  inside_by_rules held remote found destination.Drop = Err Rule
 
-  -- an inside destination is the inside endpoint itself; for the external address the rules are asked first
+  -- an inside destination is the inside endpoint itself; for an external address the rules are asked first
   abbrev pub inside_for : Result Endpoint Cause
   inside_for = if is_inside config view.dst.addr then Ok view.dst
-      else inside_by_rules (find (maps_outside view.proto view.dst) sessions)
+      else inside_by_rules sessions view.src.addr
+      (find (maps_outside view.proto view.dst) sessions)
       (prerouting_verdict config (facts_of Wan None view.src view.dst New) rules)
 
   abbrev pub begun_in : Endpoint → Result Passage Cause
@@ -206,11 +227,12 @@ module _ (config : Config) (rules : Spelled) (sessions : List Session) (now : �
 
   -- ---- hairpin: from an inside endpoint to an outside endpoint of the gateway (RFC 4787, REQ-9)
 
-  -- the first session's outside endpoint: that of the mapping, or one that is chosen at the destination's address,
-  -- whatever the rules say of translations
+  -- the first session's outside endpoint: that of the mapping, or one that is chosen at the first address that the
+  -- host uses, or else at the destination's, whatever the rules say of translations
   abbrev pub outside_near : Option Session → Result Endpoint Cause
   outside_near (Some m) = Ok m.outside
-  outside_near None = chosen view.dst.addr view.src
+  outside_near None = or_no_port (near_choice (uses_in sessions view.src.addr)
+      (is_taken sessions view.proto) config.external view.dst.addr view.src.port)
 
   abbrev pub first_by : Option Session → Result Session Cause
   first_by (Some s) = Ok (passed_by s Inside view.flags now)
@@ -226,7 +248,8 @@ module _ (config : Config) (rules : Spelled) (sessions : List Session) (now : �
   -- the second session, among the sessions with the first one put in
   module _ (first : Session) (with_first : List Session) where
     abbrev pub inside_far : Result Endpoint Cause
-    inside_far = inside_by_rules (find (maps_outside view.proto view.dst) with_first)
+    inside_far = inside_by_rules with_first first.outside.addr
+        (find (maps_outside view.proto view.dst) with_first)
         (prerouting_verdict config (facts_of Lan None view.src view.dst New) rules)
 
     abbrev pub begun_second : Endpoint → Result Session Cause

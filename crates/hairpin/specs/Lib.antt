@@ -1,8 +1,11 @@
+pub mod AsBefore
 pub mod Causes
+pub mod Former
 pub mod FromInside
 pub mod Going
 pub mod KeepBounds
 pub mod Legs
+pub mod Paired
 pub mod Plans
 pub mod Tallies
 pub mod Translations

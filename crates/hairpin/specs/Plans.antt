@@ -1,5 +1,6 @@
 -- What a plan means for the sessions that are held.
 use Rattle.std.specs.Prelude.{◌≡◌, ◌≢◌, ℕ, List, [], ◌∷◌, Option, Some, None, Result, Ok, Err, slice_index_or, count_by, is_some, false}
+use Rattle.packet.specs.Config.{Pool}
 use Rattle.packet.specs.Same.{same_endpoint}
 use Rattle.sessions.specs.Life.{IsSeen}
 use Rattle.sessions.specs.Listing.{listing, put}
@@ -13,7 +14,7 @@ use Rattle.hairpin.specs.declared.cause.Cause.{Cause}
 use Rattle.hairpin.specs.declared.plan.Plan.{Plan}
 
 -- the session may begin now: it clashes with none, and there are not too many
-pub record MayBegin (external : ℕ) (held : List (Option Session)) (now : ℕ)
+pub record MayBegin (external : Pool) (held : List (Option Session)) (now : ℕ)
     (s : Session) : Type 0 where
   pub unseen : s.seen ≡ 0
   pub last : s.last ≡ now
@@ -34,7 +35,7 @@ pub record Became (held : List (Option Session)) (change : Change) (t : Session)
   pub kept : (slot : ℕ) (s : Session) → slice_index_or held slot None ≡ Some s → ¬ IsOf change slot
       → slice_index_or later slot None ≡ Some s
 
-module _ (external : ℕ) (held : List (Option Session)) (now : ℕ) where
+module _ (external : Pool) (held : List (Option Session)) (now : ℕ) where
   -- the change gives this session
   abbrev pub Gives : Change → Session → Type 0
   Gives (Begin s) t = (s ≡ t) × MayBegin external held now s
@@ -44,7 +45,7 @@ module _ (external : ℕ) (held : List (Option Session)) (now : ℕ) where
       × (t ≡ restarted s opener now)
 
 -- once the first change is made, the second gives this session
-abbrev pub GivesThen : ℕ → List (Option Session) → ℕ → Change → Session → Change → Session → Type 0
+abbrev pub GivesThen : Pool → List (Option Session) → ℕ → Change → Session → Change → Session → Type 0
 GivesThen external held now first t second u = (later : List (Option Session))
     → Became held first t later → Gives external later now second u
 
@@ -53,7 +54,7 @@ abbrev pub IsApart : List (Option Session) → Change → Change → Type 0
 IsApart held first second = (slot : ℕ) → IsOf second slot
     → (¬ IsOf first slot) × (s : Session) × (slice_index_or held slot None ≡ Some s)
 
-module _ (external : ℕ) (held : List (Option Session)) (now : ℕ) where
+module _ (external : Pool) (held : List (Option Session)) (now : ℕ) where
   -- the changes give these sessions, in turn
   abbrev pub GiveAll : Change → Option Change → List Session → Type 0
   GiveAll first None sessions = (t : Session) × Gives external held now first t

@@ -23,7 +23,7 @@ abbrev pub tally : Mapping → List (Option Session) → ℕ
 tally p [] = 0
 tally p (place ∷ places) = weight p place + tally p places
 
--- the sessions that are held are sound, and the translations are theirs, at the external address
+-- the sessions that are held are sound, and the translations are theirs, at the external addresses
 pub record AreOf (config : Config) (held : List (Option Session)) (t : Translations) : Type 0 where
   pub external : t.external ≡ config.external
   pub counts : (p : Mapping) → times t.mappings p ≡ tally p held

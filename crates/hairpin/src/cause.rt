@@ -12,10 +12,10 @@ pub enum Cause {
     Packet(Fault),
     /// The packet has no route. Numbers 10 to 12.
     Route(RouteFault),
-    /// No rule sends it on, and no mapping has its destination at the external address.
+    /// No rule sends it on, and no mapping has its destination for its outside endpoint.
     NoMapping,
-    /// Never answered: every mapping is open to every remote endpoint (RFC 4787, REQ-8). The number 14 is
-    /// kept for a filter by remote endpoint.
+    /// The mapping doesn't let it in: filtering is by address, and no session of the mapping has its remote endpoint at
+    /// the address that the packet comes from (RFC 4787, REQ-8).
     Filtered,
     /// A TCP packet that is not a SYN alone has no session (RFC 5382, section 4).
     NoSession,

@@ -3,6 +3,7 @@
 //! short way, perhaps something. Each of the four finds the session (`glanced_out`, `glanced_in`), asks what the packet
 //! shows of it (`shown`, `shown_again`), and has the forward chains decide (`on_out`, `on_in`).
 ghost use Rattle.std.specs.Prelude.{◌≡◌, ℕ, List, Option, IfOk, IfSome, Some, None, bit_or, slice_index_or, find};
+ghost use Rattle.packet.specs.Config.{Pool};
 ghost use Rattle.sessions.specs.Listing.{has_inside, has_outside, listing};
 ghost use Rattle.sessions.specs.Table.{at};
 ghost use Rattle.sessions.specs.declared.session.Session.{Session};
@@ -43,7 +44,7 @@ pub fn goes_out(
     table: &Table,
     view: &View,
 ) -> Option<Result<Going, Cause>>
-    ensures way { (external now : ℕ)
+    ensures way { (external : Pool) (now : ℕ)
         → IfSome result (λ going. Plans external table.now.held now (planned going)
         (out_way bounds.now rules.now (listing table.now.held) now view.now)) }
     ensures quiet { IfSome result (λ going. IfOk going (IsQuiet table.now)) }
@@ -69,7 +70,7 @@ pub fn comes_in(
     table: &Table,
     view: &View,
 ) -> Option<Result<Going, Cause>>
-    ensures way { (external now : ℕ)
+    ensures way { (external : Pool) (now : ℕ)
         → IfSome result (λ going. Plans external table.now.held now (planned going)
         (in_way bounds.now rules.now (listing table.now.held) now view.now)) }
     ensures quiet { IfSome result (λ going. IfOk going (IsQuiet table.now)) }
@@ -95,7 +96,7 @@ pub fn goes_out_showing(
     table: &Table,
     view: &View,
 ) -> Option<Result<Going, Cause>>
-    ensures { (external now : ℕ)
+    ensures { (external : Pool) (now : ℕ)
         → IfSome result (λ going. Plans external table.now.held now (planned going)
         (out_way bounds.now rules.now (listing table.now.held) now view.now)) }
 {
@@ -120,7 +121,7 @@ pub fn comes_in_showing(
     table: &Table,
     view: &View,
 ) -> Option<Result<Going, Cause>>
-    ensures { (external now : ℕ)
+    ensures { (external : Pool) (now : ℕ)
         → IfSome result (λ going. Plans external table.now.held now (planned going)
         (in_way bounds.now rules.now (listing table.now.held) now view.now)) }
 {
@@ -192,7 +193,7 @@ fn on_out(
     view: &View,
 ) -> Result<Going, Cause>
     requires { Shows found.now.session Opener.Inside view.now.flags bits }
-    ensures way { (external : ℕ) (held : List (Option Session)) (now : ℕ)
+    ensures way { (external : Pool) (held : List (Option Session)) (now : ℕ)
         → slice_index_or held found.now.slot None ≡ Some found.now.session
         → Plans external held now (planned result)
         (out_by bounds.now rules.now (listing held) now view.now (Some found.now.session)) }
@@ -226,7 +227,7 @@ fn on_in(
     view: &View,
 ) -> Result<Going, Cause>
     requires { Shows found.now.session Opener.Remote view.now.flags bits }
-    ensures way { (external : ℕ) (held : List (Option Session)) (now : ℕ)
+    ensures way { (external : Pool) (held : List (Option Session)) (now : ℕ)
         → slice_index_or held found.now.slot None ≡ Some found.now.session
         → Plans external held now (planned result)
         (in_by bounds.now rules.now (listing held) now view.now (Some found.now.session)) }

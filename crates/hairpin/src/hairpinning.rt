@@ -6,13 +6,14 @@
 //! `inside_far`), the forward chains (`is_forwarded`), the plan.
 ghost use Rattle.std.specs.Prelude.{◌≡◌, ◌↔◌, ◌<◌, ◌≤◌, ◌+◌, ℕ, List, Option, IsTrue, IfErr, IfOk, IfSome, IfNone, Some, None, Ok, Err, slice_index_or, find};
 ghost use Rattle.std.specs.Option.{option_map, option_map_or};
-ghost use Rattle.packet.specs.Config.{Config, is_inside};
+ghost use Rattle.std.specs.List.{Contains};
+ghost use Rattle.packet.specs.Config.{Config, Pool, is_inside};
 ghost use Rattle.ruletree.specs.declared.tree.Spelled.{Spelled};
 ghost use Rattle.sessions.specs.Listing.{has_inside, has_outside, listing, put};
 ghost use Rattle.sessions.specs.Table.{at, count};
 ghost use Rattle.sessions.specs.declared.session.Session.{Session};
 ghost use Rattle.verdict.specs.Hooks.{forward_verdict};
-ghost use Rattle.hairpin.specs.Legs.{begun_second as begun_second_way, counted, first_by, first_state, forwarded, hairpin_leg as hairpin_way, inside_far as inside_far_way, maps_inside, maps_outside, or_no_mapping, outside_near as outside_near_way, passed_by, second as second_way, second_by, then_with, through};
+ghost use Rattle.hairpin.specs.Legs.{begun_second as begun_second_way, counted, first_by, first_state, forwarded, hairpin_leg as hairpin_way, inside_far as inside_far_way, maps_inside, outside_near as outside_near_way, passed_by, second as second_way, second_by, then_with, through};
 ghost use Rattle.hairpin.specs.Plans.{Gives, IsOf, Plans};
 ghost use Rattle.hairpin.specs.KeepBounds.{KeepBounds};
 ghost use Rattle.hairpin.specs.Tallies.{AreOf};
@@ -20,6 +21,7 @@ ghost use Rattle.hairpin.specs.FromInside.{GoesOutFirst, Hairpins, HairpinsNew, 
 ghost use Rattle.hairpin.specs.declared.held.Held.{Held};
 
 use crate::cause::Cause;
+use crate::filtering::mapped_inside;
 use crate::held::{
     Held, change_of, connection_of, facts_of, held_or_mapped, held_outside, needs_session,
     new_session,
@@ -31,18 +33,20 @@ use sessions::{Change, MOST_SESSIONS, Opener, Session, Table, breaks_mapping};
 use verdict::{Destination, Forwarding, Rules, State, forward, prerouting};
 
 /// How a packet passes from an inside endpoint (its source) to an outside endpoint of the gateway (its
-/// destination, at the external address) and on to the inside endpoint that this stands for, at a moment in
+/// destination, at an external address) and on to the inside endpoint that this stands for, at a moment in
 /// seconds (RFC 4787, REQ-9; RFC 5382, REQ-8).
 ///
 /// It goes out by one session and comes in by another, and leaves on lan with its external source (REQ-9a): the leg
-/// `hairpin_leg` of specs/Legs. Without a session or a mapping the first session's port is chosen at the destination's
-/// address, whatever the rules say. The second leg is that of a packet from the first one's outside endpoint. The
-/// forward chains see the packet once, between its inside endpoints. Nothing is changed, and no memory taken.
+/// `hairpin_leg` of specs/Legs. Without a session or a mapping the first session's port is chosen, whatever the rules
+/// say, at the first external address that a mapping of the packet's host has (RFC 4787, REQ-2), or else at the
+/// destination's. The second leg is that of a packet from the first one's outside endpoint, and is filtered as such
+/// (REQ-8). The forward chains see the packet once, between its inside endpoints. Nothing is changed, and no memory
+/// taken.
 ///
 /// # Errors
 ///
 /// The first cause that holds, in this order: `NoSession` of the first leg, `NoPort`, `SelfMapped`, `NoSession`
-/// of the second one, `Rule` of prerouting, `NoMapping`, `Clash`, `Rule` of forward, `TableFull`.
+/// of the second one, `Rule` of prerouting, `NoMapping`, `Filtered`, `Clash`, `Rule` of forward, `TableFull`.
 pub fn hairpin_leg(
     bounds: &Bounds,
     rules: &Rules,
@@ -55,7 +59,7 @@ pub fn hairpin_leg(
     requires bounded { KeepBounds bounds.now rules.now }
     requires ports { (0 < view.now.src.port) × (0 < view.now.dst.port) }
     requires inside { IsTrue (is_inside bounds.now view.now.src.addr) }
-    requires external_destination { view.now.dst.addr ≡ bounds.now.external }
+    requires external_destination { Contains bounds.now.external view.now.dst.addr }
     ensures { Plans bounds.now.external table.now.held now result
         (hairpin_way bounds.now rules.now (listing table.now.held) now view.now) }
 {
@@ -108,7 +112,7 @@ fn state_of_first(before: &Option<Held>, view: &View) -> State
 
 // What the packet makes of the leg's session.
 fn change_of_leg(leg: &Leg, sender: Opener, flags: Flags) -> Change
-    ensures held { IfSome leg.now.before (λ h. (external : ℕ) (places : List (Option Session))
+    ensures held { IfSome leg.now.before (λ h. (external : Pool) (places : List (Option Session))
         (now : ℕ) → slice_index_or places h.slot None ≡ Some h.session
         → Gives external places now result (passed_by h.session sender flags now)) }
     ensures slot { IfSome leg.now.before (λ h. (slot : ℕ) → IsOf result slot → slot ≡ h.slot) }
@@ -136,7 +140,7 @@ fn outside_near(
     bounds.facts();
     match mapped {
         Some(outside) => Ok(outside),
-        None => match translations.choose(view.proto, view.src.port) {
+        None => match translations.choose_near(view.proto, view.src, view.dst.addr) {
             Some(outside) => Ok(outside),
             None => Err(Cause::NoPort),
         },
@@ -202,39 +206,24 @@ fn first_leg(
     }
 }
 
-// The inside endpoint of the mapping whose outside endpoint is the destination.
-fn mapped_far(
-    bounds: &Bounds,
-    table: &Table,
-    translations: &Translations,
-    view: &View,
-) -> Result<Endpoint, Cause>
-    requires { AreOf bounds.now table.now.held translations.now }
-    ensures { result
-        ≡ or_no_mapping (find (maps_outside view.now.proto view.now.dst) (listing table.now.held)) }
-{
-    bounds.facts();
-    match translations.inside_of(view.proto, view.dst) {
-        Some(inside) => Ok(inside),
-        None => Err(Cause::NoMapping),
-    }
-}
-
-// The inside endpoint of a new second session: what the rules say, or that of the mapping.
+// The inside endpoint of a new second session: what the rules say, or that of the mapping, if it lets the first
+// session's outside endpoint in. The first session isn't in the table, and isn't one of the mapping either.
 fn inside_far(
     bounds: &Bounds,
     rules: &Rules,
     table: &Table,
     translations: &Translations,
     view: &View,
+    first: &Session,
 ) -> Result<Endpoint, Cause>
     requires { AreOf bounds.now table.now.held translations.now }
-    ensures { (now : ℕ) (first : Session) → let sessions = listing table.now.held in
-        result ≡ inside_far_way bounds.now rules.now sessions now view.now first sessions }
+    ensures { (now : ℕ) → let sessions = listing table.now.held in
+        result ≡ inside_far_way bounds.now rules.now sessions now view.now first.now sessions }
 {
     let facts = facts_of(view, Iface::Lan, None, view.dst, State::New);
+    let remote = first.outside.addr;
     match prerouting(rules, bounds, &facts) {
-        Destination::None => mapped_far(bounds, table, translations, view),
+        Destination::None => mapped_inside(bounds, table, translations, view, remote),
         Destination::To(inside) => Ok(inside),
         Destination::Drop => Err(Cause::Rule),
     }
@@ -282,7 +271,7 @@ fn second_session(
     if needs_session(view) {
         return Err(Cause::NoSession);
     }
-    match inside_far(bounds, rules, table, translations, view) {
+    match inside_far(bounds, rules, table, translations, view, first) {
         Ok(inside) => begun_second(table, view, first, inside, now),
         Err(cause) => Err(cause),
     }

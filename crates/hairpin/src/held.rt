@@ -1,6 +1,7 @@
 //! A packet's session, held or new, and what the rules are asked about the packet.
 ghost use Rattle.std.specs.Prelude.{◌≡◌, ℕ, List, IfOk, IfErr, IfSome, IfNone, Option, Some, None, slice_index_or, find};
 ghost use Rattle.std.specs.Option.{option_map};
+ghost use Rattle.packet.specs.Config.{Pool};
 ghost use Rattle.packet.specs.declared.endpoint.Endpoint.{Endpoint};
 ghost use Rattle.sessions.specs.Laws.{IsMapping};
 ghost use Rattle.sessions.specs.Listing.{has_inside, has_outside, listing};
@@ -96,7 +97,7 @@ pub fn connection_of(session: &Session, sender: Opener, flags: Flags) -> State
 
 /// What a packet from this side changes of the session that the slot holds.
 pub fn change_of(held: &Held, sender: Opener, flags: Flags) -> Change
-    ensures gives { (external : ℕ) (places : List (Option Session)) (now : ℕ)
+    ensures gives { (external : Pool) (places : List (Option Session)) (now : ℕ)
         → slice_index_or places held.now.slot None ≡ Some held.now.session
         → Gives external places now result (passed_by held.now.session sender flags now) }
     ensures slot { (slot : ℕ) → IsOf result slot → slot ≡ held.now.slot }

@@ -1,19 +1,18 @@
 //! The leg of a packet from a remote endpoint to an outside one.
 ghost use Rattle.std.specs.Prelude.{◌≡◌, ◌⊎◌, ◌<◌, ◌≤◌, ℕ, List, Option, Some, None, IsTrue, length, slice_index_or};
-ghost use Rattle.packet.specs.Config.{is_inside};
-ghost use Rattle.mappings.specs.declared.map.Mapping.{Mapping};
-ghost use Rattle.mappings.specs.Map.{times};
+ghost use Rattle.std.specs.List.{Contains};
+ghost use Rattle.packet.specs.Config.{Pool, is_inside};
 ghost use Rattle.sessions.specs.Listing.{listing};
 ghost use Rattle.sessions.specs.Table.{most_sessions};
 ghost use Rattle.sessions.specs.declared.session.Session.{Session};
 ghost use Rattle.hairpin.specs.Legs.{begun_in as begun_way, in_by, in_leg as in_way, inside_for};
 ghost use Rattle.hairpin.specs.Plans.{Plans};
 ghost use Rattle.hairpin.specs.KeepBounds.{KeepBounds};
-ghost use Rattle.sessions.specs.Sound.{AreSound};
-ghost use Rattle.hairpin.specs.Tallies.{AreOf, tally};
+ghost use Rattle.hairpin.specs.Tallies.{AreOf};
 ghost use Rattle.hairpin.specs.Translations.{IsExternal};
 
 use crate::cause::Cause;
+use crate::filtering::mapped_inside;
 use crate::held::{
     Held, change_of, connection_of, facts_of, held_outside, needs_session, new_session,
 };
@@ -26,14 +25,15 @@ use verdict::{Destination, Forwarding, Rules, State, forward, prerouting};
 /// How a packet comes in from a remote endpoint to an outside one (its destination), at a moment in seconds.
 ///
 /// A session of the two gives the inside endpoint. Without one an inside destination is its own inside
-/// endpoint; for the external address the prerouting chains are asked, and where they don't translate, a
-/// mapping of the outside endpoint gives it, from whatever remote (RFC 4787, REQ-8; RFC 5382, REQ-3). The
+/// endpoint; for an external address the prerouting chains are asked, and where they don't translate, a
+/// mapping of the outside endpoint gives it: to whatever remote, if filtering is by endpoint; if it is by address, to one
+/// at whose address a session of the mapping has its remote endpoint (RFC 4787, REQ-8; RFC 5382, REQ-3). The
 /// forward chains see the inside endpoint. Nothing is changed, and no memory taken.
 ///
 /// # Errors
 ///
-/// The first cause that holds, in this order: `NoSession`, `Rule` of prerouting, `NoMapping`, `Clash`, `Rule`
-/// of forward, `TableFull`. A packet of a session has `Rule` of forward alone.
+/// The first cause that holds, in this order: `NoSession`, `Rule` of prerouting, `NoMapping`, `Filtered`,
+/// `Clash`, `Rule` of forward, `TableFull`. A packet of a session has `Rule` of forward alone.
 pub fn in_leg(
     bounds: &Bounds,
     rules: &Rules,
@@ -46,7 +46,7 @@ pub fn in_leg(
     requires bounded { KeepBounds bounds.now rules.now }
     requires ports { (0 < view.now.src.port) × (0 < view.now.dst.port) }
     requires routed { IsTrue (is_inside bounds.now view.now.dst.addr)
-        ⊎ (view.now.dst.addr ≡ bounds.now.external) }
+        ⊎ Contains bounds.now.external view.now.dst.addr }
     ensures { Plans bounds.now.external table.now.held now result
         (in_way bounds.now rules.now (listing table.now.held) now view.now) }
 {
@@ -56,7 +56,7 @@ pub fn in_leg(
             if needs_session(view) {
                 return Err(Cause::NoSession);
             }
-            let inside = inside_of_new(bounds, rules, translations, view)?;
+            let inside = inside_of_new(bounds, rules, table, translations, view)?;
             begun_in(bounds, rules, table, view, inside, now)
         }
     }
@@ -64,7 +64,7 @@ pub fn in_leg(
 
 // How a packet of a session comes in.
 fn known_in(bounds: &Bounds, rules: &Rules, found: &Held, view: &View) -> Result<Plan, Cause>
-    ensures { (external : ℕ) (held : List (Option Session)) (now : ℕ)
+    ensures { (external : Pool) (held : List (Option Session)) (now : ℕ)
         → slice_index_or held found.now.slot None ≡ Some found.now.session
         → Plans external held now result (in_by bounds.now rules.now (listing held) now view.now
         (Some found.now.session)) }
@@ -88,15 +88,14 @@ fn known_in(bounds: &Bounds, rules: &Rules, found: &Held, view: &View) -> Result
 fn inside_of_new(
     bounds: &Bounds,
     rules: &Rules,
+    table: &Table,
     translations: &Translations,
     view: &View,
 ) -> Result<Endpoint, Cause>
-    ensures { (held : List (Option Session)) (now : ℕ)
-        → ((p : Mapping) → times translations.now.mappings p ≡ tally p held)
-        → AreSound bounds.now (listing held)
-        → result ≡ inside_for bounds.now rules.now (listing held) now view.now }
+    requires { AreOf bounds.now table.now.held translations.now }
+    ensures { (now : ℕ)
+        → result ≡ inside_for bounds.now rules.now (listing table.now.held) now view.now }
 {
-    bounds.facts();
     if bounds.is_inside(view.dst.addr) {
         return Ok(view.dst);
     }
@@ -104,10 +103,7 @@ fn inside_of_new(
     match prerouting(rules, bounds, &facts) {
         Destination::Drop => Err(Cause::Rule),
         Destination::To(inside) => Ok(inside),
-        Destination::None => match translations.inside_of(view.proto, view.dst) {
-            Some(inside) => Ok(inside),
-            None => Err(Cause::NoMapping),
-        },
+        Destination::None => mapped_inside(bounds, table, translations, view, view.src.addr),
     }
 }
 

@@ -11,7 +11,9 @@
 //! remote one; where nothing is translated the two are the same.
 //!
 //! - `cause`: why a packet is dropped; `plan`: what a packet that passes changes.
-//! - `translations`: the mappings and the outside ports that they take, which change together.
+//! - `translations`: the mappings and the outside ports that they take, which change together, and the choice of an
+//!   outside endpoint.
+//! - `filtering`: whom a mapping lets in.
 //! - `held`: a packet's session, held or new, and what the rules are asked about the packet.
 //! - `outward`: `out_leg`, from an inside endpoint to a remote one.
 //! - `inward`: `in_leg`, from a remote endpoint to an outside one.
@@ -19,13 +21,16 @@
 //!   then in.
 //! - `going`: `goes_out` and `comes_in`, for a packet whose session goes on, and that shows nothing new of it;
 //!   `goes_out_showing` and `comes_in_showing` where it may show something.
+//! - `laws`: what holds of the legs, whatever the rules and sessions.
 #![tactic(auto)]
 
 mod cause;
+mod filtering;
 mod going;
 mod hairpinning;
 mod held;
 mod inward;
+pub mod laws;
 mod outward;
 mod plan;
 mod translations;

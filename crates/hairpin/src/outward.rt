@@ -1,6 +1,6 @@
 //! The leg of a packet from an inside endpoint to a remote one.
 ghost use Rattle.std.specs.Prelude.{◌≡◌, ◌<◌, ℕ, List, IsTrue, Option, Some, None, Ok, slice_index_or, find};
-ghost use Rattle.packet.specs.Config.{is_inside};
+ghost use Rattle.packet.specs.Config.{Pool, is_inside};
 ghost use Rattle.sessions.specs.Listing.{listing};
 ghost use Rattle.sessions.specs.declared.session.Session.{Session};
 ghost use Rattle.hairpin.specs.Legs.{begun_out as begun_way, maps_inside, out_by, out_leg as out_way, outside_for, outward, passed_by};
@@ -22,8 +22,10 @@ use verdict::{Facts, Forwarding, Rules, Source, State, forward, postrouting};
 /// How a packet goes out from an inside endpoint (its source) to a remote one, at a moment in seconds.
 ///
 /// A session of the two gives the outside endpoint; without one a mapping of the inside endpoint does
-/// (RFC 4787, REQ-1; RFC 5382, REQ-1), and without a mapping the postrouting chains decide. The forward
-/// chains are asked before that. Nothing is changed, and no memory taken.
+/// (RFC 4787, REQ-1; RFC 5382, REQ-1), and without a mapping the postrouting chains decide. By `snat` it is at the
+/// address that the rule names. By `masquerade` it is at the first external address that a mapping of the packet's host
+/// has, of either protocol, so that a host stays at one address (RFC 4787, REQ-2); without such a mapping, at the first
+/// that has a port for it. The forward chains are asked before that. Nothing is changed, and no memory taken.
 ///
 /// # Errors
 ///
@@ -52,7 +54,7 @@ pub fn out_leg(
 
 // How a packet of a session goes out.
 fn known_out(bounds: &Bounds, rules: &Rules, found: &Held, view: &View) -> Result<Plan, Cause>
-    ensures { (external : ℕ) (held : List (Option Session)) (now : ℕ)
+    ensures { (external : Pool) (held : List (Option Session)) (now : ℕ)
         → slice_index_or held found.now.slot None ≡ Some found.now.session
         → Plans external held now result (out_by bounds.now rules.now (listing held) now view.now
         (Some found.now.session)) }
@@ -150,8 +152,11 @@ fn outside_by_rules(
     match postrouting(rules, bounds, &facts_out(view, State::New)) {
         Source::Drop => Err(Cause::Rule),
         Source::None => Ok(view.src),
-        // Of rules that have loaded it is the external address.
-        Source::From(_) => match translations.choose(view.proto, view.src.port) {
+        Source::From(addr) => match translations.choose_at(view.proto, addr, view.src.port) {
+            Some(outside) => Ok(outside),
+            None => Err(Cause::NoPort),
+        },
+        Source::Masquerade => match translations.choose_for(view.proto, view.src) {
             Some(outside) => Ok(outside),
             None => Err(Cause::NoPort),
         },
@@ -174,7 +179,7 @@ fn facts_out(view: &View, state: State) -> Facts
 
 // The plan of a packet from inside by the session.
 fn plan_by(found: &Held, flags: Flags) -> Plan
-    ensures { (external : ℕ) (held : List (Option Session)) (now : ℕ)
+    ensures { (external : Pool) (held : List (Option Session)) (now : ℕ)
         → slice_index_or held found.now.slot None ≡ Some found.now.session
         → Plans external held now (Ok result)
         (Ok (outward (passed_by found.now.session Opener.Inside flags now))) }

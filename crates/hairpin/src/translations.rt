@@ -1,15 +1,17 @@
 //! The mappings, and the outside ports that they take, which change together.
-ghost use Rattle.std.specs.Prelude.{◌≡◌, ◌↔◌, ◌⊎◌, ◌+◌, ◌<◌, ◌≤◌, ℕ, Bool, Some, false, OnOk, IfOk, IsOk, IfSome, IfNone};
-ghost use Rattle.std.specs.Option.{option_map};
+ghost use Rattle.std.specs.Prelude.{◌≡◌, ◌↔◌, ◌⊎◌, ◌+◌, ◌<◌, ◌≤◌, ℕ, Bool, false, OnOk, IfOk, IsOk, IfSome, IfNone, find, Some};
+ghost use Rattle.std.specs.List.{Contains};
+ghost use Rattle.packet.specs.Config.{IsHead};
 ghost use Rattle.packet.specs.Same.{same_endpoint};
 ghost use Rattle.packet.specs.declared.endpoint.Endpoint.{Endpoint};
 ghost use Rattle.packet.specs.declared.endpoint.Proto.{Proto};
-ghost use Rattle.portpick.specs.Choice.{IsTestOf, port_choice};
+ghost use Rattle.portpick.specs.Choice.{IsTestOf};
+ghost use Rattle.portpick.specs.Pool.{endpoint, first_port, near_choice, pool_choice, port_at};
 ghost use Rattle.portpick.specs.Taken.{IsTaken};
-ghost use Rattle.mappings.specs.Map.{times, mapping as mapping_with, Gains, KeepsOneToOne, SameTimes};
+ghost use Rattle.mappings.specs.Map.{times, mapping as mapping_with, Gains, KeepsOneToOne, SameTimes, Uses};
 ghost use Rattle.mappings.specs.declared.map.Mapping.{Mapping};
 ghost use Rattle.hairpin.specs.Tallies.{mapping_of, weight};
-ghost use Rattle.hairpin.specs.Translations.{HasRoom, IsExternal, IsPlacedIn, IsOutside, IsOutsideOf, endpoint};
+ghost use Rattle.hairpin.specs.Translations.{HasRoom, IsExternal, IsPlacedIn, IsOutside, IsOutsideOf};
 
 use mappings::{Map, Mapping};
 use packet::{Endpoint, Proto};
@@ -18,11 +20,10 @@ use sessions::Session;
 use std::alloc::{AllocError, Global};
 use std::marker::Model;
 
-/// The mappings, and the ports that they take at the external address, each from the first hold of
+/// The mappings, and the ports that they take at the external addresses, each from the first hold of
 /// its mapping to the last release.
 #[derive(Drop)]
 pub struct Translations {
-    external: u32,
     map: Map,
     ports: Ports,
 }
@@ -33,29 +34,27 @@ impl Model for Translations {
     ghost Value = { View };
 
     ghost view = { λ t. record {
-      external = t.external;
+      external = t.ports.external;
       mappings = t.map;
       port_room = t.ports.room;
     } };
 
-    ghost invariant = { λ t. Follows t.external t.map t.ports };
+    ghost invariant = { λ t. Follows t.map t.ports };
 }
 
 impl Translations {
-    /// No mapping. `external` is the external address as a number: 192.0.2.1 is `0xc0000201`.
+    /// No mapping. `external` are the external addresses as numbers: 192.0.2.1 is `0xc0000201`.
     ///
     /// # Errors
     ///
     /// `AllocError` where memory is refused.
-    pub fn new(alloc: Global, external: u32) -> Result<Translations, AllocError>
+    pub fn new(alloc: Global, external: &[u32]) -> Result<Translations, AllocError>
         ensures none { IfOk result (λ t. (p : Mapping) → times t.mappings p ≡ 0) }
-        ensures external { IfOk result (λ t. t.external ≡ external) }
+        ensures external { IfOk result (λ t. t.external ≡ external.now) }
     {
-        let mut addresses = Vec::new(alloc);
-        addresses.push(external)?;
+        let addresses = Vec::from_slice(alloc, external)?;
         Ok(Translations {
-            external,
-            map: Map::new(alloc),
+            map: map_for(alloc, external.len()),
             ports: Ports::new(alloc, addresses),
         })
     }
@@ -98,13 +97,17 @@ impl Translations {
         self.map.inside_of(proto, outside)
     }
 
-    /// The outside endpoint that a new mapping of this inside endpoint most often has: its port at the external
+    /// The outside endpoint that a new mapping of this inside endpoint most often has: its port at the first external
     /// address.
     pub fn likely_outside(&self, inside: Endpoint) -> Endpoint
-        ensures { result ≡ endpoint self.now.external inside.port }
+        ensures { (first : ℕ) → IsHead first self.now.external → result ≡ endpoint first inside.port }
     {
+        let addr = match self.ports.addresses() {
+            [first, ..] => *first,
+            [] => 0,
+        };
         Endpoint {
-            addr: self.external,
+            addr,
             port: inside.port,
         }
     }
@@ -115,22 +118,97 @@ impl Translations {
         self.map.seems_held(proto, outside)
     }
 
-    /// The first free endpoint of the external address for a port of 1 to 65,535, counted from the port on
+    /// The first free endpoint of an external address for a port of 1 to 65,535, counted from the port on
     /// in its class and parity (RFC 4787, REQ-3a and REQ-4); none where all of these are taken. Any test
     /// that tells which ports are taken leads to the same choice.
     #[inline(always)]
-    pub fn choose(&self, proto: Proto, port: u16) -> Option<Endpoint>
-        requires { 0 < port }
-        ensures { (taken : ℕ → Bool)
-            → IsTestOf taken (λ q. IsOutside self.now.mappings proto (endpoint self.now.external q))
-            → result ≡ option_map (endpoint self.now.external) (port_choice taken port) }
+    pub fn choose_at(&self, proto: Proto, addr: u32, port: u16) -> Option<Endpoint>
+        requires external { Contains self.now.external addr }
+        requires port { 0 < port }
+        ensures { (taken : ℕ → ℕ → Bool)
+            → IsTestOf (taken addr) (λ q. IsOutside self.now.mappings proto (endpoint addr q))
+            → result ≡ port_at taken port addr }
     {
-        match self.ports.pick(proto, self.external, port) {
-            Some(port) => Some(Endpoint {
-                addr: self.external,
-                port,
-            }),
+        match self.ports.pick(proto, addr, port) {
+            Some(port) => Some(Endpoint { addr, port }),
             None => None,
+        }
+    }
+
+    /// The first external address that a mapping of this host has, of either protocol.
+    fn used(&self, host: u32) -> Option<u32>
+        ensures choice { (uses : ℕ → Bool) → IsTestOf uses (Uses self.now.mappings host)
+            → result ≡ find uses self.now.external }
+        ensures listed { IfSome result (λ addr. Contains self.now.external addr) }
+    {
+        first_used(&self.map, host, self.ports.addresses())
+    }
+
+    /// The first endpoint that an external address gives the port, in the order of the addresses.
+    fn choose_first(&self, proto: Proto, port: u16) -> Option<Endpoint>
+        requires { 0 < port }
+        ensures { (taken : ℕ → ℕ → Bool)
+            → ((addr : ℕ) → IsTestOf (taken addr) (λ q. IsOutside self.now.mappings proto (endpoint addr q)))
+            → result ≡ first_port taken port self.now.external }
+    {
+        let mut rest = self.ports.addresses();
+        while let [addr, tail @ ..] = rest {
+            if let Some(outside) = self.choose_at(proto, *addr, port) {
+                return Some(outside);
+            }
+            rest = tail;
+        }
+        None
+    }
+
+    /// The outside endpoint for an inside one that masquerades, whose port isn't 0: at the first external address that
+    /// a mapping of its host has; without one, at the first that has a port for it. Tests of both lead to the same
+    /// choice.
+    #[inline(always)]
+    pub fn choose_for(&self, proto: Proto, inside: Endpoint) -> Option<Endpoint>
+        requires { 0 < inside.port }
+        ensures { (uses : ℕ → Bool) (taken : ℕ → ℕ → Bool)
+            → IsTestOf uses (Uses self.now.mappings inside.addr)
+            → ((addr : ℕ) → IsTestOf (taken addr) (λ q. IsOutside self.now.mappings proto (endpoint addr q)))
+            → result ≡ pool_choice uses taken self.now.external inside.port }
+    {
+        if let [only] = self.ports.addresses() {
+            return self.choose_at(proto, *only, inside.port);
+        }
+        self.choose_used(proto, inside)
+    }
+
+    // As `choose_for`, where there are several addresses.
+    #[inline(never)]
+    fn choose_used(&self, proto: Proto, inside: Endpoint) -> Option<Endpoint>
+        requires { 0 < inside.port }
+        ensures { (uses : ℕ → Bool) (taken : ℕ → ℕ → Bool)
+            → IsTestOf uses (Uses self.now.mappings inside.addr)
+            → ((addr : ℕ) → IsTestOf (taken addr) (λ q. IsOutside self.now.mappings proto (endpoint addr q)))
+            → result ≡ pool_choice uses taken self.now.external inside.port }
+    {
+        match self.used(inside.addr) {
+            Some(addr) => self.choose_at(proto, addr, inside.port),
+            None => self.choose_first(proto, inside.port),
+        }
+    }
+
+    /// The outside endpoint for an inside one, whose port isn't 0, that sends to an endpoint at this external address:
+    /// at the first external address that a mapping of its host has; without one, at that address.
+    pub fn choose_near(&self, proto: Proto, inside: Endpoint, far: u32) -> Option<Endpoint>
+        requires port { 0 < inside.port }
+        requires far { Contains self.now.external far }
+        ensures { (uses : ℕ → Bool) (taken : ℕ → ℕ → Bool)
+            → IsTestOf uses (Uses self.now.mappings inside.addr)
+            → ((addr : ℕ) → IsTestOf (taken addr) (λ q. IsOutside self.now.mappings proto (endpoint addr q)))
+            → result ≡ near_choice uses taken self.now.external far inside.port }
+    {
+        if let [_] = self.ports.addresses() {
+            return self.choose_at(proto, far, inside.port);
+        }
+        match self.used(inside.addr) {
+            Some(addr) => self.choose_at(proto, addr, inside.port),
+            None => self.choose_at(proto, far, inside.port),
         }
     }
 
@@ -165,7 +243,7 @@ impl Translations {
         }
     }
 
-    /// Holds the mapping once more, for which there is room: it is at the external address, shares neither
+    /// Holds the mapping once more, for which there is room: it is at an external address, shares neither
     /// endpoint with another mapping of its protocol, and is held fewer than 65,536 times.
     fn hold_mapping(&mut self, mapping: Mapping)
         requires one_to_one { KeepsOneToOne self.old.mappings mapping }
@@ -195,6 +273,33 @@ impl Translations {
     }
 }
 
+// The map of a gateway with so many external addresses: of several it counts who uses which.
+fn map_for(alloc: Global, addresses: usize) -> Map
+    ensures { (p : Mapping) → times result p ≡ 0 }
+{
+    if addresses > 1 {
+        Map::counting(alloc)
+    } else {
+        Map::new(alloc)
+    }
+}
+
+// The first of these addresses that a mapping of the host has.
+fn first_used(map: &Map, host: u32, addresses: &[u32]) -> Option<u32>
+    ensures choice { (uses : ℕ → Bool) → IsTestOf uses (Uses map.now host)
+        → result ≡ find uses addresses.now }
+    ensures listed { IfSome result (λ addr. Contains addresses.now addr) }
+{
+    let mut rest = addresses;
+    while let [addr, tail @ ..] = rest {
+        if map.uses(host, *addr) {
+            return Some(*addr);
+        }
+        rest = tail;
+    }
+    None
+}
+
 fn mapping_of(session: &Session) -> Mapping
     ensures { result ≡ mapping_of session.now }
 {
@@ -209,9 +314,9 @@ fn mapping_of(session: &Session) -> Mapping
 fn take_port(ports: &mut Ports, mapping: Mapping)
     requires placed { IsPlacedIn ports.old mapping }
     requires room { 0 < ports.old.room }
-    ensures taken { (proto : Proto) (port : ℕ) → IsTaken ports.new proto mapping.outside.addr port
-        ↔ (IsTaken ports.old proto mapping.outside.addr port
-        ⊎ IsOutsideOf mapping proto (endpoint mapping.outside.addr port)) }
+    ensures taken { (proto : Proto) (addr port : ℕ) → IsTaken ports.new proto addr port
+        ↔ (IsTaken ports.old proto addr port
+        ⊎ IsOutsideOf mapping proto (endpoint addr port)) }
     ensures addresses { ports.new.external ≡ ports.old.external }
     ensures room { ports.old.room ≤ ports.new.room + 1 }
 {
@@ -227,11 +332,11 @@ fn take_port(ports: &mut Ports, mapping: Mapping)
 // Frees the outside port of a mapping that the map has just released once, unless the map still holds it.
 fn free_port(map: &Map, ports: &mut Ports, mapping: Mapping)
     requires placed { IsPlacedIn ports.old mapping }
-    requires taken { (proto : Proto) (port : ℕ) → IsTaken ports.old proto mapping.outside.addr port
-        ↔ (IsOutside map.now proto (endpoint mapping.outside.addr port)
-        ⊎ IsOutsideOf mapping proto (endpoint mapping.outside.addr port)) }
-    ensures taken { (proto : Proto) (port : ℕ) → IsTaken ports.new proto mapping.outside.addr port
-        ↔ IsOutside map.now proto (endpoint mapping.outside.addr port) }
+    requires taken { (proto : Proto) (addr port : ℕ) → IsTaken ports.old proto addr port
+        ↔ (IsOutside map.now proto (endpoint addr port)
+        ⊎ IsOutsideOf mapping proto (endpoint addr port)) }
+    ensures taken { (proto : Proto) (addr port : ℕ) → IsTaken ports.new proto addr port
+        ↔ IsOutside map.now proto (endpoint addr port) }
     ensures addresses { ports.new.external ≡ ports.old.external }
     ensures room { ports.old.room ≤ ports.new.room }
 {

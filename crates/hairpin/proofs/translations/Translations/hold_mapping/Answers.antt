@@ -3,5 +3,5 @@ use Rattle.hairpin.proofs.translations.Translations.hold_mapping.Goals as goal
 
 pub invariant_of-self : goal.invariant_of-self
 invariant_of-self c =
-    let at = rw (← c.self.view_is) at c.requires.placed.0 in
-    after_hold c.self.inside.external c.self.inside.map c.hold.new.self c.args.mapping c.self.inside.ports c.take_port.new.ports c.self.invariant at c.requires.placed.1 c.in-Ok.ensures.ok c.take_port.ensures.addresses c.take_port.ensures.taken
+    let at = rw (← c.self.view_is) at c.requires.placed in
+    after_hold c.self.inside.map c.hold.new.self c.args.mapping c.self.inside.ports c.take_port.new.ports c.self.invariant at c.in-Ok.ensures.ok c.take_port.ensures.addresses c.take_port.ensures.taken

@@ -1,7 +1,5 @@
-use Rattle.std.proofs.Common.{◌∙◌}
-use Rattle.hairpin.proofs.Following.{follows-none, one_address}
+use Rattle.hairpin.proofs.Following.{follows-none}
 use Rattle.hairpin.proofs.translations.Translations.new.Goals as goal
 
 pub invariant_of-result : goal.invariant_of-result
-invariant_of-result c = follows-none c.args.external c.new.result c.new-2.result
-    (one_address c.args.external c.new-2.result.external _ (c.new-2.ensures.addresses ∙ c.in_ok-push.ensures.items)) c.new.ensures c.new-2.ensures.none
+invariant_of-result c = follows-none c.map_for.result c.new.result c.map_for.ensures c.new.ensures.none

@@ -3,10 +3,8 @@ use Rattle.hairpin.proofs.translations.Translations.release_mapping.Goals as goa
 
 pub free_port-requires-clause-taken : goal.free_port-requires-clause-taken
 free_port-requires-clause-taken c =
-    let some = rw (← c.self.view_is) at c.requires in
-    before_release c.self.inside.external c.self.inside.map c.release.new.self c.args.mapping c.self.inside.ports c.self.inside.ports c.self.invariant c.release.ensures.loses some
+    before_release c.self.inside.map c.release.new.self c.args.mapping c.self.inside.ports c.self.inside.ports c.self.invariant c.release.ensures.loses
 
 pub invariant_of-self : goal.invariant_of-self
 invariant_of-self c =
-    let some = rw (← c.self.view_is) at c.requires in
-    after_release c.self.inside.external c.self.inside.map c.release.new.self c.args.mapping c.self.inside.ports c.free_port.new.ports c.self.invariant c.release.ensures.loses some c.free_port.ensures.addresses c.free_port.ensures.taken
+    after_release c.self.inside.map c.release.new.self c.args.mapping c.self.inside.ports c.free_port.new.ports c.self.invariant c.release.ensures.loses c.free_port.ensures.addresses c.free_port.ensures.taken

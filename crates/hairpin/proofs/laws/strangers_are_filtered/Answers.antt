@@ -1,0 +1,5 @@
+use Rattle.hairpin.proofs.Same.{strangers}
+use Rattle.hairpin.proofs.laws.strangers_are_filtered.Goals as goal
+
+pub returns : goal.returns
+returns c = strangers
