@@ -1,4 +1,4 @@
-use packet::{Bounds, Endpoint, Flags, Prefix, Proto};
+use packet::{Bounds, Endpoint, Filtering, Flags, Prefix, Proto};
 use sessions::Opener::{self, Inside, Remote};
 use sessions::Phase::{self, Closing, Established, Partial};
 use sessions::{AddFault, Session, Slot, Table, are_known_bits};
@@ -273,6 +273,57 @@ fn amended_and_ended(rt: HostRuntime) -> Result<(), Fail> {
     Ok(())
 }
 
+const PEER: u32 = 0xc633_6409;
+
+const NEIGHBOUR: u32 = 0xc000_0201;
+
+// Further remote endpoints of the host, and its outside endpoint for each; the last one is reached untranslated.
+const FURTHER: [(Endpoint, u32); 3] = [(OUTSIDE, PEER), (OUTSIDE, PEER + 1), (HOST, NEIGHBOUR)];
+
+fn add_further(table: &mut Table, outside: Endpoint, addr: u32) -> Result<Slot, AddFault> {
+    let remote = Endpoint { addr, port: 7000 };
+    table.add(Session {
+        outside,
+        remote,
+        ..QUERY
+    })
+}
+
+// A table of four queries, and the slot of the first.
+fn four_queries(alloc: Global) -> Result<(Box<Table>, Slot), Fail> {
+    let (mut table, slot) = one_query(alloc)?;
+    for (outside, addr) in &FURTHER {
+        add_further(&mut table, *outside, *addr)?;
+    }
+    Ok((table, slot))
+}
+
+// A protocol, the endpoints of a host, a remote address, and whether a session has them.
+const KNOWN: [(Proto, Endpoint, Endpoint, u32, bool); 10] = [
+    (Proto::Udp, HOST, OUTSIDE, SERVER.addr, true),
+    (Proto::Udp, HOST, OUTSIDE, SERVER.addr - 1, false),
+    (Proto::Udp, HOST, OUTSIDE, PEER - 1, false),
+    (Proto::Udp, HOST, OUTSIDE, PEER, true),
+    (Proto::Udp, HOST, OUTSIDE, PEER + 2, false),
+    (Proto::Udp, HOST, OUTSIDE, NEIGHBOUR, false),
+    (Proto::Udp, HOST, HOST, NEIGHBOUR, true),
+    (Proto::Udp, HOST, HOST, PEER, false),
+    (Proto::Tcp, HOST, OUTSIDE, PEER, false),
+    (Proto::Udp, OUTSIDE, OUTSIDE, PEER, false),
+];
+
+#[test]
+fn peers_are_known(rt: HostRuntime) -> Result<(), Fail> {
+    let (mut table, slot) = four_queries(rt.alloc())?;
+    for (proto, inside, outside, remote, expected) in &KNOWN {
+        assert_eq!(rt; table.knows(*proto, *inside, *outside, *remote), *expected);
+    }
+    assert_holds(&rt, end(&mut table, slot), None);
+    assert!(rt; !table.knows(Proto::Udp, HOST, OUTSIDE, SERVER.addr));
+    assert!(rt; table.knows(Proto::Udp, HOST, OUTSIDE, PEER));
+    Ok(())
+}
+
 #[test]
 fn stored_values(rt: HostRuntime) {
     assert_eq!(rt; (Inside.code(), Remote.code()), (0, 1));
@@ -283,7 +334,7 @@ fn stored_values(rt: HostRuntime) {
     assert!(rt; are_known_bits(Proto::Tcp, 63) && !are_known_bits(Proto::Udp, 2));
 }
 
-// 192.168.1.0/24 inside.
+// 192.168.1.0/24 inside, and two addresses outside.
 fn bounds(alloc: Global) -> Result<Box<Bounds>, Fail> {
     let prefix = Prefix {
         addr: 0xc0a8_0100,
@@ -292,7 +343,9 @@ fn bounds(alloc: Global) -> Result<Box<Bounds>, Fail> {
     let inside = Vec::from_slice(alloc, &[prefix])?;
     let lan = String::from_str(alloc, "lan")?;
     let wan = String::from_str(alloc, "wan")?;
-    Ok(Box::new(alloc, Bounds::new(lan, wan, inside, OUTSIDE.addr)?)?)
+    let external = Vec::from_slice(alloc, &[1, OUTSIDE.addr])?;
+    let bounds = Bounds::new(lan, wan, inside, external, Filtering::Endpoint)?;
+    Ok(Box::new(alloc, bounds)?)
 }
 
 #[test]

@@ -1,4 +1,4 @@
-//! A mapping that is held twice, and is gone with its last hold.
+//! A mapping that is held twice, and is gone with its last hold; and whose host uses its outside address so long.
 ghost use Rattle.std.specs.Prelude.{◌≡◌, ◌+◌, ◌<◌, IfOk};
 ghost use Rattle.mappings.specs.declared.map.Mapping.{Mapping};
 ghost use Rattle.mappings.specs.Map.{times, one_at, KeepsOneToOne};
@@ -57,8 +57,16 @@ fn assert_inside(
     assert_eq!(rt; map.inside_of(proto, outside), expected);
 }
 
+// The host uses the outside address while one of its mappings is held, and no other address.
+fn assert_used(rt: &impl Abort, map: &Map, is_used: bool) {
+    assert_eq!(rt; map.uses(INSIDE.addr, OUTSIDE.addr), is_used);
+    assert!(rt; !map.uses(INSIDE.addr, OUTSIDE.addr + 1));
+    assert!(rt; !map.uses(OUTSIDE.addr, INSIDE.addr));
+}
+
 // Each endpoint of UDP leads to the other while their mapping is held, and to none once it is gone.
 fn assert_led(rt: &impl Abort, map: &Map, is_held: bool) {
+    assert_used(rt, map, is_held);
     let (outside, inside) = if is_held {
         (Some(OUTSIDE), Some(INSIDE))
     } else {
@@ -111,6 +119,14 @@ fn mapping_goes_with_its_last_hold(rt: HostRuntime) -> Result<(), AllocError> {
     gone
 }
 
+#[test]
+fn counted_mapping_goes_with_its_last_hold(rt: HostRuntime) -> Result<(), AllocError> {
+    let mut map = Map::counting(rt.alloc());
+    let gone = goes_with_its_last_hold(&rt, &mut map);
+    drop(map);
+    gone
+}
+
 // On a map that holds nothing.
 fn assert_held_once_reserved(rt: &impl Abort, map: &mut Map) -> Result<(), AllocError>
     requires { (p : Mapping) → times map.old p ≡ 0 }
@@ -125,12 +141,13 @@ fn assert_held_once_reserved(rt: &impl Abort, map: &mut Map) -> Result<(), Alloc
     };
     hold(rt, map, tcp)?;
     assert_inside(rt, map, Proto::Tcp, OUTSIDE, Some(INSIDE));
+    assert_used(rt, map, true);
     Ok(())
 }
 
 #[test]
 fn reserved_mapping_is_held(rt: HostRuntime) -> Result<(), AllocError> {
-    let mut map = Map::new(rt.alloc());
+    let mut map = Map::counting(rt.alloc());
     let held = assert_held_once_reserved(&rt, &mut map);
     drop(map);
     held
