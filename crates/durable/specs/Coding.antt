@@ -1,15 +1,19 @@
 -- Values as bytes, in the words of the format. Numbers are big-endian.
-use Rattle.std.specs.Prelude.{◌≡◌, ℕ, ◌<◌, ◌≤◌, ◌^◌, List, [], ◌∷◌, ◌++◌, length}
+use Rattle.std.specs.Prelude.{◌≡◌, ℕ, ◌<◌, ◌≤◌, ◌^◌, List, [], ◌∷◌, ◌++◌, length, get_or}
 use Rattle.std.specs.List.{flat_map, AllByRecursion}
 use Rattle.byteorder.specs.Endian.{big_bytes}
 use Rattle.packet.specs.declared.endpoint.Endpoint.{Endpoint}
 use Rattle.packet.specs.declared.endpoint.Prefix.{Prefix}
-use Rattle.packet.specs.Config.{Config}
+use Rattle.packet.specs.declared.bounds.Filtering.{Filtering}
+use Rattle.packet.specs.Config.{Config, Pool, filtering_code}
 use Rattle.packet.specs.Numbers.{IsEndpoint, proto_number}
 use Rattle.sessions.specs.declared.session.Session.{Session}
 use Rattle.sessions.specs.declared.session.Opener.{Opener}
 use Rattle.sessions.specs.Life.{most_seen, opener_code}
 use Rattle.durable.specs.declared.entry.Flow.{Flow}
+use Rattle.durable.specs.declared.version.Version.{Version}
+use Rattle.durable.specs.declared.version.Version.TheVariants.{First, Second}
+use Rattle.durable.specs.Versions.{IsOf, mark_of}
 
 -- a text behind its length, a number of so many bytes
 abbrev pub text_bytes : ℕ → List ℕ → List ℕ
@@ -58,10 +62,18 @@ body_bytes entries = flat_map entry_bytes entries
 unfoldable pub prefix_bytes : Prefix → List ℕ
 prefix_bytes p = big_bytes 4 p.addr ++ p.len ∷ []
 
--- lan name, wan name, inside prefixes, external address
-unfoldable pub config_bytes : Config → List ℕ
-config_bytes c = text_bytes 1 c.lan
-    ++ (text_bytes 1 c.wan ++ (list_bytes 1 prefix_bytes c.inside ++ big_bytes 4 c.external))
+-- what is stored behind the inside prefixes: by the first version the one address, by the second one all of them behind
+-- their count, and the filtering
+abbrev pub outside_bytes : Version → Pool → Filtering → List ℕ
+outside_bytes First external filtering = big_bytes 4 (get_or external 0 0)
+outside_bytes Second external filtering =
+    list_bytes 1 (big_bytes 4) external ++ filtering_code filtering ∷ []
+
+-- lan name, wan name, inside prefixes, and what is outside
+unfoldable pub config_bytes : Version → Config → List ℕ
+config_bytes version c = text_bytes 1 c.lan
+    ++ (text_bytes 1 c.wan
+    ++ (list_bytes 1 prefix_bytes c.inside ++ outside_bytes version c.external c.filtering))
 
 -- a text, and sessions in some order
 pub record Snapshot : Type 0 where
@@ -71,19 +83,16 @@ pub record Snapshot : Type 0 where
 unfoldable pub snapshot_bytes : Snapshot → List ℕ
 snapshot_bytes k = text_bytes 4 k.text ++ list_bytes 4 session_bytes k.sessions
 
--- NGW1
-abbrev pub mark : List ℕ
-mark = 0x4e ∷ 0x47 ∷ 0x57 ∷ 0x31 ∷ []
-
 -- what stands behind an open file gate
 pub record Heading : Type 0 where
+  pub version : Version
   pub generation : ℕ
   pub config : Config
   pub snapshot : Snapshot
 
 unfoldable pub heading_bytes : Heading → List ℕ
-heading_bytes h =
-    mark ++ (big_bytes 8 h.generation ++ (config_bytes h.config ++ snapshot_bytes h.snapshot))
+heading_bytes h = mark_of h.version
+    ++ (big_bytes 8 h.generation ++ (config_bytes h.version h.config ++ snapshot_bytes h.snapshot))
 
 -- Which values have a code: an endpoint by `IsEndpoint`, and these.
 
@@ -117,7 +126,8 @@ pub record IsCodedConfig (c : Config) : Type 0 where
   pub wan : length c.wan < 2 ^ 8
   pub count : length c.inside < 2 ^ 8
   pub inside : AllByRecursion IsPrefix c.inside
-  pub external : c.external < 2 ^ 32
+  pub addresses : length c.external < 2 ^ 8
+  pub external : AllByRecursion (λ addr. addr < 2 ^ 32) c.external
 
 pub record IsSnapshot (k : Snapshot) : Type 0 where
   pub text : length k.text < 2 ^ 32
@@ -127,6 +137,7 @@ pub record IsSnapshot (k : Snapshot) : Type 0 where
 pub record IsHeading (h : Heading) : Type 0 where
   pub generation : h.generation < 2 ^ 64
   pub config : IsCodedConfig h.config
+  pub stored : IsOf h.version h.config
   pub snapshot : IsSnapshot h.snapshot
 
 module _ {X : Type 0} (Is : X → Type 0) (code : X → List ℕ) where

@@ -6,12 +6,16 @@ use Rattle.packet.specs.declared.endpoint.Proto.{Proto}
 use Rattle.packet.specs.declared.endpoint.Proto.TheVariants.{Tcp, Udp}
 use Rattle.packet.specs.declared.endpoint.Endpoint.{Endpoint}
 use Rattle.packet.specs.declared.endpoint.Prefix.{Prefix}
-use Rattle.packet.specs.Config.{Config}
+use Rattle.packet.specs.declared.bounds.Filtering.{Filtering}
+use Rattle.packet.specs.declared.bounds.Filtering.TheVariants as filtering
+use Rattle.packet.specs.Config.{Config, Pool}
 use Rattle.sessions.specs.declared.session.Session.{Session}
 use Rattle.sessions.specs.declared.session.Opener.{Opener}
 use Rattle.sessions.specs.declared.session.Opener.TheVariants.{Inside, Remote}
 use Rattle.sessions.specs.Life.{most_seen}
 use Rattle.durable.specs.declared.entry.Flow.{Flow}
+use Rattle.durable.specs.declared.version.Version.{Version}
+use Rattle.durable.specs.declared.version.Version.TheVariants.{First, Second}
 use Rattle.durable.specs.declared.fault.DurableFault.{DurableFault}
 use Rattle.durable.specs.declared.fault.DurableFault.TheVariants.{Damaged, NoMemory}
 use Rattle.durable.specs.Coding.{Entry, Load, Begin, Seen, Restart, End, Snapshot, Heading}
@@ -156,16 +160,42 @@ prefixes_at = list_at 1 prefix_at
 unfoldable pub sessions_at : Reader (List Session)
 sessions_at = list_at 4 session_at
 
+-- `filtering_code`, the other way round
+abbrev pub filtering_of : ℕ → Option Filtering
+filtering_of n = if n == 0 then Some filtering.Endpoint
+    else (if n == 1 then Some filtering.Address else None)
+
+unfoldable pub filtering_at : Reader Filtering
+filtering_at = chosen filtering_of byte_at
+
+unfoldable pub addresses_at : Reader Pool
+addresses_at = list_at 1 (number_at 4)
+
+abbrev pub alone_from : ℕ → Option (Pool × Filtering)
+alone_from addr = Some (addr ∷ [], filtering.Endpoint)
+
+-- what is outside
+unfoldable pub outside_at : Version → Reader (Pool × Filtering)
+outside_at First = chosen alone_from (number_at 4)
+outside_at Second = both addresses_at (λ _. filtering_at)
+
 abbrev pub ConfigParts : Type 0
-ConfigParts = List ℕ × (List ℕ × (List Prefix × ℕ))
+ConfigParts = List ℕ × (List ℕ × (List Prefix × (Pool × Filtering)))
 
 abbrev pub config_from : ConfigParts → Option Config
-config_from p = Some (record { lan = p.0; wan = p.1.0; inside = p.1.1.0; external = p.1.1.1 })
+config_from p =
+    Some (record {
+      lan = p.0;
+      wan = p.1.0;
+      inside = p.1.1.0;
+      external = p.1.1.1.0;
+      filtering = p.1.1.1.1;
+    })
 
-unfoldable pub config_at : Reader Config
-config_at =
+unfoldable pub config_at : Version → Reader Config
+config_at version =
     chosen config_from (both (text_at 1) (λ _. both (text_at 1)
-    (λ _. both prefixes_at (λ _. number_at 4))))
+    (λ _. both prefixes_at (λ _. outside_at version))))
 
 abbrev pub snapshot_from : List ℕ × List Session → Option Snapshot
 snapshot_from p = Some (record { text = p.0; sessions = p.1 })
@@ -173,19 +203,23 @@ snapshot_from p = Some (record { text = p.0; sessions = p.1 })
 unfoldable pub snapshot_at : Reader Snapshot
 snapshot_at = chosen snapshot_from (both (text_at 4) (λ _. sessions_at))
 
-abbrev pub mark_from : ℕ → Option (Unit {0})
-mark_from n = if n == 0x4e475731 then Some tt else None
+-- `mark_of`, the other way round
+abbrev pub version_of : ℕ → Option Version
+version_of n =
+    if n == 0x4e475731 then Some First else (if n == 0x4e475732 then Some Second else None)
 
-unfoldable pub mark_at : Reader (Unit {0})
-mark_at = chosen mark_from (number_at 4)
+unfoldable pub version_at : Reader Version
+version_at = chosen version_of (number_at 4)
 
 abbrev pub HeadingParts : Type 0
-HeadingParts = Unit {0} × (ℕ × (Config × Snapshot))
+HeadingParts = Version × (ℕ × (Config × Snapshot))
 
 abbrev pub heading_from : HeadingParts → Option Heading
-heading_from p = Some (record { generation = p.1.0; config = p.1.1.0; snapshot = p.1.1.1 })
+heading_from p =
+    Some (record { version = p.0; generation = p.1.0; config = p.1.1.0; snapshot = p.1.1.1 })
 
+-- the mark says how the configuration is read
 unfoldable pub heading_at : Reader Heading
 heading_at =
-    chosen heading_from (both mark_at (λ _. both (number_at 8)
-    (λ _. both config_at (λ _. snapshot_at))))
+    chosen heading_from (both version_at (λ version. both (number_at 8)
+    (λ _. both (config_at version) (λ _. snapshot_at))))

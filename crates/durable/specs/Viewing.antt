@@ -17,7 +17,13 @@ view (entry.End f) = End f
 
 abbrev pub config_view : stored_config.StoredConfig → Config
 config_view c =
-    record { lan = c.lan.now; wan = c.wan.now; inside = c.inside.items; external = c.external }
+    record {
+      lan = c.lan.now;
+      wan = c.wan.now;
+      inside = c.inside.items;
+      external = c.external.items;
+      filtering = c.filtering;
+    }
 
 abbrev pub snapshot_view : stored_snapshot.StoredSnapshot → Snapshot
 snapshot_view k = record { text = k.text.now; sessions = k.sessions.items }
@@ -25,6 +31,7 @@ snapshot_view k = record { text = k.text.now; sessions = k.sessions.items }
 abbrev pub heading_view : stored.StoredHeading → Heading
 heading_view h =
     record {
+      version = h.version;
       generation = h.generation;
       config = config_view h.config;
       snapshot = snapshot_view h.snapshot;
@@ -32,6 +39,7 @@ heading_view h =
 
 abbrev pub headed_view : headed.Headed → Heading
 headed_view h = record {
+  version = h.version;
   generation = h.generation;
   config = h.bounds;
   snapshot = record { text = h.text.now; sessions = h.sessions.items };

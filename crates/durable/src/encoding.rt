@@ -5,11 +5,13 @@ ghost use Rattle.byteorder.specs.Endian.{big_bytes};
 ghost use Rattle.disk_model.specs.Disk.{put};
 ghost use Rattle.sessions.specs.Life.{IsSeen};
 ghost use Rattle.packet.specs.Numbers.{IsEndpoint};
-ghost use Rattle.durable.specs.Coding.{Begin, End, Load, Restart, Seen, session_bytes, flow_bytes, entry_bytes, text_bytes, prefix_bytes, config_bytes, snapshot_bytes, heading_bytes, mark, IsEntry, IsFlow, IsHeading, IsPrefix, IsSession};
+ghost use Rattle.durable.specs.Versions.{latest, mark_of};
+ghost use Rattle.durable.specs.Coding.{Begin, End, Load, Restart, Seen, session_bytes, flow_bytes, entry_bytes, text_bytes, prefix_bytes, config_bytes, outside_bytes, snapshot_bytes, heading_bytes, IsEntry, IsFlow, IsHeading, IsPrefix, IsSession};
 ghost use Rattle.durable.specs.Entering.{durable};
 ghost use Rattle.durable.specs.Laws.{anew};
 
 use crate::entry::Flow;
+use crate::version::Version;
 use packet::{Bounds, Endpoint, Prefix};
 use sessions::{Opener, Session};
 use std::alloc::AllocError;
@@ -207,16 +209,36 @@ fn put_name(out: &mut Vec<u8>, name: &[u8]) -> Result<(), AllocError>
     Ok(())
 }
 
+fn put_addresses(out: &mut Vec<u8>, addresses: &[u32]) -> Result<(), AllocError>
+    ensures { OnOk result (out.new.items ≡ out.old.items ++ flat_map (big_bytes 4) addresses.now) }
+{
+    for address in addresses {
+        out.extend_from_slice(&address.to_be_bytes())?;
+    }
+    Ok(())
+}
+
+fn put_outside(out: &mut Vec<u8>, bounds: &Bounds) -> Result<(), AllocError>
+    ensures { OnOk result (out.new.items ≡ out.old.items
+        ++ outside_bytes latest bounds.now.external bounds.now.filtering) }
+{
+    bounds.facts();
+    put_byte(out, bounds.external().len() as u8)?;
+    put_addresses(out, bounds.external())?;
+    put_byte(out, bounds.filtering().code())?;
+    Ok(())
+}
+
 #[tactic(auto, unfolding(crate::specs::Coding::config_bytes))]
 fn put_config(out: &mut Vec<u8>, bounds: &Bounds) -> Result<(), AllocError>
-    ensures { OnOk result (out.new.items ≡ out.old.items ++ config_bytes bounds.now) }
+    ensures { OnOk result (out.new.items ≡ out.old.items ++ config_bytes latest bounds.now) }
 {
     bounds.facts();
     put_name(out, bounds.lan())?;
     put_name(out, bounds.wan())?;
     put_byte(out, bounds.inside().len() as u8)?;
     put_prefixes(out, bounds.inside())?;
-    out.extend_from_slice(&bounds.external().to_be_bytes())?;
+    put_outside(out, bounds)?;
     Ok(())
 }
 
@@ -235,9 +257,9 @@ fn put_snapshot(out: &mut Vec<u8>, text: &[u8], sessions: &[Session]) -> Result<
 }
 
 fn put_mark(out: &mut Vec<u8>) -> Result<(), AllocError>
-    ensures { OnOk result (out.new.items ≡ out.old.items ++ mark) }
+    ensures { OnOk result (out.new.items ≡ out.old.items ++ mark_of latest) }
 {
-    out.extend_from_slice(&[0x4e, 0x47, 0x57, 0x31])
+    out.extend_from_slice(&Version::LATEST.mark())
 }
 
 fn put_generation(out: &mut Vec<u8>, generation: u64) -> Result<(), AllocError>
@@ -295,6 +317,14 @@ fn prefixes_fit(prefixes: &[Prefix])
     }
 }
 
+fn addresses_fit(addresses: &[u32])
+    ensures { All (λ address. address < 2 ^ 32) addresses.now }
+{
+    for number in 0..addresses.len() {
+        address_fits(addresses[number]);
+    }
+}
+
 fn session_fits(session: Session)
     requires bits { IsSeen session.proto session.seen }
     requires still { session.last ≡ 0 }
@@ -326,6 +356,6 @@ pub fn heading_fits(generation: u64, bounds: &Bounds, text: &[u8], sessions: &[S
     bounds.facts();
     generation_fits(generation);
     prefixes_fit(bounds.inside());
-    address_fits(bounds.external());
+    addresses_fit(bounds.external());
     sessions_fit(sessions);
 }

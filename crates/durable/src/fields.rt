@@ -1,9 +1,9 @@
 //! Numbers (big-endian), texts and endpoints at the front of bytes: each is answered with what stands behind it, or
 //! none where the bytes don't begin with one.
-ghost use Rattle.durable.specs.Reading.{Gives, byte_at, number_at, text_at, proto_at, opener_at, endpoint_at};
+ghost use Rattle.durable.specs.Reading.{Gives, byte_at, number_at, text_at, proto_at, opener_at, filtering_at, endpoint_at};
 
 use byteorder::{BigEndian, ByteOrder};
-use packet::{Endpoint, Proto};
+use packet::{Endpoint, Filtering, Proto};
 use sessions::Opener;
 
 /// A byte by itself.
@@ -67,6 +67,15 @@ pub fn opener_of(bytes: &[u8]) -> Option<(Opener, &[u8])>
     let (code, rest) = byte_of(bytes)?;
     let opener = Opener::of_code(code)?;
     Some((opener, rest))
+}
+
+#[tactic(auto, unfolding(crate::specs::Reading::filtering_at))]
+pub fn filtering_of(bytes: &[u8]) -> Option<(Filtering, &[u8])>
+    ensures { Gives (λ x. (x.0, x.1.now)) result (filtering_at bytes.now) }
+{
+    let (code, rest) = byte_of(bytes)?;
+    let filtering = Filtering::of_code(code)?;
+    Some((filtering, rest))
 }
 
 #[tactic(auto, unfolding(crate::specs::Reading::endpoint_at))]

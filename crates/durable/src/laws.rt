@@ -1,5 +1,7 @@
 //! What follows from the definitions: each function is proved to meet its clauses.
 ghost use Rattle.packet.specs.Config.{Config};
+ghost use Rattle.durable.specs.declared.version.Version.{Version};
+ghost use Rattle.durable.specs.Versions.{IsOf};
 ghost use Rattle.durable.specs.Coding.{IsSession, session_bytes, IsEntry, entry_bytes, IsCodedConfig, config_bytes, IsSnapshot, snapshot_bytes, IsHeading, heading_bytes};
 ghost use Rattle.durable.specs.Laws.{ArrangedIsTheSet, ArrangedIsTheSort, ArrangedIsASet, CodedOnce, BodiesOnce, EntersOnce, KeepsDurable, RecoversOnce, RecoversSound, Grows, Renews};
 
@@ -10,10 +12,12 @@ pub fn coded_once()
     ensures bodies { BodiesOnce }
 {}
 
-/// A code at the front of bytes determines the heading, the configuration or the snapshot, and the rest.
+/// A code at the front of bytes determines the heading, with its version, or the snapshot, and the rest; and so does the
+/// code of a configuration in one version.
 pub fn heading_once()
     ensures headings { CodedOnce IsHeading heading_bytes }
-    ensures configs { CodedOnce IsCodedConfig config_bytes }
+    ensures configs { (version : Version)
+        → CodedOnce (λ c. IsCodedConfig c × IsOf version c) (config_bytes version) }
     ensures snapshots { CodedOnce IsSnapshot snapshot_bytes }
 {}
 

@@ -9,6 +9,7 @@
 //! - `bounds`, `texts`: whether a stored configuration is one, or another, and whether a stored text loads under it.
 //! - `entering`, `groups`: entries, and groups of them, that change the state which is read.
 //! - `fields`: numbers, texts and endpoints in bytes.
+//! - `version`: the versions of a file's form. `former`: what only former ones have.
 //! - `fault`: why bytes stand for nothing.
 //! - `laws`: what the definitions promise, as functions that do nothing.
 #![tactic(auto)]
@@ -20,11 +21,13 @@ mod entering;
 mod entry;
 mod fault;
 mod fields;
+mod former;
 mod groups;
 mod heading;
 pub mod laws;
 mod recovery;
 mod texts;
+mod version;
 
 pub use bounds::same_prefixes;
 pub use encoding::{
@@ -34,3 +37,4 @@ pub use encoding::{
 pub use entry::{Entry, Flow};
 pub use fault::DurableFault;
 pub use recovery::{Recovered, recover};
+pub use version::Version;

@@ -24,7 +24,7 @@ pub(crate) fn closed_heading(
 ) -> Result<Vec<u8>, AllocError>
     requires text { length text.now ≤ 262144 }
     requires count { length sessions.now ≤ 65536 }
-    ensures small { IfOk result (λ bytes. length bytes.items ≤ 1638538) }
+    ensures small { IfOk result (λ bytes. length bytes.items ≤ 1638552) }
     ensures code { IfOk result (λ bytes. bytes.items
         ≡ heading_bytes (anew generation bounds.now (durable text.now sessions.now)) ++ 0 ∷ []) }
 {

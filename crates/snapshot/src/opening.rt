@@ -2,21 +2,24 @@
 //!
 //! `make_ready` syncs both files and reads them whole (`look`, by `sync_both` and `contents`). `recover_for` asks
 //! `durable::recover` what they stand for, compares the configuration, and keeps what was found (`keep`). Where neither
-//! gate is open, `make_first` makes file A anew.
-ghost use Rattle.std.specs.Prelude.{◌≡◌, ◌+◌, ◌<◌, ◌≤◌, ◌↔◌, [], IfOk, IfSome, OnOk, OnErr, IsErrOf};
+//! gate is open, `make_first` makes file A anew. Where the active file is of a former version, `make_current` makes the
+//! other one anew for the same state.
+ghost use Rattle.std.specs.Prelude.{◌≡◌, ◌≢◌, ◌+◌, ◌-◌, ◌^◌, ◌<◌, ◌≤◌, ◌↔◌, [], length, true, false, IsTrue, IfOk, IfSome, OnOk, OnErr, IsErrOf};
 ghost use Rattle.disk_model.specs.declared.disk.FileId.{FileId};
 ghost use Rattle.disk_model.specs.declared.disk.FileId.TheVariants.{A, B};
-ghost use Rattle.disk_model.specs.Disk.{Same, Leaves, LeavesNow, LeavesOnly, Looks, Synced, Grew, HasCause, pair};
+ghost use Rattle.disk_model.specs.Disk.{Same, Leaves, LeavesNow, LeavesOnly, Looks, Synced, Grew, HasCause, Elsewhere, other, pair};
 ghost use Rattle.durable.specs.Entering.{Durable, IsDurable, empty};
-ghost use Rattle.durable.specs.Recovery.{Alike, IsConfigured, NoneOpen, Recovers};
+ghost use Rattle.durable.specs.Laws.{anew, IsFresh};
+ghost use Rattle.durable.specs.Recovery.{Alike, IsConfigured, IsCurrent, NoneOpen, Recovers};
+ghost use Rattle.durable.specs.Versions.{latest};
 ghost use Rattle.snapshot.specs.Opening.{IsFoundFor, IsRecovered, IsCopied, found_state};
-ghost use Rattle.snapshot.specs.Store.{MakesFirst};
+ghost use Rattle.snapshot.specs.Store.{IsLastFormer, MakesFirst, Migrates};
 
 use crate::OpenFault;
 use crate::closed_heading::closed_heading;
-use crate::remaking::remake;
+use crate::remaking::{other, remake};
 use disk_model::{Disk, DiskFault, FileId, contents};
-use durable::{DurableFault, Recovered, heading_fits, recover};
+use durable::{DurableFault, Recovered, Version, heading_fits, recover};
 use packet::Bounds;
 use sessions::Session;
 use std::alloc::Global;
@@ -25,6 +28,9 @@ use std::alloc::Global;
 #[derive(Drop)]
 pub(crate) struct Ready {
     pub(crate) file: FileId,
+    pub(crate) version: Version,
+    /// It was made anew, since the active one was of a former version.
+    pub(crate) migrated: bool,
     pub(crate) generation: u64,
     pub(crate) bounds: Bounds,
     /// The place behind the heading, where the groups begin.
@@ -69,6 +75,7 @@ fn look<D: Disk>(alloc: Global, disk: &mut D) -> Result<(Vec<u8>, Vec<u8>), Open
         → Grew (D.failed disk.old) (D.failed disk.new) }
     ensures damaged { IsErrOf result OpenFault.Damaged → ⊥ }
     ensures differs { IsErrOf result OpenFault.ConfigDiffers → ⊥ }
+    ensures generations { IsErrOf result OpenFault.Generations → ⊥ }
 {
     sync_both(disk)?;
     let a = contents(alloc, disk, FileId::A)?;
@@ -79,13 +86,17 @@ fn look<D: Disk>(alloc: Global, disk: &mut D) -> Result<(Vec<u8>, Vec<u8>), Open
 // What was recovered from two files, kept for the store.
 fn keep(alloc: Global, found: Recovered<'_>) -> Result<Ready, OpenFault>
     ensures ok { IfOk result (λ r. IsCopied found.entry r) }
+    ensures fresh { IfOk result (λ r. r.migrated ≡ false) }
     ensures device { IsErrOf result OpenFault.Device → ⊥ }
     ensures damaged { IsErrOf result OpenFault.Damaged → ⊥ }
     ensures differs { IsErrOf result OpenFault.ConfigDiffers → ⊥ }
+    ensures generations { IsErrOf result OpenFault.Generations → ⊥ }
 {
     let text = Vec::from_slice(alloc, found.text)?;
     Ok(Ready {
         file: found.file,
+        version: found.version,
+        migrated: false,
         generation: found.generation,
         bounds: found.bounds,
         start: found.start as u64,
@@ -104,12 +115,14 @@ fn recover_for(
 ) -> Result<Option<Ready>, OpenFault>
     ensures ok { IfOk result (λ found. IsRecovered bounds.now (pair a.now b.now) found) }
     ensures bounds { IfOk result (λ found. IfSome found (λ r. r.bounds ≡ bounds.now)) }
+    ensures fresh { IfOk result (λ found. IfSome found (λ r. r.migrated ≡ false)) }
     ensures damaged { IsErrOf result OpenFault.Damaged → (d : Durable)
         → ¬ Recovers (pair a.now b.now) d }
     ensures differs { IsErrOf result OpenFault.ConfigDiffers
         → (d : Durable) × Recovers (pair a.now b.now) d
         × ¬ IsConfigured bounds.now (pair a.now b.now) }
     ensures device { IsErrOf result OpenFault.Device → ⊥ }
+    ensures generations { IsErrOf result OpenFault.Generations → ⊥ }
 {
     match recover(alloc, a, b) {
         Ok(None) => Ok(None),
@@ -141,6 +154,8 @@ fn make_first<D: Disk>(alloc: Global, disk: &mut D, bounds: &Bounds) -> Result<R
     ensures first { D.honest disk.old
         → OnOk result (MakesFirst bounds.now (D.seen disk.old) (D.seen disk.new)) }
     ensures generation { IfOk result (λ r. r.generation ≡ 1) }
+    ensures current { IfOk result (λ r. r.version ≡ latest) }
+    ensures was { IfOk result (λ r. r.migrated ≡ false) }
     ensures empty { IfOk result (λ r. found_state r ≡ empty) }
     ensures bounds { IfOk result (λ r. r.bounds ≡ bounds.now) }
     ensures stays { ¬ IsErrOf result OpenFault.Device → OnErr result (disk.new ≡ disk.old) }
@@ -153,6 +168,7 @@ fn make_first<D: Disk>(alloc: Global, disk: &mut D, bounds: &Bounds) -> Result<R
         → Grew (D.failed disk.old) (D.failed disk.new) }
     ensures damaged { IsErrOf result OpenFault.Damaged → ⊥ }
     ensures differs { IsErrOf result OpenFault.ConfigDiffers → ⊥ }
+    ensures generations { IsErrOf result OpenFault.Generations → ⊥ }
 {
     let file = FileId::A;
     let generation = 1;
@@ -165,6 +181,8 @@ fn make_first<D: Disk>(alloc: Global, disk: &mut D, bounds: &Bounds) -> Result<R
     let end = bytes.len() as u64;
     Ok(Ready {
         file,
+        version: Version::LATEST,
+        migrated: false,
         generation,
         bounds: kept,
         start: end,
@@ -174,7 +192,120 @@ fn make_first<D: Disk>(alloc: Global, disk: &mut D, bounds: &Bounds) -> Result<R
     })
 }
 
+// Makes the file anew that isn't active, of the version that is written, for the state of the active one.
+fn migrate<D: Disk>(alloc: Global, disk: &mut D, found: Ready) -> Result<Ready, OpenFault>
+    requires found { D.honest disk.old → IsFoundFor found.bounds (D.seen disk.old) found }
+    requires synced { D.honest disk.old → (file : FileId)
+        → Synced D.moment D.left D.seen disk.old file }
+    requires text { length found.text.items ≤ 262144 }
+    requires count { length found.sessions.items ≤ 65536 }
+    ensures honest { D.honest disk.old ↔ D.honest disk.new }
+    ensures any_moment { D.honest disk.old
+        → LeavesOnly D.moment D.left disk.old disk.new
+        (λ files. Recovers files (found_state found)) }
+    ensures configured { D.honest disk.old
+        → LeavesOnly D.moment D.left disk.old disk.new (IsConfigured found.bounds) }
+    ensures ok { D.honest disk.old
+        → IfOk result (λ r. IsFoundFor found.bounds (D.seen disk.new) r) }
+    ensures synced { D.honest disk.old → OnOk result ((file : FileId)
+        → Synced D.moment D.left D.seen disk.new file) }
+    ensures made { D.honest disk.old → OnOk result (IsFresh (D.seen disk.new (other found.file))
+        (anew (found.generation + 1) found.bounds (found_state found))) }
+    ensures elsewhere { D.honest disk.old → OnOk result (Elsewhere (other found.file)
+        (D.seen disk.old) (D.seen disk.new)) }
+    ensures had_generation { OnOk result (found.generation + 1 < 2 ^ 64) }
+    ensures state { IfOk result (λ r. found_state r ≡ found_state found) }
+    ensures current { IfOk result (λ r. r.version ≡ latest) }
+    ensures was { IfOk result (λ r. r.migrated ≡ true) }
+    ensures bounds { IfOk result (λ r. r.bounds ≡ found.bounds) }
+    ensures generations { IsErrOf result OpenFault.Generations
+        → found.generation ≡ 2 ^ 64 - 1 }
+    ensures stays { ¬ IsErrOf result OpenFault.Device → OnErr result (disk.new ≡ disk.old) }
+    ensures failures { D.failed disk.old ≤ D.failed disk.new }
+    ensures by_one { D.failed disk.new ≤ D.failed disk.old + 1 }
+    ensures no_failure { OnOk result (D.failed disk.new ≡ D.failed disk.old) }
+    ensures only_device { ¬ IsErrOf result OpenFault.Device
+        → D.failed disk.new ≡ D.failed disk.old }
+    ensures device { IsErrOf result OpenFault.Device
+        → Grew (D.failed disk.old) (D.failed disk.new) }
+    ensures damaged { IsErrOf result OpenFault.Damaged → ⊥ }
+    ensures differs { IsErrOf result OpenFault.ConfigDiffers → ⊥ }
+{
+    if found.generation == u64::MAX {
+        return Err(OpenFault::Generations);
+    }
+    let generation = found.generation + 1;
+    let bytes = closed_heading(
+        alloc,
+        generation,
+        &found.bounds,
+        &found.text,
+        &found.sessions,
+    )?;
+    let file = other(found.file);
+    remake(disk, file, &bytes)?;
+    // There stands the closed gate that ends `bytes`: the file's own gate is in front of them.
+    let end = bytes.len() as u64;
+    Ok(Ready {
+        file,
+        version: Version::LATEST,
+        migrated: true,
+        generation,
+        bounds: found.bounds,
+        start: end,
+        end,
+        text: found.text,
+        sessions: found.sessions,
+    })
+}
+
+// What was found, of the version that is written: where it is of a former one, it is made anew.
+fn make_current<D: Disk>(alloc: Global, disk: &mut D, found: Ready) -> Result<Ready, OpenFault>
+    requires found { D.honest disk.old → IsFoundFor found.bounds (D.seen disk.old) found }
+    requires sound { IsDurable found.bounds (found_state found) }
+    requires fresh { found.migrated ≡ false }
+    requires synced { D.honest disk.old → (file : FileId)
+        → Synced D.moment D.left D.seen disk.old file }
+    ensures honest { D.honest disk.old ↔ D.honest disk.new }
+    ensures any_moment { D.honest disk.old
+        → LeavesOnly D.moment D.left disk.old disk.new
+        (λ files. Recovers files (found_state found)) }
+    ensures configured { D.honest disk.old
+        → LeavesOnly D.moment D.left disk.old disk.new (IsConfigured found.bounds) }
+    ensures ok { D.honest disk.old
+        → IfOk result (λ r. IsFoundFor found.bounds (D.seen disk.new) r) }
+    ensures synced { D.honest disk.old → OnOk result ((file : FileId)
+        → Synced D.moment D.left D.seen disk.new file) }
+    ensures migrated { D.honest disk.old
+        → OnOk result (Migrates found.bounds (D.seen disk.old) (D.seen disk.new)) }
+    ensures only_looks { found.version ≡ latest → OnOk result (disk.new ≡ disk.old) }
+    ensures had_generation { OnOk result (found.version ≢ latest
+        → found.generation + 1 < 2 ^ 64) }
+    ensures state { IfOk result (λ r. found_state r ≡ found_state found) }
+    ensures current { IfOk result (λ r. r.version ≡ latest) }
+    ensures was { IfOk result (λ r. IsTrue r.migrated ↔ (found.version ≢ latest)) }
+    ensures bounds { IfOk result (λ r. r.bounds ≡ found.bounds) }
+    ensures generations { IsErrOf result OpenFault.Generations
+        → (found.version ≢ latest) × (found.generation ≡ 2 ^ 64 - 1) }
+    ensures stays { ¬ IsErrOf result OpenFault.Device → OnErr result (disk.new ≡ disk.old) }
+    ensures failures { D.failed disk.old ≤ D.failed disk.new }
+    ensures by_one { D.failed disk.new ≤ D.failed disk.old + 1 }
+    ensures no_failure { OnOk result (D.failed disk.new ≡ D.failed disk.old) }
+    ensures only_device { ¬ IsErrOf result OpenFault.Device
+        → D.failed disk.new ≡ D.failed disk.old }
+    ensures device { IsErrOf result OpenFault.Device
+        → Grew (D.failed disk.old) (D.failed disk.new) }
+    ensures damaged { IsErrOf result OpenFault.Damaged → ⊥ }
+    ensures differs { IsErrOf result OpenFault.ConfigDiffers → ⊥ }
+{
+    if found.version.is_latest() {
+        return Ok(found);
+    }
+    migrate(alloc, disk, found)
+}
+
 /// What two files hold, for a store of these bounds, with both synced. Where neither gate is open, file A is made anew.
+/// Where the active one is of a former version, the other one is made anew for the same state.
 ///
 /// # Errors
 ///
@@ -195,12 +326,20 @@ pub(crate) fn make_ready<D: Disk>(
     ensures sound { IfOk result (λ r. IsDurable bounds.now (found_state r)) }
     ensures had_config { D.honest disk.old
         → OnOk result (IsConfigured bounds.now (D.seen disk.old)) }
+    ensures had_generation { D.honest disk.old
+        → OnOk result (¬ IsLastFormer bounds.now (D.seen disk.old)) }
     ensures first { D.honest disk.old → NoneOpen (D.seen disk.old)
         → OnOk result (MakesFirst bounds.now (D.seen disk.old) (D.seen disk.new)) }
     ensures generation { D.honest disk.old → NoneOpen (D.seen disk.old)
         → IfOk result (λ r. r.generation ≡ 1) }
     ensures only_looks { D.honest disk.old → ¬ NoneOpen (D.seen disk.old)
+        → IsCurrent (D.seen disk.old)
         → OnOk result (Looks D.moment D.left D.seen disk.old disk.new) }
+    ensures migrated { D.honest disk.old
+        → OnOk result (Migrates bounds.now (D.seen disk.old) (D.seen disk.new)) }
+    ensures current { IfOk result (λ r. r.version ≡ latest) }
+    ensures was { D.honest disk.old
+        → IfOk result (λ r. IsTrue r.migrated ↔ ¬ IsCurrent (D.seen disk.old)) }
     ensures synced { D.honest disk.old → OnOk result ((file : FileId)
         → Synced D.moment D.left D.seen disk.new file) }
     ensures bounds { IfOk result (λ r. r.bounds ≡ bounds.now) }
@@ -209,6 +348,8 @@ pub(crate) fn make_ready<D: Disk>(
     ensures differs { D.honest disk.old → IsErrOf result OpenFault.ConfigDiffers
         → (d : Durable) × Recovers (D.seen disk.old) d
         × ¬ IsConfigured bounds.now (D.seen disk.old) }
+    ensures generations { D.honest disk.old → IsErrOf result OpenFault.Generations
+        → IsLastFormer bounds.now (D.seen disk.old) }
     ensures looks { D.honest disk.old → ¬ IsErrOf result OpenFault.Device
         → OnErr result (Looks D.moment D.left D.seen disk.old disk.new) }
     ensures failures { D.failed disk.old ≤ D.failed disk.new }
@@ -221,7 +362,7 @@ pub(crate) fn make_ready<D: Disk>(
 {
     let (a, b) = look(alloc, disk)?;
     match recover_for(alloc, &a, &b, bounds)? {
-        Some(found) => Ok(found),
+        Some(found) => make_current(alloc, disk, found),
         None => make_first(alloc, disk, bounds),
     }
 }

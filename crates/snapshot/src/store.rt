@@ -1,14 +1,14 @@
 //! The store: two files, of which one is active. It is opened (`open`), commits groups (`commit`), and is compacted
 //! (`compact`); once a call of its disk has failed it can only give that back (`into_disk`).
-ghost use Rattle.std.specs.Prelude.{◌≡◌, ◌∷◌, ◌+◌, ◌-◌, ◌^◌, ◌<◌, ◌≤◌, ◌↔◌, length, MatchResult, IfOk, IfErr, OnOk, IsErrOf, true, false};
+ghost use Rattle.std.specs.Prelude.{◌≡◌, ◌∷◌, ◌+◌, ◌-◌, ◌^◌, ◌<◌, ◌≤◌, ◌↔◌, length, IsTrue, MatchResult, IfOk, IfErr, OnOk, IsErrOf, true, false};
 ghost use Rattle.disk_model.specs.Disk.{Elsewhere, Leaves, LeavesNow, LeavesOnly, Looks, Put, Called, Grew};
 ghost use Rattle.disk_model.specs.declared.disk.FileId.{FileId};
 ghost use Rattle.durable.specs.Coding.{heading_bytes};
 ghost use Rattle.durable.specs.Entering.{Durable, IsDurable, durable, BodyEnters};
 ghost use Rattle.durable.specs.Laws.{anew, IsFresh};
-ghost use Rattle.durable.specs.Recovery.{Alike, IsConfigured, NoneOpen, Recovers};
+ghost use Rattle.durable.specs.Recovery.{Alike, IsConfigured, IsCurrent, NoneOpen, Recovers};
 ghost use Rattle.journal.specs.Groups.{sealed};
-ghost use Rattle.snapshot.specs.Store.{Keeps, RecoversEither, MakesFirst, BodyFits};
+ghost use Rattle.snapshot.specs.Store.{Keeps, RecoversEither, MakesFirst, Migrates, IsLastFormer, BodyFits};
 
 use crate::closed_heading::closed_heading;
 use crate::opening::{Ready, make_ready};
@@ -73,6 +73,8 @@ pub struct Opened<D: Disk + Drop> {
     pub text: Vec<u8>,
     /// The sessions, in the order of `Table::list`. `last` is 0 in each of them.
     pub sessions: Vec<Session>,
+    /// Whether the active file was of a former version, and the other one was made anew for its state.
+    pub migrated: bool,
 }
 
 impl<D: Disk + Drop> Store<D> {
@@ -117,20 +119,33 @@ impl<D: Disk + Drop> Store<D> {
         ensures sound { IfOk result (λ o. IsDurable bounds.now
             (durable o.text.items o.sessions.items)) }
         ensures had_config { D.honest disk → OnOk result (IsConfigured bounds.now (D.seen disk)) }
+        ensures had_generation { D.honest disk
+            → OnOk result (¬ IsLastFormer bounds.now (D.seen disk)) }
 
         // Where no file is open, file A is made anew, of the first generation; otherwise the files aren't changed.
         ensures first { D.honest disk → NoneOpen (D.seen disk)
             → IfOk result (λ o. MakesFirst bounds.now (D.seen disk) (D.seen o.store.disk)) }
         ensures generation { D.honest disk → NoneOpen (D.seen disk)
             → IfOk result (λ o. o.store.generation ≡ 1) }
-        ensures only_looks { D.honest disk → ¬ NoneOpen (D.seen disk)
+        ensures only_looks { D.honest disk → ¬ NoneOpen (D.seen disk) → IsCurrent (D.seen disk)
             → IfOk result (λ o. Looks D.moment D.left D.seen disk o.store.disk) }
+
+        // Where the active file is of a former version, the other one is made anew for the same state, and whatever a
+        // crash leaves from then on has an active file of the version that is written.
+        ensures migrated { D.honest disk
+            → IfOk result (λ o. Migrates bounds.now (D.seen disk) (D.seen o.store.disk)) }
+        ensures was { D.honest disk
+            → IfOk result (λ o. IsTrue o.migrated ↔ ¬ IsCurrent (D.seen disk)) }
+        ensures current { D.honest disk
+            → IfOk result (λ o. LeavesNow D.moment D.left o.store.disk IsCurrent) }
         ensures stands { IfOk result (λ o. o.store.fallen ≡ false) }
         ensures config { IfOk result (λ o. o.store.config ≡ bounds.now) }
         ensures damaged { D.honest disk → IfErr result (λ e. e.1 ≡ OpenFault.Damaged → (d : Durable)
             → ¬ Recovers (D.seen disk) d) }
         ensures differs { D.honest disk → IfErr result (λ e. e.1 ≡ OpenFault.ConfigDiffers
             → (d : Durable) × Recovers (D.seen disk) d × ¬ IsConfigured bounds.now (D.seen disk)) }
+        ensures generations { D.honest disk → IfErr result (λ e. e.1 ≡ OpenFault.Generations
+            → IsLastFormer bounds.now (D.seen disk)) }
         ensures looks { D.honest disk → IfErr result (λ e. ¬ (e.1 ≡ OpenFault.Device)
             → Looks D.moment D.left D.seen disk e.0) }
         ensures failures { MatchResult result (λ o. D.failed o.store.disk ≡ D.failed disk)
@@ -148,6 +163,8 @@ impl<D: Disk + Drop> Store<D> {
             Ok(ready) => {
                 let Ready {
                     file,
+                    version: _,
+                    migrated,
                     generation,
                     bounds,
                     start,
@@ -168,6 +185,7 @@ impl<D: Disk + Drop> Store<D> {
                     store,
                     text,
                     sessions,
+                    migrated,
                 })
             }
             Err(fault) => Err((disk, fault)),
@@ -332,7 +350,7 @@ impl<D: Disk + Drop> Store<D> {
             (anew (self.old.generation + 1) self.old.config (durable text.now sessions.now)))) }
 
         // A snapshot of the greatest text, and as many sessions as there may be, ends there.
-        ensures small { OnOk result (self.new.end ≤ 1638538) }
+        ensures small { OnOk result (self.new.end ≤ 1638552) }
         ensures generations { IsErrOf result CompactFault.Generations
             ↔ self.old.generation ≡ 2 ^ 64 - 1 }
         ensures generations_stay { IsErrOf result CompactFault.Generations → self.new ≡ self.old }
