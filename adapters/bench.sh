@@ -18,6 +18,20 @@ bench=ng$$
 spaces=()
 started=()
 
+# Tells the comment at the head of the script that sources this.
+tell_help() {
+  sed -n '2,/^[^#]/s/^# \{0,1\}//p' "$0"
+}
+if [ "${1-}" = --help ]; then
+  tell_help
+  exit 0
+fi
+
+# For scripts without options: takes_no_words "$@".
+takes_no_words() {
+  [ $# = 0 ] || { tell_help >&2; exit 2; }
+}
+
 # Says why there is nothing to try, and ends.
 needs() {
   [ "$(id -u)" = 0 ] || { echo "$0: only root can make network namespaces" >&2; exit 2; }

@@ -47,4 +47,7 @@ def main():
 
 
 if __name__ == "__main__":
-    main()
+    if "--help" in sys.argv[1:]:
+        print(__doc__.strip())
+    else:
+        main()

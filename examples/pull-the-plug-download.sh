@@ -18,7 +18,7 @@ megabytes=300
 case ${1:-} in
   '') ;;
   --megabytes) megabytes=${2:?} ;;
-  *) sed -n '2,/^set/{/^#/!d;s/^# \{0,1\}//;p}' "${BASH_SOURCE[0]}"; exit 2 ;;
+  *) tell_help >&2; exit 2 ;;
 esac
 needs curl
 bench_up
@@ -77,7 +77,7 @@ echo "a download of $megabytes megabytes by $near from $far, through natgw"
 start=$(date +%s.%N)
 start_download
 for quarter in 1 2 3; do
-  until_got $((size / 4 * quarter))
+  until_got $((size * quarter / 4))
   kill_natgw
   echo "natgw killed with signal 9, $(has) bytes are there"
   sleep 0.3

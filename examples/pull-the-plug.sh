@@ -55,7 +55,7 @@ echo "a stream of a ruleset and $packets packets, each of which begins a session
 python3 "$here/many_sessions.py" make "$packets" >"$work/requests"
 
 # An answer of 42 bytes for each packet: the plug is pulled when half of them are in the file.
-half=$((packets / 2 * 42))
+half=$((packets * 21))
 : >"$work/answers"
 "$natgw" replay "${options[@]}" <"$work/requests" >"$work/answers" &
 replay=$!

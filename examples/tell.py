@@ -28,4 +28,7 @@ def tell_bytes(answers):
 
 
 if __name__ == "__main__":
-    tell(sys.stdin.buffer)
+    if "--help" in sys.argv[1:]:
+        print(__doc__.strip())
+    else:
+        tell(sys.stdin.buffer)

@@ -18,6 +18,7 @@ set -euo pipefail
 here=$(cd "$(dirname "${BASH_SOURCE[0]}")" && pwd)
 # shellcheck source=adapters/bench.sh
 . "$here/../adapters/bench.sh"
+takes_no_words "$@"
 needs curl
 hosts=16
 

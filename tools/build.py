@@ -143,6 +143,9 @@ def build_program(rtlib, folder):
 
 
 def main(name=PROGRAM, *more):
+    if name == "--help":
+        print(__doc__.strip())
+        return 0
     if more or name.startswith("-"):
         sys.exit(__doc__.strip())
     folder = f"{TOP}/crates/{name}"
