@@ -13,7 +13,7 @@ use Rattle.std.proofs.lemmas.Str.Pattern.{IsSplitOnceResult, split_after, split_
 use Rattle.packet.specs.declared.endpoint.Prefix.{Prefix}
 use Rattle.refusals.specs.declared.refusal.Refusal.TheVariants.{Config}
 use Rattle.refusals.specs.declared.stop.Stop.{Stop}
-use Rattle.checking.specs.Spelling.{SpellsAddress, SpellsNumber, SpellsPrefix, SpellsPrefixes}
+use Rattle.checking.specs.Spelling.{SpellsAddress, SpellsList, SpellsNumber, SpellsPrefix}
 
 abbrev pub Lacks : ℕ → List ℕ → Type 0
 Lacks c [] = ⊤
@@ -78,22 +78,26 @@ prefix_lacks_comma text p (front, back, is, (a, written, value), number) =
     subst (Lacks 44) (sym is)
     (lacks-append 44 front (47 ∷ back) (dotted_lacks 44 front _ comma_is_odd written) (λ e. absurd (omega arith), after))
 
--- where prefixes are spelled, one stands before the first comma, and others behind it
-pub prefixes_are_split : (text : List ℕ) (ps : List Prefix) (r : Option (Bor (List ℕ) × Bor (List ℕ))) → SpellsPrefixes text ps → IsSplitOnceResult 44 text r
-    → MatchOption r ((p : Prefix) × SpellsPrefix text p) (λ x. ((p : Prefix) × SpellsPrefix x.0.now p) × ((qs : List Prefix) × SpellsPrefixes x.1.now qs))
-prefixes_are_split text [] r spelled split = elim spelled [ ]
-prefixes_are_split text (p ∷ []) None spelled split = (p, spelled)
-prefixes_are_split text (p ∷ []) (Some x) spelled split =
-    let parts = split_parts 44 text (Some x) split (omega arith) in
-    absurd (lacks_at 44 text (prefix_lacks_comma text p spelled) (length x.0.now) (front-shorter 44 text x.0.now x.1.now parts.0)
-    (rw parts.0 (get_or-append_seam x.0.now 44 x.1.now 0)))
-prefixes_are_split text (p ∷ q ∷ ps) None (front, rest, is, one, others) split =
-    absurd (split_after 44 text front rest None split (omega arith) is (lacks_at 44 front (prefix_lacks_comma front p one)))
-prefixes_are_split text (p ∷ q ∷ ps) (Some x) (front, rest, is, one, others) split =
-    let parts = split_after 44 text front rest (Some x) split (omega arith) is (lacks_at 44 front (prefix_lacks_comma front p one)) in (
-      (p, subst (λ t. SpellsPrefix t p) (sym parts.0) one),
-      (q ∷ ps, subst (λ t. SpellsPrefixes t (q ∷ ps)) (sym parts.1) others),
-    )
+pub address_lacks_comma : (text : List ℕ) (addr : ℕ) → SpellsAddress text addr → Lacks 44 text
+address_lacks_comma text addr (a, written, value) = dotted_lacks 44 text _ comma_is_odd written
+
+-- where a list of what has no comma is spelled, one stands before the first comma, and others behind it
+module _ {A : Type 0} (Spells : List ℕ → A → Type 0) (lacks : (text : List ℕ) (a : A) → Spells text a → Lacks 44 text) where
+  pub list_is_split : (text : List ℕ) (ps : List A) (r : Option (Bor (List ℕ) × Bor (List ℕ))) → SpellsList Spells text ps → IsSplitOnceResult 44 text r
+      → MatchOption r ((p : A) × Spells text p) (λ x. ((p : A) × Spells x.0.now p) × ((qs : List A) × SpellsList Spells x.1.now qs))
+  list_is_split text [] r spelled split = elim spelled [ ]
+  list_is_split text (p ∷ []) None spelled split = (p, spelled)
+  list_is_split text (p ∷ []) (Some x) spelled split =
+      let parts = split_parts 44 text (Some x) split (omega arith) in
+      absurd (lacks_at 44 text (lacks text p spelled) (length x.0.now) (front-shorter 44 text x.0.now x.1.now parts.0)
+      (rw parts.0 (get_or-append_seam x.0.now 44 x.1.now 0)))
+  list_is_split text (p ∷ q ∷ ps) None (front, rest, is, one, others) split =
+      absurd (split_after 44 text front rest None split (omega arith) is (lacks_at 44 front (lacks front p one)))
+  list_is_split text (p ∷ q ∷ ps) (Some x) (front, rest, is, one, others) split =
+      let parts = split_after 44 text front rest (Some x) split (omega arith) is (lacks_at 44 front (lacks front p one)) in (
+        (p, subst (λ t. Spells t p) (sym parts.0) one),
+        (q ∷ ps, subst (λ t. SpellsList Spells t (q ∷ ps)) (sym parts.1) others),
+      )
 
 -- what holds anyway is the case where the options are no configuration
 pub if_config : {T X : Type 0} (r : Result T Stop) → X → IfErr r (λ stop. stop.refusal ≡ Config → X)

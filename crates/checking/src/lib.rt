@@ -1,6 +1,6 @@
 //! What `natgw check` does, and what each command does before it has a gateway.
 //!
-//! - `config`: addresses and prefixes as they are spelled, and the configuration made of them;
+//! - `config`: addresses, prefixes and filterings as they are spelled, and the configuration made of them;
 //! - `files`: the file that a command reads;
 //! - `judging`: whether a ruleset would load.
 #![tactic(auto)]
@@ -9,6 +9,6 @@ mod config;
 mod files;
 mod judging;
 
-pub use config::{address, bounds, number, prefix, prefixes};
+pub use config::{address, addresses, bounds, filtering, number, prefix, prefixes};
 pub use files::read_file;
 pub use judging::{Checked, check, report};

@@ -9,7 +9,7 @@ fn named<'a>(alloc: Global, argument: &Argument) -> Arg<'a> {
     let arg = Arg::new(alloc, argument.name).help(argument.help);
     match argument.form {
         Form::File => arg,
-        Form::Text | Form::Number | Form::Flag => arg.long(argument.name),
+        Form::Text | Form::Number | Form::Word(_) | Form::Flag => arg.long(argument.name),
     }
 }
 
@@ -26,6 +26,7 @@ fn arg_of<'a>(alloc: Global, argument: &Argument) -> Arg<'a> {
     match argument.form {
         Form::Flag => arg.action(ArgAction::SetTrue),
         Form::Number => with_value(arg, argument).value_parser(value_parser!(u64)),
+        Form::Word(words) => with_value(arg, argument).value_parser(words),
         Form::Text | Form::File => with_value(arg, argument),
     }
 }

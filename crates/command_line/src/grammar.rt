@@ -32,6 +32,8 @@ pub(crate) enum Form {
     Text,
     /// `--name VALUE`, the value a number below 2^64.
     Number,
+    /// `--name VALUE`, the value one of these words.
+    Word(&'static [&'static str]),
     /// `--name` alone.
     Flag,
     /// The value alone.
@@ -64,9 +66,16 @@ pub(crate) const SIDES: &[Argument] = &[
     Argument {
         name: "external",
         form: Form::Text,
-        value: "ADDR",
+        value: "LIST",
         default: None,
-        help: "The external address, as 203.0.113.1",
+        help: "1 to 4 external addresses, as 203.0.113.1, joined by commas",
+    },
+    Argument {
+        name: "filtering",
+        form: Form::Word(&["endpoint", "address"]),
+        value: "WORD",
+        default: Some("endpoint"),
+        help: "Whom a mapping lets in: everyone, or the addresses it has a session with",
     },
 ];
 

@@ -89,7 +89,7 @@ One line is printed: ok, with status 0, or the fault, with status 1:
   depth          a path of more than 16 jumps and gotos
   wrong-hook     a chain or a translation at a hook where it can't be
   wrong-type     a value, a set or a translation where one of another type belongs
-  not-external   snat to another address than the external one
+  not-external   snat to an address that isn't external
   not-inside     dnat to an address in no inside prefix
   limit          more than 256 chains, 4096 rules, or 16384 elements and pairs
   overlap        two keys of a verdict map for one value

@@ -23,6 +23,7 @@ fn read_sides<'a>(matches: &ArgMatches<'a>) -> Sides<'a> {
         wan: matches.get_str("wan").unwrap_or(""),
         inside: matches.get_str("inside").unwrap_or(""),
         external: matches.get_str("external").unwrap_or(""),
+        filtering: matches.get_str("filtering").unwrap_or(""),
     }
 }
 

@@ -20,8 +20,10 @@ pub struct Sides<'a> {
     pub wan: &'a str,
     /// The inside prefixes, joined by commas.
     pub inside: &'a str,
-    /// The external address.
+    /// The external addresses, joined by commas.
     pub external: &'a str,
+    /// The word for whom a mapping lets in.
+    pub filtering: &'a str,
 }
 
 /// A command with what it alone takes.

@@ -29,6 +29,11 @@ word_of refusal.Output = codes "output"
 abbrev pub first_line : Refusal → List ℕ
 first_line r = codes "natgw: " ++ word_of r ++ codes "\n"
 
+-- what is told once where the files were those of an older natgw; no command gives up there, so no `natgw: ` is in front
+abbrev pub migrated_line : List ℕ
+migrated_line =
+    codes "the two files are of version 2 from now on: an older natgw calls them damaged\n"
+
 -- what to do where no more is known than the word
 abbrev pub sentence_of : Refusal → List ℕ
 sentence_of refusal.Config = codes "the options are no configuration: `natgw --help` tells of them"

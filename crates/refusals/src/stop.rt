@@ -4,7 +4,7 @@ ghost use Rattle.std.specs.List.{list_all};
 ghost use Rattle.std.specs.Io.KnownBytes.{Appends};
 ghost use Rattle.std.specs.IoError.{error_kind};
 ghost use Rattle.refusals.specs.declared.refusal.Refusal.TheVariants.{NoMemory};
-ghost use Rattle.refusals.specs.Words.{IsOfPath, advised, first_line, is_one_line, path_refusal, second_line, sentence_of};
+ghost use Rattle.refusals.specs.Words.{IsOfPath, advised, first_line, is_one_line, migrated_line, path_refusal, second_line, sentence_of};
 
 use crate::Refusal;
 use std::alloc::{AllocError, AllocFailed, Global};
@@ -195,4 +195,17 @@ pub fn tell<W: Write>(writer: &mut W, stop: &Stop) -> io::Result<()>
         (first_line stop.now.refusal ++ advice ++ codes "\n")) }
 {
     tell_lines(writer, stop.refusal, stop.second_line())
+}
+
+/// Writes the line which tells that the files were those of an older version of natgw, and no longer are.
+///
+/// # Errors
+///
+/// That of the writer. A part may have been written then.
+pub fn tell_migrated<W: Write>(writer: &mut W) -> io::Result<()>
+    ensures { OnOk result (Appends (W.contents writer.old) (W.contents writer.new) migrated_line) }
+{
+    writer.write_all(
+        b"the two files are of version 2 from now on: an older natgw calls them damaged\n",
+    )
 }

@@ -16,7 +16,7 @@ pub(crate) fn wrong(kind: Kind) -> &'static str {
         Kind::WrongHook =>
             "which can't be at its hook, or is reached from a hook where it can't be",
         Kind::WrongType => "which has another type than what belongs here",
-        Kind::NotExternal => "which isn't the external address",
+        Kind::NotExternal => "which isn't an external address",
         Kind::NotInside => "which isn't inside",
         Kind::Limit => "which is one more than there may be",
         Kind::Overlap => "a key that shares a value with another key of its map",
@@ -45,7 +45,7 @@ pub(crate) fn right(kind: Kind) -> &'static str {
         Kind::WrongType => {
             "addresses for saddr and daddr, ports up to 65535 for sport and dport, protocols up to 255 for protocol and l4proto, names of interfaces for iifname and oifname, states for ct state; sets with one such `type`; dnat, snat and masquerade from nat chains alone"
         }
-        Kind::NotExternal => "the external address of the gateway",
+        Kind::NotExternal => "an external address of the gateway",
         Kind::NotInside => "an address in one of the inside prefixes of the gateway",
         Kind::Limit => "at most 256 chains, 4096 rules, and 16384 elements and pairs in all",
         Kind::Overlap => "keys of which no two share a value",

@@ -1,8 +1,8 @@
 use Rattle.std.proofs.Common.{rules, arith, ◌∷◌, List, subst, Some, None}
 use Rattle.std.proofs.lemmas.Str.Pattern.{split_parts}
 use Rattle.packet.specs.declared.endpoint.Prefix.{Prefix}
-use Rattle.checking.specs.Spelling.{SpellsPrefixes}
-use Rattle.checking.proofs.Lacking.{if_config, prefixes_are_split}
+use Rattle.checking.specs.Spelling.{SpellsPrefix, SpellsPrefixes}
+use Rattle.checking.proofs.Lacking.{if_config, list_is_split, prefix_lacks_comma}
 use Rattle.checking.proofs.Round.{back-shorter, found-behind}
 use Rattle.checking.proofs.config.prefixes.Goals as goal
 
@@ -19,14 +19,14 @@ loop-front-preserved c =
           (c.loop-front.invariant.1 _ (p ∷ ps) (c.in-Some.front.now, c.in-Some.back.now, parts.0, c.in_ok-prefix_of.ensures.ok, spelled)),
       λ ps spelled.
           let here = c.loop-front.invariant.2 ps spelled in
-          (prefixes_are_split _ here.0 (Some (c.in-Some.front, c.in-Some.back)) here.1 c.in-Some.ensures.cases).1,
+          (list_is_split SpellsPrefix prefix_lacks_comma _ here.0 (Some (c.in-Some.front, c.in-Some.back)) here.1 c.in-Some.ensures.cases).1,
     )
 
 pub returns-in_err-prefix_of-clause-none : goal.returns-in_err-prefix_of-clause-none
 returns-in_err-prefix_of-clause-none c =
     let none : (ps : List Prefix) → ¬ SpellsPrefixes c.args.list.now ps = λ ps spelled.
     let here = c.loop-front.invariant.2 ps spelled in
-    let parts = prefixes_are_split _ here.0 (Some (c.in-Some.front, c.in-Some.back)) here.1 c.in-Some.ensures.cases in
+    let parts = list_is_split SpellsPrefix prefix_lacks_comma _ here.0 (Some (c.in-Some.front, c.in-Some.back)) here.1 c.in-Some.ensures.cases in
     c.in_err-prefix_of.ensures.none parts.0.0 parts.0.1 in
     if_config _ none
 
@@ -34,6 +34,6 @@ pub returns-in_err-prefix_of-2-clause-none : goal.returns-in_err-prefix_of-2-cla
 returns-in_err-prefix_of-2-clause-none c =
     let none : (ps : List Prefix) → ¬ SpellsPrefixes c.args.list.now ps = λ ps spelled.
     let here = c.loop-front.invariant.2 ps spelled in
-    let last = prefixes_are_split _ here.0 None here.1 c.in_default.ensures.cases in
+    let last = list_is_split SpellsPrefix prefix_lacks_comma _ here.0 None here.1 c.in_default.ensures.cases in
     c.in_err-prefix_of-2.ensures.none last.0 last.1 in
     if_config _ none
