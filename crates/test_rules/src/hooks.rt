@@ -44,7 +44,7 @@ fn inward(port: u16) -> Facts {
         iif: Iface::Wan,
         oif: None,
         src: at(SERVER, 53),
-        dst: at(EXTERNAL, port),
+        dst: at(EXTERNAL[0], port),
         proto: Proto::Udp,
         state: State::New,
     }
@@ -185,7 +185,7 @@ table ip early {
         udp dport 82 jump own;
     }
     chain own { dnat to 192.168.1.4; }
-    chain post { type nat hook postrouting priority srcnat; ip saddr 192.168.1.3 snat to 203.0.113.1; drop; }
+    chain post { type nat hook postrouting priority srcnat; ip saddr 192.168.1.3 snat to 203.0.113.3; drop; }
 }";
 
 const NEIGHBOUR: u32 = 0xc0a80103;
@@ -233,8 +233,8 @@ fn destinations(rt: HostRuntime) -> Result<(), Fail> {
 
 // What a packet to the server comes to, by the host that it comes from.
 const SOURCES: [(u32, Source); 3] = [
-    (HOST, Source::From(EXTERNAL)),
-    (NEIGHBOUR, Source::From(EXTERNAL)),
+    (HOST, Source::Masquerade),
+    (NEIGHBOUR, Source::From(EXTERNAL[1])),
     (STRANGER, Source::Drop),
 ];
 

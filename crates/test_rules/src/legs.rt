@@ -1,5 +1,5 @@
 //! Mappings and numbers, and each leg once. What packets come to is tested over the byte stream.
-ghost use Rattle.std.specs.Prelude.{◌≡◌, IfSome};
+ghost use Rattle.std.specs.Prelude.{◌≡◌, [], ◌∷◌, IfSome};
 ghost use Rattle.mappings.specs.declared.map.Mapping.{Mapping};
 ghost use Rattle.mappings.specs.Map.{times};
 ghost use Rattle.sessions.specs.Listing.{listing};
@@ -8,14 +8,16 @@ ghost use Rattle.sessions.specs.Sound.{AreSound};
 ghost use Rattle.hairpin.specs.Tallies.{tally};
 
 use hairpin::{Cause, Plan, Translations, hairpin_leg, in_leg, out_leg};
-use packet::{Bounds, Endpoint, Fault, Flags, Iface, Prefix, Proto, RouteFault, View};
+use packet::{Bounds, Endpoint, Fault, Filtering, Flags, Iface, Prefix, Proto, RouteFault, View};
 use sessions::{Change, Opener, Session, Table};
 use std::alloc::{AllocError, Global};
 use std::process::Abort;
 use std::test::*;
 use verdict::Rules;
 
-const EXTERNAL: u32 = 0xcb00_7101;
+const FIRST: u32 = 0xcb00_7101;
+
+const SECOND: u32 = 0xcb00_7102;
 
 const HOST: Endpoint = Endpoint {
     addr: 0xc0a8_0102,
@@ -33,7 +35,18 @@ const REMOTE: Endpoint = Endpoint {
 };
 
 const OUTSIDE: Endpoint = Endpoint {
-    addr: EXTERNAL,
+    addr: FIRST,
+    port: 5000,
+};
+
+// The next of its parity, and the same port of the other address.
+const NEXT: Endpoint = Endpoint {
+    addr: FIRST,
+    port: 5002,
+};
+
+const OTHER: Endpoint = Endpoint {
+    addr: SECOND,
     port: 5000,
 };
 
@@ -47,9 +60,25 @@ const SESSION: Session = Session {
     last: 0,
 };
 
-// The endpoint that is free for a host that asks for port 5000.
-fn assert_chooses(rt: &impl Abort, translations: &Translations, proto: Proto, expected: Endpoint) {
-    assert_eq!(rt; translations.choose(proto, 5000), Some(expected));
+// The endpoint for a host that masquerades its port 5000.
+fn assert_chooses(
+    rt: &impl Abort,
+    translations: &Translations,
+    proto: Proto,
+    addr: u32,
+    expected: Endpoint,
+) {
+    let inside = Endpoint { addr, port: 5000 };
+    assert_eq!(rt; translations.choose_for(proto, inside), Some(expected));
+}
+
+// The endpoint for a host that sends from its port 5000 to an endpoint at the second address.
+fn assert_near(rt: &impl Abort, translations: &Translations, addr: u32, expected: Endpoint)
+    requires { translations.now.external ≡ 3405803777 ∷ 3405803778 ∷ [] }
+{
+    let inside = Endpoint { addr, port: 5000 };
+    let chosen = translations.choose_near(Proto::Udp, inside, SECOND);
+    assert_eq!(rt; chosen, Some(expected));
 }
 
 // What stands for this inside endpoint by UDP.
@@ -75,31 +104,44 @@ fn assert_inside(
 // Where nothing is held yet.
 fn comes_and_goes(rt: &impl Abort, translations: &mut Translations) -> Result<(), AllocError>
     requires none { (p : Mapping) → times translations.old.mappings p ≡ 0 }
-    requires external { translations.old.external ≡ 3405803777 }
+    requires external { translations.old.external ≡ 3405803777 ∷ 3405803778 ∷ [] }
 {
     translations.reserve()?;
-    assert_chooses(rt, translations, Proto::Udp, OUTSIDE);
+    assert_free(rt, translations);
     translations.hold(&SESSION);
+    assert_mapped(rt, translations);
+    translations.release(&SESSION);
+    assert_free(rt, translations);
+    Ok(())
+}
+
+// No mapping is held.
+fn assert_free(rt: &impl Abort, translations: &Translations)
+    requires { translations.now.external ≡ 3405803777 ∷ 3405803778 ∷ [] }
+{
+    assert_outside(rt, translations, HOST, None);
+    assert_inside(rt, translations, Proto::Udp, None);
+    assert_chooses(rt, translations, Proto::Udp, HOST.addr, OUTSIDE);
+    assert_near(rt, translations, HOST.addr, OTHER);
+}
+
+// The host has its mapping at the first address by UDP, and keeps that address.
+fn assert_mapped(rt: &impl Abort, translations: &Translations)
+    requires { translations.now.external ≡ 3405803777 ∷ 3405803778 ∷ [] }
+{
     assert_outside(rt, translations, HOST, Some(OUTSIDE));
     assert_inside(rt, translations, Proto::Udp, Some(HOST));
     assert_outside(rt, translations, NEIGHBOUR, None);
     assert_inside(rt, translations, Proto::Tcp, None);
-    let next = Endpoint {
-        addr: EXTERNAL,
-        port: 5002,
-    };
-    assert_chooses(rt, translations, Proto::Udp, next);
-    assert_chooses(rt, translations, Proto::Tcp, OUTSIDE);
-    translations.release(&SESSION);
-    assert_outside(rt, translations, HOST, None);
-    assert_inside(rt, translations, Proto::Udp, None);
-    assert_chooses(rt, translations, Proto::Udp, OUTSIDE);
-    Ok(())
+    assert_chooses(rt, translations, Proto::Udp, NEIGHBOUR.addr, NEXT);
+    assert_chooses(rt, translations, Proto::Tcp, HOST.addr, OUTSIDE);
+    assert_near(rt, translations, HOST.addr, NEXT);
+    assert_near(rt, translations, NEIGHBOUR.addr, OTHER);
 }
 
 #[test]
 fn a_mapping_comes_and_goes(rt: HostRuntime) -> Result<(), AllocError> {
-    let mut translations = Translations::new(rt.alloc(), EXTERNAL)?;
+    let mut translations = Translations::new(rt.alloc(), &[FIRST, SECOND])?;
     let gone = comes_and_goes(&rt, &mut translations);
     drop(translations);
     gone
@@ -135,7 +177,7 @@ fn causes_are_numbered(rt: HostRuntime) {
     }
 }
 
-// Before any session begins and any rules load; 192.168.0.0/16 is inside.
+// Before any session begins and any rules load; 192.168.0.0/16 is inside, and there are two external addresses.
 #[derive(Drop)]
 struct Empty {
     bounds: Bounds,
@@ -152,10 +194,11 @@ fn bounds(alloc: Global) -> Option<Bounds> {
     let lan = String::from_str(alloc, "lan").ok()?;
     let wan = String::from_str(alloc, "wan").ok()?;
     let inside = Vec::from_slice(alloc, &[prefix]).ok()?;
-    Bounds::new(lan, wan, inside, EXTERNAL).ok()
+    let external = Vec::from_slice(alloc, &[FIRST, SECOND]).ok()?;
+    Bounds::new(lan, wan, inside, external, Filtering::Address).ok()
 }
 
-// The two parts that agree on the external address.
+// The two parts that agree on the external addresses.
 fn addressed(alloc: Global) -> Option<(Bounds, Translations)>
     ensures external { IfSome result (λ p. p.1.external ≡ p.0.external) }
     ensures none { IfSome result (λ p. (m : Mapping) → times p.1.mappings m ≡ 0) }
@@ -237,8 +280,8 @@ fn out_once(rt: HostRuntime) {
     assert!(rt; way_out(rt.alloc()) == Some(Ok(untranslated)));
 }
 
-// Where a packet of the remote endpoint to the external address goes.
-fn way_in(alloc: Global) -> Option<Result<Plan, Cause>> {
+// Where a packet of the remote endpoint to this external address goes.
+fn way_in(alloc: Global, addr: u32) -> Option<Result<Plan, Cause>> {
     let empty = start(alloc)?;
     let Empty {
         bounds,
@@ -246,18 +289,18 @@ fn way_in(alloc: Global) -> Option<Result<Plan, Cause>> {
         table,
         translations,
     } = &empty;
-    let outside = Endpoint {
-        addr: bounds.external(),
-        port: 6000,
+    let back = packet(REMOTE, Endpoint { addr, port: 6000 });
+    let plan = if bounds.is_external(addr) {
+        Some(in_leg(bounds, rules, table, translations, &back, 1000))
+    } else {
+        None
     };
-    let back = packet(REMOTE, outside);
-    let plan = in_leg(bounds, rules, table, translations, &back, 1000);
     drop(empty);
-    Some(plan)
+    plan
 }
 
-// Where a packet of the host to the external address goes.
-fn way_round(alloc: Global) -> Option<Result<Plan, Cause>> {
+// Where a packet of the host to this external address goes.
+fn way_round(alloc: Global, addr: u32) -> Option<Result<Plan, Cause>> {
     let empty = start(alloc)?;
     let Empty {
         bounds,
@@ -265,12 +308,8 @@ fn way_round(alloc: Global) -> Option<Result<Plan, Cause>> {
         table,
         translations,
     } = &empty;
-    let outside = Endpoint {
-        addr: bounds.external(),
-        port: 6000,
-    };
-    let round = packet(HOST, outside);
-    let plan = if bounds.is_inside(HOST.addr) {
+    let round = packet(HOST, Endpoint { addr, port: 6000 });
+    let plan = if bounds.is_inside(HOST.addr) && bounds.is_external(addr) {
         Some(hairpin_leg(bounds, rules, table, translations, &round, 1000))
     } else {
         None
@@ -279,9 +318,12 @@ fn way_round(alloc: Global) -> Option<Result<Plan, Cause>> {
     plan
 }
 
+// That there is no mapping is told before whom one would let in.
 #[test]
 fn in_and_round_once(rt: HostRuntime) {
     let no_mapping = Some(Err(Cause::NoMapping));
-    assert!(rt; way_in(rt.alloc()) == no_mapping);
-    assert!(rt; way_round(rt.alloc()) == no_mapping);
+    for addr in &[FIRST, SECOND] {
+        assert!(rt; way_in(rt.alloc(), *addr) == no_mapping);
+        assert!(rt; way_round(rt.alloc(), *addr) == no_mapping);
+    }
 }

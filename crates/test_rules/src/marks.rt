@@ -188,8 +188,8 @@ const RULES: [Row<'static>; 5] = [
         text: "table ip n { chain p { type nat hook postrouting priority 100; snat to 203.0.113.2; }; }",
         line: "line 1: table ip n { chain p { type nat hook postrouting priority 100; snat to 203.0.113.2; }; }",
         mark: "                                                                               ^",
-        found: "`203.0.113.2`, which isn't the external address",
-        expected: "the external address of the gateway",
+        found: "`203.0.113.2`, which isn't an external address",
+        expected: "an external address of the gateway",
     },
     Row {
         text: "table ip n {\nchain p {\ntype nat hook prerouting priority -100;\ndnat to 10.0.0.1; }; }",

@@ -1,13 +1,13 @@
 //! Configurations, and the rules of a text.
-use packet::{Bounds, Prefix};
+use packet::{Bounds, Filtering, Prefix};
 use rulesets::load;
 use rulesyntax::parse;
 use std::alloc::Global;
 use std::test::Fail;
 use verdict::Rules;
 
-/// The outside address of each configuration.
-pub const EXTERNAL: u32 = 0xcb00_7101;
+/// The outside addresses of each configuration.
+pub const EXTERNAL: [u32; 2] = [0xcb00_7101, 0xcb00_7103];
 
 /// A configuration of these two interfaces, with one prefix inside.
 ///
@@ -18,7 +18,9 @@ pub fn bounds(alloc: Global, lan: &str, wan: &str, inside: Prefix) -> Result<Bou
     let inside = Vec::from_slice(alloc, &[inside])?;
     let lan = String::from_str(alloc, lan)?;
     let wan = String::from_str(alloc, wan)?;
-    Ok(Bounds::new(lan, wan, inside, EXTERNAL)?)
+    let external = Vec::from_slice(alloc, &EXTERNAL)?;
+    let filtering = Filtering::Endpoint;
+    Ok(Bounds::new(lan, wan, inside, external, filtering)?)
 }
 
 /// Rules, and the configuration that they were loaded for. They lie behind a box, so that a test lets them go by one

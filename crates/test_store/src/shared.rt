@@ -1,14 +1,21 @@
 //! Bytes of files, and what they stand for.
 
 use durable::Flow;
-use packet::{Bounds, Endpoint, Prefix, Proto};
+use packet::{Bounds, Endpoint, Filtering, Prefix, Proto};
 use sessions::{Opener, Session};
 use std::alloc::{AllocError, Global};
 use std::test::Fail;
 
-/// A file that was just made: gate, mark, generation 1, `lan`, `wan`, 192.168.0.0/16, 203.0.113.1, no text, no session,
-/// and a closed gate.
-pub const FRESH: [u8; 40] = [
+/// A file that was just made: gate, mark, generation 1, `lan`, `wan`, 192.168.0.0/16, one address, 203.0.113.1,
+/// filtering by endpoint, no text, no session, and a closed gate.
+pub const FRESH: [u8; 42] = [
+    0x01, 0x4e, 0x47, 0x57, 0x32, 0x00, 0x00, 0x00, 0x00, 0x00, 0x00, 0x00, 0x01, 0x03, 0x6c, 0x61,
+    0x6e, 0x03, 0x77, 0x61, 0x6e, 0x01, 0xc0, 0xa8, 0x00, 0x00, 0x10, 0x01, 0xcb, 0x00, 0x71, 0x01,
+    0x00, 0x00, 0x00, 0x00, 0x00, 0x00, 0x00, 0x00, 0x00, 0x00,
+];
+
+/// The same file as the first version had it.
+pub const FIRST: [u8; 40] = [
     0x01, 0x4e, 0x47, 0x57, 0x31, 0x00, 0x00, 0x00, 0x00, 0x00, 0x00, 0x00, 0x01, 0x03, 0x6c, 0x61,
     0x6e, 0x03, 0x77, 0x61, 0x6e, 0x01, 0xc0, 0xa8, 0x00, 0x00, 0x10, 0xcb, 0x00, 0x71, 0x01, 0x00,
     0x00, 0x00, 0x00, 0x00, 0x00, 0x00, 0x00, 0x00,
@@ -71,7 +78,9 @@ pub fn bounds(alloc: Global, wan: &str) -> Result<Bounds, Fail> {
         len: 16,
     };
     let inside = vec![in alloc; prefix]?;
-    Ok(Bounds::new(lan, wan, inside, 0xcb00_7101)?)
+    let external = vec![in alloc; 0xcb00_7101]?;
+    let filtering = Filtering::Endpoint;
+    Ok(Bounds::new(lan, wan, inside, external, filtering)?)
 }
 
 /// These bytes, one behind the other.

@@ -1,6 +1,6 @@
 //! Texts with what is answered for them, worked from the rules of the format by hand.
 
-use packet::{Bounds, Prefix};
+use packet::{Bounds, Filtering, Prefix};
 use ruletext::read;
 use ruletree::LoadFault;
 use std::alloc::{AllocError, Global};
@@ -10,7 +10,7 @@ use std::test::*;
 // A text, and what is answered for it.
 pub(crate) type Row = (&'static str, &'static str);
 
-// 192.168.0.0/16 inside, 203.0.113.1 outside.
+// 192.168.0.0/16 inside, 203.0.113.1 and 203.0.113.3 outside.
 pub(crate) fn bounds(alloc: Global) -> Result<Box<Bounds>, AllocError> {
     let lan = String::from_str(alloc, "lan")?;
     let wan = String::from_str(alloc, "wan")?;
@@ -19,7 +19,8 @@ pub(crate) fn bounds(alloc: Global) -> Result<Box<Bounds>, AllocError> {
         len: 16,
     };
     let inside = vec![in alloc; prefix]?;
-    match Bounds::new(lan, wan, inside, 0xcb00_7101) {
+    let external = vec![in alloc; 0xcb00_7101, 0xcb00_7103]?;
+    match Bounds::new(lan, wan, inside, external, Filtering::Endpoint) {
         Ok(bounds) => Ok(Box::new(alloc, bounds)?),
         Err(_) => Err(AllocError),
     }
@@ -290,7 +291,10 @@ const STATES_AND_MAPS: [Row; 40] = [
     ("dnat to 192.168.0.2:0", "line 8: syntax"),
     ("dnat to 192.167.255.255", "line 8: not-inside"),
     ("dnat to 203.0.113.1", "line 8: not-inside"),
+    ("dnat to 203.0.113.3", "line 8: not-inside"),
     ("snat to 203.0.113.1", "ok"),
+    ("snat to 203.0.113.3", "ok"),
+    ("snat to 203.0.113.2", "line 8: not-external"),
     ("snat to\n192.168.0.2", "line 8: syntax"),
     ("snat to 192.168.0.2", "line 8: not-external"),
     ("masquerade", "ok"),
