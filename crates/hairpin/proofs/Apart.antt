@@ -1,27 +1,30 @@
 -- Sessions that are sound, and what may join them.
-use Rattle.std.proofs.Common.{◌≡◌, ◌≢◌, ◌⊎◌, ℕ, zero, suc, ◌<◌, List, [], ◌∷◌, Option, Some, None, is_some, Result, Ok, Err, Bool, true, false, cond, not, ◌&&◌, refl, sym, ap, ◌∙◌, subst, inl, inr, arith}
+use Rattle.std.proofs.Common.{◌≡◌, ◌≢◌, ◌⊎◌, ℕ, zero, suc, ◌<◌, List, [], ◌∷◌, Option, Some, None, is_some, Result, Ok, Err, Bool, true, false, cond, not, ◌&&◌, if◌then◌else◌, Contains, refl, sym, ap, ◌∙◌, subst, inl, inr, arith}
 use Rattle.std.specs.Prelude.{find}
-use Rattle.std.specs.Option.{option_map}
+use Rattle.std.specs.Option.{ok_or, option_map}
 use Rattle.std.proofs.lemmas.Bool.{cases_Bool, and_parts, and_from, false≢true, not-true}
 use Rattle.std.proofs.lemmas.Bool.Decides.{nat_tests}
 use Rattle.std.proofs.lemmas.Option.{none-some, same_Some}
 use Rattle.std.proofs.lemmas.Result.{IfOk-at_ok}
 use Rattle.packet.specs.Config.{Config, is_config, is_inside}
 use Rattle.packet.specs.Same.{same_proto, same_endpoint}
+use Rattle.packet.specs.declared.bounds.Filtering.{Filtering}
 use Rattle.packet.specs.declared.endpoint.Endpoint.{Endpoint}
 use Rattle.packet.specs.declared.endpoint.Proto.{Proto}
+use Rattle.packet.proofs.Configs.{is_checked}
+use Rattle.packet.proofs.Pools.{listed-is}
 use Rattle.packet.proofs.SameLemmas.{same_proto-true, same_endpoint-true, same_endpoint-itself}
 use Rattle.portpick.specs.Choice.{port_choice, first_free, size_of_class, step as next}
+use Rattle.portpick.specs.Pool.{endpoint}
 use Rattle.sessions.specs.Listing.{In, has_inside}
 use Rattle.sessions.specs.Table.{Clash}
 use Rattle.sessions.specs.declared.session.Session.{Session}
 use Rattle.sessions.proofs.Clashing.{apart-from, differ, same_endpoint-from, same_proto-from}
 use Rattle.sessions.proofs.Puts.{find-some, has_inside-from}
-use Rattle.hairpin.specs.Legs.{is_at, is_taken, maps_inside, maps_outside, or_no_port}
+use Rattle.hairpin.specs.Legs.{by_mapping, is_at, is_taken, lets_in, maps_inside, maps_outside, or_no_port}
 use Rattle.sessions.specs.Sound.{IsPlaced}
-use Rattle.hairpin.specs.Translations.{endpoint}
 use Rattle.hairpin.specs.declared.cause.Cause.{Cause}
-use Rattle.hairpin.specs.declared.cause.Cause.TheVariants.{NoPort}
+use Rattle.hairpin.specs.declared.cause.Cause.TheVariants.{Filtered, NoMapping, NoPort}
 
 pub cases_endpoint : (e f : Endpoint) → (e ≡ f) ⊎ (e ≢ f)
 cases_endpoint e f = elim (cases_Bool (same_endpoint e f)) [
@@ -95,16 +98,13 @@ taken-by sessions proto addr port h = elim (some_or_none (find (is_at proto (end
   | inr none ↦ absurd (is_some-None (find (is_at proto (endpoint addr port)) sessions) none h)
 ]
 
--- the external address isn't inside
-pub outside_away : (config : Config) → is_config config ≡ true → is_inside config config.external ≡ true → ⊥
-unfolding is_config
-outside_away config h inside =
-    let a = and_parts _ (not (is_inside config config.external)) h in
-    false≢true (sym (not-true _ a.1) ∙ inside)
+-- an external address isn't inside
+pub outside_away : (config : Config) → is_config config ≡ true → (addr : ℕ) → Contains config.external addr → is_inside config addr ≡ true → ⊥
+outside_away config is_one addr listed inside = false≢true (sym ((is_checked config is_one).outside addr ((listed-is config.external addr).1 listed)) ∙ inside)
 
--- a session at the external address is translated
-pub translated_at : (config : Config) (s : Session) → is_config config ≡ true → IsPlaced config s → s.outside.addr ≡ config.external → s.inside ≢ s.outside
-translated_at config s is_one placed at e = outside_away config is_one (subst (λ a. is_inside config a ≡ true) (ap (λ (x : Endpoint). x.addr) e ∙ at) placed.inside)
+-- a session at an external address is translated
+pub translated_at : (config : Config) (s : Session) → is_config config ≡ true → IsPlaced config s → Contains config.external s.outside.addr → s.inside ≢ s.outside
+translated_at config s is_one placed at e = outside_away config is_one s.outside.addr at (subst (λ (x : Endpoint). is_inside config x.addr ≡ true) e placed.inside)
 
 module _ (sessions : List Session) (apart : (s t : Session) → In s sessions → In t sessions → s ≢ t → ¬ Clash s t) where
   -- of two that are translated, the inside endpoints are one exactly where the outside endpoints are
@@ -190,6 +190,20 @@ same_Ok a b e = IfOk-at_ok (λ x. a ≡ x) e refl
 
 pub err-ok : {A : Type 0} (cause : Cause) (a : A) → ◌≡◌ {A = Result A Cause} (Err cause) (Ok a) → ⊥
 err-ok cause a e = IfOk-at_ok (λ _. ⊥) e tt
+
+-- a choice, or the cause that there is none
+pub or_no_port-is : (o : Option Endpoint) → ok_or o NoPort ≡ or_no_port o
+or_no_port-is (Some outside) = refl
+or_no_port-is None = refl
+
+-- what a mapping gives is the inside endpoint of the session that is found
+pub some-mapping : (filter : Filtering) (sessions : List Session) (remote : ℕ) (o : Option Session) (e : Endpoint) → by_mapping filter sessions remote o ≡ Ok e
+    → (m : Session) × (o ≡ Some m) × (m.inside ≡ e)
+some-mapping filter sessions remote None e h = absurd (err-ok NoMapping e h)
+some-mapping filter sessions remote (Some m) e h = elim (cases_Bool (lets_in filter sessions m remote)) [
+  | inl is ↦ (m, refl, same_Ok m.inside e (sym (ap (λ b. if b then Ok m.inside else Err Filtered) is) ∙ h))
+  | inr isnt ↦ absurd (err-ok Filtered e (sym (ap (λ b. if b then Ok m.inside else Err Filtered) isnt) ∙ h))
+]
 
 pub port-ok : (o : Option Endpoint) (outside : Endpoint) → or_no_port o ≡ Ok outside → o ≡ Some outside
 port-ok (Some x) outside e = ap Some (same_Ok x outside e)

@@ -1,8 +1,7 @@
 -- Both sessions of a packet that hairpins: what joins the sessions, and what is found among them then.
-use Rattle.std.proofs.Common.{◌≡◌, ℕ, ◌+◌, ◌<◌, ◌≤◌, List, [], ◌∷◌, length, Option, Some, None, is_some, Result, Ok, Err, Bool, true, false, cond, not, nat_lt, if◌then◌else◌, refl, sym, ap, ◌∙◌, subst, inl, inr, arith}
+use Rattle.std.proofs.Common.{◌≡◌, ℕ, ◌+◌, ◌<◌, ◌≤◌, List, [], ◌∷◌, length, Contains, Option, Some, None, is_some, Result, Ok, Err, Bool, true, false, cond, not, nat_lt, if◌then◌else◌, refl, sym, ap, ◌∙◌, subst, inl, inr, arith}
 use Rattle.std.specs.Prelude.{find}
 use Rattle.std.specs.List.{filter}
-use Rattle.std.specs.Option.{option_map}
 use Rattle.std.proofs.lemmas.Bool.{cases_Bool, cases_lt, false≢true, lt-ltb, not-false, not-true, false_from_ne_true}
 use Rattle.std.proofs.lemmas.Option.{none-some, same_Some}
 use Rattle.packet.specs.Config.{Config, is_config, is_inside}
@@ -11,7 +10,7 @@ use Rattle.packet.specs.declared.endpoint.Endpoint.{Endpoint}
 use Rattle.packet.specs.declared.endpoint.Flags.{Flags}
 use Rattle.packet.specs.declared.endpoint.Iface.TheVariants.{Lan}
 use Rattle.packet.specs.declared.view.View.{View}
-use Rattle.portpick.specs.Choice.{port_choice}
+use Rattle.portpick.specs.Pool.{near_choice}
 use Rattle.ruletree.specs.declared.tree.Spelled.{Spelled}
 use Rattle.sessions.specs.Life.{restarts, shown}
 use Rattle.sessions.specs.Listing.{In, Rises, below, clashes, has_inside, has_outside, insert, put, same_flow}
@@ -28,13 +27,13 @@ use Rattle.verdict.specs.Hooks.{forward_verdict, prerouting_verdict}
 use Rattle.verdict.specs.declared.facts.State.TheVariants.{New}
 use Rattle.verdict.specs.declared.hook.Destination.{Destination}
 use Rattle.verdict.specs.declared.hook.Destination.TheVariants as destination
-use Rattle.hairpin.specs.Legs.{Passage, begun_second, counted, facts_of, first_by, first_state, forwarded, hairpin_leg, inside_by_rules, inside_far, is_taken, maps_inside, maps_outside, needs_session, new_session, or_no_mapping, outside_near, passed_by, second, second_by, then_with, through}
+use Rattle.hairpin.specs.Legs.{Passage, begun_second, counted, facts_of, first_by, first_state, forwarded, hairpin_leg, inside_by_rules, inside_far, is_taken, maps_inside, maps_outside, needs_session, new_session, outside_near, passed_by, second, second_by, then_with, through, uses_in}
 use Rattle.hairpin.specs.KeepBounds.{KeepBounds}
 use Rattle.sessions.specs.Sound.{AreSound}
-use Rattle.hairpin.specs.Translations.{endpoint}
 use Rattle.hairpin.specs.declared.cause.Cause.{Cause}
-use Rattle.hairpin.specs.declared.cause.Cause.TheVariants.{Clash, NoMapping, NoSession, Rule, SelfMapped, TableFull}
-use Rattle.hairpin.proofs.Apart.{err-ok, find-In, port-ok, same_Ok}
+use Rattle.hairpin.specs.declared.cause.Cause.TheVariants.{Clash, NoSession, Rule, SelfMapped, TableFull}
+use Rattle.hairpin.proofs.Apart.{err-ok, find-In, port-ok, same_Ok, some-mapping}
+use Rattle.hairpin.proofs.Choosing.{near-given}
 use Rattle.hairpin.proofs.Clashing.{no_clash}
 use Rattle.hairpin.proofs.Opening.{Opened, opened_chosen, opened_mapped}
 use Rattle.hairpin.proofs.Soundness.{IsFine, Joins, filter-one, fine-filtered, other-flow, passed-joins, put-known, put-more, put-sound, two-join}
@@ -102,10 +101,6 @@ unless : {A : Type 0} (b : Bool) (cause : Cause) (x y : A) → (if b then Err ca
 unless true cause x y e = absurd (err-ok cause y e)
 unless false cause x y e = (refl, same_Ok x y e)
 
-some-mapping : (o : Option Session) (e : Endpoint) → or_no_mapping o ≡ Ok e → (m : Session) × (o ≡ Some m) × (m.inside ≡ e)
-some-mapping (Some m) e h = (m, refl, same_Ok m.inside e h)
-some-mapping None e h = absurd (err-ok NoMapping e h)
-
 pub gone : (o : Option Session) → is_some o ≡ false → o ≡ None
 gone (Some s) h = absurd (false≢true (sym h))
 gone None h = refl
@@ -127,16 +122,18 @@ pub record IsFirst (config : Config) (sessions : List Session) (view : View) (no
   pub goes : (s : Session) → found ≡ Some s → passed_by s Inside view.flags now ≡ first
 
 module _ (config : Config) (rules : Spelled) (sessions : List Session) (now : ℕ) (view : View) (is_one : is_config config ≡ true) (sound : AreSound config sessions)
-    (inside : is_inside config view.src.addr ≡ true) (at : view.dst.addr ≡ config.external) (src_port : 0 < view.src.port) (dst_port : 0 < view.dst.port) where
+    (inside : is_inside config view.src.addr ≡ true) (at : Contains config.external view.dst.addr) (src_port : 0 < view.src.port) (dst_port : 0 < view.dst.port) where
   abbrev near_of : Endpoint → Session
   near_of outside = new_session config rules sessions now view Inside view.src outside view.dst
 
   opened_by : (found : Option Session) → find (maps_inside view.proto view.src) sessions ≡ found → (outside : Endpoint) → outside_near config rules sessions now view found ≡ Ok outside
       → find (has_inside view.proto view.src view.dst) sessions ≡ None → Opened config sessions (near_of outside)
   opened_by (Some m) e outside h none = opened_mapped config is_one sessions sound (near_of outside) none m e (same_Ok m.outside outside h)
-  opened_by None e outside h none = opened_chosen config is_one sessions sound (near_of outside) none src_port e
-      (subst (λ a. option_map (endpoint a) (port_choice (is_taken sessions view.proto a) view.src.port) ≡ Some outside) at
-      (port-ok (option_map (endpoint view.dst.addr) (port_choice (is_taken sessions view.proto view.dst.addr) view.src.port)) outside h))
+  opened_by None e outside h none =
+      let uses = uses_in sessions view.src.addr in
+      let taken = is_taken sessions view.proto in
+      let given = near-given uses taken config.external view.src.port view.dst.addr outside at (port-ok (near_choice uses taken config.external view.dst.addr view.src.port) outside h) in
+      opened_chosen config is_one sessions sound (near_of outside) none given.0 given.1 src_port e given.2
 
   new-first : (outside : Endpoint) → find (has_inside view.proto view.src view.dst) sessions ≡ None → Opened config sessions (near_of outside) → IsFirst config sessions view now None (near_of outside)
   new-first outside none opened =
@@ -190,7 +187,7 @@ pub record IsSecond (config : Config) (rules : Spelled) (held : List Session) (v
   pub begins : found ≡ None → ((s : Session) → In s held → ¬ Clashing t s) × (t.seen ≡ 0) × (t.last ≡ now) × (t.outside ≡ view.dst)
   pub goes : (s : Session) → found ≡ Some s → passed_by s Remote view.flags now ≡ t
 
-module _ (config : Config) (rules : Spelled) (sessions : List Session) (now : ℕ) (view : View) (at : view.dst.addr ≡ config.external) (dst_port : 0 < view.dst.port)
+module _ (config : Config) (rules : Spelled) (sessions : List Session) (now : ℕ) (view : View) (at : Contains config.external view.dst.addr) (dst_port : 0 < view.dst.port)
     (first : Session) (held : List Session) (rises : Rises held) (in_first : In first held) where
   abbrev far_of : Endpoint → Session
   far_of inside = new_session config rules sessions now view Remote inside view.dst first.outside
@@ -200,9 +197,9 @@ module _ (config : Config) (rules : Spelled) (sessions : List Session) (now : �
 
   -- the inside endpoint of a new session is inside
   far-placed : AreSound config held → KeepBounds config rules → (inside : Endpoint) → (d : Destination) → decided ≡ d
-      → inside_by_rules config rules sessions now view (find (maps_outside view.proto view.dst) held) d ≡ Ok inside → (is_inside config inside.addr ≡ true) × (0 < inside.port)
+      → inside_by_rules config rules sessions now view held first.outside.addr (find (maps_outside view.proto view.dst) held) d ≡ Ok inside → (is_inside config inside.addr ≡ true) × (0 < inside.port)
   far-placed sound bounds inside destination.None e h =
-      let m = some-mapping (find (maps_outside view.proto view.dst) held) inside h in
+      let m = some-mapping config.filtering held first.outside.addr (find (maps_outside view.proto view.dst) held) inside h in
       let is = find-In (maps_outside view.proto view.dst) held m.0 m.1 in
       let placed = sound.placed m.0 is.0 in
       subst (λ (x : Endpoint). (is_inside config x.addr ≡ true) × (0 < x.port)) m.2 (placed.inside, placed.inside_port)
@@ -266,7 +263,7 @@ module _ (config : Config) (rules : Spelled) (sessions : List Session) (now : �
 -- ---- what both legs come to
 
 module _ (config : Config) (rules : Spelled) (sessions : List Session) (now : ℕ) (view : View) (is_one : is_config config ≡ true) (sound : AreSound config sessions) (bounds : KeepBounds config rules)
-    (inside : is_inside config view.src.addr ≡ true) (at : view.dst.addr ≡ config.external) (src_port : 0 < view.src.port) (dst_port : 0 < view.dst.port) where
+    (inside : is_inside config view.src.addr ≡ true) (at : Contains config.external view.dst.addr) (src_port : 0 < view.src.port) (dst_port : 0 < view.dst.port) where
   abbrev found_near : Option Session
   found_near = find (has_inside view.proto view.src view.dst) sessions
 

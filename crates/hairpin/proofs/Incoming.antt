@@ -1,5 +1,5 @@
 -- What a packet from a remote endpoint comes to, from what is looked up, and that it may join the sessions.
-use Rattle.std.proofs.Common.{◌≡◌, ◌≢◌, ◌⊎◌, ℕ, ◌+◌, ◌<◌, ◌≤◌, List, length, Option, Some, None, Result, Ok, Err, count_by, is_some, true, false, nat_lt, if◌then◌else◌, refl, sym, ap, ◌∙◌, subst, inl, inr, arith}
+use Rattle.std.proofs.Common.{◌≡◌, ◌≢◌, ◌⊎◌, ℕ, ◌+◌, ◌<◌, ◌≤◌, List, length, Contains, Option, Some, None, Result, Ok, Err, count_by, is_some, true, false, nat_lt, if◌then◌else◌, refl, sym, ap, ◌∙◌, subst, inl, inr, arith}
 use Rattle.std.specs.Prelude.{find}
 use Rattle.std.proofs.lemmas.Bool.{cases_Bool, false≢true, le-ltb, lt-ltb, ltb-false}
 use Rattle.packet.specs.Config.{Config, is_config, is_inside}
@@ -20,32 +20,32 @@ use Rattle.verdict.specs.declared.hook.Destination.{Destination}
 use Rattle.verdict.specs.declared.hook.Destination.TheVariants as destination
 use Rattle.verdict.specs.declared.hook.Forwarding.{Forwarding}
 use Rattle.verdict.specs.declared.hook.Forwarding.TheVariants as forwarding
-use Rattle.hairpin.specs.Legs.{Passage, begun_in, counted, facts_of, in_by, in_leg, inside_by_rules, inside_for, inward, maps_outside, needs_session, new_session, or_no_mapping, passed_by, connection_of, then_with, unless_dropped}
+use Rattle.hairpin.specs.Legs.{Passage, begun_in, by_mapping, counted, facts_of, in_by, in_leg, inside_by_rules, inside_for, inward, maps_outside, needs_session, new_session, passed_by, connection_of, then_with, unless_dropped}
 use Rattle.hairpin.specs.Plans.{IsPlanOf, MayBegin}
 use Rattle.hairpin.specs.KeepBounds.{KeepBounds}
 use Rattle.sessions.specs.Sound.{AreSound}
 use Rattle.hairpin.specs.declared.cause.Cause.{Cause}
-use Rattle.hairpin.specs.declared.cause.Cause.TheVariants.{Clash, NoMapping, NoSession, Rule, TableFull}
+use Rattle.hairpin.specs.declared.cause.Cause.TheVariants.{Clash, NoSession, Rule, TableFull}
 use Rattle.hairpin.specs.declared.plan.Plan.{Plan}
-use Rattle.hairpin.proofs.Apart.{err-ok, find-In, same_Ok, some_or_none}
+use Rattle.hairpin.proofs.Apart.{err-ok, find-In, same_Ok, some-mapping, some_or_none}
 use Rattle.hairpin.proofs.Clashing.{any_found, no_clash, none_found}
 use Rattle.hairpin.proofs.Soundness.{IsFine, fine-filtered, one-joins, passed-joins, put-more, put-sound}
 
 module _ (config : Config) (rules : Spelled) (sessions : List Session) (now : ℕ) (view : View) where
+  -- what the rules and the mapping of the destination give
+  abbrev given : Destination → Result Endpoint Cause
+  given verdict = inside_by_rules config rules sessions now view sessions view.src.addr (find (maps_outside view.proto view.dst) sessions) verdict
+
   -- the inside endpoint, where no rule translates
   pub inside-mapped : is_inside config view.dst.addr ≡ false → prerouting_verdict config (facts_of config rules sessions now view Wan None view.src view.dst New) rules ≡ destination.None
-      → (o : Option Session) → find (maps_outside view.proto view.dst) sessions ≡ o → inside_for config rules sessions now view ≡ or_no_mapping o
-  inside-mapped far asked o found =
-      let m = find (maps_outside view.proto view.dst) sessions in
+      → inside_for config rules sessions now view ≡ by_mapping config.filtering sessions view.src.addr (find (maps_outside view.proto view.dst) sessions)
+  inside-mapped far asked =
       let verdict = prerouting_verdict config (facts_of config rules sessions now view Wan None view.src view.dst New) rules in
-      ap (λ b. if b then Ok view.dst else inside_by_rules config rules sessions now view m verdict) far
-      ∙ ap (inside_by_rules config rules sessions now view m) asked
-      ∙ ap or_no_mapping found
+      ap (λ b. if b then Ok view.dst else given verdict) far ∙ ap given asked
 
   pub inside-near : is_inside config view.dst.addr ≡ true → inside_for config rules sessions now view ≡ Ok view.dst
   inside-near near =
-      ap (λ b. if b then Ok view.dst else inside_by_rules config rules sessions now view (find (maps_outside view.proto view.dst) sessions)
-      (prerouting_verdict config (facts_of config rules sessions now view Wan None view.src view.dst New) rules)) near
+      ap (λ b. if b then Ok view.dst else given (prerouting_verdict config (facts_of config rules sessions now view Wan None view.src view.dst New) rules)) near
 
   pub is-near : (inside : Endpoint) → is_inside config view.dst.addr ≡ true → Ok inside ≡ inside_for config rules sessions now view → inside ≡ view.dst
   is-near inside near is = same_Ok inside view.dst (is ∙ inside-near near)
@@ -100,7 +100,7 @@ module _ (config : Config) (rules : Spelled) (held : List (Option Session)) (now
         let room : nat_lt 65536 (length (put begun (listing held))) ≡ false = le-ltb 65536 (length (put begun (listing held))) (omega (arith, counts, below)) in
         asked ∙ ap (λ f. unless_dropped f behind) is ∙ ap (λ b. if b then Err TableFull else Ok (inward begun)) room
 
-    pub begun-plan : count_by is_some held ≢ 65536 → (inside ≡ view.dst) ⊎ ((view.dst.addr ≡ config.external) × (0 < view.dst.port))
+    pub begun-plan : count_by is_some held ≢ 65536 → (inside ≡ view.dst) ⊎ (Contains config.external view.dst.addr × (0 < view.dst.port))
         → IsPlanOf config.external held now plan (inward begun)
     begun-plan few placed =
         let may : MayBegin config.external held now begun = record {
@@ -115,27 +115,27 @@ module _ (config : Config) (rules : Spelled) (held : List (Option Session)) (now
 -- ---- what the leg comes to may join sessions that are sound
 
 module _ (config : Config) (rules : Spelled) (sessions : List Session) (now : ℕ) (view : View) (sound : AreSound config sessions) (bounded : KeepBounds config rules)
-    (routed : (is_inside config view.dst.addr ≡ true) ⊎ (view.dst.addr ≡ config.external)) (src_port : 0 < view.src.port) (dst_port : 0 < view.dst.port) where
+    (routed : (is_inside config view.dst.addr ≡ true) ⊎ Contains config.external view.dst.addr) (src_port : 0 < view.src.port) (dst_port : 0 < view.dst.port) where
   -- an inside endpoint that is found is inside, and the destination stands for it
   record Found (inside : Endpoint) : Type 0 where
     near : is_inside config inside.addr ≡ true
     port : 0 < inside.port
-    at : (inside ≡ view.dst) ⊎ (view.dst.addr ≡ config.external)
+    at : (inside ≡ view.dst) ⊎ Contains config.external view.dst.addr
 
-  found-by_mapping : view.dst.addr ≡ config.external → (inside : Endpoint) (o : Option Session) → find (maps_outside view.proto view.dst) sessions ≡ o → or_no_mapping o ≡ Ok inside → Found inside
-  found-by_mapping away inside None e is = absurd (err-ok NoMapping inside is)
-  found-by_mapping away inside (Some m) e is =
-      let same = same_Ok m.inside inside is in
-      let placed = sound.placed m (find-In (maps_outside view.proto view.dst) sessions m e).0 in
+  found-by_mapping : Contains config.external view.dst.addr → (inside : Endpoint)
+      → by_mapping config.filtering sessions view.src.addr (find (maps_outside view.proto view.dst) sessions) ≡ Ok inside → Found inside
+  found-by_mapping away inside is =
+      let m = some-mapping config.filtering sessions view.src.addr (find (maps_outside view.proto view.dst) sessions) inside is in
+      let placed = sound.placed m.0 (find-In (maps_outside view.proto view.dst) sessions m.0 m.1).0 in
       record {
-        near = subst (λ (i : Endpoint). is_inside config i.addr ≡ true) same placed.inside;
-        port = subst (λ (i : Endpoint). 0 < i.port) same placed.inside_port;
+        near = subst (λ (i : Endpoint). is_inside config i.addr ≡ true) m.2 placed.inside;
+        port = subst (λ (i : Endpoint). 0 < i.port) m.2 placed.inside_port;
         at = inr away;
       }
 
-  found-by_rules : view.dst.addr ≡ config.external → (inside : Endpoint) (d : Destination) → prerouting_verdict config (facts_of config rules sessions now view Wan None view.src view.dst New) rules ≡ d
-      → inside_by_rules config rules sessions now view (find (maps_outside view.proto view.dst) sessions) d ≡ Ok inside → Found inside
-  found-by_rules away inside destination.None e is = found-by_mapping away inside (find (maps_outside view.proto view.dst) sessions) refl is
+  found-by_rules : Contains config.external view.dst.addr → (inside : Endpoint) (d : Destination) → prerouting_verdict config (facts_of config rules sessions now view Wan None view.src view.dst New) rules ≡ d
+      → given config rules sessions now view d ≡ Ok inside → Found inside
+  found-by_rules away inside destination.None e is = found-by_mapping away inside is
   found-by_rules away inside (destination.To to) e is =
       let facts = facts_of config rules sessions now view Wan None view.src view.dst New in
       let same = same_Ok to inside is in
@@ -159,7 +159,7 @@ module _ (config : Config) (rules : Spelled) (sessions : List Session) (now : �
       | inl near ↦ absurd (false≢true (sym far ∙ near))
       | inr away ↦
           let verdict = prerouting_verdict config (facts_of config rules sessions now view Wan None view.src view.dst New) rules in
-          let by = inside_by_rules config rules sessions now view (find (maps_outside view.proto view.dst) sessions) verdict in
+          let by = given config rules sessions now view verdict in
           found-by_rules away inside verdict refl (sym (ap (λ b. if b then Ok view.dst else by) far) ∙ is)
     ]
   ]
@@ -209,6 +209,6 @@ module _ (config : Config) (rules : Spelled) (sessions : List Session) (now : �
       ]
 
 pub fine-in : (config : Config) (rules : Spelled) (sessions : List Session) (now : ℕ) (view : View) → is_config config ≡ true → AreSound config sessions → KeepBounds config rules
-    → (is_inside config view.dst.addr ≡ true) ⊎ (view.dst.addr ≡ config.external) → 0 < view.src.port → 0 < view.dst.port → IsFine config sessions now (in_leg config rules sessions now view)
+    → (is_inside config view.dst.addr ≡ true) ⊎ Contains config.external view.dst.addr → 0 < view.src.port → 0 < view.dst.port → IsFine config sessions now (in_leg config rules sessions now view)
 fine-in config rules sessions now view is_one sound bounded routed src_port dst_port =
     fine-by config rules sessions now view sound bounded routed src_port dst_port (find (has_outside view.proto view.dst view.src) sessions) refl

@@ -1,24 +1,32 @@
 -- What sessions tell of their mappings, and the mappings of the sessions that are held.
-use Rattle.std.proofs.Common.{◌≡◌, ◌≢◌, ℕ, ◌<◌, List, Option, Some, None, true, get_or, refl, sym, ap, ◌∙◌, subst, arith}
+use Rattle.std.proofs.Common.{◌≡◌, ◌≢◌, ℕ, ◌<◌, List, Option, Some, None, Contains, true, get_or, Bool, Ok, Err, is_some, if◌then◌else◌, refl, sym, ap, ◌∙◌, subst, arith}
 use Rattle.std.specs.Prelude.{find}
-use Rattle.packet.specs.Config.{Config, is_config}
+use Rattle.std.proofs.lemmas.Bool.{false_from_ne_true}
+use Rattle.packet.specs.Config.{Config, Pool, is_config}
+use Rattle.packet.specs.declared.bounds.Filtering.{Filtering}
+use Rattle.packet.specs.declared.bounds.Filtering.TheVariants as filtering
 use Rattle.packet.specs.declared.endpoint.Endpoint.{Endpoint}
 use Rattle.packet.specs.declared.endpoint.Proto.{Proto}
 use Rattle.portpick.specs.Choice.{IsTestOf}
+use Rattle.portpick.specs.Pool.{endpoint, near_choice, pool_choice, port_at}
 use Rattle.sessions.specs.Laws.{IsMapping}
-use Rattle.sessions.specs.Listing.{listing}
+use Rattle.sessions.specs.Listing.{has_peer, listing}
+use Rattle.sessions.specs.Table.{KnowsIn}
 use Rattle.sessions.specs.declared.session.Session.{Session}
 use Rattle.sessions.proofs.Clashing.{apart-from, differ}
+use Rattle.sessions.proofs.PeerFinds.{known-found}
 use Rattle.sessions.proofs.Puts.{find-none, find-some}
 use Rattle.sessions.proofs.Sets.{In-listing, listing-In}
 use Rattle.mappings.specs.declared.map.Mapping.{Mapping}
-use Rattle.mappings.specs.Map.{Mappings, times, mapping}
+use Rattle.mappings.specs.Map.{Mappings, Uses, times, mapping}
 use Rattle.mappings.proofs.Times.{one_at-itself}
-use Rattle.hairpin.specs.Legs.{is_taken, maps_inside, maps_outside}
+use Rattle.hairpin.specs.Legs.{by_mapping, is_taken, maps_inside, maps_outside, uses_in}
 use Rattle.sessions.specs.Sound.{AreSound}
-use Rattle.hairpin.specs.Tallies.{tally, mapping_of}
-use Rattle.hairpin.specs.Translations.{IsOutside, endpoint}
+use Rattle.hairpin.specs.Tallies.{AreOf, tally, mapping_of}
+use Rattle.hairpin.specs.Translations.{IsOutside, TellsTaken, Translations}
+use Rattle.hairpin.specs.declared.cause.Cause.TheVariants.{Filtered}
 use Rattle.hairpin.proofs.Apart.{agree, maps-from, maps-parts, maps_outside-from, maps_outside-parts, taken-by, taken-from, translated_at}
+use Rattle.hairpin.proofs.UsedLemmas.{uses_test}
 use Rattle.hairpin.proofs.Tally.{tally-at, tally-some, weighs, weight-translated}
 
 -- what the sessions tell of the mapping of an inside endpoint
@@ -77,17 +85,60 @@ module _ (held : List (Option Session)) (m : Mappings) (counts : (p : Mapping) �
       let at = In-listing held t in_t in
       absurd (omega (arith, none t.inside, mapping_held t t.inside outside at.0 at.1 parts.0 parts.1 refl parts.2)))
 
-  -- the ports that sessions have outside are those of the mappings
-  pub taken_test : IsTestOf (is_taken (listing held) proto config.external) (λ q. IsOutside m proto (endpoint config.external q))
-  taken_test port = (
+  -- the ports that sessions have outside at an external address are those of the mappings
+  pub taken_test : (addr : ℕ) → Contains config.external addr → IsTestOf (is_taken (listing held) proto addr) (λ q. IsOutside m proto (endpoint addr q))
+  taken_test addr listed port = (
     (λ h.
-        let s = taken-by (listing held) proto config.external port h in
+        let s = taken-by (listing held) proto addr port h in
         let at = In-listing held s.0 s.1 in
-        let away = translated_at config s.0 is_one (sound.placed s.0 s.1) (ap (λ (e : Endpoint). e.addr) s.3) in
-        (s.0.inside, mapping_held s.0 s.0.inside (endpoint config.external port) at.0 at.1 away s.2 refl s.3)),
+        let away = translated_at config s.0 is_one (sound.placed s.0 s.1) (subst (λ (e : Endpoint). Contains config.external e.addr) (sym s.3) listed) in
+        (s.0.inside, mapping_held s.0 s.0.inside (endpoint addr port) at.0 at.1 away s.2 refl s.3)),
     (λ o.
-        let p = mapping proto o.0 (endpoint config.external port) in
+        let p = mapping proto o.0 (endpoint addr port) in
         let some = tally-some p held (omega (arith, o.1, counts p)) in
         let is = weighs p some.1 some.3 in
-        taken-from (listing held) proto config.external port some.1 (listing-In held some.1 some.0 some.2) (sym (ap (λ (q : Mapping). q.proto) is.1)) (sym (ap (λ (q : Mapping). q.outside) is.1))),
+        taken-from (listing held) proto addr port some.1 (listing-In held some.1 some.0 some.2) (sym (ap (λ (q : Mapping). q.proto) is.1)) (sym (ap (λ (q : Mapping). q.outside) is.1))),
   )
+
+-- what the translations choose is what the sessions make them choose
+module _ (config : Config) (is_one : is_config config ≡ true) (held : List (Option Session)) (t : Translations) (are : AreOf config held t) (proto : Proto) where
+  tells_taken : TellsTaken t proto (is_taken (listing held) proto)
+  tells_taken addr listed = taken_test held t.mappings are.counts config is_one are.sound proto addr (subst (λ (pool : Pool). Contains pool addr) are.external listed)
+
+  pub chosen_at : (addr port : ℕ) (o : Option Endpoint) → Contains config.external addr
+      → ((taken : ℕ → ℕ → Bool) → IsTestOf (taken addr) (λ q. IsOutside t.mappings proto (endpoint addr q)) → o ≡ port_at taken port addr) → o ≡ port_at (is_taken (listing held) proto) port addr
+  chosen_at addr port o listed choice = choice (is_taken (listing held) proto) (taken_test held t.mappings are.counts config is_one are.sound proto addr listed)
+
+  module _ (host port : ℕ) (o : Option Endpoint) where
+    pub chosen_pool : ((uses : ℕ → Bool) (taken : ℕ → ℕ → Bool) → IsTestOf uses (Uses t.mappings host) → TellsTaken t proto taken → o ≡ pool_choice uses taken t.external port)
+        → o ≡ pool_choice (uses_in (listing held) host) (is_taken (listing held) proto) config.external port
+    chosen_pool choice = choice (uses_in (listing held) host) (is_taken (listing held) proto) (uses_test held t.mappings are.counts host) tells_taken
+        ∙ ap (λ (pool : Pool). pool_choice (uses_in (listing held) host) (is_taken (listing held) proto) pool port) are.external
+
+    pub chosen_near : (far : ℕ) → ((uses : ℕ → Bool) (taken : ℕ → ℕ → Bool) → IsTestOf uses (Uses t.mappings host) → TellsTaken t proto taken → o ≡ near_choice uses taken t.external far port)
+        → o ≡ near_choice (uses_in (listing held) host) (is_taken (listing held) proto) config.external far port
+    chosen_near far choice = choice (uses_in (listing held) host) (is_taken (listing held) proto) (uses_test held t.mappings are.counts host) tells_taken
+        ∙ ap (λ (pool : Pool). near_choice (uses_in (listing held) host) (is_taken (listing held) proto) pool far port) are.external
+
+-- ---- whom a mapping lets in
+
+-- filtering by address, what a mapping gives is told by whether the table knows the remote address
+module _ (filter : Filtering) (by : filter ≡ filtering.Address) (held : List (Option Session)) (proto : Proto) (inside outside : Endpoint) (remote : ℕ)
+    (m : Session) (p : m.proto ≡ proto) (i : m.inside ≡ inside) (o : m.outside ≡ outside) where
+  abbrev peers : Session → Bool
+  peers = has_peer proto inside outside remote
+
+  same-peers : has_peer m.proto m.inside m.outside remote ≡ peers
+  same-peers = ap (λ x. has_peer x m.inside m.outside remote) p ∙ ap (λ x. has_peer proto x m.outside remote) i ∙ ap (λ x. has_peer proto inside x remote) o
+
+  asked : by_mapping filter (listing held) remote (Some m) ≡ (if is_some (find peers (listing held)) then Ok inside else Err Filtered)
+  asked = ap (λ (f : Filtering). by_mapping f (listing held) remote (Some m)) by
+      ∙ ap (λ (q : Session → Bool). if is_some (find q (listing held)) then Ok m.inside else Err Filtered) same-peers
+      ∙ ap (λ (e : Endpoint). if is_some (find peers (listing held)) then Ok e else Err Filtered) i
+
+  pub given_known : KnowsIn held proto inside outside remote → Ok inside ≡ by_mapping filter (listing held) remote (Some m)
+  given_known knows = sym (asked ∙ ap (λ b. if b then Ok inside else Err Filtered) ((known-found proto inside outside remote held).0 knows))
+
+  pub given_unknown : ¬ KnowsIn held proto inside outside remote → Err Filtered ≡ by_mapping filter (listing held) remote (Some m)
+  given_unknown none = sym (asked ∙ ap (λ b. if b then Ok inside else Err Filtered)
+      (false_from_ne_true (is_some (find peers (listing held))) (λ found. none ((known-found proto inside outside remote held).1 found))))

@@ -1,15 +1,15 @@
 -- What is known of a session that begins, and that what a packet on its way out comes to may join the sessions.
-use Rattle.std.proofs.Common.{◌≡◌, ◌≢◌, ◌⊎◌, ℕ, ◌<◌, List, length, Option, Some, None, Result, Ok, Err, count_by, is_some, true, false, nat_lt, if◌then◌else◌, refl, sym, ap, ◌∙◌, subst, inl, inr, arith}
+use Rattle.std.proofs.Common.{◌≡◌, ◌≢◌, ◌⊎◌, ℕ, ◌<◌, List, length, Contains, Option, Some, None, Result, Ok, Err, count_by, is_some, true, false, nat_lt, if◌then◌else◌, refl, sym, ap, ◌∙◌, subst, inl, inr, arith}
 use Rattle.std.specs.Prelude.{find}
-use Rattle.std.specs.Option.{option_map}
 use Rattle.std.proofs.lemmas.Bool.{cases_Bool, false≢true, le-ltb, lt-ltb, ltb-false}
-use Rattle.packet.specs.Config.{Config, is_config, is_inside}
+use Rattle.packet.specs.Config.{Config, Pool, is_config, is_inside}
 use Rattle.packet.specs.Same.{same_endpoint}
 use Rattle.packet.specs.declared.endpoint.Endpoint.{Endpoint}
 use Rattle.packet.specs.declared.endpoint.Iface.TheVariants.{Lan, Wan}
 use Rattle.packet.specs.declared.view.View.{View}
 use Rattle.packet.proofs.SameLemmas.{same_endpoint-itself}
 use Rattle.portpick.specs.Choice.{port_choice}
+use Rattle.portpick.specs.Pool.{endpoint, pool_choice, port_at}
 use Rattle.ruletree.specs.declared.tree.Spelled.{Spelled}
 use Rattle.sessions.specs.Listing.{In, has_inside, listing, put}
 use Rattle.sessions.specs.Table.{Clash}
@@ -23,21 +23,21 @@ use Rattle.verdict.specs.declared.facts.Facts.{Facts}
 use Rattle.verdict.specs.declared.facts.State.TheVariants.{New}
 use Rattle.verdict.specs.declared.hook.Source.{Source}
 use Rattle.verdict.specs.declared.hook.Source.TheVariants as source
-use Rattle.hairpin.specs.Legs.{begun_out, chosen, counted, facts_of, forwarded, is_taken, maps_inside, needs_session, new_session, or_no_port, out_by, out_leg, outside_by_rules, outside_for, outward, passed_by, connection_of, then_with}
+use Rattle.hairpin.specs.Legs.{begun_out, counted, facts_of, forwarded, is_taken, maps_inside, needs_session, new_session, or_no_port, out_by, out_leg, outside_by_rules, outside_for, outward, passed_by, connection_of, then_with, uses_in}
 use Rattle.hairpin.specs.Plans.{IsPlanOf, MayBegin}
 use Rattle.hairpin.specs.KeepBounds.{KeepBounds}
 use Rattle.sessions.specs.Sound.{AreSound}
-use Rattle.hairpin.specs.Translations.{endpoint}
 use Rattle.hairpin.specs.declared.cause.Cause.{Cause}
 use Rattle.hairpin.specs.declared.cause.Cause.TheVariants.{NoSession, Rule, TableFull}
 use Rattle.hairpin.specs.declared.plan.Plan.{Plan}
 use Rattle.hairpin.proofs.Apart.{choice-free, chosen_apart, err-ok, find-In, fresh, mapped-some, mapped_apart, maps-parts, outside_away, port-ok, same_Ok}
+use Rattle.hairpin.proofs.Choosing.{pool-given}
 use Rattle.hairpin.proofs.Soundness.{IsFine, fine-filtered, one-joins, passed-joins, put-more, put-sound}
 
 -- what is known of a session that begins: it stands apart from all, and its outside endpoint is in its place
 pub record Opened (config : Config) (sessions : List Session) (new : Session) : Type 0 where
   pub apart : (s : Session) → In s sessions → ¬ Clash new s
-  pub outside : (new.outside ≡ new.inside) ⊎ (new.outside.addr ≡ config.external)
+  pub outside : (new.outside ≡ new.inside) ⊎ Contains config.external new.outside.addr
   pub port : 0 < new.outside.port
 
 -- none of them is of the new session's protocol, inside and remote endpoint
@@ -49,28 +49,28 @@ module _ (config : Config) (is_one : is_config config ≡ true) (sessions : List
       let is = find-In (maps_inside new.proto new.inside) sessions m e in
       let parts = maps-parts new.proto new.inside m is.1 in
       let placed = sound.placed m is.0 in
-      let address : m.outside.addr ≡ config.external = elim placed.outside [ inl same ↦ absurd (parts.0 (sym same)) | inr there ↦ there ] in
+      let address : Contains config.external m.outside.addr = elim placed.outside [ inl same ↦ absurd (parts.0 (sym same)) | inr there ↦ there ] in
       record {
         apart = λ s in_s.
             mapped_apart sessions sound.apart new none s in_s m is.0 parts.0 parts.1 parts.2 outside
-            (λ same. outside_away config is_one (subst (λ a. is_inside config a ≡ true) (ap (λ (x : Endpoint). x.addr) same ∙ address) (sound.placed s in_s).inside));
-        outside = inr (ap (λ (x : Endpoint). x.addr) (sym outside) ∙ address);
+            (λ same. outside_away config is_one m.outside.addr address (subst (λ (x : Endpoint). is_inside config x.addr ≡ true) same (sound.placed s in_s).inside));
+        outside = inr (subst (λ (x : Endpoint). Contains config.external x.addr) outside address);
         port = subst (λ (x : Endpoint). 0 < x.port) outside placed.outside_port;
       }
 
-  -- at a port that is chosen
-  pub opened_chosen : 0 < new.inside.port → find (maps_inside new.proto new.inside) sessions ≡ None
-      → option_map (endpoint config.external) (port_choice (is_taken sessions new.proto config.external) new.inside.port) ≡ Some new.outside → Opened config sessions new
-  opened_chosen lt unmapped h =
-      let some = mapped-some (endpoint config.external) (port_choice (is_taken sessions new.proto config.external) new.inside.port) new.outside h in
-      let free = choice-free (is_taken sessions new.proto config.external) new.inside.port some.0 lt some.1 in
+  -- at a port that is chosen at an external address
+  pub opened_chosen : (addr : ℕ) → Contains config.external addr → 0 < new.inside.port → find (maps_inside new.proto new.inside) sessions ≡ None
+      → port_at (is_taken sessions new.proto) new.inside.port addr ≡ Some new.outside → Opened config sessions new
+  opened_chosen addr listed lt unmapped h =
+      let some = mapped-some (endpoint addr) (port_choice (is_taken sessions new.proto addr) new.inside.port) new.outside h in
+      let free = choice-free (is_taken sessions new.proto addr) new.inside.port some.0 lt some.1 in
       record {
         apart = λ s in_s. chosen_apart sessions sound.apart new none s in_s unmapped (subst (λ (x : Endpoint). is_taken sessions new.proto x.addr x.port ≡ false) some.2 free.0);
-        outside = inr (ap (λ (x : Endpoint). x.addr) (sym some.2));
+        outside = inr (subst (λ (x : Endpoint). Contains config.external x.addr) some.2 listed);
         port = subst (λ (x : Endpoint). 0 < x.port) some.2 free.1;
       }
 
-  -- untranslated: whoever has this endpoint outside has it inside too, as the external address isn't inside
+  -- untranslated: whoever has this endpoint outside has it inside too, as no external address is inside
   pub opened_plain : is_inside config new.inside.addr ≡ true → 0 < new.inside.port → new.inside ≡ new.outside → Opened config sessions new
   opened_plain is_near lt same = record {
     apart = λ s in_s clash. elim clash [
@@ -78,7 +78,7 @@ module _ (config : Config) (is_one : is_config config ≡ true) (sessions : List
       | inr more ↦ elim more [
         | inl h ↦ elim (sound.placed s in_s).outside [
           | inl plain ↦ fresh sessions sound.apart new none s in_s h.0 (sym plain ∙ h.1 ∙ sym same) h.2
-          | inr there ↦ outside_away config is_one (subst (λ a. is_inside config a ≡ true) (ap (λ (x : Endpoint). x.addr) (same ∙ sym h.1) ∙ there) is_near)
+          | inr there ↦ outside_away config is_one s.outside.addr there (subst (λ (x : Endpoint). is_inside config x.addr ≡ true) (same ∙ sym h.1) is_near)
         ]
         | inr h ↦ h.0 same
       ]
@@ -105,18 +105,23 @@ may_begin config held now t o unseen last few = record {
 abbrev pub plan_begun : Session → Plan
 plan_begun t = record { first = Begin t; second = None; src = t.outside; dst = t.remote; iface = Wan }
 
-pub begun-is : (external : ℕ) (held : List (Option Session)) (now : ℕ) (t : Session) → MayBegin external held now t → IsPlanOf external held now (plan_begun t) (outward t)
+pub begun-is : (external : Pool) (held : List (Option Session)) (now : ℕ) (t : Session) → MayBegin external held now t → IsPlanOf external held now (plan_begun t) (outward t)
 begun-is external held now t may = record { sessions = (t, (refl, may), refl); src = refl; dst = refl; iface = refl }
 
 module _ (config : Config) (rules : Spelled) (bounded : KeepBounds config rules) (sessions : List Session) (now : ℕ) (view : View) where
   abbrev facts : Facts
   facts = facts_of config rules sessions now view Lan (Some Wan) view.src view.dst New
 
-  -- what is chosen at the external address is what the rules ask for
-  pub by_rules : (addr : ℕ) → postrouting_verdict config facts rules ≡ source.From addr → (o : Option Endpoint)
-      → o ≡ option_map (endpoint config.external) (port_choice (is_taken sessions view.proto config.external) view.src.port)
+  -- what is chosen at an address is what the rules ask for that say it
+  pub by_snat : (addr : ℕ) → postrouting_verdict config facts rules ≡ source.From addr → (o : Option Endpoint) → o ≡ port_at (is_taken sessions view.proto) view.src.port addr
       → or_no_port o ≡ outside_by_rules config rules sessions now view (postrouting_verdict config facts rules)
-  by_rules addr e o is = ap or_no_port is ∙ sym (ap (outside_by_rules config rules sessions now view) (e ∙ ap source.From (bounded.from facts addr e)))
+  by_snat addr e o is = ap or_no_port is ∙ sym (ap (outside_by_rules config rules sessions now view) e)
+
+  -- what is chosen of the pool is what those ask for that masquerade
+  pub by_masquerade : postrouting_verdict config facts rules ≡ source.Masquerade → (o : Option Endpoint)
+      → o ≡ pool_choice (uses_in sessions view.src.addr) (is_taken sessions view.proto) config.external view.src.port
+      → or_no_port o ≡ outside_by_rules config rules sessions now view (postrouting_verdict config facts rules)
+  by_masquerade e o is = ap or_no_port is ∙ sym (ap (outside_by_rules config rules sessions now view) e)
 
   module _ (is_one : is_config config ≡ true) (sound : AreSound config sessions) (is_near : is_inside config view.src.addr ≡ true) (near_port : 0 < view.src.port)
       (none : find (has_inside view.proto view.src view.dst) sessions ≡ None) where
@@ -127,8 +132,12 @@ module _ (config : Config) (rules : Spelled) (bounded : KeepBounds config rules)
         → outside_by_rules config rules sessions now view how ≡ Ok outside → Opened config sessions (new outside)
     opened_rules source.None unmapped e outside h = opened_plain config is_one sessions sound (new outside) none is_near near_port (same_Ok view.src outside h)
     opened_rules (source.From addr) unmapped e outside h =
-        let there : chosen config rules sessions now view config.external view.src ≡ Ok outside = subst (λ a. chosen config rules sessions now view a view.src ≡ Ok outside) (bounded.from facts addr e) h in
-        opened_chosen config is_one sessions sound (new outside) none near_port unmapped (port-ok (option_map (endpoint config.external) (port_choice (is_taken sessions view.proto config.external) view.src.port)) outside there)
+        opened_chosen config is_one sessions sound (new outside) none addr (bounded.from facts addr e) near_port unmapped (port-ok (port_at (is_taken sessions view.proto) view.src.port addr) outside h)
+    opened_rules source.Masquerade unmapped e outside h =
+        let uses = uses_in sessions view.src.addr in
+        let taken = is_taken sessions view.proto in
+        let given = pool-given uses taken config.external view.src.port outside (port-ok (pool_choice uses taken config.external view.src.port) outside h) in
+        opened_chosen config is_one sessions sound (new outside) none given.0 given.1 near_port unmapped given.2
     opened_rules source.Drop unmapped e outside h = absurd (err-ok Rule outside h)
 
     opened_for : (found : Option Session) → find (maps_inside view.proto view.src) sessions ≡ found → (outside : Endpoint)

@@ -3,8 +3,7 @@ use Rattle.std.proofs.Common.{◌≡◌, ◌⊎◌, ℕ, zero, suc, ◌<◌, Lis
 use Rattle.std.specs.Prelude.{find}
 use Rattle.std.specs.List.{filter}
 use Rattle.std.specs.Option.{unwrap_or}
-use Rattle.std.proofs.lemmas.Bool.{and_from, and_parts, cases_Bool, eq-eqb, false≢true}
-use Rattle.packet.proofs.Accepted.{same_eq}
+use Rattle.std.proofs.lemmas.Bool.{cases_Bool}
 use Rattle.packet.specs.Config.{Pool}
 use Rattle.portpick.specs.Pool.{choice_by, near_choice, pool_choice, port_at}
 use Rattle.portpick.proofs.Pooled.{used_is_kept}
@@ -13,27 +12,8 @@ use Rattle.sessions.specs.declared.session.Session.{Session}
 use Rattle.sessions.proofs.Puts.{find-some}
 use Rattle.sessions.proofs.Sets.{In-filter, In-insert}
 use Rattle.hairpin.specs.Legs.{uses, uses_in}
+use Rattle.hairpin.proofs.UsedLemmas.{found-in, uses-from, uses-parts}
 use Rattle.hairpin.specs.Paired.{HairpinKeepsPairs, HostsKeepOneAddress, MasqueradeKeepsPairs, PutKeepsPairs}
-
-found-in : (p : Session → Bool) (xs : List Session) → is_some (find p xs) ≡ true → (s : Session) × In s xs × (p s ≡ true)
-found-in p [] h = absurd (false≢true h)
-found-in p (x ∷ xs) h = elim (cases_Bool (p x)) [
-  | inl is_so ↦ (x, inl refl, is_so)
-  | inr not_so ↦
-      let old = found-in p xs (ap (λ b. is_some (cond b (Some x) (find p xs))) (sym not_so) ∙ h) in
-      (old.0, inr old.1, old.2)
-]
-
-uses-parts : (host external : ℕ) (s : Session) → uses host external s ≡ true → (is_translated s ≡ true) × (s.inside.addr ≡ host) × (s.outside.addr ≡ external)
-unfolding uses
-uses-parts host external s h =
-    let a = and_parts _ _ h in
-    let b = and_parts _ _ a.1 in
-    (a.0, same_eq _ _ b.0, same_eq _ _ b.1)
-
-uses-from : (host external : ℕ) (s : Session) → is_translated s ≡ true → s.inside.addr ≡ host → s.outside.addr ≡ external → uses host external s ≡ true
-unfolding uses
-uses-from host external s away inside outside = and_from _ _ away (and_from _ _ (eq-eqb _ _ inside) (eq-eqb _ _ outside))
 
 masquerade : MasqueradeKeepsPairs
 masquerade pool sessions taken host port e paired listed choice s in_s translated of_host =

@@ -1,21 +1,21 @@
 -- The plan of a packet that hairpins, from what is looked up in the table and in the mappings.
-use Rattle.std.proofs.Common.{◌≡◌, ◌≢◌, ℕ, ◌+◌, ◌<◌, ◌≤◌, List, length, count_by, is_some, get_or, Option, Some, None, Result, Ok, Err, IfSome, IfNone, Bool, true, false, not, if◌then◌else◌, refl, sym, ap, ◌∙◌, subst, inl, inr, arith}
+use Rattle.std.proofs.Common.{◌≡◌, ◌≢◌, ℕ, ◌+◌, ◌<◌, ◌≤◌, List, length, Contains, count_by, is_some, get_or, Option, Some, None, Result, Ok, Err, IfSome, IfNone, Bool, true, false, not, if◌then◌else◌, refl, sym, ap, ◌∙◌, subst, inl, inr, arith}
 use Rattle.std.specs.Prelude.{find}
 use Rattle.std.specs.List.{filter}
 use Rattle.std.specs.Option.{option_map, option_map_or}
 use Rattle.std.proofs.lemmas.Bool.{cases_Bool, false≢true, false_from_ne_true, le-ltb, lt-ltb}
 use Rattle.std.proofs.lemmas.Option.{same_Some}
-use Rattle.packet.specs.Config.{Config, is_config, is_inside}
+use Rattle.packet.specs.Config.{Config, Pool, is_config, is_inside}
+use Rattle.packet.specs.declared.bounds.Filtering.{Filtering}
+use Rattle.packet.specs.declared.bounds.Filtering.TheVariants as filtering
 use Rattle.packet.specs.declared.endpoint.Endpoint.{Endpoint}
 use Rattle.packet.specs.declared.endpoint.Iface.TheVariants.{Lan}
 use Rattle.packet.specs.declared.endpoint.Proto.{Proto}
 use Rattle.packet.specs.declared.view.View.{View}
-use Rattle.portpick.specs.Choice.{IsTestOf, port_choice}
+use Rattle.portpick.specs.Pool.{near_choice}
 use Rattle.ruletree.specs.declared.tree.Spelled.{Spelled}
-use Rattle.mappings.specs.declared.map.Mapping.{Mapping}
-use Rattle.mappings.specs.Map.{Mappings, times}
 use Rattle.sessions.specs.Laws.{IsMapping}
-use Rattle.sessions.specs.Listing.{In, breaks_mapping, clashes, has_inside, has_outside, listing, put, same_flow}
+use Rattle.sessions.specs.Listing.{In, breaks_mapping, clashes, has_inside, has_outside, has_peer, listing, put, same_flow}
 use Rattle.sessions.specs.Table.{AnyClash, Clash as Clashing}
 use Rattle.sessions.specs.declared.session.Change.{Change}
 use Rattle.sessions.specs.declared.session.Change.TheVariants.{Begin, Seen, Restart}
@@ -24,24 +24,25 @@ use Rattle.sessions.specs.declared.session.Session.{Session}
 use Rattle.sessions.proofs.Clashing.{breaks-from, breaks-parts, differ, same_endpoint-from}
 use Rattle.sessions.proofs.Found.{has_outside-true}
 use Rattle.sessions.proofs.Held.{Clash-same_keys, SameKeys-refl}
+use Rattle.sessions.proofs.PeerFinds.{has_peer-true}
 use Rattle.sessions.proofs.Puts.{has_inside-true, length-listing}
 use Rattle.sessions.proofs.Sets.{In-filter, In-insert, In-listing, filter-In, insert-In, listing-In}
 use Rattle.verdict.specs.Hooks.{forward_verdict, prerouting_verdict}
 use Rattle.verdict.specs.declared.facts.State.TheVariants.{New}
+use Rattle.verdict.specs.declared.hook.Destination.{Destination}
+use Rattle.verdict.specs.declared.hook.Destination.TheVariants as destination
 use Rattle.verdict.specs.declared.hook.Forwarding.{Forwarding}
 use Rattle.verdict.specs.declared.hook.Forwarding.TheVariants as forwarding
-use Rattle.hairpin.specs.Legs.{Passage, begun_second, counted, facts_of, first_by, first_state, forwarded, inside_by_rules, inside_far, is_taken, maps_inside, maps_outside, needs_session, new_session, or_no_port, outside_near, passed_by, second, second_by, then_with, through, unless_dropped}
+use Rattle.hairpin.specs.Legs.{Passage, begun_second, by_mapping, counted, facts_of, first_by, first_state, forwarded, inside_by_rules, inside_far, is_taken, lets_in, maps_inside, maps_outside, needs_session, new_session, or_no_port, outside_near, passed_by, second, second_by, then_with, through, unless_dropped, uses_in}
 use Rattle.hairpin.specs.Plans.{Gives, GivesThen, IsApart, IsOf, Plans}
 use Rattle.sessions.specs.Sound.{AreSound}
-use Rattle.hairpin.specs.Tallies.{tally}
-use Rattle.hairpin.specs.Translations.{IsOutside, endpoint}
 use Rattle.hairpin.specs.declared.cause.Cause.{Cause}
-use Rattle.hairpin.specs.declared.cause.Cause.TheVariants.{Clash, NoSession, Rule, SelfMapped, TableFull}
+use Rattle.hairpin.specs.declared.cause.Cause.TheVariants.{Clash, Filtered, NoSession, Rule, SelfMapped, TableFull}
 use Rattle.hairpin.specs.declared.held.Held.{Held}
 use Rattle.hairpin.specs.declared.plan.Plan.{Plan}
 use Rattle.hairpin.proofs.Apart.{find-In, maps_outside-parts}
 use Rattle.hairpin.proofs.Clashing.{none_clashes, no_clash}
-use Rattle.hairpin.proofs.Mapped.{not_mapped, taken_test}
+use Rattle.hairpin.proofs.Mapped.{not_mapped}
 use Rattle.hairpin.proofs.Opening.{may_begin}
 use Rattle.hairpin.proofs.Doubling.{IsFirst, IsSecond, Rises-put, find-put, first-is, fresh, gone, put-In, second-is}
 
@@ -57,6 +58,29 @@ module _ (first : Session) (sessions : List Session) (keeps : (u : Session) → 
   maps-other proto dst away = find-put (maps_outside proto dst) first sessions
       (false_from_ne_true _ (λ h. away (maps_outside-parts proto dst first h).2))
       (λ s in_s same. false_from_ne_true _ (λ h. away (sym (keeps s in_s same) ∙ (maps_outside-parts proto dst s h).2)))
+
+  -- a mapping of another outside endpoint lets in whom it let in
+  lets-other : (filter : Filtering) (remote : ℕ) (m : Session) → first.outside ≢ m.outside → lets_in filter (put first sessions) m remote ≡ lets_in filter sessions m remote
+  lets-other filtering.Endpoint remote m away = refl
+  lets-other filtering.Address remote m away = ap is_some (find-put (has_peer m.proto m.inside m.outside remote) first sessions
+      (false_from_ne_true _ (λ h. away (has_peer-true m.proto m.inside m.outside remote first h).2))
+      (λ s in_s same. false_from_ne_true _ (λ h. away (sym (keeps s in_s same) ∙ (has_peer-true m.proto m.inside m.outside remote s h).2))))
+
+  found-other : (filter : Filtering) (proto : Proto) (dst : Endpoint) (remote : ℕ) → first.outside ≢ dst → (o : Option Session) → find (maps_outside proto dst) sessions ≡ o
+      → by_mapping filter (put first sessions) remote o ≡ by_mapping filter sessions remote o
+  found-other filter proto dst remote away None e = refl
+  found-other filter proto dst remote away (Some m) e =
+      let is = (maps_outside-parts proto dst m (find-In (maps_outside proto dst) sessions m e).1).2 in
+      ap (λ b. if b then Ok m.inside else Err Filtered) (lets-other filter remote m (λ same. away (same ∙ is)))
+
+  pub given-other : (config : Config) (rules : Spelled) (now : ℕ) (view : View) (remote : ℕ) → first.outside ≢ view.dst → (d : Destination)
+      → inside_by_rules config rules sessions now view (put first sessions) remote (find (maps_outside view.proto view.dst) (put first sessions)) d
+      ≡ inside_by_rules config rules sessions now view sessions remote (find (maps_outside view.proto view.dst) sessions) d
+  given-other config rules now view remote away destination.None =
+      ap (by_mapping config.filtering (put first sessions) remote) (maps-other view.proto view.dst away)
+      ∙ found-other config.filtering view.proto view.dst remote away (find (maps_outside view.proto view.dst) sessions) refl
+  given-other config rules now view remote away (destination.To inside) = refl
+  given-other config rules now view remote away destination.Drop = refl
 
   -- one that is held, or the first in its place, is found to clash
   pub clash-held : (t u : Session) → In u sessions → Clashing t u → (s : Session) × In s (put first sessions) × Clashing t s
@@ -112,19 +136,12 @@ module _ (config : Config) (rules : Spelled) (sessions : List Session) (now : �
 
 -- ---- the outside endpoint of a new first session, where no mapping has the inside one
 
-pub near_chosen : (config : Config) (rules : Spelled) (held : List (Option Session)) (mappings : Mappings) → ((p : Mapping) → times mappings p ≡ tally p held) → is_config config ≡ true → AreSound config (listing held)
-    → (now : ℕ) (view : View) (external : ℕ) (o : Option Endpoint) → external ≡ config.external → view.dst.addr ≡ config.external
-    → ((outside : Endpoint) → ¬ IsMapping (listing held) view.proto view.src outside)
-    → ((taken : ℕ → Bool) → IsTestOf taken (λ q. IsOutside mappings view.proto (endpoint external q)) → o ≡ option_map (endpoint external) (port_choice taken view.src.port))
-    → or_no_port o ≡ outside_near config rules (listing held) now view (find (maps_inside view.proto view.src) (listing held))
-near_chosen config rules held mappings counts is_one sound now view external o same at absent choose =
-    let sessions = listing held in
-    let none = not_mapped config sessions sound view.proto view.src absent in
-    let test = taken_test held mappings counts config is_one sound view.proto in
-    let says = subst (λ x. IsTestOf (is_taken sessions view.proto x) (λ q. IsOutside mappings view.proto (endpoint x q))) (sym same) test in
-    let is = choose (is_taken sessions view.proto external) says in
-    let there = subst (λ x. o ≡ option_map (endpoint x) (port_choice (is_taken sessions view.proto x) view.src.port)) (same ∙ sym at) is in
-    ap or_no_port there ∙ sym (ap (outside_near config rules sessions now view) none)
+pub near_chosen : (config : Config) (rules : Spelled) (sessions : List Session) → AreSound config sessions → (now : ℕ) (view : View) (o : Option Endpoint)
+    → ((outside : Endpoint) → ¬ IsMapping sessions view.proto view.src outside)
+    → o ≡ near_choice (uses_in sessions view.src.addr) (is_taken sessions view.proto) config.external view.dst.addr view.src.port
+    → or_no_port o ≡ outside_near config rules sessions now view (find (maps_inside view.proto view.src) sessions)
+near_chosen config rules sessions sound now view o absent is =
+    ap or_no_port is ∙ sym (ap (outside_near config rules sessions now view) (not_mapped config sessions sound view.proto view.src absent))
 
 -- ---- a session that begins
 
@@ -144,14 +161,14 @@ second-none config rules sessions now view first keeps away needs r e =
     let next = begun_second config rules sessions now view first (put first sessions) in
     let decision = prerouting_verdict config (facts_of config rules sessions now view Lan None view.src view.dst New) rules in
     let there : inside_far config rules sessions now view first sessions ≡ inside_far config rules sessions now view first (put first sessions) =
-    ap (λ o. inside_by_rules config rules sessions now view o decision) (sym (maps-other first sessions keeps view.proto view.dst away)) in
+    sym (given-other first sessions keeps config rules now view first.outside.addr away decision) in
     ap (λ x. then_with x next) (e ∙ there)
     ∙ sym (ap (λ c. if c then Err NoSession else then_with (inside_far config rules sessions now view first (put first sessions)) next) needs)
 
 -- ---- the changes give the sessions
 
 -- the change is of no slot that holds a session of another outside endpoint
-not_of : (external : ℕ) (held : List (Option Session)) (now : ℕ) (change : Change) (first : Session) → Gives external held now change first
+not_of : (external : Pool) (held : List (Option Session)) (now : ℕ) (change : Change) (first : Session) → Gives external held now change first
     → (slot : ℕ) (s : Session) → get_or held slot None ≡ Some s → s.outside ≢ first.outside → ¬ IsOf change slot
 not_of external held now (Begin t) first gives slot s at away is = is
 not_of external held now (Seen of bits) first gives slot s at away is =
@@ -163,7 +180,7 @@ not_of external held now (Restart of opener) first gives slot s at away is =
 
 -- a change of a session that is held, and of one that begins
 abbrev pub GivesHeld : Change → (Session → ℕ → Session) → Held → Type 0
-GivesHeld change passed h = (external : ℕ) (places : List (Option Session)) (now : ℕ) → get_or places h.slot None ≡ Some h.session → Gives external places now change (passed h.session now)
+GivesHeld change passed h = (external : Pool) (places : List (Option Session)) (now : ℕ) → get_or places h.slot None ≡ Some h.session → Gives external places now change (passed h.session now)
 
 first-gives : (config : Config) (held : List (Option Session)) (now : ℕ) (view : View) (first : Session) (change : Change) (b : Option Held)
     → IsFirst config (listing held) view now (option_map (λ (h : Held). h.session) b) first
@@ -178,7 +195,7 @@ first-gives config held now view first change None f slot goes begins few =
 first-gives config held now view first change (Some h) f slot goes begins few = subst (Gives config.external held now change) (f.goes h.session refl) (goes config.external held now slot)
 
 second-gives : (config : Config) (rules : Spelled) (held : List (Option Session)) (now : ℕ) (view : View) (first t : Session) (change before : Change) (b : Option Held)
-    → view.dst.addr ≡ config.external → 0 < view.dst.port → first.outside ≢ view.dst
+    → Contains config.external view.dst.addr → 0 < view.dst.port → first.outside ≢ view.dst
     → option_map (λ (h : Held). h.session) b ≡ find (has_outside view.proto view.dst first.outside) (listing held)
     → IsSecond config rules (put first (listing held)) view now (option_map (λ (h : Held). h.session) b) t
     → IfSome b (λ h. get_or held h.slot None ≡ Some h.session)
@@ -195,7 +212,7 @@ second-gives config rules held now view first t change before None at port away 
         last = new.2;
         apart = λ any. new.0 any.held (subst (In any.held) became.listing (listing-In later any.held any.place any.is_held)) any.clash;
         few = λ full. absurd (omega (arith, full, few, f.many, count));
-        placed = λ other. subst (λ (e : Endpoint). (e.addr ≡ config.external) × (0 < e.port)) (sym new.3) (at, port);
+        placed = λ other. subst (λ (e : Endpoint). Contains config.external e.addr × (0 < e.port)) (sym new.3) (at, port);
       },
     )
 second-gives config rules held now view first t change before (Some h) at port away found f slot goes begins few gives later became =
@@ -228,7 +245,7 @@ dropped forwarding.Pass away = absurd (away refl)
 dropped forwarding.Drop away = refl
 
 module _ (config : Config) (rules : Spelled) (held : List (Option Session)) (now : ℕ) (view : View) (is_one : is_config config ≡ true) (sound : AreSound config (listing held))
-    (inside : is_inside config view.src.addr ≡ true) (at : view.dst.addr ≡ config.external) (ports : (0 < view.src.port) × (0 < view.dst.port)) (first : Session) (b1 : Option Held)
+    (inside : is_inside config view.src.addr ≡ true) (at : Contains config.external view.dst.addr) (ports : (0 < view.src.port) × (0 < view.dst.port)) (first : Session) (b1 : Option Held)
     (e1 : option_map (λ (h : Held). h.session) b1 ≡ find (has_inside view.proto view.src view.dst) (listing held))
     (ok1 : first_by config rules (listing held) now view (find (has_inside view.proto view.src view.dst) (listing held)) ≡ Ok first) where
   abbrev L : List Session

@@ -2,21 +2,20 @@
 use Rattle.std.proofs.Common.{◌≡◌, ℕ, List, [], ◌∷◌, Option, Some, Bool, true, false, cond, not, is_some, refl, sym, ap, ◌∙◌, inl, inr, arith}
 use Rattle.std.specs.Prelude.{find}
 use Rattle.std.proofs.lemmas.Bool.{and_from, and_parts, cases_Bool, eq-eqb, false≢true, not-true}
-use Rattle.packet.specs.Same.{same_endpoint}
 use Rattle.packet.proofs.Accepted.{same_eq}
 use Rattle.portpick.specs.Choice.{IsTestOf}
 use Rattle.mappings.specs.declared.map.Mapping.{Mapping}
 use Rattle.mappings.specs.Map.{Mappings, Uses, times}
 use Rattle.mappings.proofs.Times.{one_at-itself}
 use Rattle.sessions.specs.declared.session.Session.{Session}
-use Rattle.sessions.specs.Listing.{In, listing}
+use Rattle.sessions.specs.Listing.{In, is_translated, listing}
 use Rattle.sessions.proofs.Puts.{find-some}
 use Rattle.sessions.proofs.Sets.{In-listing, listing-In}
 use Rattle.hairpin.specs.Tallies.{mapping_of, tally}
 use Rattle.hairpin.specs.Legs.{uses, uses_in}
 use Rattle.hairpin.proofs.Tally.{tally-at, tally-some, weighs, weight-translated}
 
-found-in : (p : Session → Bool) (xs : List Session) → is_some (find p xs) ≡ true → (s : Session) × In s xs × (p s ≡ true)
+pub found-in : (p : Session → Bool) (xs : List Session) → is_some (find p xs) ≡ true → (s : Session) × In s xs × (p s ≡ true)
 found-in p [] h = absurd (false≢true h)
 found-in p (x ∷ xs) h = elim (cases_Bool (p x)) [
   | inl is_so ↦ (x, inl refl, is_so)
@@ -25,16 +24,16 @@ found-in p (x ∷ xs) h = elim (cases_Bool (p x)) [
       (old.0, inr old.1, old.2)
 ]
 
-uses-parts : (host external : ℕ) (s : Session) → uses host external s ≡ true → (same_endpoint s.inside s.outside ≡ false) × (s.inside.addr ≡ host) × (s.outside.addr ≡ external)
+pub uses-parts : (host external : ℕ) (s : Session) → uses host external s ≡ true → (is_translated s ≡ true) × (s.inside.addr ≡ host) × (s.outside.addr ≡ external)
 unfolding uses
 uses-parts host external s h =
     let a = and_parts _ _ h in
     let b = and_parts _ _ a.1 in
-    (not-true _ a.0, same_eq _ _ b.0, same_eq _ _ b.1)
+    (a.0, same_eq _ _ b.0, same_eq _ _ b.1)
 
-uses-from : (host external : ℕ) (s : Session) → same_endpoint s.inside s.outside ≡ false → s.inside.addr ≡ host → s.outside.addr ≡ external → uses host external s ≡ true
+pub uses-from : (host external : ℕ) (s : Session) → is_translated s ≡ true → s.inside.addr ≡ host → s.outside.addr ≡ external → uses host external s ≡ true
 unfolding uses
-uses-from host external s away inside outside = and_from _ _ (ap not away) (and_from _ _ (eq-eqb _ _ inside) (eq-eqb _ _ outside))
+uses-from host external s away inside outside = and_from _ _ away (and_from _ _ (eq-eqb _ _ inside) (eq-eqb _ _ outside))
 
 -- each mapping is held as often as sessions have it
 pub uses_test : (held : List (Option Session)) (m : Mappings) → ((p : Mapping) → times m p ≡ tally p held) → (host : ℕ) → IsTestOf (uses_in (listing held) host) (Uses m host)
@@ -48,7 +47,7 @@ uses_test held m counts host external = (
       let few = tally-at own held at.0 (Some s) at.1 in
       record {
         mapping = own;
-        held = omega (arith, few, counts own, weight-translated own s parts.0, one_at-itself own);
+        held = omega (arith, few, counts own, weight-translated own s (not-true _ parts.0), one_at-itself own);
         inside = parts.1;
         at = parts.2;
       }),
@@ -56,7 +55,7 @@ uses_test held m counts host external = (
       let some = tally-some u.mapping held (omega (arith, u.held, counts u.mapping)) in
       let s = some.1 in
       let is = weighs u.mapping s some.3 in
-      let passes = uses-from host external s is.0 (ap (λ (p : Mapping). p.inside.addr) (sym is.1) ∙ u.inside) (ap (λ (p : Mapping). p.outside.addr) (sym is.1) ∙ u.at) in
+      let passes = uses-from host external s (ap not is.0) (ap (λ (p : Mapping). p.inside.addr) (sym is.1) ∙ u.inside) (ap (λ (p : Mapping). p.outside.addr) (sym is.1) ∙ u.at) in
       let found = find-some (uses host external) (listing held) s (listing-In held s some.0 some.2) passes in
       ap is_some found.1),
 )

@@ -44,7 +44,7 @@ pub fn mapped_inside(
 ///
 /// `Filtered`, if the mapping doesn't.
 #[inline(always)]
-fn admit(
+pub fn admit(
     bounds: &Bounds,
     table: &Table,
     proto: Proto,

@@ -140,10 +140,10 @@ fn outside_near(
     bounds.facts();
     match mapped {
         Some(outside) => Ok(outside),
-        None => match translations.choose_near(view.proto, view.src, view.dst.addr) {
-            Some(outside) => Ok(outside),
-            None => Err(Cause::NoPort),
-        },
+        None => {
+            let choice = translations.choose_near(view.proto, view.src, view.dst.addr);
+            choice.ok_or(Cause::NoPort)
+        }
     }
 }
 

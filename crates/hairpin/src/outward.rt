@@ -152,14 +152,14 @@ fn outside_by_rules(
     match postrouting(rules, bounds, &facts_out(view, State::New)) {
         Source::Drop => Err(Cause::Rule),
         Source::None => Ok(view.src),
-        Source::From(addr) => match translations.choose_at(view.proto, addr, view.src.port) {
-            Some(outside) => Ok(outside),
-            None => Err(Cause::NoPort),
-        },
-        Source::Masquerade => match translations.choose_for(view.proto, view.src) {
-            Some(outside) => Ok(outside),
-            None => Err(Cause::NoPort),
-        },
+        Source::From(addr) => {
+            let choice = translations.choose_at(view.proto, addr, view.src.port);
+            choice.ok_or(Cause::NoPort)
+        }
+        Source::Masquerade => {
+            let choice = translations.choose_for(view.proto, view.src);
+            choice.ok_or(Cause::NoPort)
+        }
     }
 }
 

@@ -11,7 +11,7 @@ ghost use Rattle.portpick.specs.Taken.{IsTaken};
 ghost use Rattle.mappings.specs.Map.{times, mapping as mapping_with, Gains, KeepsOneToOne, SameTimes, Uses};
 ghost use Rattle.mappings.specs.declared.map.Mapping.{Mapping};
 ghost use Rattle.hairpin.specs.Tallies.{mapping_of, weight};
-ghost use Rattle.hairpin.specs.Translations.{HasRoom, IsExternal, IsPlacedIn, IsOutside, IsOutsideOf};
+ghost use Rattle.hairpin.specs.Translations.{HasRoom, IsExternal, IsPlacedIn, IsOutside, IsOutsideOf, TellsTaken};
 
 use mappings::{Map, Mapping};
 use packet::{Endpoint, Proto};
@@ -135,7 +135,7 @@ impl Translations {
         }
     }
 
-    /// The first external address that a mapping of this host has, of either protocol.
+    // The first external address that a mapping of this host has, of either protocol.
     fn used(&self, host: u32) -> Option<u32>
         ensures choice { (uses : ℕ → Bool) → IsTestOf uses (Uses self.now.mappings host)
             → result ≡ find uses self.now.external }
@@ -144,11 +144,10 @@ impl Translations {
         first_used(&self.map, host, self.ports.addresses())
     }
 
-    /// The first endpoint that an external address gives the port, in the order of the addresses.
+    // What the first external address that has a port for this one gives it.
     fn choose_first(&self, proto: Proto, port: u16) -> Option<Endpoint>
         requires { 0 < port }
-        ensures { (taken : ℕ → ℕ → Bool)
-            → ((addr : ℕ) → IsTestOf (taken addr) (λ q. IsOutside self.now.mappings proto (endpoint addr q)))
+        ensures { (taken : ℕ → ℕ → Bool) → TellsTaken self.now proto taken
             → result ≡ first_port taken port self.now.external }
     {
         let mut rest = self.ports.addresses();
@@ -162,14 +161,14 @@ impl Translations {
     }
 
     /// The outside endpoint for an inside one that masquerades, whose port isn't 0: at the first external address that
-    /// a mapping of its host has; without one, at the first that has a port for it. Tests of both lead to the same
-    /// choice.
+    /// a mapping of its host has, of either protocol, so that a host stays at one address (RFC 4787, REQ-2), also if no
+    /// port is left there; without one, at the first that has a port for it. Any tests that tell which addresses the host
+    /// uses and which ports are taken lead to the same choice.
     #[inline(always)]
     pub fn choose_for(&self, proto: Proto, inside: Endpoint) -> Option<Endpoint>
         requires { 0 < inside.port }
         ensures { (uses : ℕ → Bool) (taken : ℕ → ℕ → Bool)
-            → IsTestOf uses (Uses self.now.mappings inside.addr)
-            → ((addr : ℕ) → IsTestOf (taken addr) (λ q. IsOutside self.now.mappings proto (endpoint addr q)))
+            → IsTestOf uses (Uses self.now.mappings inside.addr) → TellsTaken self.now proto taken
             → result ≡ pool_choice uses taken self.now.external inside.port }
     {
         if let [only] = self.ports.addresses() {
@@ -178,13 +177,12 @@ impl Translations {
         self.choose_used(proto, inside)
     }
 
-    // As `choose_for`, where there are several addresses.
+    // As `choose_for`, for several addresses.
     #[inline(never)]
     fn choose_used(&self, proto: Proto, inside: Endpoint) -> Option<Endpoint>
         requires { 0 < inside.port }
         ensures { (uses : ℕ → Bool) (taken : ℕ → ℕ → Bool)
-            → IsTestOf uses (Uses self.now.mappings inside.addr)
-            → ((addr : ℕ) → IsTestOf (taken addr) (λ q. IsOutside self.now.mappings proto (endpoint addr q)))
+            → IsTestOf uses (Uses self.now.mappings inside.addr) → TellsTaken self.now proto taken
             → result ≡ pool_choice uses taken self.now.external inside.port }
     {
         match self.used(inside.addr) {
@@ -193,23 +191,20 @@ impl Translations {
         }
     }
 
-    /// The outside endpoint for an inside one, whose port isn't 0, that sends to an endpoint at this external address:
-    /// at the first external address that a mapping of its host has; without one, at that address.
+    /// The outside endpoint for an inside one, whose port isn't 0, that sends to an endpoint at the external address
+    /// `far`: at the first external address that a mapping of its host has; without one, at `far`.
     pub fn choose_near(&self, proto: Proto, inside: Endpoint, far: u32) -> Option<Endpoint>
         requires port { 0 < inside.port }
         requires far { Contains self.now.external far }
         ensures { (uses : ℕ → Bool) (taken : ℕ → ℕ → Bool)
-            → IsTestOf uses (Uses self.now.mappings inside.addr)
-            → ((addr : ℕ) → IsTestOf (taken addr) (λ q. IsOutside self.now.mappings proto (endpoint addr q)))
+            → IsTestOf uses (Uses self.now.mappings inside.addr) → TellsTaken self.now proto taken
             → result ≡ near_choice uses taken self.now.external far inside.port }
     {
         if let [_] = self.ports.addresses() {
             return self.choose_at(proto, far, inside.port);
         }
-        match self.used(inside.addr) {
-            Some(addr) => self.choose_at(proto, addr, inside.port),
-            None => self.choose_at(proto, far, inside.port),
-        }
+        let addr = self.used(inside.addr).unwrap_or(far);
+        self.choose_at(proto, addr, inside.port)
     }
 
     /// Holds the mapping of the session once more, if it is translated.

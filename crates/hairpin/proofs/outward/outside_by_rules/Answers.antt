@@ -1,38 +1,37 @@
-use Rattle.std.proofs.Common.{Some, None, sym, ap, subst, ◌∙◌}
-use Rattle.std.specs.Option.{option_map}
-use Rattle.portpick.specs.Choice.{IsTestOf, port_choice}
+use Rattle.std.proofs.Common.{Contains, sym, ap, subst, ◌∙◌}
+use Rattle.packet.specs.Config.{Pool}
 use Rattle.sessions.specs.Listing.{listing}
 use Rattle.verdict.specs.Hooks.{postrouting_verdict}
-use Rattle.hairpin.specs.Legs.{is_taken}
-use Rattle.hairpin.specs.Translations.{IsOutside, endpoint}
-use Rattle.hairpin.proofs.Mapped.{taken_test}
-use Rattle.hairpin.proofs.Opening.{by_rules}
+use Rattle.hairpin.proofs.Apart.{or_no_port-is}
+use Rattle.hairpin.proofs.Mapped.{chosen_at, chosen_pool}
+use Rattle.hairpin.proofs.Opening.{by_masquerade, by_snat}
 use Rattle.hairpin.proofs.outward.outside_by_rules.Goals as goal
 
-pub returns-in-Some : goal.returns-in-Some
-returns-in-Some c = λ now.
-    let config = c.args.bounds.now in
-    let rules = c.args.rules.now in
-    let view = c.args.view.now in
-    let held = c.args.table.now.held in
-    let mappings = c.args.translations.now.mappings in
-    let taken = is_taken (listing held) view.proto config.external in
-    let test = taken_test held mappings c.requires.translations.counts config c.facts.ensures.valid c.requires.translations.sound view.proto in
-    let says = subst (λ x. IsTestOf taken (λ q. IsOutside mappings view.proto (endpoint x q))) (sym c.requires.translations.external) test in
-    let choice = sym c.in-Some.is ∙ c.choose.ensures taken says ∙ ap (λ x. option_map (endpoint x) (port_choice taken view.src.port)) c.requires.translations.external in
-    let verdict = ap (λ f. postrouting_verdict config f rules) (sym c.facts_out.ensures) ∙ sym c.postrouting.ensures ∙ c.in-From.is in
-    by_rules config rules c.requires.bounded (listing held) now view c.in-From.field-0 verdict (Some c.in-Some.outside) choice
+pub choose_at-choice-requires-clause-external : goal.choose_at-choice-requires-clause-external
+choose_at-choice-requires-clause-external c =
+    subst (λ (pool : Pool). Contains pool c.in-From.addr) (sym c.requires.translations.external) (c.requires.bounded.from c.facts_out.result c.in-From.addr (sym c.postrouting.ensures ∙ c.in-From.is))
 
-pub returns-in-None-choose : goal.returns-in-None-choose
-returns-in-None-choose c = λ now.
+pub returns-in-From : goal.returns-in-From
+returns-in-From c = λ now.
     let config = c.args.bounds.now in
     let rules = c.args.rules.now in
     let view = c.args.view.now in
     let held = c.args.table.now.held in
-    let mappings = c.args.translations.now.mappings in
-    let taken = is_taken (listing held) view.proto config.external in
-    let test = taken_test held mappings c.requires.translations.counts config c.facts.ensures.valid c.requires.translations.sound view.proto in
-    let says = subst (λ x. IsTestOf taken (λ q. IsOutside mappings view.proto (endpoint x q))) (sym c.requires.translations.external) test in
-    let choice = sym c.in-None-choose.is ∙ c.choose.ensures taken says ∙ ap (λ x. option_map (endpoint x) (port_choice taken view.src.port)) c.requires.translations.external in
-    let verdict = ap (λ f. postrouting_verdict config f rules) (sym c.facts_out.ensures) ∙ sym c.postrouting.ensures ∙ c.in-From.is in
-    by_rules config rules c.requires.bounded (listing held) now view c.in-From.field-0 verdict None choice
+    let addr = c.in-From.addr in
+    let choice = c.choose_at-choice.result in
+    let asked = sym c.postrouting.ensures ∙ c.in-From.is in
+    let listed = c.requires.bounded.from c.facts_out.result addr asked in
+    let is = chosen_at config c.facts.ensures.valid held c.args.translations.now c.requires.translations view.proto addr view.src.port choice listed c.choose_at-choice.ensures in
+    let verdict = ap (λ f. postrouting_verdict config f rules) (sym c.facts_out.ensures) ∙ asked in
+    c.ok_or.ensures.value ∙ or_no_port-is choice ∙ by_snat config rules c.requires.bounded (listing held) now view addr verdict choice is
+
+pub returns-in-Masquerade : goal.returns-in-Masquerade
+returns-in-Masquerade c = λ now.
+    let config = c.args.bounds.now in
+    let rules = c.args.rules.now in
+    let view = c.args.view.now in
+    let held = c.args.table.now.held in
+    let choice = c.choose_for-choice.result in
+    let verdict = ap (λ f. postrouting_verdict config f rules) (sym c.facts_out.ensures) ∙ sym c.postrouting.ensures ∙ c.in-Masquerade.is in
+    let is = chosen_pool config c.facts.ensures.valid held c.args.translations.now c.requires.translations view.proto view.src.addr view.src.port choice c.choose_for-choice.ensures in
+    c.ok_or-in-Masquerade.ensures.value ∙ or_no_port-is choice ∙ by_masquerade config rules c.requires.bounded (listing held) now view verdict choice is

@@ -1,11 +1,21 @@
-use Rattle.std.proofs.Common.{sym, ◌∙◌}
-use Rattle.hairpin.proofs.Choosing.{near-at, near-far}
+use Rattle.std.proofs.Common.{◌≡◌, Contains, get_or, sym, ap, ◌∙◌, subst}
+use Rattle.std.specs.Option.{unwrap_or}
+use Rattle.portpick.specs.Pool.{port_at}
+use Rattle.hairpin.specs.Translations.{Translations}
+use Rattle.hairpin.proofs.Choosing.{listed-or, lone, near-is, near-one}
 use Rattle.hairpin.proofs.translations.Translations.choose_near.Goals as goal
 
-pub returns-in-Some : goal.returns-in-Some
-returns-in-Some c = λ uses taken says tests.
-    c.choose_at.ensures taken (tests c.in-Some.addr) ∙ sym (near-at uses taken c.args.self.now.external c.args.inside.port c.args.far c.in-Some.addr (sym (c.used.ensures.choice uses says) ∙ c.in-Some.is))
+pub returns-in-len1 : goal.returns-in-len1
+returns-in-len1 c = λ uses taken says tests.
+    let xs = c.addresses.result.now in
+    let external : c.args.self.now.external ≡ xs = ap (λ (t : Translations). t.external) (sym c.self.view_is) ∙ sym c.addresses.ensures in
+    c.choose_at.ensures taken (tests c.args.far c.requires.far)
+    ∙ sym (near-one uses taken c.args.self.now.external c.args.inside.port (get_or xs 0 0) c.args.far (external ∙ lone xs c.in-len1.len_at_least c.in-len1.len_below) c.requires.far)
 
-pub returns-in-None : goal.returns-in-None
-returns-in-None c = λ uses taken says tests.
-    c.choose_at-in-None.ensures taken (tests c.args.far) ∙ sym (near-far uses taken c.args.self.now.external c.args.inside.port c.args.far (sym (c.used.ensures.choice uses says) ∙ c.in-None.is))
+pub returns : goal.returns
+returns c = λ uses taken says tests.
+    let pool = c.args.self.now.external in
+    let port = c.args.inside.port in
+    let is = c.unwrap_or-addr.ensures ∙ ap (λ o. unwrap_or o c.args.far) (c.used.ensures.choice uses says) in
+    let listed : Contains pool c.unwrap_or-addr.result = subst (Contains pool) (sym c.unwrap_or-addr.ensures) (listed-or pool c.used.result c.args.far c.used.ensures.listed c.requires.far) in
+    c.choose_at-2.ensures taken (tests c.unwrap_or-addr.result listed) ∙ ap (port_at taken port) is ∙ sym (near-is uses taken pool port c.args.far)
