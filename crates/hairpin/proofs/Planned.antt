@@ -1,5 +1,5 @@
 -- The plan of a packet that hairpins, from what is looked up in the table and in the mappings.
-use Rattle.std.proofs.Common.{◌≡◌, ◌≢◌, ℕ, ◌+◌, ◌<◌, ◌≤◌, List, length, Contains, count_by, is_some, get_or, Option, Some, None, Result, Ok, Err, IfSome, IfNone, Bool, true, false, not, if◌then◌else◌, refl, sym, ap, ◌∙◌, subst, inl, inr, arith}
+use Rattle.std.proofs.Common.{◌≡◌, ◌≢◌, ℕ, ◌+◌, ◌<◌, ◌≤◌, List, length, Contains, count_by, is_some, get_or, Option, Some, None, Result, Ok, Err, IfSome, IfNone, true, false, not, if◌then◌else◌, refl, sym, ap, ◌∙◌, subst, inl, inr, arith}
 use Rattle.std.specs.Prelude.{find}
 use Rattle.std.specs.List.{filter}
 use Rattle.std.specs.Option.{option_map, option_map_or}
