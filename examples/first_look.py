@@ -5,10 +5,12 @@
 examples/first_packet.frames, a ruleset and a packet; then it lists the session that there is. Nothing is proved of it.
 """
 import os
+import shutil
 import subprocess
 import sys
 import tempfile
 
+sys.dont_write_bytecode = True
 from tell import tell_bytes
 
 HERE = os.path.dirname(os.path.abspath(__file__))
@@ -27,6 +29,8 @@ def write_case(folder, name, requests, words):
 
 
 def main():
+    if not shutil.which("rt"):
+        raise SystemExit("natgw: there is no command rt: the kit that README.md names has it")
     with open(os.path.join(HERE, "first_packet.frames"), "rb") as file:
         requests = file.read()
     with tempfile.TemporaryDirectory(prefix="natgw-look-") as folder:

@@ -7,6 +7,7 @@
 import io
 import sys
 
+sys.dont_write_bytecode = True
 from client import ANSWER, told
 
 
