@@ -1,2 +1,3 @@
 mod Round
 mod Lacking
+mod Listed

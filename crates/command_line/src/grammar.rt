@@ -75,7 +75,7 @@ pub(crate) const SIDES: &[Argument] = &[
         form: Form::Word(&["endpoint", "address"]),
         value: "WORD",
         default: Some("endpoint"),
-        help: "Whom a mapping lets in: everyone, or the addresses it has a session with",
+        help: "Whom a mapping lets in: everyone, or the addresses it knows",
     },
 ];
 
