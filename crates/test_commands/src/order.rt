@@ -72,7 +72,7 @@ const OVER_DAMAGED_FILES: [Row; 6] = [
         directory: "order",
         work: MISSING,
         refusal: Refusal::Config,
-        line: "the external address",
+        line: "an external address",
     },
     Row {
         sides: SIDES,

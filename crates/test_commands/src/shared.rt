@@ -9,12 +9,13 @@ use std::alloc::{AllocFailed, Global};
 use std::fs;
 use std::test::Fail;
 
-/// 192.168.0.0/16 inside, 203.0.113.1 outside.
+/// 192.168.0.0/16 inside, 203.0.113.1 outside, whose mappings let everyone in.
 pub const SIDES: Sides<'static> = Sides {
     lan: "lan",
     wan: "wan",
     inside: "192.168.0.0/16",
     external: "203.0.113.1",
+    filtering: "endpoint",
 };
 
 /// At moment 1000 a ruleset that masquerades what goes out to wan, and a packet of UDP from 192.168.1.2:5000 to

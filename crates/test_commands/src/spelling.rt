@@ -39,13 +39,22 @@ fn prefixes(rt: HostRuntime) {
     }
 }
 
-// Why the prefixes and the address are no configuration.
-fn refusal_of(alloc: Global, inside: &str, external: &str) -> Option<Refusal> {
+// A configuration.
+const RIGHT: Sides<'static> = Sides {
+    lan: "lan",
+    wan: "wan",
+    inside: "10.0.0.0/8",
+    external: "1.2.3.4",
+    filtering: "endpoint",
+};
+
+// Why the prefixes, the addresses and the filtering are no configuration.
+fn refusal_of(alloc: Global, inside: &str, external: &str, filtering: &str) -> Option<Refusal> {
     let sides = Sides {
-        lan: "lan",
-        wan: "wan",
         inside,
         external,
+        filtering,
+        ..RIGHT
     };
     match bounds(alloc, &sides) {
         Ok(_) => None,
@@ -61,46 +70,84 @@ fn is_told(alloc: Global, sides: &Sides<'_>, end: &str) -> bool {
     }
 }
 
-// The names of both sides and the prefix inside, and how the second line ends.
-const FAULTS: [(&str, &str, &str, &str); 5] = [
-    ("", "wan", "10.0.0.0/8", "set --lan and --wan right"),
-    ("wan", "wan", "10.0.0.0/8", "set --lan and --wan right"),
-    ("lan", "wan", "10.0.0.1/8", "set --inside right"),
+// Configurations that are none, and how the second line ends.
+const FAULTS: [(Sides<'static>, &str); 8] = [
+    (Sides { lan: "", ..RIGHT }, "set --lan and --wan right"),
     (
-        "lan",
-        "wan",
-        "1.2.3.4/32",
+        Sides {
+            lan: "wan",
+            ..RIGHT
+        },
+        "set --lan and --wan right",
+    ),
+    (
+        Sides {
+            inside: "10.0.0.1/8",
+            ..RIGHT
+        },
+        "set --inside right",
+    ),
+    (
+        Sides {
+            inside: "1.2.3.4/32",
+            ..RIGHT
+        },
         "set --inside and --external right",
     ),
-    ("lan", "wan", "10.0.0.0", "write it like 192.168.0.0/16"),
+    (
+        Sides {
+            external: "1.2.3.4,1.2.3.4",
+            ..RIGHT
+        },
+        "set --external right",
+    ),
+    (
+        Sides {
+            inside: "10.0.0.0",
+            ..RIGHT
+        },
+        "write it like 192.168.0.0/16",
+    ),
+    (
+        Sides {
+            external: "1.2.3",
+            ..RIGHT
+        },
+        "write it like 203.0.113.1",
+    ),
+    (
+        Sides {
+            filtering: "none",
+            ..RIGHT
+        },
+        "write endpoint or address",
+    ),
 ];
-
-fn sides_of<'a>(lan: &'a str, wan: &'a str, inside: &'a str) -> Sides<'a> {
-    Sides {
-        lan,
-        wan,
-        inside,
-        external: "1.2.3.4",
-    }
-}
 
 // Each fault of a configuration names the options that it lies in.
 #[test]
 fn options_of_faults(rt: HostRuntime) {
-    for (lan, wan, inside, end) in &FAULTS {
-        assert!(rt;
-            is_told(rt.alloc(), &sides_of(lan, wan, inside), end),
-            "{inside}"
-        );
+    for (sides, end) in &FAULTS {
+        assert!(rt; is_told(rt.alloc(), sides, end), "{end}");
     }
 }
 
 const REFUSED: Option<Refusal> = Some(Refusal::Config);
 
-const CONFIGURATIONS: [(&str, &str, Option<Refusal>); 6] = [
+const CONFIGURATIONS: [(&str, &str, Option<Refusal>); 12] = [
     ("10.0.0.0/8,192.168.0.0/16", "1.2.3.4", None),
-    ("10.0.0.0/8", "10.2.3.4", REFUSED),
+    ("10.0.0.0/8", "1.2.3.4,0.0.0.0,203.0.113.1,1.2.3.5", None),
+    ("10.0.0.0/8", "1.2.3.4,10.2.3.4", REFUSED),
     ("10.0.0.0/8", "1.2.3.04", REFUSED),
+    ("10.0.0.0/8", "1.2.3.4,", REFUSED),
+    ("10.0.0.0/8", "", REFUSED),
+    ("10.0.0.0/8", "1.2.3.4,1.2.3.5,1.2.3.4", REFUSED),
+    (
+        "10.0.0.0/8",
+        "1.2.3.4,1.2.3.5,1.2.3.6,1.2.3.7,1.2.3.8",
+        REFUSED,
+    ),
+    ("10.0.0.0/8", "1.2.3.4, 1.2.3.5", REFUSED),
     ("10.0.0.0/08", "1.2.3.4", REFUSED),
     ("10.0.0.0/8,", "1.2.3.4", REFUSED),
     ("10.0.0.1/8", "1.2.3.4", REFUSED),
@@ -110,8 +157,18 @@ const CONFIGURATIONS: [(&str, &str, Option<Refusal>); 6] = [
 fn configurations(rt: HostRuntime) {
     for (inside, external, expected) in &CONFIGURATIONS {
         assert!(rt;
-            refusal_of(rt.alloc(), inside, external) == *expected,
-            "{inside}"
+            refusal_of(rt.alloc(), inside, external, "address") == *expected,
+            "{inside} {external}"
+        );
+    }
+}
+
+#[test]
+fn filterings(rt: HostRuntime) {
+    for word in &["", "Address", "addresses", "endpoint,address"] {
+        assert!(rt;
+            refusal_of(rt.alloc(), "10.0.0.0/8", "1.2.3.4", word) == REFUSED,
+            "{word}"
         );
     }
 }

@@ -1,14 +1,21 @@
 //! What is found in whole, cut and changed files, and what is said of it. The bytes follow the rules of the format.
 use diagnosis::{Fault, Finding, Held, Reading, diagnose, examine};
-use packet::{Bounds, Prefix};
+use packet::{Bounds, Filtering, Prefix};
 use std::alloc::{AllocError, Global};
 use std::process::Abort;
 use std::test::Fail;
 use trial_disk::SimDisk;
 
-// A file that was just made: gate, mark, generation 1, `lan`, `wan`, 192.168.0.0/16, 203.0.113.1, no text, no session,
-// and a closed gate.
-const FRESH: [u8; 40] = [
+// A file that was just made: gate, mark, generation 1, `lan`, `wan`, 192.168.0.0/16, one address, 203.0.113.1, filtering by
+// endpoint, no text, no session, and a closed gate.
+const FRESH: [u8; 42] = [
+    0x01, 0x4e, 0x47, 0x57, 0x32, 0x00, 0x00, 0x00, 0x00, 0x00, 0x00, 0x00, 0x01, 0x03, 0x6c, 0x61,
+    0x6e, 0x03, 0x77, 0x61, 0x6e, 0x01, 0xc0, 0xa8, 0x00, 0x00, 0x10, 0x01, 0xcb, 0x00, 0x71, 0x01,
+    0x00, 0x00, 0x00, 0x00, 0x00, 0x00, 0x00, 0x00, 0x00, 0x00,
+];
+
+// As an older natgw made it.
+const FIRST: [u8; 40] = [
     0x01, 0x4e, 0x47, 0x57, 0x31, 0x00, 0x00, 0x00, 0x00, 0x00, 0x00, 0x00, 0x01, 0x03, 0x6c, 0x61,
     0x6e, 0x03, 0x77, 0x61, 0x6e, 0x01, 0xc0, 0xa8, 0x00, 0x00, 0x10, 0xcb, 0x00, 0x71, 0x01, 0x00,
     0x00, 0x00, 0x00, 0x00, 0x00, 0x00, 0x00, 0x00,
@@ -20,22 +27,31 @@ const SESSION: [u8; 21] = [
     0x07, 0x00, 0x35, 0x00, 0x00,
 ];
 
-fn bounds(alloc: Global, wan: &str, external: u32) -> Result<Bounds, Fail> {
+// What a configuration has beside `lan`, and 192.168.0.0/16 inside.
+#[derive(Clone, Copy)]
+struct Sides {
+    wan: &'static str,
+    pool: &'static [u32],
+    filtering: Filtering,
+}
+
+fn bounds(alloc: Global, sides: Sides) -> Result<Bounds, Fail> {
     let lan = String::from_str(alloc, "lan")?;
-    let wan = String::from_str(alloc, wan)?;
+    let wan = String::from_str(alloc, sides.wan)?;
     let prefix = Prefix {
         addr: 0xc0a8_0000,
         len: 16,
     };
     let inside = vec![in alloc; prefix]?;
-    Ok(Bounds::new(lan, wan, inside, external)?)
+    let external = Vec::from_slice(alloc, sides.pool)?;
+    Ok(Bounds::new(lan, wan, inside, external, sides.filtering)?)
 }
 
 // The fresh file, of this generation, whose snapshot has the session so many times.
 fn begun(alloc: Global, generation: u8, times: u8) -> Result<Vec<u8>, AllocError> {
     let mut file = Vec::from_slice(alloc, &FRESH[..12])?;
     file.push(generation)?;
-    file.extend_from_slice(&FRESH[13..38])?;
+    file.extend_from_slice(&FRESH[13..40])?;
     file.push(times)?;
     for _ in 0..times {
         file.extend_from_slice(&SESSION)?;
@@ -46,7 +62,7 @@ fn begun(alloc: Global, generation: u8, times: u8) -> Result<Vec<u8>, AllocError
 
 // The fresh file, with a group of this body in place of its closed gate.
 fn grown(alloc: Global, body: &[u8]) -> Result<Vec<u8>, AllocError> {
-    let mut file = Vec::from_slice(alloc, &FRESH[..39])?;
+    let mut file = Vec::from_slice(alloc, &FRESH[..41])?;
     file.extend_from_slice(&[1, 0, 0, 0, body.len().min(255) as u8])?;
     file.extend_from_slice(body)?;
     file.push(0)?;
@@ -68,7 +84,7 @@ fn letter(reading: Reading) -> char {
 
 // A letter for each of two damaged files, or for what they are together.
 fn letters(alloc: Global, a: &[u8], b: &[u8]) -> Result<(char, char), Fail> {
-    let bounds = bounds(alloc, "wan", 0xcb00_7101)?;
+    let bounds = bounds(alloc, HERE)?;
     Ok(match examine(alloc, a, b, &bounds)? {
         Finding::Sound => ('.', '.'),
         Finding::Differs(_) => ('d', 'd'),
@@ -86,13 +102,16 @@ fn is_found(alloc: Global, file: &[u8], expected: char) -> Result<bool, Fail> {
     Ok(first == (expected, 'e') && second == ('c', expected))
 }
 
-const FILES: [(&[u8], char); 6] = [
+const FILES: [(&[u8], char); 9] = [
     (b"", '.'),
-    (b"\x02NGW1", '.'),
+    (b"\x02NGW3", '.'),
     (&FRESH, '.'),
+    (&FIRST, '.'),
     (b"\x01", 'M'),
-    (b"\x01NGW2 and more", 'M'),
+    (b"\x01NGW3 and more", 'M'),
     (b"\x01NGW1", 'F'),
+    (b"\x01NGW2", 'F'),
+    (b"\x01NGW2 and more", 'F'),
 ];
 
 fn assert_found(rt: &impl Abort, alloc: Global, file: &[u8], expected: char) -> Result<(), Fail> {
@@ -105,7 +124,8 @@ fn faults_of_one_file(rt: HostRuntime) -> Result<(), Fail> {
     for (file, expected) in &FILES {
         assert_found(&rt, rt.alloc(), *file, *expected)?;
     }
-    assert_found(&rt, rt.alloc(), &FRESH[..39], 'F')
+    assert_found(&rt, rt.alloc(), &FIRST[..39], 'F')?;
+    assert_found(&rt, rt.alloc(), &FRESH[..41], 'F')
 }
 
 fn assert_begun(rt: &impl Abort, alloc: Global, times: u8, expected: char) -> Result<(), Fail> {
@@ -130,7 +150,7 @@ fn faults_of_changes(rt: HostRuntime) -> Result<(), Fail> {
     let ended = [5, 0x11, 0, 0, 0, 1, 0, 1, 0, 0, 0, 2, 0, 2];
     assert_changes(&rt, rt.alloc(), &[9], usize::MAX)?;
     assert_changes(&rt, rt.alloc(), &ended, usize::MAX)?;
-    assert_changes(&rt, rt.alloc(), &[9], 43)
+    assert_changes(&rt, rt.alloc(), &[9], 45)
 }
 
 // A whole file whose snapshot has no session, with a group behind it that begins one.
@@ -143,7 +163,7 @@ fn with_a_group(alloc: Global) -> Result<Vec<u8>, Fail> {
 fn letter_of_cut(length: usize) -> char {
     match length {
         1..=4 => 'M',
-        5..=39 => 'F',
+        5..=41 => 'F',
         _ => 'C',
     }
 }
@@ -164,16 +184,24 @@ fn cut_files(rt: HostRuntime) -> Result<(), Fail> {
     assert_cuts(&rt, rt.alloc(), &file)
 }
 
-const HERE: (&str, u32) = ("wan", 0xcb00_7101);
+const HERE: Sides = Sides {
+    wan: "wan",
+    pool: &[0xcb00_7101],
+    filtering: Filtering::Endpoint,
+};
 
-const THERE: (&str, u32) = ("wan0", 0xcb00_7102);
+const THERE: Sides = Sides {
+    wan: "wan0",
+    pool: &[0xcb00_7101, 0xcb00_7102],
+    filtering: Filtering::Address,
+};
 
 // Two files, the configuration of the program that reads them, and what is said then.
 #[derive(Clone, Copy)]
 struct Line<'a> {
     a: &'a [u8],
     b: &'a [u8],
-    configured: (&'a str, u32),
+    configured: Sides,
     expected: &'a str,
 }
 
@@ -183,8 +211,7 @@ fn line_of(alloc: Global, a: &[u8], b: &[u8], bounds: &Bounds) -> Result<String,
 }
 
 fn is_told(alloc: Global, line: &Line<'_>) -> Result<bool, Fail> {
-    let (wan, external) = line.configured;
-    let bounds = bounds(alloc, wan, external)?;
+    let bounds = bounds(alloc, line.configured)?;
     let said = line_of(alloc, line.a, line.b, &bounds)?;
     Ok(said.as_str() == line.expected)
 }
@@ -196,10 +223,10 @@ fn assert_told(rt: &impl Abort, alloc: Global, lines: &[Line<'_>]) -> Result<(),
     Ok(())
 }
 
-const LINES: [Line<'static>; 5] = [
+const LINES: [Line<'static>; 6] = [
     Line {
         a: b"",
-        b: b"\x01NGW1",
+        b: b"\x01NGW2",
         configured: HERE,
         expected: "natgw.a is empty; natgw.b has no whole beginning, it was cut short or changed: put both back from one backup, or move natgw.b away to begin with nothing",
     },
@@ -219,7 +246,16 @@ const LINES: [Line<'static>; 5] = [
         a: &FRESH,
         b: b"",
         configured: THERE,
-        expected: "the files were written with another configuration: start natgw with --wan wan --external 203.0.113.1, or name another directory",
+        expected: "the files were written with another configuration: start natgw with --wan wan --external 203.0.113.1 --filtering endpoint, or name another directory",
+    },
+    Line {
+        a: b"",
+        b: &FIRST,
+        configured: Sides {
+            pool: &[0xcb00_7101, 0xcb00_7102],
+            ..HERE
+        },
+        expected: "the files were written with another configuration: start natgw with --external 203.0.113.1, or name another directory",
     },
     Line {
         a: b"",
@@ -249,7 +285,7 @@ fn line_of_a_cut_file(rt: HostRuntime) -> Result<(), Fail> {
 fn lines_beside(newer: &[u8]) -> [Line<'_>; 2] {
     [
         Line {
-            a: &FRESH,
+            a: &FIRST,
             b: newer,
             configured: HERE,
             expected: "the files are sound",
@@ -311,7 +347,7 @@ fn assert_diagnosed(
 #[test]
 fn files_of_a_disk(rt: HostRuntime) -> Result<(), Fail> {
     let alloc = rt.alloc();
-    let bounds = bounds(alloc, HERE.0, HERE.1)?;
+    let bounds = bounds(alloc, HERE)?;
     let mut disk = disk_of(alloc)?;
     assert_diagnosed(&rt, alloc, &mut disk, &bounds)
 }

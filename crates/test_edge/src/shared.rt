@@ -1,6 +1,6 @@
 //! Streams that several tests begin with, and gateways over a disk in memory.
 use gateway::{Gateway, GatewayFault};
-use packet::{Bounds, Prefix};
+use packet::{Bounds, Filtering, Prefix};
 use socket_edge::EdgeFault;
 use std::alloc::{AllocError, AllocFailed, Global};
 use std::io::{Read, Write};
@@ -172,8 +172,21 @@ pub fn length_of(body: &[u8]) -> [u8; 4] {
     u32::try_from(body.len()).unwrap_or(u32::MAX).to_be_bytes()
 }
 
-/// Inside 192.168.0.0/16, outside 203.0.113.1; none where memory is refused.
-fn bounds(alloc: Global) -> Option<Bounds> {
+/// The external addresses of a gateway, and whom its mappings let in.
+#[derive(Clone, Copy)]
+pub struct Outside {
+    pub pool: &'static [u32],
+    pub filtering: Filtering,
+}
+
+/// 203.0.113.1, and mappings that let everyone in.
+pub const ONE: Outside = Outside {
+    pool: &[0xcb00_7101],
+    filtering: Filtering::Endpoint,
+};
+
+/// Inside 192.168.0.0/16; none where memory is refused.
+fn bounds(alloc: Global, outside: Outside) -> Option<Bounds> {
     let inside = Prefix {
         addr: 0xc0a8_0000,
         len: 16,
@@ -181,14 +194,15 @@ fn bounds(alloc: Global) -> Option<Bounds> {
     let inside = Vec::from_slice(alloc, &[inside]).ok()?;
     let lan = String::from_str(alloc, "lan").ok()?;
     let wan = String::from_str(alloc, "wan").ok()?;
-    Bounds::new(lan, wan, inside, 0xcb00_7101).ok()
+    let external = Vec::from_slice(alloc, outside.pool).ok()?;
+    Bounds::new(lan, wan, inside, external, outside.filtering).ok()
 }
 
 /// A gateway over a disk for trials. It lies behind a box, so that a function which lets it go does so by one call.
 pub type Trials = Box<Gateway<Trial>>;
 
-fn open(alloc: Global, disk: Trial) -> Option<Trials> {
-    let bounds = bounds(alloc)?;
+fn open(alloc: Global, disk: Trial, outside: Outside) -> Option<Trials> {
+    let bounds = bounds(alloc, outside)?;
     match Gateway::open(alloc, disk, bounds, 0) {
         Ok(gateway) => boxed(alloc, gateway),
         Err(_) => None,
@@ -217,11 +231,15 @@ pub fn close(gateway: Trials) {
 
 /// A gateway over empty files; none where memory is refused.
 pub fn gateway(alloc: Global) -> Option<Trials> {
-    open(alloc, Trial::of(alloc, b"", b"").ok()?)
+    gateway_of(alloc, ONE)
+}
+
+fn gateway_of(alloc: Global, outside: Outside) -> Option<Trials> {
+    open(alloc, Trial::of(alloc, b"", b"").ok()?, outside)
 }
 
 fn reopened(alloc: Global, disk: Trial) -> Result<Trials, Fail> {
-    Ok(open(alloc, disk).ok_or("no gateway")?)
+    Ok(open(alloc, disk, ONE).ok_or("no gateway")?)
 }
 
 /// A gateway over empty files.
@@ -230,7 +248,16 @@ fn reopened(alloc: Global, disk: Trial) -> Result<Trials, Fail> {
 ///
 /// A `Fail` where memory is refused.
 pub fn opened(alloc: Global) -> Result<Trials, Fail> {
-    Ok(gateway(alloc).ok_or("no gateway")?)
+    opened_as(alloc, ONE)
+}
+
+/// As `opened`, with these external addresses and this filtering.
+///
+/// # Errors
+///
+/// A `Fail` where memory is refused.
+pub fn opened_as(alloc: Global, outside: Outside) -> Result<Trials, Fail> {
+    Ok(gateway_of(alloc, outside).ok_or("no gateway")?)
 }
 
 /// A gateway over files that were just made, of whose disk a later call fails, counted from 0.
@@ -271,7 +298,16 @@ pub fn run_anew<R: Read, W: Write>(
     reader: &mut R,
     writer: &mut W,
 ) -> Result<u64, EdgeFault> {
-    let Some(mut gateway) = gateway(alloc) else {
+    run_anew_as(alloc, reader, writer, ONE)
+}
+
+fn run_anew_as<R: Read, W: Write>(
+    alloc: Global,
+    reader: &mut R,
+    writer: &mut W,
+    outside: Outside,
+) -> Result<u64, EdgeFault> {
+    let Some(mut gateway) = gateway_of(alloc, outside) else {
         return Err(EdgeFault::Gateway(GatewayFault::NoMemory));
     };
     let ended = run(alloc, reader, writer, &mut gateway);
@@ -281,9 +317,18 @@ pub fn run_anew<R: Read, W: Write>(
 
 /// How a run over a stream ends at a gateway over empty files, and what it writes.
 pub fn run_over(alloc: Global, stream: &[u8]) -> (Result<u64, EdgeFault>, Vec<u8>) {
+    run_over_as(alloc, stream, ONE)
+}
+
+/// As `run_over`, with these external addresses and this filtering.
+pub fn run_over_as(
+    alloc: Global,
+    stream: &[u8],
+    outside: Outside,
+) -> (Result<u64, EdgeFault>, Vec<u8>) {
     let mut reader = stream;
     let mut written = Vec::new(alloc);
-    let ended = run_anew(alloc, &mut reader, &mut written);
+    let ended = run_anew_as(alloc, &mut reader, &mut written, outside);
     (ended, written)
 }
 

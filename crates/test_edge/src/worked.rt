@@ -3,11 +3,12 @@
 //!
 //! - `script`: events and their answers as lines of text, which are played over the byte stream;
 //! - `shared`: lines that several tests begin with;
-//! - `first_frame`, `phases`, `loads`, `legs`, `drops`: the tests.
+//! - `first_frame`, `phases`, `loads`, `legs`, `drops`, `pool`: the tests.
 mod drops;
 mod first_frame;
 mod legs;
 mod loads;
 mod phases;
+mod pool;
 mod script;
 mod shared;

@@ -5,7 +5,8 @@
 //! its call has failed, and the gateway is opened again.
 use crate::script::{compact, flush, offer, run};
 use crate::shared::{
-    Answer, Event, GatewayFault, Given, Iface, OpenFault, Trials, close, disk_of, open, some_bounds,
+    Answer, Event, GatewayFault, Given, Iface, OpenFault, SIDES, Trials, close, disk_of, open,
+    some_bounds,
 };
 use crate::words::read_event;
 use packet::Bounds;
@@ -45,7 +46,7 @@ struct Begun {
 fn four_bounds(alloc: Global) -> Option<Vec<Bounds>> {
     let mut all = Vec::new(alloc);
     for _ in 0..4 {
-        all.push(some_bounds(alloc, "wan")?).ok()?;
+        all.push(some_bounds(alloc, SIDES)?).ok()?;
     }
     Some(all)
 }

@@ -4,7 +4,7 @@
 use crate::model::{Lasting, Model, step};
 use crate::script::{play, run};
 use crate::shared::{
-    Answer, CHOICES, Event, Session, Trials, Trouble, close, crashed, disk_of, machine,
+    Answer, CHOICES, Event, SIDES, Session, Trials, Trouble, close, crashed, disk_of, machine,
 };
 use crate::told::{
     Told, begun, do_compact, do_flush, do_offer, hear_all, not_begun, opened_again, taken,
@@ -201,7 +201,7 @@ fn drive_to_its_end(
 
 // Over files that were empty.
 fn driven(alloc: Global, model: &Model, at: Trouble) -> Result<(Trial, Told), Fail> {
-    match begun(alloc, at)? {
+    match begun(alloc, SIDES, b"", at)? {
         Ok(gateway) => drive_to_its_end(alloc, gateway, model),
         Err(disk) => Ok((disk, not_begun(true))),
     }
@@ -256,7 +256,7 @@ fn check_opened(
 }
 
 fn check(alloc: Global, model: &Model, disk: Trial, told: Told) -> Result<(), Fail> {
-    let mut gateway = opened_again(alloc, disk, 2000)?;
+    let mut gateway = opened_again(alloc, SIDES, disk, 2000)?;
     let ended = check_opened(alloc, model, &mut gateway, told);
     close(gateway);
     ended

@@ -10,7 +10,7 @@ use trial_disk::Trial;
 
 // A session stands in its first group.
 const LAST_GENERATION: &str = "\
-01 4e475731 ffffffffffffffff 036c616e 0377616e 01 c0a8000010 cb007101 00000000 00000000
+01 4e475732 ffffffffffffffff 036c616e 0377616e 01 c0a8000010 01 cb007101 00 00000000 00000000
 01 00000016 02 11 c0a801021388 c0a801021388 c63364070035 00 00
 00";
 
@@ -50,15 +50,15 @@ fn generations(rt: HostRuntime) -> Result<(), Fail> {
     play_over(alloc, disk, 2000, &[STAYS])
 }
 
-// An open group of 67,108,762 bytes, and a session that begins in it.
-const GROUP: &str = "01 03ffff9a";
+// An open group of 67,108,760 bytes, and a session that begins in it.
+const GROUP: &str = "01 03ffff98";
 
 const BEGIN: &str = "02 11 c0a801021388 c0a801021388 c63364070035 00 00";
 
 // A load of a comment that is as long as a text may be, and one of a shorter comment.
 const LONGEST: [u8; 5] = [0x01, 0x00, 0x04, 0x00, 0x00];
 
-const SHORTER: [u8; 5] = [0x01, 0x00, 0x03, 0xfa, 0x84];
+const SHORTER: [u8; 5] = [0x01, 0x00, 0x03, 0xfa, 0x82];
 
 fn put_load(file: &mut Vec<u8>, load: &[u8], comment: &[u8]) -> Result<(), AllocError> {
     file.extend_from_slice(load)?;
@@ -70,7 +70,7 @@ fn put_loads(alloc: Global, file: &mut Vec<u8>) -> Result<(), AllocError> {
     for _ in 0..255 {
         put_load(file, &LONGEST, longest.as_slice())?;
     }
-    let shorter = vec![in alloc; b'#'; 260_740]?;
+    let shorter = vec![in alloc; b'#'; 260_738]?;
     put_load(file, &SHORTER, shorter.as_slice())
 }
 
@@ -89,7 +89,7 @@ fn nearly_full(alloc: Global) -> Result<Vec<u8>, Fail> {
 // changes.
 const NO_ROOM: &str = "\
 grown
-= 67108767
+= 67108765
 load 1000 table t {                                      }
 = full
 lan 1300 4500001c00010000 40118eea c0a80103 c6336407 13880035 0008003b
@@ -105,7 +105,7 @@ held
 flush
 = 1 wan 4500001c00010000 3f118fea c0a80103 c6336407 13880035 0008003b
 grown
-= 67108794
+= 67108792
 sessions
 = udp 192.168.1.2:5000 192.168.1.2:5000 198.51.100.7:53 inside 0 at 1000
 = udp 192.168.1.3:5000 192.168.1.3:5000 198.51.100.7:53 inside 0 at 1000
@@ -140,7 +140,7 @@ flush
 = 1 loaded
 = 2 ticked
 grown
-= 67108824";
+= 67108822";
 
 fn nearly_full_disk(alloc: Global) -> Result<Trial, Fail> {
     let file = nearly_full(alloc)?;

@@ -13,12 +13,12 @@ use std::process::Abort;
 use std::test::*;
 use trial_disk::Trial;
 
-// A file of 162 bytes with the text and the session as its snapshot, from its generation on.
+// A file of 164 bytes with the text and the session as its snapshot, from its generation on.
 fn snapshot(alloc: Global, generation: &str) -> Result<Vec<u8>, Fail> {
-    let configuration = "036c616e 0377616e 01 c0a8000010 cb007101 00000065";
+    let configuration = "036c616e 0377616e 01 c0a8000010 01 cb007101 00 00000065";
     let session = "00000001 11 c0a801021388 cb0071011388 c63364070035 00 00 00";
     let mut file = Vec::new(alloc);
-    for text in &["01 4e475731", generation, configuration] {
+    for text in &["01 4e475732", generation, configuration] {
         put_hex(&mut file, *text)?;
     }
     file.extend_from_slice(MASQUERADE.as_bytes())?;
@@ -67,7 +67,7 @@ fn length_of(alloc: Global, disk: &mut Trial, front: &[u8], second: &[u8]) -> Op
 // The first file is as it was.
 fn look(rt: &impl Abort, alloc: Global, disk: &mut Trial, second: &[u8]) -> Result<(), Fail> {
     let front = hex(alloc, FRESH_FRONT)?;
-    assert_eq!(rt; length_of(alloc, disk, &front, second), Some(173));
+    assert_eq!(rt; length_of(alloc, disk, &front, second), Some(175));
     Ok(())
 }
 
@@ -84,7 +84,7 @@ fn look_again(rt: &impl Abort, alloc: Global, disk: &mut Trial, second: &[u8]) -
 fn compacted(rt: HostRuntime) -> Result<(), Fail> {
     let alloc = rt.alloc();
     let second = snapshot(alloc, "0000000000000002")?;
-    assert_eq!(rt; second.len(), 162);
+    assert_eq!(rt; second.len(), 164);
     let mut disk = fresh_behind(alloc, &[TWO_HELD, TWO_FLUSHED, COMPACTED])?;
     let ended = look(&rt, alloc, &mut disk, &second);
     let mut disk = played(alloc, kept(disk, ended)?, 1400, &[FOUND_AGAIN])?;

@@ -54,7 +54,7 @@ flush";
 fn held_rows(rt: HostRuntime) -> Result<(), Fail> {
     let alloc = rt.alloc();
     let file = one_group(alloc)?;
-    assert_eq!(rt; file.len(), 173);
+    assert_eq!(rt; file.len(), 175);
     let scripts = [TWO_HELD, COUNTS_HELD, TWO_FLUSHED, COUNTS_FLUSHED];
     let _calls = look_behind(&rt, alloc, &scripts, &file)?;
     Ok(())

@@ -6,10 +6,11 @@
 //! - `forward` and the event of a packet: the packet is handed in where it lies: `3 wan 4500..`, or `none`, and then it
 //!   is as it was;
 //! - `flush`: a line for each answer with its number, or the fault; `compact`: `done`, or the fault;
-//! - `held`, `grown`: the number; `rules`: the text; `sessions`: a line for each.
+//! - `held`, `grown`: the number; `rules`: the text; `sessions`: a line for each; `migrated`: whether the opening made a
+//!   file anew since the active one was of a former version.
 use crate::shared::{
-    Answer, Bytes, Event, GatewayFault, Given, TWO_FLUSHED, TWO_HELD, Trials, What, disk, left_of,
-    opened,
+    Answer, Bytes, Event, GatewayFault, Given, SIDES, Sides, TWO_FLUSHED, TWO_HELD, Trials, What,
+    disk, left_of, opened_as,
 };
 use crate::words::{
     event_line, events, given_line, handed_line, put_squeezed, read_event, session_line, squeezed,
@@ -194,6 +195,7 @@ fn ask(
         "held" => put_number(alloc, out, gateway.held() as u64),
         "grown" => put_number(alloc, out, gateway.grown()),
         "rules" => ask_rules(out, gateway),
+        "migrated" => put_line(out, if gateway.has_migrated() { "yes" } else { "no" }),
         "sessions" => ask_sessions(alloc, out, gateway),
         _ => match line.strip_prefix("forward ") {
             Some(line) => ask_forward(alloc, out, gateway, line),
@@ -276,7 +278,18 @@ pub fn play_all(alloc: Global, gateway: &mut Trials, scripts: &[&str]) -> Result
 
 /// Opens a gateway over a disk, plays these, and gives back the disk.
 pub fn played(alloc: Global, disk: Trial, moment: u64, scripts: &[&str]) -> Result<Trial, Fail> {
-    let mut gateway = opened(alloc, disk, moment)?;
+    played_as(alloc, SIDES, disk, moment, scripts)
+}
+
+/// The same in this configuration.
+pub fn played_as(
+    alloc: Global,
+    sides: Sides,
+    disk: Trial,
+    moment: u64,
+    scripts: &[&str],
+) -> Result<Trial, Fail> {
+    let mut gateway = opened_as(alloc, sides, disk, moment)?;
     let ended = play_all(alloc, &mut gateway, scripts);
     left_of(gateway, ended)
 }

@@ -4,7 +4,7 @@ pub use gateway::{
     Answer, Bytes, Event, Gateway, GatewayFault, Given, Iface, OpenFault, Session, What,
 };
 use machine::Core;
-use packet::{Bounds, Prefix};
+use packet::{Bounds, Filtering, Prefix};
 use std::alloc::{AllocFailed, Global};
 use std::process::Abort;
 use std::test::Fail;
@@ -49,34 +49,77 @@ rules
 =
 sessions";
 
-/// A file that was just made, for `lan`, `wan`, 192.168.0.0/16 and 203.0.113.1.
+/// A file that was just made, for `SIDES`.
 pub const FRESH: &str = "\
-01 4e475731 0000000000000001 036c616e 0377616e 01 c0a8000010 cb007101 00000000 00000000 00";
+01 4e475732 0000000000000001 036c616e 0377616e 01 c0a8000010 01 cb007101 00 00000000 00000000 00";
 
 /// It is one as long as that, up to the gate of its first group.
 pub const FRESH_FRONT: &str = "\
-01 4e475731 0000000000000001 036c616e 0377616e 01 c0a8000010 cb007101 00000000 00000000";
+01 4e475732 0000000000000001 036c616e 0377616e 01 c0a8000010 01 cb007101 00 00000000 00000000";
 
-/// Inside 192.168.0.0/16, outside 203.0.113.1, with this name of the outer interface; none where memory is refused.
-pub fn some_bounds(alloc: Global, wan: &str) -> Option<Bounds> {
+/// What an older version of natgw made then.
+pub const FIRST_FRESH: &str = "\
+01 4e475731 0000000000000001 036c616e 0377616e 01 c0a8000010 cb007101 00000000 00000000 00";
+
+/// What a configuration has beside `lan`, and 192.168.0.0/16 inside.
+#[derive(Clone, Copy)]
+pub struct Sides {
+    pub wan: &'static str,
+    pub pool: &'static [u32],
+    pub filtering: Filtering,
+}
+
+/// Outside 203.0.113.1, whose mappings let everyone in.
+pub const SIDES: Sides = Sides {
+    wan: "wan",
+    pool: &[0xcb00_7101],
+    filtering: Filtering::Endpoint,
+};
+
+/// 203.0.113.2 beside it.
+pub const TWO: Sides = Sides {
+    pool: &[0xcb00_7101, 0xcb00_7102],
+    ..SIDES
+};
+
+/// Its mappings let in by the remote address.
+pub const BY_ADDRESS: Sides = Sides {
+    filtering: Filtering::Address,
+    ..SIDES
+};
+
+/// Another name of the outer interface.
+pub const RENAMED: Sides = Sides {
+    wan: "wan1",
+    ..SIDES
+};
+
+/// The configuration; none where memory is refused.
+pub fn some_bounds(alloc: Global, sides: Sides) -> Option<Bounds> {
     let prefix = Prefix {
         addr: 0xc0a8_0000,
         len: 16,
     };
     let inside = Vec::from_slice(alloc, &[prefix]).ok()?;
     let lan = String::from_str(alloc, "lan").ok()?;
-    let wan = String::from_str(alloc, wan).ok()?;
-    Bounds::new(lan, wan, inside, 0xcb00_7101).ok()
+    let wan = String::from_str(alloc, sides.wan).ok()?;
+    let external = Vec::from_slice(alloc, sides.pool).ok()?;
+    Bounds::new(lan, wan, inside, external, sides.filtering).ok()
 }
 
 /// The same, where memory isn't refused.
-pub fn bounds(alloc: Global, wan: &str) -> Result<Bounds, Fail> {
-    Ok(some_bounds(alloc, wan).ok_or("no bounds")?)
+pub fn bounds(alloc: Global, sides: Sides) -> Result<Bounds, Fail> {
+    Ok(some_bounds(alloc, sides).ok_or("no bounds")?)
 }
 
 /// A machine without a disk. It lies behind a box as a gateway does.
 pub fn machine(alloc: Global, moment: u64) -> Result<Box<Core>, Fail> {
-    let core = Core::start(alloc, bounds(alloc, "wan")?, moment)?;
+    machine_of(alloc, SIDES, moment)
+}
+
+/// A machine of this configuration.
+pub fn machine_of(alloc: Global, sides: Sides, moment: u64) -> Result<Box<Core>, Fail> {
+    let core = Core::start(alloc, bounds(alloc, sides)?, moment)?;
     Ok(Box::new(alloc, core)?)
 }
 
@@ -153,7 +196,12 @@ fn opened_within(alloc: Global, disk: Trial, bounds: Bounds, moment: u64) -> Res
 
 /// Opens a gateway over the disk, where nothing is to fail.
 pub fn opened(alloc: Global, disk: Trial, moment: u64) -> Result<Trials, Fail> {
-    match bounds(alloc, "wan") {
+    opened_as(alloc, SIDES, disk, moment)
+}
+
+/// The same in this configuration.
+pub fn opened_as(alloc: Global, sides: Sides, disk: Trial, moment: u64) -> Result<Trials, Fail> {
+    match bounds(alloc, sides) {
         Ok(bounds) => opened_within(alloc, disk, bounds, moment),
         Err(fail) => {
             drop(disk);

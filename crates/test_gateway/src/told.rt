@@ -2,8 +2,8 @@
 use crate::model::{Lasting, Model, is_same};
 use crate::script::{compact, flush, offer};
 use crate::shared::{
-    Answer, Event, GatewayFault, Given, OpenFault, Trials, Trouble, disk, expect_trouble, open,
-    opened, some_bounds,
+    Answer, Event, GatewayFault, Given, OpenFault, Sides, Trials, Trouble, disk, expect_trouble,
+    open, opened_as, some_bounds,
 };
 use packet::Bounds;
 use std::alloc::Global;
@@ -42,11 +42,16 @@ fn begun_within(
     }
 }
 
-/// Opens a gateway over empty files, with trouble at a call of the disk; where the opening meets it, the disk comes
-/// back.
-pub fn begun(alloc: Global, at: Trouble) -> Result<Result<Trials, Trial>, Fail> {
-    let bounds = some_bounds(alloc, "wan").ok_or("no bounds")?;
-    let mut disk = disk(alloc, b"", b"")?;
+/// Opens a gateway over this file and an empty one, with trouble at a call of the disk; where the opening meets it, the
+/// disk comes back.
+pub fn begun(
+    alloc: Global,
+    sides: Sides,
+    file: &[u8],
+    at: Trouble,
+) -> Result<Result<Trials, Trial>, Fail> {
+    let bounds = some_bounds(alloc, sides).ok_or("no bounds")?;
+    let mut disk = disk(alloc, file, b"")?;
     expect_trouble(&mut disk, at, 0);
     Ok(begun_within(alloc, disk, bounds)?)
 }
@@ -63,12 +68,12 @@ pub fn with_disk(disk: Trial, told: Result<Told, Fail>) -> Result<(Trial, Told),
 }
 
 /// Opens it again, if each call was within its file.
-pub fn opened_again(alloc: Global, disk: Trial, moment: u64) -> Result<Trials, Fail> {
+pub fn opened_again(alloc: Global, sides: Sides, disk: Trial, moment: u64) -> Result<Trials, Fail> {
     if disk.has_strayed() {
         drop(disk);
         return Err(Fail::new("it strayed"));
     }
-    opened(alloc, disk, moment)
+    opened_as(alloc, sides, disk, moment)
 }
 
 fn is_next(wanted: &[Answer], told: &mut Told, number: u64, answer: &Answer) -> bool {

@@ -5,6 +5,7 @@
 //! - `shared`: gateways over a disk in memory, and what a caller sees of them;
 //! - `texts`: rulesets that are read;
 //! - `calls`: a gateway that is opened, and its offers, flushes, compactions and runs;
+//! - `migration`: a gateway that is opened over a file of the first version;
 //! - `streams`: a stream of requests, and the frames of its answers.
 //!
 //! Where a call of the disk fails for want of memory, the gateway has fallen. Then the files are opened again, and have
@@ -12,6 +13,7 @@
 #![tactic(auto)]
 
 mod calls;
+mod migration;
 mod shared;
 mod streams;
 mod texts;
@@ -39,6 +41,7 @@ fn place_of(stop: Stop) -> &'static str {
 
 fn play(rt: &HostRuntime) -> Result<(), Stop> {
     texts::read_each(rt)?;
+    migration::play(rt.alloc())?;
     let answers = calls::play(rt.alloc())?;
     for (number, answer) in answers.as_slice() {
         must(print_answer(rt, *number, answer).is_ok(), "printing")?;

@@ -2,7 +2,7 @@
 pub use gateway::{
     Answer, Bytes, Event, Gateway, GatewayFault, Given, Iface, OpenFault, Session, What,
 };
-use packet::{Bounds, Prefix};
+use packet::{Bounds, Filtering, Prefix};
 use std::alloc::{AllocFailed, Global};
 use trial_disk::Trial;
 
@@ -56,7 +56,8 @@ fn bounds_once(alloc: Global) -> Option<Bounds> {
     let inside = Vec::from_slice(alloc, &[prefix]).ok()?;
     let lan = String::from_str(alloc, "lan").ok()?;
     let wan = String::from_str(alloc, "wan").ok()?;
-    Bounds::new(lan, wan, inside, 0xcb00_7101).ok()
+    let external = Vec::from_slice(alloc, &[0xcb00_7101]).ok()?;
+    Bounds::new(lan, wan, inside, external, Filtering::Endpoint).ok()
 }
 
 /// As `bounds_once`, made a second time where memory was refused.
@@ -67,16 +68,21 @@ pub fn bounds(alloc: Global) -> Result<Bounds, Stop> {
     }
 }
 
-fn disk_once(alloc: Global) -> Option<Trial> {
-    Trial::of(alloc, b"", b"").ok()
+fn disk_once(alloc: Global, file: &[u8]) -> Option<Trial> {
+    Trial::of(alloc, file, b"").ok()
+}
+
+/// A disk of this file and an empty one, made a second time where memory was refused.
+pub fn disk_of_file(alloc: Global, file: &[u8]) -> Result<Trial, Stop> {
+    match disk_once(alloc, file) {
+        Some(disk) => Ok(disk),
+        None => disk_once(alloc, file).ok_or(Stop::Wrong("disk")),
+    }
 }
 
 /// A disk of two empty files, made a second time where memory was refused.
 pub fn empty_disk(alloc: Global) -> Result<Trial, Stop> {
-    match disk_once(alloc) {
-        Some(disk) => Ok(disk),
-        None => disk_once(alloc).ok_or(Stop::Wrong("disk")),
-    }
+    disk_of_file(alloc, b"")
 }
 
 fn open_once(alloc: Global, disk: Trial, bounds: Bounds) -> Result<Trials, (Trial, OpenFault)> {

@@ -215,7 +215,7 @@ const MATCHES: [Row; 47] = [
 ];
 
 // States of connections, maps and translations.
-const STATES_AND_MAPS: [Row; 40] = [
+const STATES_AND_MAPS: [Row; 43] = [
     ("ct state new accept", "ok"),
     (
         "ct state established,related,invalid,untracked accept",

@@ -1,6 +1,6 @@
 //! Each cause of a drop, from each interface where it can come, and the earlier of two causes.
 //!
-//! Causes 14, which is never answered, and 20, which takes 65,536 sessions, are left out.
+//! Cause 14, which module `pool` has, and 20, which takes 65,536 sessions, are left out.
 use crate::worked::first_frame::all_taken;
 use crate::worked::script::{play, play_behind, play_each};
 use crate::worked::shared::{FIRST, MASQUERADE};

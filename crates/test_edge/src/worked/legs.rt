@@ -9,7 +9,7 @@ wan 1000 4500002800010000 40061491 c6336409 cb007101 1b580016 00000001 00000000 
 = drop 13
 : udp 192.168.1.2:5000 203.0.113.1:5000 198.51.100.7:53 - inside 0 at 1000";
 
-const STRANGER_TO_INSIDE: &str = "\
+pub const STRANGER_TO_INSIDE: &str = "\
 wan 1000 4500001c00010000 40118ee9 c6336409 c0a80102 1b581388 0008e516
 = lan 4500001c00010000 3f118fe9 c6336409 c0a80102 1b581388 0008e516
 : udp 192.168.1.2:5000 203.0.113.1:5000 198.51.100.7:53 - inside 0 at 1000, udp 192.168.1.2:5000 192.168.1.2:5000 198.51.100.9:7000 - remote 0 at 1000";
@@ -24,12 +24,12 @@ wan 1000 4500001c00010000 40117d1d c0a80109 cb007101 1b581388 0008d34a
 = drop 11
 : udp 192.168.1.2:5000 203.0.113.1:5000 198.51.100.7:53 - inside 0 at 1000";
 
-const STRANGER: &str = "\
+pub const STRANGER: &str = "\
 wan 1000 4500001c00010000 40111492 c6336409 cb007101 1b581388 00086abf
 = lan 4500001c00010000 3f118fe9 c6336409 c0a80102 1b581388 0008e516
 : udp 192.168.1.2:5000 203.0.113.1:5000 198.51.100.7:53 - inside 0 at 1000, udp 192.168.1.2:5000 203.0.113.1:5000 198.51.100.9:7000 - remote 0 at 1000";
 
-const HAIRPIN: &str = "\
+pub const HAIRPIN: &str = "\
 lan 1000 4500001c00010000 40117d23 c0a80103 cb007101 17701388 0008d738
 = lan 4500001c00010000 3f117e24 cb007101 c0a80102 17701388 0008d739
 : udp 192.168.1.2:5000 203.0.113.1:5000 198.51.100.7:53 - inside 0 at 1000, udp 192.168.1.2:5000 203.0.113.1:5000 203.0.113.1:6000 - remote 0 at 1000, udp 192.168.1.3:6000 203.0.113.1:6000 203.0.113.1:5000 - inside 0 at 1000";
@@ -38,7 +38,7 @@ const SELF: &str = "\
 lan 1000 4500001c00010000 40117d24 c0a80102 cb007101 13881388 0008db21
 = drop 18";
 
-const MASQUERADE_AND_FILTER: &str = "\
+pub const MASQUERADE_AND_FILTER: &str = "\
 load 1000 table ip nat { chain post { type nat hook postrouting priority srcnat; oifname \"wan\" masquerade; }; } table ip f { chain fw { type filter hook forward priority filter; iifname \"wan\" ct state new drop; }; }
 = loaded";
 

@@ -9,7 +9,8 @@
 //! - `: udp 192.168.1.2:5000 203.0.113.1:5000 198.51.100.7:53 - inside 0 at 1000`: the sessions, joined
 //!   by commas: inside, outside, remote, phase, opener, the bits seen, the moment of the last packet.
 use crate::shared::{
-    Trials, close, hex, joined, length_of, opened, put_hex, request, run, run_over,
+    ONE, Outside, Trials, close, hex, joined, length_of, opened_as, put_hex, request, run,
+    run_over, run_over_as,
 };
 use gateway::Session;
 use packet::{Endpoint, Proto};
@@ -165,10 +166,11 @@ fn listed(alloc: Global, gateway: &Trials) -> Result<String, Fail> {
     Ok(all)
 }
 
-/// A script on its way: what was asked and what is to be answered in all, and the last answer.
+/// A script on its way: at what gateway, what was asked and what is to be answered in all, and the last answer.
 #[derive(Drop)]
 struct Stage {
     alloc: Global,
+    outside: Outside,
     number: u64,
     written: Vec<u8>,
     all_asked: Vec<u8>,
@@ -259,7 +261,7 @@ fn play_both(
 }
 
 fn play_anew(stage: &mut Stage, front: &[&str], parts: &[&str]) -> Result<(), Fail> {
-    let mut gateway = opened(stage.alloc)?;
+    let mut gateway = opened_as(stage.alloc, stage.outside)?;
     let played = play_both(stage, &mut gateway, front, parts);
     close(gateway);
     played
@@ -269,7 +271,8 @@ fn play_anew(stage: &mut Stage, front: &[&str], parts: &[&str]) -> Result<(), Fa
 fn play_on(stage: &mut Stage, front: &[&str], parts: &[&str]) -> Result<(), Fail> {
     play_anew(stage, front, parts)?;
     let (asked, answers) = (stage.all_asked.as_slice(), stage.all_answers.as_slice());
-    expect_run(stage.alloc, asked, Ok(stage.number), answers)
+    let (ended, written) = run_over_as(stage.alloc, asked, stage.outside);
+    expect_ended(stage.alloc, ended, &written, Ok(stage.number), answers)
 }
 
 /// Plays the parts one behind the other: each event alone, and then all of them in one stream.
@@ -278,12 +281,22 @@ fn play_on(stage: &mut Stage, front: &[&str], parts: &[&str]) -> Result<(), Fail
 ///
 /// A `Fail` with the number of the event, the line and what came instead; or where a line can't be read.
 pub fn play(alloc: Global, parts: &[&str]) -> Result<(), Fail> {
-    play_one(alloc, &[], parts)
+    play_one(alloc, ONE, &[], parts)
 }
 
-fn play_one(alloc: Global, front: &[&str], parts: &[&str]) -> Result<(), Fail> {
+/// As `play`, at a gateway with these external addresses and this filtering.
+///
+/// # Errors
+///
+/// Those of `play`.
+pub fn play_as(alloc: Global, outside: Outside, parts: &[&str]) -> Result<(), Fail> {
+    play_one(alloc, outside, &[], parts)
+}
+
+fn play_one(alloc: Global, outside: Outside, front: &[&str], parts: &[&str]) -> Result<(), Fail> {
     let mut stage = Stage {
         alloc,
+        outside,
         number: 0,
         written: Vec::new(alloc),
         all_asked: Vec::new(alloc),
@@ -310,7 +323,19 @@ pub fn play_each(alloc: Global, scripts: &[&[&str]]) -> Result<(), Fail> {
 /// Those of the first one that fails.
 pub fn play_behind(alloc: Global, front: &[&str], scripts: &[&[&str]]) -> Result<(), Fail> {
     for parts in scripts {
-        play_one(alloc, front, parts)?;
+        play_one(alloc, ONE, front, parts)?;
+    }
+    Ok(())
+}
+
+/// Plays each of these scripts at a gateway with these external addresses and this filtering.
+///
+/// # Errors
+///
+/// Those of the first one that fails.
+pub fn play_each_as(alloc: Global, outside: Outside, scripts: &[&[&str]]) -> Result<(), Fail> {
+    for parts in scripts {
+        play_as(alloc, outside, parts)?;
     }
     Ok(())
 }
@@ -345,20 +370,21 @@ pub fn expect_end(
 ) -> Result<(), Fail> {
     let answers = frames(alloc, answers)?;
     let stream = hex(alloc, stream)?;
-    expect_run(alloc, stream.as_slice(), end, answers.as_slice())
+    let (ended, written) = run_over(alloc, stream.as_slice());
+    expect_ended(alloc, ended, &written, end, answers.as_slice())
 }
 
-fn expect_run(
+fn expect_ended(
     alloc: Global,
-    stream: &[u8],
+    ended: Result<u64, EdgeFault>,
+    written: &[u8],
     end: Result<u64, EdgeFault>,
     answers: &[u8],
 ) -> Result<(), Fail> {
-    let (ended, written) = run_over(alloc, stream);
-    if ended == end && written.as_slice() == answers {
+    if ended == end && written == answers {
         return Ok(());
     }
-    tell_end(alloc, ended, written.as_slice())
+    tell_end(alloc, ended, written)
 }
 
 // A stream ended otherwise, or was answered otherwise.

@@ -1,20 +1,26 @@
 //! The gateway over a disk that is stopped, or fails, at each of its calls, and opened again.
-use crate::drawn::events::{EVENTS, Next, Number, behind, event, numbers};
+use crate::drawn::events::{EVENTS, Next, Number, behind, event, numbers, sides};
 use crate::model::{Lasting, Model};
 use crate::script::forward;
-use crate::shared::{CHOICES, Event, Trials, Trouble, close, crashed, disk_of, machine};
+use crate::shared::{
+    CHOICES, Event, FIRST_FRESH, SIDES, Sides, Trials, Trouble, close, crashed, disk_of, machine_of,
+};
 use crate::told::{
     Told, begun, do_compact, do_flush, do_offer, hear, not_begun, opened_again, taken, with_disk,
 };
+use crate::words::hex;
 use machine::Core;
 use std::alloc::Global;
 use std::test::*;
 use trial_disk::Trial;
 
-/// The numbers of a seed, and what the machine makes of them.
+/// The numbers of a seed, the configuration, the file that stands there at first, beside an empty one, and what the
+/// machine makes of them.
 #[derive(Drop)]
 struct Script {
     numbers: Vec<Number>,
+    sides: Sides,
+    file: Vec<u8>,
     model: Model,
 }
 
@@ -25,29 +31,45 @@ fn go_on(
     core: &mut Core,
     place: usize,
     number: &Number,
+    pool: usize,
 ) -> Option<()> {
-    model.go_on(alloc, core, event(alloc, place, number)?)
+    model.go_on(alloc, core, event(alloc, place, number, pool)?)
 }
 
-fn go_through(alloc: Global, core: &mut Core, numbers: &[Number]) -> Option<Model> {
+fn go_through(alloc: Global, core: &mut Core, numbers: &[Number], pool: usize) -> Option<Model> {
     let mut model = Model::begin(alloc, core)?;
     for (place, number) in numbers.iter().enumerate() {
-        go_on(alloc, &mut model, core, place, number)?;
+        go_on(alloc, &mut model, core, place, number, pool)?;
     }
     Some(model)
 }
 
-fn run_of_machine(alloc: Global, numbers: &[Number]) -> Result<Model, Fail> {
-    let mut core = machine(alloc, 1000)?;
-    let model = go_through(alloc, &mut core, numbers);
+fn run_of_machine(alloc: Global, sides: Sides, numbers: &[Number]) -> Result<Model, Fail> {
+    let mut core = machine_of(alloc, sides, 1000)?;
+    let model = go_through(alloc, &mut core, numbers, sides.pool.len());
     drop(core);
     Ok(model.ok_or("no memory")?)
 }
 
-fn script_of(alloc: Global, seed: u64) -> Result<Script, Fail> {
+// The first number says the configuration.
+fn sides_of(numbers: &[Number]) -> Sides {
+    match numbers.first() {
+        Some(number) => sides(number),
+        None => SIDES,
+    }
+}
+
+fn script_of(alloc: Global, seed: u64, file: &str) -> Result<Script, Fail> {
+    let file = hex(alloc, file)?;
     let numbers = numbers(alloc, seed)?;
-    let model = run_of_machine(alloc, numbers.as_slice())?;
-    Ok(Script { numbers, model })
+    let sides = sides_of(numbers.as_slice());
+    let model = run_of_machine(alloc, sides, numbers.as_slice())?;
+    Ok(Script {
+        numbers,
+        sides,
+        file,
+        model,
+    })
 }
 
 // A packet is handed in where it lies first.
@@ -82,22 +104,23 @@ fn go_behind(
 
 fn do_number(
     alloc: Global,
-    model: &Model,
+    script: &Script,
     gateway: &mut Trials,
     told: &mut Told,
     place: usize,
     number: &Number,
 ) -> Result<(), Fail> {
-    let event = event(alloc, place, number).ok_or("no memory")?;
-    do_event(model, gateway, told, event)?;
-    go_behind(model, gateway, told, number)
+    let pool = script.sides.pool.len();
+    let event = event(alloc, place, number, pool).ok_or("no memory")?;
+    do_event(&script.model, gateway, told, event)?;
+    go_behind(&script.model, gateway, told, number)
 }
 
 // Offers the events up to the first fault, and flushes behind the last.
 fn drive(alloc: Global, gateway: &mut Trials, script: &Script) -> Result<Told, Fail> {
     let mut told = not_begun(false);
     for (place, number) in script.numbers.iter().enumerate() {
-        do_number(alloc, &script.model, gateway, &mut told, place, number)?;
+        do_number(alloc, script, gateway, &mut told, place, number)?;
         if told.has_fallen {
             return Ok(told);
         }
@@ -118,17 +141,16 @@ fn drive_to_its_end(
     with_disk(disk_of(gateway), told)
 }
 
-// Over files that were empty.
 fn driven(alloc: Global, script: &Script, trouble: Trouble) -> Result<(Trial, Told), Fail> {
-    match begun(alloc, trouble)? {
+    match begun(alloc, script.sides, script.file.as_slice(), trouble)? {
         Ok(gateway) => drive_to_its_end(alloc, gateway, script),
         Err(disk) => Ok((disk, not_begun(true))),
     }
 }
 
 // What the files stand for, opened when all events are past.
-fn left(alloc: Global, disk: Trial) -> Result<Lasting, Fail> {
-    let gateway = opened_again(alloc, disk, 10_000)?;
+fn left(alloc: Global, sides: Sides, disk: Trial) -> Result<Lasting, Fail> {
+    let gateway = opened_again(alloc, sides, disk, 10_000)?;
     let left = Lasting::of_gateway(alloc, &gateway);
     close(gateway);
     Ok(left.ok_or("no memory")?)
@@ -154,13 +176,13 @@ fn tell(seen: &mut Seen, told: Told, taken: usize) {
 // Opens it again. Whether it had fallen.
 fn check(
     alloc: Global,
-    model: &Model,
+    script: &Script,
     disk: Trial,
     told: Told,
     seen: &mut Seen,
 ) -> Result<bool, Fail> {
-    let left = left(alloc, disk)?;
-    let taken = taken(model, told, &left)?;
+    let left = left(alloc, script.sides, disk)?;
+    let taken = taken(&script.model, told, &left)?;
     tell(seen, told, taken);
     Ok(told.has_fallen)
 }
@@ -173,7 +195,7 @@ fn stop(
     seen: &mut Seen,
 ) -> Result<bool, Fail> {
     let (disk, told) = driven(alloc, script, Trouble::Stop(call))?;
-    check(alloc, &script.model, crashed(disk, choice)?, told, seen)
+    check(alloc, script, crashed(disk, choice)?, told, seen)
 }
 
 fn fault(alloc: Global, script: &Script, call: u64, seen: &mut Seen) -> Result<bool, Fail> {
@@ -182,7 +204,7 @@ fn fault(alloc: Global, script: &Script, call: u64, seen: &mut Seen) -> Result<b
         drop(disk);
         return Ok(false);
     }
-    check(alloc, &script.model, disk, told, seen)
+    check(alloc, script, disk, told, seen)
 }
 
 // Any of what wasn't synced.
@@ -237,34 +259,36 @@ fn fault_at_each(alloc: Global, script: &Script) -> Result<Seen, Fail> {
     Err(Fail::new("it doesn't end"))
 }
 
-fn stop_each(alloc: Global, seed: u64) -> Result<Seen, Fail> {
-    let script = script_of(alloc, seed)?;
+fn stop_each(alloc: Global, seed: u64, file: &str) -> Result<Seen, Fail> {
+    let script = script_of(alloc, seed, file)?;
     stop_at_each(alloc, &script)
 }
 
 fn fault_each(alloc: Global, seed: u64) -> Result<Seen, Fail> {
-    let script = script_of(alloc, seed)?;
+    let script = script_of(alloc, seed, "")?;
     fault_at_each(alloc, &script)
 }
 
-// Of each seed 886, 910 and 978 calls, with seven choices each.
+// Of each seed 886, 910 and 978 calls, with seven choices each. By the first seed there is one address, and filtering by
+// endpoint: its stops begin over a file of the first version, its faults over empty files. By the second one there are two
+// addresses, and filtering by address; by the third one three.
 #[test]
 fn first_seed(rt: HostRuntime) -> Result<(), Fail> {
-    let seen = stop_each(rt.alloc(), 1)?;
+    let seen = stop_each(rt.alloc(), 1, FIRST_FRESH)?;
     assert_eq!(rt; (seen.troubles, seen.survivals), (6202, 752));
     Ok(())
 }
 
 #[test]
 fn second_seed(rt: HostRuntime) -> Result<(), Fail> {
-    let seen = stop_each(rt.alloc(), 2)?;
+    let seen = stop_each(rt.alloc(), 2, "")?;
     assert_eq!(rt; (seen.troubles, seen.survivals), (6370, 579));
     Ok(())
 }
 
 #[test]
 fn third_seed(rt: HostRuntime) -> Result<(), Fail> {
-    let seen = stop_each(rt.alloc(), 3)?;
+    let seen = stop_each(rt.alloc(), 3, "")?;
     assert_eq!(rt; (seen.troubles, seen.survivals), (6846, 872));
     Ok(())
 }
