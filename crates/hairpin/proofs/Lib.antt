@@ -11,5 +11,6 @@ pub mod Pairs
 pub mod Planned
 pub mod Same
 pub mod Soundness
+pub mod Strangers
 pub mod Tally
 pub mod UsedLemmas

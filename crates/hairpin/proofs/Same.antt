@@ -1,5 +1,5 @@
 -- Each leg is the former one.
-use Rattle.std.proofs.Common.{◌≡◌, ℕ, Bool, List, [], ◌∷◌, Option, Some, None, is_some, Result, Ok, Err, if◌then◌else◌, refl, sym, ap, ◌∙◌}
+use Rattle.std.proofs.Common.{◌≡◌, ℕ, List, [], ◌∷◌, Option, Some, None, Result, Ok, Err, if◌then◌else◌, refl, sym, ap, ◌∙◌}
 use Rattle.std.specs.Prelude.{find}
 use Rattle.packet.specs.Config.{Config, Pool, is_inside}
 use Rattle.packet.specs.Same.{same_endpoint}
@@ -20,11 +20,11 @@ use Rattle.verdict.specs.declared.hook.Destination.{Destination}
 use Rattle.verdict.specs.declared.hook.Destination.TheVariants as destination
 use Rattle.verdict.specs.declared.hook.Source.{Source}
 use Rattle.verdict.specs.declared.hook.Source.TheVariants as source
-use Rattle.hairpin.specs.AsBefore.{OneAddressIsAsBefore, StrangersAreFiltered}
+use Rattle.hairpin.specs.AsBefore.{OneAddressIsAsBefore}
 use Rattle.hairpin.specs.Former as former
 use Rattle.hairpin.specs.Legs.{begun_in, begun_second, by_mapping, counted, facts_of, first_by, first_state, forwarded, hairpin_by, in_by, inside_by_rules, inside_far, inside_for, is_taken, maps_inside, maps_outside, needs_session, new_session, or_no_port, out_by, outside_by_rules, outside_for, outside_near, outward, second, second_by, then_with, through, uses_in}
 use Rattle.hairpin.specs.declared.cause.Cause.{Cause}
-use Rattle.hairpin.specs.declared.cause.Cause.TheVariants.{Filtered, NoSession, SelfMapped}
+use Rattle.hairpin.specs.declared.cause.Cause.TheVariants.{NoSession, SelfMapped}
 
 -- what follows two answers that are the same is the same, where each follows alike
 then-same : {A B : Type 0} (r : Result A Cause) (f g : A → Result B Cause) → ((a : A) → f a ≡ g a) → then_with r f ≡ then_with r g
@@ -114,16 +114,3 @@ as_before = record {
   inward = λ only config rules sessions now view by. in-by only config rules sessions now view by (find (has_outside view.proto view.dst view.src) sessions);
   hairpin = λ only config rules sessions now view one by at. both only config rules sessions now view one by at (find (has_inside view.proto view.src view.dst) sessions);
 }
-
-pub strangers : StrangersAreFiltered
-strangers config rules sessions now view m by none udp outside asked found unknown =
-    let remote = view.src.addr in
-    ap (in_by config rules sessions now view) none
-    ∙ ap (λ (b : Bool). if b then Err NoSession else then_with (inside_for config rules sessions now view) (begun_in config rules sessions now view)) udp
-    ∙ ap (λ (o : Result Endpoint Cause). then_with o (begun_in config rules sessions now view))
-    (ap (λ (b : Bool). if b then Ok view.dst else inside_by_rules config rules sessions now view sessions remote (find (maps_outside view.proto view.dst) sessions)
-    (prerouting_verdict config (facts_of config rules sessions now view Wan None view.src view.dst New) rules)) outside
-    ∙ ap (inside_by_rules config rules sessions now view sessions remote (find (maps_outside view.proto view.dst) sessions)) asked
-    ∙ ap (by_mapping config.filtering sessions remote) found
-    ∙ ap (λ (f : Filtering). by_mapping f sessions remote (Some m)) by
-    ∙ ap (λ (o : Option Session). if is_some o then Ok m.inside else Err Filtered) unknown)

@@ -1,4 +1,6 @@
--- The legs as they were with one external address, and a mapping open to every remote endpoint.
+-- The legs as they were with one external address, and a mapping open to every remote endpoint. They stand here to say
+-- that one address and filtering by endpoint give them still (`AsBefore`), so that what a gateway has stored before means
+-- the same. No code cites them.
 use Rattle.std.specs.Prelude.{ℕ, List, Option, Some, None, Result, Ok, Err, if◌then◌else◌, find}
 use Rattle.packet.specs.Config.{Config, is_inside}
 use Rattle.packet.specs.Same.{same_endpoint}

@@ -7,5 +7,6 @@ pub mod KeepBounds
 pub mod Legs
 pub mod Paired
 pub mod Plans
+pub mod Strangers
 pub mod Tallies
 pub mod Translations

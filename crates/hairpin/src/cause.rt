@@ -26,7 +26,8 @@ pub enum Cause {
     Clash,
     /// A hairpin to its sender's own outside endpoint.
     SelfMapped,
-    /// Every port of the class and parity of its source port is taken (RFC 4787, REQ-3a and REQ-4).
+    /// No port of the class and parity of its source port (RFC 4787, REQ-3a and REQ-4) is free at the address that its
+    /// host or a rule has it leave from; for a host without one, at any external address.
     NoPort,
     /// There would be more than 65,536 sessions.
     TableFull,

@@ -1,4 +1,4 @@
-use Rattle.hairpin.proofs.Same.{strangers}
+use Rattle.hairpin.proofs.Strangers.{strangers}
 use Rattle.hairpin.proofs.laws.strangers_are_filtered.Goals as goal
 
 pub returns : goal.returns
