@@ -1,4 +1,5 @@
 //! What only files of former versions have. They are read, and never written.
+ghost use Rattle.durable.specs.declared.version.Version.TheVariants.{First};
 ghost use Rattle.durable.specs.Reading.{Yields, outside_at};
 
 use crate::DurableFault;
@@ -12,7 +13,7 @@ pub fn read_one_address(
     alloc: Global,
     bytes: &[u8],
 ) -> Result<(Vec<u32>, Filtering, &[u8]), DurableFault>
-    ensures { Yields (λ x. ((x.0.items, x.1), x.2.now)) result (outside_at Version.First bytes.now) }
+    ensures { Yields (λ x. ((x.0.items, x.1), x.2.now)) result (outside_at First bytes.now) }
 {
     let Some((address, rest)) = u32_of(bytes) else {
         return Err(DurableFault::Damaged);
