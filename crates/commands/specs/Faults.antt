@@ -24,6 +24,7 @@ abbrev pub opening_refusal : OpenFault → Refusal
 opening_refusal open_fault.Device = refusal.Device
 opening_refusal open_fault.Damaged = refusal.Damaged
 opening_refusal open_fault.ConfigDiffers = refusal.ConfigDiffers
+opening_refusal open_fault.Generations = refusal.Generations
 opening_refusal open_fault.NoMemory = refusal.NoMemory
 
 abbrev pub edge_refusal : EdgeFault → Refusal

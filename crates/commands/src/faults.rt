@@ -28,6 +28,7 @@ pub(crate) fn of_opening(fault: OpenFault) -> Refusal
         OpenFault::Device => Refusal::Device,
         OpenFault::Damaged => Refusal::Damaged,
         OpenFault::ConfigDiffers => Refusal::ConfigDiffers,
+        OpenFault::Generations => Refusal::Generations,
         OpenFault::NoMemory => Refusal::NoMemory,
     }
 }

@@ -16,7 +16,7 @@ mod showing;
 mod sockets;
 mod streams;
 
-pub use opening::open;
+pub use opening::{open, tell_migration};
 pub use running::run;
 pub use showing::show;
 pub use sockets::{bind, loop_back, serve_clients};

@@ -2,21 +2,26 @@
 //!
 //! `open` opens the two files as a disk, and a gateway over it. `unopened` tells why there is no disk, `unsuitable` why
 //! no gateway opens over it: where the files themselves are refused, `unsound` says what `diagnosis::diagnose` finds.
-ghost use Rattle.std.specs.Prelude.{◌≡◌, [], IfErr, IfOk, false};
+//! `tell_migration` tells of files that were migrated by the opening.
+ghost use Rattle.std.specs.Prelude.{◌≡◌, [], IfErr, IfOk, IsOk, OnOk, false, true};
+ghost use Rattle.std.specs.Io.KnownBytes.{Appends};
 ghost use Rattle.durable.specs.Entering.{Durable, IsDurable};
 ghost use Rattle.machine.specs.Noted.{IsResumed};
-ghost use Rattle.refusals.specs.Words.{IsOfPath};
+ghost use Rattle.refusals.specs.Words.{IsOfPath, migrated_line};
 ghost use Rattle.commands.specs.Faults.{IsOfFiles};
 
 use crate::faults::of_opening;
 use checking::bounds;
 use diagnosis::{Finding, diagnose};
+use disk_model::Disk;
 use file_disk::{FileDisk, OpenError};
 use gateway::{Gateway, OpenFault};
 use options::{Opening, Sides};
 use packet::Bounds;
-use refusals::{Refusal, Stop};
+use refusals::{Refusal, Stop, tell_migrated};
 use std::alloc::Global;
+use std::io;
+use std::io::Write;
 
 // Why the files of a directory can't be opened.
 fn unopened(alloc: Global, directory: &str, error: &OpenError) -> Stop
@@ -81,7 +86,7 @@ fn unsuitable(
         OpenFault::Damaged | OpenFault::ConfigDiffers => {
             unsound(alloc, disk, sides, directory, refusal)
         }
-        OpenFault::Device | OpenFault::NoMemory => Stop::from(refusal),
+        OpenFault::Device | OpenFault::Generations | OpenFault::NoMemory => Stop::from(refusal),
     }
 }
 
@@ -89,8 +94,8 @@ fn unsuitable(
 ///
 /// # Errors
 ///
-/// `File` where the files can't be opened, or another program has them; `Device`, `Damaged` or `ConfigDiffers` where no
-/// gateway opens over them; `NoMemory` where memory is refused, to the one or the other.
+/// `File` where the files can't be opened, or another program has them; `Device`, `Damaged`, `ConfigDiffers` or
+/// `Generations` where no gateway opens over them; `NoMemory` where memory is refused, to the one or the other.
 pub fn open(
     rt: &HostRuntime,
     sides: &Sides<'_>,
@@ -117,4 +122,23 @@ pub fn open(
             Err(unsuitable(alloc, &mut disk, sides, opening.directory, fault))
         }
     }
+}
+
+/// Tells on `errors` that the two files were those of an older version of natgw, if the gateway's opening migrated them.
+///
+/// # Errors
+///
+/// That of the writer. A part may have been written then.
+pub fn tell_migration<E: Write, D: Disk + Drop>(
+    gateway: &Gateway<D>,
+    errors: &mut E,
+) -> io::Result<()>
+    ensures told { gateway.now.migrated ≡ true
+        → OnOk result (Appends (E.contents errors.old) (E.contents errors.new) migrated_line) }
+    ensures quiet { gateway.now.migrated ≡ false → IsOk result × (errors.new ≡ errors.old) }
+{
+    if gateway.has_migrated() {
+        return tell_migrated(errors);
+    }
+    Ok(())
 }

@@ -1,5 +1,5 @@
 //! The commands, put together.
-use crate::opening::open;
+use crate::opening::{open, tell_migration};
 use crate::sockets::{bind, loop_back, serve_clients};
 use crate::{replay, show};
 use checking::{bounds, check, read_file};
@@ -97,6 +97,8 @@ fn run_opened(
 ) -> Result<(), Stop> {
     keep_freed_memory(rt.alloc());
     let mut gateway = open(rt, sides, bounds, opening)?;
+    // Where standard error takes no more the line is lost, and the work goes on.
+    let _ = tell_migration(&gateway, &mut rt.stderr());
     let worked = work_on(rt, opening.directory, work, requests, &mut gateway);
     // `into_disk` has the core dropped within the crate `machine`, where that is proved already. Here the files are
     // dropped.
