@@ -79,7 +79,8 @@ pub struct Opened<D: Disk + Drop> {
 
 impl<D: Disk + Drop> Store<D> {
     /// Opens the store that two files hold. Both are synced, then read. Where neither gate is open, file A is made
-    /// anew, for no text and no session; otherwise neither is written.
+    /// anew, for no text and no session. Where the active file is of a former version, the other one is made anew for
+    /// the same state; otherwise neither is written.
     ///
     /// # Errors
     ///
@@ -90,10 +91,12 @@ impl<D: Disk + Drop> Store<D> {
     /// - `Damaged` only where the files, as they read, stand for no state. They are not changed.
     /// - `ConfigDiffers` only where they stand for one, and the active file has another configuration than these
     ///   bounds. They are not changed.
+    /// - `Generations` only where the active file has these bounds and is of a former version, and there is no generation
+    ///   behind its own. They are not changed.
     /// - `NoMemory` where memory is refused. They are not changed.
     ///
-    /// Where the files stand for no state, or the active one has another configuration, `Damaged` or `ConfigDiffers`
-    /// comes, unless memory is refused or a call of the disk fails.
+    /// Where the files stand for no state, the active one has another configuration, or it can't be made anew, `Damaged`,
+    /// `ConfigDiffers` or `Generations` comes, unless memory is refused or a call of the disk fails.
     pub fn open(alloc: Global, disk: D, bounds: &Bounds) -> Result<Opened<D>, (D, OpenFault)>
         ensures honest { MatchResult result (λ o. D.honest disk ↔ D.honest o.store.disk)
             (λ e. D.honest disk ↔ D.honest e.0) }
@@ -122,7 +125,8 @@ impl<D: Disk + Drop> Store<D> {
         ensures had_generation { D.honest disk
             → OnOk result (¬ IsLastFormer bounds.now (D.seen disk)) }
 
-        // Where no file is open, file A is made anew, of the first generation; otherwise the files aren't changed.
+        // Where no file is open, file A is made anew, of the first generation. Where the active one is of the version
+        // that is written, both are only looked at.
         ensures first { D.honest disk → NoneOpen (D.seen disk)
             → IfOk result (λ o. MakesFirst bounds.now (D.seen disk) (D.seen o.store.disk)) }
         ensures generation { D.honest disk → NoneOpen (D.seen disk)
