@@ -26,8 +26,8 @@ found_alone file x found = active_alone file x.file found.heading x.state x.end 
 
 pub holds_alone : (file : List ℕ) (h : Heading) (d : Durable) (end : ℕ) → Holds file h d end → (found : Option Found) × Finds (pair file []) found
 holds_alone file h d end holds = (
-  Some (record { file = A; generation = h.generation; config = h.config; state = d; start = behind h; end = end }),
-  record { heading = h; active = (holds, λ opened. absurd (closed_nothing opened)); generation = refl; config = refl; start = refl },
+  Some (record { file = A; version = h.version; generation = h.generation; config = h.config; state = d; start = behind h; end = end }),
+  record { heading = h; active = (holds, λ opened. absurd (closed_nothing opened)); version = refl; generation = refl; config = refl; start = refl },
 )
 
 pub nothing_alone : (file : List ℕ) → ((found : Option Found) → ¬ Finds (pair file []) found) → (h : Heading) (d : Durable) (end : ℕ) → ¬ Holds file h d end

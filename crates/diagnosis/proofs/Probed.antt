@@ -32,8 +32,8 @@ found_front beside file probe (Some x) found opened = beside_active beside file 
 found_beside : (beside file : List ℕ) (probe : IsProbe beside) → IsOlder greatest file → (found : Option Found) × Finds (pair beside file) found
 found_beside beside file probe older =
     let h = probe.0 in (
-      Some (record { file = A; generation = h.generation; config = h.config; state = empty; start = behind h; end = probe.1 }),
-      record { heading = h; active = (probe.2, subst (λ (n : ℕ). IsOlder n file) (sym probe.3) older); generation = refl; config = refl; start = refl },
+      Some (record { file = A; version = h.version; generation = h.generation; config = h.config; state = empty; start = behind h; end = probe.1 }),
+      record { heading = h; active = (probe.2, subst (λ (n : ℕ). IsOlder n file) (sym probe.3) older); version = refl; generation = refl; config = refl; start = refl },
     )
 
 pub nothing_front : (beside file : List ℕ) → IsProbe beside → ((found : Option Found) → ¬ Finds (pair beside file) found) → IsOpen file × HasNoFront file

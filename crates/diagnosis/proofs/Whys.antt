@@ -21,7 +21,7 @@ use Rattle.diagnosis.proofs.Alone.{closed_nothing}
 pub found_of : (files : Files) (d : Durable) → Recovers files d → (found : Option Found) × Finds files found
 found_of files d (inl none) = (None, none.0)
 found_of files d (inr (f, h, end, active)) =
-    (Some (record { file = f; generation = h.generation; config = h.config; state = d; start = behind h; end = end }), record { heading = h; active = active; generation = refl; config = refl; start = refl })
+    (Some (record { file = f; version = h.version; generation = h.generation; config = h.config; state = d; start = behind h; end = end }), record { heading = h; active = active; version = refl; generation = refl; config = refl; start = refl })
 
 -- ---- the configuration
 

@@ -1,7 +1,9 @@
 -- What one file is by itself.
 use Rattle.std.specs.Prelude.{◌≡◌, ◌≢◌, ◌↔◌, ℕ, ◌-◌, ◌^◌, IsTrue, List, [], ◌∷◌, ◌++◌, length}
 use Rattle.packet.specs.Config.{Config}
-use Rattle.durable.specs.Coding.{Heading, mark}
+use Rattle.durable.specs.Coding.{Heading}
+use Rattle.durable.specs.declared.version.Version.{Version}
+use Rattle.durable.specs.Versions.{mark_of}
 use Rattle.durable.specs.Entering.{Durable, IsDurable}
 use Rattle.durable.specs.Recovery.{IsOpen, IsHeaded, Holds, begun}
 use Rattle.diagnosis.specs.declared.reading.Fault.{Fault}
@@ -10,9 +12,9 @@ use Rattle.diagnosis.specs.declared.reading.Held.{Held}
 use Rattle.diagnosis.specs.declared.reading.Reading.{Reading}
 use Rattle.diagnosis.specs.declared.reading.Reading.TheVariants.{Empty, Closed, Faulty, Whole}
 
--- the mark and the version stand behind the file gate
+-- the mark of a version stands behind the file gate
 abbrev pub HasMark : List ℕ → Type 0
-HasMark file = (rest : List ℕ) × (file ≡ 1 ∷ (mark ++ rest))
+HasMark file = (version : Version) × (rest : List ℕ) × (file ≡ 1 ∷ (mark_of version ++ rest))
 
 -- the greatest generation, which no gateway lives to see
 abbrev pub greatest : ℕ

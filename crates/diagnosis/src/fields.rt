@@ -14,8 +14,10 @@ pub enum Field {
     Wan,
     /// The inside prefixes, with their order.
     Inside,
-    /// The external address.
+    /// The external addresses, with their order.
     External,
+    /// Whom a mapping lets in.
+    Filtering,
 }
 
 /// Whether the two configurations have different values in this part.
@@ -27,5 +29,6 @@ pub fn differs(field: Field, a: &Bounds, b: &Bounds) -> bool
         Field::Wan => a.wan() != b.wan(),
         Field::Inside => !same_prefixes(a.inside(), b.inside()),
         Field::External => a.external() != b.external(),
+        Field::Filtering => a.filtering() != b.filtering(),
     }
 }

@@ -15,7 +15,7 @@ use std::alloc::{AllocError, Global};
 /// Why a file holds no state. The variants stand in the order of the tests.
 #[derive(Clone, Copy, Debug, PartialEq, Eq, Drop)]
 pub enum Fault {
-    /// The mark of the format and its version don't stand behind the file gate.
+    /// No mark of a version that this program knows stands behind the file gate.
     Foreign,
     /// No generation, configuration and snapshot stand whole behind it, with a gate behind them. A file of generation
     /// 2^64 - 1 that holds no state is told so too.
@@ -54,7 +54,7 @@ fn has_mark(file: &[u8]) -> bool
     requires { IsOpen file.now }
     ensures { IsTrue result ↔ HasMark file.now }
 {
-    matches!(file, [_, 0x4e, 0x47, 0x57, 0x31, ..])
+    matches!(file, [_, 0x4e, 0x47, 0x57, 0x31 | 0x32, ..])
 }
 
 // Why an open file holds no state.

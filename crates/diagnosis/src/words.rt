@@ -5,12 +5,18 @@ ghost use Rattle.packet.specs.Config.{is_name};
 use crate::{Damage, Differing, Fault, Field, Finding, Held, Reading, differs};
 use disk_model::FileId;
 use file_disk::name_of;
-use packet::{Bounds, Prefix};
+use packet::{Bounds, Filtering, Prefix};
 use std::fmt;
 use std::fmt::{Display, Formatter};
 use std::net::Ipv4Addr;
 
-const FIELDS: [Field; 4] = [Field::Lan, Field::Wan, Field::Inside, Field::External];
+const FIELDS: [Field; 5] = [
+    Field::Lan,
+    Field::Wan,
+    Field::Inside,
+    Field::External,
+    Field::Filtering,
+];
 
 // What stands behind the name of a file.
 impl Display for Fault {
@@ -145,6 +151,7 @@ fn option_of(field: Field) -> &'static str {
         Field::Wan => " --wan ",
         Field::Inside => " --inside ",
         Field::External => " --external ",
+        Field::Filtering => " --filtering ",
     }
 }
 
@@ -156,7 +163,8 @@ fn say_field<W: fmt::Write>(f: &mut Formatter<W>, field: Field, bounds: &Bounds)
         Field::Lan => say_name(f, bounds.lan()),
         Field::Wan => say_name(f, bounds.wan()),
         Field::Inside => say_prefixes(f, bounds.inside()),
-        Field::External => say_address(f, bounds.external()),
+        Field::External => say_addresses(f, bounds.external()),
+        Field::Filtering => f.write_str(name_of_filtering(bounds.filtering())),
     }
 }
 
@@ -171,6 +179,23 @@ fn say_name<W: fmt::Write>(f: &mut Formatter<W>, name: &[u8]) -> fmt::Result
 
 fn say_address<W: fmt::Write>(f: &mut Formatter<W>, addr: u32) -> fmt::Result {
     write!(f, "{}", Ipv4Addr::from_bits(addr))
+}
+
+fn say_addresses<W: fmt::Write>(f: &mut Formatter<W>, addresses: &[u32]) -> fmt::Result {
+    let mut comma = "";
+    for address in addresses {
+        f.write_str(comma)?;
+        say_address(f, *address)?;
+        comma = ",";
+    }
+    Ok(())
+}
+
+fn name_of_filtering(filtering: Filtering) -> &'static str {
+    match filtering {
+        Filtering::Endpoint => "endpoint",
+        Filtering::Address => "address",
+    }
 }
 
 fn say_prefixes<W: fmt::Write>(f: &mut Formatter<W>, prefixes: &[Prefix]) -> fmt::Result {

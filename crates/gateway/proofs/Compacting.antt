@@ -33,5 +33,5 @@ few_sessions config s sessions sound still =
     let most = sound.sessions.at_most in let long = ap length still ∙ length-map s.sessions stilled in omega (arith, most, long)
 
 -- behind a snapshot alone there is room for every event
-pub roomy_behind : (place end : ℕ) (entries : List Entry) → place ≡ end → entries ≡ [] → end ≤ 1638538 → IsRoomy (place + length (body_bytes entries))
+pub roomy_behind : (place end : ℕ) (entries : List Entry) → place ≡ end → entries ≡ [] → end ≤ 1638552 → IsRoomy (place + length (body_bytes entries))
 roomy_behind place end entries same none small = let long = ap (λ (es : List Entry). length (body_bytes es)) none in omega (arith, same, long, small)

@@ -14,8 +14,8 @@ ghost use Rattle.packet.specs.Config.{is_config};
 ghost use Rattle.disk_model.specs.Disk.{Leaves, LeavesNow, LeavesOnly, Looks, Called, Grew};
 ghost use Rattle.durable.specs.Coding.{Entry, body_bytes};
 ghost use Rattle.durable.specs.Entering.{Durable, IsDurable};
-ghost use Rattle.durable.specs.Recovery.{Alike, IsConfigured, NoneOpen, Recovers};
-ghost use Rattle.snapshot.specs.Store.{MakesFirst, RecoversEither};
+ghost use Rattle.durable.specs.Recovery.{Alike, IsConfigured, IsCurrent, NoneOpen, Recovers};
+ghost use Rattle.snapshot.specs.Store.{IsLastFormer, MakesFirst, Migrates, RecoversEither};
 ghost use Rattle.machine.specs.Judged.{Judged, IsJudged, IsNoLoad};
 ghost use Rattle.machine.specs.Machine.{KeepsCount, EndsNone, later, step};
 ghost use Rattle.machine.specs.Sizes.{most_bytes};
@@ -57,6 +57,7 @@ pub struct Gateway<D: Disk + Drop> {
     core: Core,
     last: u64,
     pending: Pending,
+    migrated: bool,
 }
 
 impl<D: Disk + Drop> Model for Gateway<D> {
@@ -71,6 +72,7 @@ impl<D: Disk + Drop> Model for Gateway<D> {
       fallen = g.store.fallen;
       generation = g.store.generation;
       grown = g.store.grown;
+      migrated = g.migrated;
       filled = g.pending.place + length (body_bytes g.pending.entries);
       told = record {
         config = g.core.config;
@@ -90,7 +92,8 @@ impl<D: Disk + Drop> Model for Gateway<D> {
 impl<D: Disk + Drop> Gateway<D> {
     /// Opens the gateway that two files keep. Nothing is held, and no number is given yet. The last packet of each
     /// session is taken to have passed at this moment, in seconds, which is the clock's. Both files are synced, then
-    /// read; where neither gate is open, file A is made anew, for no text and no session.
+    /// read. Where neither gate is open, file A is made anew, for no text and no session; where the active file is of a
+    /// former version, the other one is made anew for the same state.
     ///
     /// # Errors
     ///
@@ -101,10 +104,12 @@ impl<D: Disk + Drop> Gateway<D> {
     /// - `Damaged` only where the files, as they read, stand for no state. They are not changed.
     /// - `ConfigDiffers` only where they stand for one, and the active file has another configuration than these
     ///   bounds. They are not changed.
+    /// - `Generations` only where the active file has these bounds and is of a former version, and there is no generation
+    ///   behind its own. They are not changed.
     /// - `NoMemory` where memory is refused. The files stand for what they stood for.
     ///
-    /// Where the files stand for no state, or the active one has another configuration, `Damaged` or `ConfigDiffers`
-    /// comes, unless memory is refused or a call of the disk fails.
+    /// Where the files stand for no state, the active one has another configuration, or it can't be made anew, `Damaged`,
+    /// `ConfigDiffers` or `Generations` comes, unless memory is refused or a call of the disk fails.
     pub fn open(
         alloc: Global,
         disk: D,
@@ -130,14 +135,25 @@ impl<D: Disk + Drop> Gateway<D> {
             × IsResumed bounds d moment g.told.state
             × LeavesNow D.moment D.left g.disk (λ files. Recovers files d)) }
         ensures had_config { D.honest disk → OnOk result (IsConfigured bounds (D.seen disk)) }
+        ensures had_generation { D.honest disk → OnOk result (¬ IsLastFormer bounds (D.seen disk)) }
 
-        // Where no file is open, file A is made anew, of the first generation; otherwise both are only looked at.
+        // Where no file is open, file A is made anew, of the first generation. Where the active one is of the version
+        // that is written, both are only looked at.
         ensures first { D.honest disk → NoneOpen (D.seen disk)
             → IfOk result (λ g. MakesFirst bounds (D.seen disk) (D.seen g.disk)) }
         ensures generation { D.honest disk → NoneOpen (D.seen disk)
             → IfOk result (λ g. g.generation ≡ 1) }
-        ensures only_looks { D.honest disk → ¬ NoneOpen (D.seen disk)
+        ensures only_looks { D.honest disk → ¬ NoneOpen (D.seen disk) → IsCurrent (D.seen disk)
             → IfOk result (λ g. Looks D.moment D.left D.seen disk g.disk) }
+
+        // Where the active file is of a former version, the other one is made anew for the same state; from then on a
+        // crash leaves an active file of the version that is written.
+        ensures migrated { D.honest disk
+            → IfOk result (λ g. Migrates bounds (D.seen disk) (D.seen g.disk)) }
+        ensures was { D.honest disk
+            → IfOk result (λ g. IsTrue g.migrated ↔ ¬ IsCurrent (D.seen disk)) }
+        ensures current { D.honest disk
+            → IfOk result (λ g. LeavesNow D.moment D.left g.disk IsCurrent) }
         ensures config { IfOk result (λ g. g.told.config ≡ bounds) }
 
         // Whatever the disk: the state is one that survives, begun again at the moment.
@@ -150,8 +166,11 @@ impl<D: Disk + Drop> Gateway<D> {
             → ¬ Recovers (D.seen disk) d) }
         ensures differs { D.honest disk → IfErr result (λ e. e.1 ≡ OpenFault.ConfigDiffers
             → (d : Durable) × Recovers (D.seen disk) d × ¬ IsConfigured bounds (D.seen disk)) }
+        ensures generations { D.honest disk → IfErr result (λ e. e.1 ≡ OpenFault.Generations
+            → IsLastFormer bounds (D.seen disk)) }
         ensures looks { D.honest disk → IfErr result (λ e. (e.1 ≡ OpenFault.Damaged)
-            ⊎ (e.1 ≡ OpenFault.ConfigDiffers) → Looks D.moment D.left D.seen disk e.0) }
+            ⊎ (e.1 ≡ OpenFault.ConfigDiffers) ⊎ (e.1 ≡ OpenFault.Generations)
+            → Looks D.moment D.left D.seen disk e.0) }
         ensures device { IfErr result (λ e. e.1 ≡ OpenFault.Device
             → Grew (D.failed disk) (D.failed e.0)) }
 
@@ -167,6 +186,7 @@ impl<D: Disk + Drop> Gateway<D> {
                     store,
                     text,
                     sessions,
+                    migrated,
                 },
             ) => match resume_core(
                 alloc,
@@ -182,11 +202,19 @@ impl<D: Disk + Drop> Gateway<D> {
                     core,
                     last: 0,
                     pending,
+                    migrated,
                 }),
                 Err(NoMemory) => Err((store.into_disk(), OpenFault::NoMemory)),
             },
             Err(refused) => Err(refused),
         }
+    }
+
+    /// Whether the opening found a file of a former version, and made the other one anew for its state.
+    pub fn has_migrated(&self) -> bool
+        ensures { result ≡ self.now.migrated }
+    {
+        self.migrated
     }
 
     /// The text that loaded last; before any has, the empty one.
