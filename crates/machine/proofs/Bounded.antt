@@ -1,9 +1,10 @@
 -- What each translation that a text says has, each translation at a hook has.
-use Rattle.std.proofs.Common.{◌≡◌, ◌<◌, ◌≤◌, ℕ, zero, suc, Bool, true, false, not, ◌==◌, IsTrue, List, [], ◌∷◌, ◌++◌, Option, Some, None, IfSome, int_le, refl, subst, inl, inr, arith, bytes_eq}
+use Rattle.std.proofs.Common.{◌≡◌, ◌≢◌, ◌<◌, ◌≤◌, ℕ, zero, suc, Bool, true, false, not, IsTrue, List, [], ◌∷◌, ◌++◌, Option, Some, None, IfSome, int_le, refl, sym, subst, ◌∙◌, inl, inr, bytes_eq, Contains}
 use Rattle.std.specs.List.{list_all, list_any, AllByRecursion}
 use Rattle.std.specs.Option.{unwrap_or, option_and_then, option_map_or}
-use Rattle.std.proofs.lemmas.Bool.{cases_Bool}
-use Rattle.packet.specs.Config.{Config, is_inside}
+use Rattle.std.proofs.lemmas.Bool.{cases_Bool, eq-eqb, false≢true}
+use Rattle.packet.specs.Config.{Config, is_external, is_inside}
+use Rattle.packet.proofs.Pools.{listed-is}
 use Rattle.packet.specs.declared.endpoint.Endpoint.{Endpoint}
 use Rattle.ruletree.specs.declared.tree.Verdict.{Verdict}
 use Rattle.ruletree.specs.declared.tree.Verdict.TheVariants.{Accept, Drop, Return, Continue, Jump, Goto}
@@ -25,10 +26,11 @@ use Rattle.ruletext.specs.Texts.{Loads}
 use Rattle.ruletree.specs.declared.fault.Kind.TheVariants.{NotExternal, NotInside}
 use Rattle.verdict.specs.declared.facts.Facts.{Facts}
 use Rattle.verdict.specs.declared.chain.Outcome.{Outcome}
-use Rattle.verdict.specs.declared.chain.Outcome.TheVariants.{Accepts, Drops, To, From, Ends}
+use Rattle.verdict.specs.declared.chain.Outcome.TheVariants.{Accepts, Drops, To, From, Masquerades, Ends}
 use Rattle.verdict.specs.declared.hook.Destination.TheVariants as destinations
 use Rattle.verdict.specs.declared.hook.Source.TheVariants as sources
 use Rattle.hairpin.specs.KeepBounds.{KeepBounds}
+use Rattle.machine.specs.Hosts.{LeaveToPool, is_of_rule}
 use Rattle.machine.proofs.Said.{OfEnd, OfRules, OfChains, OfTables}
 use Rattle.machine.proofs.PortsSpelled.{HasPort, ports_spelled}
 use Rattle.verdict.specs.Matching.{holds}
@@ -40,8 +42,8 @@ each_joined P [] ys one other = other
 each_joined P (x ∷ xs) ys one other = (one.0, each_joined P xs ys one.1 other)
 
 -- the translation of an end, if it is one, has this property
-abbrev pub Says : Config → Facts → (Outcome → Type 0) → End → Type 0
-Says config facts P end = IfSome (translation config facts end) P
+abbrev pub Says : Facts → (Outcome → Type 0) → End → Type 0
+Says facts P end = IfSome (translation facts end) P
 
 -- ---- from the translations of rules to the outcome at a hook
 
@@ -51,6 +53,7 @@ module _ (P : Outcome → Type 0) (accepts : P Accepts) (drops : P Drops) (ends_
   unless_has Drops has = has
   unless_has (To x) has = has
   unless_has (From x) has = has
+  unless_has Masquerades has = has
   unless_has Ends has = tt
 
   settled_has : (policy : Policy) (o : Outcome) → P o → P (settled policy o)
@@ -58,6 +61,7 @@ module _ (P : Outcome → Type 0) (accepts : P Accepts) (drops : P Drops) (ends_
   settled_has policy Drops has = has
   settled_has policy (To x) has = has
   settled_has policy (From x) has = has
+  settled_has policy Masquerades has = has
   settled_has policies.Accept Ends has = accepts
   settled_has policies.Drop Ends has = drops
 
@@ -66,6 +70,7 @@ module _ (P : Outcome → Type 0) (accepts : P Accepts) (drops : P Drops) (ends_
   handed_has Drops next has later = has
   handed_has (To x) next has later = has
   handed_has (From x) next has later = has
+  handed_has Masquerades next has later = has
   handed_has Ends next has later = has
 
   unwrapped_has : (o : Option Outcome) (next : Outcome) → IfSome o P → P next → P (unwrap_or o next)
@@ -86,25 +91,25 @@ module _ (P : Outcome → Type 0) (accepts : P Accepts) (drops : P Drops) (ends_
       mapped_has None = tt
       mapped_has (Some v) = ending_has v
 
-      taken_has : (end : End) → Says config facts P end → IfSome (taken config facts call end) P
+      taken_has : (end : End) → Says facts P end → IfSome (taken config facts call end) P
       taken_has (ends.Verdict v) says = ending_has v
       taken_has (ends.Vmap vmap) says = mapped_has (mapped config facts vmap)
       taken_has (ends.Dnat dnat) says = says
       taken_has (ends.Snat snat) says = says
       taken_has (ends.Masquerade line) says = says
 
-      end_has : (end : Option End) → OfEnd (Says config facts P) end → IfSome (option_and_then (taken config facts call) end) P
+      end_has : (end : Option End) → OfEnd (Says facts P) end → IfSome (option_and_then (taken config facts call) end) P
       end_has None says = tt
       end_has (Some end) says = taken_has end says
 
-      after_has : (table : Table) (rule : Rule) → OfEnd (Says config facts P) rule.end → IfSome (after config facts table call rule) P
+      after_has : (table : Table) (rule : Rule) → OfEnd (Says facts P) rule.end → IfSome (after config facts table call rule) P
       unfolding after
       after_has table rule says = elim (cases_Bool (list_all (holds config table.sets facts) rule.matches)) [
         | inl all ↦ rw all (end_has rule.end says)
         | inr not_all ↦ rw not_all tt
       ]
 
-      walk_has : (table : Table) (rules : List Rule) → OfRules (Says config facts P) rules → P (walk config facts table call rules)
+      walk_has : (table : Table) (rules : List Rule) → OfRules (Says facts P) rules → P (walk config facts table call rules)
       walk_has table [] says = ends_so
       walk_has table (rule ∷ rules) says =
           unwrapped_has (after config facts table call rule) (walk config facts table call rules) (after_has table rule says.0) (walk_has table rules says.1)
@@ -116,36 +121,36 @@ module _ (P : Outcome → Type 0) (accepts : P Accepts) (drops : P Drops) (ends_
       | inr there ↦ rw there (named_has Q chains name says.1)
     ]
 
-    called_has : (left : ℕ) (table : Table) → OfChains (Says config facts P) table.chains → (name : List ℕ) → P (called left config facts table name)
+    called_has : (left : ℕ) (table : Table) → OfChains (Says facts P) table.chains → (name : List ℕ) → P (called left config facts table name)
     unfolding called
     called_has zero table says name = ends_so
     called_has (suc left) table says name =
-        walk_has (called left config facts table) (called_has left table says) table (rules_of table.chains name) (named_has (Says config facts P) table.chains name says)
+        walk_has (called left config facts table) (called_has left table says) table (rules_of table.chains name) (named_has (Says facts P) table.chains name says)
 
-    chain_has : (table : Table) (rules : List Rule) → OfChains (Says config facts P) table.chains → OfRules (Says config facts P) rules → P (chain_outcome config facts table rules)
+    chain_has : (table : Table) (rules : List Rule) → OfChains (Says facts P) table.chains → OfRules (Says facts P) rules → P (chain_outcome config facts table rules)
     unfolding chain_outcome
     chain_has table rules says own = walk_has (called 16 config facts table) (called_has 16 table says) table rules own
 
     abbrev BaseSays : BaseChain → Type 0
-    BaseSays base = OfChains (Says config facts P) base.table.chains × OfRules (Says config facts P) base.chain.rules
+    BaseSays base = OfChains (Says facts P) base.table.chains × OfRules (Says facts P) base.chain.rules
 
-    at_hook_says : (hook : Hook) (table : Table) (chain : Chain) (base : Base) → OfChains (Says config facts P) table.chains → OfRules (Says config facts P) chain.rules → AllByRecursion BaseSays (at_hook hook table chain base)
+    at_hook_says : (hook : Hook) (table : Table) (chain : Chain) (base : Base) → OfChains (Says facts P) table.chains → OfRules (Says facts P) chain.rules → AllByRecursion BaseSays (at_hook hook table chain base)
     at_hook_says hook table chain base says own = elim (cases_Bool (same_hook base.hook hook)) [
       | inl here ↦ rw here ((says, own), tt)
       | inr other ↦ rw other tt
     ]
 
-    base_says : (hook : Hook) (table : Table) (chain : Chain) (base : Option Base) → OfChains (Says config facts P) table.chains → OfRules (Says config facts P) chain.rules → AllByRecursion BaseSays (option_map_or (at_hook hook table chain) base [])
+    base_says : (hook : Hook) (table : Table) (chain : Chain) (base : Option Base) → OfChains (Says facts P) table.chains → OfRules (Says facts P) chain.rules → AllByRecursion BaseSays (option_map_or (at_hook hook table chain) base [])
     base_says hook table chain None says own = tt
     base_says hook table chain (Some base) says own = at_hook_says hook table chain base says own
 
-    among_says : (hook : Hook) (table : Table) (chains : List Chain) → OfChains (Says config facts P) table.chains → OfChains (Says config facts P) chains → AllByRecursion BaseSays (bases_among hook table chains)
+    among_says : (hook : Hook) (table : Table) (chains : List Chain) → OfChains (Says facts P) table.chains → OfChains (Says facts P) chains → AllByRecursion BaseSays (bases_among hook table chains)
     among_says hook table [] says own = tt
     among_says hook table (chain ∷ chains) says own =
         each_joined BaseSays (option_map_or (at_hook hook table chain) chain.base []) (bases_among hook table chains)
         (base_says hook table chain chain.base says own.0) (among_says hook table chains says own.1)
 
-    bases_say : (hook : Hook) (tables : List Table) → OfTables (Says config facts P) tables → AllByRecursion BaseSays (bases_of hook tables)
+    bases_say : (hook : Hook) (tables : List Table) → OfTables (Says facts P) tables → AllByRecursion BaseSays (bases_of hook tables)
     bases_say hook [] says = tt
     bases_say hook (table ∷ tables) says =
         each_joined BaseSays (bases_among hook table table.chains) (bases_of hook tables)
@@ -170,7 +175,7 @@ module _ (P : Outcome → Type 0) (accepts : P Accepts) (drops : P Drops) (ends_
         (turn_has xs all.1)
 
     -- where each translation of the text has the property, the outcome at a hook has it
-    pub hook_has : (hook : Hook) (text : Spelled) → OfTables (Says config facts P) text.tables → P (hook_outcome config facts hook text)
+    pub hook_has : (hook : Hook) (text : Spelled) → OfTables (Says facts P) text.tables → P (hook_outcome config facts hook text)
     unfolding hook_outcome
     hook_has hook text says = turn_has (in_order (bases_of hook text.tables)) (order_says (bases_of hook text.tables) (bases_say hook text.tables says))
 
@@ -187,6 +192,7 @@ source_is R addr Accepts has is = cc
 source_is R addr Drops has is = cc
 source_is R addr (To x) has is = cc
 source_is R addr (From x) has is = let e : x ≡ addr = cc in subst R e has
+source_is R addr Masquerades has is = cc
 source_is R addr Ends has is = cc
 
 destination_is : (R : Endpoint → Type 0) (endpoint : Endpoint) (o : Outcome) → DestinationHas R o → destination_by o ≡ destinations.To endpoint → R endpoint
@@ -194,6 +200,7 @@ destination_is R endpoint Accepts has is = cc
 destination_is R endpoint Drops has is = cc
 destination_is R endpoint (To x) has is = let e : x ≡ endpoint = cc in subst R e has
 destination_is R endpoint (From x) has is = cc
+destination_is R endpoint Masquerades has is = cc
 destination_is R endpoint Ends has is = cc
 
 -- ---- what is said where a kind of fault doesn't hold
@@ -234,15 +241,15 @@ not_not true never = refl
 not_not false never = absurd (never refl)
 
 module _ (config : Config) (facts : Facts) where
-  says_external : (end : End) → ¬ (is_not_external config end ≡ true) → Says config facts (SourceHas (λ addr. addr ≡ config.external)) end
+  says_external : (end : End) → ¬ (is_not_external config end ≡ true) → Says facts (SourceHas (λ addr. Contains config.external addr)) end
   unfolding translation
   says_external (ends.Verdict v) never = tt
   says_external (ends.Vmap vmap) never = tt
   says_external (ends.Dnat dnat) never = tt
-  says_external (ends.Snat snat) never = let e = not_not (snat.address == config.external) never in grind arith
-  says_external (ends.Masquerade line) never = refl
+  says_external (ends.Snat snat) never = (listed-is config.external snat.address).0 (not_not (is_external config snat.address) never)
+  says_external (ends.Masquerade line) never = tt
 
-  says_inside : (end : End) → ¬ (is_not_inside config end ≡ true) → Says config facts (DestinationHas (λ endpoint. IsTrue (is_inside config endpoint.addr))) end
+  says_inside : (end : End) → ¬ (is_not_inside config end ≡ true) → Says facts (DestinationHas (λ endpoint. IsTrue (is_inside config endpoint.addr))) end
   unfolding translation
   says_inside (ends.Verdict v) never = tt
   says_inside (ends.Vmap vmap) never = tt
@@ -250,13 +257,13 @@ module _ (config : Config) (facts : Facts) where
   says_inside (ends.Snat snat) never = tt
   says_inside (ends.Masquerade line) never = tt
 
-  -- of a text that may run, a source is translated to the external address
-  pub source_external : (text : Spelled) → MayRun config text → (addr : ℕ) → postrouting_verdict config facts text ≡ sources.From addr → addr ≡ config.external
+  -- of a text that may run, a source is translated to an external address
+  pub source_external : (text : Spelled) → MayRun config text → (addr : ℕ) → postrouting_verdict config facts text ≡ sources.From addr → Contains config.external addr
   unfolding postrouting_verdict
   source_external text may addr is =
-      let Fits = SourceHas (λ a. a ≡ config.external) in
-      source_is (λ a. a ≡ config.external) addr (hook_outcome config facts Postrouting text)
-      (hook_has Fits tt tt tt config facts Postrouting text (tables_spared (is_not_external config) (Says config facts Fits) says_external text.tables (may NotExternal))) is
+      let Fits = SourceHas (λ a. Contains config.external a) in
+      source_is (λ a. Contains config.external a) addr (hook_outcome config facts Postrouting text)
+      (hook_has Fits tt tt tt config facts Postrouting text (tables_spared (is_not_external config) (Says facts Fits) says_external text.tables (may NotExternal))) is
 
   -- and a destination to an inside address
   pub destination_inside : (text : Spelled) → MayRun config text → (endpoint : Endpoint) → prerouting_verdict config facts text ≡ destinations.To endpoint → IsTrue (is_inside config endpoint.addr)
@@ -264,9 +271,9 @@ module _ (config : Config) (facts : Facts) where
   destination_inside text may endpoint is =
       let Fits = DestinationHas (λ e. IsTrue (is_inside config e.addr)) in
       destination_is (λ e. IsTrue (is_inside config e.addr)) endpoint (hook_outcome config facts Prerouting text)
-      (hook_has Fits tt tt tt config facts Prerouting text (tables_spared (is_not_inside config) (Says config facts Fits) says_inside text.tables (may NotInside))) is
+      (hook_has Fits tt tt tt config facts Prerouting text (tables_spared (is_not_inside config) (Says facts Fits) says_inside text.tables (may NotInside))) is
 
-  says_port : (end : End) → HasPort end → Says config facts (DestinationHas (λ endpoint. 0 < facts.dst.port → 0 < endpoint.port)) end
+  says_port : (end : End) → HasPort end → Says facts (DestinationHas (λ endpoint. 0 < facts.dst.port → 0 < endpoint.port)) end
   unfolding translation
   says_port (ends.Verdict v) has = tt
   says_port (ends.Vmap vmap) has = tt
@@ -280,7 +287,7 @@ module _ (config : Config) (facts : Facts) where
   port_above_zero bytes text spelled endpoint is =
       let Fits = DestinationHas (λ e. 0 < facts.dst.port → 0 < e.port) in
       destination_is (λ e. 0 < facts.dst.port → 0 < e.port) endpoint (hook_outcome config facts Prerouting text)
-      (hook_has Fits tt tt tt config facts Prerouting text (tables_weaken HasPort (Says config facts Fits) says_port text.tables (ports_spelled bytes text spelled))) is
+      (hook_has Fits tt tt tt config facts Prerouting text (tables_weaken HasPort (Says facts Fits) says_port text.tables (ports_spelled bytes text spelled))) is
 
 -- the rules of a text that loads keep within the bounds
 pub bounds-kept : (config : Config) (text : List ℕ) (rules : Spelled) → Loads config text rules → KeepBounds config rules
@@ -289,3 +296,38 @@ bounds-kept config text rules loads = record {
   port = λ facts inside. port_above_zero config facts text rules loads.1 inside;
   from = λ facts addr. source_external config facts rules loads.2 addr;
 }
+
+-- ---- rules that have no address for a host
+
+module _ (host : ℕ) (facts : Facts) where
+  says_no_source : (end : End) → ¬ (is_of_rule host end ≡ true) → Says facts (SourceHas (λ addr. ⊥)) end
+  unfolding translation
+  says_no_source (ends.Verdict v) never = tt
+  says_no_source (ends.Vmap vmap) never = tt
+  says_no_source (ends.Dnat dnat) never = tt
+  says_no_source (ends.Snat snat) never = never refl
+  says_no_source (ends.Masquerade line) never = tt
+
+  says_elsewhere : (end : End) → ¬ (is_of_rule host end ≡ true) → Says facts (DestinationHas (λ endpoint. endpoint.addr ≢ host)) end
+  unfolding translation
+  says_elsewhere (ends.Verdict v) never = tt
+  says_elsewhere (ends.Vmap vmap) never = tt
+  says_elsewhere (ends.Dnat dnat) never = λ same. never (eq-eqb dnat.address host same)
+  says_elsewhere (ends.Snat snat) never = tt
+  says_elsewhere (ends.Masquerade line) never = tt
+
+-- they leave the host to the pool
+pub left-to-pool : (config : Config) (rules : Spelled) (host : ℕ) → some_end_in (is_of_rule host) rules.tables ≡ false → LeaveToPool config rules host
+unfolding prerouting_verdict postrouting_verdict
+left-to-pool config rules host none =
+    let never : ¬ (some_end_in (is_of_rule host) rules.tables ≡ true) = λ some. false≢true (sym none ∙ some) in
+    record {
+      source = λ facts addr same is.
+          let Fits = SourceHas (λ a. ⊥) in
+          source_is (λ a. ⊥) addr (hook_outcome config facts Postrouting rules)
+          (hook_has Fits tt tt tt config facts Postrouting rules (tables_spared (is_of_rule host) (Says facts Fits) (says_no_source host facts) rules.tables never)) is;
+      destination = λ facts endpoint same is.
+          let Fits = DestinationHas (λ e. e.addr ≢ host) in
+          destination_is (λ e. e.addr ≢ host) endpoint (hook_outcome config facts Prerouting rules)
+          (hook_has Fits tt tt tt config facts Prerouting rules (tables_spared (is_of_rule host) (Says facts Fits) (says_elsewhere host facts) rules.tables never)) is same;
+    }

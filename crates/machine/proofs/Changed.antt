@@ -2,6 +2,7 @@
 use Rattle.std.proofs.Common.{◌≡◌, ◌≢◌, ℕ, ◌≤◌, List, Option, Some, None, bit_or, get_or, refl, sym, ap, ◌∙◌, subst, inl, inr, arith}
 use Rattle.std.proofs.lemmas.Bool.{cases_eq}
 use Rattle.std.proofs.lemmas.Option.{same_Some}
+use Rattle.packet.specs.Config.{Pool}
 use Rattle.sessions.specs.declared.session.Change.{Change}
 use Rattle.sessions.specs.declared.session.Change.TheVariants.{Begin, Seen, Restart}
 use Rattle.sessions.specs.declared.session.Session.{Session}
@@ -23,12 +24,12 @@ became old new change slot t sound_old sound_new updates fits away = record {
 }
 
 -- the session that is held gives just one
-pub seen_became : (external : ℕ) (held later : List (Option Session)) (now slot bits : ℕ)
+pub seen_became : (external : Pool) (held later : List (Option Session)) (now slot bits : ℕ)
     → ((s : Session) → get_or held slot None ≡ Some s → Became held (Seen slot bits) (seen s bits now) later)
     → (t : Session) → Gives external held now (Seen slot bits) t → Became held (Seen slot bits) t later
 seen_became external held later now slot bits made t gives = subst (λ x. Became held (Seen slot bits) x later) (sym gives.3) (made gives.0 gives.1)
 
-pub restart_became : (external : ℕ) (held later : List (Option Session)) (now slot : ℕ) (opener : Opener)
+pub restart_became : (external : Pool) (held later : List (Option Session)) (now slot : ℕ) (opener : Opener)
     → ((s : Session) → get_or held slot None ≡ Some s → Became held (Restart slot opener) (restarted s opener now) later)
     → (t : Session) → Gives external held now (Restart slot opener) t → Became held (Restart slot opener) t later
 restart_became external held later now slot opener made t gives = subst (λ x. Became held (Restart slot opener) x later) (sym gives.2) (made gives.0 gives.1)

@@ -4,6 +4,7 @@ use Rattle.std.proofs.lemmas.Bool.{cases_eq, cases_lt}
 use Rattle.std.proofs.lemmas.List.{get_or-set_same, get_or-set_other, get_or_past}
 use Rattle.std.proofs.Math.Seq.{get_or-append_seam}
 use Rattle.std.proofs.lemmas.Option.{none-some, same_Some}
+use Rattle.packet.specs.Config.{Pool}
 use Rattle.sessions.specs.Listing.{key, listing, put}
 use Rattle.sessions.specs.declared.session.Change.{Change}
 use Rattle.sessions.specs.declared.session.Change.TheVariants.{Begin, Seen, Restart}
@@ -47,7 +48,7 @@ pub record HasSuccessor (held : List (Option Session)) (change : Change) (t : Se
   pub apart : Apart later
   pub became : Became held change t later
 
-begun-later : (external : ℕ) (held : List (Option Session)) (now : ℕ) (s t : Session) → s ≡ t → Apart held → MayBegin external held now t → HasSuccessor held (Begin s) t
+begun-later : (external : Pool) (held : List (Option Session)) (now : ℕ) (s t : Session) → s ≡ t → Apart held → MayBegin external held now t → HasSuccessor held (Begin s) t
 begun-later external held now s t same apart may =
     let end = length held in
     let later = held ++ Some t ∷ [] in
@@ -95,7 +96,7 @@ module _ (held : List (Option Session)) (slot : ℕ) (s t : Session) (at : get_o
   }
 
 -- a change that gives a session leads somewhere
-pub change-leads : (external : ℕ) (held : List (Option Session)) (now : ℕ) (change : Change) (t : Session) → Apart held → Gives external held now change t → HasSuccessor held change t
+pub change-leads : (external : Pool) (held : List (Option Session)) (now : ℕ) (change : Change) (t : Session) → Apart held → Gives external held now change t → HasSuccessor held change t
 change-leads external held now (Begin s) t apart gives = begun-later external held now s t gives.0 apart (subst (MayBegin external held now) gives.0 gives.1)
 change-leads external held now (Seen slot bits) t apart gives =
     gone-on held slot gives.0 t gives.1 (ap key (sym gives.3)) apart (Seen slot bits) (λ k other e. other (sym e))
@@ -105,7 +106,7 @@ change-leads external held now (Restart slot opener) t apart gives =
 -- ---- how many sessions there are then
 
 -- a change adds as many sessions as it says
-pub change-adds : (external : ℕ) (held : List (Option Session)) (now : ℕ) (change : Change) (t : Session) → Apart held → Gives external held now change t
+pub change-adds : (external : Pool) (held : List (Option Session)) (now : ℕ) (change : Change) (t : Session) → Apart held → Gives external held now change t
     → length (put t (listing held)) ≡ length (listing held) + adds change
 change-adds external held now (Begin s) t apart gives =
     let may = subst (MayBegin external held now) gives.0 gives.1 in
@@ -116,7 +117,7 @@ change-adds external held now (Restart slot opener) t apart gives =
     omega (arith, put-known t gives.0 (listing held) (Rises-listing held apart) (listing-In held gives.0 slot gives.1) (keys-flow t gives.0 (ap key gives.2)))
 
 -- and so do all changes of a plan
-pub plan-adds : (external : ℕ) (held : List (Option Session)) (now : ℕ) (first : Change) (second : Option Change) (ts : List Session) → Apart held → GiveAll external held now first second ts
+pub plan-adds : (external : Pool) (held : List (Option Session)) (now : ℕ) (first : Change) (second : Option Change) (ts : List Session) → Apart held → GiveAll external held now first second ts
     → length (put_all ts (listing held)) ≡ length (listing held) + (adds first + adds_second second)
 plan-adds external held now first None ts apart all =
     let count = change-adds external held now first all.0 apart all.1 in

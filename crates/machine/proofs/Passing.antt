@@ -44,7 +44,7 @@ use Rattle.machine.specs.declared.event.Answer.TheVariants.{Forward}
 use Rattle.machine.proofs.Steps.{on_packet-is}
 
 -- the answer to a packet that came is that of its leg, at the sessions that are alive
-answer-of : (config : Config) (s : State) (judged : Judged) (iface : Iface) (bytes : List ℕ) (view : View) (r : Route) → Came config judged iface bytes view r
+pub answer-of : (config : Config) (s : State) (judged : Judged) (iface : Iface) (bytes : List ℕ) (view : View) (r : Route) → Came config judged iface bytes view r
     → (step config s judged).1 ≡ (on_route config (aged (later s.clock judged.moment) s) bytes view (Ok r)).1
 unfolding step
 answer-of config s judged iface bytes view r came =

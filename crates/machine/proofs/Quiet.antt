@@ -1,6 +1,7 @@
 -- A packet that shows what was seen before makes no entry.
 use Rattle.std.proofs.Common.{◌≡◌, ◌++◌, ◌==◌, ◌&&◌, ℕ, List, [], ◌∷◌, Option, Some, None, Result, Ok, Err, true, get_or, bit_or, if◌then◌else◌, refl, sym, ap, subst, ◌∙◌}
 use Rattle.std.proofs.lemmas.Bool.{eq-eqb}
+use Rattle.packet.specs.Config.{Pool}
 use Rattle.sessions.specs.Life.{same_side}
 use Rattle.sessions.specs.Listing.{listing}
 use Rattle.sessions.specs.Table.{IsSoundTable, seen}
@@ -29,7 +30,7 @@ between-seen s bits now same =
     let is : is_unchanged s t ≡ true = subst (λ n. (same_side s.opener s.opener && s.seen == n) ≡ true) (sym same) (ap (λ b. b && s.seen == s.seen) (same_side-itself s.opener) ∙ eq-eqb s.seen s.seen refl) in
     ap (λ b. if b then [] else (if goes_on s t then Seen (flow_of t) t.seen ∷ [] else Restart (flow_of t) t.opener t.seen ∷ [])) is
 
-pub quiet-way : (external : ℕ) (held : List (Option Session)) (now : ℕ) (g : Going) → IsSoundTable held → ((s : Session) → get_or held g.slot None ≡ Some s → bit_or s.seen g.bits ≡ s.seen)
+pub quiet-way : (external : Pool) (held : List (Option Session)) (now : ℕ) (g : Going) → IsSoundTable held → ((s : Session) → get_or held g.slot None ≡ Some s → bit_or s.seen g.bits ≡ s.seen)
     → (way : Result Passage Cause) → Plans external held now (Ok (plan_of g)) way → of_way (listing held) way ≡ []
 quiet-way external held now g sound quiet (Ok passage) is =
     let gives = is.sessions.1 in
@@ -38,7 +39,7 @@ quiet-way external held now g sound quiet (Ok passage) is =
 quiet-way external held now g sound quiet (Err cause) is = absurd is
 
 -- the changes of a plan give sessions
-pub way-gives : (external : ℕ) (held : List (Option Session)) (now : ℕ) (plan : Plan) (way : Result Passage Cause) → Plans external held now (Ok plan) way
+pub way-gives : (external : Pool) (held : List (Option Session)) (now : ℕ) (plan : Plan) (way : Result Passage Cause) → Plans external held now (Ok plan) way
     → (ts : List Session) × GiveAll external held now plan.first plan.second ts
 way-gives external held now plan (Ok passage) is = (passage.sessions, is.sessions)
 way-gives external held now plan (Err cause) is = absurd is

@@ -1,8 +1,8 @@
 -- Sessions that take their places again, one after the other.
-use Rattle.std.proofs.Common.{◌≡◌, ℕ, ◌<◌, ◌≤◌, List, [], ◌∷◌, ◌++◌, length, drop, map, Option, true, false, cond, not, append_assoc, refl, sym, ap, subst, ◌∙◌, inl, inr, arith}
+use Rattle.std.proofs.Common.{◌≡◌, ℕ, ◌<◌, ◌≤◌, List, [], ◌∷◌, ◌++◌, length, drop, map, Contains, Option, true, false, cond, not, append_assoc, refl, sym, ap, subst, ◌∙◌, inl, inr, arith}
 use Rattle.std.proofs.lemmas.Bool.{false≢true, false_from_ne_true, lt-ltb}
 use Rattle.std.proofs.lemmas.List.{append-nil, drop_all}
-use Rattle.packet.specs.Config.{Config}
+use Rattle.packet.specs.Config.{Config, Pool}
 use Rattle.packet.specs.declared.endpoint.Proto.TheVariants.{Tcp}
 use Rattle.packet.specs.Same.{same_endpoint}
 use Rattle.packet.proofs.SameLemmas.{same_endpoint-itself}
@@ -64,7 +64,7 @@ module _ (config : Config) (xs : List Session) (s : Session) (ys : List Session)
       ap (λ (l : List Session). insert s l) (filter-all (λ t. not (same_flow s t)) xs (λ t is. ap not (other-flow s xs apart-front t is)))
       ∙ insert-last s xs (front-below xs s ys sound.rises)
 
-pub joins-next : (config : Config) (external : ℕ) (held : List (Option Session)) (s : Session) (ys : List Session) → external ≡ config.external
+pub joins-next : (config : Config) (external : Pool) (held : List (Option Session)) (s : Session) (ys : List Session) → external ≡ config.external
     → AreSound config (listing held ++ s ∷ ys) → MayJoin external held s
 joins-next config external held s ys at sound =
     let front = listing held in
@@ -76,7 +76,7 @@ joins-next config external held s ys at sound =
       few = λ full. absurd (omega (arith, sound.at_most, length-middle front s ys, length-listing held, full));
       placed = λ away. elim placed.outside [
         | inl same ↦ absurd (false≢true (sym away ∙ subst (λ e. same_endpoint s.inside e ≡ true) (sym same) (same_endpoint-itself s.inside)))
-        | inr addr ↦ (addr ∙ sym at, placed.outside_port)
+        | inr listed ↦ (subst (λ (pool : Pool). Contains pool s.outside.addr) (sym at) listed, placed.outside_port)
       ];
     }
 
@@ -97,7 +97,7 @@ module _ (config : Config) (moment : ℕ) (sessions : List Session) (sound : Are
   sound-placed : AreSound config (listing held ++ at_moment moment s ∷ map (at_moment moment) rest)
   sound-placed = subst (AreSound config) (sym are) (sound-moved config moment sessions sound)
 
-  pub joins-placed : (external : ℕ) → external ≡ config.external → MayJoin external held (at_moment moment s)
+  pub joins-placed : (external : Pool) → external ≡ config.external → MayJoin external held (at_moment moment s)
   joins-placed external at = joins-next config external held (at_moment moment s) (map (at_moment moment) rest) at sound-placed
 
   pub placed-next : (later : List (Option Session)) → listing later ≡ put (at_moment moment s) (listing held) → ArePlaced moment sessions later rest
@@ -124,7 +124,7 @@ nobody = record {
 }
 
 -- a session that may begin now may join
-pub begun-joins : (external : ℕ) (held : List (Option Session)) (now : ℕ) (s : Session) → MayBegin external held now s → MayJoin external held s
+pub begun-joins : (external : Pool) (held : List (Option Session)) (now : ℕ) (s : Session) → MayBegin external held now s → MayJoin external held s
 begun-joins external held now s may = record {
   seen = omega (arith, may.unseen);
   apart = may.apart;

@@ -1,8 +1,7 @@
 -- A step keeps a state sound.
-use Rattle.std.proofs.Common.{◌≡◌, ◌⊎◌, ℕ, ◌≤◌, List, [], ◌∷◌, Result, Ok, Err, true, cond, nat_le, not, ◌||◌, refl, sym, subst, inl, inr, arith}
+use Rattle.std.proofs.Common.{◌≡◌, ◌⊎◌, ℕ, ◌≤◌, List, [], ◌∷◌, Result, Ok, Err, Contains, true, cond, nat_le, not, ◌||◌, refl, sym, subst, inl, inr, arith}
 use Rattle.std.specs.List.{filter}
 use Rattle.std.proofs.lemmas.Bool.{cases_Bool, leb-true, or_cases}
-use Rattle.std.proofs.lemmas.Bool.Decides.{nat_tests}
 use Rattle.packet.specs.Config.{Config, is_config, is_external, is_inside}
 use Rattle.packet.specs.Fields.{fields}
 use Rattle.packet.specs.Numbers.{fault_number, route_fault_number}
@@ -14,6 +13,7 @@ use Rattle.packet.specs.declared.route.Route.{Route}
 use Rattle.packet.specs.declared.route.Route.TheVariants.{Out, In, Hairpin}
 use Rattle.packet.specs.declared.route.RouteFault.{RouteFault}
 use Rattle.packet.specs.declared.view.View.{View}
+use Rattle.packet.proofs.Pools.{listed-is}
 use Rattle.packet.proofs.Routes.{routed_is_on_route}
 use Rattle.ruletree.specs.declared.tree.Spelled.{Spelled}
 use Rattle.sessions.specs.Life.{alive}
@@ -56,11 +56,11 @@ bounded config text rules (inl none) = subst (KeepBounds config) (sym none.1) (r
   from = λ facts addr h. absurd (none-from config facts addr h);
 })
 
-pub external-is : (config : Config) (addr : ℕ) → is_external config addr ≡ true → addr ≡ config.external
-external-is config addr h = grind (arith, nat_tests)
+pub external-is : (config : Config) (addr : ℕ) → is_external config addr ≡ true → Contains config.external addr
+external-is config addr h = (listed-is config.external addr).0 h
 
--- a packet that comes in is for an inside address, or for the external one
-pub comes-to : (config : Config) (addr : ℕ) → (is_external config addr || is_inside config addr) ≡ true → (is_inside config addr ≡ true) ⊎ (addr ≡ config.external)
+-- a packet that comes in is for an inside address, or for an external one
+pub comes-to : (config : Config) (addr : ℕ) → (is_external config addr || is_inside config addr) ≡ true → (is_inside config addr ≡ true) ⊎ Contains config.external addr
 comes-to config addr h = elim (or_cases (is_external config addr) (is_inside config addr) h) [
   | inl external ↦ inr (external-is config addr external)
   | inr inside ↦ inl inside

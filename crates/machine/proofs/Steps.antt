@@ -1,7 +1,7 @@
 -- What is done at the sessions that are held is what the machine does.
 use Rattle.std.proofs.Common.{◌≡◌, ℕ, ◌+◌, ◌≤◌, List, [], get_or, Option, None, Result, Ok, Err, sym, ap, ◌∙◌, subst, arith}
 use Rattle.std.specs.List.{filter}
-use Rattle.packet.specs.Config.{Config}
+use Rattle.packet.specs.Config.{Config, Pool}
 use Rattle.packet.specs.Fields.{fields}
 use Rattle.packet.specs.Route.{route}
 use Rattle.packet.specs.Translated.{translated}
@@ -34,14 +34,14 @@ use Rattle.machine.proofs.Later.{plan-adds}
 use Rattle.machine.proofs.Soundness.{later-above, start-sound}
 
 -- a plan that leads to no more sessions adds none
-pub plans-few : (external : ℕ) (held : List (Option Session)) (now : ℕ) (bytes : List ℕ) (plan : Plan) (way : Result Passage Cause) → IsSoundTable held → Plans external held now (Ok plan) way
+pub plans-few : (external : Pool) (held : List (Option Session)) (now : ℕ) (bytes : List ℕ) (plan : Plan) (way : Result Passage Cause) → IsSoundTable held → Plans external held now (Ok plan) way
     → AddsNoSession (λ s. sent s bytes way) held now → adds plan.first + adds_second plan.second ≡ 0
 plans-few external held now bytes plan (Ok passage) sound is few =
     omega (arith, plan-adds external held now plan.first plan.second passage.sessions (Apart-sound held sound) is.sessions, few [] no_tables)
 plans-few external held now bytes plan (Err cause) sound is few = absurd is
 
 -- what is held once a plan is carried out is what its leg comes to
-pub plan-leads : (external : ℕ) (old new : List (Option Session)) (now : ℕ) (bytes : List ℕ) (plan : Plan)
+pub plan-leads : (external : Pool) (old new : List (Option Session)) (now : ℕ) (bytes : List ℕ) (plan : Plan)
     → ((ts : List Session) → GiveAll external old now plan.first plan.second ts → listing new ≡ put_all ts (listing old))
     → (way : Result Passage Cause) → Plans external old now (Ok plan) way
     → IsTransition (λ s. sent s bytes way) old new now (answer.Forward plan.iface (translated bytes plan.src plan.dst))

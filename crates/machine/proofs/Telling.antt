@@ -3,6 +3,7 @@ use Rattle.std.proofs.Common.{◌≡◌, ◌≢◌, ◌<◌, ◌≤◌, ◌+◌,
 use Rattle.std.specs.Prelude.{find}
 use Rattle.std.proofs.lemmas.Bool.{cases_lt}
 use Rattle.std.proofs.lemmas.Option.{same_Some}
+use Rattle.packet.specs.Config.{Pool}
 use Rattle.sessions.specs.declared.session.Session.{Session}
 use Rattle.sessions.specs.Life.{IsSeen}
 use Rattle.sessions.specs.Listing.{Rises, key, listing, put, same_flow}
@@ -41,7 +42,7 @@ module _ (held : List (Option Session)) (apart : Apart held) where
       free (record { place = at.0; held = u; is_held = at.1; clash = inl (has_inside-true t.proto t.inside t.remote u h) })))
 
   -- the entries of changes
-  module _ (external now : ℕ) where
+  module _ (external : Pool) (now : ℕ) where
     pub begin-told : (s t : Session) → Gives external held now (change.Begin s) t → Begin (stilled s) ∷ [] ≡ entries_for (listing held) t
     begin-told s t gives =
         let may : MayBegin external held now t = subst (MayBegin external held now) gives.0 gives.1 in
@@ -62,17 +63,17 @@ module _ (held : List (Option Session)) (apart : Apart held) where
         ap (between s) t_is ∙ sym (noted-held slot s t is (keys-flow t s (ap key (sym t_is))))
 
 -- what a change makes of a session has seen bits of its protocol
-pub begin-fits : (external : ℕ) (held : List (Option Session)) (now : ℕ) (s t : Session) → Gives external held now (change.Begin s) t → IsSeen s.proto s.seen
+pub begin-fits : (external : Pool) (held : List (Option Session)) (now : ℕ) (s t : Session) → Gives external held now (change.Begin s) t → IsSeen s.proto s.seen
 begin-fits external held now s t gives = omega (arith, gives.1.unseen)
 
-pub seen-fits : (external : ℕ) (held : List (Option Session)) (now slot bits : ℕ) (s t : Session) → IsSoundTable held → get_or held slot None ≡ Some s
+pub seen-fits : (external : Pool) (held : List (Option Session)) (now slot bits : ℕ) (s t : Session) → IsSoundTable held → get_or held slot None ≡ Some s
     → Gives external held now (change.Seen slot bits) t → IsSeen s.proto (bit_or s.seen bits)
 seen-fits external held now slot bits s t sound is gives =
     let same : gives.0 ≡ s = same_Some gives.0 s (sym gives.1 ∙ is) in
     IsSeen-or s.proto s.seen bits (sound.seen slot s is) (subst (λ (u : Session). IsSeen u.proto bits) same gives.2)
 
 -- the second change of a plan, told before the first is made
-module _ (held : List (Option Session)) (apart : Apart held) (external now : ℕ) (first : changes.Change) (t : Session) (gives : Gives external held now first t) where
+module _ (held : List (Option Session)) (apart : Apart held) (external : Pool) (now : ℕ) (first : changes.Change) (t : Session) (gives : Gives external held now first t) where
   leads : HasSuccessor held first t
   leads = change-leads external held now first t apart gives
 
@@ -124,7 +125,7 @@ begins-one (change.Begin s) some = (s, refl)
 begins-one (change.Seen slot bits) some = absurd (omega (arith, some))
 begins-one (change.Restart slot opener) some = absurd (omega (arith, some))
 
-first-adds : (held : List (Option Session)) → Apart held → (external now : ℕ) (first : changes.Change) (t : Session) → Gives external held now first t → (more : List Entry)
+first-adds : (held : List (Option Session)) → Apart held → (external : Pool) (now : ℕ) (first : changes.Change) (t : Session) → Gives external held now first t → (more : List Entry)
     → entries_for (listing held) t ++ more ≡ [] → adds first ≡ 0
 first-adds held apart external now (change.Begin s) t gives more none =
     absurd (some-behind [] (Begin (stilled s)) more (ap (λ es. es ++ more) (begin-told held apart external now s t gives) ∙ none))
@@ -132,7 +133,7 @@ first-adds held apart external now (change.Seen slot bits) t gives more none = r
 first-adds held apart external now (change.Restart slot opener) t gives more none = refl
 
 -- what a plan with two changes tells, where the first makes no entry
-module _ (held : List (Option Session)) (sound : IsSoundTable held) (external now : ℕ) (first second : changes.Change) (ts : List Session)
+module _ (held : List (Option Session)) (sound : IsSoundTable held) (external : Pool) (now : ℕ) (first second : changes.Change) (ts : List Session)
     (gives : GiveAll external held now first (Some second) ts) where
   own : Apart held
   own = Apart-sound held sound
@@ -157,7 +158,7 @@ module _ (held : List (Option Session)) (sound : IsSoundTable held) (external no
       ∙ ap (λ es. es ++ []) (second-told held own external now first gives.0 gives.2 second gives.1 gives.3 gives.4 (no_begin second none)).1
 
 -- where no entry is made, no session begins
-pub quiet-adds : (held : List (Option Session)) → IsSoundTable held → (external now : ℕ) (first : changes.Change) (second : Option changes.Change) (ts : List Session)
+pub quiet-adds : (held : List (Option Session)) → IsSoundTable held → (external : Pool) (now : ℕ) (first : changes.Change) (second : Option changes.Change) (ts : List Session)
     → GiveAll external held now first second ts → entries_for_all ts (listing held) ≡ [] → adds first + adds_second second ≡ 0
 quiet-adds held sound external now first None ts gives none =
     let one = first-adds held (Apart-sound held sound) external now first gives.0 gives.1 [] (sym (ap (λ us. entries_for_all us (listing held)) gives.2) ∙ none) in
@@ -179,7 +180,7 @@ nil-before [] more none = refl
 nil-before (e ∷ es) more none = absurd (cons≢nil e (es ++ more) none)
 
 -- a plan makes few bytes of entries
-pub plan-few : (external : ℕ) (held : List (Option Session)) (now : ℕ) (first : changes.Change) (second : Option changes.Change) (ts : List Session)
+pub plan-few : (external : Pool) (held : List (Option Session)) (now : ℕ) (first : changes.Change) (second : Option changes.Change) (ts : List Session)
     → GiveAll external held now first second ts → bytes_of (entries_for_all ts (listing held)) ≤ 44
 plan-few external held now first None ts gives =
     let L = listing held in

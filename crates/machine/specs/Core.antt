@@ -19,7 +19,7 @@ abbrev pub state_of : List ℕ → Spelled → List (Option Session) → ℕ →
 state_of text rules held now =
     record { text = text; rules = rules; sessions = listing held; clock = now }
 
--- the flows are those of a sound state, all of them alive, and translate at its external address
+-- the flows are those of a sound state, all of them alive, and translate at its external addresses
 pub record IsCore (config : Config) (text : List ℕ) (rules : Spelled) (flows : Flows)
     (clock : ℕ) : Type 0 where
   pub external : flows.translations.external ≡ config.external

@@ -1,6 +1,7 @@
 -- What contracts see of the sessions with their timers and mappings, and what ties these to the sessions.
 use Rattle.std.specs.Prelude.{◌≡◌, ◌≢◌, ℕ, ◌≤◌, List, Option, Some, None, count_by, is_some, false, slice_index_or}
 use Rattle.std.specs.Option.{option_map}
+use Rattle.packet.specs.Config.{Pool}
 use Rattle.packet.specs.Same.{same_endpoint}
 use Rattle.sessions.specs.Life.{IsSeen}
 use Rattle.sessions.specs.Table as table
@@ -44,9 +45,9 @@ IsNoneLater held now =
     (slot : ℕ) (s : Session) → slice_index_or held slot None ≡ Some s → s.last ≤ now
 
 -- the session may join those that are held: it clashes with none, there are not too many, its bits are of its protocol,
--- and where it is translated, its outside endpoint is at the external address; as `MayBegin` of hairpin, but whatever
+-- and where it is translated, its outside endpoint is at an external address; as `MayBegin` of hairpin, but whatever
 -- was seen of it, and at any moment
-pub record MayJoin (external : ℕ) (held : List (Option Session)) (s : Session) : Type 0 where
+pub record MayJoin (external : Pool) (held : List (Option Session)) (s : Session) : Type 0 where
   pub seen : IsSeen s.proto s.seen
   pub apart : ¬ table.AnyClash held s
   pub few : count_by is_some held ≢ table.most_sessions

@@ -2,6 +2,8 @@ pub mod Besides
 pub mod Core
 pub mod Fates
 pub mod Flows
+pub mod Former
+pub mod Hosts
 pub mod Judged
 pub mod Laws
 pub mod Machine

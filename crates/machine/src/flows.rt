@@ -69,14 +69,14 @@ impl Model for Flows {
 }
 
 impl Flows {
-    /// No session. `external` is the external address as a number.
+    /// No session. `external` are the external addresses as numbers: 192.0.2.1 is `0xc0000201`.
     ///
     /// # Errors
     ///
     /// `AllocError` where memory is refused.
-    pub fn new(alloc: Global, external: u32) -> Result<Flows, AllocError>
+    pub fn new(alloc: Global, external: &[u32]) -> Result<Flows, AllocError>
         ensures none { IfOk result (λ f. (slot : ℕ) → at f.table slot ≡ None) }
-        ensures external { IfOk result (λ f. f.translations.external ≡ external) }
+        ensures external { IfOk result (λ f. f.translations.external ≡ external.now) }
     {
         let translations = Translations::new(alloc, external)?;
         Ok(Flows {

@@ -3,7 +3,7 @@
 //!
 //! A state is sound where its sessions can be held together, which makes the mappings of each protocol one-to-one,
 //! no packet of theirs is later than the clock, and the rules are those of the text (`specs/Sound`).
-ghost use Rattle.machine.specs.Laws.{AnswersComeIn, ClockNeverFalls, DropsChangeNothing, EventsAreJudgedOnce, ForwardsArePlanned, InsideMapsOnce, LivingMappingsStay, LoadsTakeForce, MappingsAreReused, OnlyLoadsChangeRules, OutsideIsNotShared, RefusalsChangeNothing, RunsKeepSound, SessionsAreAlive, SessionsGoOut, StartIsSound, StepsKeepSound, TranslationsStayInBounds};
+ghost use Rattle.machine.specs.Laws.{AnswersComeIn, ClockNeverFalls, DropsChangeNothing, EventsAreJudgedOnce, FilteredByAddressAlone, ForwardsArePlanned, FullAddressesArePassedOver, HostsKeepOneAddress, InsideMapsOnce, KnownAddressesAreLetIn, LivingMappingsStay, LoadsTakeForce, MappingsAreReused, NewMappingsArePaired, NewPortsKeepClass, OneAddressIsAsBefore, OnlyKnownAddressesComeIn, OnlyLoadsChangeRules, OnlyTranslationsMoveHosts, OutsideIsNotShared, RefusalsChangeNothing, RunsKeepSound, SessionsAreAlive, SessionsGoOut, StartIsSound, StepsKeepSound, StrangersAreFiltered, TranslationsStayInBounds};
 
 use rulesyntax::one_ruleset;
 
@@ -22,7 +22,8 @@ pub fn runs_keep_sound()
     ensures { RunsKeepSound }
 {}
 
-/// No two mappings of one protocol share an outside endpoint (RFC 4787, REQ-3; RFC 5382, REQ-7).
+/// No two mappings of one protocol share an outside endpoint, over all external addresses (RFC 4787, REQ-3; RFC 5382,
+/// REQ-7).
 pub fn outside_is_not_shared()
     ensures { OutsideIsNotShared }
 {}
@@ -73,6 +74,69 @@ pub fn mappings_are_reused()
     ensures { MappingsAreReused }
 {}
 
+/// A new mapping of a host that has others is at an external address of one of them, whatever their protocols: where its
+/// packet goes out and is masqueraded, and where it hairpins (RFC 4787, REQ-2). Without a free port there it isn't made,
+/// though another address has one. `snat` and `dnat` are at the address that the rule or the packet names.
+pub fn new_mappings_are_paired()
+    ensures { NewMappingsArePaired }
+{}
+
+/// A host has all its mappings at one external address, in each state that a gateway reaches, and once it begins again
+/// from its files, as long as the rules leave the host to the pool (RFC 4787, REQ-2).
+///
+/// Two translations don't: `snat` of a packet of the host, to an address of the pool at which it isn't, and `dnat` to
+/// the host, for an endpoint at such an address. Each gives it a second address, and from then on it is given the first
+/// of them that the pool lists. Rules that do so for other hosts change nothing for this one.
+pub fn hosts_keep_one_address()
+    ensures { HostsKeepOneAddress }
+{}
+
+/// Rules without `snat`, and without `dnat` to the host, leave the host to the pool.
+pub fn only_translations_move_hosts()
+    ensures { OnlyTranslationsMoveHosts }
+{}
+
+/// The outside port of a new mapping is of the class and parity of its inside port, at whatever address, and no session
+/// of the protocol had it (RFC 4787, REQ-3, REQ-3 a) and REQ-4).
+pub fn new_ports_keep_class()
+    ensures { NewPortsKeepClass }
+{}
+
+/// Masquerading, an address of the pool is passed over only where no port of the class and parity is free there.
+pub fn full_addresses_are_passed_over()
+    ensures { FullAddressesArePassedOver }
+{}
+
+/// With filtering by address, a packet that comes in through a mapping, without a session of its own, is from an address
+/// that some living session of the mapping has as its remote one (RFC 4787, REQ-8; RFC 5382, REQ-3).
+pub fn only_known_addresses_come_in()
+    ensures { OnlyKnownAddressesComeIn }
+{}
+
+/// With filtering by address, a packet to a mapping from an address that no living session of the mapping has as its
+/// remote one is dropped as `Filtered`, if it may begin a session and no rule translates it.
+pub fn strangers_are_filtered()
+    ensures { StrangersAreFiltered }
+{}
+
+/// Whom a host has written to at one port may answer from another: while a session with the address lives, no packet
+/// from there to the session's outside endpoint is dropped as `Filtered`.
+pub fn known_addresses_are_let_in()
+    ensures { KnownAddressesAreLetIn }
+{}
+
+/// With filtering by endpoint, no packet is dropped as `Filtered`.
+pub fn filtered_by_address_alone()
+    ensures { FilteredByAddressAlone }
+{}
+
+/// With one external address and filtering by endpoint every event is answered as it was before there was a choice of
+/// either. So what a gateway does is the same once its files are of the later version: the state in them is the same, and
+/// a step asks nothing of the configuration that has changed but its legs, and which addresses are external.
+pub fn one_address_is_as_before()
+    ensures { OneAddressIsAsBefore }
+{}
+
 /// An event is judged in one way only: a text loads or doesn't, and it spells at most one ruleset.
 pub fn events_are_judged_once()
     ensures { EventsAreJudgedOnce }
@@ -101,7 +165,7 @@ pub fn forwards_are_planned()
     ensures { ForwardsArePlanned }
 {}
 
-/// Translations by a text that has loaded lead where they can: a source becomes the external address, a
+/// Translations by a text that has loaded lead where they can: a source becomes an external address, a
 /// destination an inside one, and a port that isn't 0 never becomes 0.
 pub fn translations_stay_in_bounds()
     ensures { TranslationsStayInBounds }

@@ -6,6 +6,7 @@
 //!   room for beside.
 //! - Of a packet: room for all its entries (`make_room_for_packet`).
 ghost use Rattle.std.specs.Prelude.{◌≡◌, ◌≢◌, ◌↔◌, ◌+◌, ◌<◌, ◌≤◌, ◌++◌, [], ℕ, List, IsErrOf, IsOk, IsTrue, OnOk};
+ghost use Rattle.packet.specs.Config.{Pool};
 ghost use Rattle.durable.specs.Coding.{AreEntries, IsFlow, IsSession};
 ghost use Rattle.durable.specs.Entering.{flow_of as flow_in};
 ghost use Rattle.hairpin.specs.Plans.{GiveAll, Gives};
@@ -87,8 +88,10 @@ fn restart_changes(session: &Session, opener: Opener) -> bool
 /// Whether a change of a session makes an entry, so that `entry_for` gives one; the table is that before the change.
 /// Of most packets it tells that none has to be made.
 pub fn makes_entry(table: &Table, change: &Change) -> bool
-    requires { (external now : ℕ) × (t : Session) × Gives external table.now.held now change.now t }
-    ensures { (external now : ℕ) (t : Session) → Gives external table.now.held now change.now t
+    requires { (external : Pool) × (now : ℕ) × (t : Session)
+        × Gives external table.now.held now change.now t }
+    ensures { (external : Pool) (now : ℕ) (t : Session)
+        → Gives external table.now.held now change.now t
         → IsTrue result ↔ (entries_for (listing table.now.held) t ≢ []) }
 {
     table.facts();
@@ -132,8 +135,9 @@ pub fn make_room_for_packet<N: Notes>(ready: bool, notes: &mut N) -> Result<(), 
 /// callers, of which one knows the kind of change.
 #[inline(always)]
 pub fn entry_for(table: &Table, change: &Change) -> Option<Entry<'static>>
-    requires { (external now : ℕ) × (t : Session) × Gives external table.now.held now change.now t }
-    ensures entry { (external now : ℕ) (t : Session)
+    requires { (external : Pool) × (now : ℕ) × (t : Session)
+        × Gives external table.now.held now change.now t }
+    ensures entry { (external : Pool) (now : ℕ) (t : Session)
         → Gives external table.now.held now change.now t
         → listed result ≡ entries_for (listing table.now.held) t }
     ensures coded { AreEntries (listed result) }
@@ -182,9 +186,9 @@ pub fn note<N: Notes>(notes: &mut N, item: Option<Entry<'_>>)
 /// Whether the plan makes an entry. A change that adds a session makes one. Of a second change that adds none the table
 /// tells it, although it is the table before the first change.
 pub fn plan_makes_entry(table: &Table, plan: &Plan) -> bool
-    requires { (external now : ℕ) × (ts : List Session)
+    requires { (external : Pool) × (now : ℕ) × (ts : List Session)
         × GiveAll external table.now.held now plan.now.first plan.now.second ts }
-    ensures { (external now : ℕ) (ts : List Session)
+    ensures { (external : Pool) (now : ℕ) (ts : List Session)
         → GiveAll external table.now.held now plan.now.first plan.now.second ts
         → IsTrue result ↔ (entries_for_all ts (listing table.now.held) ≢ []) }
 {

@@ -1,4 +1,5 @@
 use Rattle.std.proofs.Common.{◌≡◌, ◌≤◌, ℕ, ◌+◌, ◌++◌, List, Option, Some, None, sym, ap, subst, ◌∙◌, append_assoc, append-nil, arith}
+use Rattle.packet.specs.Config.{Pool}
 use Rattle.sessions.specs.Listing.{listing}
 use Rattle.sessions.specs.declared.session.Change.{Change}
 use Rattle.sessions.specs.declared.session.Session.{Session}
@@ -11,7 +12,7 @@ use Rattle.machine.proofs.Changed.{adds-few, ready-fewer}
 use Rattle.machine.proofs.Costs.{bytes_of-one, bytes_of-two}
 use Rattle.machine.proofs.flows.Flows.apply_all.Goals as goal
 
-module _ (external : ℕ) (held : List (Option Session)) (now : ℕ) (first : Change) where
+module _ (external : Pool) (held : List (Option Session)) (now : ℕ) (first : Change) where
   -- the first change gives a session, for whose entry there is room
   first-gives : (second : Option Change) (ts : List Session) (room : ℕ) (Keeps : Type 0) → GiveAll external held now first second ts → (Keeps → bytes_of (entries_for_all ts (listing held)) ≤ room)
       → (t : Session) × Gives external held now first t × (Keeps → bytes_of (entries_for (listing held) t) ≤ room)

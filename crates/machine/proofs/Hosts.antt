@@ -1,0 +1,258 @@
+-- A host stays at its external address over the leg of a packet.
+use Rattle.std.proofs.Common.{◌≡◌, ◌≢◌, ◌⊎◌, ℕ, zero, suc, ◌<◌, List, [], ◌∷◌, length, get_or, Contains, Option, Some, None, is_some, Result, Ok, Err, IfOk, Bool, true, false, cond, not, if◌then◌else◌, refl, sym, ap, ◌∙◌, subst, inl, inr, arith}
+use Rattle.std.specs.Prelude.{find}
+use Rattle.std.specs.List.{filter}
+use Rattle.std.specs.Option.{unwrap_or}
+use Rattle.std.proofs.lemmas.Bool.{and_from, and_parts, cases_Bool, eq-eqb, false≢true, not-true}
+use Rattle.packet.proofs.Accepted.{same_eq}
+use Rattle.packet.specs.Config.{Config, Pool, is_inside}
+use Rattle.packet.specs.declared.endpoint.Endpoint.{Endpoint}
+use Rattle.packet.specs.declared.endpoint.Iface.TheVariants.{Lan, Wan}
+use Rattle.packet.specs.declared.view.View.{View}
+use Rattle.portpick.specs.Pool.{choice_by, near_choice, pool_choice, port_at}
+use Rattle.portpick.proofs.Pooled.{used_is_kept}
+use Rattle.ruletree.specs.declared.tree.Spelled.{Spelled}
+use Rattle.sessions.specs.Listing.{In, has_inside, has_outside, is_translated, put, same_flow}
+use Rattle.sessions.specs.Sound.{IsPlaced}
+use Rattle.sessions.specs.declared.session.Opener.{Opener}
+use Rattle.sessions.specs.declared.session.Opener.TheVariants.{Inside, Remote}
+use Rattle.sessions.specs.declared.session.Session.{Session}
+use Rattle.sessions.proofs.Clashing.{apart-from, differ}
+use Rattle.sessions.proofs.Puts.{find-some}
+use Rattle.sessions.proofs.Sets.{In-filter, In-insert}
+use Rattle.verdict.specs.Hooks.{prerouting_verdict, postrouting_verdict}
+use Rattle.verdict.specs.declared.facts.Facts.{Facts}
+use Rattle.verdict.specs.declared.facts.State.TheVariants.{New}
+use Rattle.verdict.specs.declared.hook.Destination.{Destination}
+use Rattle.verdict.specs.declared.hook.Destination.TheVariants as destination
+use Rattle.verdict.specs.declared.hook.Source.{Source}
+use Rattle.verdict.specs.declared.hook.Source.TheVariants as source
+use Rattle.hairpin.specs.Legs.{Passage, facts_of, first_by, hairpin_leg, in_leg, inside_by_rules, inside_far, inside_for, inward, is_taken, maps_inside, maps_outside, needs_session, new_session, out_leg, outside_by_rules, outside_for, outside_near, outward, passed_by, put_all, second_by, uses, uses_in}
+use Rattle.hairpin.specs.declared.cause.Cause.{Cause}
+use Rattle.hairpin.specs.declared.cause.Cause.TheVariants.{Clash, NoSession, Rule}
+use Rattle.hairpin.proofs.Apart.{err-ok, find-In, maps-parts, maps_outside-parts, port-ok, same_Ok, some-mapping}
+use Rattle.hairpin.proofs.Doubling.{passed-keys}
+use Rattle.machine.specs.Hosts.{IsAt, IsAtOne, LeaveToPool, Translates}
+use Rattle.machine.proofs.Ways.{hairpin-ways, in-ways, out-ways, then-ok, unless-ok}
+
+-- ---- what is found
+
+pub found-in : (p : Session → Bool) (xs : List Session) → is_some (find p xs) ≡ true → (s : Session) × In s xs × (p s ≡ true)
+found-in p [] h = absurd (false≢true h)
+found-in p (x ∷ xs) h = elim (cases_Bool (p x)) [
+  | inl is_so ↦ (x, inl refl, is_so)
+  | inr not_so ↦
+      let old = found-in p xs (ap (λ b. is_some (cond b (Some x) (find p xs))) (sym not_so) ∙ h) in
+      (old.0, inr old.1, old.2)
+]
+
+pub uses-is : (sessions : List Session) (host addr : ℕ) → uses_in sessions host addr ≡ true → IsAt sessions host addr
+unfolding uses
+uses-is sessions host addr h =
+    let s = found-in (uses host addr) sessions h in
+    let a = and_parts _ _ s.2 in
+    let b = and_parts _ _ a.1 in
+    (s.0, s.1, (apart-from _ _ (not-true _ a.0), same_eq _ _ b.0), same_eq _ _ b.1)
+
+is-uses : (sessions : List Session) (host addr : ℕ) → IsAt sessions host addr → uses_in sessions host addr ≡ true
+unfolding uses
+is-uses sessions host addr at =
+    let s = at.0 in
+    let passes : uses host addr s ≡ true = and_from _ _ (ap not (differ s.inside s.outside at.2.0)) (and_from _ _ (eq-eqb _ _ at.2.1) (eq-eqb _ _ at.3)) in
+    ap is_some (find-some (uses host addr) sessions s at.1 passes).1
+
+-- ---- what is chosen for a host that is at an address of the pool
+
+module _ (sessions : List Session) (taken : ℕ → ℕ → Bool) (pool : Pool) (host port : ℕ) (e : Endpoint) (addr : ℕ) (at : IsAt sessions host addr) (listed : Contains pool addr) where
+  pub given-used : pool_choice (uses_in sessions host) taken pool port ≡ Some e → IsAt sessions host e.addr
+  given-used choice = uses-is sessions host e.addr (used_is_kept (uses_in sessions host) taken pool port addr e listed (is-uses sessions host addr at) choice)
+
+first-used : (p : ℕ → Bool) (pool : Pool) (k addr : ℕ) → k < length pool → get_or pool k addr ≡ addr → p addr ≡ true → (found : ℕ) × (find p pool ≡ Some found)
+first-used p [] k addr lt is so = absurd (omega (arith, lt))
+first-used p (a ∷ pool) zero addr lt is so = (a, ap (λ b. cond b (Some a) (find p pool)) (ap p is ∙ so))
+first-used p (a ∷ pool) (suc k) addr lt is so = elim (cases_Bool (p a)) [
+  | inl here ↦ (a, ap (λ b. cond b (Some a) (find p pool)) here)
+  | inr none ↦
+      let there = first-used p pool k addr (omega (arith, lt)) is so in
+      (there.0, ap (λ b. cond b (Some a) (find p pool)) none ∙ there.1)
+]
+
+-- where an address is used, a hairpin is given what masquerade would be
+as-masquerade : (p : ℕ → Bool) (taken : ℕ → ℕ → Bool) (pool : Pool) (far port addr : ℕ) → find p pool ≡ Some addr → pool_choice p taken pool port ≡ near_choice p taken pool far port
+unfolding pool_choice near_choice
+as-masquerade p taken pool far port addr is = ap (choice_by taken port pool) is ∙ sym (ap (λ o. port_at taken port (unwrap_or o far)) is)
+
+module _ (sessions : List Session) (taken : ℕ → ℕ → Bool) (pool : Pool) (host far port : ℕ) (e : Endpoint) (addr : ℕ) (at : IsAt sessions host addr) (listed : Contains pool addr) where
+  pub given-near : near_choice (uses_in sessions host) taken pool far port ≡ Some e → IsAt sessions host e.addr
+  given-near choice =
+      let found = first-used (uses_in sessions host) pool listed.0 addr listed.1 listed.2 (is-uses sessions host addr at) in
+      given-used sessions taken pool host port e addr at listed (as-masquerade (uses_in sessions host) taken pool far port found.0 found.1 ∙ choice)
+
+-- ---- a session that is put in
+
+-- where the session translates the host, it is at the address of those that do
+abbrev pub Fits : ℕ → List Session → Session → Type 0
+Fits host sessions t = Translates host t → (addr : ℕ) → IsAt sessions host addr → addr ≡ t.outside.addr
+
+is-old : (t : Session) (sessions : List Session) (s : Session) → In s (put t sessions) → (s ≡ t) ⊎ In s sessions
+is-old t sessions s in_s = elim (In-insert t (filter (λ u. not (same_flow t u)) sessions) s in_s) [
+  | inl e ↦ inl e
+  | inr old ↦ inr (In-filter (λ u. not (same_flow t u)) sessions s old).0
+]
+
+-- an address of the host then is that of the session, or one of those before
+put-at : (host : ℕ) (t : Session) (sessions : List Session) (addr : ℕ) → IsAt (put t sessions) host addr → (Translates host t × (addr ≡ t.outside.addr)) ⊎ IsAt sessions host addr
+put-at host t sessions addr at = elim (is-old t sessions at.0 at.1) [
+  | inl e ↦ inl (subst (Translates host) e at.2, sym at.3 ∙ ap (λ (v : Session). v.outside.addr) e)
+  | inr old ↦ inr (at.0, old, at.2, at.3)
+]
+
+pub put-one : (host : ℕ) (t : Session) (sessions : List Session) → IsAtOne sessions host → Fits host sessions t → IsAtOne (put t sessions) host
+put-one host t sessions one fits addr other at at_other = elim (put-at host t sessions addr at) [
+  | inl a ↦ elim (put-at host t sessions other at_other) [
+    | inl b ↦ a.1 ∙ sym b.1
+    | inr old ↦ a.1 ∙ sym (fits a.0 other old)
+  ]
+  | inr old ↦ elim (put-at host t sessions other at_other) [
+    | inl b ↦ fits b.0 addr old ∙ sym b.1
+    | inr old_other ↦ one addr other old old_other
+  ]
+]
+
+-- one with the endpoints of a session that is held fits
+fits-as : (host : ℕ) (sessions : List Session) (s t : Session) → IsAtOne sessions host → In s sessions → (Translates host t → Translates host s) → s.outside ≡ t.outside → Fits host sessions t
+fits-as host sessions s t one in_s kept outside = λ away addr at. one addr t.outside.addr at (s, in_s, kept away, ap (λ (e : Endpoint). e.addr) outside)
+
+fits-passed : (host : ℕ) (sessions : List Session) (s : Session) (sender : Opener) (view : View) (now : ℕ) → IsAtOne sessions host → In s sessions → Fits host sessions (passed_by s sender view.flags now)
+fits-passed host sessions s sender view now one in_s =
+    let keys = passed-keys s sender view.flags now in
+    fits-as host sessions s (passed_by s sender view.flags now) one in_s
+    (λ away. ((λ e. away.0 (sym keys.inside ∙ e ∙ keys.outside)), ap (λ (x : Endpoint). x.addr) keys.inside ∙ away.1))
+    keys.outside
+
+-- ---- what a leg puts in
+
+module _ (config : Config) (rules : Spelled) (now : ℕ) (view : View) (host : ℕ) (free : LeaveToPool config rules host) where
+  -- a session that is not translated fits
+  fits-plain : (sessions : List Session) (opener : Opener) (inside outside remote : Endpoint) → inside ≡ outside → Fits host sessions (new_session config rules sessions now view opener inside outside remote)
+  fits-plain sessions opener inside outside remote same = λ away. absurd (away.0 same)
+
+  -- what the inside endpoint of a mapping that is held is, or of a rule, fits
+  fits-rules : (sessions : List Session) → IsAtOne sessions host → (facts : Facts) (opener : Opener) (inside remote : Endpoint) (from : ℕ) (d : Destination) → prerouting_verdict config facts rules ≡ d
+      → inside_by_rules config rules sessions now view sessions from (find (maps_outside view.proto view.dst) sessions) d ≡ Ok inside
+      → Fits host sessions (new_session config rules sessions now view opener inside view.dst remote)
+  fits-rules sessions one facts opener inside remote from destination.None e h =
+      let m = some-mapping config.filtering sessions from (find (maps_outside view.proto view.dst) sessions) inside h in
+      let is = find-In (maps_outside view.proto view.dst) sessions m.0 m.1 in
+      let parts = maps_outside-parts view.proto view.dst m.0 is.1 in
+      fits-as host sessions m.0 (new_session config rules sessions now view opener inside view.dst remote) one is.0 (λ away. (parts.0, ap (λ (x : Endpoint). x.addr) m.2 ∙ away.1)) parts.2
+  fits-rules sessions one facts opener inside remote from (destination.To x) e h =
+      λ away. absurd (free.destination facts x (ap (λ (y : Endpoint). y.addr) (same_Ok x inside h) ∙ away.1) e)
+  fits-rules sessions one facts opener inside remote from destination.Drop e h = absurd (err-ok Rule inside h)
+
+  module _ (sessions : List Session) (one : IsAtOne sessions host) where
+    -- a mapping of the packet's inside endpoint
+    fits-mapped : (m : Session) (outside remote : Endpoint) → find (maps_inside view.proto view.src) sessions ≡ Some m → m.outside ≡ outside
+        → Fits host sessions (new_session config rules sessions now view Inside view.src outside remote)
+    fits-mapped m outside remote e same =
+        let is = find-In (maps_inside view.proto view.src) sessions m e in
+        let parts = maps-parts view.proto view.src m is.1 in
+        fits-as host sessions m (new_session config rules sessions now view Inside view.src outside remote) one is.0 (λ away. (parts.0, ap (λ (x : Endpoint). x.addr) parts.2 ∙ away.1)) same
+
+    module _ (listed : (addr : ℕ) → IsAt sessions host addr → Contains config.external addr) where
+      abbrev Chosen : Endpoint → Type 0
+      Chosen outside = Fits host sessions (new_session config rules sessions now view Inside view.src outside view.dst)
+
+      -- ---- out
+
+      fits-source : (how : Source) → postrouting_verdict config (facts_of config rules sessions now view Lan (Some Wan) view.src view.dst New) rules ≡ how
+          → (outside : Endpoint) → outside_by_rules config rules sessions now view how ≡ Ok outside → Chosen outside
+      fits-source source.None e outside h = fits-plain sessions Inside view.src outside view.dst (same_Ok view.src outside h)
+      fits-source (source.From addr) e outside h =
+          λ away. absurd (free.source (facts_of config rules sessions now view Lan (Some Wan) view.src view.dst New) addr away.1 e)
+      fits-source source.Masquerade e outside h = λ away addr at.
+          let taken = is_taken sessions view.proto in
+          let choice = port-ok (pool_choice (uses_in sessions view.src.addr) taken config.external view.src.port) outside h in
+          one addr outside.addr at
+          (subst (λ a. IsAt sessions a outside.addr) away.1
+          (given-used sessions taken config.external view.src.addr view.src.port outside addr (subst (λ a. IsAt sessions a addr) (sym away.1) at) (listed addr at) choice))
+      fits-source source.Drop e outside h = absurd (err-ok Rule outside h)
+
+      fits-out : (found : Option Session) → find (maps_inside view.proto view.src) sessions ≡ found → (outside : Endpoint) → outside_for config rules sessions now view found ≡ Ok outside → Chosen outside
+      fits-out (Some m) e outside h = fits-mapped m outside view.dst e (same_Ok m.outside outside h)
+      fits-out None e outside h = fits-source (postrouting_verdict config (facts_of config rules sessions now view Lan (Some Wan) view.src view.dst New) rules) refl outside h
+
+      abbrev Keeps : Passage → Type 0
+      Keeps passage = IsAtOne (put_all passage.sessions sessions) host
+
+      pub out-keeps : IfOk (out_leg config rules sessions now view) Keeps
+      out-keeps = out-ways config rules sessions now view Keeps
+          (λ s e. put-one host (passed_by s Inside view.flags now) sessions one
+          (fits-passed host sessions s Inside view now one (find-In (has_inside view.proto view.src view.dst) sessions s e).0))
+          (λ outside none h. put-one host (new_session config rules sessions now view Inside view.src outside view.dst) sessions one
+          (fits-out (find (maps_inside view.proto view.src) sessions) refl outside h))
+          (find (has_inside view.proto view.src view.dst) sessions) refl
+
+      -- ---- in
+
+      fits-in : (b : Bool) (inside : Endpoint)
+          → (if b then Ok view.dst else inside_by_rules config rules sessions now view sessions view.src.addr (find (maps_outside view.proto view.dst) sessions)
+          (prerouting_verdict config (facts_of config rules sessions now view Wan None view.src view.dst New) rules)) ≡ Ok inside
+          → Fits host sessions (new_session config rules sessions now view Remote inside view.dst view.src)
+      fits-in true inside h = fits-plain sessions Remote inside view.dst view.src (sym (same_Ok view.dst inside h))
+      fits-in false inside h =
+          let facts = facts_of config rules sessions now view Wan None view.src view.dst New in
+          fits-rules sessions one facts Remote inside view.src view.src.addr (prerouting_verdict config facts rules) refl h
+
+      pub in-keeps : IfOk (in_leg config rules sessions now view) Keeps
+      in-keeps = in-ways config rules sessions now view Keeps
+          (λ s e. put-one host (passed_by s Remote view.flags now) sessions one
+          (fits-passed host sessions s Remote view now one (find-In (has_outside view.proto view.dst view.src) sessions s e).0))
+          (λ inside none h. put-one host (new_session config rules sessions now view Remote inside view.dst view.src) sessions one
+          (fits-in (is_inside config view.dst.addr) inside h))
+          (find (has_outside view.proto view.dst view.src) sessions) refl
+
+      -- ---- hairpin
+
+      fits-near : (found : Option Session) → find (maps_inside view.proto view.src) sessions ≡ found → (outside : Endpoint) → outside_near config rules sessions now view found ≡ Ok outside → Chosen outside
+      fits-near (Some m) e outside h = fits-mapped m outside view.dst e (same_Ok m.outside outside h)
+      fits-near None e outside h = λ away addr at.
+          let taken = is_taken sessions view.proto in
+          let choice = port-ok (near_choice (uses_in sessions view.src.addr) taken config.external view.dst.addr view.src.port) outside h in
+          one addr outside.addr at
+          (subst (λ a. IsAt sessions a outside.addr) away.1
+          (given-near sessions taken config.external view.src.addr view.dst.addr view.src.port outside addr (subst (λ a. IsAt sessions a addr) (sym away.1) at) (listed addr at) choice))
+
+      fits-first : (found : Option Session) → find (has_inside view.proto view.src view.dst) sessions ≡ found → (first : Session) → first_by config rules sessions now view found ≡ Ok first → Fits host sessions first
+      fits-first (Some s) e first h =
+          subst (Fits host sessions) (same_Ok (passed_by s Inside view.flags now) first h)
+          (fits-passed host sessions s Inside view now one (find-In (has_inside view.proto view.src view.dst) sessions s e).0)
+      fits-first None e first h =
+          let begun = unless-ok (needs_session view) NoSession _ first h in
+          let new = then-ok (outside_near config rules sessions now view (find (maps_inside view.proto view.src) sessions)) _ first begun.1 in
+          subst (Fits host sessions) (same_Ok _ first new.2) (fits-near (find (maps_inside view.proto view.src) sessions) refl new.0 new.1)
+
+  -- the second session, where the first one is put in
+  module _ (sessions : List Session) (first : Session) (one : IsAtOne (put first sessions) host) where
+    abbrev held : List Session
+    held = put first sessions
+
+    fits-second : (found : Option Session) → find (has_outside view.proto view.dst first.outside) held ≡ found → (t : Session) → second_by config rules sessions now view first held found ≡ Ok t → Fits host held t
+    fits-second (Some s) e t h =
+        subst (Fits host held) (same_Ok (passed_by s Remote view.flags now) t h)
+        (fits-passed host held s Remote view now one (find-In (has_outside view.proto view.dst first.outside) held s e).0)
+    fits-second None e t h =
+        let facts = facts_of config rules sessions now view Lan None view.src view.dst New in
+        let begun = unless-ok (needs_session view) NoSession _ t h in
+        let new = then-ok (inside_far config rules sessions now view first held) _ t begun.1 in
+        let free_of_clash = unless-ok _ Clash (Ok (new_session config rules sessions now view Remote new.0 view.dst first.outside)) t new.2 in
+        subst (Fits host held) (same_Ok _ t free_of_clash.1)
+        (fits-rules held one facts Remote new.0 first.outside first.outside.addr (prerouting_verdict config facts rules) refl new.1)
+
+  pub hairpin-keeps : (sessions : List Session) → IsAtOne sessions host → ((addr : ℕ) → IsAt sessions host addr → Contains config.external addr)
+      → IfOk (hairpin_leg config rules sessions now view) (λ passage. IsAtOne (put_all passage.sessions sessions) host)
+  hairpin-keeps sessions one listed = hairpin-ways config rules sessions now view (λ passage. IsAtOne (put_all passage.sessions sessions) host) (find (has_inside view.proto view.src view.dst) sessions)
+      (λ first t is other far.
+      let with_first = put-one host first sessions one (fits-first sessions one listed (find (has_inside view.proto view.src view.dst) sessions) refl first is) in
+      put-one host t (put first sessions) with_first
+      (fits-second sessions first with_first (find (has_outside view.proto view.dst first.outside) (put first sessions)) refl t far))
