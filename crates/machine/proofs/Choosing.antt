@@ -25,8 +25,9 @@ use Rattle.verdict.specs.declared.hook.Source.TheVariants as source
 use Rattle.hairpin.specs.Legs.{Passage, facts_of, first_by, hairpin_leg, is_taken, maps_inside, needs_session, new_session, out_leg, outside_by_rules, outside_for, outside_near, uses_in}
 use Rattle.hairpin.specs.declared.cause.Cause.TheVariants.{NoSession, Rule}
 use Rattle.hairpin.proofs.Apart.{err-ok, find-In, mapped-some, maps-parts, port-ok, same_Ok, taken-by, taken-from}
-use Rattle.machine.specs.Hosts.{IsAt, IsOccupied}
-use Rattle.machine.proofs.Hosts.{given-near, given-used, uses-is}
+use Rattle.hairpin.specs.Paired.{IsAt}
+use Rattle.hairpin.proofs.Pairs.{hairpin, masquerade, uses-is}
+use Rattle.machine.specs.Hosts.{IsOccupied}
 use Rattle.machine.proofs.Ways.{hairpin-ways, out-ways, then-ok, unless-ok}
 
 -- ---- among the ports of an address
@@ -135,7 +136,7 @@ module _ (config : Config) (rules : Spelled) (sessions : List Session) (now : �
     paired-for is None e outside h =
         let taken = is_taken sessions view.proto in
         let choice = port-ok (pool_choice (uses_in sessions view.src.addr) taken config.external view.src.port) outside (sym (ap (outside_by_rules config rules sessions now view) is) ∙ h) in
-        given-used sessions taken config.external view.src.addr view.src.port outside addr at listed choice
+        masquerade config.external sessions taken view.src.addr view.src.port addr outside at listed choice
 
     pub out-paired : how ≡ source.Masquerade → IfOk (out_leg config rules sessions now view) (λ passage. IsAt sessions view.src.addr passage.src.addr)
     out-paired is = begins-out (λ x. IsAt sessions view.src.addr x.addr) (paired-for is (find (maps_inside view.proto view.src) sessions) refl)
@@ -146,7 +147,7 @@ module _ (config : Config) (rules : Spelled) (sessions : List Session) (now : �
     paired-near None e outside h =
         let taken = is_taken sessions view.proto in
         let choice = port-ok (near_choice (uses_in sessions view.src.addr) taken config.external view.dst.addr view.src.port) outside h in
-        given-near sessions taken config.external view.src.addr view.dst.addr view.src.port outside addr at listed choice
+        hairpin config.external sessions taken view.src.addr view.dst.addr view.src.port addr outside at listed choice
 
     pub hairpin-paired : IfOk (hairpin_leg config rules sessions now view) (λ passage. IsAt sessions view.src.addr passage.src.addr)
     hairpin-paired = begins-hairpin (λ x. IsAt sessions view.src.addr x.addr) (paired-near (find (maps_inside view.proto view.src) sessions) refl)

@@ -32,92 +32,16 @@ use Rattle.hairpin.specs.declared.cause.Cause.{Cause}
 use Rattle.hairpin.specs.declared.cause.Cause.TheVariants.{Clash, NoSession, Rule}
 use Rattle.hairpin.proofs.Apart.{err-ok, find-In, maps-parts, maps_outside-parts, port-ok, same_Ok, some-mapping}
 use Rattle.hairpin.proofs.Doubling.{passed-keys}
-use Rattle.machine.specs.Hosts.{IsAt, IsAtOne, LeaveToPool, Translates}
+use Rattle.hairpin.specs.Paired.{IsAt, IsAtOne, Translates}
+use Rattle.hairpin.proofs.Pairs.{hairpin, masquerade, put_in}
+use Rattle.machine.specs.Hosts.{LeaveToPool}
 use Rattle.machine.proofs.Ways.{hairpin-ways, in-ways, out-ways, then-ok, unless-ok}
-
--- ---- what is found
-
-pub found-in : (p : Session → Bool) (xs : List Session) → is_some (find p xs) ≡ true → (s : Session) × In s xs × (p s ≡ true)
-found-in p [] h = absurd (false≢true h)
-found-in p (x ∷ xs) h = elim (cases_Bool (p x)) [
-  | inl is_so ↦ (x, inl refl, is_so)
-  | inr not_so ↦
-      let old = found-in p xs (ap (λ b. is_some (cond b (Some x) (find p xs))) (sym not_so) ∙ h) in
-      (old.0, inr old.1, old.2)
-]
-
-pub uses-is : (sessions : List Session) (host addr : ℕ) → uses_in sessions host addr ≡ true → IsAt sessions host addr
-unfolding uses
-uses-is sessions host addr h =
-    let s = found-in (uses host addr) sessions h in
-    let a = and_parts _ _ s.2 in
-    let b = and_parts _ _ a.1 in
-    (s.0, s.1, (apart-from _ _ (not-true _ a.0), same_eq _ _ b.0), same_eq _ _ b.1)
-
-is-uses : (sessions : List Session) (host addr : ℕ) → IsAt sessions host addr → uses_in sessions host addr ≡ true
-unfolding uses
-is-uses sessions host addr at =
-    let s = at.0 in
-    let passes : uses host addr s ≡ true = and_from _ _ (ap not (differ s.inside s.outside at.2.0)) (and_from _ _ (eq-eqb _ _ at.2.1) (eq-eqb _ _ at.3)) in
-    ap is_some (find-some (uses host addr) sessions s at.1 passes).1
-
--- ---- what is chosen for a host that is at an address of the pool
-
-module _ (sessions : List Session) (taken : ℕ → ℕ → Bool) (pool : Pool) (host port : ℕ) (e : Endpoint) (addr : ℕ) (at : IsAt sessions host addr) (listed : Contains pool addr) where
-  pub given-used : pool_choice (uses_in sessions host) taken pool port ≡ Some e → IsAt sessions host e.addr
-  given-used choice = uses-is sessions host e.addr (used_is_kept (uses_in sessions host) taken pool port addr e listed (is-uses sessions host addr at) choice)
-
-first-used : (p : ℕ → Bool) (pool : Pool) (k addr : ℕ) → k < length pool → get_or pool k addr ≡ addr → p addr ≡ true → (found : ℕ) × (find p pool ≡ Some found)
-first-used p [] k addr lt is so = absurd (omega (arith, lt))
-first-used p (a ∷ pool) zero addr lt is so = (a, ap (λ b. cond b (Some a) (find p pool)) (ap p is ∙ so))
-first-used p (a ∷ pool) (suc k) addr lt is so = elim (cases_Bool (p a)) [
-  | inl here ↦ (a, ap (λ b. cond b (Some a) (find p pool)) here)
-  | inr none ↦
-      let there = first-used p pool k addr (omega (arith, lt)) is so in
-      (there.0, ap (λ b. cond b (Some a) (find p pool)) none ∙ there.1)
-]
-
--- where an address is used, a hairpin is given what masquerade would be
-as-masquerade : (p : ℕ → Bool) (taken : ℕ → ℕ → Bool) (pool : Pool) (far port addr : ℕ) → find p pool ≡ Some addr → pool_choice p taken pool port ≡ near_choice p taken pool far port
-unfolding pool_choice near_choice
-as-masquerade p taken pool far port addr is = ap (choice_by taken port pool) is ∙ sym (ap (λ o. port_at taken port (unwrap_or o far)) is)
-
-module _ (sessions : List Session) (taken : ℕ → ℕ → Bool) (pool : Pool) (host far port : ℕ) (e : Endpoint) (addr : ℕ) (at : IsAt sessions host addr) (listed : Contains pool addr) where
-  pub given-near : near_choice (uses_in sessions host) taken pool far port ≡ Some e → IsAt sessions host e.addr
-  given-near choice =
-      let found = first-used (uses_in sessions host) pool listed.0 addr listed.1 listed.2 (is-uses sessions host addr at) in
-      given-used sessions taken pool host port e addr at listed (as-masquerade (uses_in sessions host) taken pool far port found.0 found.1 ∙ choice)
 
 -- ---- a session that is put in
 
 -- where the session translates the host, it is at the address of those that do
 abbrev pub Fits : ℕ → List Session → Session → Type 0
 Fits host sessions t = Translates host t → (addr : ℕ) → IsAt sessions host addr → addr ≡ t.outside.addr
-
-is-old : (t : Session) (sessions : List Session) (s : Session) → In s (put t sessions) → (s ≡ t) ⊎ In s sessions
-is-old t sessions s in_s = elim (In-insert t (filter (λ u. not (same_flow t u)) sessions) s in_s) [
-  | inl e ↦ inl e
-  | inr old ↦ inr (In-filter (λ u. not (same_flow t u)) sessions s old).0
-]
-
--- an address of the host then is that of the session, or one of those before
-put-at : (host : ℕ) (t : Session) (sessions : List Session) (addr : ℕ) → IsAt (put t sessions) host addr → (Translates host t × (addr ≡ t.outside.addr)) ⊎ IsAt sessions host addr
-put-at host t sessions addr at = elim (is-old t sessions at.0 at.1) [
-  | inl e ↦ inl (subst (Translates host) e at.2, sym at.3 ∙ ap (λ (v : Session). v.outside.addr) e)
-  | inr old ↦ inr (at.0, old, at.2, at.3)
-]
-
-pub put-one : (host : ℕ) (t : Session) (sessions : List Session) → IsAtOne sessions host → Fits host sessions t → IsAtOne (put t sessions) host
-put-one host t sessions one fits addr other at at_other = elim (put-at host t sessions addr at) [
-  | inl a ↦ elim (put-at host t sessions other at_other) [
-    | inl b ↦ a.1 ∙ sym b.1
-    | inr old ↦ a.1 ∙ sym (fits a.0 other old)
-  ]
-  | inr old ↦ elim (put-at host t sessions other at_other) [
-    | inl b ↦ fits b.0 addr old ∙ sym b.1
-    | inr old_other ↦ one addr other old old_other
-  ]
-]
 
 -- one with the endpoints of a session that is held fits
 fits-as : (host : ℕ) (sessions : List Session) (s t : Session) → IsAtOne sessions host → In s sessions → (Translates host t → Translates host s) → s.outside ≡ t.outside → Fits host sessions t
@@ -175,7 +99,7 @@ module _ (config : Config) (rules : Spelled) (now : ℕ) (view : View) (host : �
           let choice = port-ok (pool_choice (uses_in sessions view.src.addr) taken config.external view.src.port) outside h in
           one addr outside.addr at
           (subst (λ a. IsAt sessions a outside.addr) away.1
-          (given-used sessions taken config.external view.src.addr view.src.port outside addr (subst (λ a. IsAt sessions a addr) (sym away.1) at) (listed addr at) choice))
+          (masquerade config.external sessions taken view.src.addr view.src.port addr outside (subst (λ a. IsAt sessions a addr) (sym away.1) at) (listed addr at) choice))
       fits-source source.Drop e outside h = absurd (err-ok Rule outside h)
 
       fits-out : (found : Option Session) → find (maps_inside view.proto view.src) sessions ≡ found → (outside : Endpoint) → outside_for config rules sessions now view found ≡ Ok outside → Chosen outside
@@ -187,9 +111,9 @@ module _ (config : Config) (rules : Spelled) (now : ℕ) (view : View) (host : �
 
       pub out-keeps : IfOk (out_leg config rules sessions now view) Keeps
       out-keeps = out-ways config rules sessions now view Keeps
-          (λ s e. put-one host (passed_by s Inside view.flags now) sessions one
+          (λ s e. put_in host (passed_by s Inside view.flags now) sessions one
           (fits-passed host sessions s Inside view now one (find-In (has_inside view.proto view.src view.dst) sessions s e).0))
-          (λ outside none h. put-one host (new_session config rules sessions now view Inside view.src outside view.dst) sessions one
+          (λ outside none h. put_in host (new_session config rules sessions now view Inside view.src outside view.dst) sessions one
           (fits-out (find (maps_inside view.proto view.src) sessions) refl outside h))
           (find (has_inside view.proto view.src view.dst) sessions) refl
 
@@ -206,9 +130,9 @@ module _ (config : Config) (rules : Spelled) (now : ℕ) (view : View) (host : �
 
       pub in-keeps : IfOk (in_leg config rules sessions now view) Keeps
       in-keeps = in-ways config rules sessions now view Keeps
-          (λ s e. put-one host (passed_by s Remote view.flags now) sessions one
+          (λ s e. put_in host (passed_by s Remote view.flags now) sessions one
           (fits-passed host sessions s Remote view now one (find-In (has_outside view.proto view.dst view.src) sessions s e).0))
-          (λ inside none h. put-one host (new_session config rules sessions now view Remote inside view.dst view.src) sessions one
+          (λ inside none h. put_in host (new_session config rules sessions now view Remote inside view.dst view.src) sessions one
           (fits-in (is_inside config view.dst.addr) inside h))
           (find (has_outside view.proto view.dst view.src) sessions) refl
 
@@ -221,7 +145,7 @@ module _ (config : Config) (rules : Spelled) (now : ℕ) (view : View) (host : �
           let choice = port-ok (near_choice (uses_in sessions view.src.addr) taken config.external view.dst.addr view.src.port) outside h in
           one addr outside.addr at
           (subst (λ a. IsAt sessions a outside.addr) away.1
-          (given-near sessions taken config.external view.src.addr view.dst.addr view.src.port outside addr (subst (λ a. IsAt sessions a addr) (sym away.1) at) (listed addr at) choice))
+          (hairpin config.external sessions taken view.src.addr view.dst.addr view.src.port addr outside (subst (λ a. IsAt sessions a addr) (sym away.1) at) (listed addr at) choice))
 
       fits-first : (found : Option Session) → find (has_inside view.proto view.src view.dst) sessions ≡ found → (first : Session) → first_by config rules sessions now view found ≡ Ok first → Fits host sessions first
       fits-first (Some s) e first h =
@@ -253,6 +177,6 @@ module _ (config : Config) (rules : Spelled) (now : ℕ) (view : View) (host : �
       → IfOk (hairpin_leg config rules sessions now view) (λ passage. IsAtOne (put_all passage.sessions sessions) host)
   hairpin-keeps sessions one listed = hairpin-ways config rules sessions now view (λ passage. IsAtOne (put_all passage.sessions sessions) host) (find (has_inside view.proto view.src view.dst) sessions)
       (λ first t is other far.
-      let with_first = put-one host first sessions one (fits-first sessions one listed (find (has_inside view.proto view.src view.dst) sessions) refl first is) in
-      put-one host t (put first sessions) with_first
+      let with_first = put_in host first sessions one (fits-first sessions one listed (find (has_inside view.proto view.src view.dst) sessions) refl first is) in
+      put_in host t (put first sessions) with_first
       (fits-second sessions first with_first (find (has_outside view.proto view.dst first.outside) (put first sessions)) refl t far))

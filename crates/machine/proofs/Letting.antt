@@ -30,7 +30,7 @@ use Rattle.hairpin.specs.Legs.{Passage, by_mapping, counted, facts_of, first_by,
 use Rattle.hairpin.specs.declared.cause.Cause.{Cause}
 use Rattle.hairpin.specs.declared.cause.Cause.TheVariants.{Clash, Filtered, NoMapping, NoPort, NoSession, Rule, SelfMapped, TableFull}
 use Rattle.hairpin.proofs.Apart.{agree, err-ok, find-In, maps_outside-parts, same_Ok}
-use Rattle.machine.proofs.Hosts.{found-in}
+use Rattle.hairpin.proofs.Pairs.{found-in}
 use Rattle.machine.proofs.Ways.{in-ways}
 
 -- ---- where a mapping lets in

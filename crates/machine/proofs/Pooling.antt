@@ -36,9 +36,10 @@ use Rattle.hairpin.specs.Legs.{Passage, in_leg, lets_in, maps_inside, maps_outsi
 use Rattle.hairpin.specs.declared.cause.Cause.{Cause}
 use Rattle.hairpin.specs.declared.cause.Cause.TheVariants as cause
 use Rattle.hairpin.proofs.Apart.{agree, find-In, maps-parts, maps_outside-from, maps_outside-parts}
-use Rattle.hairpin.proofs.Same.{strangers}
+use Rattle.hairpin.proofs.Strangers.{strangers}
 use Rattle.hairpin.proofs.Soundness.{filter-sound}
-use Rattle.machine.specs.Hosts.{IsAt, IsOccupied}
+use Rattle.hairpin.specs.Paired.{IsAt}
+use Rattle.machine.specs.Hosts.{IsOccupied}
 use Rattle.machine.specs.Judged.{Judged}
 use Rattle.machine.specs.Laws.{Begins, Came, IsLeftAlone, Masquerades, living}
 use Rattle.machine.specs.Machine.{State, act, leg, later, on_route, sent, step, with_fields}

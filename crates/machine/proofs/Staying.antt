@@ -18,7 +18,8 @@ use Rattle.sessions.proofs.Sets.{In-filter}
 use Rattle.sessions.proofs.Stilled.{In-map}
 use Rattle.hairpin.specs.Legs.{Passage, put_all}
 use Rattle.hairpin.specs.declared.cause.Cause.{Cause}
-use Rattle.machine.specs.Hosts.{IsAt, IsAtOne, IsLeftToPool, LeaveToPool}
+use Rattle.hairpin.specs.Paired.{IsAt, IsAtOne}
+use Rattle.machine.specs.Hosts.{IsLeftToPool, LeaveToPool}
 use Rattle.machine.specs.Judged.{Judged, AreJudged}
 use Rattle.machine.specs.Machine.{State, act, after, aged, later, leg, on_route, sent, step, with_fields}
 use Rattle.machine.specs.Noted.{IsResumed, lasting}

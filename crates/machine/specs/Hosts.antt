@@ -1,4 +1,4 @@
--- Hosts and the external addresses at which they are (RFC 4787, REQ-2).
+-- What gives a host an external address (RFC 4787, REQ-2).
 use Rattle.std.specs.Prelude.{◌≡◌, ◌≢◌, ◌==◌, ℕ, Bool, true, false, List, [], ◌∷◌}
 use Rattle.packet.specs.Config.{Config}
 use Rattle.packet.specs.declared.endpoint.Endpoint.{Endpoint}
@@ -15,20 +15,6 @@ use Rattle.verdict.specs.declared.hook.Destination.TheVariants.{To}
 use Rattle.verdict.specs.declared.hook.Source.TheVariants.{From}
 use Rattle.machine.specs.Judged.{Judged}
 use Rattle.machine.specs.Machine.{State, step}
-
--- the session is of a mapping of an inside endpoint of the host
-abbrev pub Translates : ℕ → Session → Type 0
-Translates host s = (s.inside ≢ s.outside) × (s.inside.addr ≡ host)
-
--- some mapping of the host is at this external address
-abbrev pub IsAt : List Session → ℕ → ℕ → Type 0
-IsAt sessions host addr =
-    (s : Session) × In s sessions × Translates host s × (s.outside.addr ≡ addr)
-
--- all mappings of the host are at one external address, whatever their protocols
-abbrev pub IsAtOne : List Session → ℕ → Type 0
-IsAtOne sessions host =
-    (addr other : ℕ) → IsAt sessions host addr → IsAt sessions host other → addr ≡ other
 
 -- some session of the protocol has this outside endpoint
 abbrev pub IsOccupied : List Session → Proto → ℕ → ℕ → Type 0

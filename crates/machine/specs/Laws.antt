@@ -33,9 +33,10 @@ use Rattle.verdict.specs.declared.hook.Source.TheVariants.{Masquerade}
 use Rattle.hairpin.specs.Causes.{cause_number}
 use Rattle.hairpin.specs.KeepBounds.{KeepBounds}
 use Rattle.hairpin.specs.Legs.{Passage, needs_session, put_all, connection_of}
+use Rattle.hairpin.specs.Paired.{IsAt, IsAtOne}
 use Rattle.hairpin.specs.declared.cause.Cause.TheVariants.{Filtered}
 use Rattle.machine.specs.Former.{former_answers, former_leg}
-use Rattle.machine.specs.Hosts.{IsAt, IsAtOne, IsLeftToPool, IsOccupied, LeaveToPool, is_of_rule}
+use Rattle.machine.specs.Hosts.{IsLeftToPool, IsOccupied, LeaveToPool, is_of_rule}
 use Rattle.machine.specs.Judged.{Judged, AreJudged, IsJudged, IsNoLoad}
 use Rattle.machine.specs.Machine.{State, aged, answers, empty_at, later, leg, step, after}
 use Rattle.machine.specs.Noted.{IsResumed, lasting}
