@@ -182,6 +182,13 @@ fn ask_sessions(alloc: Global, out: &mut String, gateway: &Trials) -> Result<(),
     Ok(())
 }
 
+fn ask_migrated(out: &mut String, gateway: &Trials) -> Result<(), AllocError> {
+    if gateway.has_migrated() {
+        return put_line(out, "yes");
+    }
+    put_line(out, "no")
+}
+
 // Puts all that is answered to a line.
 fn ask(
     alloc: Global,
@@ -195,7 +202,7 @@ fn ask(
         "held" => put_number(alloc, out, gateway.held() as u64),
         "grown" => put_number(alloc, out, gateway.grown()),
         "rules" => ask_rules(out, gateway),
-        "migrated" => put_line(out, if gateway.has_migrated() { "yes" } else { "no" }),
+        "migrated" => ask_migrated(out, gateway),
         "sessions" => ask_sessions(alloc, out, gateway),
         _ => match line.strip_prefix("forward ") {
             Some(line) => ask_forward(alloc, out, gateway, line),
