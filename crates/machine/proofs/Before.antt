@@ -1,5 +1,5 @@
 -- With one external address, and filtering by endpoint, a step is the former one.
-use Rattle.std.proofs.Common.{◌≡◌, ◌↔◌, ℕ, ◌==◌, true, false, List, [], ◌∷◌, Result, Ok, Err, refl, sym, ap, ◌∙◌, subst, inl, inr}
+use Rattle.std.proofs.Common.{◌≡◌, ◌↔◌, ℕ, ◌==◌, true, false, List, [], ◌∷◌, Result, Ok, Err, refl, sym, ap, ◌∙◌, inl, inr}
 use Rattle.std.proofs.lemmas.Bool.{eq-eqb, false≢true, or_cases, or_left}
 use Rattle.packet.proofs.Accepted.{same_eq}
 use Rattle.packet.specs.Config.{Config, Pool, is_external, is_listed}

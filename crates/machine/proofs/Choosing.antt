@@ -1,9 +1,9 @@
 -- At which outside endpoint a new session is.
-use Rattle.std.proofs.Common.{◌≡◌, ◌≢◌, ℕ, ◌<◌, ◌^◌, Bool, true, false, cond, List, [], ◌∷◌, ◌++◌, Contains, Option, Some, None, Result, Ok, Err, IfOk, IsTrue, refl, sym, ap, ◌∙◌, subst, inl, inr}
+use Rattle.std.proofs.Common.{◌≡◌, ◌≢◌, ℕ, ◌<◌, ◌^◌, Bool, true, cond, List, [], ◌∷◌, ◌++◌, Contains, Option, Some, None, Ok, IfOk, IsTrue, refl, sym, ap, ◌∙◌, subst}
 use Rattle.std.specs.Prelude.{find}
 use Rattle.std.specs.List.{AllByRecursion}
 use Rattle.std.specs.Option.{option_map, unwrap_or}
-use Rattle.std.proofs.lemmas.Bool.{false_from_ne_true, false≢true}
+use Rattle.std.proofs.lemmas.Bool.{false_from_ne_true}
 use Rattle.std.proofs.lemmas.Option.{none-some, same_Some}
 use Rattle.packet.specs.Config.{Config, Pool}
 use Rattle.packet.specs.declared.endpoint.Endpoint.{Endpoint}
@@ -15,14 +15,13 @@ use Rattle.portpick.specs.Pool.{choice_by, endpoint, first_port, near_choice, or
 use Rattle.portpick.proofs.Chosen.{choice-some, determined, nearest-alike}
 use Rattle.portpick.proofs.Pooled.{choice_is_listed}
 use Rattle.ruletree.specs.declared.tree.Spelled.{Spelled}
-use Rattle.sessions.specs.Listing.{In, has_inside}
-use Rattle.sessions.specs.declared.session.Opener.TheVariants.{Inside}
+use Rattle.sessions.specs.Listing.{has_inside}
 use Rattle.sessions.specs.declared.session.Session.{Session}
 use Rattle.verdict.specs.Hooks.{postrouting_verdict}
 use Rattle.verdict.specs.declared.facts.State.TheVariants.{New}
 use Rattle.verdict.specs.declared.hook.Source.{Source}
 use Rattle.verdict.specs.declared.hook.Source.TheVariants as source
-use Rattle.hairpin.specs.Legs.{Passage, facts_of, first_by, hairpin_leg, is_taken, maps_inside, needs_session, new_session, out_leg, outside_by_rules, outside_for, outside_near, uses_in}
+use Rattle.hairpin.specs.Legs.{facts_of, first_by, hairpin_leg, is_taken, maps_inside, needs_session, out_leg, outside_by_rules, outside_for, outside_near, uses_in}
 use Rattle.hairpin.specs.declared.cause.Cause.TheVariants.{NoSession, Rule}
 use Rattle.hairpin.proofs.Apart.{err-ok, find-In, mapped-some, maps-parts, port-ok, same_Ok, taken-by, taken-from}
 use Rattle.hairpin.specs.Paired.{IsAt}

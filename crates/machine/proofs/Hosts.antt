@@ -1,25 +1,16 @@
 -- A host stays at its external address over the leg of a packet.
-use Rattle.std.proofs.Common.{◌≡◌, ◌≢◌, ◌⊎◌, ℕ, zero, suc, ◌<◌, List, [], ◌∷◌, length, get_or, Contains, Option, Some, None, is_some, Result, Ok, Err, IfOk, Bool, true, false, cond, not, if◌then◌else◌, refl, sym, ap, ◌∙◌, subst, inl, inr, arith}
+use Rattle.std.proofs.Common.{◌≡◌, ℕ, List, Contains, Option, Some, None, Ok, IfOk, Bool, true, false, if◌then◌else◌, refl, sym, ap, ◌∙◌, subst}
 use Rattle.std.specs.Prelude.{find}
-use Rattle.std.specs.List.{filter}
-use Rattle.std.specs.Option.{unwrap_or}
-use Rattle.std.proofs.lemmas.Bool.{and_from, and_parts, cases_Bool, eq-eqb, false≢true, not-true}
-use Rattle.packet.proofs.Accepted.{same_eq}
-use Rattle.packet.specs.Config.{Config, Pool, is_inside}
+use Rattle.packet.specs.Config.{Config, is_inside}
 use Rattle.packet.specs.declared.endpoint.Endpoint.{Endpoint}
 use Rattle.packet.specs.declared.endpoint.Iface.TheVariants.{Lan, Wan}
 use Rattle.packet.specs.declared.view.View.{View}
-use Rattle.portpick.specs.Pool.{choice_by, near_choice, pool_choice, port_at}
-use Rattle.portpick.proofs.Pooled.{used_is_kept}
+use Rattle.portpick.specs.Pool.{near_choice, pool_choice}
 use Rattle.ruletree.specs.declared.tree.Spelled.{Spelled}
-use Rattle.sessions.specs.Listing.{In, has_inside, has_outside, is_translated, put, same_flow}
-use Rattle.sessions.specs.Sound.{IsPlaced}
+use Rattle.sessions.specs.Listing.{In, has_inside, has_outside, put}
 use Rattle.sessions.specs.declared.session.Opener.{Opener}
 use Rattle.sessions.specs.declared.session.Opener.TheVariants.{Inside, Remote}
 use Rattle.sessions.specs.declared.session.Session.{Session}
-use Rattle.sessions.proofs.Clashing.{apart-from, differ}
-use Rattle.sessions.proofs.Puts.{find-some}
-use Rattle.sessions.proofs.Sets.{In-filter, In-insert}
 use Rattle.verdict.specs.Hooks.{prerouting_verdict, postrouting_verdict}
 use Rattle.verdict.specs.declared.facts.Facts.{Facts}
 use Rattle.verdict.specs.declared.facts.State.TheVariants.{New}
@@ -27,8 +18,7 @@ use Rattle.verdict.specs.declared.hook.Destination.{Destination}
 use Rattle.verdict.specs.declared.hook.Destination.TheVariants as destination
 use Rattle.verdict.specs.declared.hook.Source.{Source}
 use Rattle.verdict.specs.declared.hook.Source.TheVariants as source
-use Rattle.hairpin.specs.Legs.{Passage, facts_of, first_by, hairpin_leg, in_leg, inside_by_rules, inside_far, inside_for, inward, is_taken, maps_inside, maps_outside, needs_session, new_session, out_leg, outside_by_rules, outside_for, outside_near, outward, passed_by, put_all, second_by, uses, uses_in}
-use Rattle.hairpin.specs.declared.cause.Cause.{Cause}
+use Rattle.hairpin.specs.Legs.{Passage, facts_of, first_by, hairpin_leg, in_leg, inside_by_rules, inside_far, is_taken, maps_inside, maps_outside, needs_session, new_session, out_leg, outside_by_rules, outside_for, outside_near, passed_by, put_all, second_by, uses_in}
 use Rattle.hairpin.specs.declared.cause.Cause.TheVariants.{Clash, NoSession, Rule}
 use Rattle.hairpin.proofs.Apart.{err-ok, find-In, maps-parts, maps_outside-parts, port-ok, same_Ok, some-mapping}
 use Rattle.hairpin.proofs.Doubling.{passed-keys}

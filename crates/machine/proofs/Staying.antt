@@ -1,6 +1,5 @@
 -- A host stays at one external address, step by step.
-use Rattle.std.proofs.Common.{◌≡◌, ℕ, List, [], ◌∷◌, Contains, Result, Ok, Err, IfOk, true, map, refl, sym, ap, subst, ◌∙◌, inl, inr}
-use Rattle.std.specs.List.{filter}
+use Rattle.std.proofs.Common.{◌≡◌, ℕ, List, [], ◌∷◌, Contains, Result, Ok, Err, IfOk, true, map, sym, ap, subst, ◌∙◌, inl, inr}
 use Rattle.packet.specs.Config.{Config, is_config}
 use Rattle.packet.specs.Fields.{fields}
 use Rattle.packet.specs.Route.{route}
