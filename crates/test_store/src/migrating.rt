@@ -11,15 +11,15 @@ use trial_disk::Trial;
 
 /// Two files, and the configuration that they have.
 #[derive(Drop)]
-struct Files {
+struct Pair {
     bounds: Bounds,
     a: Vec<u8>,
     b: Vec<u8>,
 }
 
-fn files(alloc: Global, a: Vec<u8>, b: Vec<u8>) -> Result<Box<Files>, Fail> {
+fn pair_of(alloc: Global, a: Vec<u8>, b: Vec<u8>) -> Result<Box<Pair>, Fail> {
     let bounds = bounds(alloc, "wan")?;
-    Ok(Box::new(alloc, Files { bounds, a, b })?)
+    Ok(Box::new(alloc, Pair { bounds, a, b })?)
 }
 
 // A file of the first version with a group in which the text is loaded and the session begins.
@@ -59,17 +59,17 @@ fn comes_back(rt: &impl Abort, alloc: Global, disk: Trial, bounds: &Bounds) -> R
     Ok(())
 }
 
-fn stop(rt: &impl Abort, alloc: Global, files: &Files, stops: Stops) -> Result<(), Fail> {
-    let disk = Trial::of(alloc, &files.a, &files.b)?;
-    let disk = reopen(rt, alloc, disk, &files.bounds, stops.first);
+fn stop(rt: &impl Abort, alloc: Global, pair: &Pair, stops: Stops) -> Result<(), Fail> {
+    let disk = Trial::of(alloc, &pair.a, &pair.b)?;
+    let disk = reopen(rt, alloc, disk, &pair.bounds, stops.first);
     let disk = crashed(disk, stops.choice)?;
-    let disk = reopen(rt, alloc, disk, &files.bounds, stops.second);
+    let disk = reopen(rt, alloc, disk, &pair.bounds, stops.second);
     let disk = crashed(disk, stops.choice)?;
-    comes_back(rt, alloc, disk, &files.bounds)
+    comes_back(rt, alloc, disk, &pair.bounds)
 }
 
 // Each of the two openings makes up to twelve calls.
-fn stop_each(rt: &impl Abort, alloc: Global, files: &Files) -> Result<(), Fail> {
+fn stop_each(rt: &impl Abort, alloc: Global, pair: &Pair) -> Result<(), Fail> {
     for first in 0..=12 {
         for second in 0..=12 {
             for choice in &[0, 1, 2, 3, 5, 10] {
@@ -78,7 +78,7 @@ fn stop_each(rt: &impl Abort, alloc: Global, files: &Files) -> Result<(), Fail> 
                     second,
                     choice: *choice,
                 };
-                stop(rt, alloc, files, stops)?;
+                stop(rt, alloc, pair, stops)?;
             }
         }
     }
@@ -88,20 +88,20 @@ fn stop_each(rt: &impl Abort, alloc: Global, files: &Files) -> Result<(), Fail> 
 #[test]
 fn migrate_beside_an_empty_file(rt: HostRuntime) -> Result<(), Fail> {
     let alloc = rt.alloc();
-    let files = files(alloc, grown(alloc)?, Vec::new(alloc))?;
-    stop_each(&rt, alloc, &files)
+    let pair = pair_of(alloc, grown(alloc)?, Vec::new(alloc))?;
+    stop_each(&rt, alloc, &pair)
 }
 
 #[test]
 fn migrate_beside_an_older_one(rt: HostRuntime) -> Result<(), Fail> {
     let alloc = rt.alloc();
-    let files = files(alloc, grown(alloc)?, older(alloc)?)?;
-    stop_each(&rt, alloc, &files)
+    let pair = pair_of(alloc, grown(alloc)?, older(alloc)?)?;
+    stop_each(&rt, alloc, &pair)
 }
 
 #[test]
 fn migrate_beside_an_older_one_of_the_first_version(rt: HostRuntime) -> Result<(), Fail> {
     let alloc = rt.alloc();
-    let files = files(alloc, older_first(alloc)?, grown(alloc)?)?;
-    stop_each(&rt, alloc, &files)
+    let pair = pair_of(alloc, older_first(alloc)?, grown(alloc)?)?;
+    stop_each(&rt, alloc, &pair)
 }
