@@ -12,9 +12,12 @@ use Rattle.diagnosis.specs.declared.reading.Held.{Held}
 use Rattle.diagnosis.specs.declared.reading.Reading.{Reading}
 use Rattle.diagnosis.specs.declared.reading.Reading.TheVariants.{Empty, Closed, Faulty, Whole}
 
--- the mark of a version stands behind the file gate
+-- the mark of this version stands behind the file gate
+abbrev pub IsMarked : Version → List ℕ → Type 0
+IsMarked version file = (rest : List ℕ) × (file ≡ 1 ∷ (mark_of version ++ rest))
+
 abbrev pub HasMark : List ℕ → Type 0
-HasMark file = (version : Version) × (rest : List ℕ) × (file ≡ 1 ∷ (mark_of version ++ rest))
+HasMark file = (version : Version) × IsMarked version file
 
 -- the greatest generation, which no gateway lives to see
 abbrev pub greatest : ℕ

@@ -3,7 +3,8 @@ ghost use Rattle.std.specs.Prelude.{◌↔◌, ℕ, IfOk, IsTrue};
 ghost use Rattle.durable.specs.Coding.{Heading};
 ghost use Rattle.durable.specs.Entering.{Durable};
 ghost use Rattle.durable.specs.Recovery.{IsOpen, Holds};
-ghost use Rattle.diagnosis.specs.Reading.{IsFaultOf, HasMark, IsReadAs};
+ghost use Rattle.durable.specs.declared.version.Version.TheVariants.{First, Second};
+ghost use Rattle.diagnosis.specs.Reading.{IsFaultOf, IsMarked, HasMark, IsReadAs};
 ghost use Rattle.diagnosis.specs.Probing.{IsProbe};
 
 use crate::front::{begins, front_end};
@@ -50,11 +51,25 @@ pub enum Reading {
     Whole(Held),
 }
 
+fn is_of_first(file: &[u8]) -> bool
+    requires { IsOpen file.now }
+    ensures { IsTrue result ↔ IsMarked First file.now }
+{
+    matches!(file, [_, 0x4e, 0x47, 0x57, 0x31, ..])
+}
+
+fn is_of_second(file: &[u8]) -> bool
+    requires { IsOpen file.now }
+    ensures { IsTrue result ↔ IsMarked Second file.now }
+{
+    matches!(file, [_, 0x4e, 0x47, 0x57, 0x32, ..])
+}
+
 fn has_mark(file: &[u8]) -> bool
     requires { IsOpen file.now }
     ensures { IsTrue result ↔ HasMark file.now }
 {
-    matches!(file, [_, 0x4e, 0x47, 0x57, 0x31 | 0x32, ..])
+    is_of_first(file) || is_of_second(file)
 }
 
 // Why an open file holds no state.
