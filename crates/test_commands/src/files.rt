@@ -163,8 +163,9 @@ fn told(rt: &HostRuntime, directory: &str, moment: u64) -> Result<Vec<u8>, Fail>
     let telling = tell_migration(&gateway, &mut told);
     let is_shown = are_shown(rt.alloc(), &gateway, moment, LINE);
     close(gateway);
+    let is_shown = is_shown?;
     telling?;
-    if is_shown? {
+    if is_shown {
         Ok(told)
     } else {
         Err(Fail::new("another session"))
