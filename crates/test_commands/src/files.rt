@@ -136,8 +136,8 @@ fn restart(rt: HostRuntime) -> Result<(), Fail> {
     Ok(())
 }
 
-// The file of an older natgw: as a fresh one, but with its mark, the address alone, and a group in which the text is loaded
-// and the session begins.
+// The file of an older natgw: as a fresh one, but with its mark, the address alone, and a group in which the text is
+// loaded and the session begins.
 const FIRST_FRONT: &[u8] =
     b"\x01NGW1\x00\x00\x00\x00\x00\x00\x00\x01\x03lan\x03wan\x01\xc0\xa8\x00\x00\x10\xcb\x00\x71\x01\x00\x00\x00\x00\x00\x00\x00\x00\x01\x00\x00\x00\x80\x01\x00\x00\x00\x65";
 

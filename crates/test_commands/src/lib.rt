@@ -3,7 +3,8 @@
 //! - `shared`: the requests of a first packet and their answers, and directories of a test;
 //! - `spelling`: addresses, prefixes and configurations as they are spelled;
 //! - `texts`: what `check` finds of texts, and how it explains it;
-//! - `files`: what stands in the files, and the sessions that come back; `pool_on_files`: those of two external addresses;
+//! - `files`: what stands in the files, and the sessions that come back; `pool_on_files`: those of two external
+//!   addresses;
 //! - `serve_and_loop`: requests through sockets;
 //! - `failing`: sockets over a disk of which a call fails;
 //! - `order`: the order in which faults are found, and what is left where a command gives up;

@@ -1,5 +1,5 @@
-//! Two external addresses, and filtering by address, over files: what was answered holds when they are opened again, and
-//! they are opened in this configuration alone.
+//! Two external addresses, and filtering by address, over files: what was answered holds when they are opened again,
+//! and they are opened in this configuration alone.
 use crate::files::{are_of, is_refused};
 use crate::shared::{OverFiles, REQUESTS, SIDES, answered, close, fresh, opened};
 use options::Sides;
@@ -26,8 +26,8 @@ const NEIGHBOUR: (&[u8], &[u8]) = (
     b"\x01\x00\x00\x00\x00\x00\x00\x00\x04\x00\x00\x00\x1d\x01\x45\x00\x00\x1c\x00\x01\x00\x00\x3f\x11\x15\x94\xcb\x00\x71\x01\xc6\x33\x64\x07\x13\x8a\x00\x35\x00\x08\x85\xe2",
 );
 
-// From 192.168.1.2 and this port to 198.51.100.7:53, without a checksum. There are 512 of them, which take each odd port
-// below 1024 of 203.0.113.1.
+// From 192.168.1.2 and this port to 198.51.100.7:53, without a checksum. There are 512 of them, which take each odd
+// port below 1024 of 203.0.113.1.
 const TAKING: &[u8] =
     b"\x01\x00\x00\x00\x00\x1c\x00\x00\x00\x00\x00\x00\x03\xe8\x45\x00\x00\x1c\x00\x01\x00\x00\x40\x11\x8e\xeb\xc0\xa8\x01\x02\xc6\x33\x64\x07";
 
@@ -62,8 +62,8 @@ const BEHIND: [(&[u8], &[u8]); 5] = [
     ),
 ];
 
-// At 1250, when the files are open again: from 192.168.1.4:5001, whose host stays at 203.0.113.2; and the last two of those
-// above.
+// At 1250, when the files are open again: from 192.168.1.4:5001, whose host stays at 203.0.113.2; and the last two of
+// those above.
 const AGAIN: [(&[u8], &[u8]); 3] = [
     (
         b"\x01\x00\x00\x00\x00\x1c\x00\x00\x00\x00\x00\x00\x04\xe2\x45\x00\x00\x1c\x00\x01\x00\x00\x40\x11\x8e\xe9\xc0\xa8\x01\x04\xc6\x33\x64\x07\x13\x89\x00\x35\x00\x08\x00\x39",

@@ -6,8 +6,8 @@ use std::process::Abort;
 use std::test::Fail;
 use trial_disk::SimDisk;
 
-// A file that was just made: gate, mark, generation 1, `lan`, `wan`, 192.168.0.0/16, one address, 203.0.113.1, filtering by
-// endpoint, no text, no session, and a closed gate.
+// A file that was just made: gate, mark, generation 1, `lan`, `wan`, 192.168.0.0/16, one address, 203.0.113.1,
+// filtering by endpoint, no text, no session, and a closed gate.
 const FRESH: [u8; 42] = [
     0x01, 0x4e, 0x47, 0x57, 0x32, 0x00, 0x00, 0x00, 0x00, 0x00, 0x00, 0x00, 0x01, 0x03, 0x6c, 0x61,
     0x6e, 0x03, 0x77, 0x61, 0x6e, 0x01, 0xc0, 0xa8, 0x00, 0x00, 0x10, 0x01, 0xcb, 0x00, 0x71, 0x01,

@@ -12,7 +12,8 @@ const FRONT: [u8; 49] = [
     0x65,
 ];
 
-/// The begin of a session of UDP from 192.168.1.2:5000, outside 203.0.113.1:5000, to 198.51.100.7:53, and a closed gate.
+/// The begin of a session of UDP from 192.168.1.2:5000, outside 203.0.113.1:5000, to 198.51.100.7:53, and a closed
+/// gate.
 const BEGIN: [u8; 23] = [
     0x02, 0x11, 0xc0, 0xa8, 0x01, 0x02, 0x13, 0x88, 0xcb, 0x00, 0x71, 0x01, 0x13, 0x88, 0xc6, 0x33,
     0x64, 0x07, 0x00, 0x35, 0x00, 0x00, 0x00,
