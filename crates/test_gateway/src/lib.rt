@@ -4,11 +4,12 @@
 //! - `shared`: the gateway, and lines that several tests begin with;
 //! - `words`: events, answers and sessions as lines of text; `script`: lines that are played;
 //! - `model`: what the machine in memory makes of events; `told`: how far a gateway comes that is stopped;
-//! - `held_rows`: answers that are held; `opening`: what an opening finds; `migrate`: what it makes of files of an
-//!   older natgw; `stop_rows`: losses of power in a flush; `faults`: each refusal, and what stays; `growth`:
-//!   compaction, and runs; `each_stop`: a long script, stopped or failing at each call of the disk; `each_growth`:
-//!   memory that is refused; `each_cut`: texts that are cut, and texts at a limit; `drawn`: events that are drawn, and
-//!   stops among them; `full_table`: a core with as many sessions as there can be, which takes some twenty seconds.
+//! - `held_rows`: answers that are held; `opening`: what an opening finds; `migrate`: what it makes of files of an older
+//!   natgw; `stop_rows`: losses of power in a flush;
+//!   `faults`: each refusal, and what stays; `growth`: compaction, and runs; `each_stop`: a long script, stopped or
+//!   failing at each call of the disk; `each_growth`: memory that is refused; `each_cut`: texts that are cut, and texts
+//!   at a limit; `drawn`: events that are drawn, and stops among them; `full_table`: a core with as many sessions as
+//!   there can be, which takes some twenty seconds.
 #![tactic(auto)]
 
 #[cfg(test)]

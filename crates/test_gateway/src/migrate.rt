@@ -1,5 +1,5 @@
-//! Files of the first version: what they stood for is there, in a file of the present one, and is gone on with;
-//! wherever an opening is stopped, and wherever the next one is.
+//! Files of the first version: what they stood for is there, in a file of the present one, and is gone on with; wherever
+//! an opening is stopped, and wherever the next one is.
 use crate::opening::{
     assert_both_damaged, assert_differs, each_fault, finds, look, refuses, with_trouble,
 };
@@ -63,6 +63,7 @@ grown
 at 1001
 = now 1 ticked";
 
+// The packets that follow are answered as if nothing had been between: a reply, and a second host's from the same port.
 const MIGRATED: &str = "\
 migrated
 = yes
@@ -75,7 +76,6 @@ held
 grown
 = 0";
 
-// The packets that follow are answered as if nothing had been between: a reply, and a second host's from the same port.
 const GOES_ON: &str = "\
 wan 1549 4500001c00010000 40111494 c6336407 cb007101 00351388 000885e4
 = held 1

@@ -241,10 +241,9 @@ fn config_differs(rt: HostRuntime) -> Result<(), Fail> {
     Ok(())
 }
 
-// Another mark, and that of a later version; no snapshot; more sessions than there are; a text that doesn't load; a
-// group that is cut; one without the gate behind it; one whose entry names no session; one that is no entry. No
-// external address; five; one twice; one inside; another filtering; and the bytes of one version under the mark of the
-// other.
+// Another mark, and that of a later version; no snapshot; more sessions than there are; a text that doesn't load; a group
+// that is cut; one without the gate behind it; one whose entry names no session; one that is no entry. No external address;
+// five; one twice; one inside; another filtering; and the bytes of one version under the mark of the other.
 const DAMAGED: [&str; 16] = [
     "01 4d475732 0000000000000001 036c616e 0377616e 01 c0a8000010 01 cb007101 00 00000000 00000000 00",
     "01 4e475733 0000000000000001 036c616e 0377616e 01 c0a8000010 01 cb007101 00 00000000 00000000 00",

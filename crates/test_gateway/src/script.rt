@@ -6,8 +6,8 @@
 //! - `forward` and the event of a packet: the packet is handed in where it lies: `3 wan 4500..`, or `none`, and then it
 //!   is as it was;
 //! - `flush`: a line for each answer with its number, or the fault; `compact`: `done`, or the fault;
-//! - `held`, `grown`: the number; `rules`: the text; `sessions`: a line for each; `migrated`: whether the opening made
-//!   a file anew since the active one was of a former version.
+//! - `held`, `grown`: the number; `rules`: the text; `sessions`: a line for each; `migrated`: whether the opening made a
+//!   file anew since the active one was of a former version.
 use crate::shared::{
     Answer, Bytes, Event, GatewayFault, Given, SIDES, Sides, TWO_FLUSHED, TWO_HELD, Trials, What,
     disk, left_of, opened_as,

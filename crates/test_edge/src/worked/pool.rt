@@ -19,8 +19,8 @@ const TWO_BY_ADDRESS: Outside = Outside {
     ..TWO
 };
 
-// A second host from the same port, while the first address has ports; what comes from the second address; and what
-// goes there.
+// A second host from the same port, while the first address has ports; what comes from the second address; and what goes
+// there.
 const FIRST_ADDRESS_SERVES: &str = "\
 lan 1000 4500001c00010000 40118eea c0a80103 c6336407 13880035 0008003b
 = wan 4500001c00010000 3f111594 cb007101 c6336407 138a0035 000885e2
@@ -68,9 +68,9 @@ static SCRIPTS: [&[&str]; 4] = [
     ],
 ];
 
-// Each odd port below 1024 of the first address is taken. A host without a mapping goes to the second address, and
-// stays there with its other ports, by TCP too, and in a hairpin. The other host stays at the first, in a hairpin to
-// the second too.
+// Each odd port below 1024 of the first address is taken. A host without a mapping goes to the second address, and stays
+// there with its other ports, by TCP too, and in a hairpin. The other host stays at the first, in a hairpin to the second
+// too.
 const NEXT_ADDRESS: &str = "\
 lan 1000 4500001c00010000 40118eea c0a80103 c6336407 00070035 000813bc
 = wan 4500001c00010000 3f111593 cb007102 c6336407 00070035 00089964

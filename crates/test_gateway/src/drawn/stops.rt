@@ -269,9 +269,9 @@ fn fault_each(alloc: Global, seed: u64) -> Result<Seen, Fail> {
     fault_at_each(alloc, &script)
 }
 
-// Of the first seed 886 calls, with seven choices each, and some as many of the others. By the first seed there is one
-// address, and filtering by endpoint: its stops begin over a file of the first version, its faults over empty files. By
-// the second one there are two addresses, and filtering by address; by the third one three.
+// Of the first seed 886 calls, with seven choices each, and some as many of the others. By the first seed there is one address, and filtering by
+// endpoint: its stops begin over a file of the first version, its faults over empty files. By the second one there are two
+// addresses, and filtering by address; by the third one three.
 #[test]
 fn first_seed(rt: HostRuntime) -> Result<(), Fail> {
     let seen = stop_each(rt.alloc(), 1, FIRST_FRESH)?;
