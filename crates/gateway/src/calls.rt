@@ -15,7 +15,7 @@ ghost use Rattle.disk_model.specs.Disk.{Leaves, LeavesNow, LeavesOnly, Looks, Ca
 ghost use Rattle.durable.specs.Coding.{Entry, body_bytes};
 ghost use Rattle.durable.specs.Entering.{Durable, IsDurable};
 ghost use Rattle.durable.specs.Recovery.{Alike, IsConfigured, IsCurrent, NoneOpen, Recovers};
-ghost use Rattle.snapshot.specs.Store.{IsLastFormer, MakesFirst, Migrates, RecoversEither};
+ghost use Rattle.snapshot.specs.Store.{HasLatest, IsLastFormer, MakesFirst, Migrates, RecoversEither};
 ghost use Rattle.machine.specs.Judged.{Judged, IsJudged, IsNoLoad};
 ghost use Rattle.machine.specs.Machine.{KeepsCount, EndsNone, later, step};
 ghost use Rattle.machine.specs.Sizes.{most_bytes};
@@ -153,7 +153,7 @@ impl<D: Disk + Drop> Gateway<D> {
         ensures was { D.honest disk
             → IfOk result (λ g. IsTrue g.migrated ↔ ¬ IsCurrent (D.seen disk)) }
         ensures current { D.honest disk
-            → IfOk result (λ g. LeavesNow D.moment D.left g.disk IsCurrent) }
+            → IfOk result (λ g. LeavesNow D.moment D.left g.disk HasLatest) }
         ensures config { IfOk result (λ g. g.told.config ≡ bounds) }
 
         // Whatever the disk: the state is one that survives, begun again at the moment.

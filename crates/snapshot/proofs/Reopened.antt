@@ -4,10 +4,10 @@ use Rattle.std.specs.Prelude.{Result, Ok, Err, IfOk, IfErr, MatchResult}
 use Rattle.packet.specs.Config.{Config}
 use Rattle.disk_model.specs.Disk.{Files, Leaves, LeavesNow, LeavesOnly}
 use Rattle.durable.specs.Entering.{Durable, durable}
-use Rattle.durable.specs.Recovery.{Alike, IsConfigured, IsCurrent, Recovers}
+use Rattle.durable.specs.Recovery.{Alike, IsConfigured, Recovers}
 use Rattle.durable.proofs.Headed.{recovers_once}
 use Rattle.snapshot.specs.Reopening.{StandFor, Opening, IsOpening, LeftBehind, AreInARow}
-use Rattle.snapshot.specs.Store.{Keeps}
+use Rattle.snapshot.specs.Store.{HasLatest, Keeps}
 use Rattle.snapshot.specs.declared.fault.OpenFault.{OpenFault}
 use Rattle.snapshot.specs.declared.fault.OpenFault.TheVariants as open_fault
 use Rattle.snapshot.specs.declared.store.Opened.{Opened}
@@ -31,8 +31,8 @@ module _ {D : Type 0} (moment : D → ℕ) (left : D → ℕ → Files → Type 
 
     module _ (d : Durable) (now : StandFor config d (seen disk)) where
       pub found_again : (r : Result (Opened D) (D × OpenFault)) → IfOk r (λ o. Recovers (seen disk) (durable o.text.items o.sessions.items) × Keeps moment left seen o.store (durable o.text.items o.sessions.items))
-          → IfOk r (λ o. LeavesNow moment left o.store.disk IsCurrent)
-          → IfOk r (λ o. (durable o.text.items o.sessions.items ≡ d) × LeavesNow moment left o.store.disk (λ files. Recovers files d × IsCurrent files))
+          → IfOk r (λ o. LeavesNow moment left o.store.disk HasLatest)
+          → IfOk r (λ o. (durable o.text.items o.sessions.items ≡ d) × LeavesNow moment left o.store.disk (λ files. Recovers files d × HasLatest files))
       found_again (Err e) ok current = tt
       found_again (Ok o) ok current =
           let same = recovers_once.state (seen disk) (durable o.text.items o.sessions.items) d ok.0 now.0 in

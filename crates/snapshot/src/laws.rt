@@ -3,8 +3,9 @@ ghost use Rattle.std.specs.Prelude.{◌≡◌, ◌≢◌, List, IfErr, IfOk, Mat
 ghost use Rattle.packet.specs.Config.{Config};
 ghost use Rattle.disk_model.specs.Disk.{LeavesNow};
 ghost use Rattle.durable.specs.Entering.{Durable, durable};
-ghost use Rattle.durable.specs.Recovery.{IsCurrent, Recovers};
+ghost use Rattle.durable.specs.Recovery.{Recovers};
 ghost use Rattle.snapshot.specs.Reopening.{AreInARow, IsOpening, LeftBehind, Opening, OpeningsKeepTheState};
+ghost use Rattle.snapshot.specs.Store.{HasLatest};
 
 use crate::{OpenFault, Opened, Store};
 use disk_model::Disk;
@@ -36,7 +37,7 @@ pub fn open_behind_stops<D: Disk + Drop>(
         → AreInARow D.moment D.left bounds.now d openings
         → LeavesNow D.moment D.left disk (LeftBehind D.moment D.left bounds.now d openings)
         → IfOk result (λ o. (durable o.text.items o.sessions.items ≡ d)
-        × LeavesNow D.moment D.left o.store.disk (λ files. Recovers files d × IsCurrent files)) }
+        × LeavesNow D.moment D.left o.store.disk (λ files. Recovers files d × HasLatest files)) }
     ensures refused { D.honest disk → (d : Durable) (openings : List (Opening D))
         → AreInARow D.moment D.left bounds.now d openings
         → LeavesNow D.moment D.left disk (LeftBehind D.moment D.left bounds.now d openings)

@@ -8,7 +8,7 @@ ghost use Rattle.durable.specs.Entering.{Durable, IsDurable, durable, BodyEnters
 ghost use Rattle.durable.specs.Laws.{anew, IsFresh};
 ghost use Rattle.durable.specs.Recovery.{Alike, IsConfigured, IsCurrent, NoneOpen, Recovers};
 ghost use Rattle.journal.specs.Groups.{sealed};
-ghost use Rattle.snapshot.specs.Store.{Keeps, RecoversEither, MakesFirst, Migrates, IsLastFormer, BodyFits};
+ghost use Rattle.snapshot.specs.Store.{Keeps, RecoversEither, MakesFirst, Migrates, IsLastFormer, HasLatest, BodyFits};
 
 use crate::closed_heading::closed_heading;
 use crate::opening::{Ready, make_ready};
@@ -141,7 +141,7 @@ impl<D: Disk + Drop> Store<D> {
         ensures was { D.honest disk
             → IfOk result (λ o. IsTrue o.migrated ↔ ¬ IsCurrent (D.seen disk)) }
         ensures current { D.honest disk
-            → IfOk result (λ o. LeavesNow D.moment D.left o.store.disk IsCurrent) }
+            → IfOk result (λ o. LeavesNow D.moment D.left o.store.disk HasLatest) }
         ensures stands { IfOk result (λ o. o.store.fallen ≡ false) }
         ensures config { IfOk result (λ o. o.store.config ≡ bounds.now) }
         ensures damaged { D.honest disk → IfErr result (λ e. e.1 ≡ OpenFault.Damaged → (d : Durable)
