@@ -48,15 +48,19 @@ const RIGHT: Sides<'static> = Sides {
     filtering: "endpoint",
 };
 
-// Why the prefixes, the addresses and the filtering are no configuration.
-fn refusal_of(alloc: Global, inside: &str, external: &str, filtering: &str) -> Option<Refusal> {
-    let sides = Sides {
+fn sides_of<'a>(inside: &'a str, external: &'a str, filtering: &'a str) -> Sides<'a> {
+    Sides {
+        lan: "lan",
+        wan: "wan",
         inside,
         external,
         filtering,
-        ..RIGHT
-    };
-    match bounds(alloc, &sides) {
+    }
+}
+
+// Why it is no configuration.
+fn refusal_of(alloc: Global, sides: &Sides<'_>) -> Option<Refusal> {
+    match bounds(alloc, sides) {
         Ok(_) => None,
         Err(stop) => Some(stop.refusal),
     }
@@ -156,8 +160,9 @@ const CONFIGURATIONS: [(&str, &str, Option<Refusal>); 12] = [
 #[test]
 fn configurations(rt: HostRuntime) {
     for (inside, external, expected) in &CONFIGURATIONS {
+        let sides = sides_of(inside, external, "address");
         assert!(rt;
-            refusal_of(rt.alloc(), inside, external, "address") == *expected,
+            refusal_of(rt.alloc(), &sides) == *expected,
             "{inside} {external}"
         );
     }
@@ -166,9 +171,7 @@ fn configurations(rt: HostRuntime) {
 #[test]
 fn filterings(rt: HostRuntime) {
     for word in &["", "Address", "addresses", "endpoint,address"] {
-        assert!(rt;
-            refusal_of(rt.alloc(), "10.0.0.0/8", "1.2.3.4", word) == REFUSED,
-            "{word}"
-        );
+        let sides = sides_of("10.0.0.0/8", "1.2.3.4", word);
+        assert!(rt; refusal_of(rt.alloc(), &sides) == REFUSED, "{word}");
     }
 }
