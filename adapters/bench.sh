@@ -146,9 +146,13 @@ kill_natgw() {
   wait "$gateway" 2>/dev/null || true
 }
 
+# OFFLOAD=no leaves the kernel's offloads away.
+offload=()
+[ "${OFFLOAD:-yes}" = yes ] || offload=(--no-offload)
+
 # start_adapter RULES: the adapter; its id is in `carrier`. Waits until the rules are loaded.
 start_adapter() {
-  python3 "$adapter" --socket "$work/natgw.sock" --rules "$1" --lan-netns "$bench-lan" --wan-netns "$bench-wan" \
+  python3 "$adapter" "${offload[@]}" --socket "$work/natgw.sock" --rules "$1" --lan-netns "$bench-lan" --wan-netns "$bench-wan" \
     2>>"$work/adapter.log" &
   carrier=$!
   started+=("$carrier")

@@ -22,7 +22,7 @@ CAUSES = {
 
 def packet(side, moment, data):
     """The request of a packet that comes from lan or wan."""
-    return REQUEST.pack(PACKET, side, len(data), moment) + data
+    return b"".join((REQUEST.pack(PACKET, side, len(data), moment), data))
 
 
 def load(moment, text):

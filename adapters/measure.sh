@@ -1,5 +1,6 @@
 #!/usr/bin/env bash
-# Throughput and delay through natgw by the TUN adapter, beside the kernel's own NAT in the same namespaces.
+# Throughput and delay through natgw by the TUN adapter, with the kernel's offloads and without, beside the kernel's own NAT in
+# the same namespaces.
 # Root, iproute2, iperf3, nftables and python3 are needed. NATGW names the program; SECONDS_EACH how long each run takes.
 set -euo pipefail
 here=$(cd "$(dirname "${BASH_SOURCE[0]}")" && pwd)
@@ -76,20 +77,38 @@ start_on far iperf3 -s >/dev/null
 until on far ss -Hlntu | grep -q :5201 && on far ss -Hlntu | grep -q :53; do sleep 0.05; done
 
 cp "$repository/examples/rules/home-router.nft" "$work/rules.nft"
-start_natgw
-start_adapter "$work/rules.nft"
 echo "$(nproc) processors, Linux $(uname -r), $(python3 --version); $each seconds a run"
 echo
 echo "| Way | TCP out | TCP in | datagrams of 64 bytes | there and back, median | 99 of 100 are below |"
 echo "|---|---|---|---|---|---|"
-all "natgw by tun.py"
-before=$(used "$carrier" "$gateway")
-mbits >/dev/null
-after=$(used "$carrier" "$gateway")
+
+# stop ID: ends a process of the bench.
+stop() {
+  kill -9 "$1" 2>/dev/null || true
+  wait "$1" 2>/dev/null || true
+}
+
+# by NAME [OPTION]: the line of the adapter with this option, and the processor time that TCP out takes.
+by() {
+  local name=$1 before after
+  shift
+  offload=("$@")
+  : >"$work/adapter.log"
+  start_natgw
+  start_adapter "$work/rules.nft"
+  all "$name"
+  before=$(used "$carrier" "$gateway")
+  mbits >/dev/null
+  after=$(used "$carrier" "$gateway")
+  paste <(echo "$before") <(echo "$after") >"$work/used"
+  stop "$carrier"
+  stop "$gateway"
+}
+
+by "natgw by tun.py, no offloads" --no-offload
+by "natgw by tun.py"
 
 # The kernel's own NAT: the two namespaces get a cable, and the external address goes to lan's end of it.
-kill -9 "$carrier"
-wait "$carrier" 2>/dev/null || true
 on lan ip route del default
 on wan ip route del "$external/32"
 link lan uplink wan downlink
@@ -103,10 +122,9 @@ table ip filter { chain forward { type filter hook forward priority filter; poli
 RULES
 all "the kernel's NAT"
 echo
-paste <(echo "$before") <(echo "$after") | {
-  for name in tun.py natgw; do
-    read -r user system user_after system_after
-    python3 -c 'import sys; a, b, c, d = map(float, sys.argv[2:6]); print(f"{sys.argv[1]}: {c - a:.1f} s of its own and {d - b:.1f} s in the kernel, of {sys.argv[6]} s TCP out")' \
-      "$name" "$user" "$system" "$user_after" "$system_after" "$each"
-  done
-}
+
+for name in tun.py natgw; do
+  read -r user system user_after system_after
+  python3 -c 'import sys; a, b, c, d = map(float, sys.argv[2:6]); print(f"{sys.argv[1]}: {c - a:.1f} s of its own and {d - b:.1f} s in the kernel, of {sys.argv[6]} s TCP out")' \
+    "$name" "$user" "$system" "$user_after" "$system_after" "$each"
+done <"$work/used"

@@ -10,9 +10,7 @@ Signals: HUP loads the ruleset's file again; USR1 prints the counts; TERM and IN
 """
 import argparse
 import collections
-import ctypes
 import errno
-import fcntl
 import os
 import select
 import signal
@@ -21,11 +19,8 @@ import struct
 import sys
 import time
 
+import devices
 import frames
-
-# From linux/if_tun.h: packets without a header in front, of a device that carries IP.
-TUNSETIFF, IFF_TUN, IFF_NO_PI = 0x400454CA, 0x0001, 0x1000
-CLONE_NEWNET = 0x40000000
 
 # Where natgw is slower than the devices, no more than this waits here: then the kernel's own queues fill and drop.
 MOST_UNANSWERED = 512
@@ -40,23 +35,11 @@ def say(words):
     print(f"tun.py: {words}", file=sys.stderr, flush=True)
 
 
-def enter(namespace):
-    """Goes into a network namespace, an open file of /run/netns or /proc."""
-    libc = ctypes.CDLL(None, use_errno=True)
-    if libc.setns(namespace.fileno(), CLONE_NEWNET) != 0:
-        raise OSError(ctypes.get_errno(), os.strerror(ctypes.get_errno()), namespace.name)
-
-
-def device(name, namespace):
-    """Attaches to a TUN device, in a named network namespace where one is given; makes it where it is missing."""
-    with open("/proc/self/ns/net", "rb") as home:
-        if namespace:
-            with open(f"/run/netns/{namespace}", "rb") as other:
-                enter(other)
-        tun = os.open("/dev/net/tun", os.O_RDWR | os.O_NONBLOCK | os.O_CLOEXEC)
-        fcntl.ioctl(tun, TUNSETIFF, struct.pack("16sH22x", name.encode(), IFF_TUN | IFF_NO_PI))
-        enter(home)
-    return tun
+def renew(packet, start, offset):
+    """Puts the sum of the pseudo header into a checksum that the kernel has left open: the one of its endpoints now."""
+    total = sum(struct.unpack_from(">4H", packet, 12)) + packet[9] + len(packet) - start
+    total = (total & 0xFFFF) + (total >> 16)
+    struct.pack_into(">H", packet, start + offset, (total & 0xFFFF) + (total >> 16))
 
 
 class Clock:
@@ -73,13 +56,15 @@ class Clock:
 class Adapter:
     """The two devices, the connection to natgw, and what is on its way between them."""
 
-    def __init__(self, devices, path, rules):
-        self.devices, self.path, self.rules = devices, path, rules
+    def __init__(self, tuns, offload, path, rules):
+        self.tuns, self.offload, self.path, self.rules = tuns, offload, path, rules
         self.clock = Clock()
         self.connection = None
         self.told_away = False
         self.unsent = bytearray()
         self.unanswered = 0
+        # For each request without an answer, what stood in front of its packet.
+        self.headers = collections.deque()
         self.told_moment = 0
         self.load_wanted = rules is not None
         self.load_unanswered = False
@@ -111,6 +96,7 @@ class Adapter:
         self.counts["unanswered"] += self.unanswered
         self.unsent.clear()
         self.unanswered = 0
+        self.headers.clear()
         # A load that has no answer may not have been taken: the next connection begins with it.
         self.load_wanted = self.load_wanted or self.load_unanswered
         self.load_unanswered = False
@@ -118,20 +104,22 @@ class Adapter:
 
     # From the devices to natgw
 
-    def ask(self, request):
+    def ask(self, request, header=b""):
         """Puts a request behind those that aren't sent yet."""
         self.unsent += request
         self.unanswered += 1
+        self.headers.append(header)
 
     def take(self, side, moment):
         """Reads packets from a device until it has none, or a batch is full."""
+        front = devices.HEADER.size if self.offload else 0
         for _ in range(min(BATCH, MOST_UNANSWERED - self.unanswered)):
             try:
-                data = os.read(self.devices[side], frames.LONGEST_PACKET)
+                data = os.read(self.tuns[side], front + frames.LONGEST_PACKET)
             except BlockingIOError:
                 return
             self.counts["from", side] += 1
-            self.ask(frames.packet(side, moment, data))
+            self.ask(frames.packet(side, moment, memoryview(data)[front:]), data[:front])
 
     def load(self):
         """Asks natgw to load the ruleset's file."""
@@ -168,8 +156,9 @@ class Adapter:
             raise ConnectionError
         for kind, _number, body in self.answers.feed(data):
             self.unanswered -= 1
+            header = self.headers.popleft()
             if kind == frames.FORWARD:
-                self.put(body[0], memoryview(body)[1:])
+                self.put(body[0], memoryview(body)[1:], header)
             elif kind == frames.DROPPED:
                 self.dropped[body[0]] += 1
             elif kind == frames.LOADED:
@@ -179,10 +168,18 @@ class Adapter:
                 self.load_unanswered = False
                 say(f"{self.rules} was refused, the old rules stay; natgw check says why")
 
-    def put(self, side, data):
-        """Lets a packet out on its side. A device that is down takes none."""
+    def put(self, side, packet, header):
+        """Lets a packet out on its side, what was left to do of it too. A device that is down takes none."""
+        parts = [packet]
+        if header:
+            flags, kind, length, size, start, offset = devices.HEADER.unpack(header)
+            flags &= devices.OPEN_CHECKSUM
+            if flags:
+                packet = bytearray(packet)
+                renew(packet, start, offset)
+            parts = [devices.HEADER.pack(flags, kind, length, size, start, offset), packet]
         try:
-            os.write(self.devices[side], data)
+            os.writev(self.tuns[side], parts)
             self.counts["to", side] += 1
         except OSError as fault:
             if fault.errno not in (errno.EIO, errno.EAGAIN, errno.ENOBUFS, errno.EINVAL):
@@ -202,12 +199,12 @@ class Adapter:
             self.ask(frames.tick(moment))
         readers = [self.connection, wake]
         if self.unanswered < MOST_UNANSWERED:
-            readers += self.devices
+            readers += self.tuns
         ready, writable, _ = select.select(readers, [self.connection] if self.unsent else [], [], 1.0)
         if self.connection in ready:
             self.receive()
         for side in (frames.LAN, frames.WAN):
-            if self.devices[side] in ready:
+            if self.tuns[side] in ready:
                 self.take(side, moment)
         if self.unsent:
             self.send()
@@ -269,16 +266,14 @@ def main():
     words = argparse.ArgumentParser(description="Carries packets between two TUN devices and natgw serve.")
     words.add_argument("--socket", required=True, help="the path that natgw serve was given")
     words.add_argument("--rules", metavar="FILE", help="a ruleset, loaded at the start and on HUP")
-    for side in frames.SIDES:
-        words.add_argument(f"--{side}-device", default=f"natgw-{side}", metavar="NAME", help="(%(default)s)")
-        words.add_argument(f"--{side}-netns", metavar="NAME", help="the network namespace that the device is in")
+    devices.add_options(words, frames.SIDES)
     given = words.parse_args()
     try:
-        devices = [device(given.lan_device, given.lan_netns), device(given.wan_device, given.wan_netns)]
+        tuns = devices.attach_both(given, frames.SIDES)
     except OSError as fault:
         raise SystemExit(f"tun.py: a device can't be had (is this root?): {fault}") from None
     wake, _end = listen()
-    Adapter(devices, given.socket, given.rules).run(wake, arrived)
+    Adapter(tuns, not given.no_offload, given.socket, given.rules).run(wake, arrived)
 
 
 if __name__ == "__main__":

@@ -1,0 +1,10 @@
+use Rattle.std.proofs.Common.{◌≡◌, ℕ, List}
+use Rattle.std.specs.List.{AllByRecursion}
+use Rattle.devices.specs.Handing.{Gives}
+use Rattle.from_devices.specs.Requests.{IsPacket, with_packets}
+use Rattle.from_devices.proofs.from_devices.FromDevices.take.Given as goal
+
+abbrev pub invariant-loop : goal.invariant-loop
+invariant-loop g l = ((given : List (List ℕ)) × Gives (g.D.Device.coming l.fn.device) (g.D.Device.coming l.device) given
+    × AllByRecursion IsPacket given × (l.self ≡ with_packets l.iface given l.fn.self))
+    × (g.D.Device.handed l.device ≡ g.D.Device.handed l.fn.device)

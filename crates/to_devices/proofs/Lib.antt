@@ -1,0 +1,4 @@
+pub mod Sums
+pub mod Opened
+pub mod Replying
+pub mod Letting

@@ -1,0 +1,84 @@
+//! How many packets there were. Nothing is proved of the counts: they are for people. At the greatest u64 a count stays.
+
+/// How many causes of drops there are, and one more: 0 is none.
+pub const CAUSES: usize = 21;
+
+/// The kinds of answers that are counted.
+const DROPPED: u8 = 2;
+
+const LOADED: u8 = 3;
+
+const REFUSED: u8 = 4;
+
+/// Where the first byte of an answer's body stands.
+const BODY: usize = 13;
+
+/// What was handed to a device.
+#[derive(Clone, Copy, Debug, PartialEq, Eq, Drop)]
+pub struct Side {
+    /// How many packets it let out.
+    pub left: u64,
+    /// How many it didn't.
+    pub lost: u64,
+}
+
+/// What became of requests.
+#[derive(Clone, Copy, Debug, PartialEq, Eq, Drop)]
+pub struct Counts {
+    /// The device of lan.
+    pub lan: Side,
+    /// The device of wan.
+    pub wan: Side,
+    /// How many packets were dropped, by the number of the cause (docs/frames.md).
+    pub dropped: [u64; CAUSES],
+    /// How many rulesets were loaded.
+    pub loaded: u64,
+    /// How many were refused.
+    pub refused: u64,
+}
+
+impl Side {
+    // One more was handed on; whether it was let out.
+    pub(crate) fn leave(&mut self, out: bool) {
+        if out {
+            self.left = self.left.saturating_add(1);
+        } else {
+            self.lost = self.lost.saturating_add(1);
+        }
+    }
+}
+
+impl Counts {
+    /// There was nothing yet.
+    pub fn none() -> Counts {
+        let none = Side { left: 0, lost: 0 };
+        Counts {
+            lan: none,
+            wan: none,
+            dropped: [0; CAUSES],
+            loaded: 0,
+            refused: 0,
+        }
+    }
+
+    // One more answer, by which no packet leaves.
+    pub(crate) fn tell(&mut self, frame: &[u8]) {
+        match frame {
+            [LOADED, ..] => self.loaded = self.loaded.saturating_add(1),
+            [REFUSED, ..] => self.refused = self.refused.saturating_add(1),
+            [DROPPED, ..] => self.drop_one(frame),
+            _ => {}
+        }
+    }
+
+    // One more packet that is dropped.
+    fn drop_one(&mut self, frame: &[u8]) {
+        if frame.len() <= BODY {
+            return;
+        }
+        let cause = frame[BODY] as usize;
+        if cause < CAUSES {
+            self.dropped[cause] = self.dropped[cause].saturating_add(1);
+        }
+    }
+}
