@@ -34,7 +34,7 @@ pub enum Kind {
     WrongHook,
     /// A value, a set or a translation doesn't fit the type that is wanted at its place.
     WrongType,
-    /// A new source would not be the external address.
+    /// A new source would not be an external address.
     NotExternal,
     /// A new destination would lie in none of the inside prefixes.
     NotInside,

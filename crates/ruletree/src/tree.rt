@@ -234,7 +234,7 @@ pub enum End {
     Vmap(Vmap),
     Dnat(Dnat),
     Snat(Snat),
-    /// A translation of the source to the external address, with the line of its word.
+    /// A translation of the source to an external address, with the line of its word.
     Masquerade(Line),
 }
 
