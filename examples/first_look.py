@@ -39,7 +39,7 @@ def main():
         os.mkdir(state)
         write_case(cases, REPLAY, requests, ["replay", "--dir", state, *OPTIONS])
         write_case(cases, SHOW, b"", ["show", "--dir", state, *OPTIONS])
-        print("natgw: NOTHING IS PROVED of this look; compiling, in a minute or two", file=sys.stderr)
+        print("natgw: NOTHING IS PROVED of this look; it compiles for some minutes", file=sys.stderr)
         ran = subprocess.run(["rt", "try", "--cases", cases], cwd=CRATE, stdout=subprocess.PIPE, stderr=subprocess.PIPE)
     answers, is_there, sessions = ran.stdout.partition(f"\n== {SHOW}\n".encode())
     title = f"== {REPLAY}\n".encode()
