@@ -7,10 +7,15 @@
 #
 # Each name is a network namespace, with a prefix that no other run has. The devices natgw-lan and natgw-wan lie in
 # the namespaces lan and wan; there is no other way between these two. Nothing outside the namespaces is changed.
+#
+# WAY says what carries the packets: tun, natgw tun by itself, or adapter, tun.py with natgw serve. OFFLOAD=no leaves the
+# kernel's offloads away.
 
 repository=$(cd "$(dirname "${BASH_SOURCE[0]}")/.." && pwd)
 natgw=${NATGW:-$repository/crates/natgw/out/natgw}
 adapter=$repository/adapters/tun.py
+way=${WAY:-tun}
+case $way in tun | adapter) ;; *) echo "$0: WAY is tun or adapter" >&2; exit 2 ;; esac
 external=203.0.113.1
 sides=(--inside 192.168.0.0/16 --external "$external")
 near=192.168.1.2 web=192.168.1.80 ssh=192.168.1.22 far=198.51.100.7 stranger=198.51.100.9
@@ -131,11 +136,23 @@ bench_down() {
   rm -rf "$work"
 }
 
-# Starts natgw over the directory of the bench; its id is in `gateway`. The socket of a killed one is removed first.
+# OFFLOAD=no leaves the kernel's offloads away.
+offload=()
+[ "${OFFLOAD:-yes}" = yes ] || offload=(--no-offload)
+spaces_of_devices=(--lan-netns "$bench-lan" --wan-netns "$bench-wan")
+
+# Starts natgw over the directory of the bench, with the ruleset at $work/rules.nft; its id is in `gateway`, and that of what
+# carries packets in `carrier`. The socket of a killed one is removed first.
 start_natgw() {
-  rm -f "$work/natgw.sock"
-  "$natgw" serve "${sides[@]}" --dir "$work/state" --socket "$work/natgw.sock" --connections 1000000 \
-    --at "$(date +%s)" 2>>"$work/natgw.log" &
+  if [ "$way" = tun ]; then
+    "$repository/adapters/with-tuns" "${offload[@]}" "${spaces_of_devices[@]}" -- "$natgw" tun "${sides[@]}" --dir "$work/state" \
+      --rules "$work/rules.nft" --report 1 --report-file "$work/natgw.prom" 2>>"$work/adapter.log" &
+    carrier=$!
+  else
+    rm -f "$work/natgw.sock"
+    "$natgw" serve "${sides[@]}" --dir "$work/state" --socket "$work/natgw.sock" --connections 1000000 \
+      --at "$(date +%s)" 2>>"$work/natgw.log" &
+  fi
   gateway=$!
   started+=("$gateway")
 }
@@ -146,26 +163,37 @@ kill_natgw() {
   wait "$gateway" 2>/dev/null || true
 }
 
-# OFFLOAD=no leaves the kernel's offloads away.
-offload=()
-[ "${OFFLOAD:-yes}" = yes ] || offload=(--no-offload)
-
-# start_adapter RULES: the adapter; its id is in `carrier`. Waits until the rules are loaded.
+# start_adapter: what carries packets, if natgw doesn't itself; its id is in `carrier`. Waits until the rules are loaded.
 start_adapter() {
-  python3 "$adapter" "${offload[@]}" --socket "$work/natgw.sock" --rules "$1" --lan-netns "$bench-lan" --wan-netns "$bench-wan" \
-    2>>"$work/adapter.log" &
-  carrier=$!
-  started+=("$carrier")
+  if [ "$way" = adapter ]; then
+    python3 "$adapter" "${offload[@]}" --socket "$work/natgw.sock" --rules "$work/rules.nft" "${spaces_of_devices[@]}" \
+      2>>"$work/adapter.log" &
+    carrier=$!
+    started+=("$carrier")
+  fi
   until_said "is loaded" 1
 }
 
-# load_rules FILE: copies a ruleset over the one that the adapter was started with, and has it loaded.
+# load_rules FILE: puts a ruleset in the place of the one before, and waits until it is loaded.
 load_rules() {
   local loads
   loads=$(grep -c "is loaded" "$work/adapter.log" || true)
-  cp "$1" "$work/rules.nft"
-  kill -HUP "$carrier"
+  cp "$1" "$work/rules.part"
+  mv "$work/rules.part" "$work/rules.nft"
+  [ "$way" = tun ] || kill -HUP "$carrier"
   until_said "is loaded" $((loads + 1))
+}
+
+# Prints the counts of what carries packets.
+tell_counts() {
+  if [ "$way" = tun ]; then
+    sleep 1.5
+    grep -v "^#\| 0$" "$work/natgw.prom"
+    return
+  fi
+  kill -USR1 "$carrier"
+  until_said "from lan" 1
+  grep "from lan" "$work/adapter.log" | tail -n 1
 }
 
 # until_said WORDS N: waits until the adapter has said these words N times, ten seconds at most.

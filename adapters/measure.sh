@@ -1,6 +1,6 @@
 #!/usr/bin/env bash
-# Throughput and delay through natgw by the TUN adapter, with the kernel's offloads and without, beside the kernel's own NAT in
-# the same namespaces.
+# Throughput and delay through natgw tun and through natgw by tun.py, with the kernel's offloads and without, beside the
+# kernel's own NAT in the same namespaces.
 # Root, iproute2, iperf3, nftables and python3 are needed. NATGW names the program; SECONDS_EACH how long each run takes.
 set -euo pipefail
 here=$(cd "$(dirname "${BASH_SOURCE[0]}")" && pwd)
@@ -88,25 +88,31 @@ stop() {
   wait "$1" 2>/dev/null || true
 }
 
-# by NAME [OPTION]: the line of the adapter with this option, and the processor time that TCP out takes.
+# by NAME WAY [OPTION]: the line of a way with this option, and the processor time that TCP out takes.
 by() {
-  local name=$1 before after
-  shift
+  local name=$1 before after ids
+  way=$2
+  shift 2
   offload=("$@")
   : >"$work/adapter.log"
   start_natgw
-  start_adapter "$work/rules.nft"
+  start_adapter
   all "$name"
-  before=$(used "$carrier" "$gateway")
+  ids=("$gateway")
+  [ "$way" = tun ] || ids=("$carrier" "$gateway")
+  before=$(used "${ids[@]}")
   mbits >/dev/null
-  after=$(used "$carrier" "$gateway")
-  paste <(echo "$before") <(echo "$after") >"$work/used"
-  stop "$carrier"
-  stop "$gateway"
+  after=$(used "${ids[@]}")
+  paste <(echo "$before") <(echo "$after") | awk -v name="$name" -v each="$each" \
+    '{ own += $3 - $1; kernel += $4 - $2 } END { printf "%s: %.1f s of its own and %.1f s in the kernel, of %d s TCP out\n", name, own, kernel, each }' \
+    >>"$work/used"
+  for id in "${ids[@]}"; do stop "$id"; done
 }
 
-by "natgw by tun.py, no offloads" --no-offload
-by "natgw by tun.py"
+by "natgw by tun.py, no offloads" adapter --no-offload
+by "natgw by tun.py" adapter
+by "natgw tun, no offloads" tun --no-offload
+by "natgw tun" tun
 
 # The kernel's own NAT: the two namespaces get a cable, and the external address goes to lan's end of it.
 on lan ip route del default
@@ -123,8 +129,4 @@ RULES
 all "the kernel's NAT"
 echo
 
-for name in tun.py natgw; do
-  read -r user system user_after system_after
-  python3 -c 'import sys; a, b, c, d = map(float, sys.argv[2:6]); print(f"{sys.argv[1]}: {c - a:.1f} s of its own and {d - b:.1f} s in the kernel, of {sys.argv[6]} s TCP out")' \
-    "$name" "$user" "$system" "$user_after" "$system_after" "$each"
-done <"$work/used"
+cat "$work/used"

@@ -5,20 +5,24 @@ _natgw() {
   local word=${COMP_WORDS[COMP_CWORD]} before=${COMP_WORDS[COMP_CWORD - 1]} command=${COMP_WORDS[1]}
   local sides='--inside --external --lan --wan --filtering --help' state='--dir --at' choices=''
   case $COMP_CWORD:$before in
-    1:*) choices='check replay serve loop show --help --version' ;;
+    1:*) choices='check replay serve tun loop show rules --help --version' ;;
     *:--filtering) choices='endpoint address' ;;
+    *:--socket-mode) choices='600 660 666' ;;
     *:--dir)
       compopt -o filenames
       mapfile -t COMPREPLY < <(compgen -d -- "$word")
       return
       ;;
-    *:--inside | *:--external | *:--lan | *:--wan | *:--at | *:--connections) return ;;
-    *:--socket) ;;
+    *:--inside | *:--external | *:--lan | *:--wan | *:--at | *:--connections | *:--lan-fd | *:--wan-fd | *:--report) return ;;
+    *:--socket | *:--rules | *:--report-file) ;;
     *)
       case $command in
         check) choices="--explain $sides" ;;
-        serve) choices="$state --socket --connections $sides" ;;
-        replay | loop | show) choices="$state $sides" ;;
+        serve) choices="$state --socket --socket-mode --connections $sides" ;;
+        tun) choices="$state --lan-fd --wan-fd --rules --no-offload --report --report-file $sides" ;;
+        show) choices="$state --running --json $sides" ;;
+        rules) choices="$state --running $sides" ;;
+        replay | loop) choices="$state $sides" ;;
       esac
       # FILE of check and loop, unless an option has begun.
       case $command:$word in check:[!-]* | loop:[!-]* | check: | loop:) choices='' ;; esac

@@ -6,8 +6,8 @@
 #   examples/pull-the-plug-download.sh                 300 megabytes
 #   examples/pull-the-plug-download.sh --megabytes N   that many
 #
-# Root, iproute2, curl and python3 are needed. Client, gateway and server are network namespaces of the script's own;
-# nothing stays behind. The program is crates/natgw/out/natgw, or the one that NATGW names. The last line says what was
+# natgw is natgw tun, or with WAY=adapter natgw serve and tun.py. Root, iproute2, curl and python3 are needed. Client,
+# gateway and server are network namespaces of the script's own; nothing stays behind. The program is crates/natgw/out/natgw, or the one that NATGW names. The last line says what was
 # seen; the status is 0 where it was as told above.
 set -euo pipefail
 here=$(cd "$(dirname "${BASH_SOURCE[0]}")" && pwd)
@@ -71,7 +71,7 @@ end_download() {
 
 cp "$repository/examples/rules/home-router.nft" "$work/rules.nft"
 start_natgw
-start_adapter "$work/rules.nft"
+start_adapter
 
 echo "a download of $megabytes megabytes by $near from $far, through natgw"
 start=$(date +%s.%N)
@@ -100,7 +100,7 @@ until_got $((size / 4))
 kill_natgw
 rm -f "$work"/state/natgw.?
 start_natgw
-kill -HUP "$carrier"
+[ "$way" = tun ] || kill -HUP "$carrier"
 echo "natgw killed with signal 9, $(has) bytes are there; its files are gone"
 end_download
 lost=$(has)

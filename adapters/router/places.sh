@@ -5,7 +5,7 @@ bin=/usr/local/bin lib=/usr/local/lib/natgw units=/etc/systemd/system
 man=/usr/local/share/man/man1 completions=/usr/local/share/bash-completion/completions
 kept_settings=/etc/default/natgw kept_rules=/etc/natgw/rules.nft
 # The service that carries packets, and brings those that it needs.
-carrier=${CARRIER:-natgw-adapter}
+carrier=${CARRIER:-natgw-tun}
 unit_files=("$repository"/examples/natgw.service "$repository"/adapters/router/natgw-*.service)
 shopt -s nullglob
 programs=("$repository"/adapters/{router/network,with-tuns*,*.py})

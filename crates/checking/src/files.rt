@@ -21,6 +21,21 @@ pub(crate) fn read_front<R: Read + Drop>(alloc: Global, reader: R, most: u64) ->
     Ok(bytes)
 }
 
+/// The first bytes of a file, at most so many; of the path `-` those of standard input.
+///
+/// # Errors
+///
+/// `File` where it can't be opened or read, `NoMemory` where memory is refused.
+pub fn read_given(rt: &HostRuntime, alloc: Global, path: &str, most: u64) -> Result<Vec<u8>, Stop> {
+    if path != "-" {
+        return read_file(rt, alloc, path, most);
+    }
+    match read_front(alloc, rt.stdin(), most) {
+        Ok(bytes) => Ok(bytes),
+        Err(error) => Err(Stop::at_path(alloc, "standard input", "can't be read", &error)),
+    }
+}
+
 /// The first bytes of a file, at most so many.
 ///
 /// # Errors

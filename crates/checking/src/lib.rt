@@ -10,5 +10,5 @@ mod files;
 mod judging;
 
 pub use config::{address, addresses, bounds, filtering, number, prefix, prefixes};
-pub use files::read_file;
+pub use files::{read_file, read_given};
 pub use judging::{Checked, check, report};

@@ -1,6 +1,6 @@
 //! The command line as clap takes it, made of the grammar. A value of clap's has so many parts that a function which
 //! owns several is dear to prove: so each is put together by a function of its own, and lists of them are borrowed.
-use crate::grammar::{Argument, Form, OPENING, SIDES, VERBS, Verb};
+use crate::grammar::{Argument, Form, LOOKING, OPENING, SIDES, VERBS, Verb};
 use crate::help;
 use clap::{Arg, ArgAction, Command, value_parser};
 use std::alloc::{AllocError, Global};
@@ -47,6 +47,9 @@ fn args_of<'a>(alloc: Global, verb: &Verb) -> Result<Vec<Arg<'a>>, AllocError> {
     put(alloc, &mut args, SIDES)?;
     if verb.opens {
         put(alloc, &mut args, OPENING)?;
+    }
+    if verb.looks {
+        put(alloc, &mut args, LOOKING)?;
     }
     put(alloc, &mut args, verb.own)?;
     Ok(args)

@@ -9,6 +9,8 @@ pub(crate) struct Verb {
     pub(crate) more: &'static str,
     /// Whether it opens a gateway, and so takes `OPENING`.
     pub(crate) opens: bool,
+    /// Whether it tells of a gateway, and so takes `LOOKING`.
+    pub(crate) looks: bool,
     /// What it takes behind that.
     pub(crate) own: &'static [Argument],
 }
@@ -97,6 +99,15 @@ pub(crate) const OPENING: &[Argument] = &[
     },
 ];
 
+/// What the commands take that tell of a gateway.
+pub(crate) const LOOKING: &[Argument] = &[Argument {
+    name: "running",
+    form: Form::Flag,
+    value: "",
+    default: None,
+    help: "Looks on while another natgw serves: takes no lock, and writes nothing",
+}];
+
 /// The commands, in the order in which help lists them.
 pub(crate) const VERBS: &[Verb] = &[
     Verb {
@@ -104,6 +115,7 @@ pub(crate) const VERBS: &[Verb] = &[
         about: help::CHECK,
         more: help::KINDS,
         opens: false,
+        looks: false,
         own: &[
             Argument {
                 name: "explain",
@@ -117,7 +129,7 @@ pub(crate) const VERBS: &[Verb] = &[
                 form: Form::File,
                 value: "FILE",
                 default: None,
-                help: "The ruleset's text",
+                help: "The ruleset's text; - is standard input",
             },
         ],
     },
@@ -126,6 +138,7 @@ pub(crate) const VERBS: &[Verb] = &[
         about: help::REPLAY,
         more: help::FRAMES,
         opens: true,
+        looks: false,
         own: &[],
     },
     Verb {
@@ -133,6 +146,7 @@ pub(crate) const VERBS: &[Verb] = &[
         about: help::SERVE,
         more: help::CLIENTS,
         opens: true,
+        looks: false,
         own: &[
             Argument {
                 name: "socket",
@@ -140,6 +154,13 @@ pub(crate) const VERBS: &[Verb] = &[
                 value: "P",
                 default: None,
                 help: "The path of the socket, where nothing is yet",
+            },
+            Argument {
+                name: "socket-mode",
+                form: Form::Word(&["600", "660", "666"]),
+                value: "MODE",
+                default: Some("600"),
+                help: "Who may connect: the user alone, its group, or everyone",
             },
             Argument {
                 name: "connections",
@@ -155,6 +176,7 @@ pub(crate) const VERBS: &[Verb] = &[
         about: help::LOOP,
         more: help::TRIED,
         opens: true,
+        looks: false,
         own: &[Argument {
             name: "FILE",
             form: Form::File,
@@ -168,6 +190,22 @@ pub(crate) const VERBS: &[Verb] = &[
         about: help::SHOW,
         more: help::COLUMNS,
         opens: true,
+        looks: true,
+        own: &[Argument {
+            name: "json",
+            form: Form::Flag,
+            value: "",
+            default: None,
+            help: "Lists each session as an object of JSON",
+        }],
+    },
+    Verb {
+        name: "rules",
+        about: help::RULES,
+        more: help::IN_FORCE,
+        opens: true,
+        looks: true,
         own: &[],
     },
+    crate::tunnel::VERB,
 ];

@@ -45,7 +45,8 @@ pub const CLIENTS: &str = "\
 A client sends request frames and reads answer frames, as natgw replay --help tells. A fault in
 what it sends ends its connection alone: the word goes to standard error. Clients that connect
 meanwhile wait. A path that exists is refused, and the socket is removed at the end; where natgw
-is killed it stays, and is to be removed by hand.
+is killed it stays, and is to be removed by hand. Once clients may connect, standard error says
+so, and where NOTIFY_SOCKET is set, READY=1 is sent there, as systemd wants it.
 
 Example: a client after the other, from now on.
   natgw serve --dir state --at \"$(date +%s)\" --socket natgw.sock --connections 1000000 \\
@@ -68,9 +69,21 @@ One line a session: the protocol, the inside, the outside and the remote endpoin
 established or closing, or - for UDP:
   tcp 192.168.1.3:40000     203.0.113.1:40000     198.51.100.7:443      established
   udp 192.168.1.2:5000      203.0.113.1:5000      198.51.100.7:53       -
+With --json an object a line, with protocol, inside, outside, remote, opener and phase, which is
+null for UDP. With --running the directory may be one in which another natgw works.
+
+Examples:
+  natgw show --dir state --inside 192.168.0.0/16 --external 203.0.113.1
+  natgw show --running --json --dir state --inside 192.168.0.0/16 --external 203.0.113.1";
+
+pub const RULES: &str = "Prints the ruleset in force, byte for byte as it was loaded";
+
+pub const IN_FORCE: &str = "\
+Before any ruleset is loaded nothing is printed. With --running the directory may be one in
+which another natgw works.
 
 Example:
-  natgw show --dir state --inside 192.168.0.0/16 --external 203.0.113.1";
+  natgw rules --running --dir state --inside 192.168.0.0/16 --external 203.0.113.1";
 
 pub const CHECK: &str =
     "Says whether a ruleset would load: ok, or the line and the kind of its fault";

@@ -3,6 +3,7 @@
 //!
 //! - `grammar`: which commands there are, and what each takes;
 //! - `help`: what they say of themselves;
+//! - `tunnel`: the command `tun`, with all that it takes;
 //! - `building`: both as clap takes them;
 //! - `parsing`: what the words of a command line come to.
 #![tactic(auto)]
@@ -11,5 +12,6 @@ mod building;
 mod grammar;
 mod help;
 mod parsing;
+mod tunnel;
 
 pub use parsing::{Parsed, parse};

@@ -1,8 +1,9 @@
 //! What the words of a command line come to.
 use crate::building::command_line;
+use crate::tunnel;
 use clap::error::ErrorKind;
 use clap::{ArgMatches, Error};
-use options::{Opening, Options, Sides, Task, Work};
+use options::{Access, Listing, Opening, Options, Sides, Task, Tunnel, View, Work};
 use refusals::Refusal;
 use std::alloc::Global;
 use std::io::{Eprint, Print};
@@ -12,6 +13,8 @@ use std::io::{Eprint, Print};
 pub enum Parsed<'a> {
     /// A command is to run.
     Run(Options<'a>),
+    /// `tun` is to run.
+    Tun(Tunnel<'a>),
     /// There is none, and why is printed: help or the version was asked for, which is status 0, or the command line
     /// can't be read, which is status 2.
     Stopped(u8),
@@ -38,20 +41,65 @@ fn read_path<'a>(matches: &ArgMatches<'a>) -> &'a str {
     matches.get_str("FILE").unwrap_or("")
 }
 
+// Clap takes no other word than those of `grammar`.
+fn read_access(matches: &ArgMatches<'_>) -> Access {
+    match matches.get_str("socket-mode").unwrap_or("") {
+        "660" => Access::Group,
+        "666" => Access::Everyone,
+        _ => Access::Owner,
+    }
+}
+
+fn read_listing(matches: &ArgMatches<'_>) -> Listing {
+    if matches.get_flag("json") {
+        Listing::Json
+    } else {
+        Listing::Columns
+    }
+}
+
+// None for a word that names no command which tells of a gateway.
+fn read_view(name: &str, matches: &ArgMatches<'_>) -> Option<View> {
+    match name {
+        "show" => Some(View::Sessions(read_listing(matches))),
+        "rules" => Some(View::Rules),
+        _ => None,
+    }
+}
+
 // None for a word that names no command.
 fn read_work<'a>(name: &str, matches: &ArgMatches<'a>) -> Option<Work<'a>> {
     match name {
         "replay" => Some(Work::Replay),
         "serve" => Some(Work::Serve {
             socket: matches.get_str("socket").unwrap_or(""),
+            access: read_access(matches),
             connections: matches.get_one::<u64>("connections").unwrap_or(0),
         }),
         "loop" => Some(Work::Loop {
             path: read_path(matches),
         }),
-        "show" => Some(Work::Show),
-        _ => None,
+        _ => Some(Work::View(read_view(name, matches)?)),
     }
+}
+
+// None where the gateway is to be opened first. Only the commands that tell of one have the flag.
+fn read_look<'a>(name: &str, matches: &ArgMatches<'a>) -> Option<Task<'a>> {
+    let view = read_view(name, matches)?;
+    if !matches.get_flag("running") {
+        return None;
+    }
+    Some(Task::Look {
+        directory: matches.get_str("dir").unwrap_or(""),
+        view,
+    })
+}
+
+fn read_open<'a>(name: &str, matches: &ArgMatches<'a>) -> Option<Task<'a>> {
+    Some(Task::Open {
+        opening: read_opening(matches),
+        work: read_work(name, matches)?,
+    })
 }
 
 fn read_task<'a>(name: &str, matches: &ArgMatches<'a>) -> Option<Task<'a>> {
@@ -61,10 +109,10 @@ fn read_task<'a>(name: &str, matches: &ArgMatches<'a>) -> Option<Task<'a>> {
             explains: matches.get_flag("explain"),
         });
     }
-    Some(Task::Open {
-        opening: read_opening(matches),
-        work: read_work(name, matches)?,
-    })
+    match read_look(name, matches) {
+        Some(task) => Some(task),
+        None => read_open(name, matches),
+    }
 }
 
 fn read_options<'a>(name: &str, matches: &ArgMatches<'a>) -> Option<Options<'a>> {
@@ -74,9 +122,13 @@ fn read_options<'a>(name: &str, matches: &ArgMatches<'a>) -> Option<Options<'a>>
     })
 }
 
-fn run_of<'a>(matches: &ArgMatches<'a>) -> Option<Options<'a>> {
+fn run_of<'a>(matches: &ArgMatches<'a>) -> Option<Parsed<'a>> {
     let (name, inner) = matches.subcommand()?;
-    read_options(name, inner)
+    if name == tunnel::NAME {
+        let (sides, opening) = (read_sides(inner), read_opening(inner));
+        return Some(Parsed::Tun(tunnel::read_tunnel(sides, opening, inner)));
+    }
+    Some(Parsed::Run(read_options(name, inner)?))
 }
 
 // Prints what clap says in the place of a command.
@@ -105,7 +157,7 @@ pub fn parse<'a, R: Print + Eprint>(
 ) -> Result<Parsed<'a>, Refusal> {
     match command_line(alloc)?.try_get_matches_from(words) {
         Ok(matches) => match run_of(&matches) {
-            Some(options) => Ok(Parsed::Run(options)),
+            Some(parsed) => Ok(parsed),
             // Clap gives a command of the table, and `read_task` knows each of them, so this doesn't come.
             None => Err(Refusal::NoMemory),
         },

@@ -1,1 +1,3 @@
+pub mod Anew
 pub mod Joined
+pub mod Visited

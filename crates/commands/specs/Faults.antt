@@ -4,9 +4,11 @@ use Rattle.gateway.specs.declared.fault.GatewayFault.{GatewayFault}
 use Rattle.gateway.specs.declared.fault.GatewayFault.TheVariants as gateway_fault
 use Rattle.snapshot.specs.declared.fault.OpenFault.{OpenFault}
 use Rattle.snapshot.specs.declared.fault.OpenFault.TheVariants as open_fault
+use Rattle.onlooker.specs.declared.fault.LookFault.{LookFault}
+use Rattle.onlooker.specs.declared.fault.LookFault.TheVariants as look_fault
 use Rattle.socket_edge.specs.declared.fault.EdgeFault.{EdgeFault}
 use Rattle.socket_edge.specs.declared.fault.EdgeFault.TheVariants as edge_fault
-use Rattle.refusals.specs.Words.{IsOfPath}
+use Rattle.refusals.specs.Words.{IsOfPath, IsOfPrinting}
 use Rattle.refusals.specs.declared.refusal.Refusal.{Refusal}
 use Rattle.refusals.specs.declared.refusal.Refusal.TheVariants as refusal
 
@@ -26,6 +28,14 @@ opening_refusal open_fault.Damaged = refusal.Damaged
 opening_refusal open_fault.ConfigDiffers = refusal.ConfigDiffers
 opening_refusal open_fault.Generations = refusal.Generations
 opening_refusal open_fault.NoMemory = refusal.NoMemory
+
+-- of a look at files that another natgw may be serving
+abbrev pub look_refusal : LookFault → Refusal
+look_refusal (look_fault.File file error) = refusal.File
+look_refusal look_fault.NoMemory = refusal.NoMemory
+look_refusal look_fault.Changing = refusal.File
+look_refusal look_fault.Damaged = refusal.Damaged
+look_refusal (look_fault.Differs stored) = refusal.ConfigDiffers
 
 abbrev pub edge_refusal : EdgeFault → Refusal
 edge_refusal edge_fault.BadKind = refusal.BadKind
@@ -63,3 +73,11 @@ IsOfServing r = IsOfPath r ⊎ ((fault : GatewayFault) × (r ≡ gateway_refusal
 -- what may end a loop: these, or that the answers can't be printed
 abbrev pub IsOfLooping : Refusal → Type 0
 IsOfLooping r = IsOfServing r ⊎ (r ≡ refusal.Output)
+
+-- what may be the matter where a gateway is opened, and its file made anew
+abbrev pub IsOfOpening : Refusal → Type 0
+IsOfOpening r = IsOfFiles r ⊎ ((fault : GatewayFault) × (r ≡ gateway_refusal fault))
+
+-- what may be the matter with a look at files
+abbrev pub IsOfLook : Refusal → Type 0
+IsOfLook r = IsOfPrinting r ⊎ ((fault : LookFault) × (r ≡ look_refusal fault))

@@ -34,7 +34,7 @@ pub(crate) fn of_opening(fault: OpenFault) -> Refusal
 }
 
 /// The refusal for a stream of requests that ended early.
-pub(crate) fn of_edge(fault: EdgeFault) -> Refusal
+pub fn of_edge(fault: EdgeFault) -> Refusal
     ensures { result ≡ edge_refusal fault }
 {
     match fault {

@@ -1,21 +1,25 @@
 //! A gateway over the files of a directory, or what is the matter with them.
 //!
-//! `open` opens the two files as a disk, and a gateway over it. `unopened` tells why there is no disk, `unsuitable` why
+//! `open` opens the two files as a disk, and a gateway over it; `open_anew` makes the file anew besides that counts, so
+//! that nothing rests on what an earlier process wrote. `unopened` tells why there is no disk, `unsuitable` why
 //! no gateway opens over it: where the files themselves are refused, `unsound` says what `diagnosis::diagnose` finds.
 //! `tell_migration` tells of files that were migrated by the opening.
-ghost use Rattle.std.specs.Prelude.{◌≡◌, [], IfErr, IfOk, IsOk, OnOk, false, true};
+ghost use Rattle.std.specs.Prelude.{◌≡◌, ◌+◌, [], ℕ, IfErr, IfOk, IsOk, OnOk, false, true};
 ghost use Rattle.std.specs.Io.KnownBytes.{Appends};
 ghost use Rattle.durable.specs.Entering.{Durable, IsDurable};
 ghost use Rattle.machine.specs.Noted.{IsResumed};
 ghost use Rattle.refusals.specs.Words.{IsOfPath, migrated_line};
-ghost use Rattle.commands.specs.Faults.{IsOfFiles};
+ghost use Rattle.disk_model.specs.declared.disk.FileId.{FileId};
+ghost use Rattle.durable.specs.Coding.{Heading};
+ghost use Rattle.durable.specs.Recovery.{IsActive, IsCurrent};
+ghost use Rattle.commands.specs.Faults.{IsOfFiles, IsOfOpening};
 
-use crate::faults::of_opening;
+use crate::faults::{of_gateway, of_opening};
 use checking::bounds;
 use diagnosis::{Finding, diagnose};
 use disk_model::Disk;
 use file_disk::{FileDisk, OpenError};
-use gateway::{Gateway, OpenFault};
+use gateway::{Gateway, GatewayFault, OpenFault};
 use options::{Opening, Sides};
 use packet::Bounds;
 use refusals::{Refusal, Stop, tell_migrated};
@@ -90,6 +94,32 @@ fn unsuitable(
     }
 }
 
+// Why no gateway opens over a disk whose active file is made anew.
+fn unmade(
+    alloc: Global,
+    disk: &mut FileDisk,
+    sides: &Sides<'_>,
+    directory: &str,
+    fault: AnewFault,
+) -> Stop
+    ensures { IsOfOpening result.refusal }
+{
+    match fault {
+        AnewFault::Opening(fault) => unsuitable(alloc, disk, sides, directory, fault),
+        AnewFault::Making(fault) => Stop::from(of_gateway(fault)),
+    }
+}
+
+// The files of a directory as a disk.
+fn disk_in(rt: &HostRuntime, directory: &str) -> Result<FileDisk, Stop>
+    ensures { IfErr result (λ stop. IsOfPath stop.refusal) }
+{
+    match FileDisk::open(rt, directory) {
+        Ok(disk) => Ok(disk),
+        Err(error) => Err(unopened(rt.alloc(), directory, &error)),
+    }
+}
+
 /// Opens a gateway over the files of a directory. `sides` are those that the bounds are made of.
 ///
 /// # Errors
@@ -112,15 +142,91 @@ pub fn open(
         × (gateway.told.held ≡ []) × (gateway.fallen ≡ false)) }
 {
     let alloc = rt.alloc();
-    let disk = match FileDisk::open(rt, opening.directory) {
-        Ok(disk) => disk,
-        Err(error) => return Err(unopened(alloc, opening.directory, &error)),
-    };
+    let disk = disk_in(rt, opening.directory)?;
     match Gateway::open(alloc, disk, bounds, opening.moment) {
         Ok(gateway) => Ok(gateway),
         Err((mut disk, fault)) => {
             Err(unsuitable(alloc, &mut disk, sides, opening.directory, fault))
         }
+    }
+}
+
+/// Why no gateway opens whose active file is made anew.
+#[derive(Clone, Copy, Debug, PartialEq, Eq, Drop)]
+pub enum AnewFault {
+    /// It doesn't open.
+    Opening(OpenFault),
+    /// It opened, and the file wasn't made anew.
+    Making(GatewayFault),
+}
+
+/// Opens a gateway over a disk, and makes the file anew that counts: what is answered from then on rests on what this
+/// gateway has written and synced itself, and on nothing that the system may have kept of an earlier one's sync that
+/// failed. Files of a former version are made anew by the opening.
+///
+/// # Errors
+///
+/// The disk comes back, and why: what `Gateway::open` or `Gateway::compact` answered.
+pub fn open_over<D: Disk + Drop>(
+    alloc: Global,
+    disk: D,
+    bounds: Bounds,
+    moment: u64,
+) -> Result<Gateway<D>, (D, AnewFault)>
+    // Where a file was active, the active one has the next generation now: it was made since.
+    ensures anew { D.honest disk → (file : FileId) (h : Heading) (d : Durable) (end : ℕ)
+        → IsActive (D.seen disk) file h d end → IsCurrent (D.seen disk)
+        → IfOk result (λ gateway. gateway.generation ≡ h.generation + 1) }
+    ensures grown { IfOk result (λ gateway. gateway.migrated ≡ false → gateway.grown ≡ 0) }
+    ensures config { IfOk result (λ gateway. gateway.told.config ≡ bounds) }
+    ensures resumed { IfOk result (λ gateway. (d : Durable) × IsDurable bounds d
+        × IsResumed bounds d moment gateway.told.state) }
+    ensures begins { IfOk result (λ gateway. (gateway.told.last ≡ 0)
+        × (gateway.told.held ≡ []) × (gateway.fallen ≡ false)) }
+{
+    let mut gateway = match Gateway::open(alloc, disk, bounds, moment) {
+        Ok(gateway) => gateway,
+        Err((disk, fault)) => return Err((disk, AnewFault::Opening(fault))),
+    };
+    // The opening has made the other file anew, and an older natgw may yet be wanted for this one.
+    let is_made = gateway.has_migrated();
+    if is_made {
+        return Ok(gateway);
+    }
+    // It carries a fact: the file that counts has the gateway's generation.
+    let _stands = !gateway.has_fallen();
+    let made = gateway.compact();
+    match made {
+        Ok(()) => Ok(gateway),
+        Err(fault) => Err((gateway.into_disk(), AnewFault::Making(fault))),
+    }
+}
+
+/// Opens a gateway over the files of a directory, and makes the file anew that counts (`open_over`). `sides` are those
+/// that the bounds are made of.
+///
+/// # Errors
+///
+/// Those of `open`; and `Device` or `Generations` where the file can't be made anew.
+pub fn open_anew(
+    rt: &HostRuntime,
+    sides: &Sides<'_>,
+    bounds: Bounds,
+    opening: Opening<'_>,
+) -> Result<Gateway<FileDisk>, Stop>
+    ensures causes { IfErr result (λ stop. IsOfOpening stop.refusal) }
+    ensures anew { IfOk result (λ gateway. gateway.migrated ≡ false → gateway.grown ≡ 0) }
+    ensures config { IfOk result (λ gateway. gateway.told.config ≡ bounds) }
+    ensures resumed { IfOk result (λ gateway. (d : Durable) × IsDurable bounds d
+        × IsResumed bounds d opening.entry.moment gateway.told.state) }
+    ensures begins { IfOk result (λ gateway. (gateway.told.last ≡ 0)
+        × (gateway.told.held ≡ []) × (gateway.fallen ≡ false)) }
+{
+    let alloc = rt.alloc();
+    let disk = disk_in(rt, opening.directory)?;
+    match open_over(alloc, disk, bounds, opening.moment) {
+        Ok(gateway) => Ok(gateway),
+        Err((mut disk, fault)) => Err(unmade(alloc, &mut disk, sides, opening.directory, fault)),
     }
 }
 

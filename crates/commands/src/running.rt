@@ -1,13 +1,18 @@
 //! The commands, put together.
-use crate::opening::{open, tell_migration};
-use crate::sockets::{bind, loop_back, serve_clients};
-use crate::{replay, show};
-use checking::{bounds, check, read_file};
+use crate::clients::serve_clients;
+use crate::onlooking::look_in;
+use crate::opening::{open, open_anew, tell_migration};
+use crate::replay;
+use crate::showing::tell_of;
+use crate::sockets::{bind, bind_for, loop_back};
+use checking::{bounds, check, read_file, read_given};
 use disk_model::Disk;
+use file_disk::{FileDisk, Strayed, others_may_write};
 use gateway::Gateway;
-use options::{Opening, Options, Sides, Task, Work};
+use notify::tell_ready;
+use options::{Access, Opening, Options, Sides, Task, View, Work};
 use packet::Bounds;
-use refusals::{Refusal, Stop};
+use refusals::{Refusal, Stop, tell_serving, tell_shared};
 use rulesyntax::GREATEST_LENGTH;
 use std::alloc::Global;
 use std::fs;
@@ -34,7 +39,8 @@ const FREED_FIRST: usize = 2_097_152;
 ///
 /// - `Config` where the options are no configuration.
 /// - `File` where the command's file can't be read, or is too long for `loop`.
-/// - Of all but `check` what `open` says of the two files.
+/// - Of all but `check` what `open` says of the two files, what `open_anew` says if requests are answered, or what
+///   `look_in` says if another natgw may be serving.
 /// - Of `serve` and `loop` `File` where the socket can't be bound.
 /// - What the run meets: the fault of a stream (of `serve` and `loop` that of the gateway alone), of all but `serve`
 ///   `Output`, and of `serve` and `loop` `File` where the socket fails or can't be removed. What was answered before is
@@ -46,6 +52,7 @@ pub fn run(rt: &HostRuntime, options: &Options<'_>) -> Result<ExitCode, Stop> {
     let bounds = bounds(rt.alloc(), sides)?;
     match options.task {
         Task::Check { path, explains } => run_check(rt, &bounds, path, explains),
+        Task::Look { directory, view } => run_look(rt, &bounds, directory, view),
         Task::Open { opening, work } => {
             let requests = requests_of(rt, rt.alloc(), work)?;
             run_opened(rt, sides, bounds, opening, work, requests.as_slice())?;
@@ -61,7 +68,7 @@ fn run_check(
     explains: bool,
 ) -> Result<ExitCode, Stop> {
     let alloc = rt.alloc();
-    let text = read_file(rt, alloc, path, TEXT_LIMIT + 1)?;
+    let text = read_given(rt, alloc, path, TEXT_LIMIT + 1)?;
     let loads = check(
         alloc,
         text.as_slice(),
@@ -77,13 +84,39 @@ fn run_check(
     }
 }
 
-// Has the C library keep memory that is let go, up to twice this block, and more once a greater one is freed. Otherwise
-// it gives back what a compaction took, and the system clears each of these pages anew for the next one. (So great a
-// block has a mapping of its own; once it is freed glibc raises its thresholds, to its size and to twice that:
-// mallopt(3), M_MMAP_THRESHOLD.)
-fn keep_freed_memory(alloc: Global) {
+fn run_look(
+    rt: &HostRuntime,
+    bounds: &Bounds,
+    directory: &str,
+    view: View,
+) -> Result<ExitCode, Stop> {
+    look_in(rt, rt.alloc(), directory, bounds, view, &mut rt.stdout())?;
+    Ok(ExitCode::SUCCESS)
+}
+
+/// Has the C library keep memory that is let go, up to twice this block, and more once a greater one is freed. Otherwise
+/// it gives back what a compaction took, and the system clears each of these pages anew for the next one. (So great a
+/// block has a mapping of its own; once it is freed glibc raises its thresholds, to its size and to twice that:
+/// mallopt(3), M_MMAP_THRESHOLD.)
+pub fn keep_freed_memory(alloc: Global) {
     // Where memory for it is refused, that costs time alone.
     let _ = Vec::<u8>::with_capacity(alloc, FREED_FIRST);
+}
+
+// Opens a gateway for what it is to do.
+fn open_for(
+    rt: &HostRuntime,
+    sides: &Sides<'_>,
+    bounds: Bounds,
+    opening: Opening<'_>,
+    work: Work<'_>,
+) -> Result<Gateway<FileDisk>, Stop> {
+    match work {
+        Work::View(_) => open(rt, sides, bounds, opening),
+        Work::Replay | Work::Serve { .. } | Work::Loop { .. } => {
+            open_anew(rt, sides, bounds, opening)
+        }
+    }
 }
 
 // Opens a gateway, and has it work.
@@ -96,14 +129,44 @@ fn run_opened(
     requests: &[u8],
 ) -> Result<(), Stop> {
     keep_freed_memory(rt.alloc());
-    let mut gateway = open(rt, sides, bounds, opening)?;
-    // Where standard error takes no more the line is lost, and the work goes on.
-    let _ = tell_migration(&gateway, &mut rt.stderr());
+    let mut gateway = open_for(rt, sides, bounds, opening, work)?;
+    tell_opened(rt, opening.directory, &gateway);
     let worked = work_on(rt, opening.directory, work, requests, &mut gateway);
-    // `into_disk` has the core dropped within the crate `machine`, where that is proved already. Here the files are
-    // dropped.
-    drop(gateway.into_disk());
-    worked
+    let_go(rt.alloc(), opening.directory, gateway, worked)
+}
+
+/// Tells on standard error if the opening of a gateway migrated its files, and if others may write in their directory.
+/// Where standard error takes no more the lines are lost, and the work goes on.
+pub fn tell_opened<D: Disk + Drop>(rt: &HostRuntime, directory: &str, gateway: &Gateway<D>) {
+    let _ = tell_migration(gateway, &mut rt.stderr());
+    if let Ok(true) = others_may_write(rt, directory) {
+        let _ = tell_shared(&mut rt.stderr(), directory);
+    }
+}
+
+/// Lets a gateway and its files go, and gives how its work ended. If a call of the disk has failed since a file isn't in
+/// its place, it says which.
+///
+/// # Errors
+///
+/// The refusal of the work.
+pub fn let_go(
+    alloc: Global,
+    directory: &str,
+    gateway: Gateway<FileDisk>,
+    worked: Result<(), Stop>,
+) -> Result<(), Stop> {
+    // `into_disk` has the core dropped within the crate `machine`, where that is proved already.
+    let disk = gateway.into_disk();
+    let strayed = disk.strayed();
+    drop(disk);
+    match (worked, strayed) {
+        (Err(stop), Some(file)) => Err(Stop::with(
+            stop.refusal,
+            format!(in alloc; "{directory}: {}", Strayed(file)),
+        )),
+        (worked, _) => worked,
+    }
 }
 
 // Has a gateway work; for `loop` the requests are these.
@@ -119,10 +182,11 @@ fn work_on<D: Disk + Drop>(
         Work::Replay => replay_streams(rt, gateway),
         Work::Serve {
             socket,
+            access,
             connections,
-        } => serve_at(rt, socket, connections, gateway),
+        } => serve_at(rt, socket, access, connections, gateway),
         Work::Loop { path: _ } => loop_in(rt, directory, requests, gateway),
-        Work::Show => Ok(show(alloc, gateway, &mut rt.stdout())?),
+        Work::View(view) => Ok(tell_of(alloc, gateway, view, &mut rt.stdout())?),
     }
 }
 
@@ -136,16 +200,24 @@ fn replay_streams<D: Disk + Drop>(rt: &HostRuntime, gateway: &mut Gateway<D>) ->
     Ok(ended?)
 }
 
+// Tells people and whoever started natgw that clients may connect. Where one of them can't be told, they still may.
+fn tell_listening(rt: &HostRuntime, socket: &str) {
+    let _ = tell_serving(&mut rt.stderr(), socket);
+    let _ = tell_ready(rt);
+}
+
 // Serves so many connections of a socket, which is there for as long.
 fn serve_at<D: Disk + Drop>(
     rt: &HostRuntime,
     socket: &str,
+    access: Access,
     connections: u64,
     gateway: &mut Gateway<D>,
 ) -> Result<(), Stop> {
     let alloc = rt.alloc();
-    let listener = bind(rt, alloc, socket)?;
+    let listener = bind_for(rt, alloc, socket, access)?;
     let own = identity(rt, socket);
+    tell_listening(rt, socket);
     let served = serve_clients(
         alloc,
         &listener,
@@ -187,7 +259,7 @@ fn loop_in<D: Disk + Drop>(
 fn requests_of(rt: &impl Files, alloc: Global, work: Work<'_>) -> Result<Vec<u8>, Stop> {
     match work {
         Work::Loop { path } => read_requests(rt, alloc, path),
-        Work::Replay | Work::Serve { .. } | Work::Show => Ok(Vec::new(alloc)),
+        Work::Replay | Work::Serve { .. } | Work::View(_) => Ok(Vec::new(alloc)),
     }
 }
 

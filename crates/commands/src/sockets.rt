@@ -1,30 +1,75 @@
-//! The clients of a Unix socket, one after the other.
-ghost use Rattle.std.specs.Prelude.{◌≡◌, [], false, IsErr, IsOk, IfErr, OnOk};
+//! A Unix socket: it is bound to a path, and requests are sent through it and back.
+ghost use Rattle.std.specs.Prelude.{◌≡◌, [], false, IsErr, IfErr, OnOk};
 ghost use Rattle.refusals.specs.Words.{IsOfPath};
-ghost use Rattle.gateway.specs.declared.fault.GatewayFault.{GatewayFault};
-ghost use Rattle.commands.specs.Faults.{IsOfLooping, IsOfServing, gateway_refusal};
+ghost use Rattle.commands.specs.Faults.{IsOfLooping};
 
-use crate::faults::of_gateway;
-use crate::streams::{answer_all, tell_end};
+use crate::clients::serve_clients;
 use disk_model::Disk;
-use gateway::{Gateway, GatewayFault};
+use gateway::Gateway;
+use options::Access;
 use refusals::{Refusal, Stop};
-use socket_edge::MOST_GROWN;
 use std::alloc::Global;
-use std::fs::Files;
+use std::fs::{self, Files, Permissions};
 use std::io;
 use std::io::{ErrorKind, Read, Write};
 use std::net::{Net, Shutdown};
-use std::os::fd::AsRawFd;
-use std::os::unix::net::{UnixListener, UnixStream};
+use std::os::fd::{AsFd, AsRawFd};
+use std::os::unix::fs::PermissionsExt;
+use std::os::unix::net::{SocketAddr, UnixListener, UnixStream};
 
-/// Binds a socket to a path where nothing is yet.
+/// How many clients may wait that aren't accepted: as many as the system allows.
+const WAITING: i32 = -1;
+
+// A listener at a path. Its file has no more than the owner's access from its first moment, and then the mode.
+fn listen_at<R: Files + Net>(rt: &R, path: &str, mode: u32) -> io::Result<UnixListener> {
+    let socket = rt.unix_socket()?;
+    if libc::fchmod(socket.as_raw_fd(), 0o600) != 0 {
+        return Err(io::Error::from(ErrorKind::Other));
+    }
+    rt.bind_unix(socket.as_fd(), &SocketAddr::from_pathname(path)?)?;
+    match begin_to_listen(rt, path, mode, socket.as_raw_fd()) {
+        Ok(()) => Ok(UnixListener::from(socket)),
+        Err(error) => {
+            let _ = fs::remove_file(rt, path);
+            Err(error)
+        }
+    }
+}
+
+// Has a socket that is bound to a path listen there, with this mode.
+fn begin_to_listen(rt: &impl Files, path: &str, mode: u32, socket: i32) -> io::Result<()> {
+    fs::set_permissions(rt, path, Permissions::from_mode(mode))?;
+    if libc::net::listen(socket, WAITING) != 0 {
+        return Err(io::Error::from(ErrorKind::Other));
+    }
+    Ok(())
+}
+
+/// Binds a socket to a path where nothing is yet. Its user alone may connect, whatever the umask.
 ///
 /// # Errors
 ///
 /// `File` where the path is empty, something stands there, or a socket can't be bound there; `NoMemory` where memory is
 /// refused.
 pub fn bind<R: Files + Net>(rt: &R, alloc: Global, path: &str) -> Result<UnixListener, Stop>
+    ensures empty { path.now ≡ [] → IsErr result }
+    ensures causes { IfErr result (λ stop. IsOfPath stop.refusal) }
+{
+    bind_for(rt, alloc, path, Access::Owner)
+}
+
+/// Binds a socket to a path where nothing is yet, for those who may connect, whatever the umask.
+///
+/// # Errors
+///
+/// `File` where the path is empty, something stands there, or a socket can't be bound there; `NoMemory` where memory is
+/// refused.
+pub fn bind_for<R: Files + Net>(
+    rt: &R,
+    alloc: Global,
+    path: &str,
+    access: Access,
+) -> Result<UnixListener, Stop>
     ensures empty { path.now ≡ [] → IsErr result }
     ensures causes { IfErr result (λ stop. IsOfPath stop.refusal) }
 {
@@ -35,7 +80,7 @@ pub fn bind<R: Files + Net>(rt: &R, alloc: Global, path: &str) -> Result<UnixLis
             format!(in alloc; "the path of the socket is empty: name one by --socket"),
         ));
     }
-    match UnixListener::bind(rt, path) {
+    match listen_at(rt, path, access.mode()) {
         Ok(listener) => Ok(listener),
         Err(error) => Err(unbound(alloc, path, &error)),
     }
@@ -57,85 +102,11 @@ fn unbound(alloc: Global, path: &str, error: &io::Error) -> Stop
 }
 
 // What is printed on a standard stream that was closed must not go to whom the socket leads to.
-fn off_standard_streams(stream: UnixStream) -> io::Result<UnixStream> {
+pub(crate) fn off_standard_streams(stream: UnixStream) -> io::Result<UnixStream> {
     if stream.as_raw_fd() <= 2 {
         return stream.try_clone();
     }
     Ok(stream)
-}
-
-fn next_client(listener: &UnixListener) -> io::Result<UnixStream> {
-    let (stream, _) = listener.accept()?;
-    off_standard_streams(stream)
-}
-
-// Compacts where a client has left the file grown: behind a read that ends in a client's fault the edge doesn't. Where
-// memory for it is refused, it waits for the next client.
-fn compact_between_clients<D: Disk + Drop>(gateway: &mut Gateway<D>) -> Result<(), Refusal>
-    ensures causes { IfErr result (λ refusal. (fault : GatewayFault)
-        × (refusal ≡ gateway_refusal fault)) }
-{
-    if gateway.held() > 0 || gateway.grown() <= MOST_GROWN {
-        return Ok(());
-    }
-    match gateway.compact() {
-        Ok(()) | Err(GatewayFault::NoMemory) => Ok(()),
-        Err(fault) => Err(of_gateway(fault)),
-    }
-}
-
-// Serves the next client. Where the gateway has fallen once the client is served, the refusal says so, even if the
-// client's own fault was that it took no answer. A word that can't be told ends nothing: others are still to be served.
-fn serve_next<W: Write, D: Disk + Drop>(
-    alloc: Global,
-    listener: &UnixListener,
-    path: &str,
-    errors: &mut W,
-    gateway: &mut Gateway<D>,
-) -> Result<(), Stop>
-    ensures stands { OnOk result (gateway.new.fallen ≡ false) }
-    ensures causes { IfErr result (λ stop. IsOfServing stop.refusal) }
-{
-    compact_between_clients(gateway)?;
-    let stream = match next_client(listener) {
-        Ok(stream) => stream,
-        Err(error) => return Err(Stop::at_path(alloc, path, "accepts no client", &error)),
-    };
-    let ended = answer_all(alloc, &mut &stream, &mut &stream, gateway);
-    match tell_end(ended, errors) {
-        Ok(()) | Err(Refusal::Output) => {}
-        Err(refusal) => return Err(Stop::from(refusal)),
-    }
-    if gateway.has_fallen() {
-        return Err(Stop::from(Refusal::Reopen));
-    }
-    Ok(())
-}
-
-/// Serves so many connections of a socket, one after the other, with one gateway. The word of a fault that ends a
-/// connection alone goes to `errors`.
-///
-/// # Errors
-///
-/// `File` where no connection can be accepted, at `path`; a fault of the gateway, which is `Reopen` where a call of the
-/// disk failed and the client took no answer.
-pub fn serve_clients<W: Write, D: Disk + Drop>(
-    alloc: Global,
-    listener: &UnixListener,
-    path: &str,
-    connections: u64,
-    errors: &mut W,
-    gateway: &mut Gateway<D>,
-) -> Result<(), Stop>
-    ensures none { connections ≡ 0 → IsOk result × (gateway.new ≡ gateway.old)
-        × (errors.new ≡ errors.old) }
-    ensures stands { OnOk result (gateway.old.fallen ≡ false → gateway.new.fallen ≡ false) }
-    ensures causes { IfErr result (λ stop. IsOfServing stop.refusal) }
-{
-    for _ in 0..connections {
-        serve_next(alloc, listener, path, errors, gateway)?;
-    }
-    Ok(())
 }
 
 // A client that has sent these requests and nothing behind them.

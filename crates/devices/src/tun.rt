@@ -28,6 +28,8 @@ pub struct Tun {
     pub ready: Readiness,
     /// How many packets came from it, up to the greatest u64.
     pub came: u64,
+    /// How many bytes these had, up to the greatest u64.
+    pub came_bytes: u64,
 }
 
 impl Tun {
@@ -38,6 +40,7 @@ impl Tun {
             has_headers,
             ready: Readiness::Idle,
             came: 0,
+            came_bytes: 0,
         }
     }
 
@@ -65,8 +68,10 @@ impl Device for Tun {
             self.ready = Readiness::Idle;
             return None;
         }
+        let len = count + start;
         self.came = self.came.saturating_add(1);
-        Some(count + start)
+        self.came_bytes = self.came_bytes.saturating_add((len - HEADER) as u64);
+        Some(len)
     }
 
     fn send(&mut self, frame: &[u8]) -> bool {

@@ -4,5 +4,7 @@ pub mod Fields
 pub mod Reading
 -- What two files are together.
 pub mod Finding
+-- Which file may be moved away.
+pub mod Advising
 -- Machinery, with nothing to believe in it: how far a search has come.
 pub mod Probing

@@ -1,5 +1,5 @@
 //! What the files of a disk are.
-ghost use Rattle.std.specs.Prelude.{◌≡◌, ◌↔◌, ◌≤◌, IfOk, OnOk, IsErrOf};
+ghost use Rattle.std.specs.Prelude.{◌≡◌, ◌≤◌, IfOk, OnOk, IsErrOf};
 ghost use Rattle.disk_model.specs.declared.disk.FileId.TheVariants.{A, B};
 ghost use Rattle.disk_model.specs.Disk.{Looks, Grew, pair};
 ghost use Rattle.diagnosis.specs.Finding.{IsFinding};
@@ -20,7 +20,9 @@ pub fn diagnose<'a, D: Disk>(
     disk: &mut D,
     bounds: &'a Bounds,
 ) -> Result<Finding<'a>, ReadFault>
-    ensures honest { D.honest disk.old ↔ D.honest disk.new }
+    ensures honest { D.honest disk.new → D.honest disk.old }
+    ensures stays_honest { ¬ IsErrOf result ReadFault.Device
+        → D.honest disk.old → D.honest disk.new }
     ensures ok { D.honest disk.old
         → IfOk result (IsFinding bounds.now (pair (D.seen disk.old A) (D.seen disk.old B))) }
     ensures looks { D.honest disk.old → Looks D.moment D.left D.seen disk.old disk.new }

@@ -2,6 +2,7 @@
 ghost use Rattle.std.specs.Prelude.{IsTrue};
 ghost use Rattle.packet.specs.Config.{is_name};
 
+use crate::advice::{Advice, advice_for, sentence};
 use crate::{Damage, Differing, Fault, Field, Finding, Held, Reading, differs};
 use disk_model::FileId;
 use file_disk::name_of;
@@ -59,12 +60,12 @@ impl Display for Reading {
 // One line: what is the matter, and what to do.
 impl Display for Damage {
     fn fmt<W: fmt::Write>(&self, f: &mut Formatter<W>) -> fmt::Result {
-        match (self.a, self.b) {
-            (Reading::Whole(_), Reading::Whole(_)) => say_twins(f),
-            (Reading::Faulty(_), Reading::Faulty(_)) => say_both(f, *self),
-            (Reading::Faulty(_), _) => say_one(f, *self, FileId::A, FileId::B, self.b),
-            _ => say_one(f, *self, FileId::B, FileId::A, self.a),
+        let advice = advice_for(*self);
+        match advice {
+            Advice::MoveEither => say_twins(f)?,
+            _ => say_files(f, *self)?,
         }
+        f.write_str(sentence(advice))
     }
 }
 
@@ -83,42 +84,8 @@ fn say_twins<W: fmt::Write>(f: &mut Formatter<W>) -> fmt::Result {
     let (a, b) = (name_of(FileId::A), name_of(FileId::B));
     write!(
         f,
-        "{a} and {b} have one generation, so they are not of one backup: put both back from one, or move one of them away to go on with what the other holds"
+        "{a} and {b} have one generation, so they are not of one backup: put both back from one"
     )
-}
-
-fn say_both<W: fmt::Write>(f: &mut Formatter<W>, damage: Damage) -> fmt::Result {
-    say_files(f, damage)?;
-    f.write_str(", or move both away to begin with nothing")
-}
-
-// One file has a fault, and the other one is this.
-fn say_one<W: fmt::Write>(
-    f: &mut Formatter<W>,
-    damage: Damage,
-    faulty: FileId,
-    other: FileId,
-    beside: Reading,
-) -> fmt::Result {
-    say_files(f, damage)?;
-    match beside {
-        Reading::Whole(held) => {
-            if !held.is_configured {
-                return Ok(());
-            }
-            write!(
-                f,
-                ", or move {} away to go on with what {} holds, which may be older",
-                name_of(faulty),
-                name_of(other)
-            )
-        }
-        _ => write!(
-            f,
-            ", or move {} away to begin with nothing",
-            name_of(faulty)
-        ),
-    }
 }
 
 // One line: what is the matter, and what to do.

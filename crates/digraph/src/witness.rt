@@ -1,11 +1,10 @@
 //! What shows that there is a loop, or that there is none.
 
-ghost use Rattle.std.specs.Prelude.{◌≡◌, ◌<◌, ℕ, IfOk, IfSome, IfNone, IsTrue, length, slice_index};
+ghost use Rattle.std.specs.Prelude.{◌≡◌, ◌⊎◌, ◌<◌, ℕ, All, IfOk, IfSome, IfNone, IsTrue, OnOk, Some, length, slice_get, slice_index};
 ghost use Rattle.std.specs.List.{Contains};
 ghost use Rattle.digraph.specs.Paths.{HasLoop, IsReachedFrom};
-ghost use Rattle.digraph.specs.Edges.{IsMarked, HasEdge, AreWithin};
+ghost use Rattle.digraph.specs.Edges.{HasEdge, AreWithin};
 
-use crate::reach::spread;
 use sqlite_items::Items;
 use std::alloc::{AllocError, Global};
 
@@ -45,34 +44,67 @@ pub fn level_step(rows: &[Items<usize>], ranks: &[usize]) -> Option<(usize, usiz
     None
 }
 
-// Spreads the marks until the place has one.
-fn comes_to(rows: &[Items<usize>], marks: &mut [bool], place: usize) -> bool
+// A place that is met: if it has no mark yet it gets one, and waits until its steps are gone.
+fn meet(waiting: &mut Vec<usize>, marks: &mut [bool], place: usize) -> Result<(), AllocError>
+    requires { place < length marks.old }
+    ensures same { length marks.new ≡ length marks.old }
+    ensures waiting { OnOk result ((b : ℕ) → Contains waiting.new.items b
+        → Contains waiting.old.items b ⊎ (place ≡ b)) }
+{
+    if marks[place] {
+        return Ok(());
+    }
+    marks[place] = true;
+    waiting.push(place)?;
+    Ok(())
+}
+
+// Meets each place of a row.
+fn meet_row(waiting: &mut Vec<usize>, marks: &mut [bool], row: &[usize]) -> Result<(), AllocError>
+    requires { All (λ b. b < length marks.old) row.now }
+    ensures same { length marks.new ≡ length marks.old }
+    ensures waiting { OnOk result ((b : ℕ) → Contains waiting.new.items b
+        → Contains waiting.old.items b ⊎ Contains row.now b) }
+{
+    for b in row {
+        meet(waiting, marks, *b)?;
+    }
+    Ok(())
+}
+
+fn row_at(rows: &[Items<usize>], place: usize) -> &[usize]
+    requires { place < length rows.now }
+    ensures { slice_get rows.now place ≡ Some result.now }
+{
+    rows[place].as_slice()
+}
+
+// Whether a walk from the places that wait comes to this one. Each place is met once, and each step gone once.
+fn comes_to(
+    waiting: &mut Vec<usize>,
+    marks: &mut [bool],
+    rows: &[Items<usize>],
+    to: usize,
+) -> Result<bool, AllocError>
     requires within { AreWithin rows.now }
     requires same { length marks.old ≡ length rows.now }
-    requires place { place < length rows.now }
-    ensures { IsTrue result → IsReachedFrom (HasEdge rows.now) (IsMarked marks.old) place }
+    requires waiting { (b : ℕ) → Contains waiting.old.items b → b < length rows.now }
+    ensures { IfOk result (λ yes. IsTrue yes
+        → IsReachedFrom (HasEdge rows.now) (Contains waiting.old.items) to) }
 {
     for _ in 0..rows.len() {
-        if marks[place] {
-            return true;
+        let Some(place) = waiting.pop() else {
+            return Ok(false);
+        };
+        if place == to {
+            return Ok(true);
         }
-        spread(rows, marks);
+        meet_row(waiting, marks, row_at(rows, place))?;
     }
-    false
+    Ok(false)
 }
 
-fn one_mark(alloc: Global, count: usize, place: usize) -> Result<Vec<bool>, AllocError>
-    requires { place < count }
-    ensures same { IfOk result (λ marks. length marks.items ≡ count) }
-    ensures one { IfOk result (λ marks. (a : ℕ) → IsMarked marks.items a → a ≡ place) }
-{
-    let mut marks = vec![in alloc; false; count]?;
-    marks[place] = true;
-    Ok(marks)
-}
-
-/// Whether a path leads from the end of a step back to its start. It answers no too where it would take too
-/// many rounds.
+/// Whether a path leads from the end of a step back to its start.
 pub fn returns(
     alloc: Global,
     rows: &[Items<usize>],
@@ -83,6 +115,9 @@ pub fn returns(
     requires step { HasEdge rows.now from to }
     ensures { IfOk result (λ yes. IsTrue yes → HasLoop (HasEdge rows.now)) }
 {
-    let mut marks = one_mark(alloc, rows.len(), to)?;
-    Ok(comes_to(rows, marks.as_mut_slice(), from))
+    let mut marks = vec![in alloc; false; rows.len()]?;
+    marks[to] = true;
+    let mut waiting = Vec::new(alloc);
+    waiting.push(to)?;
+    comes_to(&mut waiting, marks.as_mut_slice(), rows, from)
 }

@@ -1,5 +1,5 @@
 //! All bytes of a file.
-ghost use Rattle.std.specs.Prelude.{◌≡◌, ◌+◌, ◌↔◌, ◌≤◌, IfOk, OnOk, IsErrOf};
+ghost use Rattle.std.specs.Prelude.{◌≡◌, ◌+◌, ◌≤◌, IfOk, OnOk, IsErrOf};
 ghost use Rattle.disk_model.specs.Disk.{Looks, Grew};
 ghost use Rattle.disk_model.specs.declared.reading.ReadFault.TheVariants.{Device, NoMemory};
 
@@ -40,7 +40,8 @@ impl From<AllocError> for ReadFault {
 /// - `Device` where a call of the disk has failed, which is the last one made.
 /// - `NoMemory` where memory is refused.
 pub fn contents<D: Disk>(alloc: Global, disk: &mut D, file: FileId) -> Result<Vec<u8>, ReadFault>
-    ensures honest { D.honest disk.old ↔ D.honest disk.new }
+    ensures honest { D.honest disk.new → D.honest disk.old }
+    ensures stays_honest { ¬ IsErrOf result ReadFault.Device → D.honest disk.old → D.honest disk.new }
     ensures ok { D.honest disk.old → IfOk result (λ bytes. bytes.items ≡ D.seen disk.old file) }
     ensures looks { D.honest disk.old → Looks D.moment D.left D.seen disk.old disk.new }
     ensures failures { D.failed disk.old ≤ D.failed disk.new }

@@ -1,5 +1,5 @@
 //! A write that is synced.
-ghost use Rattle.std.specs.Prelude.{◌+◌, ◌≤◌, ◌↔◌, length, OnOk};
+ghost use Rattle.std.specs.Prelude.{◌+◌, ◌≤◌, length, OnOk};
 ghost use Rattle.disk_model.specs.Disk.{FromLeft, Leaves, TornIn, Synced, Put, Called, HasCause};
 
 use crate::{Disk, DiskFault, FileId};
@@ -18,7 +18,8 @@ pub fn write_synced<D: Disk>(
     bytes: &[u8],
 ) -> Result<(), DiskFault>
     requires { D.honest disk.old → at ≤ length (D.seen disk.old file) }
-    ensures honest { D.honest disk.old ↔ D.honest disk.new }
+    ensures honest { D.honest disk.new → D.honest disk.old }
+    ensures stays_honest { OnOk result (D.honest disk.old → D.honest disk.new) }
     ensures written { D.honest disk.old
         → OnOk result (Put file at bytes.now (D.seen disk.old) (D.seen disk.new)) }
     ensures synced { D.honest disk.old

@@ -1,16 +1,16 @@
 //! The files of a directory are opened.
-ghost use Rattle.std.specs.Prelude.{◌≡◌, IfOk};
+ghost use Rattle.std.specs.Prelude.{◌≡◌, ◌≢◌, ◌/◌, ◌%◌, ◌⊎◌, ◌↔◌, IfOk, IsTrue};
 ghost use Rattle.file_disk.specs.Named.{file_name};
 ghost use Rattle.file_disk.specs.Refused.{IsLockToldAs, IsToldAs, IsToldOf};
 ghost use Rattle.file_disk.specs.declared.opening.OpenError.TheVariants.{NoMemory};
 
-use crate::FileDisk;
+use crate::{Directory, FileDisk, HeldFile, open_in};
 use disk_model::FileId;
 use std::alloc::AllocError;
-use std::fs::{self, File, OpenOptions, TryLockError};
+use std::fs::{self, File, Metadata, OpenOptions, TryLockError};
 use std::io::{self, ErrorKind};
 use std::os::fd::AsRawFd;
-use std::os::unix::fs::{FileExt, OpenOptionsExt};
+use std::os::unix::fs::{MetadataExt, OpenOptionsExt, PermissionsExt};
 
 /// Why the files of a directory can't be had.
 #[derive(Clone, Copy, Debug, Drop, thiserror::Error)]
@@ -24,6 +24,12 @@ pub enum OpenError {
     /// What stands at the name of this file is none.
     #[error("{name} there is no regular file: move it away", name = name_of(*.0))]
     NotFile(FileId),
+    /// Both names lead to one file.
+    #[error("natgw.a and natgw.b are one file there: move one of them away")]
+    OneFile,
+    /// A name led to another file, or the path to another directory, before the files were open.
+    #[error("that directory was changed while it was opened: start again")]
+    Changed,
     /// Another program has the files.
     #[error("another program works in that directory: stop it, or name another one")]
     Locked,
@@ -69,7 +75,7 @@ impl From<TryLockError> for OpenError {
 }
 
 // The error of this file, where the system refused a call on it.
-fn of_file(file: FileId, error: OpenError) -> OpenError
+pub(crate) fn of_file(file: FileId, error: OpenError) -> OpenError
     ensures { IsToldOf file error result }
 {
     match error {
@@ -88,6 +94,21 @@ pub fn name_of(file: FileId) -> &'static str
     }
 }
 
+/// The file of a disk whose name was found to lead elsewhere, or nowhere (`FileDisk::strayed`). Its text is one line.
+#[derive(Clone, Copy, Debug, PartialEq, Eq, Drop, thiserror::Error)]
+#[error("{name} was removed, renamed or replaced: put it back if you have it, and start anew", name = name_of(*.0))]
+pub struct Strayed(pub FileId);
+
+// The other one of the two files.
+fn other(file: FileId) -> FileId
+    ensures { result ≢ file }
+{
+    match file {
+        FileId::A => FileId::B,
+        FileId::B => FileId::A,
+    }
+}
+
 // A directory, to be synced.
 fn open_directory(rt: &HostRuntime, directory: &str) -> Result<File, OpenError> {
     match fs::metadata(rt, directory) {
@@ -101,86 +122,138 @@ fn open_directory(rt: &HostRuntime, directory: &str) -> Result<File, OpenError> 
     }
 }
 
-// One of the files, made where it is missing, and locked until it is closed.
-fn open_file(rt: &HostRuntime, directory: &str, id: FileId) -> Result<File, OpenError> {
-    let path = format!(in rt.alloc(); "{directory}/{}", name_of(id))?;
-    let mut file = OpenOptions::new()
-        .read(true)
-        .write(true)
-        .create(true)
-        .mode(0o600)
-        .open(rt, path.as_str())?;
-    // What is printed on a standard stream that was closed must not land in the file.
-    if file.as_raw_fd() <= 2 {
-        file = file.try_clone()?;
+// A file, made if it is missing. A link that leads nowhere isn't followed: a file is only made if nothing stands there.
+fn open_or_make(rt: &HostRuntime, path: &str, id: FileId) -> Result<File, OpenError> {
+    let mut how = OpenOptions::new();
+    how.read(true).write(true).mode(0o600);
+    match how.open(rt, path) {
+        Ok(file) => return Ok(file),
+        Err(error) if error.kind() == ErrorKind::NotFound => {}
+        Err(error) => return Err(OpenError::from(error)),
     }
-    if !file.metadata()?.is_file() {
-        return Err(OpenError::NotFile(id));
+    match how.create_new(true).open(rt, path) {
+        Ok(file) => Ok(file),
+        Err(error) if error.kind() == ErrorKind::AlreadyExists => Err(OpenError::NotFile(id)),
+        Err(error) => Err(OpenError::from(error)),
     }
-    file.try_lock()?;
-    Ok(file)
+}
+
+// The directory of the system at a path, which is open.
+#[derive(Drop)]
+struct SystemDirectory<'a> {
+    rt: &'a HostRuntime,
+    path: &'a str,
+    folder: File,
+}
+
+impl SystemDirectory<'_> {
+    fn path_of(&self, id: FileId) -> Result<String, AllocError> {
+        format!(in self.rt.alloc(); "{}/{}", self.path, name_of(id))
+    }
+
+    // Looks whether the name leads to this file, not through a link, and the other name to another one.
+    fn look(&self, file: &File, id: FileId, path: &str) -> Result<(), OpenError> {
+        let open = file.metadata()?;
+        let named = fs::symlink_metadata(self.rt, path)?;
+        if !open.is_file() || named.is_symlink() {
+            return Err(OpenError::NotFile(id));
+        }
+        if !is_one(&open, &named) {
+            return Err(OpenError::Changed);
+        }
+        match fs::symlink_metadata(self.rt, self.path_of(other(id))?.as_str()) {
+            Ok(beside) if is_one(&open, &beside) => Err(OpenError::OneFile),
+            _ => Ok(()),
+        }
+    }
+}
+
+// Whether both are of one file of the system: of one device, with one number there.
+fn is_one(first: &Metadata, second: &Metadata) -> bool {
+    first.dev() == second.dev() && first.ino() == second.ino()
+}
+
+impl Directory for SystemDirectory<'_> {
+    type File = HeldFile;
+
+    ghost gives = { λ _ _ _. Unit {0} };
+
+    fn open_file(&self, id: FileId) -> Result<HeldFile, OpenError> {
+        match self.held(id) {
+            Ok(file) => Ok(file),
+            Err(error) => Err(of_file(id, error)),
+        }
+    }
+
+    fn sync_names(&self) -> Result<(), OpenError> {
+        self.folder.sync_all()?;
+        if !is_one(&fs::metadata(self.rt, self.path)?, &self.folder.metadata()?) {
+            return Err(OpenError::Changed);
+        }
+        Ok(())
+    }
+}
+
+impl SystemDirectory<'_> {
+    // One of the files, made if it is missing, and locked until it is closed.
+    fn held(&self, id: FileId) -> Result<HeldFile, OpenError> {
+        let path = self.path_of(id)?;
+        let mut file = open_or_make(self.rt, path.as_str(), id)?;
+        // What is printed on a standard stream that was closed must not land in the file.
+        if file.as_raw_fd() <= 2 {
+            file = file.try_clone()?;
+        }
+        self.look(&file, id, path.as_str())?;
+        file.try_lock()?;
+        Ok(HeldFile::of(self.rt.alloc(), file)?)
+    }
 }
 
 // So many bytes a new file has: half as many as its groups take before the other one is made anew (`MOST_GROWN` of
-// `socket_edge::serving`). An opening reads them.
+// `socket_edge::serving`). An opening reads them. A write that makes a file longer has its sync keep the new length as
+// well, which costs the device another write.
 const ROOM: u64 = 524_288;
 
-// Makes an empty file long, in zeros: a write that makes a file longer has its sync keep the new length as well, which
-// costs the device another write. The first byte is kept before, so that the file's gate is closed whatever a loss of
-// power leaves behind it.
-fn make_room(file: &File) -> Result<(), OpenError> {
-    if file.metadata()?.len() == 0 {
-        file.write_all_at(&[0], 0)?;
-        file.sync_data()?;
-        file.set_len(ROOM)?;
-    }
-    Ok(())
-}
-
-// Syncs a file, and asks the system to drop its copy in memory, which the system may refuse, or leave undone and not
-// tell: behind a sync that failed, of an earlier run say, that copy may differ from what the device has.
-fn sync_and_uncache(file: &File) -> Result<(), OpenError> {
-    file.sync_all()?;
-    let _ = libc::posix_fadvise(file.as_raw_fd(), 0, 0, libc::POSIX_FADV_DONTNEED);
-    Ok(())
-}
-
-// One of the files, opened, made long where it is empty, and synced.
-fn synced_file(rt: &HostRuntime, directory: &str, id: FileId) -> Result<File, OpenError> {
-    let file = open_file(rt, directory, id)?;
-    make_room(&file)?;
-    sync_and_uncache(&file)?;
-    Ok(file)
-}
-
-// One of the files, or what is the matter with it.
-fn file_in(rt: &HostRuntime, directory: &str, id: FileId) -> Result<File, OpenError> {
-    match synced_file(rt, directory, id) {
-        Ok(file) => Ok(file),
-        Err(error) => Err(of_file(id, error)),
-    }
-}
-
-impl FileDisk<File> {
+impl FileDisk {
     /// Opens the files `natgw.a` and `natgw.b` of a directory, makes those that are missing, with access for their
-    /// owner alone, and locks both until the disk is dropped. A file that is made, or is empty, has 524,288 zeros then.
-    /// Both and the directory are synced, so that a loss of power leaves no file without its name.
+    /// owner alone, and locks both until the disk is dropped. A file that is made, or is empty, has 524,288 zeros then,
+    /// if there is space for them; of others nothing is changed. Both and the directory are synced, so that a loss of
+    /// power leaves no file without its name. No link is followed to a file.
     ///
     /// # Errors
     ///
-    /// - `Missing` where there is no such directory. It isn't made.
-    /// - `NotDirectory` where that is none, `NotFile` where a file is no regular one.
-    /// - `Locked` where another program has the files, or a second disk of this one.
-    /// - `NoMemory` where memory is refused.
-    /// - `File` where another call of the system on a file fails, `System` where one on the directory does.
-    pub fn open(rt: &HostRuntime, directory: &str) -> Result<FileDisk<File>, OpenError>
+    /// - `Missing` if there is no such directory. It isn't made.
+    /// - `NotDirectory` if that is none, `NotFile` if a file is no regular one, `OneFile` if both names lead to one.
+    /// - `Locked` if another program has the files, or a second disk of this one.
+    /// - `Changed` if a file or the directory was replaced meanwhile.
+    /// - `NoMemory` if memory is refused.
+    /// - `File` if another call of the system on a file fails, `System` if one on the directory does.
+    pub fn open(rt: &HostRuntime, directory: &str) -> Result<FileDisk, OpenError>
         ensures calls { IfOk result (λ disk. disk.calls ≡ 0) }
         ensures failures { IfOk result (λ disk. disk.failures ≡ 0) }
     {
         let folder = open_directory(rt, directory)?;
-        let a = file_in(rt, directory, FileId::A)?;
-        let b = file_in(rt, directory, FileId::B)?;
-        folder.sync_all()?;
-        Ok(FileDisk::of(a, b))
+        let directory = SystemDirectory {
+            rt,
+            path: directory,
+            folder,
+        };
+        open_in(&directory, ROOM)
     }
+}
+
+/// Whether others than its owner may write to a directory, so make, remove or replace files there.
+///
+/// # Errors
+///
+/// Why that can't be told.
+pub fn others_may_write(rt: &HostRuntime, directory: &str) -> io::Result<bool> {
+    Ok(lets_others_write(fs::metadata(rt, directory)?.permissions().mode()))
+}
+
+// Whether the bits of its mode let the group or all others write.
+fn lets_others_write(mode: u32) -> bool
+    ensures { IsTrue result ↔ ((mode / 16 % 2 ≡ 1) ⊎ (mode / 2 % 2 ≡ 1)) }
+{
+    mode / 0o020 % 2 == 1 || mode / 0o002 % 2 == 1
 }

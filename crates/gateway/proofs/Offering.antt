@@ -22,6 +22,7 @@ use Rattle.entries.proofs.Needed.{empty-needs, needs-empty, some-entries}
 use Rattle.gateway.specs.Given.{handed, number_of}
 use Rattle.gateway.specs.Told.{Took}
 use Rattle.gateway.specs.declared.given.Given.{Given}
+use Rattle.gateway.specs.declared.given.Given.TheVariants as given
 use Rattle.gateway.specs.Kept.{IsRoomy, LeadsToPresent}
 
 -- the entries of one more event make what the files stand for the present state
@@ -113,3 +114,9 @@ took_in config own s new last held mid after event judged answer given is_judged
   order = order ∙ ap (λ (h : List (ℕ × Answer)). h ++ (last + 1, answer) ∷ []) stays
       ∙ ap (λ (a : Answer). held ++ (last + 1, a) ∷ []) (sym (ap (λ (p : State × Answer). p.1) steps));
 }
+
+-- an event whose answer is handed out, so that none is held, found none held
+pub held_before : (given : Given) (before now : List (ℕ × Answer)) (one : ℕ × Answer) → handed given ++ now ≡ before ++ one ∷ [] → now ≡ [] → before ≡ []
+held_before (given.Now number answer) before now one order none =
+    nil_from_length before (omega (arith, ap length order, ap length none, length-append before (one ∷ [])))
+held_before (given.Held number) before now one order none = absurd (omega (arith, ap length order, ap length none, length-append before (one ∷ [])))

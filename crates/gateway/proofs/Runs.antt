@@ -31,7 +31,7 @@ use Rattle.gateway.proofs.Standings.{offered-on, settled-on}
 
 -- ---- the events and their answers
 
-length-numbered : (last : ℕ) (xs : List Answer) → length (numbered last xs) ≡ length xs
+pub length-numbered : (last : ℕ) (xs : List Answer) → length (numbered last xs) ≡ length xs
 length-numbered last [] = refl
 length-numbered last (x ∷ xs) = ap suc (length-numbered (last + 1) xs)
 
@@ -142,7 +142,7 @@ offers now next event (Held number) first t at_once =
 
 module _ {D : Type 0} (honest : D → Type 0) (moment : D → ℕ) (left : D → ℕ → Files → Type 0) (seen : D → Files) (failed : D → ℕ)
     (reads : (disk : D) → honest disk → left disk (moment disk) (seen disk))
-    (earlier : (disk : D) (s t : ℕ) (files : Files) → honest disk → s ≤ t → left disk t files → left disk s files) (start : Kept D) where
+    (earlier : (disk : D) (s t : ℕ) (files : Files) → s ≤ t → left disk t files → left disk s files) (start : Kept D) where
   abbrev Safe : List Event → ℕ → Files → Type 0
   Safe events n = IsSafe start.told.config start.told.state events n
 
@@ -159,7 +159,8 @@ module _ {D : Type 0} (honest : D → Type 0) (moment : D → ℕ) (left : D →
         ran = record {
           took = took_none start.told;
           stood = stands;
-          keeps_honest = (λ h. h, λ h. h);
+          was_honest = λ h. h;
+          stays_honest = λ up h. h;
           any_moment = λ ready. idle moment left start.disk (Safe [] 0) (λ files now.
               record { count = 0; answered = omega arith; within = omega arith; judged = []; are_judged = tt; recovers = leaves ready files now });
           configured = λ h. idle moment left start.disk (IsConfigured start.told.config) (configured h);
@@ -181,13 +182,13 @@ module _ {D : Type 0} (honest : D → Type 0) (moment : D → ℕ) (left : D →
 
   module _ (now : Kept D) (events : List Event) (out : List (ℕ × Answer)) (s : Stands honest moment left failed start now events out) where
     ready-now : IsAtRest honest start → honest now.disk
-    ready-now ready = s.ran.keeps_honest.0 ready.is_honest
+    ready-now ready = s.ran.stays_honest s.stands ready.is_honest
 
     answered : IsAtRest honest start → length events - length now.told.held ≡ length out
     answered ready = omega (arith, counted start.told now.told events out s.ran.took, ap length ready.none)
 
     -- what the files stand for, and the present state, are safe
-    either : (ready : IsAtRest honest start) (files : Files) → RecoversEither (s.rests ready).durable (lasting now.told.state) files → Safe events (length out) files
+    pub either : (ready : IsAtRest honest start) (files : Files) → RecoversEither (s.rests ready).durable (lasting now.told.state) files → Safe events (length out) files
     either ready files is =
         let r = s.rests ready in
         subst (λ (n : ℕ). Safe events n files) (answered ready)
@@ -200,23 +201,21 @@ module _ {D : Type 0} (honest : D → Type 0) (moment : D → ℕ) (left : D →
     pub ended : Ends honest moment left failed start now events out
     ended = record { ran = s.ran; at_exit = λ ready files left_now. either ready files (inl ((s.rests ready).leaves files left_now)) }
 
-    module _ (next : Kept D) (keeps : honest now.disk ↔ honest next.disk)
+    module _ (next : Kept D) (was : honest next.disk → honest now.disk) (stays : next.fallen ≡ false → honest now.disk → honest next.disk)
         (configured : now.fallen ≡ false → honest now.disk → LeavesOnly moment left now.disk next.disk (IsConfigured now.told.config)) where
-      next-honest : IsAtRest honest start → honest next.disk
-      next-honest ready = keeps.0 (ready-now ready)
-
       ran-on : (others : List (ℕ × Answer)) → TookAll start.told next.told events others
           → (IsAtRest honest start → LeavesOnly moment left now.disk next.disk (Safe events (length out))) → Ran honest moment left failed start next events others
       ran-on others took safe = record {
         took = took;
         stood = s.ran.stood;
-        keeps_honest = (λ h. keeps.0 (s.ran.keeps_honest.0 h), λ h. s.ran.keeps_honest.1 (keeps.1 h));
+        was_honest = λ h. s.ran.was_honest (was h);
+        stays_honest = λ up h. stays up (s.ran.stays_honest s.stands h);
         any_moment = λ ready. only_then moment left start.disk now.disk next.disk (Safe events 0) (Safe events (length out)) (Safe events 0)
-            (λ s t files le since. earlier now.disk s t files (ready-now ready) le since) (s.ran.any_moment ready) (safe ready) (λ files is. is) (λ files is. any files (length out) is);
+            (earlier now.disk) (s.ran.any_moment ready) (safe ready) (λ files is. is) (λ files is. any files (length out) is);
         configured = λ h.
-            let there = s.ran.keeps_honest.0 h in
+            let there = s.ran.stays_honest s.stands h in
             only_then moment left start.disk now.disk next.disk (IsConfigured start.told.config) (IsConfigured start.told.config) (IsConfigured start.told.config)
-            (λ s t files le since. earlier now.disk s t files there le since) (s.ran.configured h)
+            (earlier now.disk) (s.ran.configured h)
             (subst (λ (c : Config). LeavesOnly moment left now.disk next.disk (IsConfigured c)) s.ran.took.config (configured s.stands there))
             (λ files is. is) (λ files is. is);
       }
@@ -224,7 +223,7 @@ module _ {D : Type 0} (honest : D → Type 0) (moment : D → ℕ) (left : D →
       ends-on : next.told ≡ now.told → (IsAtRest honest start → LeavesOnly moment left now.disk next.disk (Safe events (length out))) → Ends honest moment left failed start next events out
       ends-on same safe = record {
         ran = ran-on out (subst (λ (t : Told). TookAll start.told t events out) (sym same) s.ran.took) safe;
-        at_exit = λ ready. only_now moment left now.disk next.disk (Safe events (length out)) (λ s t files le since. earlier next.disk s t files (next-honest ready) le since) (safe ready);
+        at_exit = λ ready. only_now moment left now.disk next.disk (Safe events (length out)) (earlier next.disk) (safe ready);
       }
 
       -- a flush: what a crash leaves of it is safe, whatever comes of it
@@ -278,7 +277,7 @@ module _ {D : Type 0} (honest : D → Type 0) (moment : D → ℕ) (left : D →
               record {
                 durable = lasting now.told.state;
                 leaves = only_now moment left now.disk next.disk (λ files. Recovers files (lasting now.told.state))
-                    (λ s t files le since. earlier next.disk s t files (next-honest ready) le since) (any_moment s.stands (ready-now ready));
+                    (earlier next.disk) (any_moment s.stands (ready-now ready));
                 judged = r.judged;
                 are_judged = r.are_judged;
                 stands_for = settled-on start.told.config start.told.state r.judged (standing r.durable now) (standing (lasting now.told.state) next) r.stands_for
@@ -300,7 +299,8 @@ module _ {D : Type 0} (honest : D → Type 0) (moment : D → ℕ) (left : D →
           ran = record {
             took = took_more start.told now.told next.told events event out given s.ran.took t;
             stood = s.ran.stood;
-            keeps_honest = subst (λ (d : D). honest start.disk ↔ honest d) (sym disk) s.ran.keeps_honest;
+            was_honest = subst (λ (d : D). honest d → honest start.disk) (sym disk) s.ran.was_honest;
+            stays_honest = λ up h. subst (λ (d : D). honest d) (sym disk) (s.ran.stays_honest s.stands h);
             any_moment = λ ready. subst (λ (d : D). LeavesOnly moment left start.disk d (Safe (events ++ event ∷ []) 0)) (sym disk)
                 (narrows moment left start.disk now.disk (λ before files. Safe events 0 files) (λ before files. Safe (events ++ event ∷ []) 0 files) (s.ran.any_moment ready)
                 (λ before files was is. safe-less start.told.config start.told.state events (event ∷ []) 0 0 files (omega arith) is));

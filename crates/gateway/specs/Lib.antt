@@ -10,3 +10,7 @@ pub mod Kept
 pub mod Standing
 -- How far a run has come.
 pub mod Running
+-- One life after another, each over what the one before may have left.
+pub mod Lives
+-- That the calls make such lives.
+pub mod Living

@@ -32,7 +32,8 @@ module _ {D : Type 0} (honest : D → Type 0) (moment : D → ℕ) (left : D →
   pub record Ran (events : List Event) (out : List (ℕ × Answer)) : Type 0 where
     pub took : TookAll start.told now.told events out
     pub stood : start.fallen ≡ false
-    pub keeps_honest : honest start.disk ↔ honest now.disk
+    pub was_honest : honest now.disk → honest start.disk
+    pub stays_honest : now.fallen ≡ false → honest start.disk → honest now.disk
     pub any_moment : IsAtRest honest start
         → LeavesOnly moment left start.disk now.disk
         (IsSafe start.told.config start.told.state events 0)

@@ -58,10 +58,12 @@ pub struct Gateway<D: Disk + Drop> {
     last: u64,
     pending: Pending,
     migrated: bool,
+    /// Whether each answer that is held was told in place.
+    in_place: bool,
 }
 
 impl<D: Disk + Drop> Model for Gateway<D> {
-    ghost use Rattle.std.specs.Prelude.{◌≡◌, ◌+◌, [], length, false};
+    ghost use Rattle.std.specs.Prelude.{◌≡◌, ◌+◌, [], length, false, true};
     ghost use Rattle.durable.specs.Coding.{body_bytes};
     ghost use Rattle.gateway.specs.Kept.{Kept, LeadsToPresent};
 
@@ -73,6 +75,7 @@ impl<D: Disk + Drop> Model for Gateway<D> {
       generation = g.store.generation;
       grown = g.store.grown;
       migrated = g.migrated;
+      in_place = g.in_place;
       filled = g.pending.place + length (body_bytes g.pending.entries);
       told = record {
         config = g.core.config;
@@ -86,7 +89,8 @@ impl<D: Disk + Drop> Model for Gateway<D> {
         × (g.pending.held ≡ [] → g.pending.entries ≡ [])
         × (g.store.fallen ≡ false → g.pending.place ≡ g.store.end)
         × (g.store.fallen ≡ false → D.honest g.store.disk
-        → LeadsToPresent g.core.config (D.seen g.store.disk) g.pending.entries g.core.state) };
+        → LeadsToPresent g.core.config (D.seen g.store.disk) g.pending.entries g.core.state)
+        × (g.pending.held ≡ [] → g.in_place ≡ true) };
 }
 
 impl<D: Disk + Drop> Gateway<D> {
@@ -98,7 +102,6 @@ impl<D: Disk + Drop> Gateway<D> {
     /// # Errors
     ///
     /// The disk comes back.
-    ///
     /// - `Device` where a call of the disk has failed, which is the last one made. The files stand for what they stood
     ///   for.
     /// - `Damaged` only where the files, as they read, stand for no state. They are not changed.
@@ -117,7 +120,9 @@ impl<D: Disk + Drop> Gateway<D> {
         moment: u64,
     ) -> Result<Gateway<D>, (D, OpenFault)>
         ensures honest { MatchResult result (λ g. D.honest disk ↔ D.honest g.disk)
-            (λ e. D.honest disk ↔ D.honest e.0) }
+            (λ e. D.honest e.0 → D.honest disk) }
+        ensures stays_honest { IfErr result (λ e. ¬ (e.1 ≡ OpenFault.Device)
+            → D.honest disk → D.honest e.0) }
 
         // Whatever a crash leaves since the entry stands for what some pair left at the entry stands for.
         ensures any_moment { D.honest disk
@@ -203,6 +208,7 @@ impl<D: Disk + Drop> Gateway<D> {
                     last: 0,
                     pending,
                     migrated,
+                    in_place: true,
                 }),
                 Err(NoMemory) => Err((store.into_disk(), OpenFault::NoMemory)),
             },
@@ -253,6 +259,7 @@ impl<D: Disk + Drop> Gateway<D> {
 
         // Their group, and the closed gate behind it, end within the greatest length of a file.
         ensures fits { self.now.told.held ≢ [] → self.now.filled + 6 ≤ 67108864 }
+        ensures in_place { self.now.told.held ≡ [] → self.now.in_place ≡ true }
     {
         self.pending.len()
     }
@@ -277,8 +284,6 @@ impl<D: Disk + Drop> Gateway<D> {
             → Recovers (D.seen self.now.disk) (lasting self.now.told.state) }
         ensures configured { result ≡ false → D.honest self.now.disk
             → LeavesNow D.moment D.left self.now.disk (IsConfigured self.now.told.config) }
-
-        // The groups of the active file end no later than the entries that wait.
         ensures groups { result ≡ false → D.honest self.now.disk → (end : ℕ)
             × GroupsEndAt (D.seen self.now.disk) self.now.generation self.now.grown end
             × (end ≤ self.now.filled) }
@@ -307,7 +312,6 @@ impl<D: Disk + Drop> Gateway<D> {
     ///
     /// The event comes back, and nothing has changed: it has no number, the clock stays, and no session ends. The first
     /// three come in this order, and before the others.
-    ///
     /// - `Reopen` exactly where a call of the disk has failed before.
     /// - `NumbersOut` exactly where the last number was 2^64 - 1.
     /// - `HeldFull` exactly where 64 answers are held.
@@ -335,6 +339,9 @@ impl<D: Disk + Drop> Gateway<D> {
             × IsJudged self.old.told.config event judged
             × AreEntriesOf self.old.told.config self.old.told.state judged entries
             × (self.new.filled ≡ self.old.filled + length (body_bytes entries))) }
+
+        // An answer that it holds is not told.
+        ensures in_place { OnOk result (self.new.in_place ≡ true → self.new.told.held ≡ []) }
         ensures err { IfErr result (λ e. (e.0 ≡ event) × (self.new ≡ self.old)) }
         ensures reopen { IfErr result (λ e. (e.1 ≡ GatewayFault.Reopen)
             ↔ (self.old.fallen ≡ true)) }
@@ -374,7 +381,9 @@ impl<D: Disk + Drop> Gateway<D> {
         match self.core.step_noted(event, &mut self.pending) {
             Ok(answer) => {
                 self.last += 1;
-                Ok(give(&mut self.pending, self.last, answer))
+                let given = give(&mut self.pending, self.last, answer);
+                self.in_place = self.pending.is_quiet();
+                Ok(given)
             }
             Err((event, fault)) => Err((event, why_refused(fault))),
         }
@@ -473,17 +482,16 @@ impl<D: Disk + Drop> Gateway<D> {
             (record { moment = moment; what = Packet iface packet.old })
             (given_by taken packet.new)) }
 
-        // Its answer has the packet as it lies there then.
+        // Its answer has the packet as it lies there then, and counts as told.
         ensures answer { IfSome result (λ taken.
             handed (given_by taken packet.new) ++ self.new.told.held
             ≡ self.old.told.held ++ answer_given taken packet.new ∷ []) }
+        ensures in_place { self.new.in_place ≡ self.old.in_place }
         ensures now { IfSome result (λ taken. (judged : Judged)
             → IsJudged self.old.told.config
             (record { moment = moment; what = Packet iface packet.old }) judged
             → IsNow (given_by taken packet.new) ↔ ((self.old.told.held ≡ [])
             × ¬ HasEntry self.old.told.config self.old.told.state judged)) }
-
-        // What waits has grown by the entries of the event.
         ensures filled { OnSome result ((judged : Judged) × (entries : List Entry)
             × IsJudged self.old.told.config
             (record { moment = moment; what = Packet iface packet.old }) judged
@@ -533,11 +541,12 @@ impl<D: Disk + Drop> Gateway<D> {
     /// # Errors
     ///
     /// The answers stay held.
-    ///
     /// - `Reopen` exactly where a call of the disk has failed before. The disk stays.
     /// - `Device` where a call of the disk has failed, which is the last one made. The gateway has fallen.
     pub fn flush(&mut self) -> Result<Vec<(u64, Answer)>, GatewayFault>
-        ensures honest { D.honest self.old.disk ↔ D.honest self.new.disk }
+        ensures honest { D.honest self.new.disk → D.honest self.old.disk }
+        ensures stays_honest { self.new.fallen ≡ false
+            → D.honest self.old.disk → D.honest self.new.disk }
 
         // A crash at any moment leaves the state that the files stood for, or the present one.
         ensures any_moment { self.old.fallen ≡ false → D.honest self.old.disk → (durable : Durable)
@@ -547,8 +556,6 @@ impl<D: Disk + Drop> Gateway<D> {
         ensures configured { self.old.fallen ≡ false → D.honest self.old.disk
             → LeavesOnly D.moment D.left self.old.disk self.new.disk
             (IsConfigured self.old.told.config) }
-
-        // After Ok the present one is left.
         ensures ok { D.honest self.old.disk
             → OnOk result (LeavesNow D.moment D.left self.new.disk
             (λ files. Recovers files (lasting self.old.told.state))) }
@@ -565,8 +572,6 @@ impl<D: Disk + Drop> Gateway<D> {
         ensures causes { IfErr result (λ e. (e ≡ GatewayFault.Reopen) ⊎ (e ≡ GatewayFault.Device)) }
         ensures device { IsErrOf result GatewayFault.Device
             → Grew (D.failed self.old.disk) (D.failed self.new.disk) }
-
-        // No call of the disk follows one that has failed, since that one might fail too.
         ensures by_one { D.failed self.new.disk ≤ D.failed self.old.disk + 1 }
         ensures no_failure { OnOk result (D.failed self.new.disk ≡ D.failed self.old.disk) }
 
@@ -585,25 +590,27 @@ impl<D: Disk + Drop> Gateway<D> {
             return Ok(Vec::new(self.alloc));
         }
         match self.store.commit(self.pending.group()) {
-            Ok(()) => Ok(self.pending.release(self.store.end())),
+            Ok(()) => {
+                self.in_place = true;
+                Ok(self.pending.release(self.store.end()))
+            }
             Err(CommitFault::Device) => Err(GatewayFault::Device),
             // The group fits its file (`fits` of `Pending::group`).
             Err(CommitFault::Full) => unreachable!(),
         }
     }
 
-    /// As `flush`, for whoever has the held answers already, as `offer_in_place` told them: they are let go.
+    /// As `flush`, for whoever has the held answers already, as `offer_in_place` told them: they are let go. It asks
+    /// that each answer that is held was told so. What else is said of `flush` is said of it, by the same clauses.
     ///
     /// # Errors
     ///
-    /// The answers stay held.
-    ///
-    /// - `Reopen` exactly where a call of the disk has failed before. The disk stays.
-    /// - `Device` where a call of the disk has failed, which is the last one made. The gateway has fallen.
+    /// Those of `flush`. The answers stay held.
     pub fn settle(&mut self) -> Result<(), GatewayFault>
-        ensures honest { D.honest self.old.disk ↔ D.honest self.new.disk }
-
-        // A crash at any moment leaves the state that the files stood for, or the present one.
+        requires in_place { self.old.in_place ≡ true }
+        ensures honest { D.honest self.new.disk → D.honest self.old.disk }
+        ensures stays_honest { self.new.fallen ≡ false
+            → D.honest self.old.disk → D.honest self.new.disk }
         ensures any_moment { self.old.fallen ≡ false → D.honest self.old.disk → (durable : Durable)
             → Recovers (D.seen self.old.disk) durable
             → LeavesOnly D.moment D.left self.old.disk self.new.disk
@@ -611,8 +618,6 @@ impl<D: Disk + Drop> Gateway<D> {
         ensures configured { self.old.fallen ≡ false → D.honest self.old.disk
             → LeavesOnly D.moment D.left self.old.disk self.new.disk
             (IsConfigured self.old.told.config) }
-
-        // After Ok the present one is left.
         ensures ok { D.honest self.old.disk
             → OnOk result (LeavesNow D.moment D.left self.new.disk
             (λ files. Recovers files (lasting self.old.told.state))) }
@@ -628,12 +633,8 @@ impl<D: Disk + Drop> Gateway<D> {
         ensures causes { IfErr result (λ e. (e ≡ GatewayFault.Reopen) ⊎ (e ≡ GatewayFault.Device)) }
         ensures device { IsErrOf result GatewayFault.Device
             → Grew (D.failed self.old.disk) (D.failed self.new.disk) }
-
-        // No call of the disk follows one that has failed, since that one might fail too.
         ensures by_one { D.failed self.new.disk ≤ D.failed self.old.disk + 1 }
         ensures no_failure { OnOk result (D.failed self.new.disk ≡ D.failed self.old.disk) }
-
-        // The group that was written has 5 bytes beside its entries.
         ensures filled { D.honest self.old.disk → self.old.told.held ≢ []
             → OnOk result (self.new.filled ≡ self.old.filled + 5) }
         ensures idle { self.old.told.held ≡ [] → (self.new.disk ≡ self.old.disk)
@@ -649,6 +650,7 @@ impl<D: Disk + Drop> Gateway<D> {
         }
         let Err(fault) = self.store.commit(self.pending.group()) else {
             self.pending.let_go(self.store.end());
+            self.in_place = true;
             return Ok(());
         };
         match fault {
@@ -670,7 +672,9 @@ impl<D: Disk + Drop> Gateway<D> {
     /// - `Generations` only where the active file has the greatest generation, 2^64 - 1. Nothing changes.
     pub fn compact(&mut self) -> Result<(), GatewayFault>
         requires { self.old.told.held ≡ [] }
-        ensures honest { D.honest self.old.disk ↔ D.honest self.new.disk }
+        ensures honest { D.honest self.new.disk → D.honest self.old.disk }
+        ensures stays_honest { self.new.fallen ≡ false
+            → D.honest self.old.disk → D.honest self.new.disk }
         ensures told { self.new.told ≡ self.old.told }
 
         // A crash at any moment leaves the present state.
@@ -693,8 +697,6 @@ impl<D: Disk + Drop> Gateway<D> {
             ⊎ (e ≡ GatewayFault.Device) ⊎ (e ≡ GatewayFault.Generations)) }
         ensures device { IsErrOf result GatewayFault.Device
             → Grew (D.failed self.old.disk) (D.failed self.new.disk) }
-
-        // No call of the disk follows one that has failed, since that one might fail too.
         ensures by_one { D.failed self.new.disk ≤ D.failed self.old.disk + 1 }
         ensures no_failure { OnOk result (D.failed self.new.disk ≡ D.failed self.old.disk) }
         ensures called { D.honest self.old.disk
@@ -712,6 +714,7 @@ impl<D: Disk + Drop> Gateway<D> {
             .compact(self.alloc, self.core.text(), sessions.as_slice())
         {
             Ok(()) => {
+                self.in_place = true;
                 let _ = self.pending.release(self.store.end());
                 Ok(())
             }
@@ -734,7 +737,9 @@ impl<D: Disk + Drop> Gateway<D> {
         &mut self,
         events: Vec<Event>,
     ) -> Result<Vec<(u64, Answer)>, (Vec<(u64, Answer)>, GatewayFault)>
-        ensures honest { D.honest self.old.disk ↔ D.honest self.new.disk }
+        ensures honest { D.honest self.new.disk → D.honest self.old.disk }
+        ensures stays_honest { self.new.fallen ≡ false
+            → D.honest self.old.disk → D.honest self.new.disk }
         ensures ok { IfOk result (λ answers. TookAll self.old.told self.new.told events.items
             answers.items) }
         ensures none { OnOk result (self.new.told.held ≡ []) }
@@ -753,8 +758,6 @@ impl<D: Disk + Drop> Gateway<D> {
             (length answers.items)))
             (λ e. LeavesNow D.moment D.left self.new.disk
             (IsSafe self.old.told.config self.old.told.state events.items (length e.0.items))) }
-
-        // With a fault, both are said of those that were taken.
         ensures within { self.old.fallen ≡ false
             → IfErr result (λ e. StopsWithin D.honest D.moment D.left D.failed self.old self.new
             events.items e.0.items e.1) }
@@ -775,8 +778,6 @@ impl<D: Disk + Drop> Gateway<D> {
             ↔ ((self.old.fallen ≡ false) × (self.new.fallen ≡ true))) }
         ensures device { IfErr result (λ e. e.1 ≡ GatewayFault.Device
             → Grew (D.failed self.old.disk) (D.failed self.new.disk)) }
-
-        // No call of the disk follows one that has failed, since that one might fail too.
         ensures by_one { D.failed self.new.disk ≤ D.failed self.old.disk + 1 }
     {
         if self.has_fallen() {

@@ -1,6 +1,25 @@
-//! What follows from the definitions of `specs/Standing`: each function is proved to meet its clause.
-//! The laws of every step are in `machine::laws`.
+//! What follows from the definitions of `specs/Standing`, `specs/Lives` and `specs/Living`: each function is proved to
+//! meet its clauses. The laws of every step are in `machine::laws`.
+//!
+//! - `calls_stand_for_the_model`: calls one by one, and what the files stand for between them
+//! - `lives_are_the_models`: gateways opened one after the other over the same files, each stopped at any moment
+//! - `goes_on_after_a_stop`: the plainest case of it
+//! - `open_in_lives`, `run_in_lives`, `flush_in_lives`, `settle_in_lives`, `compact_in_lives`: the calls of `Gateway`
+//!   that call the disk, each with the clauses that say that it makes such lives
+//! - `calls_are_lives`: so do the calls of `running`, which make these
+ghost use Rattle.std.specs.Prelude.{◌≡◌, ◌++◌, [], List, IfErr, IfOk, MatchResult, OnErr, OnOk, false, true};
+ghost use Rattle.packet.specs.Config.{Config};
+ghost use Rattle.machine.specs.declared.event.Event.{Event};
+ghost use Rattle.gateway.specs.Lives.{GoesOnAfterAStop, IsLife, LivesAreTheModels, Refused, Stopped};
+ghost use Rattle.gateway.specs.Living.{CallsAreLives, EndsLife, GoesOnInLife, RestsAgain, RestsInLife, RunsInLife, StopsInLife};
 ghost use Rattle.gateway.specs.Standing.{CallsStandForTheModel};
+
+use crate::calls::Gateway;
+use crate::{GatewayFault, OpenFault};
+use disk_model::Disk;
+use machine::{Answer, Event};
+use packet::Bounds;
+use std::alloc::Global;
 
 /// From a sound state, nothing held and files that stand for it: after any list of steps that are as `specs/Standing`
 /// defines an offer, a flush and a compaction, none of which a device fault ended, the files stand for what the model
@@ -8,4 +27,132 @@ ghost use Rattle.gateway.specs.Standing.{CallsStandForTheModel};
 /// calls of `Gateway` itself `AgreesWithModel` (`specs/Running`) says as much.
 pub fn calls_stand_for_the_model()
     ensures { CallsStandForTheModel }
+{}
+
+/// Gateways are opened one after the other with one configuration, each over files that the one before may have left,
+/// which was stopped at any moment, within any call, its opening too. Then no opening answers `Damaged` or
+/// `ConfigDiffers`. Each gateway begins again from what must survive of the model's state after some first events of
+/// the earlier lives, each in its turn, and these hold every event whose answer was given out. Every answer that it
+/// gives out is the model's from there on. Files of version 1 may be the first.
+///
+/// What a life is (`IsLife` of `specs/Lives`) is what the clauses of the calls say: the functions below, and
+/// `socket_edge::laws::runs_are_lives`, are proved to make such ones.
+pub fn lives_are_the_models<D: Disk>(_: &D)
+    ensures { (config : Config) → LivesAreTheModels D.honest D.moment D.left D.seen config }
+{}
+
+/// The plainest case: a gateway is opened over files of which none is open and is stopped at any moment, and another
+/// one is opened. It begins again from what must survive of the model's state after some first events, which hold every
+/// event whose answer was given out.
+pub fn goes_on_after_a_stop<D: Disk>(_: &D)
+    ensures { (config : Config) → GoesOnAfterAStop D.honest D.moment D.left D.seen config }
+{}
+
+/// Opens a gateway (`Gateway::open`). Stopped within it, or refused by it, that is a life; else the gateway that it
+/// gives is in its life.
+///
+/// # Errors
+///
+/// Those of `Gateway::open`.
+pub fn open_in_lives<D: Disk + Drop>(
+    alloc: Global,
+    disk: D,
+    bounds: Bounds,
+    moment: u64,
+) -> Result<Gateway<D>, (D, OpenFault)>
+    ensures stopped { D.honest disk → MatchResult result
+        (λ g. IsLife D.honest D.moment D.left D.seen bounds
+        (record { disk = disk; opened_at = moment; course = Stopped g.disk }))
+        (λ e. IsLife D.honest D.moment D.left D.seen bounds
+        (record { disk = disk; opened_at = moment; course = Stopped e.0 })) }
+    ensures refused { D.honest disk → IfErr result (λ e.
+        IsLife D.honest D.moment D.left D.seen bounds
+        (record { disk = disk; opened_at = moment; course = Refused e.0 e.1 })) }
+    ensures opened { D.honest disk → IfOk result (λ g.
+        RestsInLife D.honest D.moment D.left D.seen bounds disk moment g [] [] g) }
+{
+    Gateway::open(alloc, disk, bounds, moment)
+}
+
+/// Takes events (`Gateway::run`), for a gateway that rests in its life. Stopped within it, or after it, that is a life;
+/// if it ends well, the gateway rests again.
+///
+/// # Errors
+///
+/// Those of `Gateway::run`.
+pub fn run_in_lives<D: Disk + Drop>(
+    gateway: &mut Gateway<D>,
+    events: Vec<Event>,
+) -> Result<Vec<(u64, Answer)>, (Vec<(u64, Answer)>, GatewayFault)>
+    ensures ok { IfOk result (λ answers.
+        RunsInLife D.honest D.moment D.left D.seen gateway.old gateway.new events.items
+        answers.items
+        × RestsAgain D.honest D.moment D.left D.seen gateway.old gateway.new events.items
+        answers.items) }
+
+    // With a fault, this is said of those that were taken.
+    ensures err { gateway.old.fallen ≡ false → IfErr result (λ e. (front : List Event)
+        × (back : List Event) × (events.items ≡ front ++ back)
+        × RunsInLife D.honest D.moment D.left D.seen gateway.old gateway.new front e.0.items) }
+{
+    gateway.run(events)
+}
+
+/// Flushes (`Gateway::flush`), for a gateway in its life. Stopped within it, that is a life, in which no answer counts
+/// as given out that wasn't before. After it the gateway goes on in its life, with the answers that it handed out; with
+/// a fault, that is its end.
+///
+/// # Errors
+///
+/// Those of `Gateway::flush`.
+pub fn flush_in_lives<D: Disk + Drop>(
+    gateway: &mut Gateway<D>,
+) -> Result<Vec<(u64, Answer)>, GatewayFault>
+    ensures stopped { StopsInLife D.honest D.moment D.left D.seen D.failed gateway.old gateway.new }
+    ensures ok { IfOk result (λ answers. GoesOnInLife D.honest D.moment D.left D.seen D.failed
+        gateway.old gateway.new answers.items) }
+    ensures err { OnErr result (EndsLife D.honest D.moment D.left D.seen D.failed gateway.old
+        gateway.new) }
+{
+    gateway.flush()
+}
+
+/// Settles (`Gateway::settle`), for a gateway in its life: as `flush_in_lives`, but the answers count as given out that
+/// were held.
+///
+/// # Errors
+///
+/// Those of `Gateway::settle`.
+pub fn settle_in_lives<D: Disk + Drop>(gateway: &mut Gateway<D>) -> Result<(), GatewayFault>
+    requires { gateway.old.in_place ≡ true }
+    ensures stopped { StopsInLife D.honest D.moment D.left D.seen D.failed gateway.old gateway.new }
+    ensures ok { OnOk result (GoesOnInLife D.honest D.moment D.left D.seen D.failed gateway.old
+        gateway.new gateway.old.told.held) }
+    ensures err { OnErr result (EndsLife D.honest D.moment D.left D.seen D.failed gateway.old
+        gateway.new) }
+{
+    gateway.settle()
+}
+
+/// Compacts (`Gateway::compact`), for a gateway in its life that holds nothing. Stopped within it, that is a life.
+/// After it the gateway goes on in its life; with a fault, that is its end.
+///
+/// # Errors
+///
+/// Those of `Gateway::compact`.
+pub fn compact_in_lives<D: Disk + Drop>(gateway: &mut Gateway<D>) -> Result<(), GatewayFault>
+    requires { gateway.old.told.held ≡ [] }
+    ensures stopped { StopsInLife D.honest D.moment D.left D.seen D.failed gateway.old gateway.new }
+    ensures ok { OnOk result (GoesOnInLife D.honest D.moment D.left D.seen D.failed gateway.old
+        gateway.new []) }
+    ensures err { OnErr result (EndsLife D.honest D.moment D.left D.seen D.failed gateway.old
+        gateway.new) }
+{
+    gateway.compact()
+}
+
+/// Between two calls a stop is the end of a life. What the calls of `running` promise leads on in the life of a gateway
+/// (`CarriesOn`), or to its end (`BreaksOff`).
+pub fn calls_are_lives<D: Disk>(_: &D)
+    ensures { CallsAreLives D.honest D.moment D.left D.seen D.failed }
 {}

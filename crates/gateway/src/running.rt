@@ -11,7 +11,7 @@
 //! - `settle`: what is held is synced, for those who have its answers (`Gateway::settle`)
 //! - `compact`: what is held is handed out, and the files are made short (`Gateway::compact`)
 ghost use Rattle.std.specs.Prelude.{◌≡◌, ◌≢◌, ◌↔◌, ◌+◌, ◌<◌, ◌≤◌, ◌++◌, ◌∷◌, [], ℕ, List, false, length};
-ghost use Rattle.std.specs.Prelude.{IfErr, IfNone, IfSome, IsTrue, OnErr, OnOk, vec_capacity, vec_len};
+ghost use Rattle.std.specs.Prelude.{IfErr, IfNone, IfSome, IsTrue, OnErr, OnOk, true, vec_capacity, vec_len};
 ghost use Rattle.machine.specs.declared.event.Answer.{Answer};
 ghost use Rattle.machine.specs.declared.event.Answer.TheVariants.{Forward};
 ghost use Rattle.machine.specs.declared.event.What.TheVariants.{Packet};
@@ -142,6 +142,7 @@ pub fn take_in_place<D: Disk + Drop>(
         ≡ gateway.old.told.held ++ answer_given taken packet.new ∷ []) }
     ensures now { IfSome result (λ taken. IsNow (given_by taken packet.new)
         → gateway.old.told.held ≡ []) }
+    ensures in_place { gateway.new.in_place ≡ gateway.old.in_place }
     ensures none { IfNone result ((gateway.new ≡ gateway.old) × (packet.new ≡ packet.old)) }
     ensures stands { gateway.new.fallen ≡ false }
     ensures length { length packet.new ≡ length packet.old }
@@ -268,7 +269,8 @@ pub fn hand_out<D: Disk + Drop>(
     Ok(())
 }
 
-/// Flushes, for whoever has the answers that are held already, as `take_in_place` told them.
+/// Flushes, for whoever has the answers that are held already, as `take_in_place` told them. It asks that each was told
+/// so.
 ///
 /// # Errors
 ///
@@ -276,6 +278,7 @@ pub fn hand_out<D: Disk + Drop>(
 #[inline(never)]
 pub fn settle<D: Disk + Drop>(gateway: &mut Gateway<D>) -> Result<(), GatewayFault>
     requires stands { gateway.old.fallen ≡ false }
+    requires in_place { gateway.old.in_place ≡ true }
     ensures ok { OnOk result ((before : List (ℕ × Answer))
         → CarriesOn D.honest D.moment D.left D.failed gateway.old gateway.new []
         before (before ++ gateway.old.told.held)) }

@@ -15,17 +15,7 @@ pub as_held : (m : Mappings) (p : Mapping) (q : Proto) (e : Endpoint) → IsOuts
 as_held m p q e is held = subst (λ r. IsOutside m r e) (sym is.0) (subst (λ f. IsOutside m p.proto f) (sym is.1) held)
 
 module _ (p : Mapping) (old new : TakenPorts) where
-  -- a port is taken that is taken already, or that was free
-  pub took_again : IsTaken old p.proto p.outside.addr p.outside.port
-      → (q : Proto) (a r : ℕ) → IsTaken old q a r ↔ (IsTaken old q a r ⊎ IsOutsideOf p q (endpoint a r))
-  took_again taken q a r = (
-    inl,
-    (λ h. elim h [
-      | inl was ↦ was
-      | inr is ↦ subst (λ x. IsTaken old x a r) (sym is.0) (subst (λ (e : Endpoint). IsTaken old p.proto e.addr e.port) (sym is.1) taken)
-    ]),
-  )
-
+  -- a port is taken, that was free or taken already
   pub took_new : Takes old new p.proto p.outside.addr p.outside.port
       → (q : Proto) (a r : ℕ) → IsTaken new q a r ↔ (IsTaken old q a r ⊎ IsOutsideOf p q (endpoint a r))
   took_new takes q a r = (

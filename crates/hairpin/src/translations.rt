@@ -250,10 +250,7 @@ impl Translations {
         ensures external { self.new.external ≡ self.old.external }
     {
         take_port(&mut self.ports, mapping);
-        match self.map.hold(mapping) {
-            Ok(()) => {}
-            Err(_) => unreachable!(),
-        }
+        self.map.hold_reserved(mapping);
     }
 
     /// Gives one hold of the mapping back. With the last one the mapping is gone, and its port free.
@@ -263,8 +260,10 @@ impl Translations {
         ensures room { (n : ℕ) → HasRoom n self.old → HasRoom n self.new }
         ensures external { self.new.external ≡ self.old.external }
     {
-        self.map.release(mapping);
-        free_port(&self.map, &mut self.ports, mapping);
+        if self.map.release_told(mapping) {
+            let outside = mapping.outside;
+            self.ports.free(mapping.proto, outside.addr, outside.port);
+        }
     }
 }
 
@@ -315,28 +314,5 @@ fn take_port(ports: &mut Ports, mapping: Mapping)
     ensures addresses { ports.new.external ≡ ports.old.external }
     ensures room { ports.old.room ≤ ports.new.room + 1 }
 {
-    if ports.is_taken(mapping.proto, mapping.outside.addr, mapping.outside.port) {
-        return;
-    }
-    match ports.take(mapping.proto, mapping.outside.addr, mapping.outside.port) {
-        Ok(()) => {}
-        Err(_) => unreachable!(),
-    }
-}
-
-// Frees the outside port of a mapping that the map has just released once, unless the map still holds it.
-fn free_port(map: &Map, ports: &mut Ports, mapping: Mapping)
-    requires placed { IsPlacedIn ports.old mapping }
-    requires taken { (proto : Proto) (addr port : ℕ) → IsTaken ports.old proto addr port
-        ↔ (IsOutside map.now proto (endpoint addr port)
-        ⊎ IsOutsideOf mapping proto (endpoint addr port)) }
-    ensures taken { (proto : Proto) (addr port : ℕ) → IsTaken ports.new proto addr port
-        ↔ IsOutside map.now proto (endpoint addr port) }
-    ensures addresses { ports.new.external ≡ ports.old.external }
-    ensures room { ports.old.room ≤ ports.new.room }
-{
-    match map.inside_of(mapping.proto, mapping.outside) {
-        Some(_) => {}
-        None => ports.free(mapping.proto, mapping.outside.addr, mapping.outside.port),
-    }
+    ports.take_reserved(mapping.proto, mapping.outside.addr, mapping.outside.port);
 }

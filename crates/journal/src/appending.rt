@@ -27,7 +27,9 @@ pub fn append<D: Disk>(
     group: &Group,
 ) -> Result<u64, JournalFault>
     requires { D.honest disk.old → Resting D.moment D.left D.seen disk.old file at }
-    ensures honest { D.honest disk.old ↔ D.honest disk.new }
+    ensures honest { D.honest disk.new → D.honest disk.old }
+    ensures stays_honest { ¬ IsErrOf result JournalFault.Device
+        → D.honest disk.old → D.honest disk.new }
 
     // At `Ok` it stands: the file is synced and has the new group, and so has it whatever a crash leaves.
     ensures ok { D.honest disk.old

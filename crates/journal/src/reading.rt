@@ -1,5 +1,5 @@
 //! Reading the leading open groups of a file.
-ghost use Rattle.std.specs.Prelude.{◌≡◌, ◌+◌, ◌<◌, ◌≤◌, ◌↔◌, List, ℕ, length, get_or, IfOk, OnOk, IfSome, IsErrOf};
+ghost use Rattle.std.specs.Prelude.{◌≡◌, ◌+◌, ◌<◌, ◌≤◌, List, ℕ, length, get_or, IfOk, OnOk, IfSome, IsErrOf};
 ghost use Rattle.byteorder.specs.Endian.{big_bytes};
 ghost use Rattle.disk_model.specs.Disk.{Looks, Grew};
 ghost use Rattle.journal.specs.Groups.{Groups, GroupsOnce, IsRead, IsBrokenAt, bodies_of};
@@ -27,7 +27,9 @@ fn read_group<D: Disk>(
 ) -> Result<Option<Vec<u8>>, JournalFault>
     requires size { D.honest disk.old → end ≡ length (D.seen disk.old file) }
     requires within { D.honest disk.old → at < end }
-    ensures honest { D.honest disk.old ↔ D.honest disk.new }
+    ensures honest { D.honest disk.new → D.honest disk.old }
+    ensures stays_honest { ¬ IsErrOf result JournalFault.Device
+        → D.honest disk.old → D.honest disk.new }
     ensures ok { D.honest disk.old → IfOk result (λ group. IsRead (D.seen disk.old file) at group) }
     ensures broken { D.honest disk.old → IsErrOf result JournalFault.Damaged
         → IsBrokenAt (D.seen disk.old file) at }
@@ -80,7 +82,9 @@ pub fn groups<D: Disk>(
     at: u64,
 ) -> Result<(Vec<Vec<u8>>, u64), JournalFault>
     requires { D.honest disk.old → at < length (D.seen disk.old file) }
-    ensures honest { D.honest disk.old ↔ D.honest disk.new }
+    ensures honest { D.honest disk.new → D.honest disk.old }
+    ensures stays_honest { ¬ IsErrOf result JournalFault.Device
+        → D.honest disk.old → D.honest disk.new }
     ensures ok { D.honest disk.old
         → IfOk result (λ r. Groups (D.seen disk.old file) at (bodies_of r.0.items) r.1) }
 

@@ -59,11 +59,11 @@ module _ (sessions : List Session) (proto : Proto) (port : ℕ) (some : 0 < port
   abbrev IsFull : ℕ → Type 0
   IsFull addr = AllTaken (IsOccupied sessions proto addr) port
 
-  no_choice : (addr : ℕ) (o : Option ℕ) → option_map (endpoint addr) o ≡ None → o ≡ None
+  pub no_choice : (addr : ℕ) (o : Option ℕ) → option_map (endpoint addr) o ≡ None → o ≡ None
   no_choice addr None e = refl
   no_choice addr (Some q) e = absurd (none-some (endpoint addr q) (sym e))
 
-  full-at : (addr : ℕ) → port_at (is_taken sessions proto) port addr ≡ None → IsFull addr
+  pub full-at : (addr : ℕ) → port_at (is_taken sessions proto) port addr ≡ None → IsFull addr
   full-at addr none = λ other alike. taken-by sessions proto addr other
       ((determined (is_taken sessions proto addr) port some fits).none.0 (no_choice addr (port_choice (is_taken sessions proto addr) port) none) other alike)
 

@@ -39,7 +39,7 @@ let-in : (b : Bool) (x y : Endpoint) → (if b then Ok x else Err Filtered) ≡ 
 let-in true x y e = (refl, same_Ok x y e)
 let-in false x y e = absurd (err-ok Filtered y e)
 
-mapping-lets : (by : Filtering) (sessions : List Session) (remote : ℕ) (found : Option Session) (inside : Endpoint) → by_mapping by sessions remote found ≡ Ok inside
+pub mapping-lets : (by : Filtering) (sessions : List Session) (remote : ℕ) (found : Option Session) (inside : Endpoint) → by_mapping by sessions remote found ≡ Ok inside
     → (m : Session) × (found ≡ Some m) × (m.inside ≡ inside) × (lets_in by sessions m remote ≡ true)
 mapping-lets by sessions remote None inside h = absurd (err-ok NoMapping inside h)
 mapping-lets by sessions remote (Some m) inside h = let is = let-in (lets_in by sessions m remote) m.inside inside h in (m, refl, is.1, is.0)
@@ -52,7 +52,7 @@ module _ (config : Config) (rules : Spelled) (sessions : List Session) (now : �
   mapped = find (maps_outside view.proto view.dst) sessions
 
   -- what neither an inside address nor a rule takes on, the mapping does
-  given-mapping : is_inside config view.dst.addr ≡ false → asked ≡ destination.None → inside_for config rules sessions now view ≡ by_mapping config.filtering sessions view.src.addr mapped
+  pub given-mapping : is_inside config view.dst.addr ≡ false → asked ≡ destination.None → inside_for config rules sessions now view ≡ by_mapping config.filtering sessions view.src.addr mapped
   given-mapping outside none =
       ap (λ b. if b then Ok view.dst else inside_by_rules config rules sessions now view sessions view.src.addr mapped asked) outside
       ∙ ap (inside_by_rules config rules sessions now view sessions view.src.addr mapped) none

@@ -25,3 +25,14 @@ pub mod Steps
 pub mod Telling
 pub mod Updated
 pub mod Ways
+pub mod Passages
+pub mod Left
+pub mod Refreshing
+pub mod Beginnings
+pub mod Admitting
+pub mod Keeping
+pub mod Sources
+pub mod Looked
+pub mod Ordered
+pub mod OrderedBoth
+pub mod Answered

@@ -69,7 +69,7 @@ lives-on : (s : State) (now : ℕ) (t : Session) → In t s.sessions → IsAlive
 lives-on s now t is lives = filter-In (alive now) s.sessions t is (lt-ltb _ _ lives)
 
 -- of a set, one session has a flow
-one-of-flow : (xs : List Session) → Rises xs → (s t : Session) → In s xs → In t xs → key s ≡ key t → s ≡ t
+pub one-of-flow : (xs : List Session) → Rises xs → (s t : Session) → In s xs → In t xs → key s ≡ key t → s ≡ t
 one-of-flow [] rises s t in_s in_t e = absurd in_s
 one-of-flow (x ∷ xs) rises s t (inl s_is) (inl t_is) e = s_is ∙ sym t_is
 one-of-flow (x ∷ xs) rises s t (inl s_is) (inr t_in) e =

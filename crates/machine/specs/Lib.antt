@@ -8,5 +8,7 @@ pub mod Judged
 pub mod Laws
 pub mod Machine
 pub mod Noted
+pub mod Order
+pub mod Requirements
 pub mod Sizes
 pub mod Sound

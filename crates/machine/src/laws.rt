@@ -4,6 +4,8 @@
 //! A state is sound where its sessions can be held together, which makes the mappings of each protocol one-to-one,
 //! no packet of theirs is later than the clock, and the rules are those of the text (`specs/Sound`).
 ghost use Rattle.machine.specs.Laws.{AnswersComeIn, ClockNeverFalls, DropsChangeNothing, EventsAreJudgedOnce, FilteredByAddressAlone, ForwardsArePlanned, FullAddressesArePassedOver, HostsKeepOneAddress, InsideMapsOnce, KnownAddressesAreLetIn, LivingMappingsStay, LoadsTakeForce, MappingsAreReused, NewMappingsArePaired, NewPortsKeepClass, OneAddressIsAsBefore, OnlyKnownAddressesComeIn, OnlyLoadsChangeRules, OnlyTranslationsMoveHosts, OutsideIsNotShared, RefusalsChangeNothing, RunsKeepSound, SessionsAreAlive, SessionsGoOut, StartIsSound, StepsKeepSound, StrangersAreFiltered, TranslationsStayInBounds};
+ghost use Rattle.machine.specs.Order.{CausesComeInOrder};
+ghost use Rattle.machine.specs.Requirements.{HairpinsHaveExternalSources, MappingsLetIn, NewMappingsKeepPorts, PacketsOutCameIn, PassingRefreshes, SessionsBeginByPackets};
 
 use rulesyntax::one_ruleset;
 
@@ -169,4 +171,49 @@ pub fn forwards_are_planned()
 /// destination an inside one, and a port that isn't 0 never becomes 0.
 pub fn translations_stay_in_bounds()
     ensures { TranslationsStayInBounds }
+{}
+
+/// A packet from wan to the outside endpoint of a living mapping comes to its inside endpoint, whoever sends it (RFC
+/// 4787, REQ-8; RFC 5382, REQ-3): if filtering is by endpoint, or a living session of the mapping has its remote
+/// endpoint at the sender's address. The cause of each drop that may come first is named at its premise.
+pub fn mappings_let_in()
+    ensures { MappingsLetIn }
+{}
+
+/// A hairpin that passes leaves on lan, from the external endpoint of its sender, to the inside endpoint that is mapped
+/// to the one it was sent to, by a mapping that was there or by dnat (RFC 4787, REQ-9 and REQ-9 a); RFC 5382, REQ-8).
+pub fn hairpins_have_external_sources()
+    ensures { HairpinsHaveExternalSources }
+{}
+
+/// A mapping that a step makes for the sender of a packet from lan has the inside port, if no session of the protocol
+/// has that port at the mapping's address. It always has a port of its class and parity that was free (RFC 4787, REQ-3,
+/// REQ-3 a) and REQ-4).
+pub fn new_mappings_keep_ports()
+    ensures { NewMappingsKeepPorts }
+{}
+
+/// After a packet has passed, its session was last used at the clock, whichever way the packet went (RFC 4787, REQ-6);
+/// of a hairpin both sessions were.
+pub fn passing_refreshes()
+    ensures { PassingRefreshes }
+{}
+
+/// Only a packet begins a session, and of TCP a SYN alone. From wan it is one for an inside address, one that dnat
+/// sends there, or one that a mapping lets in (RFC 5382, REQ-3 and section 4).
+pub fn sessions_begin_by_packets()
+    ensures { SessionsBeginByPackets }
+{}
+
+/// Each packet that leaves is the one that its event brought, translated. So nothing is answered to a SYN that nobody
+/// asked for, neither early nor late (RFC 5382, REQ-4).
+pub fn packets_out_came_in()
+    ensures { PacketsOutCameIn }
+{}
+
+/// A packet is dropped for its first fault (1 to 9), else because it has no route (10 to 12), else for the first of
+/// its route's reasons that holds (13 to 20); if none holds, it passes. `specs/Order` says of each reason when it
+/// holds, and lists those of each route in order.
+pub fn causes_come_in_order()
+    ensures { CausesComeInOrder }
 {}

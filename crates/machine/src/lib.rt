@@ -19,7 +19,8 @@
 //! - `notes`: where a step notes the entries by which it changes what must survive (crate `durable`).
 //! - `noting`: the entries of changes. `specs/Noted` says which an event has, `specs/Sizes` how many bytes.
 //! - `laws`: what holds of every step, of every state that is reached, and of where the rules of a text that loads
-//!   translate to (`specs/Laws`).
+//!   translate to (`specs/Laws`); what RFC 4787 and RFC 5382 ask of a step (`specs/Requirements`), and in which order
+//!   the causes of a drop come (`specs/Order`).
 #![tactic(auto)]
 
 mod ahead;

@@ -1,10 +1,13 @@
-//! The program `natgw`: the words of its command line go to crate `command_line`, and what they ask for to `commands`.
+//! The program `natgw`: the words of its command line go to crate `command_line`, and what they ask for to `commands` and
+//! `tunnel`.
 //!
 //! - `natgw check FILE` says whether a ruleset would load;
 //! - `natgw replay` answers request frames on standard input by answer frames on standard output;
 //! - `natgw serve` answers those of the clients of a Unix socket;
 //! - `natgw loop FILE` sends those of a file through a socket to itself;
-//! - `natgw show` lists the sessions that the files of a directory keep.
+//! - `natgw tun` carries packets between two TUN devices;
+//! - `natgw show` lists the sessions that the files of a directory keep;
+//! - `natgw rules` prints the ruleset in force.
 //!
 //! The status is 0; 1 where a command gives up, or `check` finds a fault; 2 where the command line can't be read.
 #![tactic(auto)]
@@ -43,6 +46,10 @@ fn start(rt: &HostRuntime) -> Result<ExitCode, Stop> {
     let words: Vec<String> = arguments.collect(alloc)?;
     match parse(rt, alloc, words.as_slice())? {
         Parsed::Run(options) => run(rt, &options),
+        Parsed::Tun(asked) => {
+            tunnel::run(rt, &asked)?;
+            Ok(ExitCode::SUCCESS)
+        }
         Parsed::Stopped(status) => Ok(ExitCode::from(status)),
     }
 }

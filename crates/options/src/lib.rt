@@ -2,6 +2,13 @@
 //! takes. Nothing of it is tested here. `command_line` makes it, and `commands` does what it says.
 #![tactic(auto)]
 
+ghost use Rattle.std.specs.Prelude.{◌≡◌};
+ghost use Rattle.options.specs.Modes.{mode_of};
+
+mod tunnel;
+
+pub use tunnel::{Descriptors, Report, Tunnel};
+
 /// A command line that was read.
 #[derive(Clone, Copy, Drop)]
 pub struct Options<'a> {
@@ -36,6 +43,13 @@ pub enum Task<'a> {
         /// Whether the place of a fault is shown.
         explains: bool,
     },
+    /// Tells of a gateway that another natgw may be serving: no lock is taken, and nothing is written.
+    Look {
+        /// The directory of its two files.
+        directory: &'a str,
+        /// What is told.
+        view: View,
+    },
     /// Has a gateway work.
     Open {
         /// How it opens.
@@ -63,6 +77,8 @@ pub enum Work<'a> {
     Serve {
         /// The path of the socket.
         socket: &'a str,
+        /// Who may connect to it.
+        access: Access,
         /// How many connections.
         connections: u64,
     },
@@ -71,6 +87,48 @@ pub enum Work<'a> {
         /// The file.
         path: &'a str,
     },
-    /// Its sessions are listed.
-    Show,
+    /// It is told of.
+    View(View),
+}
+
+/// What is told of a gateway.
+#[derive(Clone, Copy, Debug, PartialEq, Eq, Drop)]
+pub enum View {
+    /// Its sessions.
+    Sessions(Listing),
+    /// The ruleset in force, byte for byte as it was loaded.
+    Rules,
+}
+
+/// How sessions are listed, each in a line of its own.
+#[derive(Clone, Copy, Debug, PartialEq, Eq, Drop)]
+pub enum Listing {
+    /// In columns.
+    Columns,
+    /// As an object of JSON.
+    Json,
+}
+
+/// Who may connect to a socket.
+#[derive(Clone, Copy, Debug, PartialEq, Eq, Drop)]
+pub enum Access {
+    /// The user that natgw runs as: mode 0600.
+    Owner,
+    /// That user and the group of the socket: mode 0660.
+    Group,
+    /// Everyone: mode 0666.
+    Everyone,
+}
+
+impl Access {
+    /// The bits of the socket's mode.
+    pub fn mode(self) -> u32
+        ensures { result ≡ mode_of self }
+    {
+        match self {
+            Access::Owner => 0o600,
+            Access::Group => 0o660,
+            Access::Everyone => 0o666,
+        }
+    }
 }

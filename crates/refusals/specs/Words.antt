@@ -68,6 +68,20 @@ sentence_of refusal.Output =
 abbrev pub is_one_line : List ℕ → Bool
 is_one_line bytes = nat_lt 0 (length bytes) && list_all (nat_lt 31) bytes
 
+-- what is told where others may write in the directory of the files: in which, if its path can stand in one line
+abbrev pub shared_line : List ℕ → List ℕ
+shared_line path =
+    if is_one_line path
+    then codes "others may write in " ++ path
+    ++ codes ", and so make natgw forget all: take that from them\n"
+    else codes "others may write in --dir, and so make natgw forget all: take that from them\n"
+
+-- what is told once clients may connect: where, if the path can stand in one line
+abbrev pub serving_line : List ℕ → List ℕ
+serving_line path =
+    if is_one_line path then codes "natgw listens at " ++ path ++ codes "\n"
+    else codes "natgw listens\n"
+
 -- what is known besides the word, where that is one line, and otherwise what the word says
 abbrev pub advised : Refusal → Option (List ℕ) → List ℕ
 advised r None = sentence_of r

@@ -4,7 +4,7 @@ ghost use Rattle.std.specs.List.{list_all};
 ghost use Rattle.std.specs.Io.KnownBytes.{Appends};
 ghost use Rattle.std.specs.IoError.{error_kind};
 ghost use Rattle.refusals.specs.declared.refusal.Refusal.TheVariants.{NoMemory};
-ghost use Rattle.refusals.specs.Words.{IsOfPath, advised, first_line, is_one_line, migrated_line, path_refusal, second_line, sentence_of};
+ghost use Rattle.refusals.specs.Words.{IsOfPath, advised, first_line, is_one_line, migrated_line, path_refusal, second_line, sentence_of, serving_line, shared_line};
 
 use crate::Refusal;
 use std::alloc::{AllocError, AllocFailed, Global};
@@ -208,4 +208,49 @@ pub fn tell_migrated<W: Write>(writer: &mut W) -> io::Result<()>
     writer.write_all(
         b"the two files are of version 2 from now on: an older natgw calls them damaged\n",
     )
+}
+
+// Writes a text between two others.
+fn tell_between<W: Write>(writer: &mut W, front: &str, text: &str, end: &str) -> io::Result<()>
+    ensures { OnOk result (Appends (W.contents writer.old) (W.contents writer.new)
+        (front.now ++ text.now ++ end.now)) }
+{
+    writer.write_all(front.as_bytes())?;
+    writer.write_all(text.as_bytes())?;
+    writer.write_all(end.as_bytes())
+}
+
+/// Writes the line which tells that others than natgw's user may write in the directory of its files, and where that can
+/// stand in one line, which directory.
+///
+/// # Errors
+///
+/// That of the writer. A part may have been written then.
+pub fn tell_shared<W: Write>(writer: &mut W, path: &str) -> io::Result<()>
+    ensures { OnOk result (Appends (W.contents writer.old) (W.contents writer.new)
+        (shared_line path.now)) }
+{
+    if stands_in_a_line(path.as_bytes()) {
+        let end = ", and so make natgw forget all: take that from them\n";
+        return tell_between(writer, "others may write in ", path, end);
+    }
+    writer.write_all(
+        b"others may write in --dir, and so make natgw forget all: take that from them\n",
+    )
+}
+
+/// Writes the line which tells that clients may connect: that natgw listens, and where that can stand in one line, at
+/// which path.
+///
+/// # Errors
+///
+/// That of the writer. A part may have been written then.
+pub fn tell_serving<W: Write>(writer: &mut W, path: &str) -> io::Result<()>
+    ensures { OnOk result (Appends (W.contents writer.old) (W.contents writer.new)
+        (serving_line path.now)) }
+{
+    if stands_in_a_line(path.as_bytes()) {
+        return tell_between(writer, "natgw listens at ", path, "\n");
+    }
+    writer.write_all(b"natgw listens\n")
 }

@@ -53,6 +53,15 @@ three_texts old a b c one two three e1 e2 e3 =
     let whole : three ≡ ((old ++ a) ++ b) ++ c = cc in
     whole ∙ simp append_assoc
 
+-- four texts, put one after the other
+pub four_texts :
+    (old a b c d one two three four : List ℕ)
+    → one ≡ old ++ a → two ≡ one ++ b → three ≡ two ++ c → four ≡ three ++ d
+    → four ≡ old ++ (a ++ b ++ c ++ d)
+four_texts old a b c d one two three four e1 e2 e3 e4 =
+    let whole : four ≡ (((old ++ a) ++ b) ++ c) ++ d = cc in
+    whole ∙ simp append_assoc
+
 -- five texts, put one after the other
 pub five_texts :
     (old a b c d e one two three four five : List ℕ)

@@ -33,8 +33,8 @@ fn put_address(out: &mut Vec<u8>, addr: u32) -> Result<(), AllocError>
     Ok(())
 }
 
-// Appends an endpoint, as 192.0.2.1:80.
-fn put_endpoint(out: &mut Vec<u8>, endpoint: Endpoint) -> Result<(), AllocError>
+/// Appends an endpoint, as 192.0.2.1:80.
+pub(crate) fn put_endpoint(out: &mut Vec<u8>, endpoint: Endpoint) -> Result<(), AllocError>
     ensures ok { OnOk result (out.new.items ≡ out.old.items ++ endpoint_text endpoint) }
     ensures err { OnErr result (take (length out.old.items) out.new.items ≡ out.old.items) }
 {

@@ -8,8 +8,8 @@ use packet::Proto;
 use sessions::{Phase, Session};
 use std::alloc::AllocError;
 
-// The protocol's word: `tcp` or `udp`.
-fn proto_word(proto: Proto) -> &'static str
+/// The protocol's word: `tcp` or `udp`.
+pub(crate) fn proto_word(proto: Proto) -> &'static str
     ensures { result.now ≡ proto_word proto }
 {
     match proto {
@@ -32,7 +32,8 @@ fn progress_word(session: &Session) -> &'static str
     }
 }
 
-fn put_word(out: &mut Vec<u8>, word: &str) -> Result<(), AllocError>
+/// Appends a text.
+pub(crate) fn put_word(out: &mut Vec<u8>, word: &str) -> Result<(), AllocError>
     ensures ok { OnOk result (out.new.items ≡ out.old.items ++ word.now) }
     ensures err { OnErr result (out.new.items ≡ out.old.items) }
 {

@@ -43,7 +43,8 @@ pub(crate) struct Ready {
 
 // Syncs both files: from then on a crash leaves what they read.
 fn sync_both<D: Disk>(disk: &mut D) -> Result<(), DiskFault>
-    ensures honest { D.honest disk.old ↔ D.honest disk.new }
+    ensures honest { D.honest disk.new → D.honest disk.old }
+    ensures stays_honest { OnOk result (D.honest disk.old → D.honest disk.new) }
     ensures leaves { D.honest disk.old → Leaves D.moment D.left disk.old disk.new Same }
     ensures looks { D.honest disk.old
         → OnOk result (Looks D.moment D.left D.seen disk.old disk.new) }
@@ -58,7 +59,9 @@ fn sync_both<D: Disk>(disk: &mut D) -> Result<(), DiskFault>
 
 // Syncs both files, and reads them.
 fn look<D: Disk>(alloc: Global, disk: &mut D) -> Result<(Vec<u8>, Vec<u8>), OpenFault>
-    ensures honest { D.honest disk.old ↔ D.honest disk.new }
+    ensures honest { D.honest disk.new → D.honest disk.old }
+    ensures stays_honest { ¬ IsErrOf result OpenFault.Device
+        → D.honest disk.old → D.honest disk.new }
     ensures ok { D.honest disk.old → IfOk result (λ read. (read.0.items ≡ D.seen disk.old A)
         × (read.1.items ≡ D.seen disk.old B)) }
     ensures synced { D.honest disk.old → OnOk result ((file : FileId)
@@ -143,7 +146,9 @@ fn make_first<D: Disk>(alloc: Global, disk: &mut D, bounds: &Bounds) -> Result<R
     requires none { D.honest disk.old → NoneOpen (D.seen disk.old) }
     requires synced { D.honest disk.old → (file : FileId)
         → Synced D.moment D.left D.seen disk.old file }
-    ensures honest { D.honest disk.old ↔ D.honest disk.new }
+    ensures honest { D.honest disk.new → D.honest disk.old }
+    ensures stays_honest { ¬ IsErrOf result OpenFault.Device
+        → D.honest disk.old → D.honest disk.new }
     ensures any_moment { D.honest disk.old
         → LeavesOnly D.moment D.left disk.old disk.new (λ files. Recovers files empty) }
     ensures configured { D.honest disk.old
@@ -199,7 +204,9 @@ fn migrate<D: Disk>(alloc: Global, disk: &mut D, found: Ready) -> Result<Ready, 
         → Synced D.moment D.left D.seen disk.old file }
     requires text { length found.text.items ≤ 262144 }
     requires count { length found.sessions.items ≤ 65536 }
-    ensures honest { D.honest disk.old ↔ D.honest disk.new }
+    ensures honest { D.honest disk.new → D.honest disk.old }
+    ensures stays_honest { ¬ IsErrOf result OpenFault.Device
+        → D.honest disk.old → D.honest disk.new }
     ensures any_moment { D.honest disk.old
         → LeavesOnly D.moment D.left disk.old disk.new
         (λ files. Recovers files (found_state found)) }
@@ -266,7 +273,9 @@ fn make_current<D: Disk>(alloc: Global, disk: &mut D, found: Ready) -> Result<Re
     requires fresh { found.migrated ≡ false }
     requires synced { D.honest disk.old → (file : FileId)
         → Synced D.moment D.left D.seen disk.old file }
-    ensures honest { D.honest disk.old ↔ D.honest disk.new }
+    ensures honest { D.honest disk.new → D.honest disk.old }
+    ensures stays_honest { ¬ IsErrOf result OpenFault.Device
+        → D.honest disk.old → D.honest disk.new }
     ensures any_moment { D.honest disk.old
         → LeavesOnly D.moment D.left disk.old disk.new
         (λ files. Recovers files (found_state found)) }
@@ -315,7 +324,9 @@ pub(crate) fn make_ready<D: Disk>(
     disk: &mut D,
     bounds: &Bounds,
 ) -> Result<Ready, OpenFault>
-    ensures honest { D.honest disk.old ↔ D.honest disk.new }
+    ensures honest { D.honest disk.new → D.honest disk.old }
+    ensures stays_honest { ¬ IsErrOf result OpenFault.Device
+        → D.honest disk.old → D.honest disk.new }
     ensures any_moment { D.honest disk.old → Leaves D.moment D.left disk.old disk.new Alike }
     ensures configured { D.honest disk.old
         → LeavesNow D.moment D.left disk.old (IsConfigured bounds.now)

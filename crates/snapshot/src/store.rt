@@ -99,7 +99,9 @@ impl<D: Disk + Drop> Store<D> {
     /// `ConfigDiffers` or `Generations` comes, unless memory is refused or a call of the disk fails.
     pub fn open(alloc: Global, disk: D, bounds: &Bounds) -> Result<Opened<D>, (D, OpenFault)>
         ensures honest { MatchResult result (λ o. D.honest disk ↔ D.honest o.store.disk)
-            (λ e. D.honest disk ↔ D.honest e.0) }
+            (λ e. D.honest e.0 → D.honest disk) }
+        ensures stays_honest { IfErr result (λ e. ¬ (e.1 ≡ OpenFault.Device)
+            → D.honest disk → D.honest e.0) }
 
         // Whatever a crash leaves since the entry stands for what some pair left at the entry stands for.
         ensures any_moment { D.honest disk
@@ -251,7 +253,9 @@ impl<D: Disk + Drop> Store<D> {
         requires stands { self.old.fallen ≡ false }
         requires fits { D.honest self.old.disk
             → BodyFits self.old.config (D.seen self.old.disk) group.now.body }
-        ensures honest { D.honest self.old.disk ↔ D.honest self.new.disk }
+        ensures honest { D.honest self.new.disk → D.honest self.old.disk }
+        ensures stays_honest { ¬ IsErrOf result CommitFault.Device
+            → D.honest self.old.disk → D.honest self.new.disk }
 
         // A crash at any moment leaves the state from before, or the one with the group.
         ensures any_moment { D.honest self.old.disk → (d e : Durable)
@@ -327,7 +331,9 @@ impl<D: Disk + Drop> Store<D> {
             → Recovers (D.seen self.old.disk) (durable text.now sessions.now) }
         requires text { length text.now ≤ 262144 }
         requires count { length sessions.now ≤ 65536 }
-        ensures honest { D.honest self.old.disk ↔ D.honest self.new.disk }
+        ensures honest { D.honest self.new.disk → D.honest self.old.disk }
+        ensures stays_honest { ¬ IsErrOf result CompactFault.Device
+            → D.honest self.old.disk → D.honest self.new.disk }
 
         // A crash at any moment leaves the one state.
         ensures any_moment { D.honest self.old.disk

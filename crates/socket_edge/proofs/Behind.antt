@@ -1,5 +1,5 @@
 -- What a call of the gateway comes to behind answers that lie elsewhere.
-use Rattle.std.proofs.Common.{◌≡◌, ◌↔◌, inl, ℕ, zero, suc, ◌+◌, ◌-◌, ◌≤◌, List, [], ◌∷◌, ◌++◌, false, length, take, drop, refl, sym, ap, ◌∙◌, subst, arith, append_assoc, length-append}
+use Rattle.std.proofs.Common.{◌≡◌, inl, ℕ, zero, suc, ◌+◌, ◌-◌, ◌≤◌, List, [], ◌∷◌, ◌++◌, false, length, take, drop, refl, sym, ap, ◌∙◌, subst, arith, append_assoc, length-append}
 use Rattle.std.proofs.lemmas.List.{append-nil, length-take-le, nil_from_length, take-append-drop}
 use Rattle.std.proofs.Math.Seq.{take-append-add}
 use Rattle.packet.specs.Config.{Config}
@@ -102,12 +102,13 @@ stands_for-from a b js ks now config state few s =
     }
 
 module _ {D : Type 0} (honest : D → Type 0) (moment : D → ℕ) (left : D → ℕ → Files → Type 0) (failed : D → ℕ)
-    (earlier : (disk : D) (s t : ℕ) (files : Files) → honest disk → s ≤ t → left disk t files → left disk s files) where
+    (earlier : (disk : D) (s t : ℕ) (files : Files) → s ≤ t → left disk t files → left disk s files) where
   -- The first of the events were taken between the two, and their answers handed out. Over the disk of the second the others were taken too.
   record Leads (start base : Kept D) (es fs : List Event) (handed : List (ℕ × Answer)) : Type 0 where
     took : TookAll start.told base.told es handed
     stood : start.fallen ≡ false
-    keeps_honest : honest start.disk ↔ honest base.disk
+    was_honest : honest base.disk → honest start.disk
+    stays_honest : honest start.disk → honest base.disk
     ready : IsAtRest honest start → IsAtRest honest base
     any_moment : IsAtRest honest start → LeavesOnly moment left start.disk base.disk (IsSafe start.told.config start.told.state (es ++ fs) 0)
     configured : honest start.disk → LeavesOnly moment left start.disk base.disk (IsConfigured start.told.config)
@@ -123,14 +124,15 @@ module _ {D : Type 0} (honest : D → Type 0) (moment : D → ℕ) (left : D →
     ran-behind r = record {
       took = took_then start.told base.told new.told es (fs ++ more) handed out l.took r.took;
       stood = l.stood;
-      keeps_honest = (λ h. r.keeps_honest.0 (l.keeps_honest.0 h), λ h. l.keeps_honest.1 (r.keeps_honest.1 h));
+      was_honest = λ h. l.was_honest (r.was_honest h);
+      stays_honest = λ up h. r.stays_honest up (l.stays_honest h);
       any_moment = λ ready.
           only_then moment left start.disk base.disk new.disk (IsSafe start.told.config start.told.state (es ++ fs) 0) (IsSafe base.told.config base.told.state (fs ++ more) 0)
           (IsSafe start.told.config start.told.state (es ++ (fs ++ more)) 0)
-          (λ s t files le since. earlier base.disk s t files (l.ready ready).is_honest le since) (l.any_moment ready) (r.any_moment (l.ready ready))
+          (earlier base.disk) (l.any_moment ready) (r.any_moment (l.ready ready))
           (λ files is. subst (λ (xs : List Event). IsSafe start.told.config start.told.state xs 0 files) (append_assoc es fs more) (safe-less start.told.config start.told.state (es ++ fs) more 0 0 files (omega arith) is))
           (λ files is. safe-fewer start.told.config start.told.state (es ++ (fs ++ more)) (length es + 0) 0 files (omega arith) (safe-on 0 files is));
-      configured = λ h. configured-then honest moment left failed earlier start base new l.took.config (l.keeps_honest.0 h) (l.configured h) (r.configured (l.keeps_honest.0 h));
+      configured = λ h. configured-then honest moment left failed earlier start base new l.took.config (l.stays_honest h) (l.configured h) (r.configured (l.stays_honest h));
     }
 
     stands-behind : Stands honest moment left failed base new (fs ++ more) out → Stands honest moment left failed start new (es ++ (fs ++ more)) (handed ++ out)
@@ -202,7 +204,8 @@ module _ {D : Type 0} (honest : D → Type 0) (moment : D → ℕ) (left : D →
               order = sym (append_assoc handed before now.told.held) ∙ s.ran.took.order;
             };
             stood = s.ran.stood;
-            keeps_honest = s.ran.keeps_honest;
+            was_honest = s.ran.was_honest;
+            stays_honest = s.ran.stays_honest s.stands;
             ready = λ r. absurd (some r.none);
             any_moment = λ r. absurd (some r.none);
             configured = s.ran.configured;
@@ -212,7 +215,8 @@ module _ {D : Type 0} (honest : D → Type 0) (moment : D → ℕ) (left : D →
             ran = record {
               took = record { judged = []; are_judged = tt; config = refl; state = refl; last = omega arith; order = sym (append-nil (before ++ now.told.held)) };
               stood = s.stands;
-              keeps_honest = (λ h. h, λ h. h);
+              was_honest = λ h. h;
+              stays_honest = λ up h. h;
               any_moment = λ r. begun.ran.any_moment (ready r);
               configured = begun.ran.configured;
             };
@@ -248,7 +252,7 @@ module _ {D : Type 0} (honest : D → Type 0) (moment : D → ℕ) (left : D →
         sym (append_assoc handed before now.told.held) ∙ t.order ∙ ap (λ (xs : List (ℕ × Answer)). xs ++ replies start.told t.judged) none ∙ ap (replies start.told) (sym whole)
         ∙ replies-append start.told base.told js ks refl refl (omega (arith, long)) in
         let parts = same_parts handed (before ++ now.told.held) (replies start.told js) (replies base.told ks) (sym long ∙ sym (replies-length start.told js)) in_order in
-        let back : IsAtRest honest base → IsAtRest honest start = λ r. record { stands = s.ran.stood; is_honest = s.ran.keeps_honest.1 r.is_honest; none = none } in
+        let back : IsAtRest honest base → IsAtRest honest start = λ r. record { stands = s.ran.stood; is_honest = s.ran.was_honest r.is_honest; none = none } in
         let few : length now.told.held ≤ length ks = omega (arith, size, many, rest, long) in
         let are : AreJudged config fs ks = drop-judged config k events t.judged t.are_judged in
         let rests : IsAtRest honest base → AgreesWithModel honest moment left failed base now fs = λ r.
@@ -276,8 +280,9 @@ module _ {D : Type 0} (honest : D → Type 0) (moment : D → ℕ) (left : D →
               order = append-nil handed ∙ parts.0 ∙ ap (λ (xs : List (ℕ × Answer)). xs ++ replies start.told js) (sym none);
             };
             stood = s.ran.stood;
-            keeps_honest = s.ran.keeps_honest;
-            ready = λ r. record { stands = s.stands; is_honest = s.ran.keeps_honest.0 r.is_honest; none = refl };
+            was_honest = s.ran.was_honest;
+            stays_honest = s.ran.stays_honest s.stands;
+            ready = λ r. record { stands = s.stands; is_honest = s.ran.stays_honest s.stands r.is_honest; none = refl };
             any_moment = λ r. subst (λ (xs : List Event). LeavesOnly moment left start.disk now.disk (IsSafe config start.told.state xs 0)) (sym all) (s.ran.any_moment r);
             configured = s.ran.configured;
             no_failure = s.no_failure;
@@ -293,15 +298,16 @@ module _ {D : Type 0} (honest : D → Type 0) (moment : D → ℕ) (left : D →
                 order = parts.1;
               };
               stood = s.stands;
-              keeps_honest = (λ h. h, λ h. h);
+              was_honest = λ h. h;
+              stays_honest = λ up h. h;
               any_moment = λ r.
                   let q = rests r in
                   idle moment left now.disk (IsSafe config base.told.state fs 0) (λ files left_now.
                   safe-fewer config base.told.state fs (length fs - length now.told.held) 0 files (omega arith)
                   (safe-either config base.told.state fs q.judged (standing q.durable now) files q.are_judged q.stands_for (inl (q.leaves files left_now))));
               configured = λ h.
-                  idle moment left now.disk (IsConfigured config) (only_now moment left start.disk now.disk (IsConfigured config) (λ s t files le since. earlier now.disk s t files h le since)
-                  (s.ran.configured (s.ran.keeps_honest.1 h)));
+                  idle moment left now.disk (IsConfigured config) (only_now moment left start.disk now.disk (IsConfigured config) (earlier now.disk)
+                  (s.ran.configured (s.ran.was_honest h)));
             };
             stands = s.stands;
             no_failure = refl;

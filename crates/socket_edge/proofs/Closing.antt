@@ -62,7 +62,7 @@ front_none events front back more e =
 
 module _ {D : Type 0} (honest : D → Type 0) (moment : D → ℕ) (left : D → ℕ → Files → Type 0) (seen : D → Files) (failed : D → ℕ)
     (reads : (disk : D) → honest disk → left disk (moment disk) (seen disk))
-    (earlier : (disk : D) (s t : ℕ) (files : Files) → honest disk → s ≤ t → left disk t files → left disk s files) (start : Kept D) where
+    (earlier : (disk : D) (s t : ℕ) (files : Files) → s ≤ t → left disk t files → left disk s files) (start : Kept D) where
   abbrev Up : Kept D → List Event → List (ℕ × Answer) → Type 0
   Up now events out = Stands honest moment left failed start now events out
 

@@ -1,5 +1,5 @@
 -- What a crash leaves while events are taken and their answers sent.
-use Rattle.std.proofs.Common.{◌≡◌, ◌↔◌, ◌⊎◌, inl, inr, ⊎_elim, ℕ, zero, suc, ◌+◌, ◌-◌, ◌<◌, ◌≤◌, List, [], ◌∷◌, ◌++◌, false, length, take, refl, sym, ap, ◌∙◌, subst, arith, append_assoc, length-append}
+use Rattle.std.proofs.Common.{◌≡◌, ◌⊎◌, inl, inr, ⊎_elim, ℕ, zero, suc, ◌+◌, ◌-◌, ◌<◌, ◌≤◌, List, [], ◌∷◌, ◌++◌, false, length, take, refl, sym, ap, ◌∙◌, subst, arith, append_assoc, length-append}
 use Rattle.std.specs.List.{flat_map}
 use Rattle.std.proofs.lemmas.List.{append-nil, length-take-le}
 use Rattle.std.proofs.lemmas.List.Concat.{flat_map-append}
@@ -91,7 +91,8 @@ module _ {D : Type 0} (honest : D → Type 0) (moment : D → ℕ) (left : D →
   fares start now events front back out sent lost e split begins none =
       let t = e.ran.took in
       record {
-        keeps_honest = e.ran.keeps_honest;
+        was_honest = e.ran.was_honest;
+        stays_honest = e.ran.stays_honest;
         configured = λ h stood. e.ran.configured h;
         none = λ held stands. none stands;
         outlives = λ ready.
@@ -121,20 +122,21 @@ module _ {D : Type 0} (honest : D → Type 0) (moment : D → ℕ) (left : D →
   fares-none start events e stands =
       let it = fares start start events [] events [] [] [] e refl refl in
       record {
-        keeps_honest = e.ran.keeps_honest;
+        was_honest = e.ran.was_honest;
+        stays_honest = e.ran.stays_honest;
         configured = λ h stood. e.ran.configured h;
         none = λ held up. held;
         outlives = λ ready. (it (λ up. ready.none)).outlives ready;
       }
 
   -- one that came through all its events, and what came behind it
-  module _ (earlier : (disk : D) (s t : ℕ) (files : Files) → honest disk → s ≤ t → left disk t files → left disk s files) (a b c : Kept D) where
+  module _ (earlier : (disk : D) (s t : ℕ) (files : Files) → s ≤ t → left disk t files → left disk s files) (a b c : Kept D) where
     -- what a crash leaves since the first entry
     pub any-then : (es fs : List Event) (w : List ℕ) → Progress a.told b.told es [] w → LeavesOnly moment left a.disk b.disk (IsSafe a.told.config a.told.state es 0) → honest b.disk
         → LeavesOnly moment left b.disk c.disk (IsSafe b.told.config b.told.state fs 0) → LeavesOnly moment left a.disk c.disk (IsSafe a.told.config a.told.state (es ++ fs) 0)
     any-then es fs w p first there second =
         only_then moment left a.disk b.disk c.disk (IsSafe a.told.config a.told.state es 0) (IsSafe b.told.config b.told.state fs 0) (IsSafe a.told.config a.told.state (es ++ fs) 0)
-        (λ s t files le since. earlier b.disk s t files there le since) first second
+        (earlier b.disk) first second
         (λ files is. safe-less a.told.config a.told.state es fs 0 0 files (omega arith) is)
         (λ files is. safe-fewer a.told.config a.told.state (es ++ fs) (length es + 0) 0 files (omega arith)
         (safe-behind a.told b.told es fs p.took.judged 0 files p.took.are_judged p.took.config p.took.state is))
@@ -143,19 +145,20 @@ module _ {D : Type 0} (honest : D → Type 0) (moment : D → ℕ) (left : D →
         → LeavesOnly moment left a.disk c.disk (IsConfigured a.told.config)
     configured-then config there first second =
         only_then moment left a.disk b.disk c.disk (IsConfigured a.told.config) (IsConfigured a.told.config) (IsConfigured a.told.config)
-        (λ s t files le since. earlier b.disk s t files there le since) first
+        (earlier b.disk) first
         (subst (λ (k : Config). LeavesOnly moment left b.disk c.disk (IsConfigured k)) config second) (λ files is. is) (λ files is. is)
 
     -- how they fare together
-    pub fares-then : (es fs : List Event) (w sent : List ℕ) (p : Progress a.told b.told es [] w) → (a.told.held ≡ [] → b.told.held ≡ []) → honest a.disk ↔ honest b.disk
+    pub fares-then : (es fs : List Event) (w sent : List ℕ) (p : Progress a.told b.told es [] w) → (a.told.held ≡ [] → b.told.held ≡ []) → (honest b.disk → honest a.disk) → (honest a.disk → honest b.disk)
         → (honest a.disk → LeavesOnly moment left a.disk b.disk (IsConfigured a.told.config)) → (IsAtRest honest a → LeavesOnly moment left a.disk b.disk (IsSafe a.told.config a.told.state es 0))
         → b.fallen ≡ false → Fares honest moment left b c fs sent → Fares honest moment left a c (es ++ fs) (w ++ sent)
-    fares-then es fs w sent p none keeps configured any stands f = record {
-      keeps_honest = (λ h. f.keeps_honest.0 (keeps.0 h), λ h. keeps.1 (f.keeps_honest.1 h));
-      configured = λ h stood. configured-then p.took.config (keeps.0 h) (configured h) (f.configured (keeps.0 h) stands);
+    fares-then es fs w sent p none was stays configured any stands f = record {
+      was_honest = λ h. was (f.was_honest h);
+      stays_honest = λ up h. f.stays_honest up (stays h);
+      configured = λ h stood. configured-then p.took.config (stays h) (configured h) (f.configured (stays h) stands);
       none = λ held up. f.none (none held) up;
       outlives = λ ready.
-          let there : honest b.disk = keeps.0 ready.is_honest in
+          let there : honest b.disk = stays ready.is_honest in
           let ready_b : IsAtRest honest b = record { stands = stands; is_honest = there; none = none ready.none } in
           let o = f.outlives ready_b in
           let is_w : w ≡ flat_map frame (replies a.told p.took.judged) = all_sent a.told b.told es w p none ready.none in

@@ -3,10 +3,11 @@ pub mod Written
 pub mod Answers
 pub mod Lasting
 pub mod Memory
-pub mod Streams
+pub mod Talks
 pub mod Behind
 pub mod Tending
 pub mod Loops
 pub mod Passing
 pub mod Closing
 pub mod Runs
+pub mod Lives

@@ -1,5 +1,5 @@
 -- A run: one read after the other.
-use Rattle.std.proofs.Common.{◌≡◌, ◌≢◌, ◌↔◌, ℕ, ◌+◌, ◌<◌, ◌≤◌, ◌^◌, List, [], ◌++◌, true, false, length, refl, sym, ap, ◌∙◌, arith, append_assoc, subst, length-append}
+use Rattle.std.proofs.Common.{◌≡◌, ◌≢◌, ℕ, ◌+◌, ◌<◌, ◌≤◌, ◌^◌, List, [], ◌++◌, true, false, length, refl, sym, ap, ◌∙◌, arith, append_assoc, subst, length-append}
 use Rattle.std.specs.List.{flat_map}
 use Rattle.std.proofs.lemmas.List.{append-nil}
 use Rattle.std.proofs.lemmas.List.Concat.{flat_map-append}
@@ -97,6 +97,16 @@ pub Served-answered : (a b : Told) (given unanswered w : List ℕ) (n : ℕ) →
 Served-answered a b given unanswered w n p =
     Answered-of a b given w (subst (λ (f : EventsAndRest). Progress a b f.events [] w) (sym (framed_then_cut given unanswered p.events p.reads p.cut)) p.progress) p.none
 
+-- no end of the input was seen
+pub EndsBy-seen : (e : EdgeFault) (b c : Told) (bytes sent : List ℕ) (at_end : Type 0) → EndsBy e b c bytes sent ⊥ → EndsBy e b c bytes sent at_end
+EndsBy-seen BadKind b c bytes sent at_end q = q
+EndsBy-seen BadInterface b c bytes sent at_end q = q
+EndsBy-seen TooLong b c bytes sent at_end q = q
+EndsBy-seen Truncated b c bytes sent at_end q = absurd q.4
+EndsBy-seen Input b c bytes sent at_end q = q
+EndsBy-seen Output b c bytes sent at_end q = q
+EndsBy-seen (Gateway fault) b c bytes sent at_end q = q
+
 -- nothing more came
 pub nothing : (b : Told) (unanswered : List ℕ) → next unanswered ≡ Cut → Answered b b (unanswered ++ []) []
 nothing b unanswered cut =
@@ -112,10 +122,11 @@ nothing_counts unanswered cut = sym (ap (λ (f : EventsAndRest). length f.events
 -- ---- how far a run has come
 
 module _ {D : Type 0} (honest : D → Type 0) (moment : D → ℕ) (left : D → ℕ → Files → Type 0) (failed : D → ℕ)
-    (earlier : (disk : D) (s t : ℕ) (files : Files) → honest disk → s ≤ t → left disk t files → left disk s files) where
+    (earlier : (disk : D) (s t : ℕ) (files : Files) → s ≤ t → left disk t files → left disk s files) where
   pub record Going (old now : Kept D) (given unanswered written : List ℕ) (count : ℕ) : Type 0 where
     pub served : Served old.told now.told given unanswered written count
-    pub keeps_honest : honest old.disk ↔ honest now.disk
+    pub was_honest : honest now.disk → honest old.disk
+    pub stays_honest : honest old.disk → honest now.disk
     pub configured : honest old.disk → LeavesOnly moment left old.disk now.disk (IsConfigured old.told.config)
     pub any_moment : IsAtRest honest old → LeavesOnly moment left old.disk now.disk (IsSafe old.told.config old.told.state served.events 0)
     pub stood : old.fallen ≡ false
@@ -127,7 +138,8 @@ module _ {D : Type 0} (honest : D → Type 0) (moment : D → ℕ) (left : D →
   unfolding Served-first
   going-first old s = record {
     served = Served-first old.told;
-    keeps_honest = s.ran.keeps_honest;
+    was_honest = s.ran.was_honest;
+    stays_honest = s.ran.stays_honest s.stands;
     configured = s.ran.configured;
     any_moment = s.ran.any_moment;
     stood = s.stands;
@@ -145,10 +157,11 @@ module _ {D : Type 0} (honest : D → Type 0) (moment : D → ℕ) (left : D →
       let p = g.served in
       record {
         served = Served-then a.told b.told c.told given unanswered got rest w sent n m p q;
-        keeps_honest = (λ h. f.keeps_honest.0 (g.keeps_honest.0 h), λ h. g.keeps_honest.1 (f.keeps_honest.1 h));
-        configured = λ h. configured-then honest moment left failed earlier a b c p.progress.took.config (g.keeps_honest.0 h) (g.configured h) (f.configured (g.keeps_honest.0 h) g.stands);
+        was_honest = λ h. g.was_honest (f.was_honest h);
+        stays_honest = λ h. f.stays_honest stands (g.stays_honest h);
+        configured = λ h. configured-then honest moment left failed earlier a b c p.progress.took.config (g.stays_honest h) (g.configured h) (f.configured (g.stays_honest h) g.stands);
         any_moment = λ ready.
-            let there = g.keeps_honest.0 ready.is_honest in
+            let there = g.stays_honest ready.is_honest in
             let o = f.outlives (record { stands = g.stands; is_honest = there; none = p.none ready.none }) in
             let all : q.events ≡ o.front ++ o.back = sym (events_cut (unanswered ++ got) rest q.events q.reads q.cut) ∙ o.split in
             any-then honest moment left failed earlier a b c p.events q.events w p.progress (g.any_moment ready) there
@@ -166,7 +179,7 @@ module _ {D : Type 0} (honest : D → Type 0) (moment : D → ℕ) (left : D →
   going-ends a b c given unanswered got w sent n g f =
       let p = g.served in
       subst (λ (x : EventsAndRest). Fares honest moment left a c x.events (w ++ sent)) (sym (framed_more given unanswered got p.events p.reads))
-      (fares-then honest moment left failed earlier a b c p.events (events_in (unanswered ++ got)) w sent p.progress p.none g.keeps_honest g.configured g.any_moment g.stands f)
+      (fares-then honest moment left failed earlier a b c p.events (events_in (unanswered ++ got)) w sent p.progress p.none g.was_honest g.stays_honest g.configured g.any_moment g.stands f)
 
   -- the loop gave up
   pub going-stops : (a b : Kept D) (given unanswered w : List ℕ) (n : ℕ) → Going a b given unanswered w n → ((events : List Event) → Fares honest moment left b b events []) → Fares honest moment left a b (events_in given) w
@@ -222,7 +235,8 @@ module _ {D : Type 0} (honest : D → Type 0) (moment : D → ℕ) (left : D →
   -- it had fallen before: nothing is done
   pub fallen-fares : (start : Kept D) (events : List Event) → start.fallen ≡ true → Fares honest moment left start start events []
   fallen-fares start events down = record {
-    keeps_honest = ((λ h. h), (λ h. h));
+    was_honest = λ h. h;
+    stays_honest = λ up h. h;
     configured = λ h up. absurd (true-false start.fallen down up);
     outlives = λ ready. absurd (true-false start.fallen down ready.stands);
     none = λ held up. held;

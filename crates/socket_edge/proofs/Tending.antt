@@ -12,7 +12,7 @@ use Rattle.socket_edge.proofs.Lasting.{fares-none}
 
 module _ {D : Type 0} (honest : D → Type 0) (moment : D → ℕ) (left : D → ℕ → Files → Type 0) (seen : D → Files) (failed : D → ℕ)
     (reads : (disk : D) → honest disk → left disk (moment disk) (seen disk))
-    (earlier : (disk : D) (s t : ℕ) (files : Files) → honest disk → s ≤ t → left disk t files → left disk s files) (now : Kept D) where
+    (earlier : (disk : D) (s t : ℕ) (files : Files) → s ≤ t → left disk t files → left disk s files) (now : Kept D) where
   -- no call of the gateway was made
   pub no-call : (out : List (ℕ × Answer)) → CarriesOn honest moment left failed now now [] out out
   no-call out = carries-none honest moment left failed now now out out (λ start events s. s)

@@ -1,5 +1,5 @@
 -- What a run does.
-use Rattle.std.specs.Prelude.{◌≡◌, ◌≢◌, ◌↔◌, ◌≤◌, ℕ, List, [], ◌++◌, length, take, false, Result, Ok, Err}
+use Rattle.std.specs.Prelude.{◌≡◌, ◌≢◌, ◌≤◌, ℕ, List, [], ◌∷◌, ◌++◌, length, take, false, Result, Ok, Err}
 use Rattle.disk_model.specs.Disk.{Files, LeavesNow, LeavesOnly}
 use Rattle.durable.specs.Recovery.{IsConfigured}
 use Rattle.machine.specs.Judged.{Judged, AreJudged}
@@ -13,6 +13,7 @@ use Rattle.gateway.specs.Running.{IsWhy}
 use Rattle.socket_edge.specs.declared.fault.EdgeFault.{EdgeFault}
 use Rattle.socket_edge.specs.declared.fault.EdgeFault.TheVariants.{BadKind, BadInterface, TooLong, Truncated, Input, Output, Gateway}
 use Rattle.socket_edge.specs.Progress.{replies, Progress, Reached, AnsweredFirst, BeginsFrames}
+use Rattle.socket_edge.specs.Turns.{Turn, Gave, given, taken}
 
 -- the events of the bytes
 abbrev pub events_in : List ℕ → List Event
@@ -28,6 +29,13 @@ pub record Answered (old new : Told) (bytes sent : List ℕ) : Type 0 where
   pub progress : Progress old new (events_in bytes) [] sent
   pub none : old.held ≡ [] → new.held ≡ []
   pub all : old.held ≡ [] → sent ≡ frames (replies old progress.took.judged)
+
+-- Each time that the peer was asked for more, what it had taken by then answered all whole frames that it had given by
+-- then.
+abbrev pub AnswersFirst : Told → List Turn → Type 0
+AnswersFirst old turns = (before : List Turn) (bytes : List ℕ) (after : List Turn)
+    → turns ≡ before ++ Gave bytes ∷ after
+    → (now : Told) × Answered old now (given before) (taken before)
 
 -- what a fault says of the bytes that were read and sent; `at_end` is that the input has ended
 abbrev pub EndsBy : EdgeFault → Told → Told → List ℕ → List ℕ → Type 0 → Type 0
@@ -81,7 +89,8 @@ module _ {D : Type 0} (honest : D → Type 0) (moment : D → ℕ) (left : D →
 
   -- how the files fare while such events are taken, and such bytes sent
   pub record Fares (events : List Event) (sent : List ℕ) : Type 0 where
-    pub keeps_honest : honest old.disk ↔ honest new.disk
+    pub was_honest : honest new.disk → honest old.disk
+    pub stays_honest : new.fallen ≡ false → honest old.disk → honest new.disk
     pub configured : honest old.disk → old.fallen ≡ false
         → LeavesOnly moment left old.disk new.disk (IsConfigured old.told.config)
     pub outlives : IsAtRest honest old → Outlives events sent

@@ -1,5 +1,8 @@
 -- What the parts of a run do. No public clause cites this module.
-use Rattle.std.specs.Prelude.{◌≡◌, ◌≢◌, ◌≤◌, ℕ, Bool, List, [], ◌∷◌, ◌++◌, length, take, drop, false, true, Option, None, Some, Result, Ok, Err}
+use Rattle.std.specs.Prelude.{◌≡◌, ◌≢◌, ◌≤◌, ℕ, Bool, List, [], ◌∷◌, ◌++◌, length, take, drop, false, true, Option, None, Some, Result, Ok, Err, vec_capacity}
+use Rattle.std.specs.List.{All}
+use Rattle.std.specs.declared.vec.Vec.{Vec}
+use Rattle.std.specs.declared.alloc.Global.{Global}
 use Rattle.disk_model.specs.Disk.{Files}
 use Rattle.machine.specs.declared.event.Answer.{Answer}
 use Rattle.machine.specs.declared.event.Event.{Event}
@@ -21,7 +24,47 @@ use Rattle.socket_edge.specs.declared.serving.Step.TheVariants as step
 use Rattle.socket_edge.specs.declared.edge.ReadOutcome.{ReadOutcome}
 use Rattle.socket_edge.specs.declared.edge.ReadOutcome.TheVariants as read_outcome
 use Rattle.socket_edge.specs.Progress.{Progress}
+use Rattle.socket_edge.specs.Turns.{Turn, Gave, Took, given, taken}
 use Rattle.socket_edge.specs.Running.{AllAnswered, EndsBy, Fares, Explains, events_in}
+
+-- the peer was asked for nothing
+abbrev pub NeverAsks : List Turn → Type 0
+NeverAsks [] = Unit {0}
+NeverAsks (Gave bytes ∷ turns) = ⊥
+NeverAsks (Took bytes ∷ turns) = NeverAsks turns
+
+-- it was asked once at most, and before all else
+abbrev pub AsksFirst : List Turn → Type 0
+AsksFirst [] = Unit {0}
+AsksFirst (Gave bytes ∷ turns) = NeverAsks turns
+AsksFirst (Took bytes ∷ turns) = ⊥
+
+module _ {P : Type 0} (went : P → P → List Turn → Type 0) where
+  -- it was handed these bytes and took all of them, and was asked for nothing
+  pub record Hands (old new : P) (bytes : List ℕ) : Type 0 where
+    pub turns : List Turn
+    pub goes : went old new turns
+    pub unasked : NeverAsks turns
+    pub takes : taken turns ≡ bytes
+
+  -- so a beginning of the bytes
+  pub record HandsFront (old new : P) (bytes : List ℕ) : Type 0 where
+    pub written : List ℕ
+    pub lost : List ℕ
+    pub splits : written ++ lost ≡ bytes
+    pub hands : Hands old new written
+
+  -- it was asked once at most, and gave these bytes; then it was handed those and took all of them
+  pub record AsksOnce (old new : P) (got sent : List ℕ) : Type 0 where
+    pub turns : List Turn
+    pub goes : went old new turns
+    pub asks : AsksFirst turns
+    pub gives : given turns ≡ got
+    pub takes : taken turns ≡ sent
+
+-- each of these bodies has at most 2,048 bytes of memory
+abbrev pub AreShort : List (Vec ℕ Global) → Type 0
+AreShort bodies = All (λ body. vec_capacity body ≤ 2048) bodies
 
 -- the stream so far is these events, and then these bytes
 pub record Reads (given : List ℕ) (events : List Event) (unanswered : List ℕ) : Type 0 where
@@ -76,11 +119,12 @@ abbrev pub released : Option ℕ → List ℕ → List ℕ
 released None answered = answered
 released (Some n) answered = take n answered
 
--- the others are the frames of all that are held
-abbrev pub AreHeld : Option ℕ → List ℕ → List (ℕ × Answer) → Type 0
-AreHeld None answered held = Unit {0}
-AreHeld (Some n) answered held = (n ≤ length answered) × (drop n answered ≡ frames held)
-    × (held ≢ [])
+-- the others are the frames of all that are held, each of which was told in place
+abbrev pub AreHeld : {D : Type 0} → Option ℕ → List ℕ → Kept D → Type 0
+AreHeld None answered gateway = Unit {0}
+AreHeld (Some n) answered gateway = (n ≤ length answered)
+    × (drop n answered ≡ frames gateway.told.held)
+    × (gateway.told.held ≢ []) × (gateway.in_place ≡ true)
 
 module _ {D : Type 0} (honest : D → Type 0) (moment : D → ℕ) (left : D → ℕ → Files → Type 0)
     (failed : D → ℕ) where
@@ -88,7 +132,7 @@ module _ {D : Type 0} (honest : D → Type 0) (moment : D → ℕ) (left : D →
   abbrev pub TakenInPlace : Bool → Kept D → Kept D → Event → ℕ × Answer → Type 0
   TakenInPlace true old new event answer = ((before : List (ℕ × Answer))
       → CarriesOn honest moment left failed old new (event ∷ []) before before)
-      × (new.told.held ≡ old.told.held ++ answer ∷ [])
+      × (new.told.held ≡ old.told.held ++ answer ∷ []) × (new.in_place ≡ old.in_place)
   TakenInPlace false old new event answer = ((before : List (ℕ × Answer))
       → CarriesOn honest moment left failed old new (event ∷ []) before (before ++ answer ∷ []))
       × (old.told.held ≡ []) × (new.told.held ≡ [])

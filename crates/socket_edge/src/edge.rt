@@ -1,17 +1,19 @@
 //! A run: what is read is offered, and the answers are written.
 //!
-//! `run` calls `read_once` until the input ends. That reads (`Waiting::read`) and calls `answer_read`, which has
-//! `answer_front` answer all that is whole then, and compacts a file that has grown (`serving::compact_grown`).
-//! `answer_front` offers frame after frame (`serving::offer_all`), has what is held synced (`serving::close`), and only
-//! then writes the answers (`sending::send_behind`).
+//! `run_with` calls `read_once` until the input ends; `run` hands it two streams as one peer. `read_once` reads
+//! (`Waiting::read`) and calls `answer_read`. That has `answer_front` answer all that is whole then, and compacts a file
+//! that has grown (`serving::compact_grown`). `answer_front` offers frame after frame (`serving::offer_all`), has what
+//! is held synced (`serving::close`), and only then writes the answers (`sending::send_behind`).
 ghost use Rattle.std.specs.Prelude.{◌≡◌, ◌≢◌, ◌↔◌, ℕ, List, [], ◌++◌, ◌+◌, ◌<◌, ◌≤◌, ◌^◌, true, false, IfOk, IfErr, OnOk, length, vec_len, vec_capacity};
 ghost use Rattle.std.specs.Io.KnownBytes.{Appends, Consumes, IsAtEnd};
 ghost use Rattle.machine.specs.declared.event.Answer.{Answer};
 ghost use Rattle.frames.specs.Requests.{next, Cut};
-ghost use Rattle.socket_edge.specs.Running.{Explains, Fares, RunEnded, events_in};
-ghost use Rattle.socket_edge.specs.Serving.{FrontCame, SettledAndSent, ReadCame};
+ghost use Rattle.socket_edge.specs.Running.{AnswersFirst, Explains, Fares, RunEnded, events_in};
+ghost use Rattle.socket_edge.specs.Serving.{AsksOnce, FrontCame, Hands, SettledAndSent, ReadCame};
+ghost use Rattle.socket_edge.specs.Turns.{Turn, given, taken};
 
 use crate::fault::EdgeFault;
+use crate::peer::{Both, Peer};
 use crate::sending::send_behind;
 use crate::serving::{close, compact_grown, empty_for, offer_all};
 use crate::waiting::{Unread, Waiting};
@@ -38,9 +40,9 @@ struct Room {
 }
 
 /// Offers the whole frames at the front of `waiting`, and writes their answers. Says how many there were.
-fn answer_front<W: Write, D: Disk + Drop>(
+fn answer_front<P: Peer, D: Disk + Drop>(
     alloc: Global,
-    writer: &mut W,
+    peer: &mut P,
     gateway: &mut Gateway<D>,
     waiting: &mut Waiting,
     answers: &mut Vec<(u64, Answer)>,
@@ -51,7 +53,7 @@ fn answer_front<W: Write, D: Disk + Drop>(
     requires none { answers.old.items ≡ [] }
     requires room { vec_len answers.old + length gateway.old.told.held ≤ vec_capacity answers.old }
     ensures came { (handed : List (ℕ × Answer)) × (sent : List ℕ)
-        × Appends (W.contents writer.old) (W.contents writer.new) sent
+        × Hands P.went peer.old peer.new sent
         × SettledAndSent D.honest D.moment D.left D.failed result gateway.old gateway.new
         waiting.old.unanswered waiting.new.unanswered (handed ++ answers.new.items) sent }
     ensures sent { OnOk result (waiting.new.answered ≡ []) }
@@ -60,23 +62,23 @@ fn answer_front<W: Write, D: Disk + Drop>(
     stands(gateway);
     let (count, halt) = offer_all(alloc, waiting, answers, bodies, gateway);
     let closed = close(halt, waiting, answers, bodies, gateway);
-    send_behind(writer, waiting.answered(), answers.as_slice())?;
+    send_behind(peer, waiting.answered(), answers.as_slice())?;
     closed?;
     waiting.forget_answered();
     Ok(count)
 }
 
 /// Offers the whole frames at the front of `waiting`, writes their answers, and compacts where the file has grown.
-fn answer_read<W: Write, D: Disk + Drop>(
+fn answer_read<P: Peer, D: Disk + Drop>(
     alloc: Global,
-    writer: &mut W,
+    peer: &mut P,
     gateway: &mut Gateway<D>,
     waiting: &mut Waiting,
     room: &mut Room,
 ) -> Result<u64, EdgeFault>
     requires stands { gateway.old.fallen ≡ false }
     requires sent { waiting.old.answered ≡ [] }
-    ensures served { (sent : List ℕ) × Appends (W.contents writer.old) (W.contents writer.new) sent
+    ensures served { (sent : List ℕ) × Hands P.went peer.old peer.new sent
         × FrontCame result gateway.old.told gateway.new.told
         waiting.old.unanswered waiting.new.unanswered sent
         × Fares D.honest D.moment D.left gateway.old gateway.new
@@ -94,7 +96,7 @@ fn answer_read<W: Write, D: Disk + Drop>(
     }
     let count = answer_front(
         alloc,
-        writer,
+        peer,
         gateway,
         waiting,
         &mut room.answers,
@@ -107,10 +109,9 @@ fn answer_read<W: Write, D: Disk + Drop>(
 }
 
 /// One read, and all that it makes whole.
-fn read_once<R: Read, W: Write, D: Disk + Drop>(
+fn read_once<P: Peer, D: Disk + Drop>(
     alloc: Global,
-    reader: &mut R,
-    writer: &mut W,
+    peer: &mut P,
     gateway: &mut Gateway<D>,
     waiting: &mut Waiting,
     room: &mut Room,
@@ -119,11 +120,10 @@ fn read_once<R: Read, W: Write, D: Disk + Drop>(
     requires sent { waiting.old.answered ≡ [] }
     requires cut { next waiting.old.unanswered ≡ Cut }
     ensures came { (got sent : List ℕ)
-        × Consumes (R.remaining reader.old) (R.remaining reader.new) got
-        × Appends (W.contents writer.old) (W.contents writer.new) sent
+        × AsksOnce P.went peer.old peer.new got sent
         × ReadCame result gateway.old.told gateway.new.told (waiting.old.unanswered ++ got)
         waiting.new.unanswered sent
-        (IsAtEnd (R.remaining reader.new))
+        (P.ended peer.new)
         × Fares D.honest D.moment D.left gateway.old gateway.new
         (events_in (waiting.old.unanswered ++ got)) sent }
     ensures why { IfErr result (λ e. Explains D.honest D.moment D.left D.failed e gateway.old
@@ -136,7 +136,7 @@ fn read_once<R: Read, W: Write, D: Disk + Drop>(
     ensures stays { IfOk result (λ outcome. outcome ≡ ReadOutcome.End → gateway.new ≡ gateway.old) }
 {
     stands(gateway);
-    let n = match waiting.read(reader) {
+    let n = match waiting.read(peer) {
         Ok(n) => n,
         Err(Unread::NoMemory) => return Err(EdgeFault::Gateway(GatewayFault::NoMemory)),
         Err(Unread::Failed) => return Err(EdgeFault::Input),
@@ -147,7 +147,7 @@ fn read_once<R: Read, W: Write, D: Disk + Drop>(
         }
         return Err(EdgeFault::Truncated);
     }
-    match answer_read(alloc, writer, gateway, waiting, room) {
+    match answer_read(alloc, peer, gateway, waiting, room) {
         Ok(count) => Ok(ReadOutcome::More(count)),
         Err(fault) => Err(fault),
     }
@@ -159,6 +159,60 @@ fn sum(count: u64, more: u64) -> u64
     ensures { result ≡ count + more }
 {
     count + more
+}
+
+/// Answers each request that the peer gives, in order, as `run` does of two streams. Each time that it asks the peer
+/// for more, the peer has taken the answers to all whole frames that it had given by then. So this never waits for a
+/// peer that waits for an answer.
+///
+/// # Errors
+///
+/// Those of `run`.
+pub fn run_with<P: Peer, D: Disk + Drop>(
+    alloc: Global,
+    peer: &mut P,
+    gateway: &mut Gateway<D>,
+) -> Result<u64, EdgeFault>
+    // By which turns it went, how the run ended, what a crash leaves of it, and that answers came first.
+    ensures ran { (turns : List Turn) × P.went peer.old peer.new turns
+        × RunEnded result gateway.old.told gateway.new.told (given turns) (taken turns)
+        (P.ended peer.new)
+        × Fares D.honest D.moment D.left gateway.old gateway.new (events_in (given turns))
+        (taken turns)
+        × AnswersFirst gateway.old.told turns }
+    ensures untouched { gateway.old.fallen ≡ true → peer.new ≡ peer.old }
+    ensures why { gateway.old.fallen ≡ false
+        → IfErr result (λ e. Explains D.honest D.moment D.left D.failed e gateway.old gateway.new) }
+    ensures stands { OnOk result ((gateway.old.fallen ≡ false) × (gateway.new.fallen ≡ false)) }
+    ensures reopen { IfErr result (λ e. (e ≡ EdgeFault.Gateway GatewayFault.Reopen)
+        ↔ (gateway.old.fallen ≡ true)) }
+    ensures reopen_stays { gateway.old.fallen ≡ true → gateway.new ≡ gateway.old }
+    ensures causes { IfErr result (λ e. (e ≢ EdgeFault.Gateway GatewayFault.HeldFull)
+        × (e ≢ EdgeFault.Gateway GatewayFault.Full)) }
+    ensures compacted { IfOk result (λ count. 0 < count → gateway.new.grown ≤ 1048576) }
+{
+    if gateway.has_fallen() {
+        return Err(EdgeFault::Gateway(GatewayFault::Reopen));
+    }
+    stands(gateway);
+    let mut waiting = Waiting::new(alloc);
+    let mut room = Room {
+        answers: Vec::new(alloc),
+        bodies: Vec::new(alloc),
+    };
+    let mut count: u64 = 0;
+    for _ in 0..u64::MAX {
+        match read_once(alloc, peer, gateway, &mut waiting, &mut room) {
+            Ok(ReadOutcome::More(more)) => {
+                gateway.facts();
+                count = sum(count, more);
+            }
+            Ok(ReadOutcome::End) => return Ok(count),
+            Err(fault) => return Err(fault),
+        }
+    }
+    stands(gateway);
+    Err(EdgeFault::Input)
 }
 
 /// Answers each request that the reader gives, in order, until its end or a fault, and says how many there were. What
@@ -202,27 +256,9 @@ pub fn run<R: Read, W: Write, D: Disk + Drop>(
     ensures causes { IfErr result (λ e. (e ≢ EdgeFault.Gateway GatewayFault.HeldFull)
         × (e ≢ EdgeFault.Gateway GatewayFault.Full)) }
     ensures compacted { IfOk result (λ count. 0 < count → gateway.new.grown ≤ 1048576) }
+    ensures untouched { gateway.old.fallen ≡ true → (reader.new ≡ reader.old)
+        × (writer.new ≡ writer.old) }
 {
-    if gateway.has_fallen() {
-        return Err(EdgeFault::Gateway(GatewayFault::Reopen));
-    }
-    stands(gateway);
-    let mut waiting = Waiting::new(alloc);
-    let mut room = Room {
-        answers: Vec::new(alloc),
-        bodies: Vec::new(alloc),
-    };
-    let mut count: u64 = 0;
-    for _ in 0..u64::MAX {
-        match read_once(alloc, reader, writer, gateway, &mut waiting, &mut room) {
-            Ok(ReadOutcome::More(more)) => {
-                gateway.facts();
-                count = sum(count, more);
-            }
-            Ok(ReadOutcome::End) => return Ok(count),
-            Err(fault) => return Err(fault),
-        }
-    }
-    stands(gateway);
-    Err(EdgeFault::Input)
+    let mut peer = Both { reader, writer };
+    run_with(alloc, &mut peer, gateway)
 }

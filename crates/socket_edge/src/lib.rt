@@ -6,6 +6,7 @@
 //! `run` reads request frames, offers each whole one to the gateway, and writes the frames of the
 //! answers, in whatever pieces the bytes come and go. What a frame is, the crate `frames` says. The modules:
 //! - `edge`: the run, one read after the other;
+//! - `peer`: whoever asks and is answered, and two streams as one peer;
 //! - `waiting`: the bytes that were read and aren't answered yet, and the answers in front of them;
 //! - `forwarding`: a packet that is answered in the bytes of its request: one that leaves at once, or any that has at
 //!   most 2,048 bytes;
@@ -13,18 +14,22 @@
 //! - `serving`: all whole frames at the front, offered in order;
 //! - `sending`: what stands in the bytes of the requests is written in one piece, and behind it, one by one, the frames
 //!   of answers that had no room there; for whoever has the answers alone all their frames are written in one piece;
-//! - `fault`: why a run ends early.
+//! - `fault`: why a run ends early;
+//! - `laws`: what follows from the definitions of `specs/Running`.
 #![tactic(auto)]
 
 mod ahead;
 mod edge;
 mod fault;
 mod forwarding;
+pub mod laws;
+mod peer;
 mod sending;
 mod serving;
 mod waiting;
 
-pub use edge::run;
+pub use edge::{run, run_with};
 pub use fault::EdgeFault;
+pub use peer::Peer;
 pub use sending::{send, send_all};
 pub use serving::MOST_GROWN;

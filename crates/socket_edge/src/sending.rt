@@ -4,22 +4,25 @@ ghost use Rattle.std.specs.Prelude.{◌≡◌, ◌++◌, OnOk, IfErr};
 ghost use Rattle.std.specs.Io.KnownBytes.{Appends};
 ghost use Rattle.frames.specs.Answers.{answer_body, frame_head, frame, frames};
 ghost use Rattle.socket_edge.specs.Progress.{AppendsFront};
+ghost use Rattle.socket_edge.specs.Serving.{Hands, HandsFront};
 
 use crate::fault::EdgeFault;
+use crate::peer::{Both, Peer};
 use frames::{byte_of, head_bytes, put_frames};
 use gateway::Answer;
 use std::alloc::Global;
+use std::io;
 use std::io::Write;
 
-/// Writes all of the bytes, in as many calls as the writer needs.
-fn write_out<W: Write>(writer: &mut W, bytes: &[u8]) -> Result<(), EdgeFault>
-    ensures ok { OnOk result (Appends (W.contents writer.old) (W.contents writer.new) bytes.now) }
+/// Writes all of the bytes, in as many calls as the peer needs.
+fn write_out<P: Peer>(peer: &mut P, bytes: &[u8]) -> Result<(), EdgeFault>
+    ensures ok { OnOk result (Hands P.went peer.old peer.new bytes.now) }
     ensures err { IfErr result (λ e. (e ≡ EdgeFault.Output)
-        × AppendsFront (W.contents writer.old) (W.contents writer.new) bytes.now) }
+        × HandsFront P.went peer.old peer.new bytes.now) }
 {
     let mut at = 0;
     while at < bytes.len() {
-        match writer.write(&bytes[at..]) {
+        match peer.write(&bytes[at..]) {
             Ok(0) => return Err(EdgeFault::Output),
             Ok(n) => at += n,
             Err(_) => return Err(EdgeFault::Output),
@@ -29,52 +32,65 @@ fn write_out<W: Write>(writer: &mut W, bytes: &[u8]) -> Result<(), EdgeFault>
 }
 
 /// Writes the one and then the other.
-fn write_both<W: Write>(writer: &mut W, first: &[u8], second: &[u8]) -> Result<(), EdgeFault>
-    ensures ok { OnOk result (Appends (W.contents writer.old) (W.contents writer.new) (first.now
+fn write_both<P: Peer>(peer: &mut P, first: &[u8], second: &[u8]) -> Result<(), EdgeFault>
+    ensures ok { OnOk result (Hands P.went peer.old peer.new (first.now
         ++ second.now)) }
     ensures err { IfErr result (λ e. (e ≡ EdgeFault.Output)
-        × AppendsFront (W.contents writer.old) (W.contents writer.new) (first.now ++ second.now)) }
+        × HandsFront P.went peer.old peer.new (first.now ++ second.now)) }
 {
-    write_out(writer, first)?;
-    write_out(writer, second)
+    write_out(peer, first)?;
+    write_out(peer, second)
 }
 
-fn write_head<W: Write>(writer: &mut W, number: u64, answer: &Answer) -> Result<(), EdgeFault>
-    ensures ok { OnOk result (Appends (W.contents writer.old) (W.contents writer.new)
+fn write_head<P: Peer>(peer: &mut P, number: u64, answer: &Answer) -> Result<(), EdgeFault>
+    ensures ok { OnOk result (Hands P.went peer.old peer.new
         (frame_head (number, answer.now))) }
     ensures err { IfErr result (λ e. (e ≡ EdgeFault.Output)
-        × AppendsFront (W.contents writer.old) (W.contents writer.new)
+        × HandsFront P.went peer.old peer.new
         (frame_head (number, answer.now))) }
 {
     let bytes = head_bytes(number, answer);
-    write_out(writer, &bytes)
+    write_out(peer, &bytes)
 }
 
-fn write_body<W: Write>(writer: &mut W, answer: &Answer) -> Result<(), EdgeFault>
-    ensures ok { OnOk result (Appends (W.contents writer.old) (W.contents writer.new)
+fn write_body<P: Peer>(peer: &mut P, answer: &Answer) -> Result<(), EdgeFault>
+    ensures ok { OnOk result (Hands P.went peer.old peer.new
         (answer_body answer.now)) }
     ensures err { IfErr result (λ e. (e ≡ EdgeFault.Output)
-        × AppendsFront (W.contents writer.old) (W.contents writer.new) (answer_body answer.now)) }
+        × HandsFront P.went peer.old peer.new (answer_body answer.now)) }
 {
     match answer {
         Answer::Forward(iface, packet) => {
-            write_both(writer, &[byte_of(*iface)], packet.as_slice())
+            write_both(peer, &[byte_of(*iface)], packet.as_slice())
         }
-        Answer::Dropped(number) => write_out(writer, &[*number]),
+        Answer::Dropped(number) => write_out(peer, &[*number]),
         _ => Ok(()),
     }
 }
 
 /// Writes a frame without memory.
-fn write_frame<W: Write>(writer: &mut W, number: u64, answer: &Answer) -> Result<(), EdgeFault>
-    ensures ok { OnOk result (Appends (W.contents writer.old) (W.contents writer.new)
+fn write_frame<P: Peer>(peer: &mut P, number: u64, answer: &Answer) -> Result<(), EdgeFault>
+    ensures ok { OnOk result (Hands P.went peer.old peer.new
         (frame (number, answer.now))) }
     ensures err { IfErr result (λ e. (e ≡ EdgeFault.Output)
-        × AppendsFront (W.contents writer.old) (W.contents writer.new)
+        × HandsFront P.went peer.old peer.new
         (frame (number, answer.now))) }
 {
-    write_head(writer, number, answer)?;
-    write_body(writer, answer)
+    write_head(peer, number, answer)?;
+    write_body(peer, answer)
+}
+
+/// Writes the frames of the answers one by one, without memory.
+fn send_frames<P: Peer>(peer: &mut P, answers: &[(u64, Answer)]) -> Result<(), EdgeFault>
+    ensures ok { OnOk result (Hands P.went peer.old peer.new
+        (frames answers.now)) }
+    ensures err { IfErr result (λ e. (e ≡ EdgeFault.Output)
+        × HandsFront P.went peer.old peer.new (frames answers.now)) }
+{
+    for pair in answers {
+        write_frame(peer, pair.0, &pair.1)?;
+    }
+    Ok(())
 }
 
 /// Writes the frames of the answers one by one, in order, and takes no memory.
@@ -89,10 +105,12 @@ pub fn send<W: Write>(writer: &mut W, answers: &[(u64, Answer)]) -> Result<(), E
     ensures err { IfErr result (λ e. (e ≡ EdgeFault.Output)
         × AppendsFront (W.contents writer.old) (W.contents writer.new) (frames answers.now)) }
 {
-    for pair in answers {
-        write_frame(writer, pair.0, &pair.1)?;
-    }
-    Ok(())
+    let mut nobody = io::empty();
+    let mut peer = Both {
+        reader: &mut nobody,
+        writer,
+    };
+    send_frames(&mut peer, answers)
 }
 
 /// Writes the bytes, and then the frames of the answers, in order.
@@ -100,19 +118,19 @@ pub fn send<W: Write>(writer: &mut W, answers: &[(u64, Answer)]) -> Result<(), E
 /// # Errors
 ///
 /// `Output` where a write fails or takes no byte. A beginning of them is written then, also a part of a frame.
-pub(crate) fn send_behind<W: Write>(
-    writer: &mut W,
+pub(crate) fn send_behind<P: Peer>(
+    peer: &mut P,
     bytes: &[u8],
     answers: &[(u64, Answer)],
 ) -> Result<(), EdgeFault>
-    ensures ok { OnOk result (Appends (W.contents writer.old) (W.contents writer.new) (bytes.now
+    ensures ok { OnOk result (Hands P.went peer.old peer.new (bytes.now
         ++ frames answers.now)) }
     ensures err { IfErr result (λ e. (e ≡ EdgeFault.Output)
-        × AppendsFront (W.contents writer.old) (W.contents writer.new) (bytes.now
+        × HandsFront P.went peer.old peer.new (bytes.now
         ++ frames answers.now)) }
 {
-    write_out(writer, bytes)?;
-    send(writer, answers)
+    write_out(peer, bytes)?;
+    send_frames(peer, answers)
 }
 
 /// Writes the frames of the answers, in order: in one piece, or part by part where memory for that is refused.
@@ -132,8 +150,13 @@ pub fn send_all<W: Write>(
         × AppendsFront (W.contents writer.old) (W.contents writer.new) (frames answers.now)) }
 {
     let mut bytes = Vec::new(alloc);
+    let mut nobody = io::empty();
+    let mut peer = Both {
+        reader: &mut nobody,
+        writer,
+    };
     match put_frames(&mut bytes, answers) {
-        Ok(()) => write_out(writer, bytes.as_slice()),
-        Err(_) => send(writer, answers),
+        Ok(()) => write_out(&mut peer, bytes.as_slice()),
+        Err(_) => send_frames(&mut peer, answers),
     }
 }

@@ -14,14 +14,14 @@
 //!
 //! In clauses `handed` are the answers whose frames were put into the bytes; `answers` has those behind them, so that
 //! `handed ++ answers` is what was handed out.
-ghost use Rattle.std.specs.Prelude.{◌≡◌, ◌≢◌, ◌+◌, ◌∷◌, ◌++◌, [], ℕ, List, ◌<◌, ◌≤◌, false, length, true, None, IfErr, IfNone, IfSome, OnOk, OnSome, vec_len, vec_capacity};
+ghost use Rattle.std.specs.Prelude.{◌≡◌, ◌≢◌, ◌+◌, ◌*◌, max, ◌∷◌, ◌++◌, [], ℕ, List, ◌<◌, ◌≤◌, false, length, true, None, IfErr, IfNone, IfSome, OnOk, OnSome, vec_len, vec_capacity};
 ghost use Rattle.gateway.specs.Kept.{Kept};
 ghost use Rattle.gateway.specs.Running.{CarriesOn, Stands};
 ghost use Rattle.machine.specs.declared.event.Answer.{Answer};
 ghost use Rattle.frames.specs.Answers.{frame, frames};
 ghost use Rattle.frames.specs.Requests.{Whole, next};
 ghost use Rattle.socket_edge.specs.Serving.{CarriesBehind, BreaksBehind, Stepped, Offered, Closed};
-ghost use Rattle.socket_edge.specs.Serving.{AreHeld, TakenInPlace, RefusesNone, end_of, where_held, released};
+ghost use Rattle.socket_edge.specs.Serving.{AreHeld, AreShort, TakenInPlace, RefusesNone, end_of, where_held, released};
 
 use crate::ahead::Ahead;
 use crate::fault::EdgeFault;
@@ -83,16 +83,18 @@ pub fn end_at(halt: Halt) -> Result<(), EdgeFault>
     }
 }
 
-/// Makes room for so many answers more.
-fn make_places(answers: &mut Vec<(u64, Answer)>, more: usize) -> Result<(), AllocError>
-    ensures items { answers.new.items ≡ answers.old.items }
-    ensures ok { OnOk result (vec_len answers.new + more ≤ vec_capacity answers.new) }
-    ensures capacity { vec_capacity answers.old ≤ vec_capacity answers.new }
+/// Makes room for so many items more, if there isn't: for twice as many as there will be then.
+fn make_places<T>(items: &mut Vec<T>, more: usize) -> Result<(), AllocError>
+    ensures items { items.new.items ≡ items.old.items }
+    ensures ok { OnOk result (vec_len items.new + more ≤ vec_capacity items.new) }
+    ensures capacity { vec_capacity items.old ≤ vec_capacity items.new }
+    ensures most { vec_capacity items.new
+        ≤ max (vec_capacity items.old) (2 * (vec_len items.old + more)) }
 {
-    if answers.capacity() - answers.len() >= more {
+    if items.capacity() - items.len() >= more {
         return Ok(());
     }
-    answers.reserve(more)
+    items.reserve_exact(more.saturating_mul(2).saturating_add(items.len()))
 }
 
 /// Lets the answers go, and keeps the memory of some of their packets for bodies of requests.
@@ -108,9 +110,17 @@ fn keep_bodies(answers: &mut Vec<(u64, Answer)>, bodies: &mut Vec<Vec<u8>>)
 }
 
 /// Keeps a body, unless many are kept already, it is great, or memory for its place is refused.
-fn keep_body(bodies: &mut Vec<Vec<u8>>, body: Vec<u8>) {
-    if bodies.len() < MOST_KEPT && body.capacity() <= LONGEST_KEPT {
-        let _ = bodies.push(body);
+fn keep_body(bodies: &mut Vec<Vec<u8>>, body: Vec<u8>)
+    ensures few { vec_len bodies.old ≤ 1024 → vec_len bodies.new ≤ 1024 }
+    ensures short { AreShort bodies.old.items → AreShort bodies.new.items }
+    ensures places { vec_capacity bodies.new ≤ max (vec_capacity bodies.old) 2048 }
+{
+    let count = bodies.len();
+    if count >= MOST_KEPT || body.capacity() > LONGEST_KEPT {
+        return;
+    }
+    if make_places(bodies, 1).is_ok() {
+        let _ = bodies.insert(count, body);
     }
 }
 
@@ -234,6 +244,7 @@ fn offer_copy<D: Disk + Drop>(
 fn is_idle<D: Disk + Drop>(answers: &[(u64, Answer)], gateway: &Gateway<D>) -> bool
     ensures none { result ≡ true → answers.now ≡ [] }
     ensures held { result ≡ true → gateway.now.told.held ≡ [] }
+    ensures in_place { result ≡ true → gateway.now.in_place ≡ true }
     ensures idle { answers.now ≡ [] → gateway.now.told.held ≡ [] → result ≡ true }
 {
     answers.is_empty() && gateway.held() == 0
@@ -277,7 +288,7 @@ fn offer_idle<D: Disk + Drop>(
         × ((before : List (ℕ × Answer)) → Stepped D.honest D.moment D.left D.failed result
         waiting.old.unanswered waiting.new.unanswered gateway.old gateway.new
         (before ++ answers.old.items) (before ++ (handed ++ answers.new.items))) }
-    ensures held { AreHeld (where_held result) waiting.new.answered gateway.new.told.held }
+    ensures held { AreHeld (where_held result) waiting.new.answered gateway.new }
     ensures alone { where_held result ≢ None
         → (answers.new.items ≡ []) × (64 ≤ vec_capacity answers.new) }
     ensures stands { RefusesNone result → gateway.new.fallen ≡ false }
@@ -340,13 +351,13 @@ fn take_or_settle<D: Disk + Drop>(
     gateway: &mut Gateway<D>,
 ) -> Option<Step>
     requires stands { gateway.old.fallen ≡ false }
-    requires held { AreHeld held_from waiting.old.answered gateway.old.told.held }
+    requires held { AreHeld held_from waiting.old.answered gateway.old }
     ensures some { IfSome result (λ step.
         (released (where_held step) waiting.new.answered ≡ released held_from waiting.old.answered)
         × ((before : List (ℕ × Answer)) → Stepped D.honest D.moment D.left D.failed step
         waiting.old.unanswered waiting.new.unanswered gateway.old gateway.new before before)) }
     ensures held { IfSome result (λ step.
-        AreHeld (where_held step) waiting.new.answered gateway.new.told.held) }
+        AreHeld (where_held step) waiting.new.answered gateway.new) }
     ensures stands { IfSome result (λ step. RefusesNone step → gateway.new.fallen ≡ false) }
     ensures few { OnSome result (length gateway.new.told.held ≤ 64) }
     ensures none { IfNone result ((handed : List (ℕ × Answer))
@@ -388,8 +399,8 @@ fn make_way<D: Disk + Drop>(
     waiting: &mut Waiting,
     gateway: &Gateway<D>,
 ) -> Option<usize>
-    requires held { AreHeld held_from waiting.old.answered gateway.now.told.held }
-    ensures held { AreHeld result waiting.new.answered gateway.now.told.held }
+    requires held { AreHeld held_from waiting.old.answered gateway.now }
+    ensures held { AreHeld result waiting.new.answered gateway.now }
     ensures released { released result waiting.new.answered
         ≡ released held_from waiting.old.answered }
     ensures rest { waiting.new.unanswered ≡ waiting.old.unanswered }
@@ -416,7 +427,7 @@ fn offer_next<D: Disk + Drop>(
     gateway: &mut Gateway<D>,
 ) -> Step
     requires stands { gateway.old.fallen ≡ false }
-    requires held { AreHeld held_from waiting.old.answered gateway.old.told.held }
+    requires held { AreHeld held_from waiting.old.answered gateway.old }
     requires alone { held_from ≢ None → (answers.old.items ≡ []) × (64 ≤ vec_capacity answers.old) }
     requires room { vec_len answers.old + length gateway.old.told.held ≤ vec_capacity answers.old }
     ensures step { (handed : List (ℕ × Answer))
@@ -425,7 +436,7 @@ fn offer_next<D: Disk + Drop>(
         × ((before : List (ℕ × Answer)) → Stepped D.honest D.moment D.left D.failed result
         waiting.old.unanswered waiting.new.unanswered gateway.old gateway.new
         (before ++ answers.old.items) (before ++ (handed ++ answers.new.items))) }
-    ensures held { AreHeld (where_held result) waiting.new.answered gateway.new.told.held }
+    ensures held { AreHeld (where_held result) waiting.new.answered gateway.new }
     ensures alone { where_held result ≢ None
         → (answers.new.items ≡ []) × (64 ≤ vec_capacity answers.new) }
     ensures stands { RefusesNone result → gateway.new.fallen ≡ false }

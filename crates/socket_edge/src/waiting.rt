@@ -7,8 +7,7 @@
 //! (`frames::fill_frames`), if there is room there. `answered` is what stands here to be written:
 //! `forget_answered` lets it go behind that. `cut_answered` takes the frames of held answers away: where their changes
 //! could not be synced, or where they make way for a frame that is offered as a copy (`serving::make_way`).
-ghost use Rattle.std.specs.Prelude.{◌≡◌, ◌≢◌, ◌+◌, ◌-◌, ◌≤◌, ◌++◌, ◌∷◌, [], ℕ, List, IfNone, IfOk, IfSome, OnOk, OnErr, length, take, drop, true, false};
-ghost use Rattle.std.specs.Io.KnownBytes.{Consumes, IsAtEnd};
+ghost use Rattle.std.specs.Prelude.{◌≡◌, ◌≢◌, ◌+◌, ◌-◌, ◌≤◌, ◌++◌, ◌∷◌, [], ℕ, List, IfNone, IfErr, IfOk, IfSome, OnOk, OnErr, length, take, drop, true, false};
 ghost use Rattle.gateway.specs.Running.{CarriesOn};
 ghost use Rattle.machine.specs.declared.event.Answer.{Answer};
 ghost use Rattle.machine.specs.declared.event.Event.{Event};
@@ -16,13 +15,14 @@ ghost use Rattle.machine.specs.declared.event.What.TheVariants.{Packet};
 ghost use Rattle.frames.specs.Answers.{frame, frames};
 ghost use Rattle.frames.specs.Requests.{next, Whole};
 ghost use Rattle.socket_edge.specs.Serving.{TakenInPlace};
+ghost use Rattle.socket_edge.specs.Turns.{Gave};
 
 use crate::forwarding::{Placed, answer_in_place, forward_frame};
+use crate::peer::Peer;
 use disk_model::Disk;
 use frames::{Head, Kind, LONGEST_PACKET, REQUEST_HEAD, announces_packet, fill_frames, read_head};
 use gateway::{Answer, Gateway, Iface, LONGEST_COPY};
 use std::alloc::{AllocError, Global};
-use std::io::Read;
 use std::marker::Model;
 
 /// The most bytes that one read takes.
@@ -234,30 +234,32 @@ impl Waiting {
         self.answered = 0;
     }
 
-    /// Reads once, at most 65,536 bytes, puts them behind the others, and says how many came; none where the input has
-    /// ended.
+    /// Asks once for more, at most 65,536 bytes, puts what comes behind the others, and says how many bytes came; none
+    /// where the input has ended.
     ///
     /// # Errors
     ///
-    /// `NoMemory` or `Failed`: nothing was read.
-    pub fn read<R: Read>(&mut self, reader: &mut R) -> Result<usize, Unread>
+    /// `NoMemory`: the peer wasn't asked. `Failed`: it gave nothing.
+    pub fn read<P: Peer>(&mut self, peer: &mut P) -> Result<usize, Unread>
         requires { self.old.answered ≡ [] }
         ensures ok { IfOk result (λ n. (got : List ℕ)
-            × Consumes (R.remaining reader.old) (R.remaining reader.new) got
+            × P.went peer.old peer.new (Gave got ∷ [])
             × (self.new ≡ record self.old {
               unanswered = self.old.unanswered ++ got;
               reach = length self.old.unanswered + n;
             })
             × (n ≡ length got) × (n ≤ 65536)) }
-        ensures end { IfOk result (λ n. n ≡ 0 → IsAtEnd (R.remaining reader.new)) }
-        ensures err { OnErr result (Consumes (R.remaining reader.old) (R.remaining reader.new) []
-            × (self.new ≡ record self.old { reach = length self.old.unanswered })) }
+        ensures end { IfOk result (λ n. n ≡ 0 → P.ended peer.new) }
+        ensures err { OnErr result (self.new ≡ record self.old { reach = length self.old.unanswered }) }
+        ensures unasked { IfErr result (λ e. e ≡ Unread.NoMemory → peer.new ≡ peer.old) }
+        ensures failed { IfErr result (λ e. e ≡ Unread.Failed
+            → P.went peer.old peer.new (Gave [] ∷ [])) }
     {
         self.move_to_front();
         if make_room(&mut self.bytes, self.end).is_err() {
             return Err(Unread::NoMemory);
         }
-        match read_behind(self.bytes.as_mut_slice(), self.end, reader) {
+        match read_behind(self.bytes.as_mut_slice(), self.end, peer) {
             Ok(n) => {
                 self.end += n;
                 Ok(n)
@@ -312,17 +314,18 @@ fn make_room(bytes: &mut Vec<u8>, len: usize) -> Result<(), AllocError>
 }
 
 /// Reads once, behind the first `len` bytes, and says how many bytes came.
-fn read_behind<R: Read>(bytes: &mut [u8], len: usize, reader: &mut R) -> Result<usize, Unread>
+fn read_behind<P: Peer>(bytes: &mut [u8], len: usize, peer: &mut P) -> Result<usize, Unread>
     requires { len + 65536 ≤ length bytes.old }
     ensures len { length bytes.new ≡ length bytes.old }
     ensures ok { IfOk result (λ n. (got : List ℕ)
-        × Consumes (R.remaining reader.old) (R.remaining reader.new) got
+        × P.went peer.old peer.new (Gave got ∷ [])
         × (take (len + n) bytes.new ≡ take len bytes.old ++ got) × (n ≡ length got) × (n ≤ 65536)) }
-    ensures end { IfOk result (λ n. n ≡ 0 → IsAtEnd (R.remaining reader.new)) }
-    ensures err { OnErr result (Consumes (R.remaining reader.old) (R.remaining reader.new) []
-        × (take len bytes.new ≡ take len bytes.old)) }
+    ensures end { IfOk result (λ n. n ≡ 0 → P.ended peer.new) }
+    ensures err { OnErr result (take len bytes.new ≡ take len bytes.old) }
+    ensures failed { IfErr result (λ e. (e ≡ Unread.Failed)
+        × P.went peer.old peer.new (Gave [] ∷ [])) }
 {
-    match reader.read(&mut bytes[len..len + MOST_READ]) {
+    match peer.read(&mut bytes[len..len + MOST_READ]) {
         Ok(n) => Ok(n),
         Err(_) => Err(Unread::Failed),
     }

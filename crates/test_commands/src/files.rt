@@ -12,7 +12,7 @@ use std::test::Fail;
 
 /// Gate, mark, generation 1, `lan`, `wan`, 192.168.0.0/16, one address, 203.0.113.1, filtering by endpoint, no text, no
 /// session, and a closed gate.
-const FRESH: [u8; 42] = [
+pub const FRESH: [u8; 42] = [
     0x01, 0x4e, 0x47, 0x57, 0x32, 0x00, 0x00, 0x00, 0x00, 0x00, 0x00, 0x00, 0x01, 0x03, 0x6c, 0x61,
     0x6e, 0x03, 0x77, 0x61, 0x6e, 0x01, 0xc0, 0xa8, 0x00, 0x00, 0x10, 0x01, 0xcb, 0x00, 0x71, 0x01,
     0x00, 0x00, 0x00, 0x00, 0x00, 0x00, 0x00, 0x00, 0x00, 0x00,
@@ -147,7 +147,8 @@ const BEGIN: &[u8] =
 const MIGRATED: &[u8] =
     b"the two files are of version 2 from now on: an older natgw calls them damaged\n";
 
-fn former_file(alloc: Global) -> Result<Vec<u8>, AllocError> {
+/// The file of an older natgw with the text and the session.
+pub fn former_file(alloc: Global) -> Result<Vec<u8>, AllocError> {
     let text = REQUESTS.get(14..115).unwrap_or(b"");
     let mut file = Vec::new(alloc);
     for part in &[FIRST_FRONT, text, BEGIN] {

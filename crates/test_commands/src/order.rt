@@ -2,7 +2,7 @@
 //! And what is left where a command gives up.
 use crate::shared::{SIDES, fresh, is_file};
 use commands::run;
-use options::{Opening, Options, Sides, Task, Work};
+use options::{Access, Opening, Options, Sides, Task, View, Work};
 use refusals::{Refusal, Stop};
 use std::fs;
 use std::process::ExitCode;
@@ -62,6 +62,7 @@ const FITS: Work<'static> = Work::Loop { path: "order/fits" };
 
 const SERVE: Work<'static> = Work::Serve {
     socket: "order/natgw.sock",
+    access: Access::Owner,
     connections: 1,
 };
 
@@ -183,6 +184,7 @@ fn ends_well(rt: &HostRuntime, work: Work<'_>, socket: &str) -> bool {
 
 const NO_CLIENT: Work<'static> = Work::Serve {
     socket: "socket/sock",
+    access: Access::Everyone,
     connections: 0,
 };
 
@@ -192,7 +194,7 @@ const NO_REQUEST: Work<'static> = Work::Loop {
 
 const ENDING_WELL: [(Work<'static>, &str); 3] = [
     (NO_CLIENT, "socket/sock"),
-    (Work::Show, "socket/sock"),
+    (Work::View(View::Rules), "socket/sock"),
     (NO_REQUEST, "socket/natgw.sock"),
 ];
 

@@ -1,7 +1,7 @@
 //! Streams that several tests begin with, and gateways over a disk in memory.
 use gateway::{Gateway, GatewayFault};
 use packet::{Bounds, Filtering, Prefix};
-use socket_edge::EdgeFault;
+use socket_edge::{EdgeFault, Peer};
 use std::alloc::{AllocError, AllocFailed, Global};
 use std::io::{Read, Write};
 use std::test::Fail;
@@ -286,6 +286,20 @@ pub fn run<R: Read, W: Write>(
     gateway: &mut Trials,
 ) -> Result<u64, EdgeFault> {
     socket_edge::run(alloc, reader, writer, gateway)
+}
+
+/// The run with a peer at a gateway over empty files, of which a test knows no clause.
+///
+/// # Errors
+///
+/// Those of the run, and `NoMemory` where there is no memory for a gateway.
+pub fn run_with_anew<P: Peer>(alloc: Global, peer: &mut P) -> Result<u64, EdgeFault> {
+    let Some(mut gateway) = gateway_of(alloc, ONE) else {
+        return Err(EdgeFault::Gateway(GatewayFault::NoMemory));
+    };
+    let ended = socket_edge::run_with(alloc, peer, &mut gateway);
+    close(gateway);
+    ended
 }
 
 /// The run at a gateway over empty files.

@@ -1,7 +1,10 @@
 //! What was asked is answered before more is read, and a file that has grown is made anew.
+ghost use Rattle.std.specs.Prelude.{⊤};
+
 use crate::shared::{
-    Stream, Trials, answered, close, four_requests, opened, request, run, run_anew,
+    Stream, Trials, answered, close, four_requests, opened, request, run, run_anew, run_with_anew,
 };
+use socket_edge::Peer;
 use std::alloc::{AllocError, Global};
 use std::cell::Cell;
 use std::io::{self, Read, Write};
@@ -85,6 +88,71 @@ fn ask_in_each(rt: &impl Abort, alloc: Global, stream: &Stream) {
 fn answers_before_it_reads_on(rt: HostRuntime) -> Result<(), Fail> {
     let stream = four_requests(rt.alloc())?;
     ask_in_each(&rt, rt.alloc(), &stream);
+    Ok(())
+}
+
+/// Both as one peer.
+#[derive(Drop)]
+struct Asker<'a> {
+    left: &'a [u8],
+    sizes: &'a [usize],
+    asked: usize,
+    written: Vec<u8>,
+}
+
+impl Peer for Asker<'_> {
+    ghost went = { λ _ _ _. ⊤ };
+
+    ghost ended = { λ _. ⊤ };
+
+    fn read(&mut self, bytes: &mut [u8]) -> io::Result<usize> {
+        if self.written.len() != answered(self.asked) {
+            return Err(io::Error::from(io::ErrorKind::WouldBlock));
+        }
+        let Some((size, sizes)) = self.sizes.split_first() else {
+            return Ok(0);
+        };
+        let most = bytes.len().min(*size);
+        self.sizes = sizes;
+        self.asked = self.asked.saturating_add(most);
+        self.left.read(&mut bytes[..most])
+    }
+
+    fn write(&mut self, bytes: &[u8]) -> io::Result<usize> {
+        self.written.write(bytes)
+    }
+
+    ghost still = { λ _. tt };
+
+    ghost further = { λ _ _ _ _ _ _ _. tt };
+}
+
+// Whether all is answered to such a peer.
+fn is_peer_answered(alloc: Global, stream: &Stream, sizes: &[usize]) -> bool {
+    let mut peer = Asker {
+        left: stream.requests.as_slice(),
+        sizes,
+        asked: 0,
+        written: Vec::new(alloc),
+    };
+    let ended = run_with_anew(alloc, &mut peer);
+    ended == Ok(4) && peer.written.as_slice() == stream.answers.as_slice()
+}
+
+fn ask_as_peer_in_each(rt: &impl Abort, alloc: Global, stream: &Stream) {
+    for sizes in &PIECES {
+        assert!(rt;
+            is_peer_answered(alloc, stream, *sizes),
+            "{} pieces",
+            sizes.len()
+        );
+    }
+}
+
+#[test]
+fn answers_a_peer_before_it_asks_on(rt: HostRuntime) -> Result<(), Fail> {
+    let stream = four_requests(rt.alloc())?;
+    ask_as_peer_in_each(&rt, rt.alloc(), &stream);
     Ok(())
 }
 

@@ -338,18 +338,19 @@ fn most_rules(alloc: Global) -> Result<String, AllocError> {
     Ok(text)
 }
 
-// What becomes of a packet to this port, and how many rules were looked at or passed over.
-fn counted(loaded: &Loaded, port: u16) -> (Forwarding, u32) {
-    let (found, steps) = forward_counted(&loaded.rules, &loaded.bounds, &outward(port));
-    (found, steps.count())
+// What becomes of a packet to this port, how many rules were looked at or passed over, and how many matches looked at.
+fn counted(loaded: &Loaded, port: u16) -> (Forwarding, u32, u64) {
+    let (found, cost) = forward_counted(&loaded.rules, &loaded.bounds, &outward(port));
+    (found, cost.rules.count(), cost.matches.count())
 }
 
-// What becomes of a packet by its port, and how many rules that takes.
-const COUNTED: [(u16, Forwarding, u32); 4] = [
-    (1000, Forwarding::Drop, 1),
-    (1100, Forwarding::Drop, 101),
-    (5095, Forwarding::Drop, 4096),
-    (5096, Forwarding::Pass, 4096),
+// What becomes of a packet by its port, and how many rules and matches that takes. A rule that asks for another port is
+// passed over without a look at its match.
+const COUNTED: [(u16, Forwarding, u32, u64); 4] = [
+    (1000, Forwarding::Drop, 1, 1),
+    (1100, Forwarding::Drop, 101, 1),
+    (5095, Forwarding::Drop, 4096, 1),
+    (5096, Forwarding::Pass, 4096, 0),
 ];
 
 fn greatest_rules(alloc: Global) -> Result<Box<Loaded>, Fail> {
@@ -359,8 +360,58 @@ fn greatest_rules(alloc: Global) -> Result<Box<Loaded>, Fail> {
 #[test]
 fn greatest(rt: HostRuntime) -> Result<(), Fail> {
     let loaded = greatest_rules(rt.alloc())?;
-    for (port, expected, steps) in &COUNTED {
-        assert_eq!(rt; counted(&loaded, *port), (*expected, *steps), "{port}");
+    for (port, expected, rules, matches) in &COUNTED {
+        assert_eq!(rt;
+            counted(&loaded, *port),
+            (*expected, *rules, *matches),
+            "{port}"
+        );
+    }
+    Ok(())
+}
+
+const SETS: &str =
+    "table ip f {\nset s { type ifname; elements = { lan0 } }\nset t { type ifname; elements = { wan0 } }\n";
+
+const AT_FORWARD: &str = "chain fw { type filter hook forward priority 0;\n";
+
+// A rule that says these matches as often.
+fn rule_of_many(alloc: Global, matches: &str, count: usize) -> Result<Box<Loaded>, Fail> {
+    let mut text = format!(in alloc; "{SETS}{AT_FORWARD}")?;
+    for _ in 0..count {
+        text.push_str(matches)?;
+    }
+    text.push_str(" drop\n}\n}\n")?;
+    rules_of(alloc, text.as_bytes())
+}
+
+// Matches, how often the rule says them, what becomes of a packet, and how many it takes a look at: of equal ones one,
+// and none after one that doesn't hold.
+const MANY: [(&str, usize, Forwarding, u64); 7] = [
+    ("iif@s ", 1_000, Forwarding::Drop, 1),
+    ("iif@s oif@t ", 500, Forwarding::Drop, 2),
+    ("iif@s iif!=@s ", 500, Forwarding::Pass, 2),
+    ("iif@t iif!=@s ", 500, Forwarding::Pass, 1),
+    ("ip daddr 0.0.0.0/0 ", 1_000, Forwarding::Drop, 1),
+    (
+        "udp dport{1-9,50-60}udp dport{1-9,50-60,70} ",
+        200,
+        Forwarding::Drop,
+        2,
+    ),
+    (
+        "udp dport{1-9,50-60}udp dport{53} udp dport 53 iif lan0 ",
+        200,
+        Forwarding::Drop,
+        4,
+    ),
+];
+
+#[test]
+fn equal_matches(rt: HostRuntime) -> Result<(), Fail> {
+    for (matches, count, expected, looks) in &MANY {
+        let loaded = rule_of_many(rt.alloc(), matches, *count)?;
+        assert_eq!(rt; counted(&loaded, 53), (*expected, 1, *looks), "{matches}");
     }
     Ok(())
 }

@@ -13,13 +13,17 @@ const REFUSED: u8 = 4;
 /// Where the first byte of an answer's body stands.
 const BODY: usize = 13;
 
-/// What was handed to a device.
+/// What became of the packets of a device.
 #[derive(Clone, Copy, Debug, PartialEq, Eq, Drop)]
 pub struct Side {
-    /// How many packets it let out.
+    /// How many it let out.
     pub left: u64,
-    /// How many it didn't.
+    /// How many bytes these had.
+    pub left_bytes: u64,
+    /// How many it was handed and didn't let out.
     pub lost: u64,
+    /// How many that came from it were dropped, by the number of the cause (docs/frames.md).
+    pub dropped: [u64; CAUSES],
 }
 
 /// What became of requests.
@@ -29,8 +33,6 @@ pub struct Counts {
     pub lan: Side,
     /// The device of wan.
     pub wan: Side,
-    /// How many packets were dropped, by the number of the cause (docs/frames.md).
-    pub dropped: [u64; CAUSES],
     /// How many rulesets were loaded.
     pub loaded: u64,
     /// How many were refused.
@@ -38,36 +40,22 @@ pub struct Counts {
 }
 
 impl Side {
-    // One more was handed on; whether it was let out.
-    pub(crate) fn leave(&mut self, out: bool) {
+    fn none() -> Side {
+        Side {
+            left: 0,
+            left_bytes: 0,
+            lost: 0,
+            dropped: [0; CAUSES],
+        }
+    }
+
+    // One more of so many bytes was handed on; whether it was let out.
+    pub(crate) fn leave(&mut self, bytes: usize, out: bool) {
         if out {
             self.left = self.left.saturating_add(1);
+            self.left_bytes = self.left_bytes.saturating_add(bytes as u64);
         } else {
             self.lost = self.lost.saturating_add(1);
-        }
-    }
-}
-
-impl Counts {
-    /// There was nothing yet.
-    pub fn none() -> Counts {
-        let none = Side { left: 0, lost: 0 };
-        Counts {
-            lan: none,
-            wan: none,
-            dropped: [0; CAUSES],
-            loaded: 0,
-            refused: 0,
-        }
-    }
-
-    // One more answer, by which no packet leaves.
-    pub(crate) fn tell(&mut self, frame: &[u8]) {
-        match frame {
-            [LOADED, ..] => self.loaded = self.loaded.saturating_add(1),
-            [REFUSED, ..] => self.refused = self.refused.saturating_add(1),
-            [DROPPED, ..] => self.drop_one(frame),
-            _ => {}
         }
     }
 
@@ -79,6 +67,29 @@ impl Counts {
         let cause = frame[BODY] as usize;
         if cause < CAUSES {
             self.dropped[cause] = self.dropped[cause].saturating_add(1);
+        }
+    }
+}
+
+impl Counts {
+    /// There was nothing yet.
+    pub fn none() -> Counts {
+        Counts {
+            lan: Side::none(),
+            wan: Side::none(),
+            loaded: 0,
+            refused: 0,
+        }
+    }
+
+    // One more answer, by which no packet leaves; whether its request came from wan.
+    pub(crate) fn tell(&mut self, frame: &[u8], from_wan: bool) {
+        match frame {
+            [LOADED, ..] => self.loaded = self.loaded.saturating_add(1),
+            [REFUSED, ..] => self.refused = self.refused.saturating_add(1),
+            [DROPPED, ..] if from_wan => self.wan.drop_one(frame),
+            [DROPPED, ..] => self.lan.drop_one(frame),
+            _ => {}
         }
     }
 }

@@ -69,17 +69,19 @@ fn hand_on<L: Device, W: Device>(
     // The header takes the place of what stands before the packet in the frame.
     let leaving = &mut frame[REPLY_FRONT - HEADER..];
     release(leaving, header);
+    let len = leaving.len() - HEADER;
     match side {
-        0 => counts.lan.leave(lan.send(leaving)),
-        1 => counts.wan.leave(wan.send(leaving)),
+        0 => counts.lan.leave(len, lan.send(leaving)),
+        1 => counts.wan.leave(len, wan.send(leaving)),
         _ => {}
     }
 }
 
-// Does what an answer says.
+// Does what an answer says, to a request that came from wan or didn't.
 fn let_one_out<L: Device, W: Device>(
     frame: &mut [u8],
     header: &Header,
+    from_wan: bool,
     lan: &mut L,
     wan: &mut W,
     counts: &mut Counts,
@@ -94,7 +96,7 @@ fn let_one_out<L: Device, W: Device>(
     ensures len { length frame.new ≡ length frame.old }
 {
     if frame[0] != FORWARD {
-        counts.tell(frame);
+        counts.tell(frame, from_wan);
         return;
     }
     if frame.len() < REPLY_FRONT {
@@ -105,10 +107,12 @@ fn let_one_out<L: Device, W: Device>(
 
 /// Hands the packets that leave by these answers to the devices of their interfaces, in order, each once. The headers
 /// are those of the requests that they answer; where there are fewer, `NO_HEADER`. Of an answer that isn't whole
-/// nothing leaves. The bytes mean nothing afterwards.
+/// nothing leaves. The bytes mean nothing afterwards. From the one with the number `wan_from` on, counted from 0, the
+/// requests came from wan, which only the counts are told.
 pub(crate) fn let_all_out<L: Device, W: Device>(
     answers: &mut [u8],
     headers: &[Header],
+    wan_from: usize,
     lan: &mut L,
     wan: &mut W,
     counts: &mut Counts,
@@ -125,7 +129,8 @@ pub(crate) fn let_all_out<L: Device, W: Device>(
     while let Some(len) = whole_reply(&answers[at..]) {
         let header = header_at(headers, number);
         let frame = &mut answers[at..at + len];
-        let_one_out(frame, &header, lan, wan, counts);
+        let from_wan = wan_from <= number;
+        let_one_out(frame, &header, from_wan, lan, wan, counts);
         at += len;
         number += 1;
     }

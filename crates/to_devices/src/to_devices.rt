@@ -61,10 +61,12 @@ impl ToDevices {
 
     /// Hands the packets that leave by the answers that wait to the devices of their interfaces, in order, each once.
     /// The headers are those of the requests that they answer; where there are fewer, `NO_HEADER`. Of an answer that
-    /// isn't whole nothing leaves. No answer waits then.
+    /// isn't whole nothing leaves. No answer waits then. From the request with the number `wan_from` on, counted from 0,
+    /// they came from wan, which only the counts are told.
     pub fn let_out<L: Device, W: Device>(
         &mut self,
         headers: &[Header],
+        wan_from: usize,
         lan: &mut L,
         wan: &mut W,
         counts: &mut Counts,
@@ -77,7 +79,14 @@ impl ToDevices {
         ensures from_lan { L.coming lan.new ≡ L.coming lan.old }
         ensures from_wan { W.coming wan.new ≡ W.coming wan.old }
     {
-        let_all_out(self.answers.as_mut_slice(), headers, lan, wan, counts);
+        let_all_out(
+            self.answers.as_mut_slice(),
+            headers,
+            wan_from,
+            lan,
+            wan,
+            counts,
+        );
         self.answers.clear();
     }
 }

@@ -7,7 +7,7 @@ use Rattle.disk_model.specs.Disk.{Files, Same, Torn, Put, TornIn, Goes}
 use Rattle.trial_disk.specs.Recorded.{Wrote, Synced, History, LeftSince, MayLeave, since, reads, did}
 use Rattle.trial_disk.specs.Choices.{crashed, restarted}
 use Rattle.trial_disk.specs.Simulated.{Simulated, passed, failing, half, FailsToWrite}
-use Rattle.trial_disk.specs.Lawful.{torn_put}
+use Rattle.trial_disk.specs.Lawful.{torn_put, reads_left}
 use Rattle.disk_model.proofs.Moments.{written_nothing}
 use Rattle.trial_disk.proofs.Histories.{reads_wrote, reads_synced}
 use Rattle.trial_disk.proofs.Leaving.{goes_did, goes_nowhere, goes_by, leads_wrote, leads_synced, synced_now, crashed_now}
@@ -105,6 +105,12 @@ pub seen_sync : {T E : Type 0} (old new : Simulated) (file : FileId) (r : Result
     → OnOk r (new ≡ passed (did (Synced file) old.history) old) → OnErr r (new ≡ failing old.history old) → Same (reads old.history) (reads new.history)
 seen_sync old new file (Ok x) ok err = λ other. ap (λ (h : History). reads h other) (ap history_of ok) ∙ reads_synced old.history file other
 seen_sync old new file (Err e) ok err = λ other. ap (λ (h : History). reads h other) (ap history_of err)
+
+pub outcome_sync : (old new : Simulated) → Same (reads old.history) (reads new.history) → LeftSince old.history (length old.history.done) (reads new.history)
+outcome_sync old new same =
+    let h = old.history in
+    let left = reads_left h in
+    (left.0, left.1, left.2, λ file. subst (λ (l : List ℕ). MayLeave (since h (take left.0 h.done) file).writes (since h (take left.0 h.done) file).base l) (sym (same file)) (left.3 file))
 
 pub durable_sync : {T E : Type 0} (old new : Simulated) (file : FileId) (r : Result T E)
     → OnOk r (new ≡ passed (did (Synced file) old.history) old) → OnOk r ((files : Files) → LeftSince new.history (length new.history.done) files → files file ≡ reads new.history file)

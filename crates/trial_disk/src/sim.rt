@@ -1,6 +1,6 @@
 //! `SimDisk`: a disk in memory that can be told to fail and to crash.
 ghost use Rattle.std.specs.Prelude.{◌≡◌, ◌↔◌, ◌⊎◌, ◌+◌, ◌≤◌, ◌<◌, [], length, take, drop, IfOk, OnOk, OnErr, IsOk, ⊤, Some, None};
-ghost use Rattle.disk_model.specs.Disk.{Synced as IsSynced, Put, TornIn, Goes, Same, Grew, Called, HasCause, pair};
+ghost use Rattle.disk_model.specs.Disk.{Synced as IsSynced, Put, TornIn, Goes, Same, Grew, Called, HasCause, LeftNow, pair};
 ghost use Rattle.trial_disk.specs.Recorded.{Wrote, Synced, did, reads};
 ghost use Rattle.trial_disk.specs.Choices.{crashed, restarted};
 ghost use Rattle.trial_disk.specs.Metered.{failed, turn_of};
@@ -210,8 +210,7 @@ impl Disk for SimDisk {
 
     ghost reads = { λ disk honest. reads_left disk.history };
 
-    ghost earlier = { λ disk s t files honest le left. left_earlier disk.history s t
-        files le left };
+    ghost earlier = { λ disk s t files le left. left_earlier disk.history s t files le left };
 
     fn failures(&self) -> u64 {
         self.meter.failures()
@@ -271,6 +270,7 @@ impl Disk for SimDisk {
         ensures turn { IsOk result → turn_of self.old.meter ≡ Passes }
         ensures synced { OnOk result (IsSynced moment_of MayBeLeft seen_of self.new file) }
         ensures seen { Same (seen_of self.old) (seen_of self.new) }
+        ensures outcome { LeftNow moment_of MayBeLeft self.old (seen_of self.new) }
         ensures crash { Goes moment_of MayBeLeft self.old self.new Same }
         ensures called { Called 1 self.old.meter.calls self.new.meter.calls }
         ensures cause { HasCause self.old.meter.failures self.new.meter.failures result }

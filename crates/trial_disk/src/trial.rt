@@ -141,7 +141,7 @@ impl Disk for Trial {
 
     ghost reads = { λ _ honest. absurd honest };
 
-    ghost earlier = { λ _ _ _ _ honest _ _. absurd honest };
+    ghost earlier = { λ _ _ _ _ _ left. left };
 
     fn failures(&self) -> u64 {
         self.disk.failures()

@@ -3,4 +3,4 @@ use Rattle.disk_model.proofs.laws.synced_looks.Goals as goal
 
 pub returns : goal.returns
 returns g c = λ old new file honest looked synced.
-    moments.synced_looks g.D.Disk.moment g.D.Disk.left g.D.Disk.seen old new file (λ s t files le since. g.met.D.Disk.earlier new s t files honest le since) looked synced
+    moments.synced_looks g.D.Disk.moment g.D.Disk.left g.D.Disk.seen old new file (g.met.D.Disk.earlier new) looked synced

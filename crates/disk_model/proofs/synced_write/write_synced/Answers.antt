@@ -14,7 +14,7 @@ returns-clause-any_moment g c =
     let file = c.args.file in
     let W = TornIn file c.args.at c.args.bytes.now in
     let wrote = c.write_at.ensures.crash honest in
-    let synced = c.sync.ensures.crash (c.write_at.ensures.honest.0 honest) in
+    let synced = c.sync.ensures.crash (c.in_ok-write_at.ensures.stays_honest honest) in
     follows moment left d0 d1 d2 W Same W
     (called moment left d0 d1 W (λ files was. written_nothing file c.args.at c.args.bytes.now files) wrote)
     (called moment left d1 d2 Same (λ files was other. refl) synced)
@@ -28,8 +28,5 @@ pub returns-clause-torn : goal.returns-clause-torn
 returns-clause-torn g c =
     λ honest.
     let wrote = c.write_at.ensures.crash honest in
-    let mid = c.write_at.ensures.honest.0 honest in
-    let last = c.sync.ensures.crash mid in
-    let from = last.now (g.D.Disk.seen c.sync.new.self) (g.met.D.Disk.reads c.sync.new.self (c.sync.ensures.honest.0 mid)) in
-    let first = wrote.now from.0 from.1 in
-    (first.0, first.1, written_same c.args.file c.args.at c.args.bytes.now first.0 from.0 (g.D.Disk.seen c.sync.new.self) first.2 from.2)
+    let mid = c.in_ok-write_at.ensures.stays_honest honest in
+    wrote.now (g.D.Disk.seen c.sync.new.self) (c.sync.ensures.outcome mid)

@@ -18,7 +18,7 @@ returns-in_err-compact-clause-err g c =
     (breaks-here g.D.Disk.honest g.D.Disk.moment g.D.Disk.left g.D.Disk.failed c.hand_out.new.gateway c.compact.new.self [] out out why
     (λ start events s. record {
       ends = compact-stopped g.D.Disk.honest g.D.Disk.moment g.D.Disk.left g.D.Disk.seen g.D.Disk.failed g.met.D.Disk.reads g.met.D.Disk.earlier start
-          c.hand_out.new.gateway events out s c.compact.new.self e.honest e.configured e.any_moment e.told;
+          c.hand_out.new.gateway events out s c.compact.new.self e.honest e.stays_honest e.configured e.any_moment e.told;
       is_why = compact-why g.D.Disk.honest g.D.Disk.moment g.D.Disk.left g.D.Disk.seen g.D.Disk.failed g.met.D.Disk.reads g.met.D.Disk.earlier start
           c.hand_out.new.gateway events out s c.compact.new.self why (fault-is why fault.Reopen e.reopen) (fault-is why fault.Device e.fell) e.causes (λ is. e.device (ap Err is)) e.by_one
           (λ is. ap (λ n. n.generation) (e.stays (λ d. let bad : fault.Generations ≡ fault.Device = sym is ∙ d in absurd cc)) ∙ e.generations (ap Err is));
@@ -33,5 +33,5 @@ returns-clause-ok g c =
     c.in_ok-hand_out.ensures.ok
     (carries-none g.D.Disk.honest g.D.Disk.moment g.D.Disk.left g.D.Disk.failed c.hand_out.new.gateway c.compact.new.self out out
     (λ start events s. compacted g.D.Disk.honest g.D.Disk.moment g.D.Disk.left g.D.Disk.seen g.D.Disk.failed g.met.D.Disk.reads g.met.D.Disk.earlier start
-    c.hand_out.new.gateway events out s c.compact.new.self e.honest e.configured e.any_moment e.told c.in_ok-hand_out.ensures.none
+    c.hand_out.new.gateway events out s c.compact.new.self e.honest e.stays_honest e.configured e.any_moment e.told c.in_ok-hand_out.ensures.none
     (stands-still c.in_ok-compact.field-0 fault.Device c.compact.new.self.fallen e.fell c.in_ok-hand_out.ensures.stands) e.no_failure))

@@ -13,7 +13,7 @@ returns-in_err-held-clause-err g c =
     rw (p.1, p.2) (breaks-here g.D.Disk.honest g.D.Disk.moment g.D.Disk.left g.D.Disk.failed c.args.gateway.now c.flush.new.self [] c.args.answers.now.items c.args.answers.now.items c.in_err-held.field-0.0
     (λ start events s. record {
       ends = flush-stopped g.D.Disk.honest g.D.Disk.moment g.D.Disk.left g.D.Disk.seen g.D.Disk.failed g.met.D.Disk.reads g.met.D.Disk.earlier start
-          c.args.gateway.now events c.args.answers.now.items s c.flush.new.self e.honest e.configured e.any_moment e.err;
+          c.args.gateway.now events c.args.answers.now.items s c.flush.new.self e.honest e.stays_honest e.configured e.any_moment e.err;
       is_why = flush-why g.D.Disk.honest g.D.Disk.moment g.D.Disk.left g.D.Disk.seen g.D.Disk.failed g.met.D.Disk.reads g.met.D.Disk.earlier start
           c.args.gateway.now events c.args.answers.now.items s c.flush.new.self c.in_err-held.field-0.0 (fault-is c.in_err-held.field-0.0 fault.Reopen e.reopen) (fault-is c.in_err-held.field-0.0 fault.Device e.fell) e.causes (λ is. e.device (ap Err is)) e.by_one;
       stays = λ other. absurd (other (flush-device g.D.Disk.honest g.D.Disk.moment g.D.Disk.left g.D.Disk.seen g.D.Disk.failed g.met.D.Disk.reads g.met.D.Disk.earlier start
@@ -27,4 +27,4 @@ returns-clause-ok g c =
     (λ start events s.
     subst (λ (out : List (ℕ × Answer)). Stands g.D.Disk.honest g.D.Disk.moment g.D.Disk.left g.D.Disk.failed start c.flush.new.self events out) (sym (c.put_all.ensures.items ∙ ap (λ (l : List (ℕ × Answer)). c.args.answers.now.items ++ l) e.answers))
     (flushed g.D.Disk.honest g.D.Disk.moment g.D.Disk.left g.D.Disk.seen g.D.Disk.failed g.met.D.Disk.reads g.met.D.Disk.earlier start
-    c.args.gateway.now events c.args.answers.now.items s c.flush.new.self e.honest e.configured e.any_moment e.ok e.none (stands-still c.in_ok-held.held fault.Device c.flush.new.self.fallen e.fell c.requires.stands) e.no_failure))
+    c.args.gateway.now events c.args.answers.now.items s c.flush.new.self e.honest e.stays_honest e.configured e.any_moment e.ok e.none (stands-still c.in_ok-held.held fault.Device c.flush.new.self.fallen e.fell c.requires.stands) e.no_failure))

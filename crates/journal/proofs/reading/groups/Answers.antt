@@ -20,22 +20,22 @@ same_error r x y first second = ap (λ q. error_or x q) (sym first ∙ second)
 pub returns-in_err-end-clause-looks : goal.returns-in_err-end-clause-looks
 returns-in_err-end-clause-looks g c =
     looks_once g.D.Disk.honest g.D.Disk.seen g.D.Disk.moment g.D.Disk.left g.met.D.Disk.earlier _ _
-    (record { honest_on = c.len.ensures.honest; stays = c.len.ensures.seen; goes = c.len.ensures.crash })
+    (record { stays = c.len.ensures.seen; goes = c.len.ensures.crash })
 
 pub returns-in_err-body-clause-looks : goal.returns-in_err-body-clause-looks
 returns-in_err-body-clause-looks g c = λ h0.
     let h = c.loop-bodies.invariant.honest.0 h0 in
-    looks_then g.D.Disk.moment g.D.Disk.left g.D.Disk.seen _ c.loop-bodies.disk _ (λ s t files le since. g.met.D.Disk.earlier c.loop-bodies.disk s t files h le since) (c.loop-bodies.invariant.looks h0) (c.read_group.ensures.looks h)
+    looks_then g.D.Disk.moment g.D.Disk.left g.D.Disk.seen _ c.loop-bodies.disk _ (g.met.D.Disk.earlier c.loop-bodies.disk) (c.loop-bodies.invariant.looks h0) (c.read_group.ensures.looks h)
 
 pub returns-in_err-push-clause-looks : goal.returns-in_err-push-clause-looks
 returns-in_err-push-clause-looks g c = λ h0.
     let h = c.loop-bodies.invariant.honest.0 h0 in
-    looks_then g.D.Disk.moment g.D.Disk.left g.D.Disk.seen _ c.loop-bodies.disk _ (λ s t files le since. g.met.D.Disk.earlier c.loop-bodies.disk s t files h le since) (c.loop-bodies.invariant.looks h0) (c.read_group.ensures.looks h)
+    looks_then g.D.Disk.moment g.D.Disk.left g.D.Disk.seen _ c.loop-bodies.disk _ (g.met.D.Disk.earlier c.loop-bodies.disk) (c.loop-bodies.invariant.looks h0) (c.read_group.ensures.looks h)
 
 pub returns-clause-looks : goal.returns-clause-looks
 returns-clause-looks g c = λ h0.
     let h = c.loop-bodies.invariant.honest.0 h0 in
-    looks_then g.D.Disk.moment g.D.Disk.left g.D.Disk.seen _ c.loop-bodies.disk _ (λ s t files le since. g.met.D.Disk.earlier c.loop-bodies.disk s t files h le since) (c.loop-bodies.invariant.looks h0) (c.read_group.ensures.looks h)
+    looks_then g.D.Disk.moment g.D.Disk.left g.D.Disk.seen _ c.loop-bodies.disk _ (g.met.D.Disk.earlier c.loop-bodies.disk) (c.loop-bodies.invariant.looks h0) (c.read_group.ensures.looks h)
 
 pub returns-in_err-body-clause-damaged : goal.returns-in_err-body-clause-damaged
 returns-in_err-body-clause-damaged g c = λ h0 damaged others end groups.
@@ -64,10 +64,10 @@ returns-in_err-push-clause-memory g c = λ h0 memory.
 
 pub loop-bodies-init : goal.loop-bodies-init
 loop-bodies-init g c = record {
-  honest = c.len.ensures.honest;
+  honest = (c.in_ok-end.ensures.stays_honest, c.len.ensures.honest);
   looks =
       looks_once g.D.Disk.honest g.D.Disk.seen g.D.Disk.moment g.D.Disk.left g.met.D.Disk.earlier _ _
-      (record { honest_on = c.len.ensures.honest; stays = c.len.ensures.seen; goes = c.len.ensures.crash });
+      (record { stays = c.len.ensures.seen; goes = c.len.ensures.crash });
   read = λ h0. rw c.new-bodies.ensures.items (no_more _ _ (c.requires h0));
   size = search rules;
   failures = search rules;
@@ -75,10 +75,10 @@ loop-bodies-init g c = record {
 
 pub loop-bodies-preserved : goal.loop-bodies-preserved
 loop-bodies-preserved g c = record {
-  honest = (λ h. c.read_group.ensures.honest.0 (c.loop-bodies.invariant.honest.0 h), λ h. c.loop-bodies.invariant.honest.1 (c.read_group.ensures.honest.1 h));
+  honest = (λ h. c.in_ok-body.ensures.stays_honest (λ told. absurd cc) (c.loop-bodies.invariant.honest.0 h), λ h. c.loop-bodies.invariant.honest.1 (c.read_group.ensures.honest h));
   looks = λ h0.
       let h = c.loop-bodies.invariant.honest.0 h0 in
-      looks_then g.D.Disk.moment g.D.Disk.left g.D.Disk.seen _ c.loop-bodies.disk _ (λ s t files le since. g.met.D.Disk.earlier c.loop-bodies.disk s t files h le since) (c.loop-bodies.invariant.looks h0) (c.read_group.ensures.looks h);
+      looks_then g.D.Disk.moment g.D.Disk.left g.D.Disk.seen _ c.loop-bodies.disk _ (g.met.D.Disk.earlier c.loop-bodies.disk) (c.loop-bodies.invariant.looks h0) (c.read_group.ensures.looks h);
   read = λ h0.
       let h = c.loop-bodies.invariant.honest.0 h0 in
       let file = c.args.file in

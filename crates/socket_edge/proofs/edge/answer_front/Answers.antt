@@ -1,13 +1,12 @@
 use Rattle.std.proofs.Common.{◌≡◌, ◌++◌, [], List, ℕ, ap, sym, subst, ◌∙◌, append_assoc}
 use Rattle.std.specs.List.{flat_map}
-use Rattle.std.specs.Io.KnownBytes.{Appends}
 use Rattle.std.proofs.lemmas.List.Concat.{flat_map-append}
 use Rattle.std.proofs.lemmas.Result.{err_from_is_err_and}
 use Rattle.machine.specs.declared.event.Answer.{Answer}
 use Rattle.frames.specs.Answers.{frame, frames}
 use Rattle.socket_edge.specs.Exchange.{Exchange}
 use Rattle.frames.specs.Requests.{next}
-use Rattle.socket_edge.specs.Serving.{IsSettled, Reads}
+use Rattle.socket_edge.specs.Serving.{Hands, IsSettled, Reads}
 use Rattle.socket_edge.proofs.Closing.{sent-bad, sent-some}
 use Rattle.socket_edge.proofs.edge.answer_front.Goals as goal
 
@@ -33,7 +32,7 @@ returns-in_err-send_behind-clause-came g c =
     let front = rw c.as_slice.ensures.value at e.1 in (
       [],
       front.written,
-      front.appends,
+      front.hands,
       rw (p.1, p.2, e.0) (sent-some g.D.Disk.honest g.D.Disk.moment g.D.Disk.left g.D.Disk.seen g.D.Disk.failed g.met.D.Disk.reads g.met.D.Disk.earlier c.args.gateway.now c.close-closed.result c.close-closed.new.gateway bytes rest
           c.offer_all-count.result.0 (o.0 ++ (k.0 ++ items)) front.written front.lost closed (front.splits ∙ whole) c.close-closed.new.waiting.unanswered items),
     )
@@ -52,7 +51,7 @@ returns-in_err-closed-clause-came g c =
     let sent = rw c.as_slice.ensures.value at c.in_ok-send_behind.ensures.ok in (
       [],
       frames (o.0 ++ (k.0 ++ items)),
-      subst (Appends (g.W.Write.contents c.args.writer.now) (g.W.Write.contents c.send_behind.new.writer)) whole sent,
+      subst (Hands g.P.Peer.went c.args.peer.now c.send_behind.new.peer) whole sent,
       rw (p.1, p.2) (sent-bad g.D.Disk.honest g.D.Disk.moment g.D.Disk.left g.D.Disk.seen g.D.Disk.failed g.met.D.Disk.reads g.met.D.Disk.earlier c.args.gateway.now c.in_err-closed.field-0.0 c.close-closed.new.gateway bytes rest
           c.offer_all-count.result.0 (o.0 ++ (k.0 ++ items)) closed c.close-closed.new.waiting.unanswered items),
     )
@@ -72,7 +71,7 @@ returns-clause-came g c =
     let all : o.0 ++ (k.0 ++ items) ≡ (o.0 ++ k.0) ++ items = sym (append_assoc o.0 k.0 items) in (
       o.0 ++ k.0,
       frames (o.0 ++ (k.0 ++ items)),
-      subst (Appends (g.W.Write.contents c.args.writer.now) (g.W.Write.contents c.send_behind.new.writer)) whole sent,
+      subst (Hands g.P.Peer.went c.args.peer.now c.send_behind.new.peer) whole sent,
       (
         closed.0,
         subst (Reads bytes closed.0) (sym left) closed.1,

@@ -1,6 +1,6 @@
 use Rattle.std.proofs.Common.{[], ◌++◌, ap}
 use Rattle.socket_edge.specs.Running.{events_in}
-use Rattle.socket_edge.proofs.Streams.{Appends-nil}
+use Rattle.socket_edge.proofs.Talks.{Hands-nil}
 use Rattle.socket_edge.proofs.Answers.{AnsweredFirst-nothing}
 use Rattle.socket_edge.proofs.Closing.{served, served-fares, served-no_failure, not_compacted}
 use Rattle.socket_edge.proofs.Tending.{idle-fares}
@@ -9,7 +9,7 @@ use Rattle.socket_edge.proofs.edge.answer_read.Goals as goal
 pub returns-then-is_err-clause-served : goal.returns-then-is_err-clause-served
 returns-then-is_err-clause-served g c = (
   [],
-  Appends-nil (g.W.Write.contents c.args.writer.now),
+  Hands-nil g.P.Peer.went g.met.P.Peer.still c.args.peer.now,
   AnsweredFirst-nothing c.args.gateway.now.told (events_in c.args.waiting.now.unanswered),
   idle-fares g.D.Disk.honest g.D.Disk.moment g.D.Disk.left g.D.Disk.seen g.D.Disk.failed g.met.D.Disk.reads g.met.D.Disk.earlier c.args.gateway.now c.stands.ensures (events_in c.args.waiting.now.unanswered),
 )

@@ -1,19 +1,20 @@
-use Rattle.std.proofs.Common.{◌≡◌, ◌≢◌, List, [], ◌++◌, ℕ, length, arith, subst, sym, ap, ◌∙◌, Option}
+use Rattle.std.proofs.Common.{◌≡◌, ◌≢◌, List, [], ◌++◌, ℕ, length, arith, subst, sym, ap, ◌∙◌, ◌∷◌}
 use Rattle.std.proofs.lemmas.Grind.{common_steps}
 use Rattle.std.proofs.lemmas.List.{append-nil, nil_from_length}
-use Rattle.std.specs.Io.KnownBytes.{Consumes}
 use Rattle.socket_edge.specs.Exchange.{Exchange}
+use Rattle.socket_edge.specs.Serving.{AsksOnce, Served}
+use Rattle.socket_edge.specs.Turns.{Turn, Gave}
 use Rattle.frames.specs.Framing.{Rest}
-use Rattle.socket_edge.specs.Running.{events_in}
-use Rattle.socket_edge.proofs.Streams.{Appends-nil}
+use Rattle.socket_edge.specs.Running.{EndsBy, Fares, events_in}
+use Rattle.socket_edge.proofs.Talks.{Asks-none, Asks-once, Asks-then}
 use Rattle.socket_edge.proofs.Answers.{AnsweredFirst-nothing}
-use Rattle.socket_edge.proofs.Runs.{nothing, nothing_stops, nothing_counts}
+use Rattle.socket_edge.proofs.Runs.{EndsBy-seen, nothing, nothing_stops, nothing_counts}
 use Rattle.socket_edge.proofs.Tending.{idle-fares}
 use Rattle.socket_edge.proofs.edge.read_once.Goals as goal
 
 -- a read of no byte
-none_read : (a b : Option (List ℕ)) (n : ℕ) (got : List ℕ) → n ≡ 0 → n ≡ length got → Consumes a b got → Consumes a b []
-none_read a b n got e is h = subst (Consumes a b) (nil_from_length got (sym is ∙ e)) h
+none_read : {P : Type 0} (went : P → P → List Turn → Type 0) (a b : P) (n : ℕ) (got : List ℕ) → n ≡ 0 → n ≡ length got → went a b (Gave got ∷ []) → AsksOnce went a b [] []
+none_read went a b n got e is h = Asks-once went a b [] (subst (λ (x : List ℕ). went a b (Gave x ∷ [])) (nil_from_length got (sym is ∙ e)) h)
 
 none_added : (old new got : List ℕ) (n : ℕ) → n ≡ 0 → n ≡ length got → new ≡ old ++ got → new ≡ old
 none_added old new got n e is h = h ∙ ap (λ more. old ++ more) (nil_from_length got (sym is ∙ e)) ∙ append-nil old
@@ -22,8 +23,7 @@ pub returns-in-Err-NoMemory-clause-came : goal.returns-in-Err-NoMemory-clause-ca
 returns-in-Err-NoMemory-clause-came g c = (
   [],
   [],
-  c.in-Err-NoMemory.ensures.err.0,
-  Appends-nil (g.W.Write.contents c.args.writer.now),
+  Asks-none g.P.Peer.went g.met.P.Peer.still c.args.peer.now c.read.new.peer (c.in-Err-NoMemory.ensures.unasked c.in-Err-NoMemory.field-0-is),
   AnsweredFirst-nothing c.args.gateway.now.told (events_in (c.args.waiting.now.unanswered ++ [])),
   idle-fares g.D.Disk.honest g.D.Disk.moment g.D.Disk.left g.D.Disk.seen g.D.Disk.failed g.met.D.Disk.reads g.met.D.Disk.earlier c.args.gateway.now c.stands.ensures (events_in (c.args.waiting.now.unanswered ++ [])),
 )
@@ -32,8 +32,7 @@ pub returns-in-Err-Failed-clause-came : goal.returns-in-Err-Failed-clause-came
 returns-in-Err-Failed-clause-came g c = (
   [],
   [],
-  c.in-Err-Failed.ensures.err.0,
-  Appends-nil (g.W.Write.contents c.args.writer.now),
+  Asks-once g.P.Peer.went c.args.peer.now c.read.new.peer [] (c.in-Err-Failed.ensures.failed c.in-Err-Failed.field-0-is),
   nothing c.args.gateway.now.told c.args.waiting.now.unanswered c.requires.cut,
   idle-fares g.D.Disk.honest g.D.Disk.moment g.D.Disk.left g.D.Disk.seen g.D.Disk.failed g.met.D.Disk.reads g.met.D.Disk.earlier c.args.gateway.now c.stands.ensures (events_in (c.args.waiting.now.unanswered ++ [])),
 )
@@ -48,8 +47,7 @@ returns-then-is_empty-clause-came g c =
     let none : c.args.waiting.now.unanswered ≡ [] = sym same ∙ sym c.unanswered.ensures ∙ nil_from_length c.unanswered.result.now l in (
       [],
       [],
-      none_read (g.R.Read.remaining c.args.reader.now) (g.R.Read.remaining c.read.new.reader) c.in-Ok.n b.0 c.if-n-eq0.true b.3 b.1,
-      Appends-nil (g.W.Write.contents c.args.writer.now),
+      none_read g.P.Peer.went c.args.peer.now c.read.new.peer c.in-Ok.n b.0 c.if-n-eq0.true b.3 b.1,
       record {
         answered = nothing c.args.gateway.now.told c.args.waiting.now.unanswered c.requires.cut;
         whole = nothing_stops c.args.waiting.now.unanswered c.requires.cut ∙ ap Rest none;
@@ -69,8 +67,32 @@ returns-then-n-eq0-clause-came g c =
     let some : c.args.waiting.now.unanswered ≢ [] = λ h. (let z : length c.unanswered.result.now ≡ 0 = ap length (v ∙ same ∙ h) in let f : ⊥ = grind (arith, common_steps) in f) in (
       [],
       [],
-      none_read (g.R.Read.remaining c.args.reader.now) (g.R.Read.remaining c.read.new.reader) c.in-Ok.n b.0 c.if-n-eq0.true b.3 b.1,
-      Appends-nil (g.W.Write.contents c.args.writer.now),
+      none_read g.P.Peer.went c.args.peer.now c.read.new.peer c.in-Ok.n b.0 c.if-n-eq0.true b.3 b.1,
       (c.args.waiting.now.unanswered, nothing_stops c.args.waiting.now.unanswered c.requires.cut, some, nothing c.args.gateway.now.told c.args.waiting.now.unanswered c.requires.cut, c.in-Ok.ensures.end c.if-n-eq0.true),
       idle-fares g.D.Disk.honest g.D.Disk.moment g.D.Disk.left g.D.Disk.seen g.D.Disk.failed g.met.D.Disk.reads g.met.D.Disk.earlier c.args.gateway.now c.stands.ensures (events_in (c.args.waiting.now.unanswered ++ [])),
+    )
+
+pub returns-in-Ok-answer_read-clause-came : goal.returns-in-Ok-answer_read-clause-came
+returns-in-Ok-answer_read-clause-came g c =
+    let b = c.in-Ok.ensures.ok in
+    let s = c.in-Ok-answer_read.ensures.served in
+    let same = ap (λ (x : Exchange). x.unanswered) b.2 in (
+      b.0,
+      s.0,
+      Asks-then g.P.Peer.went g.met.P.Peer.further c.args.peer.now c.read.new.peer c.answer_read.new.peer b.0 s.0 b.1 s.1,
+      subst (λ (bytes : List ℕ). Served c.args.gateway.now.told c.answer_read.new.gateway.told bytes c.answer_read.new.waiting.unanswered s.0 c.in-Ok-answer_read.count) same s.2,
+      subst (λ (bytes : List ℕ). Fares g.D.Disk.honest g.D.Disk.moment g.D.Disk.left c.args.gateway.now c.answer_read.new.gateway (events_in bytes) s.0) same s.3,
+    )
+
+pub returns-in-Err-clause-came : goal.returns-in-Err-clause-came
+returns-in-Err-clause-came g c =
+    let b = c.in-Ok.ensures.ok in
+    let s = c.in-Err.ensures.served in
+    let same = ap (λ (x : Exchange). x.unanswered) b.2 in (
+      b.0,
+      s.0,
+      Asks-then g.P.Peer.went g.met.P.Peer.further c.args.peer.now c.read.new.peer c.answer_read.new.peer b.0 s.0 b.1 s.1,
+      EndsBy-seen c.in-Err.fault c.args.gateway.now.told c.answer_read.new.gateway.told (c.args.waiting.now.unanswered ++ b.0) s.0 (g.P.Peer.ended c.answer_read.new.peer)
+          (subst (λ (bytes : List ℕ). EndsBy c.in-Err.fault c.args.gateway.now.told c.answer_read.new.gateway.told bytes s.0 ⊥) same s.2),
+      subst (λ (bytes : List ℕ). Fares g.D.Disk.honest g.D.Disk.moment g.D.Disk.left c.args.gateway.now c.answer_read.new.gateway (events_in bytes) s.0) same s.3,
     )

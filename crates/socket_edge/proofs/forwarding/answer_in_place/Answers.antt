@@ -41,5 +41,6 @@ returns-in-Some-Held-clause-some g c =
             (record { moment = c.args.moment; what = Packet c.args.iface was } ∷ []) before out in
             subst (carries (drop 14 c.args.bytes.now)) (append-nil before) (subst (λ (was : List ℕ). carries was (before ++ [])) c.split_at_mut-front.ensures.back (e.some before))),
         e.answer,
+        e.in_place,
       ),
     )

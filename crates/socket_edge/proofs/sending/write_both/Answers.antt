@@ -1,5 +1,6 @@
 use Rattle.std.proofs.Common.{◌∙◌}
-use Rattle.std.proofs.lemmas.Result.{err_from_is_err_and}
+use Rattle.std.proofs.lemmas.Result.{err_from_is_err_and, on_ok_weaker}
+use Rattle.socket_edge.proofs.Talks.{Hands-then}
 use Rattle.socket_edge.proofs.Written.{Front-of, Fails-behind}
 use Rattle.socket_edge.proofs.sending.write_both.Goals as goal
 
@@ -7,8 +8,14 @@ pub returns-in_err-write_out-clause-err : goal.returns-in_err-write_out-clause-e
 returns-in_err-write_out-clause-err g c =
     let p = err_from_is_err_and c.from_residual.result c.from_residual.ensures.1 in
     let e = c.in_err-write_out.ensures.err in
-    rw p.1 (p.2 ∙ e.0, Front-of (g.W.Write.contents c.args.writer.now) (g.W.Write.contents c.write_out.new.writer) c.args.first.now c.args.second.now e.1)
+    rw p.1 (p.2 ∙ e.0, Front-of g.P.Peer.went c.args.peer.now c.write_out.new.peer c.args.first.now c.args.second.now e.1)
+
+pub returns-clause-ok : goal.returns-clause-ok
+returns-clause-ok g c =
+    on_ok_weaker c.write_out-2.result
+    (λ q. Hands-then g.P.Peer.went g.met.P.Peer.further c.args.peer.now c.write_out.new.peer c.write_out-2.new.peer c.args.first.now c.args.second.now c.in_ok-write_out.ensures.ok q)
+    c.write_out-2.ensures.ok
 
 pub returns-clause-err : goal.returns-clause-err
-returns-clause-err g c = Fails-behind (g.W.Write.contents c.args.writer.now) (g.W.Write.contents c.write_out.new.writer) (g.W.Write.contents c.write_out-2.new.writer) c.args.first.now c.args.second.now c.write_out-2.result
+returns-clause-err g c = Fails-behind g.P.Peer.went g.met.P.Peer.further c.args.peer.now c.write_out.new.peer c.write_out-2.new.peer c.args.first.now c.args.second.now c.write_out-2.result
     c.in_ok-write_out.ensures.ok c.write_out-2.ensures.err

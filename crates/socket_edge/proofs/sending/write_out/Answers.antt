@@ -1,31 +1,35 @@
-use Rattle.std.proofs.Common.{◌≡◌, ℕ, ◌+◌, ◌-◌, ◌≤◌, ◌++◌, length, take, drop, arith, sym, ap, ◌∙◌, List, take-add, length-drop, refl}
+use Rattle.std.proofs.Common.{◌≡◌, ℕ, ◌+◌, ◌-◌, ◌≤◌, ◌++◌, length, take, drop, [], arith, sym, ap, ◌∙◌, List, take-add, length-drop, refl}
 use Rattle.frames.proofs.Over.{rest_whole}
-use Rattle.socket_edge.proofs.Streams.{Appends-then}
-use Rattle.socket_edge.proofs.Written.{Front-stays, Keeps-nothing}
+use Rattle.socket_edge.proofs.Talks.{Hands-nil, Hands-once, Hands-then}
+use Rattle.socket_edge.proofs.Written.{Front-stays}
 use Rattle.socket_edge.proofs.sending.write_out.Goals as goal
+
+pub loop-at-init : goal.loop-at-init
+loop-at-init g c = (omega arith, Hands-nil g.P.Peer.went g.met.P.Peer.still c.args.peer.now)
 
 pub loop-at-preserved : goal.loop-at-preserved
 loop-at-preserved g c =
-    let w = g.W.Write.contents in
-    let b = c.in-Ok.ensures.bytes in
+    let w = g.P.Peer.went in
+    let b = c.in-Ok.ensures.went in
     let n = c.in-Ok.ensures.bound in
     let i = c.loop-at.invariant in
     let piece = take (length c.args.bytes.now - c.loop-at.at) (drop c.loop-at.at c.args.bytes.now) in
     let r : piece ≡ drop c.loop-at.at c.args.bytes.now = rest_whole c.loop-at.at c.args.bytes.now in
     let short : c.in-Ok.n ≤ length (drop c.loop-at.at c.args.bytes.now) = rw (← r) n in
-    let e : take (c.loop-at.at + c.in-Ok.n) c.args.bytes.now ≡ take c.loop-at.at c.args.bytes.now ++ take c.in-Ok.n piece = take-add c.loop-at.at c.in-Ok.n c.args.bytes.now ∙ ap (λ (x : List ℕ). take c.loop-at.at c.args.bytes.now ++ take c.in-Ok.n x) (sym r) in
-    (omega (arith, length-drop c.loop-at.at c.args.bytes.now, short), rw e (Appends-then (w c.args.writer.now) (w c.loop-at.writer) (w c.write.new.self) (take c.loop-at.at c.args.bytes.now) (take c.in-Ok.n piece) i.1 b))
+    let e : take (c.loop-at.at + c.in-Ok.n) c.args.bytes.now ≡ take c.loop-at.at c.args.bytes.now ++ take c.in-Ok.n piece = take-add c.loop-at.at c.in-Ok.n c.args.bytes.now ∙ ap (λ (x : List ℕ). take c.loop-at.at c.args.bytes.now ++ take c.in-Ok.n x) (sym r) in (
+      omega (arith, length-drop c.loop-at.at c.args.bytes.now, short),
+      rw e (Hands-then w g.met.P.Peer.further c.args.peer.now c.loop-at.peer c.write.new.self (take c.loop-at.at c.args.bytes.now) (take c.in-Ok.n piece) i.1 (Hands-once w c.loop-at.peer c.write.new.self (take c.in-Ok.n piece) b)),
+    )
 
 pub returns-in-Ok-eq0-clause-err : goal.returns-in-Ok-eq0-clause-err
 returns-in-Ok-eq0-clause-err g c =
-    let w = g.W.Write.contents in
-    let b = rw c.in-Ok-eq0.field-0-test at c.in-Ok-eq0.ensures.bytes in
+    let w = g.P.Peer.went in
+    let b = rw c.in-Ok-eq0.field-0-test at c.in-Ok-eq0.ensures.went in
     let i = c.loop-at.invariant in
-    (refl, Front-stays (w c.args.writer.now) (w c.loop-at.writer) (w c.write.new.self) c.loop-at.at c.args.bytes.now i.1 (Keeps-nothing (w c.loop-at.writer) (w c.write.new.self) b))
+    (refl, Front-stays w g.met.P.Peer.further c.args.peer.now c.loop-at.peer c.write.new.self c.loop-at.at c.args.bytes.now i.1 (Hands-once w c.loop-at.peer c.write.new.self [] b))
 
 pub returns-in-Err-clause-err : goal.returns-in-Err-clause-err
 returns-in-Err-clause-err g c =
-    let w = g.W.Write.contents in
-    let b = c.in-Err.ensures.bytes in
+    let w = g.P.Peer.went in
     let i = c.loop-at.invariant in
-    (refl, Front-stays (w c.args.writer.now) (w c.loop-at.writer) (w c.write.new.self) c.loop-at.at c.args.bytes.now i.1 b)
+    (refl, Front-stays w g.met.P.Peer.further c.args.peer.now c.loop-at.peer c.write.new.self c.loop-at.at c.args.bytes.now i.1 (Hands-once w c.loop-at.peer c.write.new.self [] c.in-Err.ensures.went))

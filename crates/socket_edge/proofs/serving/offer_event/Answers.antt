@@ -8,7 +8,7 @@ use Rattle.socket_edge.proofs.serving.offer_event.Goals as goal
 pub returns-then-is_err-clause-err : goal.returns-then-is_err-clause-err
 returns-then-is_err-clause-err g c = λ handed.
     no-memory g.D.Disk.honest g.D.Disk.moment g.D.Disk.left g.D.Disk.seen g.D.Disk.failed g.met.D.Disk.reads g.met.D.Disk.earlier c.args.gateway.now (c.args.event ∷ []) (handed ++ c.args.answers.now.items)
-    (handed ++ c.make_places.new.answers.items) (ap (λ answers. handed ++ answers) c.make_places.ensures.items)
+    (handed ++ c.make_places.new.items.items) (ap (λ answers. handed ++ answers) c.make_places.ensures.items)
 
 pub returns-clause-ok : goal.returns-clause-ok
 returns-clause-ok g c =
@@ -20,7 +20,7 @@ returns-clause-ok g c =
 pub returns-clause-err : goal.returns-clause-err
 returns-clause-err g c =
     IfErr-weaker c.take.result
-    (BreaksOff g.D.Disk.honest g.D.Disk.moment g.D.Disk.left g.D.Disk.failed c.args.gateway.now c.take.new.gateway (c.args.event ∷ []) c.make_places.new.answers.items c.take.new.answers.items)
+    (BreaksOff g.D.Disk.honest g.D.Disk.moment g.D.Disk.left g.D.Disk.failed c.args.gateway.now c.take.new.gateway (c.args.event ∷ []) c.make_places.new.items.items c.take.new.answers.items)
     (λ why. (handed : _) → BreaksOff g.D.Disk.honest g.D.Disk.moment g.D.Disk.left g.D.Disk.failed c.args.gateway.now c.take.new.gateway (c.args.event ∷ []) (handed ++ c.args.answers.now.items)
     (handed ++ c.take.new.answers.items) why)
     (λ why off. breaks-behind g.D.Disk.honest g.D.Disk.moment g.D.Disk.left g.D.Disk.failed g.met.D.Disk.earlier c.events_are_judged_once.ensures c.args.gateway.now c.take.new.gateway c.stands.ensures (c.args.event ∷ [])

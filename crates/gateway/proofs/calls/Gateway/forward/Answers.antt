@@ -23,6 +23,7 @@ invariant_of-self-2 g c =
           (takes_in own.core.config (g.D.Disk.seen own.store.disk) own.pending.entries own.pending.entries [] own.core.state c.forward.new.self.state event done.0
           (Forward c.in-Some-forward.out c.forward.new.packet) c.facts.ensures.config c.facts.ensures.sound (c.self.invariant.3 stands honest) done.1 done.2 done.3
           (sym (append-nil own.pending.entries))),
+      c.self.invariant.4,
     )
 
 pub returns-clause-no_entry : goal.returns-clause-no_entry

@@ -18,31 +18,32 @@ invariant_of-self g c =
     let done = c.in-Ok.ensures.ok in
     let noted = done.3 tt in (
       c.self.invariant.0 ∙ sym c.step_noted.ensures.config,
-      c.give.ensures.none,
-      λ stands. c.give.ensures.place ∙ ap (λ (b : Besides). b.place) c.step_noted.ensures.beside ∙ c.self.invariant.2 stands,
-      λ stands honest. subst (λ (k : Config). LeadsToPresent k (g.D.Disk.seen c.self.inside.store.disk) c.give.new.pending.entries c.step_noted.new.self.state) (sym c.step_noted.ensures.config)
-          (takes_in c.self.inside.core.config (g.D.Disk.seen c.self.inside.store.disk) c.self.inside.pending.entries c.give.new.pending.entries noted.0 c.self.inside.core.state
+      c.give-given.ensures.none,
+      λ stands. c.give-given.ensures.place ∙ ap (λ (b : Besides). b.place) c.step_noted.ensures.beside ∙ c.self.invariant.2 stands,
+      λ stands honest. subst (λ (k : Config). LeadsToPresent k (g.D.Disk.seen c.self.inside.store.disk) c.give-given.new.pending.entries c.step_noted.new.self.state) (sym c.step_noted.ensures.config)
+          (takes_in c.self.inside.core.config (g.D.Disk.seen c.self.inside.store.disk) c.self.inside.pending.entries c.give-given.new.pending.entries noted.0 c.self.inside.core.state
           c.step_noted.new.self.state c.args.event done.0 c.in-Ok.answer c.facts.ensures.config c.facts.ensures.sound (c.self.invariant.3 stands honest) done.1 done.2 noted.1
-          (c.give.ensures.entries ∙ noted.2)),
+          (c.give-given.ensures.entries ∙ noted.2)),
+      λ held. c.is_quiet-self-inside.ensures.value.1 (c.give-given.ensures.none held),
     )
 
 pub returns-in-Ok-clause-took : goal.returns-in-Ok-clause-took
 returns-in-Ok-clause-took g c = rw (← c.self.view_is) (
     let done = c.in-Ok.ensures.ok in
     took_in c.self.inside.core.config c.step_noted.new.self.config c.self.inside.core.state c.step_noted.new.self.state c.self.inside.last c.self.inside.pending.held
-    c.step_noted.new.notes.held c.give.new.pending.held c.args.event done.0 c.in-Ok.answer c.give.result done.1 c.step_noted.ensures.config done.2
-    (ap (λ (b : Besides). b.held) c.step_noted.ensures.beside) c.give.ensures.number c.give.ensures.order)
+    c.step_noted.new.notes.held c.give-given.new.pending.held c.args.event done.0 c.in-Ok.answer c.give-given.result done.1 c.step_noted.ensures.config done.2
+    (ap (λ (b : Besides). b.held) c.step_noted.ensures.beside) c.give-given.ensures.number c.give-given.ensures.order)
 
 pub returns-in-Ok-clause-now : goal.returns-in-Ok-clause-now
 returns-in-Ok-clause-now g c = rw (← c.self.view_is) (λ judged is_judged.
     let done = c.in-Ok.ensures.ok in
     let noted = done.3 tt in
     let config = c.self.inside.core.config in
-    subst (λ (j : Judged). IsNow c.give.result ↔ ((c.self.inside.pending.held ≡ []) × ¬ HasEntry config c.self.inside.core.state j))
+    subst (λ (j : Judged). IsNow c.give-given.result ↔ ((c.self.inside.pending.held ≡ []) × ¬ HasEntry config c.self.inside.core.state j))
     (c.events_are_judged_once.ensures config c.args.event done.0 judged done.1 is_judged)
     (at_once config c.self.inside.core.state c.args.event done.0 noted.0 c.self.inside.pending.entries c.step_noted.new.notes.entries c.self.inside.pending.held
-    c.step_noted.new.notes.held (IsNow c.give.result) c.facts.ensures.config c.facts.ensures.sound done.1 noted.1 noted.2 c.self.invariant.1
-    (ap (λ (b : Besides). b.held) c.step_noted.ensures.beside) c.give.ensures.now c.give.ensures.quiet))
+    c.step_noted.new.notes.held (IsNow c.give-given.result) c.facts.ensures.config c.facts.ensures.sound done.1 noted.1 noted.2 c.self.invariant.1
+    (ap (λ (b : Besides). b.held) c.step_noted.ensures.beside) c.give-given.ensures.now c.give-given.ensures.quiet))
 
 pub returns-in-Ok-clause-filled : goal.returns-in-Ok-clause-filled
 returns-in-Ok-clause-filled g c = rw (← c.self.view_is) (
@@ -52,8 +53,8 @@ returns-in-Ok-clause-filled g c = rw (← c.self.view_is) (
       noted.0,
       done.1,
       noted.1,
-      filled-on c.self.inside.pending.place c.give.new.pending.place c.self.inside.pending.entries c.give.new.pending.entries noted.0
-          (c.give.ensures.place ∙ ap (λ (b : Besides). b.place) c.step_noted.ensures.beside) (c.give.ensures.entries ∙ noted.2),
+      filled-on c.self.inside.pending.place c.give-given.new.pending.place c.self.inside.pending.entries c.give-given.new.pending.entries noted.0
+          (c.give-given.ensures.place ∙ ap (λ (b : Besides). b.place) c.step_noted.ensures.beside) (c.give-given.ensures.entries ∙ noted.2),
     ))
 
 pub returns-in-Err-clause-roomy : goal.returns-in-Err-clause-roomy

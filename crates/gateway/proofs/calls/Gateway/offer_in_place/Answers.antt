@@ -1,4 +1,4 @@
-use Rattle.std.proofs.Common.{◌≡◌, ◌∙◌, ◌↔◌, [], sym, subst, ap}
+use Rattle.std.proofs.Common.{◌≡◌, ◌+◌, ◌∙◌, ◌↔◌, [], sym, subst, ap}
 use Rattle.packet.specs.Config.{Config}
 use Rattle.machine.specs.Besides.{Besides}
 use Rattle.machine.specs.Judged.{Judged}
@@ -9,7 +9,7 @@ use Rattle.machine.specs.declared.event.What.TheVariants.{Packet}
 use Rattle.gateway.specs.Kept.{LeadsToPresent}
 use Rattle.gateway.specs.Given.{IsNow, given_by}
 use Rattle.gateway.proofs.Bodies.{filled-on}
-use Rattle.gateway.proofs.Offering.{takes_in, at_once}
+use Rattle.gateway.proofs.Offering.{takes_in, at_once, held_before}
 use Rattle.gateway.proofs.calls.Gateway.offer_in_place.Goals as goal
 
 pub invariant_of-self-2 : goal.invariant_of-self-2
@@ -25,6 +25,9 @@ invariant_of-self-2 g c =
           (takes_in own.core.config (g.D.Disk.seen own.store.disk) own.pending.entries c.give_copy.new.pending.entries noted.0 own.core.state
           c.step_in_place.new.self.state event done.0 (answer_of c.in-Some.fate c.step_in_place.new.packet) c.facts.ensures.config c.facts.ensures.sound
           (c.self.invariant.3 stands honest) done.1 done.2 noted.1 (c.give_copy.ensures.entries ∙ noted.2)),
+      λ held. c.self.invariant.4 (sym (ap (λ (b : Besides). b.held) c.step_in_place.ensures.beside)
+          ∙ held_before (given_by c.give_copy.result c.step_in_place.new.packet) c.step_in_place.new.notes.held c.give_copy.new.pending.held
+          (own.last + 1, answer_of c.in-Some.fate c.step_in_place.new.packet) c.give_copy.ensures.order held),
     )
 
 pub returns-clause-now : goal.returns-clause-now

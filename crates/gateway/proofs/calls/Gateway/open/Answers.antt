@@ -1,4 +1,4 @@
-use Rattle.std.proofs.Common.{◌∙◌, List, sym, subst, ap}
+use Rattle.std.proofs.Common.{◌∙◌, List, refl, sym, subst, ap}
 use Rattle.sessions.specs.declared.session.Session.{Session}
 use Rattle.durable.specs.Entering.{IsDurable, durable}
 use Rattle.machine.specs.Noted.{IsResumed}
@@ -21,6 +21,7 @@ invariant_of-result g c =
       λ stands honest. begun c.args.bounds c.in-Ok-resume_core.core.config (g.D.Disk.seen c.in-Ok.field-0.store.disk) c.in-Ok-resume_core.pending.entries
           (durable text c.in-Ok.field-0.sessions.items) c.args.moment c.in-Ok-resume_core.core.state none c.in-Ok-resume_core.ensures.config c.in-Ok.ensures.sound resumed
           (c.in-Ok.ensures.ok (c.in-Ok.ensures.honest.1 honest)).1.reads,
+      λ held. refl,
     )
 
 pub returns-in-Ok-resume_core-clause-resumed : goal.returns-in-Ok-resume_core-clause-resumed

@@ -41,7 +41,10 @@ returns-in_default-clause-configured g c =
     λ stood. stops.stops.ends.ran.configured
 
 pub returns-in-Ok-take_all-clause-honest : goal.returns-in-Ok-take_all-clause-honest
-returns-in-Ok-take_all-clause-honest g c = c.in-Ok-take_all.ensures.ok.ran.keeps_honest
+returns-in-Ok-take_all-clause-honest g c = c.in-Ok-take_all.ensures.ok.ran.was_honest
+
+pub returns-in-Ok-take_all-clause-stays_honest : goal.returns-in-Ok-take_all-clause-stays_honest
+returns-in-Ok-take_all-clause-stays_honest g c = c.in-Ok-take_all.ensures.ok.ran.stays_honest
 
 pub returns-in-Ok-take_all-clause-ok : goal.returns-in-Ok-take_all-clause-ok
 returns-in-Ok-take_all-clause-ok g c = c.in-Ok-take_all.ensures.ok.ran.took
@@ -56,7 +59,10 @@ pub returns-in-Ok-take_all-clause-configured : goal.returns-in-Ok-take_all-claus
 returns-in-Ok-take_all-clause-configured g c = λ stood. c.in-Ok-take_all.ensures.ok.ran.configured
 
 pub returns-in-Err-clause-honest : goal.returns-in-Err-clause-honest
-returns-in-Err-clause-honest g c = c.in-Err.ensures.err.stops.ends.ran.keeps_honest
+returns-in-Err-clause-honest g c = c.in-Err.ensures.err.stops.ends.ran.was_honest
+
+pub returns-in-Err-clause-stays_honest : goal.returns-in-Err-clause-stays_honest
+returns-in-Err-clause-stays_honest g c = c.in-Err.ensures.err.stops.ends.ran.stays_honest
 
 pub returns-in-Err-clause-err : goal.returns-in-Err-clause-err
 returns-in-Err-clause-err g c = within-took g.D.Disk.honest g.D.Disk.moment g.D.Disk.left g.D.Disk.failed c.args.self.now c.take_all.new.gateway c.args.events.items c.take_all.new.answers.items c.in-Err.fault c.in-Err.ensures.err

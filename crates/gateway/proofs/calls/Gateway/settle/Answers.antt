@@ -45,13 +45,14 @@ invariant_of-self g c =
       λ held. none,
       λ stands. ap (λ (h : HeldAnswers). h.place) c.let_go.ensures ∙ c.end.ensures,
       λ stands after.
-          let honest = c.commit.ensures.honest.1 after in
+          let honest = c.commit.ensures.honest after in
           let is = c.self.invariant.3 (sym c.if-has_fallen.ensures.value) honest in
           let leads = body_leads c.self.inside.core.config c.self.inside.store.config (g.D.Disk.seen c.self.inside.store.disk) c.self.inside.pending.entries c.self.inside.core.state
           c.group.result.now.body is.durable c.self.invariant.0 is is.recovers c.group.ensures.coded c.group.ensures.body in
           let keeps = c.in_default.ensures.ok honest is.durable (lasting c.self.inside.core.state) is.recovers leads in
           subst (λ (es : List Entry). LeadsToPresent c.self.inside.core.config (g.D.Disk.seen c.commit.new.self.disk) es c.self.inside.core.state) (sym none)
           (stands_for c.self.inside.core.config (g.D.Disk.seen c.commit.new.self.disk) c.self.inside.core.state keeps.reads),
+      λ held. refl,
     )
 
 pub returns-in_default-clause-any_moment : goal.returns-in_default-clause-any_moment

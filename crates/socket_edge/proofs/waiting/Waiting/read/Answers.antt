@@ -34,7 +34,7 @@ returns-in-Err-clause-err g c =
     let new = c.read_behind.new.bytes in
     let it = c.in-Err.ensures.err in
     let value = c.as_mut_slice.ensures.value in
-    let same : take self.end new ≡ take self.end old = it.1 ∙ ap (take self.end) value ∙ c.make_room.ensures.front in
+    let same : take self.end new ≡ take self.end old = it ∙ ap (take self.end) value ∙ c.make_room.ensures.front in
     let longer : self.end ≤ length new = omega (arith, c.make_room.ensures.longer, ap length value, c.in-Err.ensures.len, i.2) in
     let now = with_items_is c.make_room.new.bytes new (c.in-Err.ensures.len ∙ c.as_mut_slice.ensures.len) in
-    (it.0, ap (view self.answered self.start self.end) now ∙ seen_still self.answered self.start self.end old new i.0 i.1 i.2 longer same ∙ c.self.view_is ∙ c.move_to_front.ensures)
+    ap (view self.answered self.start self.end) now ∙ seen_still self.answered self.start self.end old new i.0 i.1 i.2 longer same ∙ c.self.view_is ∙ c.move_to_front.ensures

@@ -1,0 +1,5 @@
+mod Streamed
+mod Handed
+mod Fronted
+mod Settled
+mod Joined

@@ -1,0 +1,70 @@
+use Rattle.std.proofs.Common.{◌≡◌, ℕ, sym, ap, ◌∙◌, []}
+use Rattle.machine.specs.Machine.{later}
+use Rattle.carrying.specs.Carried.{Carries, Fails}
+use Rattle.carrying.specs.Turns.{Gave, events_of, headers_of}
+use Rattle.carrying.proofs.Joined.{going-first, going-next, ran-ends, ran-fails}
+use Rattle.socket_edge.proofs.Tending.{idle-fares}
+use Rattle.carrying.proofs.carrier.Carrier.carry.Goals as goal
+
+pub loop-init : goal.loop-init
+loop-init g c =
+    let d = c.args.devices.now in
+    going-first g.D.Disk.honest g.D.Disk.moment g.D.Disk.left c.args.gateway.now c.args.self.now
+    (g.L.Device.coming d.lan) (g.W.Device.coming d.wan) (g.L.Device.handed d.lan) (g.W.Device.handed d.wan) c.requires.stands c.requires.none
+    (idle-fares g.D.Disk.honest g.D.Disk.moment g.D.Disk.left g.D.Disk.seen g.D.Disk.failed g.met.D.Disk.reads g.met.D.Disk.earlier c.args.gateway.now c.stands.ensures [])
+
+pub returns-in_default : goal.returns-in_default
+returns-in_default g c =
+    let d = c.args.devices.now in
+    let e = c.loop.devices in
+    rw (c.next.ensures.from_lan, c.next.ensures.from_wan, c.next.ensures.to_lan, c.next.ensures.to_wan) (record {
+      ran =
+          ran-ends g.D.Disk.honest g.D.Disk.moment g.D.Disk.left c.args.gateway.now c.loop.gateway c.args.self.now c.loop.self
+          (g.L.Device.coming d.lan) (g.L.Device.coming e.lan) (g.W.Device.coming d.wan) (g.W.Device.coming e.wan)
+          (g.L.Device.handed d.lan) (g.L.Device.handed e.lan) (g.W.Device.handed d.wan) (g.W.Device.handed e.wan) c.loop.invariant;
+    })
+
+pub returns-in-Err : goal.returns-in-Err
+returns-in-Err g c =
+    let d = c.args.devices.now in
+    let e = c.loop.devices in
+    let f = c.turn_at.new.devices in
+    let n = c.next.ensures in
+    let t = c.in-Err.ensures.turned in
+    let gave : Gave t.0 (g.L.Device.coming e.lan) (g.L.Device.coming f.lan) (g.W.Device.coming e.wan) (g.W.Device.coming f.wan) = rw (← n.from_lan, ← n.from_wan) t.2 in
+    let fails : Fails g.D.Disk.honest g.D.Disk.moment g.D.Disk.left c.loop.gateway c.turn_at.new.gateway (events_of c.loop.self t.0)
+    (g.L.Device.handed e.lan) (g.L.Device.handed f.lan) (g.W.Device.handed e.wan) (g.W.Device.handed f.wan) = rw (← n.to_lan, ← n.to_wan) t.3 in
+    record {
+      ran =
+          ran-fails g.D.Disk.honest g.D.Disk.moment g.D.Disk.left g.met.D.Disk.earlier c.args.gateway.now c.loop.gateway c.turn_at.new.gateway c.requires.stands c.requires.none c.args.self.now c.loop.self c.in-Err.fault t.0
+          (g.L.Device.coming d.lan) (g.L.Device.coming e.lan) (g.L.Device.coming f.lan) (g.W.Device.coming d.wan) (g.W.Device.coming e.wan) (g.W.Device.coming f.wan)
+          (g.L.Device.handed d.lan) (g.L.Device.handed e.lan) (g.L.Device.handed f.lan) (g.W.Device.handed d.wan) (g.W.Device.handed e.wan) (g.W.Device.handed f.wan)
+          c.loop.invariant gave fails;
+    }
+
+pub loop-preserved : goal.loop-preserved
+loop-preserved g c =
+    let d = c.args.devices.now in
+    let e = c.loop.devices in
+    let f = c.turn_at.new.devices in
+    let n = c.next.ensures in
+    let t = c.in-Ok.ensures.turned in
+    let gave : Gave t.0 (g.L.Device.coming e.lan) (g.L.Device.coming f.lan) (g.W.Device.coming e.wan) (g.W.Device.coming f.wan) = rw (← n.from_lan, ← n.from_wan) t.2 in
+    let carries : Carries g.D.Disk.honest g.D.Disk.moment g.D.Disk.left c.loop.gateway c.turn_at.new.gateway (events_of c.loop.self t.0) (headers_of c.loop.self t.0)
+    (g.L.Device.handed e.lan) (g.L.Device.handed f.lan) (g.W.Device.handed e.wan) (g.W.Device.handed f.wan) = rw (← n.to_lan, ← n.to_wan) t.3 in
+    let at : c.turn_at.new.self ≡ later c.loop.self t.0.moment = c.turn_at.ensures.latest ∙ ap (λ (m : ℕ). later c.loop.self m) (sym t.1) in
+    going-next g.D.Disk.honest g.D.Disk.moment g.D.Disk.left g.met.D.Disk.earlier c.args.gateway.now c.loop.gateway c.turn_at.new.gateway c.requires.stands c.requires.none c.args.self.now c.loop.self c.turn_at.new.self t.0
+    (g.L.Device.coming d.lan) (g.L.Device.coming e.lan) (g.L.Device.coming f.lan) (g.W.Device.coming d.wan) (g.W.Device.coming e.wan) (g.W.Device.coming f.wan)
+    (g.L.Device.handed d.lan) (g.L.Device.handed e.lan) (g.L.Device.handed f.lan) (g.W.Device.handed d.wan) (g.W.Device.handed e.wan) (g.W.Device.handed f.wan)
+    c.loop.invariant gave at c.in-Ok.ensures.stands carries
+
+pub returns : goal.returns
+returns g c =
+    let d = c.args.devices.now in
+    let e = c.loop.devices in
+    record {
+      ran =
+          ran-ends g.D.Disk.honest g.D.Disk.moment g.D.Disk.left c.args.gateway.now c.loop.gateway c.args.self.now c.loop.self
+          (g.L.Device.coming d.lan) (g.L.Device.coming e.lan) (g.W.Device.coming d.wan) (g.W.Device.coming e.wan)
+          (g.L.Device.handed d.lan) (g.L.Device.handed e.lan) (g.W.Device.handed d.wan) (g.W.Device.handed e.wan) c.loop.invariant;
+    }

@@ -1,0 +1,225 @@
+//! A turn: what the devices give is answered, and what leaves is handed to them.
+ghost use Rattle.std.specs.Prelude.{◌≡◌, ◌≤◌, ◌<◌, ◌^◌, ◌++◌, ℕ, List, [], None, Some, IfOk, IfErr, IfNone, IfSome, MatchOption, OnOk, false, length};
+ghost use Rattle.from_devices.specs.Requests.{begun, with_load};
+ghost use Rattle.machine.specs.Machine.{later};
+ghost use Rattle.socket_edge.specs.Running.{Answered, Explains, Fares, events_in};
+ghost use Rattle.carrying.specs.Carried.{Turned};
+ghost use Rattle.carrying.specs.Runs.{Ran};
+ghost use Rattle.carrying.specs.Turns.{Gave, Turn, events_of, gathered, headers_of};
+
+use crate::between::Between;
+use crate::pace::{Beat, Pace};
+use devices::Device;
+use disk_model::Disk;
+use from_devices::{FromDevices, MOST_BYTES};
+use gateway::Gateway;
+use gateway::running::stands;
+use packet::Iface;
+use socket_edge::EdgeFault;
+use std::alloc::{AllocError, Global};
+use std::marker::Model;
+use to_devices::{Counts, ToDevices};
+
+/// The requests of a turn may have so many bytes once the packets of lan are taken: the rest is for those of wan.
+const MOST_OF_LAN: usize = 655_360;
+
+/// What carries packets: the requests of a turn, and their answers. Contracts see its latest moment, in seconds.
+#[derive(Drop)]
+pub struct Carrier {
+    alloc: Global,
+    from: FromDevices,
+    to: ToDevices,
+    counts: Counts,
+}
+
+impl Model for Carrier {
+    ghost use Rattle.std.specs.Prelude.{ℕ};
+
+    ghost Value = { ℕ };
+
+    ghost view = { λ c. c.from.told };
+}
+
+// Begins a turn at a moment, in seconds, and loads a text, if there is one.
+fn open_turn(from: &mut FromDevices, moment: u64, text: Option<&[u8]>)
+    requires { IfSome text (λ bytes. length bytes.now ≤ 262144) }
+    ensures load { IfSome text.entry (λ bytes. from.new ≡ with_load bytes.now (begun moment from.old)) }
+    ensures none { IfNone text.entry (from.new ≡ begun moment from.old) }
+{
+    from.begin(moment);
+    if let Some(text) = text {
+        from.load(text);
+    }
+}
+
+// Gathers the requests of a turn, and says how many there are before those of wan.
+fn gather<L: Device, W: Device>(
+    from: &mut FromDevices,
+    moment: u64,
+    text: Option<&[u8]>,
+    devices: &mut Between<L, W>,
+) -> usize
+    requires { IfSome text (λ bytes. length bytes.now ≤ 262144) }
+    ensures gave { (turn : Turn) × (turn.moment ≡ moment)
+        × MatchOption text.entry (turn.text ≡ None) (λ bytes. turn.text ≡ Some bytes.now)
+        × Gave turn (L.coming devices.old.lan) (L.coming devices.new.lan)
+        (W.coming devices.old.wan) (W.coming devices.new.wan)
+        × (from.new ≡ gathered turn from.old) }
+    ensures fits { later from.old.told moment < 2 ^ 64 }
+    ensures to_lan { L.handed devices.new.lan ≡ L.handed devices.old.lan }
+    ensures to_wan { W.handed devices.new.wan ≡ W.handed devices.old.wan }
+{
+    open_turn(from, moment, text);
+    let _ = from.moment();
+    from.take(Iface::Lan, &mut devices.lan, MOST_OF_LAN);
+    let before = from.headers().len();
+    from.take(Iface::Wan, &mut devices.wan, MOST_BYTES);
+    before
+}
+
+// Has a gateway answer requests.
+fn answer<D: Disk + Drop>(
+    alloc: Global,
+    requests: &[u8],
+    to: &mut ToDevices,
+    gateway: &mut Gateway<D>,
+) -> Result<(), EdgeFault>
+    requires none { to.old ≡ [] }
+    ensures ran { (given rest : List ℕ) × (requests.now ≡ given ++ rest)
+        × Fares D.honest D.moment D.left gateway.old gateway.new (events_in given) to.new
+        × OnOk result ((rest ≡ []) × Answered gateway.old.told gateway.new.told given to.new) }
+    ensures why { gateway.old.fallen ≡ false
+        → IfErr result (λ e. Explains D.honest D.moment D.left D.failed e gateway.old gateway.new) }
+    ensures stands { OnOk result (gateway.new.fallen ≡ false) }
+    ensures short { length to.new ≤ 1048576 }
+{
+    let mut rest = requests;
+    let ended = socket_edge::run(alloc, &mut rest, to, gateway);
+    // It has no more answers than have room.
+    let _ = to.answers();
+    match ended {
+        Ok(_) => Ok(()),
+        Err(fault) => Err(fault),
+    }
+}
+
+impl Carrier {
+    /// Carries nothing yet. No moment will be before this one, in seconds.
+    pub fn new(alloc: Global, moment: u64) -> Result<Carrier, AllocError>
+        ensures { IfOk result (λ carrier. carrier ≡ moment) }
+    {
+        Ok(Carrier {
+            alloc,
+            from: FromDevices::new(alloc, moment)?,
+            to: ToDevices::new(alloc)?,
+            counts: Counts::none(),
+        })
+    }
+
+    /// How many packets there were.
+    pub fn counts(&self) -> &Counts {
+        &self.counts
+    }
+
+    /// One turn. A moment later than all before is told to the gateway, in seconds; an earlier one counts as the latest.
+    /// A ruleset's text is loaded, if there is one. What the devices have now is taken, of each up to 64 packets; the
+    /// gateway answers it all; and each packet that leaves is handed to its device. The text has at most 262,144 bytes.
+    ///
+    /// # Errors
+    ///
+    /// The gateway's own fault, as `socket_edge::run` has it. Then nothing is handed on, and what was taken is lost.
+    pub fn turn<L: Device, W: Device, D: Disk + Drop>(
+        &mut self,
+        moment: u64,
+        text: Option<&[u8]>,
+        devices: &mut Between<L, W>,
+        gateway: &mut Gateway<D>,
+    ) -> Result<(), EdgeFault>
+        requires short { IfSome text (λ bytes. length bytes.now ≤ 262144) }
+        requires stands { gateway.old.fallen ≡ false }
+        requires none { gateway.old.told.held ≡ [] }
+        // What came, and what went.
+        ensures turned { (turn : Turn) × (turn.moment ≡ moment)
+            × MatchOption text.entry (turn.text ≡ None) (λ bytes. turn.text ≡ Some bytes.now)
+            × Gave turn (L.coming devices.old.lan) (L.coming devices.new.lan)
+            (W.coming devices.old.wan) (W.coming devices.new.wan)
+            × Turned D.honest D.moment D.left gateway.old gateway.new result
+            (events_of self.old turn) (headers_of self.old turn)
+            (L.handed devices.old.lan) (L.handed devices.new.lan)
+            (W.handed devices.old.wan) (W.handed devices.new.wan) }
+        ensures latest { self.new ≡ later self.old moment }
+        ensures rests { OnOk result (gateway.new.told.held ≡ []) }
+        ensures stands { OnOk result (gateway.new.fallen ≡ false) }
+        ensures why { IfErr result (λ e. Explains D.honest D.moment D.left D.failed e gateway.old
+            gateway.new) }
+    {
+        let wan_from = gather(&mut self.from, moment, text, devices);
+        self.to.clear();
+        match answer(self.alloc, self.from.requests(), &mut self.to, gateway) {
+            Ok(()) => {}
+            Err(fault) => return Err(fault),
+        }
+        let Between { lan, wan } = devices;
+        self.to
+            .let_out(self.from.headers(), wan_from, lan, wan, &mut self.counts);
+        Ok(())
+    }
+
+    // The turn that begins so.
+    fn turn_at<L: Device, W: Device, D: Disk + Drop>(
+        &mut self,
+        beat: &Beat,
+        devices: &mut Between<L, W>,
+        gateway: &mut Gateway<D>,
+    ) -> Result<(), EdgeFault>
+        requires stands { gateway.old.fallen ≡ false }
+        requires none { gateway.old.told.held ≡ [] }
+        ensures turned { (turn : Turn) × (turn.moment ≡ beat.now.moment)
+            × Gave turn (L.coming devices.old.lan) (L.coming devices.new.lan)
+            (W.coming devices.old.wan) (W.coming devices.new.wan)
+            × Turned D.honest D.moment D.left gateway.old gateway.new result
+            (events_of self.old turn) (headers_of self.old turn)
+            (L.handed devices.old.lan) (L.handed devices.new.lan)
+            (W.handed devices.old.wan) (W.handed devices.new.wan) }
+        ensures latest { self.new ≡ later self.old beat.now.moment }
+        ensures stands { OnOk result (gateway.new.fallen ≡ false) }
+    {
+        match &beat.text {
+            Some(text) => self.turn(beat.moment, Some(text.as_slice()), devices, gateway),
+            None => self.turn(beat.moment, None, devices, gateway),
+        }
+    }
+
+    /// Turns one after the other, each when it is to be, until there is to be none.
+    ///
+    /// # Errors
+    ///
+    /// The gateway's own fault. Of the turn in which it came nothing is handed on.
+    pub fn carry<L: Device, W: Device, P: Pace<L, W>, D: Disk + Drop>(
+        &mut self,
+        pace: &mut P,
+        devices: &mut Between<L, W>,
+        gateway: &mut Gateway<D>,
+    ) -> Result<(), EdgeFault>
+        requires stands { gateway.old.fallen ≡ false }
+        requires none { gateway.old.told.held ≡ [] }
+        // All that came from the devices, and all that went to them.
+        ensures ran { Ran D.honest D.moment D.left gateway.old gateway.new result self.old
+            (L.coming devices.old.lan) (L.coming devices.new.lan)
+            (W.coming devices.old.wan) (W.coming devices.new.wan)
+            (L.handed devices.old.lan) (L.handed devices.new.lan)
+            (W.handed devices.old.wan) (W.handed devices.new.wan) }
+    {
+        stands(gateway);
+        for _ in 0..u64::MAX {
+            let Some(beat) = pace.next(devices, &self.counts) else {
+                return Ok(());
+            };
+            match self.turn_at(&beat, devices, gateway) {
+                Ok(()) => {}
+                Err(fault) => return Err(fault),
+            }
+        }
+        Ok(())
+    }
+}

@@ -1,0 +1,18 @@
+//! Packets carried through a gateway, from device to device.
+//!
+//! A turn (`Carrier::turn`) takes what two devices give, has a gateway answer it, and hands each packet that leaves to
+//! its device. It puts `from_devices`, `socket_edge` and `to_devices` together, so what these promise holds from what
+//! the devices gave to what they are handed. A run (`Carrier::carry`) is turns one after the other.
+//!
+//! - `carrier`: `Carrier`, the turn and the run;
+//! - `between`: the two devices;
+//! - `pace`: when a turn is to be.
+#![tactic(auto)]
+
+mod between;
+mod carrier;
+mod pace;
+
+pub use between::Between;
+pub use carrier::Carrier;
+pub use pace::{Beat, Pace};

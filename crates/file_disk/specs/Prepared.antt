@@ -1,0 +1,34 @@
+-- What an opening makes of the bytes of a file.
+use Rattle.std.specs.Prelude.{◌≡◌, ◌⊎◌, ℕ, List, [], ◌∷◌, get_or, length, replicate}
+
+-- an empty file becomes so many zeros, and a file that has bytes keeps them all
+abbrev pub prepared : ℕ → List ℕ → List ℕ
+prepared room [] = replicate room 0
+prepared room (x ∷ more) = x ∷ more
+
+-- the gate of these bytes is open
+abbrev pub IsOpen : List ℕ → Type 0
+IsOpen bytes = get_or bytes 0 0 ≡ 1
+
+module _ {F : Type 0} (honest : F → Type 0) (holds : F → List ℕ) (leaves : F → List ℕ → Type 0) where
+  -- a crash leaves an open gate only if it could before
+  abbrev pub OpensNone : F → F → Type 0
+  OpensNone old new = (bytes : List ℕ) → leaves new bytes → IsOpen bytes
+      → (before : List ℕ) × leaves old before × IsOpen before
+
+  -- what a crash leaves is what a read gives
+  abbrev pub IsSynced : F → Type 0
+  IsSynced file = (bytes : List ℕ) → leaves file bytes → bytes ≡ holds file
+
+  -- it has all of its bytes, and they are synced
+  pub record IsWhole (room : ℕ) (old new : F) : Type 0 where
+    pub stays_honest : honest new
+    pub bytes : holds new ≡ prepared room (holds old)
+    pub synced : IsSynced new
+
+  -- a file as it was found, and prepared
+  pub record IsPrepared (room : ℕ) (old new : F) : Type 0 where
+    pub was_honest : honest new → honest old
+    -- only an empty one may lack its zeros: there was no space for them
+    pub whole : honest old → IsWhole room old new ⊎ (length (holds old) ≡ 0)
+    pub closed : honest old → OpensNone old new

@@ -1,0 +1,67 @@
+//! A directory, of which both files are opened.
+ghost use Rattle.std.specs.Prelude.{◌≡◌, ◌<◌, IfOk};
+ghost use Rattle.disk_model.specs.declared.disk.FileId.{FileId};
+ghost use Rattle.file_disk.specs.Prepared.{IsPrepared};
+
+use crate::opening::of_file;
+use crate::{DiskFile, FileDisk, OpenError, prepare};
+use disk_model::FileId;
+
+/// A directory whose two files can be opened.
+pub trait Directory {
+    /// An open file.
+    type File: DiskFile + Drop;
+
+    /// It is this file that stands at that name.
+    ghost gives: { Self → FileId → Self.File → Type 0 };
+
+    /// Opens one file, made if it is missing, and locks it until it is dropped.
+    ///
+    /// # Errors
+    ///
+    /// Why it can't be had.
+    fn open_file(&self, file: FileId) -> Result<Self::File, OpenError>
+        ensures { IfOk result (λ opened. gives self.now file opened) };
+
+    /// Syncs the names.
+    ///
+    /// # Errors
+    ///
+    /// Why that can't be done.
+    fn sync_names(&self) -> Result<(), OpenError>;
+}
+
+// Opens one file and prepares it.
+fn opened<D: Directory>(directory: &D, file: FileId, room: u64) -> Result<D::File, OpenError>
+    requires { 0 < room }
+    ensures { IfOk result (λ opened. (found : D.File) × D.gives directory.now file found
+        × IsPrepared D.File.honest D.File.holds D.File.leaves room found opened) }
+{
+    let mut found = directory.open_file(file)?;
+    match prepare(&mut found, room) {
+        Ok(()) => Ok(found),
+        Err(error) => Err(of_file(file, OpenError::from(error))),
+    }
+}
+
+/// A disk over both files of a directory. It does nothing to a file that has bytes, and makes an empty one so many zeros
+/// long, if there is space for them. Both and the names are synced, so that a loss of power leaves no file without its
+/// name.
+///
+/// # Errors
+///
+/// Why they can't be had.
+pub fn open_in<D: Directory>(directory: &D, room: u64) -> Result<FileDisk<D::File>, OpenError>
+    requires { 0 < room }
+    ensures a { IfOk result (λ disk. (found : D.File) × D.gives directory.now FileId.A found
+        × IsPrepared D.File.honest D.File.holds D.File.leaves room found disk.files.a) }
+    ensures b { IfOk result (λ disk. (found : D.File) × D.gives directory.now FileId.B found
+        × IsPrepared D.File.honest D.File.holds D.File.leaves room found disk.files.b) }
+    ensures calls { IfOk result (λ disk. disk.calls ≡ 0) }
+    ensures failures { IfOk result (λ disk. disk.failures ≡ 0) }
+{
+    let a = opened(directory, FileId::A, room)?;
+    let b = opened(directory, FileId::B, room)?;
+    directory.sync_names()?;
+    Ok(FileDisk::of(a, b))
+}

@@ -1,0 +1,357 @@
+-- The calls of a gateway make lives.
+use Rattle.std.proofs.Common.{◌≡◌, ◌↔◌, Result, Ok, Err, false, true, ℕ, ◌+◌, ◌≤◌, List, [], ◌++◌, length, take, drop, arith, inr, refl, sym, ◌∙◌, ap, subst, append_assoc, length-append}
+use Rattle.std.specs.Prelude.{IfErr, IfOk, IsErrOf, MatchResult, OnErr, OnOk}
+use Rattle.std.proofs.lemmas.List.{append-nil, length-take-le, take-append-drop}
+use Rattle.std.proofs.Math.Seq.{take-append-add}
+use Rattle.packet.specs.Config.{Config}
+use Rattle.disk_model.specs.Disk.{Files, Leaves, LeavesNow, LeavesOnly}
+use Rattle.disk_model.proofs.Moments.{narrows, only_now}
+use Rattle.durable.specs.Entering.{Durable}
+use Rattle.durable.specs.Recovery.{Alike, IsConfigured, Recovers}
+use Rattle.machine.specs.Judged.{Judged, AreJudged}
+use Rattle.machine.specs.Machine.{State, after, answers, numbered}
+use Rattle.machine.specs.Noted.{IsResumed, lasting}
+use Rattle.machine.specs.declared.event.Answer.{Answer}
+use Rattle.machine.specs.declared.event.Event.{Event}
+use Rattle.machine.proofs.Judging.{AreJudged-append, AreJudged-length}
+use Rattle.snapshot.specs.Store.{RecoversEither}
+use Rattle.snapshot.specs.declared.fault.OpenFault.{OpenFault}
+use Rattle.snapshot.specs.declared.fault.OpenFault.TheVariants as open_fault
+use Rattle.gateway.specs.Kept.{Kept, IsAtRest, IsSafe}
+use Rattle.gateway.specs.Told.{Told, TookAll}
+use Rattle.gateway.specs.Running.{Ends, Stands, StopsWithin}
+use Rattle.gateway.specs.declared.fault.GatewayFault.{GatewayFault}
+use Rattle.gateway.specs.declared.fault.GatewayFault.TheVariants as fault
+use Rattle.gateway.specs.Lives.{Course, Stopped, Refused, IsLife}
+use Rattle.gateway.specs.Living.{IsLived, RestsInLife, IsInLife, RunsInLife, RestsAgain, StopsInLife, GoesOnInLife, EndsLife, CallsAreLives}
+use Rattle.gateway.proofs.Runs.{compact-stopped, compacted, counted, either, ended, flush-stopped, flushed, length-numbered, stands-still}
+use Rattle.gateway.proofs.Taking.{after-append, answers-append, length-answers, numbered-append, took_none}
+
+-- ---- an opening, by its clauses
+
+module _ {D : Type 0} (honest : D → Type 0) (moment : D → ℕ) (left : D → ℕ → Files → Type 0) (seen : D → Files) (config : Config) (entry : D) (at : ℕ) where
+  abbrev pub Live : Course D → Type 0
+  Live course = IsLife honest moment left seen config (record { disk = entry; opened_at = at; course = course })
+
+  pub opening-stopped : (r : Result (Kept D) (D × OpenFault)) → honest entry → MatchResult r (λ g. Leaves moment left entry g.disk Alike) (λ e. Leaves moment left entry e.0 Alike)
+      → (LeavesNow moment left entry (IsConfigured config) → MatchResult r (λ g. LeavesOnly moment left entry g.disk (IsConfigured config)) (λ e. LeavesOnly moment left entry e.0 (IsConfigured config)))
+      → MatchResult r (λ g. Live (Stopped g.disk)) (λ e. Live (Stopped e.0))
+  opening-stopped (Ok g) h any conf = (h, record { any_moment = any; configured = conf })
+  opening-stopped (Err e) h any conf = (h, record { any_moment = any; configured = conf })
+
+  pub opening-refused : (r : Result (Kept D) (D × OpenFault)) → MatchResult r (λ g. Live (Stopped g.disk)) (λ e. Live (Stopped e.0))
+      → IfErr r (λ e. e.1 ≡ open_fault.Damaged → (d : Durable) → ¬ Recovers (seen entry) d)
+      → IfErr r (λ e. e.1 ≡ open_fault.ConfigDiffers → (d : Durable) × Recovers (seen entry) d × ¬ IsConfigured config (seen entry))
+      → IfErr r (λ e. Live (Refused e.0 e.1))
+  opening-refused (Ok g) stopped damaged differs = tt
+  opening-refused (Err e) stopped damaged differs = (stopped.0, (stopped.1, record { damaged = damaged; differs = λ is. (differs is).2 }))
+
+  -- a gateway was opened
+  pub opening-rests : (r : Result (Kept D) (D × OpenFault)) (Q : D × OpenFault → Type 0) → honest entry → MatchResult r (λ g. honest entry ↔ honest g.disk) Q
+      → IfOk r (λ g. (d : Durable) × Recovers (seen entry) d × IsResumed config d at g.told.state × LeavesNow moment left g.disk (λ files. Recovers files d))
+      → IfOk r (λ g. g.told.config ≡ config) → IfOk r (λ g. g.told.last ≡ 0) → IfOk r (λ g. g.told.held ≡ []) → IfOk r (λ g. g.fallen ≡ false)
+      → IfOk r (λ g. RestsInLife honest moment left seen config entry at g [] [] g)
+  opening-rests (Err e) Q h on ok configured last none stands = tt
+  opening-rests (Ok g) Q h on ok configured last none stands =
+      let rests : IsAtRest honest g = record { stands = stands; is_honest = on.0 h; none = none } in
+      record {
+        opened = record {
+          was_honest = h;
+          rests = rests;
+          configured = configured;
+          first = last;
+          resumed = (ok.0, ok.1, ok.2);
+        };
+        took = took_none g.told;
+        rests = rests;
+      }
+
+-- ---- events behind events
+
+-- taken in turn, with nothing held between them
+pub took-on : (a b c : Told) (es fs : List Event) (given out : List (ℕ × Answer)) → TookAll a b es given → b.held ≡ [] → TookAll b c fs out → TookAll a c (es ++ fs) (given ++ out)
+took-on a b c es fs given out t none u =
+    let first = answers a.config a.state t.judged in
+    let reached = after a.config a.state t.judged in
+    let next = answers a.config reached u.judged in
+    let number : b.last ≡ a.last + length first = omega (arith, t.last, length-answers a.config a.state t.judged, AreJudged-length a.config es t.judged t.are_judged) in
+    let later : numbered b.last (answers b.config b.state u.judged) ≡ numbered (a.last + length first) next =
+    ap (λ (n : ℕ). numbered n (answers b.config b.state u.judged)) number
+    ∙ ap (λ (c : Config). numbered (a.last + length first) (answers c b.state u.judged)) t.config
+    ∙ ap (λ (s : State). numbered (a.last + length first) (answers a.config s u.judged)) t.state in
+    let given_are : given ≡ a.held ++ numbered a.last first = sym (append-nil given) ∙ ap (λ (l : List (ℕ × Answer)). given ++ l) (sym none) ∙ t.order in
+    record {
+      judged = t.judged ++ u.judged;
+      are_judged = AreJudged-append a.config es fs t.judged u.judged t.are_judged (subst (λ (c : Config). AreJudged c fs u.judged) t.config u.are_judged);
+      config = u.config ∙ t.config;
+      state = u.state ∙ ap (λ (c : Config). after c b.state u.judged) t.config ∙ ap (λ (s : State). after a.config s u.judged) t.state
+          ∙ sym (after-append a.config a.state t.judged u.judged);
+      last = omega (arith, t.last, u.last, length-append es fs);
+      order = append_assoc given out c.held ∙ ap (λ (l : List (ℕ × Answer)). given ++ l) u.order
+          ∙ ap (λ (l : List (ℕ × Answer)). given ++ (l ++ numbered b.last (answers b.config b.state u.judged))) none
+          ∙ ap (λ (l : List (ℕ × Answer)). given ++ l) later
+          ∙ ap (λ (l : List (ℕ × Answer)). l ++ numbered (a.last + length first) next) given_are
+          ∙ append_assoc a.held (numbered a.last first) (numbered (a.last + length first) next)
+          ∙ ap (λ (l : List (ℕ × Answer)). a.held ++ l) (sym (numbered-append a.last first next))
+          ∙ ap (λ (l : List Answer). a.held ++ numbered a.last l) (sym (answers-append a.config a.state t.judged u.judged));
+    }
+
+-- a beginning of later events, after all of the earlier ones
+safe-on : (a b : Told) (es fs : List Event) (js : List Judged) (m : ℕ) (files : Files) → AreJudged a.config es js → b.config ≡ a.config → b.state ≡ after a.config a.state js
+    → IsSafe b.config b.state fs m files → IsSafe a.config a.state (es ++ fs) (length es + m) files
+safe-on a b es fs js m files are config state is =
+    let there : IsSafe a.config (after a.config a.state js) fs m files = subst (λ (s : State). IsSafe a.config s fs m files) state (subst (λ (c : Config). IsSafe c b.state fs m files) config is) in
+    record {
+      count = length es + there.count;
+      answered = omega (arith, there.answered);
+      within = omega (arith, there.within, length-append es fs);
+      judged = js ++ there.judged;
+      are_judged = subst (λ (xs : List Event). AreJudged a.config xs (js ++ there.judged)) (sym (take-append-add es fs there.count))
+          (AreJudged-append a.config es (take there.count fs) js there.judged are there.are_judged);
+      recovers = subst (λ (s : State). Recovers files (lasting s)) (sym (after-append a.config a.state js there.judged)) there.recovers;
+    }
+
+-- ---- a gateway in its life
+
+module _ {D : Type 0} (honest : D → Type 0) (moment : D → ℕ) (left : D → ℕ → Files → Type 0) (seen : D → Files)
+    (config : Config) (entry : D) (at : ℕ) (begun : Kept D) (events : List Event) (given : List (ℕ × Answer)) (mid : Kept D)
+    (r : RestsInLife honest moment left seen config entry at begun events given mid) where
+  -- as many were answered as were taken
+  all-answered : length given ≡ length events
+  all-answered = omega (arith, counted begun.told mid.told events given r.took, ap length r.rests.none, ap length r.opened.rests.none)
+
+  -- stopped within a call, by what is left of it
+  pub stopped-in : (more : List Event) (judged : List Judged) (out rest : List (ℕ × Answer)) (old new : D) → AreJudged mid.told.config more judged
+      → out ++ rest ≡ numbered mid.told.last (answers mid.told.config mid.told.state judged)
+      → ((files : Files) → left new (moment old) files → IsSafe mid.told.config mid.told.state more (length out) files)
+      → ((files : Files) → left new (moment old) files → IsConfigured mid.told.config files)
+      → IsLived honest moment left seen config entry at begun (events ++ more) (given ++ out) old new
+  stopped-in more judged out rest old new are order safe conf =
+      let then : Told = record { config = mid.told.config; state = after mid.told.config mid.told.state judged; last = mid.told.last + length more; held = rest } in
+      let on : TookAll mid.told then more out = record {
+        judged = judged;
+        are_judged = are;
+        config = refl;
+        state = refl;
+        last = refl;
+        order = order ∙ ap (λ (l : List (ℕ × Answer)). l ++ numbered mid.told.last (answers mid.told.config mid.told.state judged)) (sym r.rests.none);
+      } in
+      let all = took-on begun.told mid.told then events more given out r.took r.rests.none on in
+      let count : length events + length out ≡ length (given ++ out) = omega (arith, all-answered, length-append given out) in
+      let config_is : mid.told.config ≡ config = r.took.config ∙ r.opened.configured in
+      record {
+        judged = all.judged;
+        is_life = (
+          r.opened.was_honest,
+          record {
+            resumed = r.opened.resumed;
+            answered = (
+              subst (λ (c : Config). AreJudged c (events ++ more) all.judged) r.opened.configured all.are_judged,
+              (
+                rest,
+                all.order ∙ ap (λ (l : List (ℕ × Answer)). l ++ numbered begun.told.last (answers begun.told.config begun.told.state all.judged)) r.opened.rests.none
+                    ∙ ap (λ (n : ℕ). numbered n (answers begun.told.config begun.told.state all.judged)) r.opened.first
+                    ∙ ap (λ (c : Config). numbered 0 (answers c begun.told.state all.judged)) r.opened.configured,
+              ),
+            );
+            safe = λ files since.
+                subst (λ (c : Config). IsSafe c begun.told.state (events ++ more) (length (given ++ out)) files) r.opened.configured
+                (subst (λ (n : ℕ). IsSafe begun.told.config begun.told.state (events ++ more) n files) count
+                (safe-on begun.told mid.told events more r.took.judged (length out) files r.took.are_judged r.took.config r.took.state (safe files since)));
+            configured = λ files since. subst (λ (c : Config). IsConfigured c files) config_is (conf files since);
+          },
+        );
+      }
+
+  -- stopped with the first n answers given out
+  pub stopped-first : (old new : D) (more : List Event) (judged : List Judged) (n : ℕ) → AreJudged mid.told.config more judged → n ≤ length more
+      → ((files : Files) → left new (moment old) files → IsSafe mid.told.config mid.told.state more n files)
+      → ((files : Files) → left new (moment old) files → IsConfigured mid.told.config files)
+      → IsLived honest moment left seen config entry at begun (events ++ more) (given ++ take n (numbered mid.told.last (answers mid.told.config mid.told.state judged))) old new
+  stopped-first old new more judged n are le safe conf =
+      let all = numbered mid.told.last (answers mid.told.config mid.told.state judged) in
+      let size : length (take n all) ≡ n = length-take-le n all (omega (
+        arith,
+        le,
+        length-numbered mid.told.last (answers mid.told.config mid.told.state judged),
+        length-answers mid.told.config mid.told.state judged,
+        AreJudged-length mid.told.config more judged are,
+      )) in
+      stopped-in more judged (take n all) (drop n all) old new are (take-append-drop n all)
+      (λ files since. subst (λ (k : ℕ). IsSafe mid.told.config mid.told.state more k files) (sym size) (safe files since)) conf
+
+  -- what was given out since, and what is held
+  since-then : (now : Kept D) (more : List Event) (out : List (ℕ × Answer)) → (t : TookAll mid.told now.told more out)
+      → out ++ now.told.held ≡ numbered mid.told.last (answers mid.told.config mid.told.state t.judged)
+  since-then now more out t =
+      t.order ∙ ap (λ (l : List (ℕ × Answer)). l ++ numbered mid.told.last (answers mid.told.config mid.told.state t.judged)) r.rests.none
+
+  -- it rests again
+  pub rests-again : (now : Kept D) (more : List Event) (out : List (ℕ × Answer)) → TookAll mid.told now.told more out → IsAtRest honest now
+      → RestsInLife honest moment left seen config entry at begun (events ++ more) (given ++ out) now
+  rests-again now more out t rests = record { opened = r.opened; took = took-on begun.told mid.told now.told events more given out r.took r.rests.none t; rests = rests }
+
+  module _ (failed : D → ℕ) (earlier : (disk : D) (s t : ℕ) (files : Files) → s ≤ t → left disk t files → left disk s files)
+      (now : Kept D) (more : List Event) (out : List (ℕ × Answer)) (e : Ends honest moment left failed mid now more out) where
+    -- stopped since it rested, with no answer given out
+    pub stopped-within : IsLived honest moment left seen config entry at begun (events ++ more) given mid.disk now.disk
+    stopped-within =
+        subst (λ (l : List (ℕ × Answer)). IsLived honest moment left seen config entry at begun (events ++ more) l mid.disk now.disk) (append-nil given)
+        (stopped-in more e.ran.took.judged [] (out ++ now.told.held) mid.disk now.disk e.ran.took.are_judged (since-then now more out e.ran.took)
+        (λ files since. ((e.ran.any_moment r.rests).each files since).2)
+        (λ files since. ((e.ran.configured r.rests.is_honest).each files since).2))
+
+    -- stopped at the end
+    pub stopped-after : IsLived honest moment left seen config entry at begun (events ++ more) (given ++ out) now.disk now.disk
+    stopped-after = stopped-in more e.ran.took.judged out now.told.held now.disk now.disk e.ran.took.are_judged (since-then now more out e.ran.took)
+        (e.at_exit r.rests)
+        (only_now moment left mid.disk now.disk (IsConfigured mid.told.config) (earlier now.disk)
+        (e.ran.configured r.rests.is_honest))
+
+-- ---- a run, by its clauses
+
+module _ {D : Type 0} (honest : D → Type 0) (moment : D → ℕ) (left : D → ℕ → Files → Type 0) (seen : D → Files) (failed : D → ℕ)
+    (earlier : (disk : D) (s t : ℕ) (files : Files) → s ≤ t → left disk t files → left disk s files)
+    (old new : Kept D) where
+  runs-in-life : (more : List Event) (out : List (ℕ × Answer)) → (IsAtRest honest old → Ends honest moment left failed old new more out) → RunsInLife honest moment left seen old new more out
+  runs-in-life more out ends = λ config entry at begun events given r. (
+    stopped-within honest moment left seen config entry at begun events given old r failed earlier new more out (ends r.rests),
+    stopped-after honest moment left seen config entry at begun events given old r failed earlier new more out (ends r.rests),
+  )
+
+  pub run-ok : {T E : Type 0} (result : Result T E) (events : List Event) (items : T → List (ℕ × Answer)) (Q : E → Type 0) → IfOk result (λ a. TookAll old.told new.told events (items a))
+      → (honest new.disk → honest old.disk) → (new.fallen ≡ false → honest old.disk → honest new.disk)
+      → (IsAtRest honest old → LeavesOnly moment left old.disk new.disk (IsSafe old.told.config old.told.state events 0))
+      → (IsAtRest honest old → MatchResult result (λ a. LeavesNow moment left new.disk (IsSafe old.told.config old.told.state events (length (items a)))) Q)
+      → (old.fallen ≡ false → honest old.disk → LeavesOnly moment left old.disk new.disk (IsConfigured old.told.config))
+      → OnOk result (new.told.held ≡ []) → OnOk result (new.fallen ≡ false)
+      → IfOk result (λ a. RunsInLife honest moment left seen old new events (items a) × RestsAgain honest moment left seen old new events (items a))
+  run-ok (Err e) events items Q took was stays any exit conf none stands = tt
+  run-ok (Ok a) events items Q took was stays any exit conf none stands = (
+    runs-in-life events (items a) (λ rests. record {
+      ran = record { took = took; stood = rests.stands; was_honest = was; stays_honest = stays; any_moment = any; configured = conf rests.stands };
+      at_exit = exit;
+    }),
+    λ config entry at begun es given r. rests-again honest moment left seen config entry at begun es given old r new events (items a) took
+        (record { stands = stands; is_honest = stays stands r.rests.is_honest; none = none }),
+  )
+
+  pub run-err : {T E : Type 0} (result : Result T E) (events : List Event) (items : E → List (ℕ × Answer)) (why : E → GatewayFault)
+      → IfErr result (λ e. StopsWithin honest moment left failed old new events (items e) (why e))
+      → IfErr result (λ e. (front : List Event) × (back : List Event) × (events ≡ front ++ back) × RunsInLife honest moment left seen old new front (items e))
+  run-err (Ok a) events items why within = tt
+  run-err (Err e) events items why within = (within.front, within.back, within.split, runs-in-life within.front (items e) (λ rests. within.stops.ends))
+
+-- ---- call by call
+
+module _ {D : Type 0} (honest : D → Type 0) (moment : D → ℕ) (left : D → ℕ → Files → Type 0) (seen : D → Files) (failed : D → ℕ)
+    (reads : (disk : D) → honest disk → left disk (moment disk) (seen disk))
+    (earlier : (disk : D) (s t : ℕ) (files : Files) → s ≤ t → left disk t files → left disk s files) (old new : Kept D) where
+  abbrev pub Lived : Config → D → ℕ → Kept D → List Event → List (ℕ × Answer) → D → D → Type 0
+  Lived config entry at begun events given before behind = IsLived honest moment left seen config entry at begun events given before behind
+
+  -- the life that the gateway is in, as it goes on
+  as-it-is : (config : Config) (entry : D) (at : ℕ) (begun : Kept D) (events : List Event) (given : List (ℕ × Answer)) (before behind : D)
+      → (is : IsInLife honest moment left seen failed config entry at begun events given old)
+      → Lived config entry at begun (is.earlier ++ is.more) (is.answered ++ is.out) before behind → Lived config entry at begun events given before behind
+  as-it-is config entry at begun events given before behind is lived =
+      subst (λ (es : List Event). Lived config entry at begun es given before behind) (sym is.events_are)
+      (subst (λ (l : List (ℕ × Answer)). Lived config entry at begun (is.earlier ++ is.more) l before behind) (sym is.given_are) lived)
+
+  -- within a call that leaves what the files stood for, or the present state
+  pub stops-in-life : (old.fallen ≡ false → honest old.disk → (d : Durable) → Recovers (seen old.disk) d → LeavesOnly moment left old.disk new.disk (RecoversEither d (lasting old.told.state)))
+      → (old.fallen ≡ false → honest old.disk → LeavesOnly moment left old.disk new.disk (IsConfigured old.told.config))
+      → StopsInLife honest moment left seen failed old new
+  stops-in-life any conf = λ config entry at begun events given is.
+      let s = is.stands in
+      let rests = is.rests.rests in
+      let took = s.ran.took in
+      let agrees = s.rests rests in
+      let is_honest = s.ran.stays_honest s.stands rests.is_honest in
+      let stood = agrees.leaves (seen old.disk) (reads old.disk is_honest) in
+      as-it-is config entry at begun events given old.disk new.disk is
+      (stopped-in honest moment left seen config entry at begun is.earlier is.answered is.rested is.rests is.more took.judged is.out old.told.held old.disk new.disk took.are_judged
+      (since-then honest moment left seen config entry at begun is.earlier is.answered is.rested is.rests old is.more is.out took)
+      (λ files since. either honest moment left seen failed reads earlier is.rested old is.more is.out s rests files ((any s.stands is_honest agrees.durable stood).each files since).2)
+      (λ files since. subst (λ (c : Config). IsConfigured c files) took.config ((conf s.stands is_honest).each files since).2))
+
+  -- within one that leaves the present state
+  pub stops-at-present : (old.fallen ≡ false → honest old.disk → LeavesOnly moment left old.disk new.disk (λ files. Recovers files (lasting old.told.state)))
+      → (old.fallen ≡ false → honest old.disk → LeavesOnly moment left old.disk new.disk (IsConfigured old.told.config))
+      → StopsInLife honest moment left seen failed old new
+  stops-at-present any conf = stops-in-life
+      (λ stands is_honest d is. narrows moment left old.disk new.disk (λ before files. Recovers files (lasting old.told.state)) (λ before files. RecoversEither d (lasting old.told.state) files)
+      (any stands is_honest) (λ before files was r. inr r))
+      conf
+
+  -- after a call with which the run ends
+  pub ends-life : ((start : Kept D) (events : List Event) (out : List (ℕ × Answer)) → Stands honest moment left failed start old events out → Ends honest moment left failed start new events out)
+      → EndsLife honest moment left seen failed old new
+  ends-life ends = λ config entry at begun events given is.
+      as-it-is config entry at begun events given new.disk new.disk is
+      (stopped-after honest moment left seen config entry at begun is.earlier is.answered is.rested is.rests failed earlier new is.more is.out (ends is.rested is.more is.out is.stands))
+
+  -- after one that stands
+  pub goes-on-in-life : (handed : List (ℕ × Answer)) → ((start : Kept D) (events : List Event) (out : List (ℕ × Answer)) → Stands honest moment left failed start old events out → Stands honest moment left failed start new events (out ++ handed))
+      → GoesOnInLife honest moment left seen failed old new handed
+  goes-on-in-life handed on = λ config entry at begun events given is. record {
+    earlier = is.earlier;
+    answered = is.answered;
+    rested = is.rested;
+    rests = is.rests;
+    more = is.more;
+    out = is.out ++ handed;
+    stands = on is.rested is.more is.out is.stands;
+    events_are = is.events_are;
+    given_are = ap (λ (l : List (ℕ × Answer)). l ++ handed) is.given_are ∙ append_assoc is.answered is.out handed;
+  }
+
+  -- a flush or a settlement that ended well
+  module _ (was : honest new.disk → honest old.disk) (stays : new.fallen ≡ false → honest old.disk → honest new.disk) (conf : old.fallen ≡ false → honest old.disk → LeavesOnly moment left old.disk new.disk (IsConfigured old.told.config)) where
+    module _ (any : old.fallen ≡ false → honest old.disk → (d : Durable) → Recovers (seen old.disk) d → LeavesOnly moment left old.disk new.disk (RecoversEither d (lasting old.told.state))) where
+      pub settled-in-life : {T : Type 0} (r : Result T GatewayFault) → (honest old.disk → OnOk r (LeavesNow moment left new.disk (λ files. Recovers files (lasting old.told.state))))
+          → OnOk r (new.told ≡ record old.told { held = [] }) → IsErrOf r fault.Device ↔ ((old.fallen ≡ false) × (new.fallen ≡ true)) → OnOk r (failed new.disk ≡ failed old.disk)
+          → OnOk r (GoesOnInLife honest moment left seen failed old new old.told.held)
+      settled-in-life (Err e) ok none fell no_failure = tt
+      settled-in-life (Ok a) ok none fell no_failure = goes-on-in-life old.told.held (λ start events out s.
+          flushed honest moment left seen failed reads earlier start old events out s new was stays conf any ok none (stands-still a fault.Device new.fallen fell s.stands) no_failure)
+
+      pub flushed-in-life : {T : Type 0} (r : Result T GatewayFault) (items : T → List (ℕ × Answer)) → IfOk r (λ a. items a ≡ old.told.held)
+          → OnOk r (GoesOnInLife honest moment left seen failed old new old.told.held) → IfOk r (λ a. GoesOnInLife honest moment left seen failed old new (items a))
+      flushed-in-life (Err e) items are on = tt
+      flushed-in-life (Ok a) items are on = subst (λ (l : List (ℕ × Answer)). GoesOnInLife honest moment left seen failed old new l) (sym are) on
+
+      pub flush-ends : {T : Type 0} (r : Result T GatewayFault) → OnErr r (new.told ≡ old.told) → OnErr r (EndsLife honest moment left seen failed old new)
+      flush-ends (Ok a) same = tt
+      flush-ends (Err e) same = ends-life (λ start events out s. flush-stopped honest moment left seen failed reads earlier start old events out s new was stays conf any same)
+
+    -- a compaction
+    module _ (any : old.fallen ≡ false → honest old.disk → LeavesOnly moment left old.disk new.disk (λ files. Recovers files (lasting old.told.state))) (same : new.told ≡ old.told) where
+      pub compacted-in-life : {T : Type 0} (r : Result T GatewayFault) → old.told.held ≡ [] → IsErrOf r fault.Device ↔ ((old.fallen ≡ false) × (new.fallen ≡ true))
+          → OnOk r (failed new.disk ≡ failed old.disk) → OnOk r (GoesOnInLife honest moment left seen failed old new [])
+      compacted-in-life (Err e) none fell no_failure = tt
+      compacted-in-life (Ok a) none fell no_failure = goes-on-in-life [] (λ start events out s.
+          subst (λ (l : List (ℕ × Answer)). Stands honest moment left failed start new events l) (sym (append-nil out))
+          (compacted honest moment left seen failed reads earlier start old events out s new was stays conf any same none (stands-still a fault.Device new.fallen fell s.stands) no_failure))
+
+      pub compact-ends : {T : Type 0} (r : Result T GatewayFault) → OnErr r (EndsLife honest moment left seen failed old new)
+      compact-ends (Ok a) = tt
+      compact-ends (Err e) = ends-life (λ start events out s. compact-stopped honest moment left seen failed reads earlier start old events out s new was stays conf any same)
+
+pub calls-are : {D : Type 0} (honest : D → Type 0) (moment : D → ℕ) (left : D → ℕ → Files → Type 0) (seen : D → Files) (failed : D → ℕ)
+    → ((disk : D) → honest disk → left disk (moment disk) (seen disk))
+    → ((disk : D) (s t : ℕ) (files : Files) → s ≤ t → left disk t files → left disk s files)
+    → CallsAreLives honest moment left seen failed
+calls-are honest moment left seen failed reads earlier = record {
+  between = λ now. ends-life honest moment left seen failed reads earlier now now (λ start events out s. ended honest moment left seen failed reads earlier start now events out s);
+  at_rest = λ config entry at begun now events given is none.
+      let s = is.stands in
+      subst (λ (es : List Event). RestsInLife honest moment left seen config entry at begun es given now) (sym is.events_are)
+      (subst (λ (l : List (ℕ × Answer)). RestsInLife honest moment left seen config entry at begun (is.earlier ++ is.more) l now) (sym is.given_are)
+      (rests-again honest moment left seen config entry at begun is.earlier is.answered is.rested is.rests now is.more is.out s.ran.took
+      (record { stands = s.stands; is_honest = s.ran.stays_honest s.stands is.rests.rests.is_honest; none = none })));
+  stands = λ config entry at begun rested now events more given out rests s.
+      record { earlier = events; answered = given; rested = rested; rests = rests; more = more; out = out; stands = s; events_are = refl; given_are = refl };
+  ends = λ config entry at begun rested now events more given out rests e.
+      stopped-after honest moment left seen config entry at begun events given rested rests failed earlier now more out e;
+}

@@ -1,0 +1,137 @@
+-- That the calls of a gateway make lives, as `specs/Lives` defines them.
+use Rattle.std.specs.Prelude.{◌≡◌, ℕ, List, [], ◌++◌}
+use Rattle.packet.specs.Config.{Config}
+use Rattle.disk_model.specs.Disk.{Files}
+use Rattle.durable.specs.Entering.{Durable}
+use Rattle.durable.specs.Recovery.{Recovers}
+use Rattle.machine.specs.Judged.{Judged}
+use Rattle.machine.specs.Machine.{State}
+use Rattle.machine.specs.Noted.{IsResumed}
+use Rattle.machine.specs.declared.event.Answer.{Answer}
+use Rattle.machine.specs.declared.event.Event.{Event}
+use Rattle.gateway.specs.Kept.{Kept, IsAtRest}
+use Rattle.gateway.specs.Lives.{Life, Opened, IsLife}
+use Rattle.gateway.specs.Running.{Ends, Stands}
+use Rattle.gateway.specs.Told.{TookAll}
+
+module _ {D : Type 0} (honest : D → Type 0) (moment : D → ℕ) (left : D → ℕ → Files → Type 0)
+    (seen : D → Files) where
+  -- A gateway as `open` gives it, over this disk and at this moment.
+  pub record IsOpened (config : Config) (entry : D) (opened_at : ℕ)
+      (gateway : Kept D) : Type 0 where
+    pub was_honest : honest entry
+    pub rests : IsAtRest honest gateway
+    pub configured : gateway.told.config ≡ config
+    pub first : gateway.told.last ≡ 0
+    pub resumed : (d : Durable) × Recovers (seen entry) d
+        × IsResumed config d opened_at gateway.told.state
+
+  -- The life of a gateway that began with this state, took these events and gave out these answers, and was stopped
+  -- within a call that began with the disk `old` and would have ended with `new`. If they are one, it was stopped
+  -- between two calls.
+  abbrev pub life_of : D → ℕ → State → List Event → List Judged → List (ℕ × Answer) → D → D → Life D
+  life_of entry opened_at start events judged given old new = record {
+    disk = entry;
+    opened_at = opened_at;
+    course = Opened (record {
+      start = start;
+      events = events;
+      judged = judged;
+      given = given;
+      since = moment old;
+      disk = new;
+    });
+  }
+
+  -- This is a life, of a gateway that was opened as `begun`.
+  pub record IsLived (config : Config) (entry : D) (opened_at : ℕ) (begun : Kept D)
+      (events : List Event) (given : List (ℕ × Answer)) (old new : D) : Type 0 where
+    pub judged : List Judged
+    pub is_life : IsLife honest moment left seen config
+        (life_of entry opened_at begun.told.state events judged given old new)
+
+  -- A gateway in its life that holds nothing: it was opened as `begun`, has taken these events since, and has given out
+  -- all their answers.
+  pub record RestsInLife (config : Config) (entry : D) (opened_at : ℕ) (begun : Kept D)
+      (events : List Event) (given : List (ℕ × Answer)) (now : Kept D) : Type 0 where
+    pub opened : IsOpened config entry opened_at begun
+    pub took : TookAll begun.told now.told events given
+    pub rests : IsAtRest honest now
+
+  module _ (old new : Kept D) where
+    -- One call takes a list of events, and leads from the one to the other. Whatever life the gateway is in, a stop
+    -- within the call is its end, with none of their answers given out; and so is a stop after it, with these.
+    abbrev pub RunsInLife : List Event → List (ℕ × Answer) → Type 0
+    RunsInLife more out = (config : Config) (entry : D) (opened_at : ℕ) (begun : Kept D)
+        (events : List Event) (given : List (ℕ × Answer))
+        → RestsInLife config entry opened_at begun events given old
+        → IsLived config entry opened_at begun (events ++ more) given old.disk new.disk
+        × IsLived config entry opened_at begun (events ++ more) (given ++ out) new.disk new.disk
+
+    -- After it the gateway rests in the same life, with these answers given out.
+    abbrev pub RestsAgain : List Event → List (ℕ × Answer) → Type 0
+    RestsAgain more out = (config : Config) (entry : D) (opened_at : ℕ) (begun : Kept D)
+        (events : List Event) (given : List (ℕ × Answer))
+        → RestsInLife config entry opened_at begun events given old
+        → RestsInLife config entry opened_at begun (events ++ more) (given ++ out) new
+
+module _ {D : Type 0} (honest : D → Type 0) (moment : D → ℕ) (left : D → ℕ → Files → Type 0)
+    (seen : D → Files) (failed : D → ℕ) where
+  -- A gateway in its life: since it rested last it has come through more events, and given out answers.
+  pub record IsInLife (config : Config) (entry : D) (opened_at : ℕ) (begun : Kept D)
+      (events : List Event) (given : List (ℕ × Answer)) (now : Kept D) : Type 0 where
+    pub earlier : List Event
+    pub answered : List (ℕ × Answer)
+    pub rested : Kept D
+    pub rests : RestsInLife honest moment left seen config entry opened_at begun earlier answered
+        rested
+    pub more : List Event
+    pub out : List (ℕ × Answer)
+    pub stands : Stands honest moment left failed rested now more out
+    pub events_are : events ≡ earlier ++ more
+    pub given_are : given ≡ answered ++ out
+
+  module _ (old new : Kept D) where
+    -- Whatever life the gateway is in, a stop within the call that leads from the one to the other is its end, with the
+    -- answers that were given out before the call.
+    abbrev pub StopsInLife : Type 0
+    StopsInLife = (config : Config) (entry : D) (opened_at : ℕ) (begun : Kept D)
+        (events : List Event) (given : List (ℕ × Answer))
+        → IsInLife config entry opened_at begun events given old
+        → IsLived honest moment left seen config entry opened_at begun events given old.disk
+        new.disk
+
+    -- After the call it is in the same life, with these answers given out too.
+    abbrev pub GoesOnInLife : List (ℕ × Answer) → Type 0
+    GoesOnInLife out = (config : Config) (entry : D) (opened_at : ℕ) (begun : Kept D)
+        (events : List Event) (given : List (ℕ × Answer))
+        → IsInLife config entry opened_at begun events given old
+        → IsInLife config entry opened_at begun events (given ++ out) new
+
+    -- A stop after the call is the end of its life.
+    abbrev pub EndsLife : Type 0
+    EndsLife = (config : Config) (entry : D) (opened_at : ℕ) (begun : Kept D)
+        (events : List Event) (given : List (ℕ × Answer))
+        → IsInLife config entry opened_at begun events given old
+        → IsLived honest moment left seen config entry opened_at begun events given new.disk
+        new.disk
+
+  -- A gateway in its life may be stopped between two calls; and if it holds nothing, it rests. What the calls of
+  -- `running` promise of a run that began where it rested leads on in its life (`Stands`), or to its end (`Ends`).
+  pub record CallsAreLives : Type 0 where
+    pub between : (now : Kept D) → EndsLife now now
+    pub at_rest : (config : Config) (entry : D) (opened_at : ℕ) (begun now : Kept D)
+        (events : List Event) (given : List (ℕ × Answer))
+        → IsInLife config entry opened_at begun events given now → now.told.held ≡ []
+        → RestsInLife honest moment left seen config entry opened_at begun events given now
+    pub stands : (config : Config) (entry : D) (opened_at : ℕ) (begun rested now : Kept D)
+        (events more : List Event) (given out : List (ℕ × Answer))
+        → RestsInLife honest moment left seen config entry opened_at begun events given rested
+        → Stands honest moment left failed rested now more out
+        → IsInLife config entry opened_at begun (events ++ more) (given ++ out) now
+    pub ends : (config : Config) (entry : D) (opened_at : ℕ) (begun rested now : Kept D)
+        (events more : List Event) (given out : List (ℕ × Answer))
+        → RestsInLife honest moment left seen config entry opened_at begun events given rested
+        → Ends honest moment left failed rested now more out
+        → IsLived honest moment left seen config entry opened_at begun (events ++ more)
+        (given ++ out) now.disk now.disk

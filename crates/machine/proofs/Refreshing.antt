@@ -1,0 +1,143 @@
+-- A packet that passes refreshes its session.
+use Rattle.std.proofs.Common.{◌≡◌, ◌⊎◌, ℕ, List, Ok, true, false, not, refl, sym, ap, ◌∙◌, subst, inl, inr}
+use Rattle.std.specs.List.{filter}
+use Rattle.std.proofs.lemmas.Bool.{false≢true, false_from_ne_true}
+use Rattle.packet.proofs.SameLemmas.{same_endpoint-itself}
+use Rattle.packet.specs.Config.{Config}
+use Rattle.packet.specs.Same.{same_endpoint}
+use Rattle.packet.specs.declared.endpoint.Endpoint.{Endpoint}
+use Rattle.packet.specs.declared.endpoint.Iface.{Iface}
+use Rattle.packet.specs.declared.route.Route.{Route}
+use Rattle.packet.specs.declared.route.Route.TheVariants.{Out, Hairpin}
+use Rattle.packet.specs.declared.route.Route.TheVariants.{In as InRoute}
+use Rattle.packet.specs.declared.view.View.{View}
+use Rattle.sessions.specs.Listing.{In, has_inside, has_outside, put, same_flow}
+use Rattle.sessions.specs.declared.session.Opener.{Opener}
+use Rattle.sessions.specs.declared.session.Opener.TheVariants.{Inside, Remote}
+use Rattle.sessions.specs.declared.session.Session.{Session}
+use Rattle.sessions.proofs.Found.{has_outside-true}
+use Rattle.sessions.proofs.Puts.{has_inside-true}
+use Rattle.sessions.proofs.Sets.{filter-In, insert-In}
+use Rattle.hairpin.specs.Legs.{Passage, hairpin_leg, in_leg, out_leg, passed_by}
+use Rattle.hairpin.proofs.Apart.{find-In}
+use Rattle.hairpin.proofs.Doubling.{passed-keys, put-In}
+use Rattle.machine.specs.Judged.{Judged}
+use Rattle.machine.specs.Laws.{Came, living}
+use Rattle.machine.specs.Machine.{State, leg, step}
+use Rattle.machine.specs.Requirements.{IsRefreshed}
+use Rattle.machine.specs.declared.event.Answer.TheVariants.{Forward}
+use Rattle.machine.proofs.Left.{left, step-passed}
+use Rattle.machine.proofs.Passages.{FirstBegins, FirstGoesOn, SecondBegins, SecondGoesOn, hairpin-told, in-told, new_in, new_out, out-told, passed-last}
+
+-- a session of another flow stays
+pub put-stays : (t u : Session) (sessions : List Session) → In u sessions → same_flow t u ≡ false → In u (put t sessions)
+put-stays t u sessions is other = insert-In t (filter (λ v. not (same_flow t v)) sessions) u (inr (filter-In (λ v. not (same_flow t v)) sessions u is (ap not other)))
+
+-- two sessions whose remote endpoints differ are of different flows
+pub flows-differ : (t u : Session) → (t.remote ≡ u.remote → ⊥) → same_flow t u ≡ false
+flows-differ t u away = false_from_ne_true _ (λ h. away (sym (has_inside-true t.proto t.inside t.remote u h).2))
+
+module _ (config : Config) (live : State) (view : View) where
+  abbrev sessions : List Session
+  sessions = live.sessions
+
+  abbrev now : ℕ
+  now = live.clock
+
+  -- what is known of the session of a packet
+  pub record IsUsed (inside outside remote : Endpoint) (t : Session) : Type 0 where
+    pub proto : t.proto ≡ view.proto
+    pub near : t.inside ≡ inside
+    pub far : t.outside ≡ outside
+    pub to : t.remote ≡ remote
+    pub last : t.last ≡ now
+
+  goes : (s : Session) (sender : Opener) → s.proto ≡ view.proto → IsUsed s.inside s.outside s.remote (passed_by s sender view.flags now)
+  goes s sender proto =
+      let keys = passed-keys s sender view.flags now in
+      record { proto = sym keys.proto ∙ proto; near = sym keys.inside; far = sym keys.outside; to = sym keys.remote; last = passed-last s sender view.flags now }
+
+  -- ---- out
+
+  pub refreshed-out : (p : Passage) → out_leg config live.rules sessions now view ≡ Ok p → IsRefreshed view Out (left live p)
+  refreshed-out p h = elim (out-told config live.rules sessions now view p h) [
+    | inl on ↦
+        let s = on.0 in
+        let t = passed_by s Inside view.flags now in
+        let has = has_inside-true view.proto view.src view.dst s (find-In (has_inside view.proto view.src view.dst) sessions s on.1).1 in
+        let used = goes s Inside has.0 in
+        subst (λ (q : Passage). IsRefreshed view Out (left live q)) (sym on.2)
+        (t, (used.proto, used.near ∙ has.1, used.to ∙ has.2), (put-In t sessions, used.last))
+    | inr new ↦
+        let t = new_out config live.rules sessions now view new.2.0 in
+        subst (λ (q : Passage). IsRefreshed view Out (left live q)) (sym new.2.2)
+        (t, (refl, refl, refl), (put-In t sessions, refl))
+  ]
+
+  -- ---- in
+
+  pub refreshed-in : (p : Passage) → in_leg config live.rules sessions now view ≡ Ok p → IsRefreshed view InRoute (left live p)
+  refreshed-in p h = elim (in-told config live.rules sessions now view p h) [
+    | inl on ↦
+        let s = on.0 in
+        let t = passed_by s Remote view.flags now in
+        let has = has_outside-true view.proto view.dst view.src s (find-In (has_outside view.proto view.dst view.src) sessions s on.1).1 in
+        let used = goes s Remote has.0 in
+        subst (λ (q : Passage). IsRefreshed view InRoute (left live q)) (sym on.2)
+        (t, (used.proto, used.far ∙ has.1, used.to ∙ has.2), (put-In t sessions, used.last))
+    | inr new ↦
+        let t = new_in config live.rules sessions now view new.2.0 in
+        subst (λ (q : Passage). IsRefreshed view InRoute (left live q)) (sym new.2.3)
+        (t, (refl, refl, refl), (put-In t sessions, refl))
+  ]
+
+  -- ---- hairpin
+
+  abbrev pub IsFirst : Session → Type 0
+  IsFirst first = (first.proto ≡ view.proto) × (first.inside ≡ view.src) × (first.remote ≡ view.dst) × (first.last ≡ now)
+
+  pub first-used : (first : Session) → FirstGoesOn config live.rules sessions now view first ⊎ FirstBegins config live.rules sessions now view first → IsFirst first
+  first-used first (inl on) =
+      let s = on.0 in
+      let has = has_inside-true view.proto view.src view.dst s (find-In (has_inside view.proto view.src view.dst) sessions s on.1).1 in
+      let used = goes s Inside has.0 in
+      subst IsFirst (sym on.2) (used.proto, used.near ∙ has.1, used.to ∙ has.2, used.last)
+  first-used first (inr new) = subst IsFirst (sym new.2.2) (refl, refl, refl, refl)
+
+  abbrev pub IsSecond : Session → Session → Type 0
+  IsSecond first t = (t.proto ≡ view.proto) × (t.outside ≡ view.dst) × (t.remote ≡ first.outside) × (t.last ≡ now)
+
+  pub second-used : (first t : Session) (held : List Session) → SecondGoesOn config live.rules sessions now view first held t ⊎ SecondBegins config live.rules sessions now view first held t → IsSecond first t
+  second-used first t held (inl on) =
+      let s = on.0 in
+      let has = has_outside-true view.proto view.dst first.outside s (find-In (has_outside view.proto view.dst first.outside) held s on.1).1 in
+      let used = goes s Remote has.0 in
+      subst (IsSecond first) (sym on.2) (used.proto, used.far ∙ has.1, used.to ∙ has.2, used.last)
+  second-used first t held (inr new) = subst (IsSecond first) (sym new.2.3) (refl, refl, refl, refl)
+
+  -- the second is of another flow than the first
+  pub apart-flows : (first t : Session) → IsFirst first → IsSecond first t → same_endpoint first.outside view.dst ≡ false → same_flow t first ≡ false
+  apart-flows first t is far away = flows-differ t first (λ e.
+      false≢true (sym away ∙ subst (λ (x : Endpoint). same_endpoint first.outside x ≡ true) (sym far.2 ∙ e ∙ is.2) (same_endpoint-itself first.outside)))
+
+  pub refreshed-both : (p : Passage) → hairpin_leg config live.rules sessions now view ≡ Ok p → IsRefreshed view Hairpin (left live p)
+  refreshed-both p h =
+      let both = hairpin-told config live.rules sessions now view p h in
+      let first = both.first in
+      let t = both.far in
+      let is = first-used first both.by_first in
+      let far = second-used first t (put first sessions) both.by_far in
+      let stays = put-stays t first (put first sessions) (put-In first sessions) (apart-flows first t is far both.away) in
+      subst (λ (q : Passage). IsRefreshed view Hairpin (left live q)) (sym both.are)
+      (first, (is.0, is.1, is.2), (stays, is.3), (t, (far.0, far.1, far.2), (put-In t (put first sessions), far.3)))
+
+  pub refreshed : (r : Route) (p : Passage) → leg config live view r ≡ Ok p → IsRefreshed view r (left live p)
+  refreshed Out p h = refreshed-out p h
+  refreshed InRoute p h = refreshed-in p h
+  refreshed Hairpin p h = refreshed-both p h
+
+pub passing-refreshes : (config : Config) (s : State) (judged : Judged) (iface : Iface) (bytes : List ℕ) (view : View) (r : Route) (out : Iface) (packet : List ℕ)
+    → Came config judged iface bytes view r → (step config s judged).1 ≡ Forward out packet → IsRefreshed view r (step config s judged).0
+passing-refreshes config s judged iface bytes view r out packet came e =
+    let passed = step-passed config s judged iface bytes view r out packet came e in
+    subst (IsRefreshed view r) (sym passed.after_is) (refreshed config (living s judged) view r passed.passage passed.passes)

@@ -1,0 +1,217 @@
+-- What RFC 4787 (UDP) and RFC 5382 (TCP) ask of a translator, said of a step of every sound state and of every packet.
+use Rattle.std.specs.Prelude.{◌≡◌, ◌≢◌, ◌⊎◌, ℕ, ◌<◌, ◌^◌, List, length, None, IsTrue, IsFalse}
+use Rattle.std.specs.List.{Contains}
+use Rattle.packet.specs.Config.{Config, is_config, is_inside}
+use Rattle.packet.specs.Translated.{translated}
+use Rattle.packet.specs.declared.bounds.Filtering.{Filtering}
+use Rattle.packet.specs.declared.bounds.Filtering.TheVariants as filtering
+use Rattle.packet.specs.declared.endpoint.Endpoint.{Endpoint}
+use Rattle.packet.specs.declared.endpoint.Iface.{Iface}
+use Rattle.packet.specs.declared.endpoint.Iface.TheVariants.{Lan, Wan}
+use Rattle.packet.specs.declared.endpoint.Proto.{Proto}
+use Rattle.packet.specs.declared.route.Route.{Route}
+use Rattle.packet.specs.declared.route.Route.TheVariants.{Out, Hairpin}
+use Rattle.packet.specs.declared.route.Route.TheVariants.{In as InRoute}
+use Rattle.packet.specs.declared.view.View.{View}
+use Rattle.portpick.specs.Choice.{IsAlike}
+use Rattle.sessions.specs.Laws.{IsMapping}
+use Rattle.sessions.specs.Listing.{In}
+use Rattle.sessions.specs.Table.{HasInside, HasOutside, HasPeer, most_sessions}
+use Rattle.sessions.specs.declared.session.Opener.TheVariants.{Remote}
+use Rattle.sessions.specs.declared.session.Session.{Session}
+use Rattle.verdict.specs.Hooks.{prerouting_verdict}
+use Rattle.verdict.specs.declared.facts.State.TheVariants.{New}
+use Rattle.verdict.specs.declared.hook.Destination.TheVariants.{To}
+use Rattle.hairpin.specs.Legs.{needs_session}
+use Rattle.machine.specs.Hosts.{IsOccupied}
+use Rattle.machine.specs.Judged.{AreJudged, IsJudged, Judged}
+use Rattle.machine.specs.Laws.{Came, IsLeftAlone, LetsPass, living}
+use Rattle.machine.specs.Machine.{State, after, empty_at, step}
+use Rattle.machine.specs.Noted.{IsResumed, lasting}
+use Rattle.machine.specs.Sound.{IsSoundState}
+use Rattle.machine.specs.declared.event.Answer.TheVariants.{Forward}
+use Rattle.machine.specs.declared.event.Event.{Event}
+use Rattle.machine.specs.declared.event.What.TheVariants as what
+
+-- no session is of this protocol, inside and remote endpoint
+abbrev pub NoneInside : List Session → Proto → Endpoint → Endpoint → Type 0
+NoneInside sessions proto inside remote =
+    (u : Session) → In u sessions → ¬ HasInside proto inside remote u
+
+-- none is of this protocol, outside and remote endpoint
+abbrev pub NoneOutside : List Session → Proto → Endpoint → Endpoint → Type 0
+NoneOutside sessions proto outside remote =
+    (u : Session) → In u sessions → ¬ HasOutside proto outside remote u
+
+-- ---- filtering (RFC 4787, REQ-8; RFC 5382, REQ-3)
+
+-- whom a mapping lets in: endpoint-independent filtering lets in everyone, address-dependent filtering whoever sends
+-- from an address at which a session of the mapping has its remote endpoint
+abbrev pub LetsIn : Filtering → List Session → Proto → Endpoint → Endpoint → ℕ → Type 0
+LetsIn filtering.Endpoint sessions proto inside outside remote = Unit {0}
+LetsIn filtering.Address sessions proto inside outside remote =
+    (u : Session) × In u sessions × HasPeer proto inside outside remote u
+
+-- a packet from wan to the outside endpoint of a living mapping, which no living session takes in; before each premise,
+-- the cause of the drop if it fails
+pub record ComesToMapping (config : Config) (s : State) (judged : Judged) (bytes : List ℕ)
+    (view : View) (inside : Endpoint) : Type 0 where
+  -- it is read, and has a route: else the causes 1 to 12
+  pub came : Came config judged Wan bytes view InRoute
+  pub new : NoneOutside (living s judged).sessions view.proto view.dst view.src
+  -- it is UDP, or a SYN alone: else NoSession
+  pub begins : IsFalse (needs_session view)
+  -- no prerouting chain takes it elsewhere, or drops it: else Rule
+  pub alone : IsLeftAlone config s.rules view
+  -- else NoMapping
+  pub mapping : IsMapping (living s judged).sessions view.proto inside view.dst
+  -- else Filtered
+  pub let_in : LetsIn config.filtering (living s judged).sessions view.proto inside view.dst
+      view.src.addr
+  -- its sender has no session with the inside endpoint by another way: else Clash
+  pub apart : NoneInside (living s judged).sessions view.proto inside view.src
+  -- the forward chains let it pass: else Rule
+  pub passes : LetsPass config s view Wan Lan view.src inside New
+  -- else TableFull
+  pub room : length (living s judged).sessions < most_sessions
+
+-- it comes to the inside endpoint, whoever has sent it
+abbrev pub MappingsLetIn : Type 0
+MappingsLetIn =
+    (config : Config) (s : State) (judged : Judged) (bytes : List ℕ) (view : View)
+    (inside : Endpoint) → IsTrue (is_config config) → IsSoundState config s
+    → ComesToMapping config s judged bytes view inside
+    → (step config s judged).1 ≡ Forward Lan (translated bytes view.src inside)
+
+-- ---- hairpins (RFC 4787, REQ-9 and REQ-9 a; RFC 5382, REQ-8)
+
+-- each session with an external address for its remote one, as hairpins make, is translated
+abbrev pub AreTranslatedNear : Config → List Session → Type 0
+AreTranslatedNear config sessions =
+    (u : Session) → In u sessions → Contains config.external u.remote.addr → u.inside ≢ u.outside
+
+-- what leaves is a packet on lan: from an outside endpoint of its sender, at an external address, to the inside
+-- endpoint that is mapped to the one it was sent to
+pub record LeavesByMappings (config : Config) (s : State) (view : View) (bytes : List ℕ)
+    (out : Iface) (packet : List ℕ) : Type 0 where
+  pub on_lan : out ≡ Lan
+  pub source : Endpoint
+  pub inside : Endpoint
+  pub is : packet ≡ translated bytes source inside
+  pub external : Contains config.external source.addr
+  pub from : IsMapping s.sessions view.proto view.src source
+  pub to : IsMapping s.sessions view.proto inside view.dst
+
+-- so does each hairpin that passes, in every state that a gateway reaches: from the first on, and once it has begun
+-- again from its files. The mappings are those after the step; one that was alive is as it was (`LivingMappingsStay`)
+pub record HairpinsHaveExternalSources : Type 0 where
+  pub leaves : (config : Config) (s : State) (judged : Judged) (bytes : List ℕ) (view : View)
+      (out : Iface) (packet : List ℕ) → IsTrue (is_config config) → IsSoundState config s
+      → AreTranslatedNear config s.sessions → Came config judged Lan bytes view Hairpin
+      → (step config s judged).1 ≡ Forward out packet
+      → LeavesByMappings config (step config s judged).0 view bytes out packet
+  pub start : (config : Config) (moment : ℕ)
+      → AreTranslatedNear config (empty_at moment).sessions
+  pub runs : (config : Config) (s : State) (events : List Event) (judged : List Judged)
+      → IsTrue (is_config config) → AreJudged config events judged → IsSoundState config s
+      → AreTranslatedNear config s.sessions
+      → AreTranslatedNear config (after config s judged).sessions
+  pub resumed : (config : Config) (s again : State) (moment : ℕ)
+      → IsResumed config (lasting s) moment again → AreTranslatedNear config s.sessions
+      → AreTranslatedNear config again.sessions
+
+-- ---- ports (RFC 4787, REQ-3, REQ-3 a) and REQ-4)
+
+-- the step makes a mapping for the inside endpoint that a packet came from
+pub record MakesMapping (config : Config) (s : State) (judged : Judged) (bytes : List ℕ)
+    (view : View) (r : Route) (outside : Endpoint) : Type 0 where
+  pub came : Came config judged Lan bytes view r
+  pub port : view.src.port < 2 ^ 16
+  pub new : NoneInside (living s judged).sessions view.proto view.src view.dst
+  pub unmapped : (other : Endpoint)
+      → ¬ IsMapping (living s judged).sessions view.proto view.src other
+  pub mapped : IsMapping (step config s judged).0.sessions view.proto view.src outside
+
+-- then its outside port is of the class and parity of the inside port, and was free at its address; and it is the
+-- inside port, if that was free there
+pub record KeepsPort (sessions : List Session) (proto : Proto) (port : ℕ)
+    (outside : Endpoint) : Type 0 where
+  pub alike : IsAlike port outside.port
+  pub free : ¬ IsOccupied sessions proto outside.addr outside.port
+  pub own : ¬ IsOccupied sessions proto outside.addr port → outside.port ≡ port
+
+abbrev pub NewMappingsKeepPorts : Type 0
+NewMappingsKeepPorts =
+    (config : Config) (s : State) (judged : Judged) (bytes : List ℕ) (view : View) (r : Route)
+    (outside : Endpoint) → IsTrue (is_config config) → MakesMapping config s judged bytes view r outside
+    → KeepsPort (living s judged).sessions view.proto view.src.port outside
+
+-- ---- refreshing (RFC 4787, REQ-6)
+
+-- the session is held, and its last packet passed now
+abbrev pub IsUsedNow : State → Session → Type 0
+IsUsedNow s u = In u s.sessions × (u.last ≡ s.clock)
+
+-- the session of the packet was used now: out, in, and both of a hairpin
+abbrev pub IsRefreshed : View → Route → State → Type 0
+IsRefreshed view Out s =
+    (u : Session) × HasInside view.proto view.src view.dst u × IsUsedNow s u
+IsRefreshed view InRoute s =
+    (u : Session) × HasOutside view.proto view.dst view.src u × IsUsedNow s u
+IsRefreshed view Hairpin s =
+    (u : Session) × HasInside view.proto view.src view.dst u × IsUsedNow s u
+    × ((t : Session) × HasOutside view.proto view.dst u.outside t × IsUsedNow s t)
+
+-- a packet that passes refreshes its session, whichever way it goes
+abbrev pub PassingRefreshes : Type 0
+PassingRefreshes =
+    (config : Config) (s : State) (judged : Judged) (iface : Iface) (bytes : List ℕ) (view : View)
+    (r : Route) (out : Iface) (packet : List ℕ) → Came config judged iface bytes view r
+    → (step config s judged).1 ≡ Forward out packet
+    → IsRefreshed view r (step config s judged).0
+
+-- ---- who begins a session (RFC 5382, REQ-4 and section 4)
+
+-- the step has made this session: none of its protocol, inside and remote endpoint was alive
+pub record Began (config : Config) (s : State) (judged : Judged) (session : Session) : Type 0 where
+  pub is_held : In session (step config s judged).0.sessions
+  pub new : NoneInside (living s judged).sessions session.proto session.inside session.remote
+
+-- a packet from wan reaches this inside endpoint: it was sent to it, dnat sends it there, or its destination's mapping
+-- lets it in
+abbrev pub Reaches : Config → State → View → Endpoint → Type 0
+Reaches config s view inside =
+    (IsTrue (is_inside config view.dst.addr) × (inside ≡ view.dst))
+    ⊎ (prerouting_verdict config (record {
+      iif = Wan;
+      oif = None;
+      src = view.src;
+      dst = view.dst;
+      proto = view.proto;
+      state = New;
+    }) s.rules
+    ≡ To inside)
+    ⊎ (IsLeftAlone config s.rules view × IsMapping s.sessions view.proto inside view.dst
+    × LetsIn config.filtering s.sessions view.proto inside view.dst view.src.addr)
+
+-- only a packet makes a session, one that needs none; from wan it is one that reaches the session's inside endpoint
+pub record SessionsBeginByPackets : Type 0 where
+  pub any : (config : Config) (s : State) (judged : Judged) (u : Session)
+      → Began config s judged u
+      → (iface : Iface) × (bytes : List ℕ) × (view : View) × (r : Route)
+      × Came config judged iface bytes view r × IsFalse (needs_session view)
+  pub inbound : (config : Config) (s : State) (judged : Judged) (bytes : List ℕ) (view : View)
+      (u : Session) → Began config s judged u → Came config judged Wan bytes view InRoute
+      → HasOutside view.proto view.dst view.src u × (u.opener ≡ Remote)
+      × Reaches config (living s judged) view u.inside
+      × LetsPass config s view Wan Lan view.src u.inside New
+
+-- what leaves is the packet that the event brought, translated: none is ever made by the gateway itself, neither an
+-- answer to a SYN nor a refusal of one
+abbrev pub PacketsOutCameIn : Type 0
+PacketsOutCameIn =
+    (config : Config) (s : State) (event : Event) (judged : Judged) (out : Iface)
+    (packet : List ℕ) → IsJudged config event judged
+    → (step config s judged).1 ≡ Forward out packet
+    → (iface : Iface) × (bytes : List ℕ) × (source : Endpoint) × (destination : Endpoint)
+    × (event.what ≡ what.Packet iface bytes) × (packet ≡ translated bytes source destination)

@@ -1,0 +1,2 @@
+-- The addresses of Unix sockets.
+pub mod Addresses

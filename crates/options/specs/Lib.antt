@@ -1,0 +1,2 @@
+-- The modes of a socket.
+pub mod Modes

@@ -1,0 +1,88 @@
+use Rattle.std.proofs.Common.{◌≡◌, ◌+◌, [], ◌++◌, ℕ, List, arith, ap, sym, subst, ◌∙◌}
+use Rattle.socket_edge.specs.Exchange.{Exchange}
+use Rattle.socket_edge.specs.Running.{AllAnswered, Answered, EndsBy, Fares, events_in}
+use Rattle.socket_edge.proofs.Talks.{Talked-first, Talked-then, first-nil, told}
+use Rattle.socket_edge.proofs.Answers.{AnsweredFirst-nothing}
+use Rattle.socket_edge.proofs.Runs.{AllAnswered-then, EndsBy-then, Served-answered, fallen-fares, going-ends, going-first, going-next, going-stops}
+use Rattle.socket_edge.proofs.Tending.{idle-fares}
+use Rattle.socket_edge.proofs.edge.run_with.Goals as goal
+
+zero_more : (n : ℕ) → n + 0 ≡ n
+zero_more n = omega arith
+
+-- it had fallen before
+pub returns-then-has_fallen-clause-ran : goal.returns-then-has_fallen-clause-ran
+returns-then-has_fallen-clause-ran g c = (
+  [],
+  g.met.P.Peer.still c.args.peer.now,
+  AnsweredFirst-nothing c.args.gateway.now.told (events_in []),
+  fallen-fares g.D.Disk.honest g.D.Disk.moment g.D.Disk.left g.D.Disk.failed g.met.D.Disk.earlier c.args.gateway.now (events_in []) (sym c.has_fallen.ensures.value ∙ c.if-has_fallen.true),
+  first-nil c.args.gateway.now.told,
+)
+
+pub loop-init : goal.loop-init
+loop-init g c = (
+  [],
+  [],
+  Talked-first g.P.Peer.went g.met.P.Peer.still c.args.gateway.now.told c.args.peer.now,
+  rw c.new-waiting.ensures (going-first g.D.Disk.honest g.D.Disk.moment g.D.Disk.left g.D.Disk.failed g.met.D.Disk.earlier c.args.gateway.now c.stands.ensures),
+  ap (λ (x : Exchange). x.answered) c.new-waiting.ensures,
+)
+
+pub returns-in-Ok-End-clause-ran : goal.returns-in-Ok-End-clause-ran
+returns-in-Ok-End-clause-ran g c =
+    let i = c.loop.invariant in
+    let t = rw c.in-Ok-End.field-0-is at c.in-Ok-End.ensures.came in
+    let at_end = g.P.Peer.ended c.read_once.new.peer in
+    let k = Talked-then g.P.Peer.went g.met.P.Peer.further c.args.gateway.now.told c.args.peer.now c.loop.peer c.read_once.new.peer i.0 i.1 t.0 t.1 i.2 (c.loop.gateway.told, Served-answered c.args.gateway.now.told c.loop.gateway.told i.0 c.loop.waiting.unanswered i.1 c.loop.count i.3.served) t.2 in
+    let so = told g.P.Peer.went c.args.gateway.now.told c.args.peer.now c.read_once.new.peer (i.0 ++ t.0) (i.1 ++ t.1) k in (
+      k.turns,
+      k.goes,
+      so (λ (x y : List ℕ). AllAnswered c.loop.count c.args.gateway.now.told c.read_once.new.gateway.told x y at_end)
+          (subst (λ (n : ℕ). AllAnswered n c.args.gateway.now.told c.read_once.new.gateway.told (i.0 ++ t.0) (i.1 ++ t.1) at_end) (zero_more c.loop.count)
+          (AllAnswered-then c.args.gateway.now.told c.loop.gateway.told c.read_once.new.gateway.told i.0 c.loop.waiting.unanswered t.0 i.1 t.1 c.loop.count 0 at_end i.3.served t.3)),
+      so (λ (x y : List ℕ). Fares g.D.Disk.honest g.D.Disk.moment g.D.Disk.left c.args.gateway.now c.read_once.new.gateway (events_in x) y)
+          (going-ends g.D.Disk.honest g.D.Disk.moment g.D.Disk.left g.D.Disk.failed g.met.D.Disk.earlier c.args.gateway.now c.loop.gateway c.read_once.new.gateway i.0 c.loop.waiting.unanswered t.0 i.1 t.1 c.loop.count i.3 t.4),
+      k.first,
+    )
+
+pub returns-in-Err-clause-ran : goal.returns-in-Err-clause-ran
+returns-in-Err-clause-ran g c =
+    let i = c.loop.invariant in
+    let t = c.in-Err.ensures.came in
+    let at_end = g.P.Peer.ended c.read_once.new.peer in
+    let k = Talked-then g.P.Peer.went g.met.P.Peer.further c.args.gateway.now.told c.args.peer.now c.loop.peer c.read_once.new.peer i.0 i.1 t.0 t.1 i.2 (c.loop.gateway.told, Served-answered c.args.gateway.now.told c.loop.gateway.told i.0 c.loop.waiting.unanswered i.1 c.loop.count i.3.served) t.2 in
+    let so = told g.P.Peer.went c.args.gateway.now.told c.args.peer.now c.read_once.new.peer (i.0 ++ t.0) (i.1 ++ t.1) k in (
+      k.turns,
+      k.goes,
+      so (λ (x y : List ℕ). EndsBy c.in-Err.fault c.args.gateway.now.told c.read_once.new.gateway.told x y at_end)
+          (EndsBy-then c.in-Err.fault c.args.gateway.now.told c.loop.gateway.told c.read_once.new.gateway.told i.0 c.loop.waiting.unanswered t.0 i.1 t.1 c.loop.count at_end i.3.served t.3),
+      so (λ (x y : List ℕ). Fares g.D.Disk.honest g.D.Disk.moment g.D.Disk.left c.args.gateway.now c.read_once.new.gateway (events_in x) y)
+          (going-ends g.D.Disk.honest g.D.Disk.moment g.D.Disk.left g.D.Disk.failed g.met.D.Disk.earlier c.args.gateway.now c.loop.gateway c.read_once.new.gateway i.0 c.loop.waiting.unanswered t.0 i.1 t.1 c.loop.count i.3 t.4),
+      k.first,
+    )
+
+pub loop-preserved : goal.loop-preserved
+loop-preserved g c =
+    let i = c.loop.invariant in
+    let t = rw c.in-Ok-More.field-0-is at c.in-Ok-More.ensures.came in (
+      i.0 ++ t.0,
+      i.1 ++ t.1,
+      Talked-then g.P.Peer.went g.met.P.Peer.further c.args.gateway.now.told c.args.peer.now c.loop.peer c.read_once.new.peer i.0 i.1 t.0 t.1 i.2 (c.loop.gateway.told, Served-answered c.args.gateway.now.told c.loop.gateway.told i.0 c.loop.waiting.unanswered i.1 c.loop.count i.3.served) t.2,
+      rw c.sum-count.ensures (going-next g.D.Disk.honest g.D.Disk.moment g.D.Disk.left g.D.Disk.failed g.met.D.Disk.earlier c.args.gateway.now c.loop.gateway c.read_once.new.gateway i.0 c.loop.waiting.unanswered t.0 c.read_once.new.waiting.unanswered i.1 t.1 c.loop.count c.in-Ok-More.more i.3 t.3 t.4
+          c.in-Ok-More.ensures.stands c.in-Ok-More.ensures.no_failure (c.in-Ok-More.ensures.grown (λ is. absurd cc))),
+      c.in-Ok-More.ensures.sent,
+    )
+
+pub returns-clause-ran : goal.returns-clause-ran
+returns-clause-ran g c =
+    let i = c.loop.invariant in
+    let so = told g.P.Peer.went c.args.gateway.now.told c.args.peer.now c.loop.peer i.0 i.1 i.2 in (
+      i.2.turns,
+      i.2.goes,
+      so (λ (x y : List ℕ). Answered c.args.gateway.now.told c.loop.gateway.told x y)
+          (Served-answered c.args.gateway.now.told c.loop.gateway.told i.0 c.loop.waiting.unanswered i.1 c.loop.count i.3.served),
+      so (λ (x y : List ℕ). Fares g.D.Disk.honest g.D.Disk.moment g.D.Disk.left c.args.gateway.now c.loop.gateway (events_in x) y)
+          (going-stops g.D.Disk.honest g.D.Disk.moment g.D.Disk.left g.D.Disk.failed g.met.D.Disk.earlier c.args.gateway.now c.loop.gateway i.0 c.loop.waiting.unanswered i.1 c.loop.count i.3 (idle-fares g.D.Disk.honest g.D.Disk.moment g.D.Disk.left g.D.Disk.seen g.D.Disk.failed g.met.D.Disk.reads g.met.D.Disk.earlier c.loop.gateway c.stands-2.ensures)),
+      i.2.first,
+    )

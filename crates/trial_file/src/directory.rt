@@ -1,0 +1,53 @@
+//! A directory in memory.
+ghost use Rattle.std.specs.Prelude.{◌≡◌, ◌⊎◌, length, IfOk};
+ghost use Rattle.disk_model.specs.declared.disk.FileId.{FileId};
+ghost use Rattle.disk_model.specs.Disk.{pair};
+ghost use Rattle.file_disk.specs.Filed.{both_hold};
+ghost use Rattle.file_disk.specs.Prepared.{prepared};
+ghost use Rattle.trial_file.specs.Held.{bytes_of};
+
+use crate::MemoryFile;
+use disk_model::FileId;
+use file_disk::{Directory, FileDisk, OpenError, open_in};
+use std::alloc::Global;
+
+/// The bytes of both files of a directory.
+#[derive(Drop)]
+pub struct MemoryDirectory {
+    pub alloc: Global,
+    pub a: Vec<u8>,
+    pub b: Vec<u8>,
+}
+
+impl Directory for MemoryDirectory {
+    type File = MemoryFile;
+
+    ghost gives = { λ directory file opened.
+        opened.bytes ≡ pair directory.a.items directory.b.items file };
+
+    fn open_file(&self, file: FileId) -> Result<MemoryFile, OpenError> {
+        let bytes = match file {
+            FileId::A => &self.a,
+            FileId::B => &self.b,
+        };
+        Ok(MemoryFile::of(self.alloc, bytes)?)
+    }
+
+    fn sync_names(&self) -> Result<(), OpenError> {
+        Ok(())
+    }
+}
+
+/// A disk over such a directory. A file that has bytes keeps them, and an empty one has eight zeros then.
+///
+/// # Errors
+///
+/// `NoMemory` if memory is refused.
+pub fn opened_disk(directory: &MemoryDirectory) -> Result<FileDisk<MemoryFile>, OpenError>
+    ensures a { IfOk result (λ disk. (both_hold bytes_of disk FileId.A
+        ≡ prepared 8 directory.now.a.items) ⊎ (length directory.now.a.items ≡ 0)) }
+    ensures b { IfOk result (λ disk. (both_hold bytes_of disk FileId.B
+        ≡ prepared 8 directory.now.b.items) ⊎ (length directory.now.b.items ≡ 0)) }
+{
+    open_in(directory, 8)
+}
