@@ -1,5 +1,5 @@
 -- Which file may be moved away.
-use Rattle.std.specs.Prelude.{◌≡◌, ℕ, List, [], ◌++◌, codes, IsTrue, IsFalse, ⊤}
+use Rattle.std.specs.Prelude.{◌≡◌, ◌⊎◌, ℕ, List, [], ◌++◌, codes, IsTrue, ⊤}
 use Rattle.disk_model.specs.Disk.{other}
 use Rattle.disk_model.specs.declared.disk.FileId.{FileId}
 use Rattle.disk_model.specs.declared.disk.FileId.TheVariants.{A, B}
@@ -10,7 +10,7 @@ use Rattle.diagnosis.specs.declared.advice.Advice.TheVariants.{Backup, MoveEithe
 use Rattle.diagnosis.specs.declared.finding.Damage.{Damage}
 use Rattle.diagnosis.specs.declared.reading.Held.{Held}
 use Rattle.diagnosis.specs.declared.reading.Reading.{Reading}
-use Rattle.diagnosis.specs.declared.reading.Reading.TheVariants.{Empty, Closed, Faulty, Whole}
+use Rattle.diagnosis.specs.declared.reading.Reading.TheVariants.{Empty, Closed, Whole}
 
 abbrev pub reading_of : Damage → FileId → Reading
 reading_of damage A = damage.a
@@ -31,23 +31,33 @@ HoldsNothing Empty = ⊤
 HoldsNothing Closed = ⊤
 HoldsNothing reading = ⊥
 
--- A file is moved away only if it has a fault; and what one goes on with is the other file, which is whole and has the
--- configuration at hand.
-abbrev pub IsAdviceBeside : FileId → Reading → Advice → Type 0
-IsAdviceBeside faulty beside Backup = ⊤
-IsAdviceBeside faulty beside MoveEither = ⊥
-IsAdviceBeside faulty beside MoveBoth = HasFault beside
-IsAdviceBeside faulty beside (MoveToBegin file) = (file ≡ faulty) × HoldsNothing beside
-IsAdviceBeside faulty beside (MoveToGoOn file) = (file ≡ faulty) × IsOfUse beside
-
-abbrev pub IsAdvice : Damage → Advice → Type 0
-IsAdvice damage Backup = ⊤
-IsAdvice damage MoveEither = IsWhole damage.a × IsWhole damage.b
-IsAdvice damage MoveBoth = HasFault damage.a × HasFault damage.b
-IsAdvice damage (MoveToBegin file) = HasFault (reading_of damage file)
+-- To move a file away helps if it has a fault, or if both are whole; and what one goes on with is the other file, which
+-- is whole and has the configuration at hand.
+abbrev pub Helps : Damage → Advice → Type 0
+Helps damage Backup = ⊥
+Helps damage MoveEither = IsWhole damage.a × IsWhole damage.b
+Helps damage MoveBoth = HasFault damage.a × HasFault damage.b
+Helps damage (MoveToBegin file) = HasFault (reading_of damage file)
     × HoldsNothing (reading_of damage (other file))
-IsAdvice damage (MoveToGoOn file) = HasFault (reading_of damage file)
+Helps damage (MoveToGoOn file) = HasFault (reading_of damage file)
     × IsOfUse (reading_of damage (other file))
+
+-- what helps is advised; and a backup alone, only if nothing else helps
+abbrev pub IsAdvice : Damage → Advice → Type 0
+IsAdvice damage advice = Helps damage advice
+    ⊎ ((advice ≡ Backup) × ((more : Advice) → ¬ Helps damage more))
+
+-- the same for a file that has a fault, by the file beside it
+abbrev pub HelpsBeside : FileId → Reading → Advice → Type 0
+HelpsBeside faulty beside Backup = ⊥
+HelpsBeside faulty beside MoveEither = ⊥
+HelpsBeside faulty beside MoveBoth = HasFault beside
+HelpsBeside faulty beside (MoveToBegin file) = (file ≡ faulty) × HoldsNothing beside
+HelpsBeside faulty beside (MoveToGoOn file) = (file ≡ faulty) × IsOfUse beside
+
+abbrev pub IsAdviceBeside : FileId → Reading → Advice → Type 0
+IsAdviceBeside faulty beside advice = HelpsBeside faulty beside advice
+    ⊎ ((advice ≡ Backup) × ((more : Advice) → ¬ HelpsBeside faulty beside more))
 
 -- the end of the line that people read: it names the file to be moved, and the one to go on with
 abbrev pub sentence_of : Advice → List ℕ

@@ -1,50 +1,45 @@
 -- What begins a session.
-use Rattle.std.proofs.Common.{◌≡◌, ◌⊎◌, ℕ, Bool, true, false, List, [], ◌∷◌, Option, None, Result, Ok, Err, if◌then◌else◌, refl, sym, ap, ◌∙◌, subst, inl, inr}
+use Rattle.std.proofs.Common.{◌≡◌, ◌≢◌, ◌⊎◌, ℕ, Bool, true, false, List, [], ◌∷◌, Contains, None, Result, Ok, Err, if◌then◌else◌, refl, sym, ap, ◌∙◌, subst, inl, inr}
 use Rattle.std.specs.Prelude.{find}
+use Rattle.std.proofs.lemmas.Bool.{false≢true}
 use Rattle.packet.specs.Config.{Config, is_inside}
 use Rattle.packet.specs.Fields.{fields}
 use Rattle.packet.specs.Route.{route}
-use Rattle.packet.specs.declared.bounds.Filtering.{Filtering}
-use Rattle.packet.specs.declared.bounds.Filtering.TheVariants as filtering
+use Rattle.packet.proofs.Routes.{routed_is_on_route}
 use Rattle.packet.specs.declared.endpoint.Endpoint.{Endpoint}
 use Rattle.packet.specs.declared.endpoint.Iface.{Iface}
 use Rattle.packet.specs.declared.endpoint.Iface.TheVariants.{Lan, Wan}
-use Rattle.packet.specs.declared.endpoint.Proto.{Proto}
 use Rattle.packet.specs.declared.fault.Fault.{Fault}
 use Rattle.packet.specs.declared.route.Route.{Route}
 use Rattle.packet.specs.declared.route.Route.TheVariants.{Out, Hairpin}
 use Rattle.packet.specs.declared.route.Route.TheVariants.{In as InRoute}
 use Rattle.packet.specs.declared.route.RouteFault.{RouteFault}
 use Rattle.packet.specs.declared.view.View.{View}
-use Rattle.sessions.specs.Laws.{IsMapping}
-use Rattle.sessions.specs.Listing.{In, has_inside, has_outside, has_peer, put}
+use Rattle.sessions.specs.Listing.{In, has_inside, has_outside, put, same_flow}
 use Rattle.sessions.specs.Table.{HasInside, HasOutside}
 use Rattle.sessions.specs.declared.session.Opener.{Opener}
 use Rattle.sessions.specs.declared.session.Opener.TheVariants.{Inside, Remote}
 use Rattle.sessions.specs.declared.session.Session.{Session}
-use Rattle.sessions.proofs.PeerFinds.{has_peer-true}
+use Rattle.sessions.proofs.Clashing.{apart-from}
 use Rattle.verdict.specs.Hooks.{prerouting_verdict}
 use Rattle.verdict.specs.declared.facts.State.TheVariants.{New}
-use Rattle.verdict.specs.declared.hook.Destination.{Destination}
-use Rattle.verdict.specs.declared.hook.Destination.TheVariants as destination
-use Rattle.hairpin.specs.Legs.{Passage, facts_of, hairpin_leg, in_leg, inside_by_rules, inside_for, lets_in, maps_outside, needs_session, out_leg, passed_by}
+use Rattle.hairpin.specs.Legs.{Passage, facts_of, first_state, hairpin_leg, in_leg, inside_by_rules, inside_for, maps_outside, needs_session, out_leg, passed_by, put_all}
 use Rattle.hairpin.specs.declared.cause.Cause.{Cause}
-use Rattle.hairpin.specs.declared.cause.Cause.TheVariants.{Rule}
-use Rattle.hairpin.proofs.Apart.{err-ok, find-In, maps_outside-parts, same_Ok}
-use Rattle.hairpin.proofs.Doubling.{passed-keys}
-use Rattle.hairpin.proofs.Pairs.{found-in}
+use Rattle.hairpin.proofs.Apart.{find-In, same_Ok}
+use Rattle.hairpin.proofs.Doubling.{passed-flow, passed-keys, put-In}
 use Rattle.machine.specs.Judged.{Judged, brought}
 use Rattle.machine.specs.Laws.{Came, LetsPass, living}
 use Rattle.machine.specs.Machine.{State, act, leg, on_route, sent, step, with_fields}
-use Rattle.machine.specs.Requirements.{LetsIn, NoneInside, PacketsOutCameIn, Reaches, SessionsBeginByPackets}
+use Rattle.machine.specs.Requirements.{IsCalled, IsCalledNear, NoneInside, PacketsOutCameIn, PassesByBoth, Reaches, SessionsBeginByPackets}
 use Rattle.machine.specs.declared.deed.Deed.{Deed}
 use Rattle.machine.specs.declared.deed.Deed.TheVariants as deed
 use Rattle.machine.specs.declared.event.Answer.{Answer}
 use Rattle.machine.proofs.Left.{step-of}
-use Rattle.machine.proofs.Letting.{mapping-lets}
-use Rattle.machine.proofs.Passages.{FirstBegins, FirstGoesOn, hairpin-told, in-told, out-told}
+use Rattle.machine.proofs.Called.{called, called-near, comes, comes-before, state-out}
+use Rattle.machine.proofs.Passages.{FirstBegins, FirstGoesOn, SecondBegins, SecondGoesOn, hairpin-told, in-told, out-told}
 use Rattle.machine.proofs.Passing.{step-planned}
-use Rattle.machine.proofs.Soundness.{put_all-member}
+use Rattle.machine.proofs.Refreshing.{apart-flows, first-used, put-stays, second-used}
+use Rattle.machine.proofs.Soundness.{external-is, put_all-member}
 
 -- ---- nothing but a packet
 
@@ -168,37 +163,16 @@ step-brings config s judged u new is = act-brings config (living s judged) u new
 
 -- ---- where a packet from wan comes to
 
-pub lets-known : (by : Filtering) (held : List Session) (m : Session) (proto : Proto) (inside outside : Endpoint) (remote : ℕ) → m.proto ≡ proto → m.inside ≡ inside → m.outside ≡ outside → lets_in by held m remote ≡ true
-    → LetsIn by held proto inside outside remote
-lets-known filtering.Endpoint held m proto inside outside remote p i o lets = tt
-lets-known filtering.Address held m proto inside outside remote p i o lets =
-    let known = found-in (has_peer m.proto m.inside m.outside remote) held lets in
-    let peer = has_peer-true m.proto m.inside m.outside remote known.0 known.2 in
-    (known.0, known.1, (peer.0 ∙ p, peer.1 ∙ i, peer.2 ∙ o, peer.3))
-
 module _ (config : Config) (live : State) (view : View) where
-  abbrev asked : Destination
-  asked = prerouting_verdict config (facts_of config live.rules live.sessions live.clock view Wan None view.src view.dst New) live.rules
-
-  abbrev mapped : Option Session
-  mapped = find (maps_outside view.proto view.dst) live.sessions
-
-  reaches-rules : (inside : Endpoint) (d : Destination) → asked ≡ d → inside_by_rules config live.rules live.sessions live.clock view live.sessions view.src.addr mapped d ≡ Ok inside → Reaches config live view inside
-  reaches-rules inside destination.None e h =
-      let m = mapping-lets config.filtering live.sessions view.src.addr mapped inside h in
-      let is = find-In (maps_outside view.proto view.dst) live.sessions m.0 m.1 in
-      let parts = maps_outside-parts view.proto view.dst m.0 is.1 in
-      let mapping : IsMapping live.sessions view.proto inside view.dst = record { session = m.0; is_held = is.0; translated = parts.0; proto = parts.1; inside = m.2; outside = parts.2 } in
-      inr (inr (e, mapping, lets-known config.filtering live.sessions m.0 view.proto inside view.dst view.src.addr parts.1 m.2 parts.2 m.3))
-  reaches-rules inside (destination.To x) e h = inr (inl (e ∙ ap destination.To (same_Ok x inside h)))
-  reaches-rules inside destination.Drop e h = absurd (err-ok Rule inside h)
-
   reaches-by : (inside : Endpoint) (b : Bool) → is_inside config view.dst.addr ≡ b
-      → (if b then Ok view.dst else inside_by_rules config live.rules live.sessions live.clock view live.sessions view.src.addr mapped asked) ≡ Ok inside → Reaches config live view inside
+      → (if b then Ok view.dst else inside_by_rules config live.rules live.sessions live.clock view live.sessions view.src.addr (find (maps_outside view.proto view.dst) live.sessions)
+      (prerouting_verdict config (facts_of config live.rules live.sessions live.clock view Wan None view.src view.dst New) live.rules))
+      ≡ Ok inside
+      → Reaches config live view Wan view.src inside
   reaches-by inside true e h = inl (e, sym (same_Ok view.dst inside h))
-  reaches-by inside false e h = reaches-rules inside asked refl h
+  reaches-by inside false e h = inr (comes config live view Wan view.src.addr live.sessions inside h)
 
-  pub reaches : (inside : Endpoint) → inside_for config live.rules live.sessions live.clock view ≡ Ok inside → Reaches config live view inside
+  pub reaches : (inside : Endpoint) → inside_for config live.rules live.sessions live.clock view ≡ Ok inside → Reaches config live view Wan view.src inside
   reaches inside h = reaches-by inside (is_inside config view.dst.addr) refl h
 
 module _ (config : Config) (s : State) (judged : Judged) (bytes : List ℕ) (view : View) (u : Session) (new : NoneInside (living s judged).sessions u.proto u.inside u.remote) where
@@ -206,7 +180,7 @@ module _ (config : Config) (s : State) (judged : Judged) (bytes : List ℕ) (vie
   live = living s judged
 
   abbrev ComesIn : Type 0
-  ComesIn = HasOutside view.proto view.dst view.src u × (u.opener ≡ Remote) × Reaches config live view u.inside × LetsPass config s view Wan Lan view.src u.inside New
+  ComesIn = HasOutside view.proto view.dst view.src u × (u.opener ≡ Remote) × Reaches config live view Wan view.src u.inside × LetsPass config s view Wan Lan view.src u.inside New
 
   leg-comes : (p : Passage) → in_leg config live.rules live.sessions live.clock view ≡ Ok p → In u p.sessions → ComesIn
   leg-comes p h is = elim (in-told config live.rules live.sessions live.clock view p h) [
@@ -224,7 +198,7 @@ module _ (config : Config) (s : State) (judged : Judged) (bytes : List ℕ) (vie
               let same : inside ≡ u.inside = ap (λ (v : Session). v.inside) (sym e) in (
                 (ap (λ (v : Session). v.proto) e, ap (λ (v : Session). v.outside) e, ap (λ (v : Session). v.remote) e),
                 ap (λ (v : Session). v.opener) e,
-                subst (Reaches config live view) same (reaches config live view inside begun.2.1),
+                subst (Reaches config live view Wan view.src) same (reaches config live view inside begun.2.1),
                 subst (λ x. LetsPass config s view Wan Lan view.src x New) same begun.2.2,
               )
           | inr no_more ↦ absurd no_more
@@ -240,12 +214,131 @@ module _ (config : Config) (s : State) (judged : Judged) (bytes : List ℕ) (vie
       sent-comes (in_leg config live.rules live.sessions live.clock view) refl
       (subst (λ (p : State × Answer). In u p.0.sessions) (step-of config s judged Wan bytes view InRoute came) is)
 
+  -- ---- out
+
+  abbrev GoesOut : Type 0
+  GoesOut = HasInside view.proto view.src view.dst u × (u.opener ≡ Inside) × IsCalled config live view u.outside × LetsPass config s view Lan Wan view.src view.dst New
+
+  leg-goes : (p : Passage) → out_leg config live.rules live.sessions live.clock view ≡ Ok p → In u p.sessions → GoesOut
+  leg-goes p h is = elim (out-told config live.rules live.sessions live.clock view p h) [
+    | inl on ↦
+        let t = on.0 in
+        let in_t = (find-In (has_inside view.proto view.src view.dst) live.sessions t on.1).0 in
+        elim (subst (λ (q : Passage). In u q.sessions) on.2 is) [
+          | inl e ↦ absurd (not-passed config live view u new t (passed_by t Inside view.flags live.clock) Inside in_t refl (same-as config live view u new (passed_by t Inside view.flags live.clock) e))
+          | inr no_more ↦ absurd no_more
+        ]
+    | inr begun ↦
+        let o = begun.2.0 in
+        elim (subst (λ (q : Passage). In u q.sessions) begun.2.2 is) [
+          | inl e ↦
+              let same : o ≡ u.outside = ap (λ (v : Session). v.outside) (sym e) in (
+                (ap (λ (v : Session). v.proto) e, ap (λ (v : Session). v.inside) e, ap (λ (v : Session). v.remote) e),
+                ap (λ (v : Session). v.opener) e,
+                subst (IsCalled config live view) same (called config live view o begun.2.1),
+                begun.2.3,
+              )
+          | inr no_more ↦ absurd no_more
+        ]
+  ]
+
+  sent-goes : (way : Result Passage Cause) → out_leg config live.rules live.sessions live.clock view ≡ way → In u (sent live bytes way).0.sessions → GoesOut
+  sent-goes (Err cause) h is = absurd (new u is (refl, refl, refl))
+  sent-goes (Ok p) h is = elim (put_all-member p.sessions live.sessions u is) [ inl made ↦ leg-goes p h made | inr old ↦ absurd (new u old (refl, refl, refl)) ]
+
+  pub begun-outbound : In u (step config s judged).0.sessions → Came config judged Lan bytes view Out → GoesOut
+  begun-outbound is came =
+      sent-goes (out_leg config live.rules live.sessions live.clock view) refl
+      (subst (λ (p : State × Answer). In u p.0.sessions) (step-of config s judged Lan bytes view Out came) is)
+
+  -- ---- both
+
+  -- it is the session that takes the packet out, or the one that takes it in
+  abbrev IsEither : Session → Session → Type 0
+  IsEither first far = ((u ≡ first) × (u.opener ≡ Inside) × IsCalledNear config live view u.outside) ⊎ ((u ≡ far) × (u.opener ≡ Remote) × Reaches config live view Lan first.outside u.inside)
+
+  abbrev GoesBoth : List Session → Type 0
+  GoesBoth held = (first : Session) × (far : Session) × PassesByBoth config live held view first far × IsEither first far
+
+  module _ (at : Contains config.external view.dst.addr) where
+    is-first : (first far : Session) → FirstGoesOn config live.rules live.sessions live.clock view first ⊎ FirstBegins config live.rules live.sessions live.clock view first → u ≡ first → IsEither first far
+    is-first first far (inl on) e =
+        absurd (not-passed config live view u new on.0 first Inside (find-In (has_inside view.proto view.src view.dst) live.sessions on.0 on.1).0 on.2 (same-as config live view u new first e))
+    is-first first far (inr begun) e =
+        let o = begun.2.0 in
+        let is = e ∙ begun.2.2 in
+        inl (
+          e,
+          ap (λ (v : Session). v.opener) is,
+          subst (IsCalledNear config live view) (ap (λ (v : Session). v.outside) (sym is)) (called-near config live view at o begun.2.1),
+        )
+
+    is-far : (first far : Session) → first.outside ≢ view.dst → same_flow far first ≡ false
+        → SecondGoesOn config live.rules live.sessions live.clock view first (put first live.sessions) far ⊎ SecondBegins config live.rules live.sessions live.clock view first (put first live.sessions) far → u ≡ far → IsEither first far
+    is-far first far away apart (inl on) e =
+        let t = on.0 in
+        elim (put_all-member (first ∷ []) live.sessions t (find-In (has_outside view.proto view.dst first.outside) (put first live.sessions) t on.1).0) [
+          | inl among ↦ elim among [
+            | inl one ↦ absurd (false≢true (sym apart ∙ subst (λ (v : Session). same_flow far v ≡ true) one (subst (λ (v : Session). same_flow v t ≡ true) (sym on.2) (passed-flow t Remote view.flags live.clock))))
+            | inr no_more ↦ absurd no_more
+          ]
+          | inr old ↦ absurd (not-passed config live view u new t far Remote old on.2 (same-as config live view u new far e))
+        ]
+    is-far first far away apart (inr begun) e =
+        let inside = begun.2.0 in
+        let is = e ∙ begun.2.3 in
+        let comes_to = comes config live view Lan first.outside.addr (put first live.sessions) inside begun.2.1 in
+        let reached : Reaches config live view Lan first.outside inside = inr (comes-before config live view first away Lan first.outside.addr inside comes_to) in
+        inr (e, ap (λ (v : Session). v.opener) is, subst (Reaches config live view Lan first.outside) (ap (λ (v : Session). v.inside) (sym is)) reached)
+
+    leg-both : (p : Passage) → hairpin_leg config live.rules live.sessions live.clock view ≡ Ok p → In u p.sessions → GoesBoth (put_all p.sessions live.sessions)
+    leg-both p h made =
+        let both = hairpin-told config live.rules live.sessions live.clock view p h in
+        let first = both.first in
+        let far = both.far in
+        let held = put first live.sessions in
+        let is = first-used config live view first both.by_first in
+        let behind = second-used config live view first far held both.by_far in
+        let apart = apart-flows config live view first far is behind both.away in
+        let by : PassesByBoth config live (put far held) view first far = record {
+          first_held = put-stays far first held (put-In first live.sessions) apart;
+          goes_out = (is.0, is.1, is.2);
+          far_held = put-In far held;
+          comes_in = (behind.0, behind.1, behind.2);
+          passes = (
+            first_state config live.rules live.sessions live.clock view (find (has_inside view.proto view.src view.dst) live.sessions),
+            state-out config live view (find (has_inside view.proto view.src view.dst) live.sessions) refl,
+            both.lets,
+          );
+        } in
+        let either : IsEither first far = elim (subst (λ (q : Passage). In u q.sessions) both.are made) [
+          | inl e ↦ is-first first far both.by_first e
+          | inr more ↦ elim more [
+            | inl e ↦ is-far first far (apart-from first.outside view.dst both.away) apart both.by_far e
+            | inr no_more ↦ absurd no_more
+          ]
+        ] in
+        subst (λ (q : Passage). GoesBoth (put_all q.sessions live.sessions)) (sym both.are) (first, far, by, either)
+
+    sent-both : (way : Result Passage Cause) → hairpin_leg config live.rules live.sessions live.clock view ≡ way → In u (sent live bytes way).0.sessions → GoesBoth (sent live bytes way).0.sessions
+    sent-both (Err cause) h is = absurd (new u is (refl, refl, refl))
+    sent-both (Ok p) h is = elim (put_all-member p.sessions live.sessions u is) [ inl made ↦ leg-both p h made | inr old ↦ absurd (new u old (refl, refl, refl)) ]
+
+  pub begun-hairpin : In u (step config s judged).0.sessions → Came config judged Lan bytes view Hairpin → GoesBoth (step config s judged).0.sessions
+  begun-hairpin is came =
+      let there = routed_is_on_route config Lan view Hairpin came.route_is in
+      let done = step-of config s judged Lan bytes view Hairpin came in
+      subst (λ (p : State × Answer). GoesBoth p.0.sessions) (sym done)
+      (sent-both (external-is config view.dst.addr there.1.2) (hairpin_leg config live.rules live.sessions live.clock view) refl (subst (λ (p : State × Answer). In u p.0.sessions) done is))
+
 pub begin-by-packets : SessionsBeginByPackets
 begin-by-packets = record {
   any = λ config s judged u began.
       let by = step-brings config s judged u began.new began.is_held in
       (by.0, by.1, by.2, by.3, record { deed_is = by.4; fields_are = by.5; route_is = by.6 }, by.7);
+  outbound = λ config s judged bytes view u began came. begun-outbound config s judged bytes view u began.new began.is_held came;
   inbound = λ config s judged bytes view u began came. begun-inbound config s judged bytes view u began.new began.is_held came;
+  hairpin = λ config s judged bytes view u began came. begun-hairpin config s judged bytes view u began.new began.is_held came;
 }
 
 -- ---- what leaves

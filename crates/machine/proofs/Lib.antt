@@ -28,7 +28,9 @@ pub mod Ways
 pub mod Passages
 pub mod Left
 pub mod Refreshing
+pub mod Called
 pub mod Beginnings
+pub mod Lived
 pub mod Admitting
 pub mod Keeping
 pub mod Sources

@@ -40,7 +40,7 @@ use Rattle.machine.specs.Order.{NeedsSession, ForwardDrops, PostroutingDrops, Pr
 use Rattle.machine.specs.Requirements.{NoneInside, NoneOutside}
 use Rattle.machine.proofs.Admitting.{lets-true}
 use Rattle.machine.proofs.Choosing.{full-at}
-use Rattle.machine.proofs.Beginnings.{lets-known}
+use Rattle.machine.proofs.Called.{lets-known}
 use Rattle.machine.proofs.Looked.{Ordered, all-none, filtered, first-of, holding, moved, none-all, none-at, none-of, nowhere-of, of-first, one-more, skipped, tested}
 use Rattle.machine.proofs.Passing.{one-of-flow}
 

@@ -42,7 +42,7 @@ use Rattle.machine.specs.Machine.{State}
 use Rattle.machine.specs.Order as order
 use Rattle.machine.specs.Order.{HoldsHairpin, HoldsIn, Reason, cause_of}
 use Rattle.machine.specs.Order.{NeedsSession, ForwardDrops, PreroutingDrops, NoPortLeft, Unmapped, KeptOut, Clashes, OwnEndpoint, NeedsFarSession, NoRoom}
-use Rattle.machine.specs.Requirements.{NoneInside, NoneOutside}
+use Rattle.machine.specs.Requirements.{IsStateOut, NoneInside, NoneOutside}
 use Rattle.machine.proofs.Choosing.{full-at}
 use Rattle.machine.proofs.Looked.{Ordered, filtered, first-of, holding, moved, none-at, none-of, nowhere-of, of-first, skipped, tested}
 use Rattle.machine.proofs.Ordered.{Shares, by-clash, by-destination, one-inside, one-way}
@@ -139,7 +139,7 @@ module _ (config : Config) (s : State) (view : View) (is_one : is_config config 
   abbrev Later : List Reason
   Later = ForwardDrops ∷ NoRoom ∷ []
 
-  module _ (state : Connection) (state_is : order.IsStateOut config s view state) (one_state : (c : Connection) → order.IsStateOut config s view c → c ≡ state) (first : Session) (is : First first)
+  module _ (state : Connection) (state_is : IsStateOut s view state) (one_state : (c : Connection) → IsStateOut s view c → c ≡ state) (first : Session) (is : First first)
       (rises : Rises (put first sessions)) (apart : (u v : Session) → In u (put first sessions) → In v (put first sessions) → u ≢ v → ¬ Clashing u v) where
     abbrev held : List Session
     held = put first sessions
@@ -304,7 +304,7 @@ module _ (config : Config) (s : State) (view : View) (is_one : is_config config 
       let own : (v : Session) → In v sessions → same_flow first v ≡ false → ¬ Clashing first v = λ v in_v other clash.
       sound.apart u v known.0 in_v (λ same. false≢true (sym other ∙ subst (λ w. same_flow first w ≡ true) same (passed-flow u Inside view.flags now)))
       (Clash-same_keys u v first v keys (SameKeys-refl v) clash) in
-      let one_state : (c : Connection) → order.IsStateOut config s view c → c ≡ state = λ c st. elim st [
+      let one_state : (c : Connection) → IsStateOut s view c → c ≡ state = λ c st. elim st [
         | inl none ↦ absurd (none.0 u known.0 has)
         | inr by ↦ by.3 ∙ ap (λ (v : Session). connection_of v Inside view.flags) (one-inside config s view sound by.0 u by.1 known.0 by.2 has)
       ] in
@@ -314,7 +314,7 @@ module _ (config : Config) (s : State) (view : View) (is_one : is_config config 
   hairpin-ordered-by None e =
       let new : NoneInside sessions view.proto view.src view.dst = λ u in_u own.
       let found = find-some (has_inside view.proto view.src view.dst) sessions u in_u (has_inside-from view.proto view.src view.dst u own) in none-some found.0 (sym e ∙ found.1) in
-      let one_state : (c : Connection) → order.IsStateOut config s view c → c ≡ New = λ c st. elim st [ inl none ↦ none.1 | inr by ↦ absurd (new by.0 by.1 by.2) ] in
+      let one_state : (c : Connection) → IsStateOut s view c → c ≡ New = λ c st. elim st [ inl none ↦ none.1 | inr by ↦ absurd (new by.0 by.1 by.2) ] in
       let begin : Endpoint → Result Session Cause = λ outside. Ok (new_session config s.rules sessions now view Inside view.src outside view.dst) in
       let near = outside_near config s.rules sessions now view found_map in
       moved H (then_with (if needs_session view then Err cause.NoSession else then_with near begin) (far_on New)) (if needs_session view then Err cause.NoSession else then_with near (λ x. then_with (begin x) (far_on New))) All

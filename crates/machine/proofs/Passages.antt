@@ -59,7 +59,7 @@ module _ (config : Config) (rules : Spelled) (sessions : List Session) (now : �
 
   abbrev pub BeginsOut : Passage → Type 0
   BeginsOut p = (found_out ≡ None) × (needs_session view ≡ false)
-      × ((outside : Endpoint) × (outside_for config rules sessions now view (find (maps_inside view.proto view.src) sessions) ≡ Ok outside) × (p ≡ outward (new_out outside)))
+      × ((outside : Endpoint) × (outside_for config rules sessions now view (find (maps_inside view.proto view.src) sessions) ≡ Ok outside) × (p ≡ outward (new_out outside)) × Passes Lan Wan view.src view.dst New)
 
   out-told-by : (found : Option Session) → found_out ≡ found → (p : Passage) → out_by config rules sessions now view found ≡ Ok p → GoesOn p ⊎ BeginsOut p
   out-told-by (Some s) e p h =
@@ -69,7 +69,7 @@ module _ (config : Config) (rules : Spelled) (sessions : List Session) (now : �
       let begun = unless-ok (needs_session view) NoSession (forwarded config rules sessions now view Lan Wan view.src view.dst New (begun_out config rules sessions now view)) p h in
       let way = passed-ok (forward_verdict config (facts_of config rules sessions now view Lan (Some Wan) view.src view.dst New) rules) (begun_out config rules sessions now view) p begun.1 in
       let new = then-ok (outside_for config rules sessions now view (find (maps_inside view.proto view.src) sessions)) (λ outside. counted config rules sessions now view (outward (new_out outside))) p way.1 in
-      inr (e, begun.0, (new.0, new.1, sym (counted-ok (outward (new_out new.0)) p new.2)))
+      inr (e, begun.0, (new.0, new.1, sym (counted-ok (outward (new_out new.0)) p new.2), way.0))
 
   pub out-told : (p : Passage) → out_leg config rules sessions now view ≡ Ok p → GoesOn p ⊎ BeginsOut p
   out-told p h = out-told-by found_out refl p h
@@ -87,7 +87,7 @@ module _ (config : Config) (rules : Spelled) (sessions : List Session) (now : �
 
   abbrev pub BeginsIn : Passage → Type 0
   BeginsIn p = (found_in ≡ None) × (needs_session view ≡ false)
-      × ((inside : Endpoint) × (inside_for config rules sessions now view ≡ Ok inside) × Passes Wan Lan view.src inside New × (p ≡ inward (new_in inside)))
+      × ((inside : Endpoint) × (inside_for config rules sessions now view ≡ Ok inside) × Passes Wan Lan view.src inside New × (p ≡ inward (new_in inside)) × (find (clashes (new_in inside)) sessions ≡ None))
 
   in-told-by : (found : Option Session) → found_in ≡ found → (p : Passage) → in_by config rules sessions now view found ≡ Ok p → ComesOn p ⊎ BeginsIn p
   in-told-by (Some s) e p h =
@@ -99,7 +99,7 @@ module _ (config : Config) (rules : Spelled) (sessions : List Session) (now : �
       let way = counted config rules sessions now view (inward (new_in new.0)) in
       let free = unless-ok (is_some (find (clashes (new_in new.0)) sessions)) Clash (forwarded config rules sessions now view Wan Lan view.src new.0 New way) p new.2 in
       let passes = passed-ok (forward_verdict config (facts_of config rules sessions now view Wan (Some Lan) view.src new.0 New) rules) way p free.1 in
-      inr (e, begun.0, (new.0, new.1, passes.0, sym (counted-ok (inward (new_in new.0)) p passes.1)))
+      inr (e, begun.0, (new.0, new.1, passes.0, sym (counted-ok (inward (new_in new.0)) p passes.1), gone (find (clashes (new_in new.0)) sessions) free.0))
 
   pub in-told : (p : Passage) → in_leg config rules sessions now view ≡ Ok p → ComesOn p ⊎ BeginsIn p
   in-told p h = in-told-by found_in refl p h
@@ -158,6 +158,7 @@ module _ (config : Config) (rules : Spelled) (sessions : List Session) (now : �
     pub by_first : FirstGoesOn first ⊎ FirstBegins first
     pub away : same_endpoint first.outside view.dst ≡ false
     pub by_far : SecondGoesOn first (put first sessions) far ⊎ SecondBegins first (put first sessions) far
+    pub lets : Passes Lan Lan view.src far.inside (first_state config rules sessions now view found_out)
     pub are : p ≡ through first far
 
   pub hairpin-told : (p : Passage) → hairpin_leg config rules sessions now view ≡ Ok p → Hairpinned p
@@ -177,5 +178,6 @@ module _ (config : Config) (rules : Spelled) (sessions : List Session) (now : �
         by_first = first-told first one.1;
         away = other.0;
         by_far = second-told first (put first sessions) t other.1;
+        lets = passes.0;
         are = sym (counted-ok (through first t) p passes.1);
       }

@@ -1,10 +1,11 @@
--- A packet that passes refreshes its session.
+-- A packet that passes leaves by its session, and refreshes it.
 use Rattle.std.proofs.Common.{◌≡◌, ◌⊎◌, ℕ, List, Ok, true, false, not, refl, sym, ap, ◌∙◌, subst, inl, inr}
 use Rattle.std.specs.List.{filter}
 use Rattle.std.proofs.lemmas.Bool.{false≢true, false_from_ne_true}
 use Rattle.packet.proofs.SameLemmas.{same_endpoint-itself}
 use Rattle.packet.specs.Config.{Config}
 use Rattle.packet.specs.Same.{same_endpoint}
+use Rattle.packet.specs.Translated.{translated}
 use Rattle.packet.specs.declared.endpoint.Endpoint.{Endpoint}
 use Rattle.packet.specs.declared.endpoint.Iface.{Iface}
 use Rattle.packet.specs.declared.route.Route.{Route}
@@ -24,7 +25,7 @@ use Rattle.hairpin.proofs.Doubling.{passed-keys, put-In}
 use Rattle.machine.specs.Judged.{Judged}
 use Rattle.machine.specs.Laws.{Came, living}
 use Rattle.machine.specs.Machine.{State, leg, step}
-use Rattle.machine.specs.Requirements.{IsRefreshed}
+use Rattle.machine.specs.Requirements.{LeavesBySession}
 use Rattle.machine.specs.declared.event.Answer.TheVariants.{Forward}
 use Rattle.machine.proofs.Left.{left, step-passed}
 use Rattle.machine.proofs.Passages.{FirstBegins, FirstGoesOn, SecondBegins, SecondGoesOn, hairpin-told, in-told, new_in, new_out, out-told, passed-last}
@@ -38,6 +39,10 @@ pub flows-differ : (t u : Session) → (t.remote ≡ u.remote → ⊥) → same_
 flows-differ t u away = false_from_ne_true _ (λ h. away (sym (has_inside-true t.proto t.inside t.remote u h).2))
 
 module _ (config : Config) (live : State) (view : View) where
+  -- the packet leaves so by the passage
+  abbrev Leaves : List ℕ → Route → Passage → Type 0
+  Leaves bytes r p = LeavesBySession (left live p) view r bytes p.iface (translated bytes p.src p.dst)
+
   abbrev sessions : List Session
   sessions = live.sessions
 
@@ -59,36 +64,36 @@ module _ (config : Config) (live : State) (view : View) where
 
   -- ---- out
 
-  pub refreshed-out : (p : Passage) → out_leg config live.rules sessions now view ≡ Ok p → IsRefreshed view Out (left live p)
-  refreshed-out p h = elim (out-told config live.rules sessions now view p h) [
+  pub leaves-out : (bytes : List ℕ) (p : Passage) → out_leg config live.rules sessions now view ≡ Ok p → Leaves bytes Out p
+  leaves-out bytes p h = elim (out-told config live.rules sessions now view p h) [
     | inl on ↦
         let s = on.0 in
         let t = passed_by s Inside view.flags now in
         let has = has_inside-true view.proto view.src view.dst s (find-In (has_inside view.proto view.src view.dst) sessions s on.1).1 in
         let used = goes s Inside has.0 in
-        subst (λ (q : Passage). IsRefreshed view Out (left live q)) (sym on.2)
-        (t, (used.proto, used.near ∙ has.1, used.to ∙ has.2), (put-In t sessions, used.last))
+        subst (Leaves bytes Out) (sym on.2)
+        (t, (used.proto, used.near ∙ has.1, used.to ∙ has.2), (put-In t sessions, used.last), refl, refl)
     | inr new ↦
         let t = new_out config live.rules sessions now view new.2.0 in
-        subst (λ (q : Passage). IsRefreshed view Out (left live q)) (sym new.2.2)
-        (t, (refl, refl, refl), (put-In t sessions, refl))
+        subst (Leaves bytes Out) (sym new.2.2)
+        (t, (refl, refl, refl), (put-In t sessions, refl), refl, refl)
   ]
 
   -- ---- in
 
-  pub refreshed-in : (p : Passage) → in_leg config live.rules sessions now view ≡ Ok p → IsRefreshed view InRoute (left live p)
-  refreshed-in p h = elim (in-told config live.rules sessions now view p h) [
+  pub leaves-in : (bytes : List ℕ) (p : Passage) → in_leg config live.rules sessions now view ≡ Ok p → Leaves bytes InRoute p
+  leaves-in bytes p h = elim (in-told config live.rules sessions now view p h) [
     | inl on ↦
         let s = on.0 in
         let t = passed_by s Remote view.flags now in
         let has = has_outside-true view.proto view.dst view.src s (find-In (has_outside view.proto view.dst view.src) sessions s on.1).1 in
         let used = goes s Remote has.0 in
-        subst (λ (q : Passage). IsRefreshed view InRoute (left live q)) (sym on.2)
-        (t, (used.proto, used.far ∙ has.1, used.to ∙ has.2), (put-In t sessions, used.last))
+        subst (Leaves bytes InRoute) (sym on.2)
+        (t, (used.proto, used.far ∙ has.1, used.to ∙ has.2), (put-In t sessions, used.last), refl, refl)
     | inr new ↦
         let t = new_in config live.rules sessions now view new.2.0 in
-        subst (λ (q : Passage). IsRefreshed view InRoute (left live q)) (sym new.2.3)
-        (t, (refl, refl, refl), (put-In t sessions, refl))
+        subst (Leaves bytes InRoute) (sym new.2.3)
+        (t, (refl, refl, refl), (put-In t sessions, refl), refl, refl)
   ]
 
   -- ---- hairpin
@@ -120,24 +125,29 @@ module _ (config : Config) (live : State) (view : View) where
   apart-flows first t is far away = flows-differ t first (λ e.
       false≢true (sym away ∙ subst (λ (x : Endpoint). same_endpoint first.outside x ≡ true) (sym far.2 ∙ e ∙ is.2) (same_endpoint-itself first.outside)))
 
-  pub refreshed-both : (p : Passage) → hairpin_leg config live.rules sessions now view ≡ Ok p → IsRefreshed view Hairpin (left live p)
-  refreshed-both p h =
+  pub leaves-both : (bytes : List ℕ) (p : Passage) → hairpin_leg config live.rules sessions now view ≡ Ok p → Leaves bytes Hairpin p
+  leaves-both bytes p h =
       let both = hairpin-told config live.rules sessions now view p h in
       let first = both.first in
       let t = both.far in
       let is = first-used first both.by_first in
       let far = second-used first t (put first sessions) both.by_far in
       let stays = put-stays t first (put first sessions) (put-In first sessions) (apart-flows first t is far both.away) in
-      subst (λ (q : Passage). IsRefreshed view Hairpin (left live q)) (sym both.are)
-      (first, (is.0, is.1, is.2), (stays, is.3), (t, (far.0, far.1, far.2), (put-In t (put first sessions), far.3)))
+      subst (Leaves bytes Hairpin) (sym both.are)
+      (first, (is.0, is.1, is.2), (stays, is.3), (t, (far.0, far.1, far.2), (put-In t (put first sessions), far.3), refl, refl))
 
-  pub refreshed : (r : Route) (p : Passage) → leg config live view r ≡ Ok p → IsRefreshed view r (left live p)
-  refreshed Out p h = refreshed-out p h
-  refreshed InRoute p h = refreshed-in p h
-  refreshed Hairpin p h = refreshed-both p h
+  pub leaves : (bytes : List ℕ) (r : Route) (p : Passage) → leg config live view r ≡ Ok p → Leaves bytes r p
+  leaves bytes Out p h = leaves-out bytes p h
+  leaves bytes InRoute p h = leaves-in bytes p h
+  leaves bytes Hairpin p h = leaves-both bytes p h
 
-pub passing-refreshes : (config : Config) (s : State) (judged : Judged) (iface : Iface) (bytes : List ℕ) (view : View) (r : Route) (out : Iface) (packet : List ℕ)
-    → Came config judged iface bytes view r → (step config s judged).1 ≡ Forward out packet → IsRefreshed view r (step config s judged).0
-passing-refreshes config s judged iface bytes view r out packet came e =
+pub packets-leave : (config : Config) (s : State) (judged : Judged) (iface : Iface) (bytes : List ℕ) (view : View) (r : Route) (out : Iface) (packet : List ℕ)
+    → Came config judged iface bytes view r → (step config s judged).1 ≡ Forward out packet → LeavesBySession (step config s judged).0 view r bytes out packet
+packets-leave config s judged iface bytes view r out packet came e =
     let passed = step-passed config s judged iface bytes view r out packet came e in
-    subst (IsRefreshed view r) (sym passed.after_is) (refreshed config (living s judged) view r passed.passage passed.passes)
+    let p = passed.passage in
+    let by = leaves config (living s judged) view bytes r p passed.passes in
+    let on : LeavesBySession (left (living s judged) p) view r bytes out (translated bytes p.src p.dst) =
+    subst (λ o. LeavesBySession (left (living s judged) p) view r bytes o (translated bytes p.src p.dst)) (sym passed.out_is) by in
+    let with_packet = subst (LeavesBySession (left (living s judged) p) view r bytes out) (sym passed.packet_is) on in
+    subst (λ (a : State). LeavesBySession a view r bytes out packet) (sym passed.after_is) with_packet

@@ -37,7 +37,7 @@ use Rattle.machine.specs.Hosts.{IsOccupied}
 use Rattle.machine.specs.Judged.{Judged}
 use Rattle.machine.specs.Laws.{Came, living}
 use Rattle.machine.specs.Machine.{State, step}
-use Rattle.machine.specs.Requirements.{LetsIn, NoneInside, NoneOutside}
+use Rattle.machine.specs.Requirements.{HasNoMapping, IsStateOut, LetsIn, NoneInside, NoneOutside}
 use Rattle.machine.specs.Sound.{IsSoundState}
 use Rattle.machine.specs.declared.deed.Deed.TheVariants.{Packet}
 use Rattle.machine.specs.declared.event.Answer.TheVariants.{Dropped, Forward}
@@ -104,16 +104,6 @@ module _ (config : Config) (s : State) (view : View) where
   abbrev pub IsNewOut : Type 0
   IsNewOut = NoneInside s.sessions view.proto view.src view.dst
 
-  -- no mapping gives its source an outside endpoint
-  abbrev pub HasNoMapping : Type 0
-  HasNoMapping = (outside : Endpoint) → ¬ IsMapping s.sessions view.proto view.src outside
-
-  -- the state of the packet: of the session that takes it out, or new
-  abbrev pub IsStateOut : Connection → Type 0
-  IsStateOut state = (IsNewOut × (state ≡ New))
-      ⊎ ((u : Session) × In u s.sessions × HasInside view.proto view.src view.dst u
-      × (state ≡ connection_of u Inside view.flags))
-
   -- no port of its class and parity is free at the address
   abbrev pub IsFull : ℕ → Type 0
   IsFull addr = AllTaken (IsOccupied s.sessions view.proto addr) view.src.port
@@ -136,13 +126,13 @@ module _ (config : Config) (s : State) (view : View) where
   -- when each reason holds of a packet that goes out
   abbrev pub HoldsOut : Reason → Type 0
   HoldsOut NeedsSession = IsNewOut × NeedsOne
-  HoldsOut ForwardDrops = (state : Connection) × IsStateOut state
+  HoldsOut ForwardDrops = (state : Connection) × IsStateOut s view state
       × (forward_verdict config (asked Lan (Some Wan) view.src view.dst state) s.rules
       ≡ forwarding.Drop)
-  HoldsOut PostroutingDrops = IsNewOut × HasNoMapping
+  HoldsOut PostroutingDrops = IsNewOut × HasNoMapping s view
       × (postrouting_verdict config (asked Lan (Some Wan) view.src view.dst New) s.rules
       ≡ source.Drop)
-  HoldsOut NoPortLeft = IsNewOut × HasNoMapping
+  HoldsOut NoPortLeft = IsNewOut × HasNoMapping s view
       × (((addr : ℕ)
       × (postrouting_verdict config (asked Lan (Some Wan) view.src view.dst New) s.rules
       ≡ source.From addr) × IsFull addr)
@@ -214,7 +204,7 @@ module _ (config : Config) (s : State) (view : View) where
   -- the outside endpoint of the packet's source: its mapping's, or the nearest free one at that address
   abbrev pub IsSource : Endpoint → Type 0
   IsSource e = IsMapping s.sessions view.proto view.src e
-      ⊎ (HasNoMapping × IsNear e.addr
+      ⊎ (HasNoMapping s view × IsNear e.addr
       × IsNearest (IsOccupied s.sessions view.proto e.addr) view.src.port e.port)
 
   -- the first session, once the packet has passed: it goes on, or begins
@@ -250,7 +240,7 @@ module _ (config : Config) (s : State) (view : View) where
     abbrev pub HoldsFar : Reason → Type 0
     HoldsFar OwnEndpoint = first.outside ≡ view.dst
     HoldsFar NeedsFarSession = HoldsIn Lan first.outside with_first NeedsSession
-    HoldsFar ForwardDrops = (far : Session) × (state : Connection) × IsSecond far × IsStateOut state
+    HoldsFar ForwardDrops = (far : Session) × (state : Connection) × IsSecond far × IsStateOut s view state
         × (forward_verdict config (asked Lan (Some Lan) view.src far.inside state) s.rules
         ≡ forwarding.Drop)
     HoldsFar NoRoom = (far : Session) × IsSecond far
@@ -267,7 +257,7 @@ module _ (config : Config) (s : State) (view : View) where
 
   abbrev pub HoldsHairpin : Reason → Type 0
   HoldsHairpin NeedsSession = IsNewOut × NeedsOne
-  HoldsHairpin NoPortLeft = IsNewOut × HasNoMapping × ((addr : ℕ) × IsNear addr × IsFull addr)
+  HoldsHairpin NoPortLeft = IsNewOut × HasNoMapping s view × ((addr : ℕ) × IsNear addr × IsFull addr)
   HoldsHairpin why = AfterFirst why
 
 -- what each reason says, on each route

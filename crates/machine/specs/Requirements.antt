@@ -1,11 +1,12 @@
 -- What RFC 4787 (UDP) and RFC 5382 (TCP) ask of a translator, said of a step of every sound state and of every packet.
-use Rattle.std.specs.Prelude.{◌≡◌, ◌≢◌, ◌⊎◌, ℕ, ◌<◌, ◌^◌, List, length, None, IsTrue, IsFalse}
+use Rattle.std.specs.Prelude.{◌≡◌, ◌≢◌, ◌⊎◌, ℕ, ◌<◌, ◌^◌, List, length, Some, None, IsTrue, IsFalse}
 use Rattle.std.specs.List.{Contains}
 use Rattle.packet.specs.Config.{Config, is_config, is_inside}
 use Rattle.packet.specs.Translated.{translated}
 use Rattle.packet.specs.declared.bounds.Filtering.{Filtering}
 use Rattle.packet.specs.declared.bounds.Filtering.TheVariants as filtering
 use Rattle.packet.specs.declared.endpoint.Endpoint.{Endpoint}
+use Rattle.packet.specs.declared.endpoint.Flags.{Flags}
 use Rattle.packet.specs.declared.endpoint.Iface.{Iface}
 use Rattle.packet.specs.declared.endpoint.Iface.TheVariants.{Lan, Wan}
 use Rattle.packet.specs.declared.endpoint.Proto.{Proto}
@@ -15,14 +16,20 @@ use Rattle.packet.specs.declared.route.Route.TheVariants.{In as InRoute}
 use Rattle.packet.specs.declared.view.View.{View}
 use Rattle.portpick.specs.Choice.{IsAlike}
 use Rattle.sessions.specs.Laws.{IsMapping}
+use Rattle.sessions.specs.Life.{restarts, shown}
 use Rattle.sessions.specs.Listing.{In}
-use Rattle.sessions.specs.Table.{HasInside, HasOutside, HasPeer, most_sessions}
-use Rattle.sessions.specs.declared.session.Opener.TheVariants.{Remote}
+use Rattle.sessions.specs.Table.{HasInside, HasOutside, HasPeer, most_sessions, restarted, seen}
+use Rattle.sessions.specs.declared.session.Opener.{Opener}
+use Rattle.sessions.specs.declared.session.Opener.TheVariants.{Inside, Remote}
 use Rattle.sessions.specs.declared.session.Session.{Session}
-use Rattle.verdict.specs.Hooks.{prerouting_verdict}
+use Rattle.verdict.specs.Hooks.{postrouting_verdict, prerouting_verdict}
+use Rattle.verdict.specs.declared.facts.State.{State as Connection}
 use Rattle.verdict.specs.declared.facts.State.TheVariants.{New}
-use Rattle.verdict.specs.declared.hook.Destination.TheVariants.{To}
-use Rattle.hairpin.specs.Legs.{needs_session}
+use Rattle.verdict.specs.declared.hook.Destination.{Destination}
+use Rattle.verdict.specs.declared.hook.Destination.TheVariants as destination
+use Rattle.verdict.specs.declared.hook.Source.{Source}
+use Rattle.verdict.specs.declared.hook.Source.TheVariants as source
+use Rattle.hairpin.specs.Legs.{connection_of, needs_session}
 use Rattle.machine.specs.Hosts.{IsOccupied}
 use Rattle.machine.specs.Judged.{AreJudged, IsJudged, Judged}
 use Rattle.machine.specs.Laws.{Came, IsLeftAlone, LetsPass, living}
@@ -146,29 +153,78 @@ NewMappingsKeepPorts =
     (outside : Endpoint) → IsTrue (is_config config) → MakesMapping config s judged bytes view r outside
     → KeepsPort (living s judged).sessions view.proto view.src.port outside
 
--- ---- refreshing (RFC 4787, REQ-6)
+-- ---- a packet that passes, and its session (RFC 4787, REQ-6)
 
 -- the session is held, and its last packet passed now
 abbrev pub IsUsedNow : State → Session → Type 0
 IsUsedNow s u = In u s.sessions × (u.last ≡ s.clock)
 
--- the session of the packet was used now: out, in, and both of a hairpin
-abbrev pub IsRefreshed : View → Route → State → Type 0
-IsRefreshed view Out s =
+-- the packet leaves on this interface, from and to endpoints of its session, which was used now: out from the outside
+-- endpoint to the remote one, in from the remote endpoint to the inside one. A hairpin has two sessions, and leaves from
+-- the outside endpoint of the first to the inside endpoint of the second, whose remote one that outside endpoint is
+abbrev pub LeavesBySession : State → View → Route → List ℕ → Iface → List ℕ → Type 0
+LeavesBySession s view Out bytes out packet =
     (u : Session) × HasInside view.proto view.src view.dst u × IsUsedNow s u
-IsRefreshed view InRoute s =
+    × (out ≡ Wan) × (packet ≡ translated bytes u.outside u.remote)
+LeavesBySession s view InRoute bytes out packet =
     (u : Session) × HasOutside view.proto view.dst view.src u × IsUsedNow s u
-IsRefreshed view Hairpin s =
+    × (out ≡ Lan) × (packet ≡ translated bytes u.remote u.inside)
+LeavesBySession s view Hairpin bytes out packet =
     (u : Session) × HasInside view.proto view.src view.dst u × IsUsedNow s u
-    × ((t : Session) × HasOutside view.proto view.dst u.outside t × IsUsedNow s t)
+    × ((t : Session) × HasOutside view.proto view.dst u.outside t × IsUsedNow s t
+    × (out ≡ Lan) × (packet ≡ translated bytes u.outside t.inside))
 
--- a packet that passes refreshes its session, whichever way it goes
-abbrev pub PassingRefreshes : Type 0
-PassingRefreshes =
+-- so does each packet that passes, whichever way it goes
+abbrev pub PacketsLeaveBySessions : Type 0
+PacketsLeaveBySessions =
     (config : Config) (s : State) (judged : Judged) (iface : Iface) (bytes : List ℕ) (view : View)
     (r : Route) (out : Iface) (packet : List ℕ) → Came config judged iface bytes view r
     → (step config s judged).1 ≡ Forward out packet
-    → IsRefreshed view r (step config s judged).0
+    → LeavesBySession (step config s judged).0 view r bytes out packet
+
+-- ---- how long a session is held (RFC 4787, REQ-5 and REQ-6; RFC 5382, REQ-5)
+
+-- the packet is one of the session, from this side of it: from its inside endpoint to its remote one, or from its remote
+-- endpoint to its outside one. A hairpin comes in from the outside endpoint of the session that it goes out by
+abbrev pub IsOf : List Session → View → Route → Opener → Session → Type 0
+IsOf held view Out Inside t = HasInside view.proto view.src view.dst t
+IsOf held view Out Remote t = ⊥
+IsOf held view InRoute Inside t = ⊥
+IsOf held view InRoute Remote t = HasOutside view.proto view.dst view.src t
+IsOf held view Hairpin Inside t = HasInside view.proto view.src view.dst t
+IsOf held view Hairpin Remote t =
+    (first : Session) × In first held × HasInside view.proto view.src view.dst first
+    × HasOutside view.proto view.dst first.outside t
+
+-- what a packet from this side makes of a session, at this moment: more was seen of it; but if it was closing, and the
+-- packet is a SYN alone, the sender has begun it anew
+abbrev pub WentOn : Session → Opener → Flags → ℕ → Session → Type 0
+WentOn t sender flags now session =
+    (IsFalse (restarts t flags) × (session ≡ seen t (shown t.proto t.opener sender flags) now))
+    ⊎ (IsTrue (restarts t flags) × (session ≡ restarted t sender now))
+
+-- a packet of the session has passed, and the session is held as the packet has made it
+pub record HasPassed (config : Config) (s : State) (judged : Judged) (t : Session) : Type 0 where
+  pub iface : Iface
+  pub bytes : List ℕ
+  pub view : View
+  pub way : Route
+  pub came : Came config judged iface bytes view way
+  pub out : Iface
+  pub packet : List ℕ
+  pub passes : (step config s judged).1 ≡ Forward out packet
+  pub sender : Opener
+  pub is_of : IsOf (step config s judged).0.sessions view way sender t
+  pub session : Session
+  pub is_held : In session (step config s judged).0.sessions
+  pub went_on : WentOn t sender view.flags (living s judged).clock session
+
+-- no step ends a session that is alive: it is held as it was, unless a packet of it passes
+abbrev pub LivingSessionsStay : Type 0
+LivingSessionsStay =
+    (config : Config) (s : State) (judged : Judged) (t : Session) → IsSoundState config s
+    → In t (living s judged).sessions
+    → In t (step config s judged).0.sessions ⊎ HasPassed config s judged t
 
 -- ---- who begins a session (RFC 5382, REQ-4 and section 4)
 
@@ -177,34 +233,104 @@ pub record Began (config : Config) (s : State) (judged : Judged) (session : Sess
   pub is_held : In session (step config s judged).0.sessions
   pub new : NoneInside (living s judged).sessions session.proto session.inside session.remote
 
--- a packet from wan reaches this inside endpoint: it was sent to it, dnat sends it there, or its destination's mapping
--- lets it in
-abbrev pub Reaches : Config → State → View → Endpoint → Type 0
-Reaches config s view inside =
-    (IsTrue (is_inside config view.dst.addr) × (inside ≡ view.dst))
-    ⊎ (prerouting_verdict config (record {
-      iif = Wan;
+-- the postrouting chains decide so about a packet that goes out
+abbrev pub DecideSource : Config → State → View → Source → Type 0
+DecideSource config s view how =
+    postrouting_verdict config (record {
+      iif = Lan;
+      oif = Some Wan;
+      src = view.src;
+      dst = view.dst;
+      proto = view.proto;
+      state = New;
+    }) s.rules
+    ≡ how
+
+-- the prerouting chains decide so about a packet from this interface
+abbrev pub DecideDestination : Config → State → View → Iface → Destination → Type 0
+DecideDestination config s view iif where_to =
+    prerouting_verdict config (record {
+      iif = iif;
       oif = None;
       src = view.src;
       dst = view.dst;
       proto = view.proto;
       state = New;
     }) s.rules
-    ≡ To inside)
-    ⊎ (IsLeftAlone config s.rules view × IsMapping s.sessions view.proto inside view.dst
-    × LetsIn config.filtering s.sessions view.proto inside view.dst view.src.addr)
+    ≡ where_to
 
--- only a packet makes a session, one that needs none; from wan it is one that reaches the session's inside endpoint
+-- no mapping gives the packet's source an outside endpoint
+abbrev pub HasNoMapping : State → View → Type 0
+HasNoMapping s view = (other : Endpoint) → ¬ IsMapping s.sessions view.proto view.src other
+
+-- a packet that goes out has this outside endpoint: its source's mapping has it; or the source has no mapping, and the
+-- postrouting chains leave it as it is, name the address, or masquerade it at one of the pool
+abbrev pub IsCalled : Config → State → View → Endpoint → Type 0
+IsCalled config s view outside = IsMapping s.sessions view.proto view.src outside
+    ⊎ (HasNoMapping s view
+    × ((DecideSource config s view source.None × (outside ≡ view.src))
+    ⊎ DecideSource config s view (source.From outside.addr)
+    ⊎ (DecideSource config s view source.Masquerade × Contains config.external outside.addr)))
+
+-- a hairpin has this one: its source's mapping has it; or the source has no mapping, and it is at an external address
+abbrev pub IsCalledNear : Config → State → View → Endpoint → Type 0
+IsCalledNear config s view outside = IsMapping s.sessions view.proto view.src outside
+    ⊎ (HasNoMapping s view × Contains config.external outside.addr)
+
+-- a packet from this interface, which comes in from this remote endpoint, reaches this inside endpoint: it was sent to
+-- it, dnat sends it there, or its destination's mapping lets it in
+abbrev pub Reaches : Config → State → View → Iface → Endpoint → Endpoint → Type 0
+Reaches config s view iif remote inside =
+    (IsTrue (is_inside config view.dst.addr) × (inside ≡ view.dst))
+    ⊎ DecideDestination config s view iif (destination.To inside)
+    ⊎ (DecideDestination config s view iif destination.None
+    × IsMapping s.sessions view.proto inside view.dst
+    × LetsIn config.filtering s.sessions view.proto inside view.dst remote.addr)
+
+-- the state of a packet from lan: of the session that takes it out, or new
+abbrev pub IsStateOut : State → View → Connection → Type 0
+IsStateOut s view state =
+    (NoneInside s.sessions view.proto view.src view.dst × (state ≡ New))
+    ⊎ ((u : Session) × In u s.sessions × HasInside view.proto view.src view.dst u
+    × (state ≡ connection_of u Inside view.flags))
+
+-- a hairpin that finds the gateway in this state, and leaves these sessions held, goes out by the one session, and comes
+-- in by the other from the outside endpoint of the one; and the forward chains let it pass between its inside endpoints
+pub record PassesByBoth (config : Config) (s : State) (held : List Session) (view : View)
+    (first far : Session) : Type 0 where
+  pub first_held : In first held
+  pub goes_out : HasInside view.proto view.src view.dst first
+  pub far_held : In far held
+  pub comes_in : HasOutside view.proto view.dst first.outside far
+  pub passes : (state : Connection) × IsStateOut s view state
+      × LetsPass config s view Lan Lan view.src far.inside state
+
+-- Only a packet makes a session, one that needs none, and that the chains let pass. A packet that goes out makes the
+-- session of its source and its destination, and one that comes in makes one of the inside endpoint that it reaches. A
+-- hairpin makes the one that it goes out by, or the one that it comes in by, or both.
 pub record SessionsBeginByPackets : Type 0 where
   pub any : (config : Config) (s : State) (judged : Judged) (u : Session)
       → Began config s judged u
       → (iface : Iface) × (bytes : List ℕ) × (view : View) × (r : Route)
       × Came config judged iface bytes view r × IsFalse (needs_session view)
+  pub outbound : (config : Config) (s : State) (judged : Judged) (bytes : List ℕ) (view : View)
+      (u : Session) → Began config s judged u → Came config judged Lan bytes view Out
+      → HasInside view.proto view.src view.dst u × (u.opener ≡ Inside)
+      × IsCalled config (living s judged) view u.outside
+      × LetsPass config s view Lan Wan view.src view.dst New
   pub inbound : (config : Config) (s : State) (judged : Judged) (bytes : List ℕ) (view : View)
       (u : Session) → Began config s judged u → Came config judged Wan bytes view InRoute
       → HasOutside view.proto view.dst view.src u × (u.opener ≡ Remote)
-      × Reaches config (living s judged) view u.inside
+      × Reaches config (living s judged) view Wan view.src u.inside
       × LetsPass config s view Wan Lan view.src u.inside New
+  pub hairpin : (config : Config) (s : State) (judged : Judged) (bytes : List ℕ) (view : View)
+      (u : Session) → Began config s judged u → Came config judged Lan bytes view Hairpin
+      → (first : Session) × (far : Session)
+      × PassesByBoth config (living s judged) (step config s judged).0.sessions view first far
+      × (((u ≡ first) × (u.opener ≡ Inside)
+      × IsCalledNear config (living s judged) view u.outside)
+      ⊎ ((u ≡ far) × (u.opener ≡ Remote)
+      × Reaches config (living s judged) view Lan first.outside u.inside))
 
 -- what leaves is the packet that the event brought, translated: none is ever made by the gateway itself, neither an
 -- answer to a SYN nor a refusal of one

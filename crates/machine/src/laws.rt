@@ -5,7 +5,7 @@
 //! no packet of theirs is later than the clock, and the rules are those of the text (`specs/Sound`).
 ghost use Rattle.machine.specs.Laws.{AnswersComeIn, ClockNeverFalls, DropsChangeNothing, EventsAreJudgedOnce, FilteredByAddressAlone, ForwardsArePlanned, FullAddressesArePassedOver, HostsKeepOneAddress, InsideMapsOnce, KnownAddressesAreLetIn, LivingMappingsStay, LoadsTakeForce, MappingsAreReused, NewMappingsArePaired, NewPortsKeepClass, OneAddressIsAsBefore, OnlyKnownAddressesComeIn, OnlyLoadsChangeRules, OnlyTranslationsMoveHosts, OutsideIsNotShared, RefusalsChangeNothing, RunsKeepSound, SessionsAreAlive, SessionsGoOut, StartIsSound, StepsKeepSound, StrangersAreFiltered, TranslationsStayInBounds};
 ghost use Rattle.machine.specs.Order.{CausesComeInOrder};
-ghost use Rattle.machine.specs.Requirements.{HairpinsHaveExternalSources, MappingsLetIn, NewMappingsKeepPorts, PacketsOutCameIn, PassingRefreshes, SessionsBeginByPackets};
+ghost use Rattle.machine.specs.Requirements.{HairpinsHaveExternalSources, LivingSessionsStay, MappingsLetIn, NewMappingsKeepPorts, PacketsLeaveBySessions, PacketsOutCameIn, SessionsBeginByPackets};
 
 use rulesyntax::one_ruleset;
 
@@ -182,6 +182,8 @@ pub fn mappings_let_in()
 
 /// A hairpin that passes leaves on lan, from the external endpoint of its sender, to the inside endpoint that is mapped
 /// to the one it was sent to, by a mapping that was there or by dnat (RFC 4787, REQ-9 and REQ-9 a); RFC 5382, REQ-8).
+/// Of files that no gateway wrote from nothing this isn't known: by a session in them that leads from an inside endpoint
+/// to an external address, but isn't translated, a hairpin leaves from the inside endpoint itself.
 pub fn hairpins_have_external_sources()
     ensures { HairpinsHaveExternalSources }
 {}
@@ -193,14 +195,25 @@ pub fn new_mappings_keep_ports()
     ensures { NewMappingsKeepPorts }
 {}
 
-/// After a packet has passed, its session was last used at the clock, whichever way the packet went (RFC 4787, REQ-6);
-/// of a hairpin both sessions were.
-pub fn passing_refreshes()
-    ensures { PassingRefreshes }
+/// A packet that passes leaves by its session, which tells how it is translated: out on wan, from the session's outside
+/// endpoint to its remote one; in on lan, from its remote endpoint to its inside one. A hairpin leaves on lan, from the
+/// outside endpoint of the session that it goes out by, to the inside endpoint of the one that it comes in by. Each of
+/// these sessions is held, and was last used at the clock (RFC 4787, REQ-6).
+pub fn packets_leave_by_sessions()
+    ensures { PacketsLeaveBySessions }
 {}
 
-/// Only a packet begins a session, and of TCP a SYN alone. From wan it is one for an inside address, one that dnat
-/// sends there, or one that a mapping lets in (RFC 5382, REQ-3 and section 4).
+/// No step ends a session that is alive, and none changes it but by a packet of it that passes (RFC 4787, REQ-5 and
+/// REQ-6; RFC 5382, REQ-5). Then protocol and endpoints stay. What the packet shows was seen too, and the last moment is
+/// the clock's. But a SYN alone begins a closing session anew, with nothing seen, and its sender is the opener.
+pub fn living_sessions_stay()
+    ensures { LivingSessionsStay }
+{}
+
+/// Only a packet begins a session, and of TCP a SYN alone, and only if the chains let it pass. A packet that goes out
+/// begins the session of its source and its destination. From wan it is one for an inside address, one that dnat sends
+/// there, or one that a mapping lets in (RFC 5382, REQ-3 and section 4). A hairpin begins the session that it goes out
+/// by, or the one that it comes in by, or both.
 pub fn sessions_begin_by_packets()
     ensures { SessionsBeginByPackets }
 {}
