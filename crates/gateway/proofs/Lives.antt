@@ -70,13 +70,13 @@ module _ {D : Type 0} (honest : D → Type 0) (moment : D → ℕ) (left : D →
       lived-on earlier life.disk life.opened_at life.course are.0.0 (λ fs now. all-stand earlier fs are.2 (are.1 fs now)) are.0.1 files was
 
   -- a life after these
-  pub is-as-model : (earlier : List (Life D)) (entry : D) (at : ℕ) (course : Course D) → honest entry → AllStand earlier entry → CourseGoes honest moment left seen config entry at course
-      → IsAsModel config first earlier at course
-  is-as-model earlier entry at (Stopped disk) is_honest before goes = tt
-  is-as-model earlier entry at (Refused disk fault) is_honest before goes =
+  pub is-as-model : (earlier : List (Life D)) (entry : D) (at : ℕ) (course : Course D) → honest entry → AllStand earlier entry → LivesLeave honest moment left seen config first earlier (seen entry)
+      → CourseGoes honest moment left seen config entry at course → IsAsModel honest moment left seen config first earlier at course
+  is-as-model earlier entry at (Stopped disk) is_honest before was goes = tt
+  is-as-model earlier entry at (Refused disk fault) is_honest before was goes =
       let stood = before (seen entry) (reads entry is_honest) in
-      (λ is. goes.1.damaged is stood.0 stood.1, λ is. goes.1.differs is stood.2)
-  is-as-model earlier entry at (Opened work) is_honest before goes = (begun-again earlier entry at work is_honest before goes, goes.answered)
+      (λ is. goes.1.damaged is stood.0 stood.1, λ is. goes.1.differs is stood.2, λ is. (seen entry, was, goes.1.generations is))
+  is-as-model earlier entry at (Opened work) is_honest before was goes = (begun-again earlier entry at work is_honest before goes, goes.answered)
 
 -- nothing is stored yet
 new-files : (config : Config) (files : Files) → NoneOpen files → Recovers files empty × IsConfigured config files
@@ -98,7 +98,7 @@ pub lives-are : {D : Type 0} (honest : D → Type 0) (moment : D → ℕ) (left 
     → ((disk : D) → honest disk → left disk (moment disk) (seen disk)) → (config : Config) → LivesAreTheModels honest moment left seen config
 lives-are honest moment left seen reads config = record {
   each = λ first life earlier are. is-as-model honest moment left seen reads config first earlier life.disk life.opened_at life.course are.0.0
-      (λ fs now. all-stand honest moment left seen reads config first earlier fs are.2 (are.1 fs now)) are.0.1;
+      (λ fs now. all-stand honest moment left seen reads config first earlier fs are.2 (are.1 fs now)) (are.1 (seen life.disk) (reads life.disk are.0.0)) are.0.1;
   new = new-files config;
   found = found-files config;
   stood = λ first lives files are was. all-stand honest moment left seen reads config first lives files are was;

@@ -1,5 +1,5 @@
 -- The calls of a gateway make lives.
-use Rattle.std.proofs.Common.{◌≡◌, ◌↔◌, Result, Ok, Err, false, true, ℕ, ◌+◌, ◌≤◌, List, [], ◌++◌, length, take, drop, arith, inr, refl, sym, ◌∙◌, ap, subst, append_assoc, length-append}
+use Rattle.std.proofs.Common.{◌≡◌, ◌↔◌, Result, Ok, Err, false, true, ℕ, ◌+◌, ◌≤◌, List, [], ◌∷◌, ◌++◌, length, take, drop, arith, inr, refl, sym, ◌∙◌, ap, subst, append_assoc, length-append}
 use Rattle.std.specs.Prelude.{IfErr, IfOk, IsErrOf, MatchResult, OnErr, OnOk}
 use Rattle.std.proofs.lemmas.List.{append-nil, length-take-le, take-append-drop}
 use Rattle.std.proofs.Math.Seq.{take-append-add}
@@ -14,7 +14,7 @@ use Rattle.machine.specs.Noted.{IsResumed, lasting}
 use Rattle.machine.specs.declared.event.Answer.{Answer}
 use Rattle.machine.specs.declared.event.Event.{Event}
 use Rattle.machine.proofs.Judging.{AreJudged-append, AreJudged-length}
-use Rattle.snapshot.specs.Store.{RecoversEither}
+use Rattle.snapshot.specs.Store.{IsLastFormer, RecoversEither}
 use Rattle.snapshot.specs.declared.fault.OpenFault.{OpenFault}
 use Rattle.snapshot.specs.declared.fault.OpenFault.TheVariants as open_fault
 use Rattle.gateway.specs.Kept.{Kept, IsAtRest, IsSafe}
@@ -23,7 +23,7 @@ use Rattle.gateway.specs.Running.{Ends, Stands, StopsWithin}
 use Rattle.gateway.specs.declared.fault.GatewayFault.{GatewayFault}
 use Rattle.gateway.specs.declared.fault.GatewayFault.TheVariants as fault
 use Rattle.gateway.specs.Lives.{Course, Stopped, Refused, IsLife}
-use Rattle.gateway.specs.Living.{IsLived, RestsInLife, IsInLife, RunsInLife, RestsAgain, StopsInLife, GoesOnInLife, EndsLife, CallsAreLives}
+use Rattle.gateway.specs.Living.{IsLived, RestsInLife, IsInLife, RunsInLife, RestsAgain, StopsInLife, GoesOnInLife, TakesInLife, EndsLife, CallsAreLives}
 use Rattle.gateway.proofs.Runs.{compact-stopped, compacted, counted, either, ended, flush-stopped, flushed, length-numbered, stands-still}
 use Rattle.gateway.proofs.Taking.{after-append, answers-append, length-answers, numbered-append, took_none}
 
@@ -42,9 +42,10 @@ module _ {D : Type 0} (honest : D → Type 0) (moment : D → ℕ) (left : D →
   pub opening-refused : (r : Result (Kept D) (D × OpenFault)) → MatchResult r (λ g. Live (Stopped g.disk)) (λ e. Live (Stopped e.0))
       → IfErr r (λ e. e.1 ≡ open_fault.Damaged → (d : Durable) → ¬ Recovers (seen entry) d)
       → IfErr r (λ e. e.1 ≡ open_fault.ConfigDiffers → (d : Durable) × Recovers (seen entry) d × ¬ IsConfigured config (seen entry))
+      → IfErr r (λ e. e.1 ≡ open_fault.Generations → IsLastFormer config (seen entry))
       → IfErr r (λ e. Live (Refused e.0 e.1))
-  opening-refused (Ok g) stopped damaged differs = tt
-  opening-refused (Err e) stopped damaged differs = (stopped.0, (stopped.1, record { damaged = damaged; differs = λ is. (differs is).2 }))
+  opening-refused (Ok g) stopped damaged differs generations = tt
+  opening-refused (Err e) stopped damaged differs generations = (stopped.0, (stopped.1, record { damaged = damaged; differs = λ is. (differs is).2; generations = generations }))
 
   -- a gateway was opened
   pub opening-rests : (r : Result (Kept D) (D × OpenFault)) (Q : D × OpenFault → Type 0) → honest entry → MatchResult r (λ g. honest entry ↔ honest g.disk) Q
@@ -306,6 +307,26 @@ module _ {D : Type 0} (honest : D → Type 0) (moment : D → ℕ) (left : D →
     given_are = ap (λ (l : List (ℕ × Answer)). l ++ handed) is.given_are ∙ append_assoc is.answered is.out handed;
   }
 
+  -- after one that takes an event
+  pub takes-in-life : (event : Event) (handed : List (ℕ × Answer)) → ((start : Kept D) (events : List Event) (out : List (ℕ × Answer)) → Stands honest moment left failed start old events out
+      → Stands honest moment left failed start new (events ++ event ∷ []) (out ++ handed)) → TakesInLife honest moment left seen failed old new event handed
+  takes-in-life event handed on = λ config entry at begun events given is. record {
+    earlier = is.earlier;
+    answered = is.answered;
+    rested = is.rested;
+    rests = is.rests;
+    more = is.more ++ event ∷ [];
+    out = is.out ++ handed;
+    stands = on is.rested is.more is.out is.stands;
+    events_are = ap (λ (es : List Event). es ++ event ∷ []) is.events_are ∙ append_assoc is.earlier is.more (event ∷ []);
+    given_are = ap (λ (l : List (ℕ × Answer)). l ++ handed) is.given_are ∙ append_assoc is.answered is.out handed;
+  }
+
+  -- within one that makes no call of the disk
+  pub stops-where-it-was : new.disk ≡ old.disk → EndsLife honest moment left seen failed old old → StopsInLife honest moment left seen failed old new
+  stops-where-it-was same ends = λ config entry at begun events given is.
+      subst (λ (d : D). Lived config entry at begun events given old.disk d) (sym same) (ends config entry at begun events given is)
+
   -- a flush or a settlement that ended well
   module _ (was : honest new.disk → honest old.disk) (stays : new.fallen ≡ false → honest old.disk → honest new.disk) (conf : old.fallen ≡ false → honest old.disk → LeavesOnly moment left old.disk new.disk (IsConfigured old.told.config)) where
     module _ (any : old.fallen ≡ false → honest old.disk → (d : Durable) → Recovers (seen old.disk) d → LeavesOnly moment left old.disk new.disk (RecoversEither d (lasting old.told.state))) where
@@ -352,6 +373,11 @@ calls-are honest moment left seen failed reads earlier = record {
       (record { stands = s.stands; is_honest = s.ran.stays_honest s.stands is.rests.rests.is_honest; none = none })));
   stands = λ config entry at begun rested now events more given out rests s.
       record { earlier = events; answered = given; rested = rested; rests = rests; more = more; out = out; stands = s; events_are = refl; given_are = refl };
+  within = λ config entry at begun rested old new events more given out rests s safe.
+      let both = safe rested more s rests.rests in
+      stopped-in honest moment left seen config entry at begun events given rested rests more s.ran.took.judged out old.told.held old.disk new.disk s.ran.took.are_judged
+      (since-then honest moment left seen config entry at begun events given rested rests old more out s.ran.took)
+      (λ files since. (both.0.each files since).2) (λ files since. (both.1.each files since).2);
   ends = λ config entry at begun rested now events more given out rests e.
       stopped-after honest moment left seen config entry at begun events given rested rests failed earlier now more out e;
 }

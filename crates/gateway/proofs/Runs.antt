@@ -25,7 +25,7 @@ use Rattle.gateway.specs.declared.fault.GatewayFault.TheVariants as fault
 use Rattle.gateway.proofs.Taking.{length-answers, took_more, took_none}
 use Rattle.gateway.specs.Given.{IsNow, handed}
 use Rattle.gateway.specs.Kept.{Kept, IsAtRest, IsSafe}
-use Rattle.gateway.specs.Running.{Ran, Stands, Ends, IsWhy, Stops, StopsWithin, CarriesOn, BreaksOff, standing}
+use Rattle.gateway.specs.Running.{Ran, Stands, Ends, IsWhy, Stops, StopsWithin, CarriesOn, BreaksOff, SafeWithin, standing}
 use Rattle.gateway.specs.Standing.{Standing, Offers, StandsFor}
 use Rattle.gateway.proofs.Standings.{offered-on, settled-on}
 
@@ -201,6 +201,16 @@ module _ {D : Type 0} (honest : D → Type 0) (moment : D → ℕ) (left : D →
     pub ended : Ends honest moment left failed start now events out
     ended = record { ran = s.ran; at_exit = λ ready files left_now. either ready files (inl ((s.rests ready).leaves files left_now)) }
 
+    -- within a call that makes no call of the disk
+    pub still-within : (next : Kept D) → next.disk ≡ now.disk → IsAtRest honest start
+        → LeavesOnly moment left now.disk next.disk (Safe events (length out)) × LeavesOnly moment left now.disk next.disk (IsConfigured start.told.config)
+    still-within next same ready = (
+      subst (λ (d : D). LeavesOnly moment left now.disk d (Safe events (length out))) (sym same)
+          (idle moment left now.disk (Safe events (length out)) (λ files left_now. either ready files (inl ((s.rests ready).leaves files left_now)))),
+      subst (λ (d : D). LeavesOnly moment left now.disk d (IsConfigured start.told.config)) (sym same)
+          (idle moment left now.disk (IsConfigured start.told.config) (only_now moment left start.disk now.disk (IsConfigured start.told.config) (earlier now.disk) (s.ran.configured ready.is_honest))),
+    )
+
     module _ (next : Kept D) (was : honest next.disk → honest now.disk) (stays : next.fallen ≡ false → honest now.disk → honest next.disk)
         (configured : now.fallen ≡ false → honest now.disk → LeavesOnly moment left now.disk next.disk (IsConfigured now.told.config)) where
       ran-on : (others : List (ℕ × Answer)) → TookAll start.told next.told events others
@@ -226,6 +236,9 @@ module _ {D : Type 0} (honest : D → Type 0) (moment : D → ℕ) (left : D →
         at_exit = λ ready. only_now moment left now.disk next.disk (Safe events (length out)) (earlier next.disk) (safe ready);
       }
 
+      configured-within : IsAtRest honest start → LeavesOnly moment left now.disk next.disk (IsConfigured start.told.config)
+      configured-within ready = subst (λ (c : Config). LeavesOnly moment left now.disk next.disk (IsConfigured c)) s.ran.took.config (configured s.stands (ready-now ready))
+
       -- a flush: what a crash leaves of it is safe, whatever comes of it
       module _ (any_moment : now.fallen ≡ false → honest now.disk → (first : Durable) → Recovers (seen now.disk) first
           → LeavesOnly moment left now.disk next.disk (RecoversEither first (lasting now.told.state))) where
@@ -236,6 +249,10 @@ module _ {D : Type 0} (honest : D → Type 0) (moment : D → ℕ) (left : D →
             narrows moment left now.disk next.disk (λ before files. RecoversEither r.durable (lasting now.told.state) files) (λ before files. Safe events (length out) files)
             (any_moment s.stands h r.durable (r.leaves (seen now.disk) (reads now.disk h)))
             (λ before files was is. either ready files is)
+
+        pub flush-within : IsAtRest honest start
+            → LeavesOnly moment left now.disk next.disk (Safe events (length out)) × LeavesOnly moment left now.disk next.disk (IsConfigured start.told.config)
+        flush-within ready = (flush-safe ready, configured-within ready)
 
         pub flushed : (honest now.disk → LeavesNow moment left next.disk (λ files. Recovers files (lasting now.told.state))) → next.told ≡ record now.told { held = [] }
             → next.fallen ≡ false → failed next.disk ≡ failed now.disk → Stands honest moment left failed start next events (out ++ now.told.held)
@@ -266,6 +283,10 @@ module _ {D : Type 0} (honest : D → Type 0) (moment : D → ℕ) (left : D →
             narrows moment left now.disk next.disk (λ before files. Recovers files (lasting now.told.state)) (λ before files. Safe events (length out) files)
             (any_moment s.stands (ready-now ready))
             (λ before files was is. either ready files (inr is))
+
+        pub compact-within : IsAtRest honest start
+            → LeavesOnly moment left now.disk next.disk (Safe events (length out)) × LeavesOnly moment left now.disk next.disk (IsConfigured start.told.config)
+        compact-within ready = (compact-safe ready, configured-within ready)
 
         pub compacted : now.told.held ≡ [] → next.fallen ≡ false → failed next.disk ≡ failed now.disk → Stands honest moment left failed start next events out
         compacted none stands no_failure = record {
@@ -473,3 +494,16 @@ module _ {D : Type 0} (honest : D → Type 0) (moment : D → ℕ) (left : D →
   breaks-before old new more rest before out why off = λ start events s.
       let is = off start events s in
       (is.0, is.1 ++ rest, ap (λ (es : List Event). es ++ rest) is.2 ∙ append_assoc is.0 is.1 rest, is.3)
+
+  module _ (earlier : (disk : D) (s t : ℕ) (files : Files) → s ≤ t → left disk t files → left disk s files) where
+    -- one call within which a run is safe, and then another
+    pub within-then : (old mid new : Kept D) (before between : List (ℕ × Answer)) → SafeWithin honest moment left failed old mid before → CarriesOn honest moment left failed old mid [] before between
+        → length before ≤ length between → SafeWithin honest moment left failed mid new between → SafeWithin honest moment left failed old new before
+    within-then old mid new before between first on more next = λ start events s ready.
+        let safe : ℕ → Files → Type 0 = IsSafe start.told.config start.told.state events in
+        let one = first start events s ready in
+        let then = next start events (subst (λ (es : List Event). Stands honest moment left failed start mid es between) (append-nil events) (on start events s)) ready in (
+          only_then moment left old.disk mid.disk new.disk (safe (length before)) (safe (length between)) (safe (length before)) (earlier mid.disk) one.0 then.0 (λ files is. is)
+              (λ files is. record { count = is.count; answered = omega (arith, more, is.answered); within = is.within; judged = is.judged; are_judged = is.are_judged; recovers = is.recovers }),
+          only_then moment left old.disk mid.disk new.disk (IsConfigured start.told.config) (IsConfigured start.told.config) (IsConfigured start.told.config) (earlier mid.disk) one.1 then.1 (λ files is. is) (λ files is. is),
+        )

@@ -11,6 +11,7 @@ use Rattle.machine.specs.Machine.{State, after, answers, numbered}
 use Rattle.machine.specs.Noted.{IsResumed, lasting}
 use Rattle.machine.specs.declared.event.Answer.{Answer}
 use Rattle.machine.specs.declared.event.Event.{Event}
+use Rattle.snapshot.specs.Store.{IsLastFormer}
 use Rattle.snapshot.specs.declared.fault.OpenFault.{OpenFault}
 use Rattle.snapshot.specs.declared.fault.OpenFault.TheVariants as open_fault
 use Rattle.gateway.specs.Kept.{IsSafe}
@@ -77,16 +78,6 @@ AnswersAsModel config work = AreJudged config work.events work.judged
     × ((more : List (ℕ × Answer))
     × (work.given ++ more ≡ numbered 0 (answers config work.start work.judged)))
 
--- After the earlier lives, this is what the model says: an opening tells no damage and no other configuration, and a
--- gateway begins again from what the earlier lives lead to, and answers as the model.
-abbrev pub IsAsModel : {D : Type 0} → Config → Durable → List (Life D) → ℕ → Course D → Type 0
-IsAsModel config first earlier opened_at (Stopped disk) = Unit {0}
-IsAsModel config first earlier opened_at (Refused disk fault) =
-    (fault ≢ open_fault.Damaged) × (fault ≢ open_fault.ConfigDiffers)
-IsAsModel config first earlier opened_at (Opened work) = ((before : Durable)
-    × LivesLead config first earlier before × IsResumed config before opened_at work.start)
-    × AnswersAsModel config work
-
 -- ---- what the clauses of the calls say of a life
 
 module _ {D : Type 0} (honest : D → Type 0) (moment : D → ℕ) (left : D → ℕ → Files → Type 0)
@@ -103,10 +94,11 @@ module _ {D : Type 0} (honest : D → Type 0) (moment : D → ℕ) (left : D →
     pub configured : LeavesNow moment left entry (IsConfigured config)
         → LeavesOnly moment left entry disk (IsConfigured config)
 
-  -- the fault that it answers: `damaged` and `differs` of `open`
+  -- the fault that it answers: `damaged`, `differs` and `generations` of `open`
   pub record FaultHasCause (entry : D) (fault : OpenFault) : Type 0 where
     pub damaged : fault ≡ open_fault.Damaged → (d : Durable) → ¬ Recovers (seen entry) d
     pub differs : fault ≡ open_fault.ConfigDiffers → ¬ IsConfigured config (seen entry)
+    pub generations : fault ≡ open_fault.Generations → IsLastFormer config (seen entry)
 
   -- the gateway that it gives: `ok` of `open`, and of the calls from then on `any_moment` or `ok`, and `configured`
   pub record WorkGoes (entry : D) (opened_at : ℕ) (work : Work D) : Type 0 where
@@ -137,6 +129,19 @@ module _ {D : Type 0} (honest : D → Type 0) (moment : D → ℕ) (left : D →
   AreLives first (life ∷ earlier) = IsLife life
       × LeavesNow moment left life.disk (LivesLeave first earlier) × AreLives first earlier
 
+  -- After the earlier lives, this is what the model says: an opening tells no damage and no other configuration, and a
+  -- gateway begins again from what the earlier lives lead to, and answers as the model. `Generations` is told only if
+  -- they may have left files of a former version that have come to the last generation.
+  abbrev pub IsAsModel : Durable → List (Life D) → ℕ → Course D → Type 0
+  IsAsModel first earlier opened_at (Stopped disk) = Unit {0}
+  IsAsModel first earlier opened_at (Refused disk fault) =
+      (fault ≢ open_fault.Damaged) × (fault ≢ open_fault.ConfigDiffers)
+      × (fault ≡ open_fault.Generations → (files : Files) × LivesLeave first earlier files
+      × IsLastFormer config files)
+  IsAsModel first earlier opened_at (Opened work) = ((before : Durable)
+      × LivesLead config first earlier before × IsResumed config before opened_at work.start)
+      × AnswersAsModel config work
+
   -- ---- the theorem
 
   -- Of any lives, the latest first, with one configuration: each is as the model says after the earlier ones; and
@@ -144,7 +149,7 @@ module _ {D : Type 0} (honest : D → Type 0) (moment : D → ℕ) (left : D →
   pub record LivesAreTheModels : Type 0 where
     pub each : (first : Durable) (life : Life D) (earlier : List (Life D))
         → AreLives first (life ∷ earlier)
-        → IsAsModel config first earlier life.opened_at life.course
+        → IsAsModel first earlier life.opened_at life.course
     pub stood : (first : Durable) (lives : List (Life D)) (files : Files) → AreLives first lives
         → LivesLeave first lives files
         → (d : Durable) × Recovers files d × IsConfigured config files

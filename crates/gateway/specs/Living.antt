@@ -1,5 +1,5 @@
 -- That the calls of a gateway make lives, as `specs/Lives` defines them.
-use Rattle.std.specs.Prelude.{◌≡◌, ℕ, List, [], ◌++◌}
+use Rattle.std.specs.Prelude.{◌≡◌, ℕ, List, [], ◌∷◌, ◌++◌}
 use Rattle.packet.specs.Config.{Config}
 use Rattle.disk_model.specs.Disk.{Files}
 use Rattle.durable.specs.Entering.{Durable}
@@ -11,7 +11,7 @@ use Rattle.machine.specs.declared.event.Answer.{Answer}
 use Rattle.machine.specs.declared.event.Event.{Event}
 use Rattle.gateway.specs.Kept.{Kept, IsAtRest}
 use Rattle.gateway.specs.Lives.{Life, Opened, IsLife}
-use Rattle.gateway.specs.Running.{Ends, Stands}
+use Rattle.gateway.specs.Running.{Ends, SafeWithin, Stands}
 use Rattle.gateway.specs.Told.{TookAll}
 
 module _ {D : Type 0} (honest : D → Type 0) (moment : D → ℕ) (left : D → ℕ → Files → Type 0)
@@ -108,6 +108,13 @@ module _ {D : Type 0} (honest : D → Type 0) (moment : D → ℕ) (left : D →
         → IsInLife config entry opened_at begun events given old
         → IsInLife config entry opened_at begun events (given ++ out) new
 
+    -- The call takes this event; after it the gateway is in the same life, with these answers given out too.
+    abbrev pub TakesInLife : Event → List (ℕ × Answer) → Type 0
+    TakesInLife event out = (config : Config) (entry : D) (opened_at : ℕ) (begun : Kept D)
+        (events : List Event) (given : List (ℕ × Answer))
+        → IsInLife config entry opened_at begun events given old
+        → IsInLife config entry opened_at begun (events ++ event ∷ []) (given ++ out) new
+
     -- A stop after the call is the end of its life.
     abbrev pub EndsLife : Type 0
     EndsLife = (config : Config) (entry : D) (opened_at : ℕ) (begun : Kept D)
@@ -117,7 +124,8 @@ module _ {D : Type 0} (honest : D → Type 0) (moment : D → ℕ) (left : D →
         new.disk
 
   -- A gateway in its life may be stopped between two calls; and if it holds nothing, it rests. What the calls of
-  -- `running` promise of a run that began where it rested leads on in its life (`Stands`), or to its end (`Ends`).
+  -- `running` promise of a run that began where it rested leads on in its life (`Stands`), or to its end (`Ends`); so
+  -- does a stop within them (`SafeWithin`), with all answers given out that were before.
   pub record CallsAreLives : Type 0 where
     pub between : (now : Kept D) → EndsLife now now
     pub at_rest : (config : Config) (entry : D) (opened_at : ℕ) (begun now : Kept D)
@@ -129,6 +137,13 @@ module _ {D : Type 0} (honest : D → Type 0) (moment : D → ℕ) (left : D →
         → RestsInLife honest moment left seen config entry opened_at begun events given rested
         → Stands honest moment left failed rested now more out
         → IsInLife config entry opened_at begun (events ++ more) (given ++ out) now
+    pub within : (config : Config) (entry : D) (opened_at : ℕ) (begun rested old new : Kept D)
+        (events more : List Event) (given out : List (ℕ × Answer))
+        → RestsInLife honest moment left seen config entry opened_at begun events given rested
+        → Stands honest moment left failed rested old more out
+        → SafeWithin honest moment left failed old new out
+        → IsLived honest moment left seen config entry opened_at begun (events ++ more)
+        (given ++ out) old.disk new.disk
     pub ends : (config : Config) (entry : D) (opened_at : ℕ) (begun rested now : Kept D)
         (events more : List Event) (given out : List (ℕ × Answer))
         → RestsInLife honest moment left seen config entry opened_at begun events given rested

@@ -99,3 +99,13 @@ module _ {D : Type 0} (honest : D → Type 0) (moment : D → ℕ) (left : D →
       → Stands honest moment left failed start old events before
       → (front back : List Event) × (more ≡ front ++ back)
       × Stops honest moment left failed start new (events ++ front) out why
+
+  -- Each such run loses none of these answers within the call: a crash at any moment of it leaves what the model has
+  -- after a beginning of the run's events, which holds those whose answers were handed out, with its configuration.
+  abbrev pub SafeWithin : List (ℕ × Answer) → Type 0
+  SafeWithin before =
+      (start : Kept D) (events : List Event)
+      → Stands honest moment left failed start old events before → IsAtRest honest start
+      → LeavesOnly moment left old.disk new.disk
+      (IsSafe start.told.config start.told.state events (length before))
+      × LeavesOnly moment left old.disk new.disk (IsConfigured start.told.config)

@@ -4,18 +4,19 @@
 //! - `calls_stand_for_the_model`: calls one by one, and what the files stand for between them
 //! - `lives_are_the_models`: gateways opened one after the other over the same files, each stopped at any moment
 //! - `goes_on_after_a_stop`: the plainest case of it
-//! - `open_in_lives`, `run_in_lives`, `flush_in_lives`, `settle_in_lives`, `compact_in_lives`: the calls of `Gateway`
-//!   that call the disk, each with the clauses that say that it makes such lives
+//! - `open_in_lives`, `run_in_lives`, `offer_in_lives`, `flush_in_lives`, `settle_in_lives`, `compact_in_lives`: the
+//!   calls of `Gateway`, each with the clauses that say that it makes such lives
 //! - `calls_are_lives`: so do the calls of `running`, which make these
 ghost use Rattle.std.specs.Prelude.{◌≡◌, ◌++◌, [], List, IfErr, IfOk, MatchResult, OnErr, OnOk, false, true};
 ghost use Rattle.packet.specs.Config.{Config};
 ghost use Rattle.machine.specs.declared.event.Event.{Event};
+ghost use Rattle.gateway.specs.Given.{handed};
 ghost use Rattle.gateway.specs.Lives.{GoesOnAfterAStop, IsLife, LivesAreTheModels, Refused, Stopped};
-ghost use Rattle.gateway.specs.Living.{CallsAreLives, EndsLife, GoesOnInLife, RestsAgain, RestsInLife, RunsInLife, StopsInLife};
+ghost use Rattle.gateway.specs.Living.{CallsAreLives, EndsLife, GoesOnInLife, RestsAgain, RestsInLife, RunsInLife, StopsInLife, TakesInLife};
 ghost use Rattle.gateway.specs.Standing.{CallsStandForTheModel};
 
 use crate::calls::Gateway;
-use crate::{GatewayFault, OpenFault};
+use crate::{GatewayFault, Given, OpenFault};
 use disk_model::Disk;
 use machine::{Answer, Event};
 use packet::Bounds;
@@ -31,9 +32,10 @@ pub fn calls_stand_for_the_model()
 
 /// Gateways are opened one after the other with one configuration, each over files that the one before may have left,
 /// which was stopped at any moment, within any call, its opening too. Then no opening answers `Damaged` or
-/// `ConfigDiffers`. Each gateway begins again from what must survive of the model's state after some first events of
-/// the earlier lives, each in its turn, and these hold every event whose answer was given out. Every answer that it
-/// gives out is the model's from there on. Files of version 1 may be the first.
+/// `ConfigDiffers`, and `Generations` only if the files may be of a former version and of the last generation. Each
+/// gateway begins again from what must survive of the model's state after some first events of the earlier lives, each
+/// in its turn, and these hold every event whose answer was given out. Every answer that it gives out is the model's
+/// from there on. Files of version 1 may be the first.
 ///
 /// What a life is (`IsLife` of `specs/Lives`) is what the clauses of the calls say: the functions below, and
 /// `socket_edge::laws::runs_are_lives`, are proved to make such ones.
@@ -96,6 +98,26 @@ pub fn run_in_lives<D: Disk + Drop>(
         × RunsInLife D.honest D.moment D.left D.seen gateway.old gateway.new front e.0.items) }
 {
     gateway.run(events)
+}
+
+/// Offers an event (`Gateway::offer`), for a gateway in its life. Stopped within it, that is a life, in which the event
+/// isn't taken. After it the gateway goes on in its life, and the event's answer counts as given out if it is told at
+/// once, and not yet if it is held. With a fault nothing has changed, so that its life is as before.
+///
+/// # Errors
+///
+/// Those of `Gateway::offer`.
+pub fn offer_in_lives<D: Disk + Drop>(
+    gateway: &mut Gateway<D>,
+    event: Event,
+) -> Result<Given, (Event, GatewayFault)>
+    ensures stopped { StopsInLife D.honest D.moment D.left D.seen D.failed gateway.old gateway.new }
+    ensures ok { IfOk result (λ given. TakesInLife D.honest D.moment D.left D.seen D.failed
+        gateway.old gateway.new event (handed given)) }
+    ensures err { IfErr result (λ e. (e.0 ≡ event) × (gateway.new ≡ gateway.old)) }
+{
+    gateway.facts();
+    gateway.offer(event)
 }
 
 /// Flushes (`Gateway::flush`), for a gateway in its life. Stopped within it, that is a life, in which no answer counts

@@ -17,7 +17,7 @@ ghost use Rattle.machine.specs.declared.event.Answer.TheVariants.{Forward};
 ghost use Rattle.machine.specs.declared.event.What.TheVariants.{Packet};
 ghost use Rattle.gateway.specs.Kept.{IsRoomy};
 ghost use Rattle.gateway.specs.Given.{IsNow, answer_given, given_by, handed};
-ghost use Rattle.gateway.specs.Running.{BreaksOff, CarriesOn, Ends, Stands, StopsWithin};
+ghost use Rattle.gateway.specs.Running.{BreaksOff, CarriesOn, Ends, SafeWithin, Stands, StopsWithin};
 
 use crate::calls::Gateway;
 use crate::pending::MOST_HELD;
@@ -77,6 +77,8 @@ pub fn take<D: Disk + Drop>(
         gateway.old gateway.new (event ∷ []) answers.old.items answers.new.items) }
     ensures err { IfErr result (BreaksOff D.honest D.moment D.left D.failed
         gateway.old gateway.new (event ∷ []) answers.old.items answers.new.items) }
+    ensures any_moment { SafeWithin D.honest D.moment D.left D.failed gateway.old gateway.new
+        answers.old.items }
     ensures stands { OnOk result (gateway.new.fallen ≡ false) }
     ensures not_taken { OnErr result ((gateway.new.told.state ≡ gateway.old.told.state)
         × (gateway.new.told.last ≡ gateway.old.told.last)) }
@@ -110,6 +112,8 @@ pub fn forward<D: Disk + Drop>(
         → CarriesOn D.honest D.moment D.left D.failed gateway.old gateway.new
         (record { moment = moment; what = Packet iface packet.old } ∷ [])
         before (before ++ (given.0, Forward given.1 packet.new) ∷ [])) }
+    ensures any_moment { (before : List (ℕ × Answer))
+        → SafeWithin D.honest D.moment D.left D.failed gateway.old gateway.new before }
     ensures none { IfNone result ((gateway.new ≡ gateway.old) × (packet.new ≡ packet.old)) }
     ensures held { gateway.new.told.held ≡ gateway.old.told.held }
     ensures stands { gateway.new.fallen ≡ false }
@@ -135,6 +139,8 @@ pub fn take_in_place<D: Disk + Drop>(
         → CarriesOn D.honest D.moment D.left D.failed gateway.old gateway.new
         (record { moment = moment; what = Packet iface packet.old } ∷ [])
         before (before ++ handed (given_by taken packet.new))) }
+    ensures any_moment { (before : List (ℕ × Answer))
+        → SafeWithin D.honest D.moment D.left D.failed gateway.old gateway.new before }
 
     // Its answer has the packet as it lies there then.
     ensures answer { IfSome result (λ taken.
@@ -164,6 +170,8 @@ fn take_behind_compaction<D: Disk + Drop>(
         gateway.old gateway.new (event ∷ []) answers.old.items answers.new.items) }
     ensures err { IfErr result (BreaksOff D.honest D.moment D.left D.failed
         gateway.old gateway.new (event ∷ []) answers.old.items answers.new.items) }
+    ensures any_moment { SafeWithin D.honest D.moment D.left D.failed gateway.old gateway.new
+        answers.old.items }
     ensures stands { OnOk result (gateway.new.fallen ≡ false) }
     ensures not_taken { OnErr result ((gateway.new.told.state ≡ gateway.old.told.state)
         × (gateway.new.told.last ≡ gateway.old.told.last)) }
@@ -194,6 +202,8 @@ pub fn compact<D: Disk + Drop>(
         gateway.old gateway.new [] answers.old.items answers.new.items) }
     ensures err { IfErr result (BreaksOff D.honest D.moment D.left D.failed
         gateway.old gateway.new [] answers.old.items answers.new.items) }
+    ensures any_moment { SafeWithin D.honest D.moment D.left D.failed gateway.old gateway.new
+        answers.old.items }
     ensures stands { OnOk result (gateway.new.fallen ≡ false) }
     ensures state { gateway.new.told.state ≡ gateway.old.told.state }
     ensures last { gateway.new.told.last ≡ gateway.old.told.last }
@@ -222,9 +232,12 @@ fn flush_held_full<D: Disk + Drop>(
         gateway.old gateway.new [] answers.old.items answers.new.items) }
     ensures err { IfErr result (BreaksOff D.honest D.moment D.left D.failed
         gateway.old gateway.new [] answers.old.items answers.new.items) }
+    ensures any_moment { SafeWithin D.honest D.moment D.left D.failed gateway.old gateway.new
+        answers.old.items }
     ensures stands { OnOk result (gateway.new.fallen ≡ false) }
     ensures state { gateway.new.told.state ≡ gateway.old.told.state }
     ensures last { gateway.new.told.last ≡ gateway.old.told.last }
+    ensures more { OnOk result (length answers.old.items ≤ length answers.new.items) }
     ensures few { OnOk result (length gateway.new.told.held < 64) }
     ensures room { vec_len answers.new + length gateway.new.told.held
         ≡ vec_len answers.old + length gateway.old.told.held }
@@ -251,6 +264,8 @@ pub fn hand_out<D: Disk + Drop>(
         gateway.old gateway.new [] answers.old.items answers.new.items) }
     ensures err { IfErr result (BreaksOff D.honest D.moment D.left D.failed
         gateway.old gateway.new [] answers.old.items answers.new.items) }
+    ensures any_moment { SafeWithin D.honest D.moment D.left D.failed gateway.old gateway.new
+        answers.old.items }
     ensures stands { OnOk result (gateway.new.fallen ≡ false) }
     ensures state { gateway.new.told.state ≡ gateway.old.told.state }
     ensures last { gateway.new.told.last ≡ gateway.old.told.last }
@@ -285,6 +300,8 @@ pub fn settle<D: Disk + Drop>(gateway: &mut Gateway<D>) -> Result<(), GatewayFau
     ensures err { IfErr result (λ e. (before : List (ℕ × Answer))
         → BreaksOff D.honest D.moment D.left D.failed gateway.old gateway.new []
         before before e) }
+    ensures any_moment { (before : List (ℕ × Answer))
+        → SafeWithin D.honest D.moment D.left D.failed gateway.old gateway.new before }
     ensures stands { OnOk result (gateway.new.fallen ≡ false) }
     ensures state { gateway.new.told.state ≡ gateway.old.told.state }
     ensures last { gateway.new.told.last ≡ gateway.old.told.last }
@@ -313,6 +330,8 @@ fn offer<D: Disk + Drop>(
         gateway.old gateway.new (event ∷ []) answers.old.items answers.new.items) }
     ensures err { IfErr result (λ e. (e.0 ≡ event) × (gateway.new ≡ gateway.old)
         × (answers.new ≡ answers.old)) }
+    ensures any_moment { SafeWithin D.honest D.moment D.left D.failed gateway.old gateway.new
+        answers.old.items }
     ensures full { IsRoomy gateway.old.filled → IfErr result (λ e. e.1 ≢ GatewayFault.Full) }
     ensures why { IfErr result (λ e. e.1 ≢ GatewayFault.Full
         → BreaksOff D.honest D.moment D.left D.failed gateway.old gateway.new (event ∷ [])

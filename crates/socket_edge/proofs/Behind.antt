@@ -40,7 +40,7 @@ drop-judged config (suc n) [] (j ∷ js) are = absurd are
 drop-judged config (suc n) (e ∷ es) [] are = absurd are
 drop-judged config (suc n) (e ∷ es) (j ∷ js) are = drop-judged config n es js are.1
 
-all-once : EventsAreJudgedOnce → (config : Config) (es : List Event) (js ks : List Judged) → AreJudged config es js → AreJudged config es ks → js ≡ ks
+pub all-once : EventsAreJudgedOnce → (config : Config) (es : List Event) (js ks : List Judged) → AreJudged config es js → AreJudged config es ks → js ≡ ks
 all-once once config [] [] [] a b = refl
 all-once once config [] (j ∷ js) ks a b = absurd a
 all-once once config [] [] (k ∷ ks) a b = absurd b

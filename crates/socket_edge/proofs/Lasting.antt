@@ -42,13 +42,13 @@ longer xs ys n more fits =
     let some = frames-some (take k ys) (omega (arith, size, more)) in
     omega (arith, some, ap (λ (zs : List (ℕ × Answer)). length (flat_map frame zs)) split, ap (λ (l : List ℕ). length l) (flat_map-append frame xs (take k ys)), length-append (flat_map frame xs) (flat_map frame (take k ys)))
 
-le-or-lt : (n m : ℕ) → (n ≤ m) ⊎ (m < n)
+pub le-or-lt : (n m : ℕ) → (n ≤ m) ⊎ (m < n)
 le-or-lt zero m = inl (omega arith)
 le-or-lt (suc n) zero = inr (omega arith)
 le-or-lt (suc n) (suc m) = ⊎_elim (λ h. inl (omega (arith, h))) (λ h. inr (omega (arith, h))) (le-or-lt n m)
 
 -- so no more answers than these lie whole in bytes that are no longer
-not-longer : (xs ys : List (ℕ × Answer)) (n : ℕ) → n ≤ length (xs ++ ys) → length (flat_map frame (take n (xs ++ ys))) ≤ length (flat_map frame xs) → n ≤ length xs
+pub not-longer : (xs ys : List (ℕ × Answer)) (n : ℕ) → n ≤ length (xs ++ ys) → length (flat_map frame (take n (xs ++ ys))) ≤ length (flat_map frame xs) → n ≤ length xs
 not-longer xs ys n fits within = ⊎_elim (λ h. h) (λ more. absurd (omega (arith, longer xs ys n more fits, within))) (le-or-lt n (length xs))
 
 -- with fewer events answered

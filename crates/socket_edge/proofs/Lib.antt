@@ -10,4 +10,5 @@ pub mod Loops
 pub mod Passing
 pub mod Closing
 pub mod Runs
+pub mod Stopping
 pub mod Lives

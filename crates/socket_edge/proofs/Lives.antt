@@ -10,7 +10,7 @@ use Rattle.gateway.specs.Told.{TookAll}
 use Rattle.gateway.specs.Living.{IsLived}
 use Rattle.gateway.proofs.Living.{rests-again, stopped-first}
 use Rattle.socket_edge.specs.Progress.{replies}
-use Rattle.socket_edge.specs.Lives.{EdgeRunsAreLives}
+use Rattle.socket_edge.specs.Lives.{EdgeRunsAreLives, EdgeStopsAreLives}
 
 module _ {D : Type 0} (honest : D → Type 0) (moment : D → ℕ) (left : D → ℕ → Files → Type 0) (seen : D → Files)
     (earlier : (disk : D) (s t : ℕ) (files : Files) → s ≤ t → left disk t files → left disk s files) where
@@ -24,6 +24,7 @@ module _ {D : Type 0} (honest : D → Type 0) (moment : D → ℕ) (left : D →
         back = o.back;
         split = o.split;
         judged = o.judged;
+        are_judged = o.are_judged;
         within = subst (λ (l : List (ℕ × Answer)). IsLived honest moment left seen config entry at begun (events ++ o.front) l old.disk new.disk) (append-nil given)
             (stopped-first honest moment left seen config entry at begun events given old r old.disk new.disk o.front o.judged 0 o.are_judged (omega arith)
             (λ files since. (o.any_moment.each files since).2) (λ files since. (conf.each files since).2));
@@ -43,4 +44,19 @@ module _ {D : Type 0} (honest : D → Type 0) (moment : D → ℕ) (left : D →
             } in
             rests-again honest moment left seen config entry at begun events given old r new o.front (replies old.told o.judged) took
             (record { stands = stands; is_honest = f.stays_honest stands r.rests.is_honest; none = none });
+      }
+
+  pub stops-are : EdgeStopsAreLives honest moment left seen
+  unfolding replies
+  stops-are config entry at begun old new events given so_far read sent r by =
+      let k = by.since r.rests in
+      record {
+        front = k.front;
+        back = k.back;
+        split = k.split;
+        judged = k.judged;
+        are_judged = k.are_judged;
+        since = λ n le whole. stopped-first honest moment left seen config entry at begun events given old r by.now.disk new.disk k.front k.judged n k.are_judged le
+            (λ files since. ((k.since n le whole).each files since).2)
+            (λ files since. (k.configured.each files since).2);
       }

@@ -3,7 +3,7 @@ use Rattle.std.proofs.Common.{◌≡◌, ◌⊎◌, inl, inr, ℕ, List, [], ◌
 use Rattle.std.proofs.lemmas.List.{append-nil}
 use Rattle.gateway.specs.Told.{Told}
 use Rattle.socket_edge.specs.Joined.{given_then, taken_then}
-use Rattle.socket_edge.specs.Running.{Answered, AnswersFirst}
+use Rattle.socket_edge.specs.Running.{AnswersFirst, MayGoOn}
 use Rattle.socket_edge.specs.Serving.{AsksFirst, AsksOnce, Hands, NeverAsks}
 use Rattle.socket_edge.specs.Turns.{Turn, Gave, Took, given, taken}
 
@@ -12,7 +12,7 @@ never_then [] more p q = q
 never_then (Gave bytes ∷ turns) more p q = absurd p
 never_then (Took bytes ∷ turns) more p q = never_then turns more p q
 
-never_given : (turns : List Turn) → NeverAsks turns → given turns ≡ []
+pub never_given : (turns : List Turn) → NeverAsks turns → given turns ≡ []
 never_given [] p = refl
 never_given (Gave bytes ∷ turns) p = absurd p
 never_given (Took bytes ∷ turns) p = never_given turns p
@@ -47,14 +47,14 @@ turn_of (x ∷ xs) ys (b ∷ before) after t e =
 
 -- all is answered, and then it is asked once
 pub first-then : (start : Told) (turns more : List Turn) → AnswersFirst start turns
-    → (now : Told) × Answered start now (given turns) (taken turns) → AsksFirst more → AnswersFirst start (turns ++ more)
+    → MayGoOn start (given turns) (taken turns) → AsksFirst more → AnswersFirst start (turns ++ more)
 first-then start turns more first answered asks = λ before bytes after e.
     elim (turn_of turns more before after (Gave bytes) e) [
       | inl r ↦ first before bytes r.0 r.1
       | inr m ↦ (
           let none : m.0 ≡ [] = only_first m.0 after bytes (subst AsksFirst m.2 asks) in
           let same : before ≡ turns = m.1 ∙ ap (λ (ts : List Turn). turns ++ ts) none ∙ append-nil turns in
-          subst (λ (ts : List Turn). (now : Told) × Answered start now (given ts) (taken ts)) (sym same) answered)
+          subst (λ (ts : List Turn). MayGoOn start (given ts) (taken ts)) (sym same) answered)
     ]
 
 pub first-nil : (start : Told) → AnswersFirst start []
@@ -87,9 +87,6 @@ module _ {P : Type 0} (went : P → P → List Turn → Type 0) (still : (peer :
   pub Asks-none : (a b : P) → b ≡ a → AsksOnce went a b [] []
   Asks-none a b same = record { turns = []; goes = subst (λ (p : P). went a p []) (sym same) (still a); asks = tt; gives = refl; takes = refl }
 
-  pub Talked-first : (start : Told) (a : P) → Talked went start a a [] []
-  Talked-first start a = record { turns = []; goes = still a; first = first-nil start; gives = refl; takes = refl }
-
 module _ {P : Type 0} (went : P → P → List Turn → Type 0)
     (further : (a b c : P) (turns more : List Turn) → went a b turns → went b c more → went a c (turns ++ more)) where
   pub Hands-then : (a b c : P) (x y : List ℕ) → Hands went a b x → Hands went b c y → Hands went a c (x ++ y)
@@ -108,18 +105,6 @@ module _ {P : Type 0} (went : P → P → List Turn → Type 0)
     asks = h.unasked;
     gives = ap (λ (z : List ℕ). got ++ z) (never_given h.turns h.unasked) ∙ append-nil got;
     takes = h.takes;
-  }
-
-  pub Talked-then : (start : Told) (a b c : P) (x y got sent : List ℕ) → Talked went start a b x y
-      → (now : Told) × Answered start now x y → AsksOnce went b c got sent → Talked went start a c (x ++ got) (y ++ sent)
-  Talked-then start a b c x y got sent t answered q = record {
-    turns = t.turns ++ q.turns;
-    goes = further a b c t.turns q.turns t.goes q.goes;
-    first = first-then start t.turns q.turns t.first
-        (subst (λ (z : List ℕ). (now : Told) × Answered start now z (taken t.turns)) (sym t.gives)
-        (subst (λ (z : List ℕ). (now : Told) × Answered start now x z) (sym t.takes) answered)) q.asks;
-    gives = given_then t.turns q.turns ∙ ap (λ (z : List ℕ). z ++ given q.turns) t.gives ∙ ap (λ (z : List ℕ). x ++ z) q.gives;
-    takes = taken_then t.turns q.turns ∙ ap (λ (z : List ℕ). z ++ taken q.turns) t.takes ∙ ap (λ (z : List ℕ). y ++ z) q.takes;
   }
 
 -- what holds of the bytes holds of the turns' bytes

@@ -2,14 +2,14 @@
 use Rattle.std.specs.Prelude.{◌≡◌, ◌≤◌, ℕ, List, ◌++◌, length, take, false}
 use Rattle.packet.specs.Config.{Config}
 use Rattle.disk_model.specs.Disk.{Files}
-use Rattle.machine.specs.Judged.{Judged}
+use Rattle.machine.specs.Judged.{AreJudged, Judged}
 use Rattle.machine.specs.declared.event.Answer.{Answer}
 use Rattle.machine.specs.declared.event.Event.{Event}
 use Rattle.frames.specs.Answers.{frames}
 use Rattle.gateway.specs.Kept.{Kept}
 use Rattle.gateway.specs.Living.{IsLived, RestsInLife}
 use Rattle.socket_edge.specs.Progress.{replies}
-use Rattle.socket_edge.specs.Running.{Fares}
+use Rattle.socket_edge.specs.Running.{Fares, ComesBy}
 
 module _ {D : Type 0} (honest : D → Type 0) (moment : D → ℕ) (left : D → ℕ → Files → Type 0)
     (seen : D → Files) where
@@ -22,6 +22,7 @@ module _ {D : Type 0} (honest : D → Type 0) (moment : D → ℕ) (left : D →
     pub back : List Event
     pub split : read ≡ front ++ back
     pub judged : List Judged
+    pub are_judged : AreJudged old.told.config front judged
     -- A stop within the run is the end of a life, in which none of these events counts as answered.
     pub within : IsLived honest moment left seen config entry opened_at begun (events ++ front)
         given old.disk new.disk
@@ -42,3 +43,29 @@ module _ {D : Type 0} (honest : D → Type 0) (moment : D → ℕ) (left : D →
       → RestsInLife honest moment left seen config entry opened_at begun events given old
       → Fares honest moment left old new read sent
       → EdgeRuns config entry opened_at begun old new events given read sent
+
+  -- The gateway's life had come to `events` and `given`, and the edge took it from `old` by `now` to `new`: the first of
+  -- the events that were read are taken, and these bytes were sent when it was at `now`.
+  pub record EdgeStops (config : Config) (entry : D) (opened_at : ℕ) (begun old now new : Kept D)
+      (events : List Event) (given : List (ℕ × Answer)) (read : List Event)
+      (sent : List ℕ) : Type 0 where
+    pub front : List Event
+    pub back : List Event
+    pub split : read ≡ front ++ back
+    pub judged : List Judged
+    pub are_judged : AreJudged old.told.config front judged
+    -- A stop since then, within the run, is the end of a life. Each answer counts as given out whose frame lies whole
+    -- in what was sent by then.
+    pub since : (n : ℕ) → n ≤ length front
+        → length (frames (take n (replies old.told judged))) ≤ length sent
+        → IsLived honest moment left seen config entry opened_at begun (events ++ front)
+        (given ++ take n (replies old.told judged)) now.disk new.disk
+
+  -- A stop in the midst of a run of the edge, over a gateway that rests in its life, with what the run promises of each
+  -- of its turns (`AtEachTurn`).
+  abbrev pub EdgeStopsAreLives : Type 0
+  EdgeStopsAreLives = (config : Config) (entry : D) (opened_at : ℕ) (begun old new : Kept D)
+      (events : List Event) (given : List (ℕ × Answer)) (so_far read : List Event) (sent : List ℕ)
+      → RestsInLife honest moment left seen config entry opened_at begun events given old
+      → (by : ComesBy honest moment left old new so_far read sent)
+      → EdgeStops config entry opened_at begun old by.now new events given read sent

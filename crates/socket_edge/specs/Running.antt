@@ -30,12 +30,16 @@ pub record Answered (old new : Told) (bytes sent : List ℕ) : Type 0 where
   pub none : old.held ≡ [] → new.held ≡ []
   pub all : old.held ≡ [] → sent ≡ frames (replies old progress.took.judged)
 
+-- These bytes were sent for these, all whole frames of which are answered, and no faulty header stands behind them.
+abbrev pub MayGoOn : Told → List ℕ → List ℕ → Type 0
+MayGoOn old bytes sent = (now : Told) × Answered old now bytes sent
+    × ((rest : List ℕ) × (remainder_of bytes ≡ Rest rest))
+
 -- Each time that the peer was asked for more, what it had taken by then answered all whole frames that it had given by
--- then.
+-- then, if nothing was held before; and none that it had given is faulty.
 abbrev pub AnswersFirst : Told → List Turn → Type 0
 AnswersFirst old turns = (before : List Turn) (bytes : List ℕ) (after : List Turn)
-    → turns ≡ before ++ Gave bytes ∷ after
-    → (now : Told) × Answered old now (given before) (taken before)
+    → turns ≡ before ++ Gave bytes ∷ after → MayGoOn old (given before) (taken before)
 
 -- what a fault says of the bytes that were read and sent; `at_end` is that the input has ended
 abbrev pub EndsBy : EdgeFault → Told → Told → List ℕ → List ℕ → Type 0 → Type 0
@@ -96,6 +100,35 @@ module _ {D : Type 0} (honest : D → Type 0) (moment : D → ℕ) (left : D →
     pub outlives : IsAtRest honest old → Outlives events sent
     -- unless a call of the disk has failed, nothing is held behind it
     pub none : old.told.held ≡ [] → new.fallen ≡ false → new.told.held ≡ []
+
+  -- A crash since the gateway was `now`, within the run, leaves what the model has after a beginning of the events that
+  -- were taken, which holds each event whose answer's frame lies whole in these bytes.
+  pub record Preserves (now : Kept D) (events : List Event) (sent : List ℕ) : Type 0 where
+    pub front : List Event
+    pub back : List Event
+    pub split : events ≡ front ++ back
+    pub judged : List Judged
+    pub are_judged : AreJudged old.told.config front judged
+    pub reached : Reached old.told new.told judged
+    pub since : (n : ℕ) → n ≤ length front
+        → length (frames (take n (replies old.told judged))) ≤ length sent
+        → LeavesOnly moment left now.disk new.disk
+        (IsSafe old.told.config old.told.state front n)
+    pub configured : LeavesOnly moment left now.disk new.disk (IsConfigured old.told.config)
+
+module _ {D : Type 0} (honest : D → Type 0) (moment : D → ℕ) (left : D → ℕ → Files → Type 0)
+    (old new : Kept D) where
+  -- The run came by a gateway `now`, when it had taken the first of the events so far, and sent these bytes. Of an
+  -- honest disk, where nothing was held at the entry, no crash since then loses what they answer.
+  pub record ComesBy (so_far events : List Event) (sent : List ℕ) : Type 0 where
+    pub now : Kept D
+    pub until : Fares honest moment left old now so_far sent
+    pub since : IsAtRest honest old → Preserves honest moment left old new now events sent
+
+  -- After each beginning of the turns, with what the peer had given and taken by then.
+  abbrev pub AtEachTurn : List Turn → Type 0
+  AtEachTurn turns = (before after : List Turn) → turns ≡ before ++ after
+      → ComesBy (events_in (given before)) (events_in (given turns)) (taken before)
 
 module _ {D : Type 0} (honest : D → Type 0) (moment : D → ℕ) (left : D → ℕ → Files → Type 0)
     (failed : D → ℕ) where

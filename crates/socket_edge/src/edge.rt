@@ -8,7 +8,7 @@ ghost use Rattle.std.specs.Prelude.{◌≡◌, ◌≢◌, ◌↔◌, ℕ, List, 
 ghost use Rattle.std.specs.Io.KnownBytes.{Appends, Consumes, IsAtEnd};
 ghost use Rattle.machine.specs.declared.event.Answer.{Answer};
 ghost use Rattle.frames.specs.Requests.{next, Cut};
-ghost use Rattle.socket_edge.specs.Running.{AnswersFirst, Explains, Fares, RunEnded, events_in};
+ghost use Rattle.socket_edge.specs.Running.{AnswersFirst, AtEachTurn, ComesBy, Explains, Fares, RunEnded, events_in};
 ghost use Rattle.socket_edge.specs.Serving.{AsksOnce, FrontCame, Hands, SettledAndSent, ReadCame};
 ghost use Rattle.socket_edge.specs.Turns.{Turn, given, taken};
 
@@ -20,6 +20,7 @@ use crate::waiting::{Unread, Waiting};
 use disk_model::Disk;
 use gateway::running::stands;
 use gateway::{Answer, Gateway, GatewayFault};
+use machine::laws::events_are_judged_once;
 use std::alloc::Global;
 use std::io::{Read, Write};
 
@@ -82,7 +83,9 @@ fn answer_read<P: Peer, D: Disk + Drop>(
         × FrontCame result gateway.old.told gateway.new.told
         waiting.old.unanswered waiting.new.unanswered sent
         × Fares D.honest D.moment D.left gateway.old gateway.new
-        (events_in waiting.old.unanswered) sent }
+        (events_in waiting.old.unanswered) sent
+        × ComesBy D.honest D.moment D.left gateway.old gateway.new
+        (events_in waiting.old.unanswered) (events_in waiting.old.unanswered) sent }
     ensures why { IfErr result (λ e. Explains D.honest D.moment D.left D.failed e gateway.old
         gateway.new) }
     ensures stands { OnOk result (gateway.new.fallen ≡ false) }
@@ -102,7 +105,9 @@ fn answer_read<P: Peer, D: Disk + Drop>(
         &mut room.answers,
         &mut room.bodies,
     )?;
-    match compact_grown(gateway, &mut room.answers) {
+    stands(gateway);
+    events_are_judged_once();
+    match compact_grown(gateway) {
         Ok(()) => Ok(count),
         Err(fault) => Err(EdgeFault::Gateway(fault)),
     }
@@ -125,7 +130,10 @@ fn read_once<P: Peer, D: Disk + Drop>(
         waiting.new.unanswered sent
         (P.ended peer.new)
         × Fares D.honest D.moment D.left gateway.old gateway.new
-        (events_in (waiting.old.unanswered ++ got)) sent }
+        (events_in (waiting.old.unanswered ++ got)) sent
+        × ComesBy D.honest D.moment D.left gateway.old gateway.new
+        (events_in (waiting.old.unanswered ++ got)) (events_in (waiting.old.unanswered ++ got))
+        sent }
     ensures why { IfErr result (λ e. Explains D.honest D.moment D.left D.failed e gateway.old
         gateway.new) }
     ensures stands { OnOk result (gateway.new.fallen ≡ false) }
@@ -162,8 +170,8 @@ fn sum(count: u64, more: u64) -> u64
 }
 
 /// Answers each request that the peer gives, in order, as `run` does of two streams. Each time that it asks the peer
-/// for more, the peer has taken the answers to all whole frames that it had given by then. So this never waits for a
-/// peer that waits for an answer.
+/// for more, the peer has taken the answers to all whole frames that it had given by then, if nothing was held before,
+/// and none of them was faulty. So this never waits for a peer that waits for an answer, or to be cut off.
 ///
 /// # Errors
 ///
@@ -173,13 +181,15 @@ pub fn run_with<P: Peer, D: Disk + Drop>(
     peer: &mut P,
     gateway: &mut Gateway<D>,
 ) -> Result<u64, EdgeFault>
-    // By which turns it went, how the run ended, what a crash leaves of it, and that answers came first.
+    // By which turns it went, how the run ended, what a crash leaves of it, that answers came first, and what a crash
+    // leaves that comes after some of the turns.
     ensures ran { (turns : List Turn) × P.went peer.old peer.new turns
         × RunEnded result gateway.old.told gateway.new.told (given turns) (taken turns)
         (P.ended peer.new)
         × Fares D.honest D.moment D.left gateway.old gateway.new (events_in (given turns))
         (taken turns)
-        × AnswersFirst gateway.old.told turns }
+        × AnswersFirst gateway.old.told turns
+        × AtEachTurn D.honest D.moment D.left gateway.old gateway.new turns }
     ensures untouched { gateway.old.fallen ≡ true → peer.new ≡ peer.old }
     ensures why { gateway.old.fallen ≡ false
         → IfErr result (λ e. Explains D.honest D.moment D.left D.failed e gateway.old gateway.new) }
@@ -195,6 +205,7 @@ pub fn run_with<P: Peer, D: Disk + Drop>(
         return Err(EdgeFault::Gateway(GatewayFault::Reopen));
     }
     stands(gateway);
+    events_are_judged_once();
     let mut waiting = Waiting::new(alloc);
     let mut room = Room {
         answers: Vec::new(alloc),

@@ -1,12 +1,16 @@
 //! What follows from the definitions of `specs/Running`: a run of the edge is part of a life, as `gateway::laws` speaks
 //! of lives.
-ghost use Rattle.socket_edge.specs.Lives.{EdgeRunsAreLives};
+ghost use Rattle.socket_edge.specs.Lives.{EdgeRunsAreLives, EdgeStopsAreLives};
 
 use disk_model::Disk;
 
 /// A run of the edge, of a gateway that rests in its life, is a life wherever it is stopped; unless the gateway has
 /// fallen, it rests again after the run, and the next one may follow. So `gateway::laws::lives_are_the_models` holds of
 /// any runs over one gateway, of the stops in them, and of the gateways that are opened afterwards.
+///
+/// If the run is stopped in its midst, each answer counts as given out that was sent before: its frame lies whole in
+/// what the peer had taken by the last turn before the stop (`stops`).
 pub fn runs_are_lives<D: Disk>(_: &D)
-    ensures { EdgeRunsAreLives D.honest D.moment D.left D.seen }
+    ensures runs { EdgeRunsAreLives D.honest D.moment D.left D.seen }
+    ensures stops { EdgeStopsAreLives D.honest D.moment D.left D.seen }
 {}

@@ -10,13 +10,13 @@
 //!   What is answered goes back into the bytes (`put_back`);
 //! - `close`: what is held is synced and handed out (`give_held`, by `gateway::running::hand_out`) and put back too,
 //!   and `end_at` says what the halt means for the run. Then `edge` writes the answers (`sending::send_behind`);
-//! - `compact_grown`: a file that has grown is made short (`gateway::running::compact`).
+//! - `compact_grown`: a file that has grown is made short (`Gateway::compact`).
 //!
 //! In clauses `handed` are the answers whose frames were put into the bytes; `answers` has those behind them, so that
 //! `handed ++ answers` is what was handed out.
-ghost use Rattle.std.specs.Prelude.{◌≡◌, ◌≢◌, ◌+◌, ◌*◌, max, ◌∷◌, ◌++◌, [], ℕ, List, ◌<◌, ◌≤◌, false, length, true, None, IfErr, IfNone, IfSome, OnOk, OnSome, vec_len, vec_capacity};
+ghost use Rattle.std.specs.Prelude.{◌≡◌, ◌≢◌, ◌+◌, ◌*◌, max, ◌∷◌, ◌++◌, [], ℕ, List, ◌<◌, ◌≤◌, ◌^◌, false, length, true, None, IfErr, IfNone, IfSome, OnOk, OnSome, vec_len, vec_capacity};
 ghost use Rattle.gateway.specs.Kept.{Kept};
-ghost use Rattle.gateway.specs.Running.{CarriesOn, Stands};
+ghost use Rattle.gateway.specs.Running.{BreaksOff, CarriesOn, Stands};
 ghost use Rattle.machine.specs.declared.event.Answer.{Answer};
 ghost use Rattle.frames.specs.Answers.{frame, frames};
 ghost use Rattle.frames.specs.Requests.{Whole, next};
@@ -28,7 +28,7 @@ use crate::fault::EdgeFault;
 use crate::waiting::Waiting;
 use disk_model::Disk;
 use frames::{HeaderFault, Taken, take_frame};
-use gateway::running::{compact, hand_out, settle, stands, take};
+use gateway::running::{hand_out, settle, stands, take};
 use gateway::{Answer, Event, Gateway, GatewayFault, MOST_HELD};
 use machine::laws::events_are_judged_once;
 use std::alloc::{AllocError, Global};
@@ -450,8 +450,11 @@ fn offer_next<D: Disk + Drop>(
 }
 
 /// How many events in a row have now ended with no packet handed out: none behind a packet that left, or else one more.
-fn misses_behind(misses: usize, leaves: bool) -> usize {
-    if leaves { 0 } else { misses.saturating_add(1) }
+fn misses_behind(misses: usize, leaves: bool) -> usize
+    requires { misses + 1 < 2 ^ 64 }
+    ensures { result ≤ misses + 1 }
+{
+    if leaves { 0 } else { misses + 1 }
 }
 
 /// Offers each whole frame at the front, and says how many were taken, and why no more are offered. Answers that are
@@ -552,28 +555,23 @@ pub fn close<D: Disk + Drop>(
     }
 }
 
-/// Compacts where the file has grown by more than `MOST_GROWN`. Nothing is held, so no answer is handed out: `answers`
-/// stays.
-pub fn compact_grown<D: Disk + Drop>(
-    gateway: &mut Gateway<D>,
-    answers: &mut Vec<(u64, Answer)>,
-) -> Result<(), GatewayFault>
+/// Compacts where the file has grown by more than `MOST_GROWN`, which asks that nothing is held.
+pub fn compact_grown<D: Disk + Drop>(gateway: &mut Gateway<D>) -> Result<(), GatewayFault>
     requires stands { gateway.old.fallen ≡ false }
     requires none { gateway.old.told.held ≡ [] }
-    requires room { vec_len answers.old + length gateway.old.told.held ≤ vec_capacity answers.old }
-    ensures ok { OnOk result (CarriesBehind D.honest D.moment D.left D.failed
-        gateway.old gateway.new [] answers.old.items answers.new.items) }
-    ensures err { IfErr result (BreaksBehind D.honest D.moment D.left D.failed
-        gateway.old gateway.new [] answers.old.items answers.new.items) }
+    ensures ok { OnOk result ((before : List (ℕ × Answer))
+        → CarriesOn D.honest D.moment D.left D.failed gateway.old gateway.new []
+        before before) }
+    ensures err { IfErr result (λ e. (before : List (ℕ × Answer))
+        → BreaksOff D.honest D.moment D.left D.failed gateway.old gateway.new []
+        before before e) }
     ensures stands { OnOk result (gateway.new.fallen ≡ false) }
     ensures none { gateway.new.told.held ≡ [] }
-    ensures answers { answers.new.items ≡ answers.old.items }
     ensures grown { OnOk result (gateway.new.grown ≤ 1048576) }
 {
-    stands(gateway);
-    events_are_judged_once();
     if gateway.grown() <= MOST_GROWN {
         return Ok(());
     }
-    compact(gateway, answers)
+    gateway.compact()?;
+    Ok(())
 }

@@ -7,7 +7,7 @@ returns-clause-stopped g c = λ h. opening-stopped g.D.Disk.honest g.D.Disk.mome
 
 pub returns-clause-refused : goal.returns-clause-refused
 returns-clause-refused g c = λ h. opening-refused g.D.Disk.honest g.D.Disk.moment g.D.Disk.left g.D.Disk.seen c.args.bounds c.args.disk c.args.moment
-    c.open.result (returns-clause-stopped g c h) (c.open.ensures.damaged h) (c.open.ensures.differs h)
+    c.open.result (returns-clause-stopped g c h) (c.open.ensures.damaged h) (c.open.ensures.differs h) (c.open.ensures.generations h)
 
 pub returns-clause-opened : goal.returns-clause-opened
 returns-clause-opened g c = λ h. opening-rests g.D.Disk.honest g.D.Disk.moment g.D.Disk.left g.D.Disk.seen c.args.bounds c.args.disk c.args.moment

@@ -1,7 +1,7 @@
-use Rattle.std.proofs.Common.{◌≡◌, [], ap, sym, subst, Err, ◌∙◌}
+use Rattle.std.proofs.Common.{◌≡◌, [], ap, arith, length, length-append, sym, subst, Err, ◌∙◌}
 use Rattle.std.proofs.lemmas.Result.{err_from_is_err_and}
 use Rattle.gateway.specs.declared.fault.GatewayFault.TheVariants as fault
-use Rattle.gateway.proofs.Runs.{breaks-here, breaks-then, carries-none, carries-then, compact-stopped, compact-why, compacted, fault-is, stands-still}
+use Rattle.gateway.proofs.Runs.{breaks-here, breaks-then, carries-none, carries-then, compact-stopped, compact-why, compact-within, compacted, fault-is, stands-still, within-then}
 use Rattle.gateway.specs.Kept.{Kept}
 use Rattle.gateway.specs.Running.{Stands}
 use Rattle.gateway.proofs.running.compact.Goals as goal
@@ -35,3 +35,27 @@ returns-clause-ok g c =
     (λ start events s. compacted g.D.Disk.honest g.D.Disk.moment g.D.Disk.left g.D.Disk.seen g.D.Disk.failed g.met.D.Disk.reads g.met.D.Disk.earlier start
     c.hand_out.new.gateway events out s c.compact.new.self e.honest e.stays_honest e.configured e.any_moment e.told c.in_ok-hand_out.ensures.none
     (stands-still c.in_ok-compact.field-0 fault.Device c.compact.new.self.fallen e.fell c.in_ok-hand_out.ensures.stands) e.no_failure))
+
+pub returns-in_err-compact-clause-any_moment : goal.returns-in_err-compact-clause-any_moment
+returns-in_err-compact-clause-any_moment g c =
+    let e = c.in_err-compact.ensures in
+    let h = c.in_ok-hand_out.ensures in
+    let held = c.args.gateway.now.told.held in
+    let before = c.args.answers.now.items in
+    let out = c.hand_out.new.answers.items in
+    within-then g.D.Disk.honest g.D.Disk.moment g.D.Disk.left g.D.Disk.failed g.met.D.Disk.earlier c.args.gateway.now c.hand_out.new.gateway c.compact.new.self before out h.any_moment h.ok
+    (omega (arith, ap length h.items, length-append before held))
+    (λ start events s ready. compact-within g.D.Disk.honest g.D.Disk.moment g.D.Disk.left g.D.Disk.seen g.D.Disk.failed g.met.D.Disk.reads g.met.D.Disk.earlier start
+    c.hand_out.new.gateway events out s c.compact.new.self e.honest e.stays_honest e.configured e.any_moment e.told ready)
+
+pub returns-clause-any_moment : goal.returns-clause-any_moment
+returns-clause-any_moment g c =
+    let e = c.in_ok-compact.ensures in
+    let h = c.in_ok-hand_out.ensures in
+    let held = c.args.gateway.now.told.held in
+    let before = c.args.answers.now.items in
+    let out = c.hand_out.new.answers.items in
+    within-then g.D.Disk.honest g.D.Disk.moment g.D.Disk.left g.D.Disk.failed g.met.D.Disk.earlier c.args.gateway.now c.hand_out.new.gateway c.compact.new.self before out h.any_moment h.ok
+    (omega (arith, ap length h.items, length-append before held))
+    (λ start events s ready. compact-within g.D.Disk.honest g.D.Disk.moment g.D.Disk.left g.D.Disk.seen g.D.Disk.failed g.met.D.Disk.reads g.met.D.Disk.earlier start
+    c.hand_out.new.gateway events out s c.compact.new.self e.honest e.stays_honest e.configured e.any_moment e.told ready)

@@ -7,7 +7,7 @@ use Rattle.machine.specs.declared.event.What.TheVariants.{Packet}
 use Rattle.gateway.specs.Told.{Took}
 use Rattle.gateway.specs.Running.{CarriesOn}
 use Rattle.gateway.specs.declared.given.Given.TheVariants.{Now}
-use Rattle.gateway.proofs.Runs.{offered}
+use Rattle.gateway.proofs.Runs.{offered, still-within}
 use Rattle.gateway.proofs.running.forward.Goals as goal
 
 -- what is said of the value that there is
@@ -29,3 +29,8 @@ returns-clause-some g c =
     offered g.D.Disk.honest g.D.Disk.moment g.D.Disk.left g.D.Disk.seen g.D.Disk.failed g.met.D.Disk.reads g.met.D.Disk.earlier start
     c.args.gateway.now events before s c.forward.new.self event (Now given.0 (answer given)) c.facts.ensures.config c.facts.ensures.sound e.disk e.fallen took
     (λ judged is. (λ now. (none, needless judged is), λ both. tt)))
+
+pub returns-clause-any_moment : goal.returns-clause-any_moment
+returns-clause-any_moment g c = λ before start events s ready.
+    still-within g.D.Disk.honest g.D.Disk.moment g.D.Disk.left g.D.Disk.seen g.D.Disk.failed g.met.D.Disk.reads g.met.D.Disk.earlier start
+    c.args.gateway.now events before s c.forward.new.self c.forward.ensures.disk ready

@@ -3,7 +3,7 @@ use Rattle.std.proofs.lemmas.Result.{err_from_is_err_and}
 use Rattle.machine.specs.declared.event.Answer.{Answer}
 use Rattle.gateway.specs.declared.fault.GatewayFault.TheVariants as fault
 use Rattle.gateway.specs.Running.{Stands}
-use Rattle.gateway.proofs.Runs.{flushed, flush-stopped, flush-device, flush-why, carries-none, breaks-here, fault-is, stands-still}
+use Rattle.gateway.proofs.Runs.{flushed, flush-stopped, flush-device, flush-why, flush-within, carries-none, breaks-here, fault-is, stands-still}
 use Rattle.gateway.proofs.running.hand_out.Goals as goal
 
 pub returns-in_err-held-clause-err : goal.returns-in_err-held-clause-err
@@ -28,3 +28,15 @@ returns-clause-ok g c =
     subst (λ (out : List (ℕ × Answer)). Stands g.D.Disk.honest g.D.Disk.moment g.D.Disk.left g.D.Disk.failed start c.flush.new.self events out) (sym (c.put_all.ensures.items ∙ ap (λ (l : List (ℕ × Answer)). c.args.answers.now.items ++ l) e.answers))
     (flushed g.D.Disk.honest g.D.Disk.moment g.D.Disk.left g.D.Disk.seen g.D.Disk.failed g.met.D.Disk.reads g.met.D.Disk.earlier start
     c.args.gateway.now events c.args.answers.now.items s c.flush.new.self e.honest e.stays_honest e.configured e.any_moment e.ok e.none (stands-still c.in_ok-held.held fault.Device c.flush.new.self.fallen e.fell c.requires.stands) e.no_failure))
+
+pub returns-in_err-held-clause-any_moment : goal.returns-in_err-held-clause-any_moment
+returns-in_err-held-clause-any_moment g c = λ start events s ready.
+    let e = c.in_err-held.ensures in
+    flush-within g.D.Disk.honest g.D.Disk.moment g.D.Disk.left g.D.Disk.seen g.D.Disk.failed g.met.D.Disk.reads g.met.D.Disk.earlier start
+    c.args.gateway.now events c.args.answers.now.items s c.flush.new.self e.honest e.stays_honest e.configured e.any_moment ready
+
+pub returns-clause-any_moment : goal.returns-clause-any_moment
+returns-clause-any_moment g c = λ start events s ready.
+    let e = c.in_ok-held.ensures in
+    flush-within g.D.Disk.honest g.D.Disk.moment g.D.Disk.left g.D.Disk.seen g.D.Disk.failed g.met.D.Disk.reads g.met.D.Disk.earlier start
+    c.args.gateway.now events c.args.answers.now.items s c.flush.new.self e.honest e.stays_honest e.configured e.any_moment ready

@@ -2,7 +2,7 @@ use Rattle.std.proofs.Common.{◌++◌, ◌∷◌, [], List, ℕ, sym, subst}
 use Rattle.std.proofs.lemmas.Result.{err_from_is_err_and}
 use Rattle.machine.specs.declared.event.Answer.{Answer}
 use Rattle.gateway.specs.Running.{Stands, Ends}
-use Rattle.gateway.proofs.Runs.{ended, offered, offer-why, breaks-here}
+use Rattle.gateway.proofs.Runs.{ended, offered, offer-why, breaks-here, still-within}
 use Rattle.gateway.proofs.running.offer.Goals as goal
 
 pub returns-in_err-given-clause-why : goal.returns-in_err-given-clause-why
@@ -24,3 +24,13 @@ returns-clause-ok g c = λ start events s.
     subst (λ (out : List (ℕ × Answer)). Stands g.D.Disk.honest g.D.Disk.moment g.D.Disk.left g.D.Disk.failed start c.offer.new.self (events ++ c.args.event ∷ []) out) (sym {A = List (ℕ × Answer)} c.put.ensures.items)
     (offered g.D.Disk.honest g.D.Disk.moment g.D.Disk.left g.D.Disk.seen g.D.Disk.failed g.met.D.Disk.reads g.met.D.Disk.earlier start
     c.args.gateway.now events c.args.answers.now.items s c.offer.new.self c.args.event c.in_ok-given.given c.facts.ensures.config c.facts.ensures.sound e.disk e.fallen e.took e.now)
+
+pub returns-in_err-given-clause-any_moment : goal.returns-in_err-given-clause-any_moment
+returns-in_err-given-clause-any_moment g c = λ start events s ready.
+    still-within g.D.Disk.honest g.D.Disk.moment g.D.Disk.left g.D.Disk.seen g.D.Disk.failed g.met.D.Disk.reads g.met.D.Disk.earlier start
+    c.args.gateway.now events c.args.answers.now.items s c.offer.new.self c.in_err-given.ensures.disk ready
+
+pub returns-clause-any_moment : goal.returns-clause-any_moment
+returns-clause-any_moment g c = λ start events s ready.
+    still-within g.D.Disk.honest g.D.Disk.moment g.D.Disk.left g.D.Disk.seen g.D.Disk.failed g.met.D.Disk.reads g.met.D.Disk.earlier start
+    c.args.gateway.now events c.args.answers.now.items s c.offer.new.self c.in_ok-given.ensures.disk ready

@@ -1,7 +1,7 @@
 use Rattle.std.proofs.Common.{◌++◌, [], ap, Err}
 use Rattle.std.proofs.lemmas.Result.{err_from_is_err_and}
 use Rattle.gateway.specs.declared.fault.GatewayFault.TheVariants as fault
-use Rattle.gateway.proofs.Runs.{flushed, flush-stopped, flush-device, flush-why, carries-none, breaks-here, fault-is, stands-still}
+use Rattle.gateway.proofs.Runs.{flushed, flush-stopped, flush-device, flush-why, flush-within, carries-none, breaks-here, fault-is, stands-still}
 use Rattle.gateway.proofs.running.settle.Goals as goal
 
 pub returns-in_err-settle-clause-err : goal.returns-in_err-settle-clause-err
@@ -25,3 +25,15 @@ returns-clause-ok g c =
     (λ start events s.
     flushed g.D.Disk.honest g.D.Disk.moment g.D.Disk.left g.D.Disk.seen g.D.Disk.failed g.met.D.Disk.reads g.met.D.Disk.earlier start
     c.args.gateway.now events before s c.settle.new.self e.honest e.stays_honest e.configured e.any_moment e.ok e.none (stands-still c.in_ok-settle.field-0 fault.Device c.settle.new.self.fallen e.fell c.requires.stands) e.no_failure)
+
+pub returns-in_err-settle-clause-any_moment : goal.returns-in_err-settle-clause-any_moment
+returns-in_err-settle-clause-any_moment g c = λ before start events s ready.
+    let e = c.in_err-settle.ensures in
+    flush-within g.D.Disk.honest g.D.Disk.moment g.D.Disk.left g.D.Disk.seen g.D.Disk.failed g.met.D.Disk.reads g.met.D.Disk.earlier start
+    c.args.gateway.now events before s c.settle.new.self e.honest e.stays_honest e.configured e.any_moment ready
+
+pub returns-clause-any_moment : goal.returns-clause-any_moment
+returns-clause-any_moment g c = λ before start events s ready.
+    let e = c.in_ok-settle.ensures in
+    flush-within g.D.Disk.honest g.D.Disk.moment g.D.Disk.left g.D.Disk.seen g.D.Disk.failed g.met.D.Disk.reads g.met.D.Disk.earlier start
+    c.args.gateway.now events before s c.settle.new.self e.honest e.stays_honest e.configured e.any_moment ready

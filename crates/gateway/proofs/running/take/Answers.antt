@@ -1,7 +1,7 @@
 use Rattle.std.proofs.Common.{◌∷◌, [], sym, ◌∙◌}
 use Rattle.std.proofs.lemmas.Bool.{false≢true}
 use Rattle.std.proofs.lemmas.Result.{err_from_is_err_and, IfErr-weaker, on_ok_weaker}
-use Rattle.gateway.proofs.Runs.{breaks-before, breaks-then, carries-then}
+use Rattle.gateway.proofs.Runs.{breaks-before, breaks-then, carries-then, within-then}
 use Rattle.gateway.proofs.running.take.Goals as goal
 
 pub returns-in_err-flush_held_full-clause-err : goal.returns-in_err-flush_held_full-clause-err
@@ -34,3 +34,22 @@ returns-clause-err g c =
     breaks-then g.D.Disk.honest g.D.Disk.moment g.D.Disk.left g.D.Disk.failed c.args.gateway.now c.flush_held_full.new.gateway c.offer.new.gateway [] (c.args.event ∷ [])
     c.args.answers.now.items c.flush_held_full.new.answers.items c.offer.new.answers.items c.in-Err.fault
     c.in_ok-flush_held_full.ensures.ok (c.in-Err.ensures.why (λ full. false≢true (sym c.if-is_full.false ∙ c.is_full.ensures.1 full)))
+
+pub returns-in_default-clause-any_moment : goal.returns-in_default-clause-any_moment
+returns-in_default-clause-any_moment g c =
+    let f = c.in_ok-flush_held_full.ensures in
+    within-then g.D.Disk.honest g.D.Disk.moment g.D.Disk.left g.D.Disk.failed g.met.D.Disk.earlier c.args.gateway.now c.flush_held_full.new.gateway c.offer.new.gateway c.args.answers.now.items c.flush_held_full.new.answers.items
+    f.any_moment f.ok f.more c.in_default.ensures.any_moment
+
+pub returns-then-is_full-clause-any_moment : goal.returns-then-is_full-clause-any_moment
+returns-then-is_full-clause-any_moment g c =
+    let same = c.in-Err.ensures.err in
+    let f = c.in_ok-flush_held_full.ensures in
+    within-then g.D.Disk.honest g.D.Disk.moment g.D.Disk.left g.D.Disk.failed g.met.D.Disk.earlier c.args.gateway.now c.flush_held_full.new.gateway c.take_behind_compaction.new.gateway c.args.answers.now.items c.flush_held_full.new.answers.items
+    f.any_moment f.ok f.more (rw (← same.1, ← same.2) c.take_behind_compaction.ensures.any_moment)
+
+pub returns-clause-any_moment : goal.returns-clause-any_moment
+returns-clause-any_moment g c =
+    let f = c.in_ok-flush_held_full.ensures in
+    within-then g.D.Disk.honest g.D.Disk.moment g.D.Disk.left g.D.Disk.failed g.met.D.Disk.earlier c.args.gateway.now c.flush_held_full.new.gateway c.offer.new.gateway c.args.answers.now.items c.flush_held_full.new.answers.items
+    f.any_moment f.ok f.more c.in-Err.ensures.any_moment

@@ -1,6 +1,6 @@
-use Rattle.std.proofs.Common.{◌∷◌, []}
+use Rattle.std.proofs.Common.{◌∷◌, [], ap, arith, length}
 use Rattle.std.proofs.lemmas.Result.{err_from_is_err_and}
-use Rattle.gateway.proofs.Runs.{breaks-before, breaks-then, carries-then}
+use Rattle.gateway.proofs.Runs.{breaks-before, breaks-then, carries-then, within-then}
 use Rattle.gateway.proofs.running.take_behind_compaction.Goals as goal
 
 pub returns-in_err-compact-clause-err : goal.returns-in_err-compact-clause-err
@@ -19,3 +19,15 @@ pub returns-clause-ok : goal.returns-clause-ok
 returns-clause-ok g c =
     carries-then g.D.Disk.honest g.D.Disk.moment g.D.Disk.left g.D.Disk.failed c.args.gateway.now c.compact.new.gateway c.offer.new.gateway [] (c.args.event ∷ [])
     c.args.answers.now.items c.compact.new.answers.items c.offer.new.answers.items c.in_ok-compact.ensures.ok c.in_default.ensures.ok
+
+pub returns-in-Err-clause-any_moment : goal.returns-in-Err-clause-any_moment
+returns-in-Err-clause-any_moment g c =
+    let k = c.in_ok-compact.ensures in
+    within-then g.D.Disk.honest g.D.Disk.moment g.D.Disk.left g.D.Disk.failed g.met.D.Disk.earlier c.args.gateway.now c.compact.new.gateway c.offer.new.gateway c.args.answers.now.items c.compact.new.answers.items
+    k.any_moment k.ok (omega (arith, k.room, ap length k.none)) c.in-Err.ensures.any_moment
+
+pub returns-clause-any_moment : goal.returns-clause-any_moment
+returns-clause-any_moment g c =
+    let k = c.in_ok-compact.ensures in
+    within-then g.D.Disk.honest g.D.Disk.moment g.D.Disk.left g.D.Disk.failed g.met.D.Disk.earlier c.args.gateway.now c.compact.new.gateway c.offer.new.gateway c.args.answers.now.items c.compact.new.answers.items
+    k.any_moment k.ok (omega (arith, k.room, ap length k.none)) c.in_default.ensures.any_moment

@@ -8,7 +8,7 @@ use Rattle.gateway.specs.Given.{IsNow, given_by, handed}
 use Rattle.gateway.specs.Running.{CarriesOn}
 use Rattle.gateway.specs.Told.{Took}
 use Rattle.gateway.specs.declared.given.GivenInPlace.{GivenInPlace}
-use Rattle.gateway.proofs.Runs.{offered}
+use Rattle.gateway.proofs.Runs.{offered, still-within}
 use Rattle.gateway.proofs.running.take_in_place.Goals as goal
 
 -- what is said of the value that there is
@@ -30,3 +30,8 @@ returns-clause-some g c =
     (λ taken took now before start events s.
     offered g.D.Disk.honest g.D.Disk.moment g.D.Disk.left g.D.Disk.seen g.D.Disk.failed g.met.D.Disk.reads g.met.D.Disk.earlier start
     c.args.gateway.now events before s c.offer_in_place.new.self event (given_by taken packet) c.facts.ensures.config c.facts.ensures.sound e.disk e.fallen took now)
+
+pub returns-clause-any_moment : goal.returns-clause-any_moment
+returns-clause-any_moment g c = λ before start events s ready.
+    still-within g.D.Disk.honest g.D.Disk.moment g.D.Disk.left g.D.Disk.seen g.D.Disk.failed g.met.D.Disk.reads g.met.D.Disk.earlier start
+    c.args.gateway.now events before s c.offer_in_place.new.self c.offer_in_place.ensures.disk ready

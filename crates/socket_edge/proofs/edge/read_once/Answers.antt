@@ -5,10 +5,11 @@ use Rattle.socket_edge.specs.Exchange.{Exchange}
 use Rattle.socket_edge.specs.Serving.{AsksOnce, Served}
 use Rattle.socket_edge.specs.Turns.{Turn, Gave}
 use Rattle.frames.specs.Framing.{Rest}
-use Rattle.socket_edge.specs.Running.{EndsBy, Fares, events_in}
+use Rattle.socket_edge.specs.Running.{ComesBy, EndsBy, Fares, events_in}
 use Rattle.socket_edge.proofs.Talks.{Asks-none, Asks-once, Asks-then}
 use Rattle.socket_edge.proofs.Answers.{AnsweredFirst-nothing}
 use Rattle.socket_edge.proofs.Runs.{EndsBy-seen, nothing, nothing_stops, nothing_counts}
+use Rattle.socket_edge.proofs.Stopping.{by-end}
 use Rattle.socket_edge.proofs.Tending.{idle-fares}
 use Rattle.socket_edge.proofs.edge.read_once.Goals as goal
 
@@ -26,6 +27,8 @@ returns-in-Err-NoMemory-clause-came g c = (
   Asks-none g.P.Peer.went g.met.P.Peer.still c.args.peer.now c.read.new.peer (c.in-Err-NoMemory.ensures.unasked c.in-Err-NoMemory.field-0-is),
   AnsweredFirst-nothing c.args.gateway.now.told (events_in (c.args.waiting.now.unanswered ++ [])),
   idle-fares g.D.Disk.honest g.D.Disk.moment g.D.Disk.left g.D.Disk.seen g.D.Disk.failed g.met.D.Disk.reads g.met.D.Disk.earlier c.args.gateway.now c.stands.ensures (events_in (c.args.waiting.now.unanswered ++ [])),
+  by-end g.D.Disk.honest g.D.Disk.moment g.D.Disk.left g.met.D.Disk.earlier c.args.gateway.now c.args.gateway.now (events_in (c.args.waiting.now.unanswered ++ [])) []
+      (idle-fares g.D.Disk.honest g.D.Disk.moment g.D.Disk.left g.D.Disk.seen g.D.Disk.failed g.met.D.Disk.reads g.met.D.Disk.earlier c.args.gateway.now c.stands.ensures (events_in (c.args.waiting.now.unanswered ++ []))),
 )
 
 pub returns-in-Err-Failed-clause-came : goal.returns-in-Err-Failed-clause-came
@@ -35,6 +38,8 @@ returns-in-Err-Failed-clause-came g c = (
   Asks-once g.P.Peer.went c.args.peer.now c.read.new.peer [] (c.in-Err-Failed.ensures.failed c.in-Err-Failed.field-0-is),
   nothing c.args.gateway.now.told c.args.waiting.now.unanswered c.requires.cut,
   idle-fares g.D.Disk.honest g.D.Disk.moment g.D.Disk.left g.D.Disk.seen g.D.Disk.failed g.met.D.Disk.reads g.met.D.Disk.earlier c.args.gateway.now c.stands.ensures (events_in (c.args.waiting.now.unanswered ++ [])),
+  by-end g.D.Disk.honest g.D.Disk.moment g.D.Disk.left g.met.D.Disk.earlier c.args.gateway.now c.args.gateway.now (events_in (c.args.waiting.now.unanswered ++ [])) []
+      (idle-fares g.D.Disk.honest g.D.Disk.moment g.D.Disk.left g.D.Disk.seen g.D.Disk.failed g.met.D.Disk.reads g.met.D.Disk.earlier c.args.gateway.now c.stands.ensures (events_in (c.args.waiting.now.unanswered ++ []))),
 )
 
 pub returns-then-is_empty-clause-came : goal.returns-then-is_empty-clause-came
@@ -55,6 +60,8 @@ returns-then-is_empty-clause-came g c =
         ended = c.in-Ok.ensures.end c.if-n-eq0.true;
       },
       idle-fares g.D.Disk.honest g.D.Disk.moment g.D.Disk.left g.D.Disk.seen g.D.Disk.failed g.met.D.Disk.reads g.met.D.Disk.earlier c.args.gateway.now c.stands.ensures (events_in (c.args.waiting.now.unanswered ++ [])),
+      by-end g.D.Disk.honest g.D.Disk.moment g.D.Disk.left g.met.D.Disk.earlier c.args.gateway.now c.args.gateway.now (events_in (c.args.waiting.now.unanswered ++ [])) []
+          (idle-fares g.D.Disk.honest g.D.Disk.moment g.D.Disk.left g.D.Disk.seen g.D.Disk.failed g.met.D.Disk.reads g.met.D.Disk.earlier c.args.gateway.now c.stands.ensures (events_in (c.args.waiting.now.unanswered ++ []))),
     )
 
 pub returns-then-n-eq0-clause-came : goal.returns-then-n-eq0-clause-came
@@ -70,6 +77,8 @@ returns-then-n-eq0-clause-came g c =
       none_read g.P.Peer.went c.args.peer.now c.read.new.peer c.in-Ok.n b.0 c.if-n-eq0.true b.3 b.1,
       (c.args.waiting.now.unanswered, nothing_stops c.args.waiting.now.unanswered c.requires.cut, some, nothing c.args.gateway.now.told c.args.waiting.now.unanswered c.requires.cut, c.in-Ok.ensures.end c.if-n-eq0.true),
       idle-fares g.D.Disk.honest g.D.Disk.moment g.D.Disk.left g.D.Disk.seen g.D.Disk.failed g.met.D.Disk.reads g.met.D.Disk.earlier c.args.gateway.now c.stands.ensures (events_in (c.args.waiting.now.unanswered ++ [])),
+      by-end g.D.Disk.honest g.D.Disk.moment g.D.Disk.left g.met.D.Disk.earlier c.args.gateway.now c.args.gateway.now (events_in (c.args.waiting.now.unanswered ++ [])) []
+          (idle-fares g.D.Disk.honest g.D.Disk.moment g.D.Disk.left g.D.Disk.seen g.D.Disk.failed g.met.D.Disk.reads g.met.D.Disk.earlier c.args.gateway.now c.stands.ensures (events_in (c.args.waiting.now.unanswered ++ []))),
     )
 
 pub returns-in-Ok-answer_read-clause-came : goal.returns-in-Ok-answer_read-clause-came
@@ -82,6 +91,7 @@ returns-in-Ok-answer_read-clause-came g c =
       Asks-then g.P.Peer.went g.met.P.Peer.further c.args.peer.now c.read.new.peer c.answer_read.new.peer b.0 s.0 b.1 s.1,
       subst (λ (bytes : List ℕ). Served c.args.gateway.now.told c.answer_read.new.gateway.told bytes c.answer_read.new.waiting.unanswered s.0 c.in-Ok-answer_read.count) same s.2,
       subst (λ (bytes : List ℕ). Fares g.D.Disk.honest g.D.Disk.moment g.D.Disk.left c.args.gateway.now c.answer_read.new.gateway (events_in bytes) s.0) same s.3,
+      subst (λ (bytes : List ℕ). ComesBy g.D.Disk.honest g.D.Disk.moment g.D.Disk.left c.args.gateway.now c.answer_read.new.gateway (events_in bytes) (events_in bytes) s.0) same s.4,
     )
 
 pub returns-in-Err-clause-came : goal.returns-in-Err-clause-came
@@ -95,4 +105,5 @@ returns-in-Err-clause-came g c =
       EndsBy-seen c.in-Err.fault c.args.gateway.now.told c.answer_read.new.gateway.told (c.args.waiting.now.unanswered ++ b.0) s.0 (g.P.Peer.ended c.answer_read.new.peer)
           (subst (λ (bytes : List ℕ). EndsBy c.in-Err.fault c.args.gateway.now.told c.answer_read.new.gateway.told bytes s.0 ⊥) same s.2),
       subst (λ (bytes : List ℕ). Fares g.D.Disk.honest g.D.Disk.moment g.D.Disk.left c.args.gateway.now c.answer_read.new.gateway (events_in bytes) s.0) same s.3,
+      subst (λ (bytes : List ℕ). ComesBy g.D.Disk.honest g.D.Disk.moment g.D.Disk.left c.args.gateway.now c.answer_read.new.gateway (events_in bytes) (events_in bytes) s.0) same s.4,
     )

@@ -1,7 +1,8 @@
 use Rattle.std.proofs.Common.{◌≡◌, ◌+◌, [], ◌++◌, ℕ, List, arith, ap, sym, subst, ◌∙◌}
 use Rattle.socket_edge.specs.Exchange.{Exchange}
 use Rattle.socket_edge.specs.Running.{AllAnswered, Answered, EndsBy, Fares, events_in}
-use Rattle.socket_edge.proofs.Talks.{Talked-first, Talked-then, first-nil, told}
+use Rattle.socket_edge.proofs.Stopping.{stops-nil, walked-first, walked-then}
+use Rattle.socket_edge.proofs.Talks.{first-nil, told}
 use Rattle.socket_edge.proofs.Answers.{AnsweredFirst-nothing}
 use Rattle.socket_edge.proofs.Runs.{AllAnswered-then, EndsBy-then, Served-answered, fallen-fares, going-ends, going-first, going-next, going-stops}
 use Rattle.socket_edge.proofs.Tending.{idle-fares}
@@ -18,13 +19,16 @@ returns-then-has_fallen-clause-ran g c = (
   AnsweredFirst-nothing c.args.gateway.now.told (events_in []),
   fallen-fares g.D.Disk.honest g.D.Disk.moment g.D.Disk.left g.D.Disk.failed g.met.D.Disk.earlier c.args.gateway.now (events_in []) (sym c.has_fallen.ensures.value ∙ c.if-has_fallen.true),
   first-nil c.args.gateway.now.told,
+  stops-nil g.D.Disk.honest g.D.Disk.moment g.D.Disk.left g.met.D.Disk.earlier g.P.Peer.went c.args.gateway.now c.args.gateway.now
+      (fallen-fares g.D.Disk.honest g.D.Disk.moment g.D.Disk.left g.D.Disk.failed g.met.D.Disk.earlier c.args.gateway.now (events_in []) (sym c.has_fallen.ensures.value ∙ c.if-has_fallen.true)),
 )
 
 pub loop-init : goal.loop-init
 loop-init g c = (
   [],
   [],
-  Talked-first g.P.Peer.went g.met.P.Peer.still c.args.gateway.now.told c.args.peer.now,
+  walked-first g.D.Disk.honest g.D.Disk.moment g.D.Disk.left g.met.D.Disk.earlier g.P.Peer.went g.met.P.Peer.still c.args.gateway.now c.args.peer.now
+      (idle-fares g.D.Disk.honest g.D.Disk.moment g.D.Disk.left g.D.Disk.seen g.D.Disk.failed g.met.D.Disk.reads g.met.D.Disk.earlier c.args.gateway.now c.stands.ensures (events_in [])),
   rw c.new-waiting.ensures (going-first g.D.Disk.honest g.D.Disk.moment g.D.Disk.left g.D.Disk.failed g.met.D.Disk.earlier c.args.gateway.now c.stands.ensures),
   ap (λ (x : Exchange). x.answered) c.new-waiting.ensures,
 )
@@ -34,7 +38,9 @@ returns-in-Ok-End-clause-ran g c =
     let i = c.loop.invariant in
     let t = rw c.in-Ok-End.field-0-is at c.in-Ok-End.ensures.came in
     let at_end = g.P.Peer.ended c.read_once.new.peer in
-    let k = Talked-then g.P.Peer.went g.met.P.Peer.further c.args.gateway.now.told c.args.peer.now c.loop.peer c.read_once.new.peer i.0 i.1 t.0 t.1 i.2 (c.loop.gateway.told, Served-answered c.args.gateway.now.told c.loop.gateway.told i.0 c.loop.waiting.unanswered i.1 c.loop.count i.3.served) t.2 in
+    let w = walked-then g.D.Disk.honest g.D.Disk.moment g.D.Disk.left g.met.D.Disk.earlier g.P.Peer.went g.D.Disk.failed g.met.P.Peer.further c.events_are_judged_once.ensures c.args.gateway.now c.loop.gateway c.read_once.new.gateway c.args.peer.now c.loop.peer c.read_once.new.peer
+    i.0 i.1 t.0 t.1 c.loop.waiting.unanswered c.loop.count i.2 i.3 t.4 t.5 t.2 in
+    let k = w.talked in
     let so = told g.P.Peer.went c.args.gateway.now.told c.args.peer.now c.read_once.new.peer (i.0 ++ t.0) (i.1 ++ t.1) k in (
       k.turns,
       k.goes,
@@ -44,6 +50,7 @@ returns-in-Ok-End-clause-ran g c =
       so (λ (x y : List ℕ). Fares g.D.Disk.honest g.D.Disk.moment g.D.Disk.left c.args.gateway.now c.read_once.new.gateway (events_in x) y)
           (going-ends g.D.Disk.honest g.D.Disk.moment g.D.Disk.left g.D.Disk.failed g.met.D.Disk.earlier c.args.gateway.now c.loop.gateway c.read_once.new.gateway i.0 c.loop.waiting.unanswered t.0 i.1 t.1 c.loop.count i.3 t.4),
       k.first,
+      w.stops,
     )
 
 pub returns-in-Err-clause-ran : goal.returns-in-Err-clause-ran
@@ -51,7 +58,9 @@ returns-in-Err-clause-ran g c =
     let i = c.loop.invariant in
     let t = c.in-Err.ensures.came in
     let at_end = g.P.Peer.ended c.read_once.new.peer in
-    let k = Talked-then g.P.Peer.went g.met.P.Peer.further c.args.gateway.now.told c.args.peer.now c.loop.peer c.read_once.new.peer i.0 i.1 t.0 t.1 i.2 (c.loop.gateway.told, Served-answered c.args.gateway.now.told c.loop.gateway.told i.0 c.loop.waiting.unanswered i.1 c.loop.count i.3.served) t.2 in
+    let w = walked-then g.D.Disk.honest g.D.Disk.moment g.D.Disk.left g.met.D.Disk.earlier g.P.Peer.went g.D.Disk.failed g.met.P.Peer.further c.events_are_judged_once.ensures c.args.gateway.now c.loop.gateway c.read_once.new.gateway c.args.peer.now c.loop.peer c.read_once.new.peer
+    i.0 i.1 t.0 t.1 c.loop.waiting.unanswered c.loop.count i.2 i.3 t.4 t.5 t.2 in
+    let k = w.talked in
     let so = told g.P.Peer.went c.args.gateway.now.told c.args.peer.now c.read_once.new.peer (i.0 ++ t.0) (i.1 ++ t.1) k in (
       k.turns,
       k.goes,
@@ -60,6 +69,7 @@ returns-in-Err-clause-ran g c =
       so (λ (x y : List ℕ). Fares g.D.Disk.honest g.D.Disk.moment g.D.Disk.left c.args.gateway.now c.read_once.new.gateway (events_in x) y)
           (going-ends g.D.Disk.honest g.D.Disk.moment g.D.Disk.left g.D.Disk.failed g.met.D.Disk.earlier c.args.gateway.now c.loop.gateway c.read_once.new.gateway i.0 c.loop.waiting.unanswered t.0 i.1 t.1 c.loop.count i.3 t.4),
       k.first,
+      w.stops,
     )
 
 pub loop-preserved : goal.loop-preserved
@@ -68,7 +78,8 @@ loop-preserved g c =
     let t = rw c.in-Ok-More.field-0-is at c.in-Ok-More.ensures.came in (
       i.0 ++ t.0,
       i.1 ++ t.1,
-      Talked-then g.P.Peer.went g.met.P.Peer.further c.args.gateway.now.told c.args.peer.now c.loop.peer c.read_once.new.peer i.0 i.1 t.0 t.1 i.2 (c.loop.gateway.told, Served-answered c.args.gateway.now.told c.loop.gateway.told i.0 c.loop.waiting.unanswered i.1 c.loop.count i.3.served) t.2,
+      walked-then g.D.Disk.honest g.D.Disk.moment g.D.Disk.left g.met.D.Disk.earlier g.P.Peer.went g.D.Disk.failed g.met.P.Peer.further c.events_are_judged_once.ensures c.args.gateway.now c.loop.gateway c.read_once.new.gateway c.args.peer.now c.loop.peer c.read_once.new.peer
+          i.0 i.1 t.0 t.1 c.loop.waiting.unanswered c.loop.count i.2 i.3 t.4 t.5 t.2,
       rw c.sum-count.ensures (going-next g.D.Disk.honest g.D.Disk.moment g.D.Disk.left g.D.Disk.failed g.met.D.Disk.earlier c.args.gateway.now c.loop.gateway c.read_once.new.gateway i.0 c.loop.waiting.unanswered t.0 c.read_once.new.waiting.unanswered i.1 t.1 c.loop.count c.in-Ok-More.more i.3 t.3 t.4
           c.in-Ok-More.ensures.stands c.in-Ok-More.ensures.no_failure (c.in-Ok-More.ensures.grown (λ is. absurd cc))),
       c.in-Ok-More.ensures.sent,
@@ -77,12 +88,14 @@ loop-preserved g c =
 pub returns-clause-ran : goal.returns-clause-ran
 returns-clause-ran g c =
     let i = c.loop.invariant in
-    let so = told g.P.Peer.went c.args.gateway.now.told c.args.peer.now c.loop.peer i.0 i.1 i.2 in (
-      i.2.turns,
-      i.2.goes,
+    let k = i.2.talked in
+    let so = told g.P.Peer.went c.args.gateway.now.told c.args.peer.now c.loop.peer i.0 i.1 k in (
+      k.turns,
+      k.goes,
       so (λ (x y : List ℕ). Answered c.args.gateway.now.told c.loop.gateway.told x y)
           (Served-answered c.args.gateway.now.told c.loop.gateway.told i.0 c.loop.waiting.unanswered i.1 c.loop.count i.3.served),
       so (λ (x y : List ℕ). Fares g.D.Disk.honest g.D.Disk.moment g.D.Disk.left c.args.gateway.now c.loop.gateway (events_in x) y)
           (going-stops g.D.Disk.honest g.D.Disk.moment g.D.Disk.left g.D.Disk.failed g.met.D.Disk.earlier c.args.gateway.now c.loop.gateway i.0 c.loop.waiting.unanswered i.1 c.loop.count i.3 (idle-fares g.D.Disk.honest g.D.Disk.moment g.D.Disk.left g.D.Disk.seen g.D.Disk.failed g.met.D.Disk.reads g.met.D.Disk.earlier c.loop.gateway c.stands-2.ensures)),
-      i.2.first,
+      k.first,
+      i.2.stops,
     )

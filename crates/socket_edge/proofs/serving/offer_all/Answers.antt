@@ -1,4 +1,4 @@
-use Rattle.std.proofs.Common.{◌+◌, ◌<◌, [], ◌++◌, List, ℕ, length, ap, sym, subst, refl, ◌∙◌, append_assoc, arith}
+use Rattle.std.proofs.Common.{◌+◌, ◌<◌, ◌≤◌, [], ◌++◌, List, ℕ, length, ap, sym, subst, refl, ◌∙◌, append_assoc, arith}
 use Rattle.std.proofs.lemmas.Grind.{common_steps}
 use Rattle.std.proofs.lemmas.List.{append-nil}
 use Rattle.machine.specs.declared.event.Answer.{Answer}
@@ -19,6 +19,7 @@ loop-hopeful-init g c = (
   ap length c.unanswered-most.ensures,
   tt,
   λ some. absurd (some refl),
+  omega arith,
 )
 
 pub loop-hopeful-preserved : goal.loop-hopeful-preserved
@@ -26,6 +27,9 @@ loop-hopeful-preserved g c =
     let i = c.loop-hopeful.invariant in
     let t = c.in-Took.ensures.step in
     let items = c.offer_next.new.answers.items in
+    let was = i.8 in
+    let now = c.misses_behind-misses.ensures in
+    let fewer : c.misses_behind-misses.result ≤ c.loop-hopeful.count + 1 = omega (arith, was, now) in
     let on = SoFar-next g.D.Disk.honest g.D.Disk.moment g.D.Disk.left g.D.Disk.failed c.args.gateway.now c.loop-hopeful.gateway c.offer_next.new.gateway c.args.waiting.now.unanswered c.loop-hopeful.waiting.unanswered c.offer_next.new.waiting.unanswered
     c.loop-hopeful.count c.args.answers.now.items (i.0 ++ c.loop-hopeful.answers.items) (i.0 ++ (t.0 ++ items)) c.in-Took.leaves c.in-Took.now_held_from i.2 (t.2 i.0) in (
       i.0 ++ t.0,
@@ -37,6 +41,7 @@ loop-hopeful-preserved g c =
       i.5,
       c.in-Took.ensures.held,
       c.in-Took.ensures.alone,
+      fewer,
     )
 
 pub prove-unreachable-requires : goal.prove-unreachable-requires

@@ -11,7 +11,7 @@ invariant-loop-hopeful g l =
     (handed : List (ℕ × Answer)) × (released l.held_from l.waiting.answered ≡ l.fn.waiting.answered ++ flat_map frame handed)
     × SoFar g.D.Disk.honest g.D.Disk.moment g.D.Disk.left g.D.Disk.failed l.fn.gateway l.gateway l.fn.waiting.unanswered l.waiting.unanswered l.count l.fn.answers.items (handed ++ l.answers.items)
     × (l.gateway.fallen ≡ false) × (vec_len l.answers + length l.gateway.told.held ≤ vec_capacity l.answers) × (l.most ≡ length l.fn.waiting.unanswered)
-    × AreHeld l.held_from l.waiting.answered l.gateway × (l.held_from ≢ None → (l.answers.items ≡ []) × (64 ≤ vec_capacity l.answers))
+    × AreHeld l.held_from l.waiting.answered l.gateway × (l.held_from ≢ None → (l.answers.items ≡ []) × (64 ≤ vec_capacity l.answers)) × (l.misses ≤ l.count)
 
 abbrev pub decreases-loop-hopeful : goal.decreases-loop-hopeful
 decreases-loop-hopeful g l = length l.waiting.unanswered
