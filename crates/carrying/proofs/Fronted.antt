@@ -1,11 +1,10 @@
 -- A front of bytes reads as a front of the events.
-use Rattle.std.proofs.Common.{◌≡◌, ℕ, suc, zero, ◌+◌, ◌<◌, ◌≤◌, List, [], ◌∷◌, ◌++◌, length, refl, sym, ap, ◌∙◌, arith, append_assoc}
-use Rattle.std.proofs.lemmas.List.{nil_from_length}
+use Rattle.std.proofs.Common.{◌≡◌, ℕ, suc, zero, ◌≤◌, List, [], ◌∷◌, ◌++◌, length, refl, sym, ap, ◌∙◌, arith, append_assoc}
 use Rattle.disk_model.specs.Disk.{Files}
 use Rattle.machine.specs.declared.event.Event.{Event}
 use Rattle.frames.specs.Framing.{EventsAndRest, whole_frames}
 use Rattle.frames.specs.Requests.{Next, Whole, Cut, Bad, next}
-use Rattle.frames.proofs.Frames.{framed_whole, framed_cut, framed_bad, next_nil}
+use Rattle.frames.proofs.Frames.{framed_whole, framed_cut, framed_bad}
 use Rattle.frames.proofs.Fronts.{next_more, next_shorter}
 use Rattle.gateway.specs.Kept.{Kept}
 use Rattle.socket_edge.specs.Running.{Fares, events_in}

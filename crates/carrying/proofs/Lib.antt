@@ -3,3 +3,7 @@ mod Handed
 mod Fronted
 mod Settled
 mod Joined
+mod Stopping
+mod Going
+mod Lives
+mod Noted

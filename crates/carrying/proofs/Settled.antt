@@ -1,5 +1,5 @@
 -- What a turn comes to.
-use Rattle.std.proofs.Common.{◌≡◌, ℕ, ◌≤◌, List, [], ◌++◌, length, Option, sym, ap, subst, ◌∙◌, arith}
+use Rattle.std.proofs.Common.{◌≡◌, ℕ, ◌≤◌, List, [], ◌++◌, length, sym, ap, subst, ◌∙◌, arith}
 use Rattle.std.specs.List.{flat_map, AllByRecursion}
 use Rattle.disk_model.specs.Disk.{Files}
 use Rattle.packet.specs.declared.endpoint.Iface.TheVariants.{Lan, Wan}

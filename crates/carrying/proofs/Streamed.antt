@@ -1,5 +1,5 @@
 -- The requests of a turn are the frames of its events.
-use Rattle.std.proofs.Common.{◌≡◌, ℕ, ◌+◌, ◌<◌, ◌≤◌, ◌^◌, Bool, true, false, ltb, leb, cond, List, [], ◌∷◌, ◌++◌, length, take, drop, map, Option, None, Some, Bor, refl, sym, ap, ◌∙◌, arith, append_assoc, inl, length-drop}
+use Rattle.std.proofs.Common.{◌≡◌, ℕ, ◌<◌, ◌≤◌, ◌^◌, Bool, true, false, ltb, leb, cond, List, [], ◌∷◌, ◌++◌, length, take, map, Option, None, Some, Bor, refl, sym, ap, ◌∙◌, arith, append_assoc, inl, length-drop}
 use Rattle.std.specs.Prelude.{IfNone, IfSome, MatchOption}
 use Rattle.std.specs.List.{flat_map, AllByRecursion}
 use Rattle.std.proofs.lemmas.Bool.{ltb-true, ltb-false, leb-true, leb-false}
@@ -11,7 +11,7 @@ use Rattle.machine.specs.Machine.{later}
 use Rattle.machine.specs.declared.event.Event.{Event}
 use Rattle.machine.specs.declared.event.What.TheVariants as what
 use Rattle.frames.specs.Framing.{Rest, whole_frames}
-use Rattle.frames.specs.Streams.{FitsFrame, IsStream, request as framed}
+use Rattle.frames.specs.Streams.{FitsFrame, request as framed}
 use Rattle.frames.proofs.Composed.{stream_reads}
 use Rattle.from_devices.specs.Requests.{Gathered, IsPacket, begun, packet_request, request, with_load}
 use Rattle.carrying.specs.Turns.{Turn, events_of, gathered, headers_of, load, packet_at, tick, tick_headers, load_headers, with_text}

@@ -1,3 +1,6 @@
+pub mod Asking
 pub mod Turns
 pub mod Carried
 pub mod Runs
+pub mod Lives
+pub mod Noting

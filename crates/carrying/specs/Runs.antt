@@ -1,18 +1,21 @@
 -- Turns one after the other.
-use Rattle.std.specs.Prelude.{◌≡◌, ℕ, List, [], ◌∷◌, ◌++◌, Result, Ok, Err, ⊤}
-use Rattle.std.specs.List.{AllByRecursion, flat_map}
-use Rattle.disk_model.specs.Disk.{Files}
+use Rattle.std.specs.Prelude.{◌≡◌, ◌⊎◌, ℕ, ◌-◌, ◌^◌, List, [], ◌∷◌, ◌++◌, length, map, Result, Ok, Err}
+use Rattle.std.specs.List.{flat_map}
+use Rattle.disk_model.specs.Disk.{Files, LeavesOnly}
 use Rattle.packet.specs.declared.endpoint.Iface.TheVariants.{Lan, Wan}
 use Rattle.devices.specs.Handing.{Frames, Gives, Hands}
+use Rattle.durable.specs.Recovery.{IsConfigured}
 use Rattle.frames.specs.Answers.{frames}
-use Rattle.from_devices.specs.Requests.{IsPacket}
-use Rattle.gateway.specs.Kept.{Kept}
+use Rattle.gateway.specs.Kept.{Kept, IsAtRest, IsSafe}
 use Rattle.gateway.specs.Told.{TookAll}
+use Rattle.machine.specs.Judged.{Judged, AreJudged}
 use Rattle.machine.specs.Machine.{later}
 use Rattle.machine.specs.declared.event.Answer.{Answer}
 use Rattle.machine.specs.declared.event.Event.{Event}
 use Rattle.socket_edge.specs.declared.fault.EdgeFault.{EdgeFault}
+use Rattle.socket_edge.specs.Progress.{replies}
 use Rattle.socket_edge.specs.Running.{Fares}
+use Rattle.carrying.specs.Asking.{Asked, Asks, AsksFor, IsOver}
 use Rattle.carrying.specs.Carried.{handed_to}
 use Rattle.carrying.specs.Turns.{Turn, events_of, headers_of}
 
@@ -36,26 +39,72 @@ from_lan turns = flat_map (λ (turn : Turn). turn.lan) turns
 abbrev pub from_wan : List Turn → List (List ℕ)
 from_wan turns = flat_map (λ (turn : Turn). turn.wan) turns
 
--- one turn at most, and none of a run that ended well
-abbrev pub AtMostOne : Result (Unit {0}) EdgeFault → List Turn → Type 0
-AtMostOne (Ok done) turns = turns ≡ []
-AtMostOne (Err fault) [] = ⊤
-AtMostOne (Err fault) (turn ∷ []) = ⊤
-AtMostOne (Err fault) (turn ∷ other ∷ turns) = ⊥
+-- what they were asked for by
+abbrev pub asked_of : Turn → Asked
+asked_of turn = record { moment = turn.moment; text = turn.text }
+
+-- A run that ended well did so as nothing more was asked for, or behind as many turns as there can be. In any other one
+-- a turn failed, the last one.
+abbrev pub EndsBy : Result (Unit {0}) EdgeFault → List Turn → List Turn → Asks → Type 0
+EndsBy (Ok done) turns failed asks = (failed ≡ []) × (IsOver asks ⊎ (length turns ≡ 2 ^ 64 - 1))
+EndsBy (Err fault) turns failed asks = length failed ≡ 1
+
+-- a device was handed these first, and more behind them
+abbrev pub HandsFirst : Frames → Frames → List (List ℕ) → Type 0
+HandsFirst old new first = (now : Frames) × Hands old now first
+    × ((more : List (List ℕ)) × Hands now new more)
 
 module _ {D : Type 0} (honest : D → Type 0) (moment : D → ℕ) (left : D → ℕ → Files → Type 0)
     (old new : Kept D) where
-  -- The devices gave what came in these turns, one behind the other, and in the one that failed, if any. They were
-  -- handed what the answers to the events of these say, and nothing else. The answers are numbered on, and their frames
-  -- are the first of what the files fare by: whatever a crash leaves holds each event whose packet was handed on.
-  pub record Ran (ended : Result (Unit {0}) EdgeFault) (last : ℕ)
+  -- A crash since the gateway was `now`, within the run, leaves what the model has after a beginning of the events that
+  -- were taken, which holds each event of these answers. They are the first of the model's.
+  pub record Keeps (now : Kept D) (events : List Event)
+      (answered : List (ℕ × Answer)) : Type 0 where
+    pub front : List Event
+    pub back : List Event
+    pub split : events ≡ front ++ back
+    pub judged : List Judged
+    pub are_judged : AreJudged old.told.config front judged
+    pub first : (more : List (ℕ × Answer)) × (answered ++ more ≡ replies old.told judged)
+    pub since : LeavesOnly moment left now.disk new.disk
+        (IsSafe old.told.config old.told.state front (length answered))
+    pub configured : LeavesOnly moment left now.disk new.disk (IsConfigured old.told.config)
+
+  -- The run came by a gateway `now` that had taken the events of these turns, the first of the run, and held nothing.
+  -- Up to it the files fare as in a run that ends there. What its answers say is the first of what the devices were
+  -- handed. Of an honest disk, where nothing was held at the entry, no crash since then loses one of these events.
+  pub record ComesBy (last : ℕ) (before : List Turn) (events : List Event)
+      (lan lan' wan wan' : Frames) : Type 0 where
+    pub now : Kept D
+    pub answered : List (ℕ × Answer)
+    pub took : TookAll old.told now.told (all_events last before) answered
+    pub none : now.told.held ≡ []
+    pub until : Fares honest moment left old now (all_events last before) (frames answered)
+    pub to_lan : HandsFirst lan lan' (handed_to Lan (all_headers last before) answered)
+    pub to_wan : HandsFirst wan wan' (handed_to Wan (all_headers last before) answered)
+    pub since : IsAtRest honest old → Keeps now events answered
+
+  -- behind each beginning of these turns
+  abbrev pub AtEachTurn : ℕ → List Turn → List Event → Frames → Frames → Frames → Frames → Type 0
+  AtEachTurn last turns events lan lan' wan wan' = (before after : List Turn)
+      → turns ≡ before ++ after → ComesBy last before events lan lan' wan wan'
+
+  -- These turns, and then the one that failed, if any, were asked for, in this order. The devices gave what came in
+  -- them, one behind the other. They were handed what the answers to the events of the turns that didn't fail say, and
+  -- nothing else. The answers are numbered on, and their frames are the first of what the files fare by: whatever a
+  -- crash leaves at the exit holds each event whose packet was handed on. A crash in the midst leaves what holds the
+  -- events of each turn that the run had come by.
+  pub record Ran (ended : Result (Unit {0}) EdgeFault) (last : ℕ) (asks asks' : Asks)
       (lan lan' wan wan' : Frames) (lan_handed lan_handed' wan_handed wan_handed' : Frames) : Type 0 where
     pub turns : List Turn
     pub failed : List Turn
-    pub one : AtMostOne ended failed
+    pub asked : AsksFor asks asks' (map asked_of (turns ++ failed))
+    pub ends : EndsBy ended turns failed asks'
     pub gave_lan : Gives lan lan' (from_lan (turns ++ failed))
     pub gave_wan : Gives wan wan' (from_wan (turns ++ failed))
+    -- the gateway behind the turns that didn't fail
     pub settled : Kept D
+    pub stays : failed ≡ [] → settled ≡ new
     pub answered : List (ℕ × Answer)
     pub took : TookAll old.told settled.told (all_events last turns) answered
     pub none : settled.told.held ≡ []
@@ -64,3 +113,5 @@ module _ {D : Type 0} (honest : D → Type 0) (moment : D → ℕ) (left : D →
     pub more : List ℕ
     pub fares : Fares honest moment left old new (all_events last (turns ++ failed))
         (frames answered ++ more)
+    pub stops : AtEachTurn last turns (all_events last (turns ++ failed)) lan_handed lan_handed'
+        wan_handed wan_handed'

@@ -3,17 +3,20 @@ ghost use Rattle.std.specs.Prelude.{◌≡◌, ◌≤◌, ◌<◌, ◌^◌, ◌+
 ghost use Rattle.from_devices.specs.Requests.{begun, with_load};
 ghost use Rattle.machine.specs.Machine.{later};
 ghost use Rattle.socket_edge.specs.Running.{Answered, Explains, Fares, events_in};
+ghost use Rattle.carrying.specs.Asking.{text_of};
 ghost use Rattle.carrying.specs.Carried.{Turned};
 ghost use Rattle.carrying.specs.Runs.{Ran};
 ghost use Rattle.carrying.specs.Turns.{Gave, Turn, events_of, gathered, headers_of};
 
 use crate::between::Between;
+use crate::drops::{Dropped, Drops};
 use crate::pace::{Beat, Pace};
 use devices::Device;
 use disk_model::Disk;
 use from_devices::{FromDevices, MOST_BYTES};
 use gateway::Gateway;
 use gateway::running::stands;
+use machine::laws::events_are_judged_once;
 use packet::Iface;
 use socket_edge::EdgeFault;
 use std::alloc::{AllocError, Global};
@@ -30,6 +33,7 @@ pub struct Carrier {
     from: FromDevices,
     to: ToDevices,
     counts: Counts,
+    drops: Drops,
 }
 
 impl Model for Carrier {
@@ -103,9 +107,15 @@ fn answer<D: Disk + Drop>(
     }
 }
 
+// Notes which packets of a turn were dropped.
+fn note(drops: &mut Drops, from: &FromDevices, to: &ToDevices) {
+    drops.note(from.moment(), from.requests(), to.answers());
+}
+
 impl Carrier {
-    /// Carries nothing yet. No moment will be before this one, in seconds.
-    pub fn new(alloc: Global, moment: u64) -> Result<Carrier, AllocError>
+    /// Carries nothing yet. No moment will be before this one, in seconds. Of each moment at most so many dropped packets
+    /// are noted.
+    pub fn new(alloc: Global, moment: u64, most_noted: u64) -> Result<Carrier, AllocError>
         ensures { IfOk result (λ carrier. carrier ≡ moment) }
     {
         Ok(Carrier {
@@ -113,12 +123,18 @@ impl Carrier {
             from: FromDevices::new(alloc, moment)?,
             to: ToDevices::new(alloc)?,
             counts: Counts::none(),
+            drops: Drops::new(alloc, most_noted)?,
         })
     }
 
     /// How many packets there were.
     pub fn counts(&self) -> &Counts {
         &self.counts
+    }
+
+    /// The packets of the last turn that were dropped, as far as they are noted.
+    pub fn dropped(&self) -> &[Dropped] {
+        self.drops.noted()
     }
 
     /// One turn. A moment later than all before is told to the gateway, in seconds; an earlier one counts as the latest.
@@ -159,6 +175,7 @@ impl Carrier {
             Ok(()) => {}
             Err(fault) => return Err(fault),
         }
+        note(&mut self.drops, &self.from, &self.to);
         let Between { lan, wan } = devices;
         self.to
             .let_out(self.from.headers(), wan_from, lan, wan, &mut self.counts);
@@ -175,6 +192,7 @@ impl Carrier {
         requires stands { gateway.old.fallen ≡ false }
         requires none { gateway.old.told.held ≡ [] }
         ensures turned { (turn : Turn) × (turn.moment ≡ beat.now.moment)
+            × (turn.text ≡ text_of beat.now.text)
             × Gave turn (L.coming devices.old.lan) (L.coming devices.new.lan)
             (W.coming devices.old.wan) (W.coming devices.new.wan)
             × Turned D.honest D.moment D.left gateway.old gateway.new result
@@ -190,7 +208,8 @@ impl Carrier {
         }
     }
 
-    /// Turns one after the other, each when it is to be, until there is to be none.
+    /// The turns that the pace asks for, one after the other, each when it is to be, until none is asked for. If this
+    /// is stopped in its midst, no event of the turns before is lost.
     ///
     /// # Errors
     ///
@@ -203,16 +222,19 @@ impl Carrier {
     ) -> Result<(), EdgeFault>
         requires stands { gateway.old.fallen ≡ false }
         requires none { gateway.old.told.held ≡ [] }
-        // All that came from the devices, and all that went to them.
+        // By which turns it went, all that came from the devices in them, and all that went to these; and what a stop
+        // leaves, also one in the midst.
         ensures ran { Ran D.honest D.moment D.left gateway.old gateway.new result self.old
+            (P.asks pace.old) (P.asks pace.new)
             (L.coming devices.old.lan) (L.coming devices.new.lan)
             (W.coming devices.old.wan) (W.coming devices.new.wan)
             (L.handed devices.old.lan) (L.handed devices.new.lan)
             (W.handed devices.old.wan) (W.handed devices.new.wan) }
     {
         stands(gateway);
-        for _ in 0..u64::MAX {
-            let Some(beat) = pace.next(devices, &self.counts) else {
+        events_are_judged_once();
+        for _turn in 0..u64::MAX {
+            let Some(beat) = pace.next(devices, &self.counts, self.drops.noted()) else {
                 return Ok(());
             };
             match self.turn_at(&beat, devices, gateway) {

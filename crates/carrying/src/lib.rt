@@ -6,13 +6,18 @@
 //!
 //! - `carrier`: `Carrier`, the turn and the run;
 //! - `between`: the two devices;
-//! - `pace`: when a turn is to be.
+//! - `pace`: when a turn is to be;
+//! - `drops`: which packets were dropped, at most so many of each moment;
+//! - `laws`: what follows of a run that is stopped.
 #![tactic(auto)]
 
 mod between;
 mod carrier;
+mod drops;
+pub mod laws;
 mod pace;
 
 pub use between::Between;
 pub use carrier::Carrier;
+pub use drops::{Dropped, Drops};
 pub use pace::{Beat, Pace};

@@ -1,8 +1,10 @@
 //! What turns go by.
 ghost use Rattle.std.specs.Option.{ForSome};
-ghost use Rattle.std.specs.Prelude.{◌≡◌, ◌≤◌, length};
+ghost use Rattle.std.specs.Prelude.{◌≡◌, ◌≤◌, ◌∷◌, [], List, Option, None, IfNone, IfSome, length};
+ghost use Rattle.carrying.specs.Asking.{Asked, AsksFor, IsOver, asked_by};
 
 use crate::between::Between;
+use crate::drops::Dropped;
 use devices::Device;
 use to_devices::Counts;
 
@@ -16,11 +18,23 @@ pub struct Beat {
     ghost short: { ForSome text (λ bytes. length bytes.items ≤ 262144) },
 }
 
-/// Waits for the devices, and tells when a turn is to be. How long it waits, and what it does meanwhile, is its own
-/// part: it takes no packet from a device, and hands none to it.
+/// Waits for the devices, and asks for turns, each when it is to be. How long it waits, and what it does meanwhile, is
+/// its own part: it takes no packet from a device, and hands none to it.
 pub trait Pace<L: Device, W: Device> {
-    /// Waits, and tells the next turn; `None` ends the run.
-    fn next(&mut self, devices: &mut Between<L, W>, counts: &Counts) -> Option<Beat>
+    /// The turns that it asks for from here on, where that is known.
+    ghost asks: { Self → Option (List Asked) } = { λ _. None };
+
+    /// Waits, and asks for the next turn; `None` ends the run. It is told how many packets there were, and of those of
+    /// the turn before that were dropped.
+    fn next(
+        &mut self,
+        devices: &mut Between<L, W>,
+        counts: &Counts,
+        dropped: &[Dropped],
+    ) -> Option<Beat>
+        ensures asked { IfSome result (λ beat. AsksFor (asks self.old) (asks self.new)
+            (asked_by beat.moment beat.text ∷ [])) }
+        ensures over { IfNone result (IsOver (asks self.old) × (asks self.new ≡ asks self.old)) }
         ensures from_lan { L.coming devices.new.lan ≡ L.coming devices.old.lan }
         ensures from_wan { W.coming devices.new.wan ≡ W.coming devices.old.wan }
         ensures to_lan { L.handed devices.new.lan ≡ L.handed devices.old.lan }

@@ -73,6 +73,13 @@ const OWN: &[Argument] = &[
         default: Some("natgw.prom"),
         help: "The file of the counts, for Prometheus' node exporter",
     },
+    Argument {
+        name: "log-drops",
+        form: Form::Number,
+        value: "N",
+        default: Some("0"),
+        help: "Of at most so many dropped packets a second, a line each on standard error",
+    },
 ];
 
 const DEVICES: &str = "\
@@ -84,6 +91,10 @@ What isn't such a descriptor is refused before any file is opened.
 The ruleset's file is looked at once a second. Standard error says whether it is loaded; a faulty one
 changes nothing. A device that is full or down loses packets, as a link does. natgw ends where a
 device is gone for good, or its own files fail; then it tells the counts.
+
+With --log-drops a line says of a dropped packet the moment in seconds, the cause, the side that it
+came from, protocol, source, destination and flags of TCP; - is what isn't known:
+  dropped 1764525848 NoSession wan tcp 198.51.100.7:443 203.0.113.1:40000 syn,ack
 
 Example: makes both devices, and starts natgw as a user without any power.
   adapters/with-tuns --lan-netns lan --user natgw -- natgw tun --dir state --rules rules.nft \\
@@ -116,5 +127,6 @@ pub(crate) fn read_tunnel<'a>(
         descriptors: read_descriptors(matches),
         rules: matches.get_str("rules").unwrap_or(""),
         report: read_report(matches),
+        log_drops: matches.get_one::<u64>("log-drops").unwrap_or(0),
     }
 }

@@ -14,6 +14,8 @@ pub struct Tunnel<'a> {
     pub rules: &'a str,
     /// What is told of the counts.
     pub report: Report<'a>,
+    /// Of so many dropped packets a second a line is written.
+    pub log_drops: u64,
 }
 
 /// The descriptors of the two devices.

@@ -2,8 +2,9 @@
 ghost use Rattle.std.specs.Prelude.{◌≡◌, [], IfSome, false};
 
 use crate::Memory;
-use carrying::{Between, Carrier};
+use carrying::{Between, Carrier, Dropped};
 use devices::NO_HEADER;
+use drop_lines::put_line;
 use gateway::Gateway;
 use packet::{Bounds, Filtering, Prefix};
 use std::alloc::{AllocError, Global};
@@ -32,6 +33,12 @@ const OPEN_ON_WAN: &[u8] = &[
     0x13, 0x88, 0, 0x35, 0, 8, 0x66, 0x56,
 ];
 
+/// SYN and ACK of a connection that nobody opened, from 198.51.100.7:443 to 203.0.113.1:40000.
+const STRAY: &[u8] = &[
+    0x45, 0, 0, 0x28, 0, 1, 0, 0, 0x40, 6, 0x14, 0x93, 0xc6, 0x33, 0x64, 7, 0xcb, 0, 0x71, 1, 1,
+    0xbb, 0x9c, 0x40, 0, 0, 0, 1, 0, 0, 0, 2, 0x50, 0x12, 4, 0, 0xa7, 0x97, 0, 0,
+];
+
 /// Its answer from 198.51.100.7:53, and what it is on lan.
 const BACK: &[u8] = &[
     0x45, 0, 0, 0x1c, 0, 1, 0, 0, 0x40, 0x11, 0x14, 0x94, 0xc6, 0x33, 0x64, 7, 0xcb, 0, 0x71, 1, 0,
@@ -42,6 +49,12 @@ const BACK_ON_LAN: &[u8] = &[
     0x45, 0, 0, 0x1c, 0, 1, 0, 0, 0x3f, 0x11, 0x8f, 0xeb, 0xc6, 0x33, 0x64, 7, 0xc0, 0xa8, 1, 2, 0,
     0x35, 0x13, 0x88, 0, 8, 0, 0x3c,
 ];
+
+/// What is told of a packet of one byte from lan, and of that one.
+const TOLD: &[u8] = b"\
+dropped 1000 Short lan - - - -
+dropped 1000 NoSession wan tcp 198.51.100.7:443 203.0.113.1:40000 syn,ack
+";
 
 // Frames, each a header and a packet.
 fn frames(alloc: Global, parts: &[(&[u8], &[u8])]) -> Result<Vec<Vec<u8>>, AllocError> {
@@ -94,35 +107,75 @@ fn opened(alloc: Global) -> Option<Gateway<Trial>>
     }
 }
 
-// Carries what two devices give in a turn at moment 1000, and drops the rest.
-fn carry(
+// Both devices, of which each gives these.
+fn devices(
     alloc: Global,
     from_lan: &[(&[u8], &[u8])],
     from_wan: &[(&[u8], &[u8])],
-) -> Result<Between<Memory, Memory>, Fail> {
-    let mut devices = Between {
+) -> Result<Between<Memory, Memory>, AllocError> {
+    Ok(Between {
         lan: Memory::new(alloc, frames(alloc, from_lan)?),
         wan: Memory::new(alloc, frames(alloc, from_wan)?),
-    };
-    let mut carrier = Carrier::new(alloc, 0)?;
+    })
+}
+
+// A turn at moment 1000, in which the rules are loaded; whether it went well.
+fn turns(
+    carrier: &mut Carrier,
+    devices: &mut Between<Memory, Memory>,
+    gateway: &mut Gateway<Trial>,
+) -> bool
+    requires stands { gateway.old.fallen ≡ false }
+    requires none { gateway.old.told.held ≡ [] }
+{
+    carrier.turn(1000, Some(RULES), devices, gateway).is_ok()
+}
+
+// The same with a gateway that has nothing yet.
+fn carry(
+    alloc: Global,
+    carrier: &mut Carrier,
+    devices: &mut Between<Memory, Memory>,
+) -> Result<(), Fail> {
     let Some(mut gateway) = opened(alloc) else {
         return Err(Fail::new("no gateway"));
     };
-    let ended = carrier.turn(1000, Some(RULES), &mut devices, &mut gateway);
+    let is_well = turns(carrier, devices, &mut gateway);
     drop(gateway.into_disk());
-    match ended {
-        Ok(()) => Ok(devices),
-        Err(_) => Err(Fail::new("the turn failed")),
+    if is_well {
+        Ok(())
+    } else {
+        Err(Fail::new("the turn failed"))
     }
+}
+
+// The lines of dropped packets, each with its end.
+fn lines(alloc: Global, dropped: &[Dropped]) -> Result<Vec<u8>, AllocError> {
+    let mut lines = Vec::new(alloc);
+    for packet in dropped {
+        let side = if packet.from_wan { "wan" } else { "lan" };
+        put_line(
+            &mut lines,
+            packet.moment,
+            packet.cause,
+            side,
+            packet.packet(),
+        )?;
+        lines.push(b'\n')?;
+    }
+    Ok(lines)
 }
 
 #[test]
 fn out_and_back(rt: HostRuntime) -> Result<(), Fail> {
-    let devices = carry(
-        rt.alloc(),
+    let alloc = rt.alloc();
+    let mut carrier = Carrier::new(alloc, 0, 0)?;
+    let mut devices = devices(
+        alloc,
         &[(&NO_HEADER, OUT), (OPEN, OUT)],
         &[(&NO_HEADER, BACK)],
     )?;
+    carry(alloc, &mut carrier, &mut devices)?;
     assert!(rt;
         are(
             devices.wan.kept(),
@@ -130,5 +183,20 @@ fn out_and_back(rt: HostRuntime) -> Result<(), Fail> {
         )
     );
     assert!(rt; are(devices.lan.kept(), &[(&NO_HEADER, BACK_ON_LAN)]));
+    Ok(())
+}
+
+#[test]
+fn drops_are_told_of(rt: HostRuntime) -> Result<(), Fail> {
+    let alloc = rt.alloc();
+    let mut carrier = Carrier::new(alloc, 0, 2)?;
+    let mut devices = devices(
+        alloc,
+        &[(&NO_HEADER, b"\x45"), (&NO_HEADER, OUT)],
+        &[(&NO_HEADER, STRAY), (&NO_HEADER, STRAY)],
+    )?;
+    carry(alloc, &mut carrier, &mut devices)?;
+    let told = lines(alloc, carrier.dropped())?;
+    assert!(rt; told.as_slice() == TOLD);
     Ok(())
 }

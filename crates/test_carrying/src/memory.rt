@@ -1,5 +1,6 @@
 //! A device in memory.
-ghost use Rattle.std.specs.Prelude.{◌≡◌, [], IfOk, Some};
+ghost use Rattle.std.specs.Prelude.{◌≡◌, ◌∷◌, ◌++◌, [], OnOk};
+ghost use Rattle.test_carrying.specs.Contents.{bodies_of};
 
 use devices::{Device, HEADER, LONGEST_FRAME};
 use std::alloc::{AllocError, Global};
@@ -32,12 +33,16 @@ impl Memory {
     pub fn kept(&self) -> &[Vec<u8>] {
         self.kept.as_slice()
     }
+}
 
-    // Keeps a frame.
-    fn keep(&mut self, frame: &[u8]) -> Result<(), AllocError> {
-        self.kept.push(Vec::from_slice(self.alloc, frame)?)?;
-        Ok(())
-    }
+// Keeps a frame behind the others.
+fn keep(alloc: Global, kept: &mut Vec<Vec<u8>>, frame: &[u8]) -> Result<(), AllocError>
+    ensures { OnOk result (bodies_of kept.new.items
+        ≡ bodies_of kept.old.items ++ frame.now ∷ []) }
+{
+    let frame = Vec::from_slice(alloc, frame)?;
+    kept.push(frame)?;
+    Ok(())
 }
 
 impl Device for Memory {
@@ -63,7 +68,7 @@ impl Device for Memory {
     }
 
     fn send(&mut self, frame: &[u8]) -> bool {
-        if self.keep(frame).is_err() {
+        if keep(self.alloc, &mut self.kept, frame).is_err() {
             self.forgot = true;
         }
         !self.forgot

@@ -6,20 +6,35 @@ ghost use Rattle.std.specs.Prelude.{◌≤◌, IfOk, length};
 use crate::clock::Clock;
 use crate::report::write_file;
 use crate::rules::{Rules, judge};
-use carrying::{Beat, Between, Pace};
+use carrying::{Beat, Between, Dropped, Pace};
 use checking::bounds;
 use devices::{Readiness, Tun, wait};
+use drop_lines::put_line;
 use from_devices::LONGEST_TEXT;
 use options::{Report, Tunnel};
 use packet::Bounds;
 use refusals::{Refusal, Stop};
-use std::alloc::Global;
+use std::alloc::{AllocError, Global};
 use std::fs::Files;
 use std::io::Eprint;
 use to_devices::Counts;
 
 /// The longest wait for a packet, in milliseconds.
 const LONGEST_WAIT: u16 = 500;
+
+// The line of a dropped packet, without its end.
+fn drop_line(alloc: Global, dropped: &Dropped) -> Result<Vec<u8>, AllocError> {
+    let mut line = Vec::new(alloc);
+    let side = if dropped.from_wan { "wan" } else { "lan" };
+    put_line(
+        &mut line,
+        dropped.moment,
+        dropped.cause,
+        side,
+        dropped.packet(),
+    )?;
+    Ok(line)
+}
 
 /// The clock, the ruleset's file, and the report that is due.
 #[derive(Drop)]
@@ -79,6 +94,15 @@ impl<'a, R: Files + Eprint> Chores<'a, R> {
     // Tells a line on standard error. Where that takes no more it is lost, and the work goes on.
     fn tell(&self, line: &str) {
         let _ = eprintln!(self.rt; "{line}");
+    }
+
+    // Tells of dropped packets, of each in a line. One that has no memory is lost.
+    fn tell_drops(&self, dropped: &[Dropped]) {
+        for packet in dropped {
+            if let Ok(line) = drop_line(self.alloc, packet) {
+                self.tell(std::str::from_utf8(line.as_slice()).unwrap_or(""));
+            }
+        }
     }
 
     // The text of the ruleset's file, if it has changed and isn't too long. What becomes of it is told.
@@ -141,7 +165,13 @@ impl<'a, R: Files + Eprint> Chores<'a, R> {
 }
 
 impl<R: Files + Eprint> Pace<Tun, Tun> for Chores<'_, R> {
-    fn next(&mut self, devices: &mut Between<Tun, Tun>, counts: &Counts) -> Option<Beat> {
+    fn next(
+        &mut self,
+        devices: &mut Between<Tun, Tun>,
+        counts: &Counts,
+        dropped: &[Dropped],
+    ) -> Option<Beat> {
+        self.tell_drops(dropped);
         let Some(looked) = self.looked else {
             let first = self.clock.first();
             return self.look(first, devices, counts);

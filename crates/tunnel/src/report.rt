@@ -1,37 +1,13 @@
 //! The counts in words: a line for people, and a file for Prometheus' node exporter. Nothing is proved of them.
 use carrying::Between;
 use devices::Tun;
+use drop_lines::cause_name;
 use itoa::Buffer;
 use std::alloc::{AllocError, Global};
 use std::fs::{Files, OpenOptions};
 use std::io::Write;
 use std::{fs, io};
 use to_devices::{CAUSES, Counts, Side};
-
-/// The names of the causes, by their numbers.
-const NAMES: [&str; CAUSES] = [
-    "",
-    "Short",
-    "Version",
-    "HeaderLength",
-    "Length",
-    "HeaderSum",
-    "Fragment",
-    "Protocol",
-    "Transport",
-    "PortZero",
-    "Ttl",
-    "Spoofed",
-    "NoRoute",
-    "NoMapping",
-    "Filtered",
-    "NoSession",
-    "Rule",
-    "Clash",
-    "SelfMapped",
-    "NoPort",
-    "TableFull",
-];
 
 /// The heads of the file's tables: what the next lines count.
 const PACKETS: &[u8] = b"\
@@ -136,7 +112,7 @@ fn put_drops(out: &mut Vec<u8>, of: &Figures<'_>) -> Result<(), AllocError> {
             "dropped",
             of.name,
             "cause",
-            NAMES[cause],
+            cause_name(cause),
             of.side.dropped[cause],
         )?;
     }
@@ -223,14 +199,14 @@ fn put_side(out: &mut Vec<u8>, of: &Figures<'_>) -> Result<(), AllocError> {
     for cause in 1..CAUSES {
         let count = of.side.dropped[cause];
         if count > 0 {
-            put(out, &[", ", NAMES[cause], " "], count)?;
+            put(out, &[", ", cause_name(cause), " "], count)?;
         }
     }
     Ok(())
 }
 
-/// The counts in a line without its end: of each side what came from it, what it let out, and what that came from it was dropped by
-/// which cause.
+/// The counts in a line without its end: of each side what came from it, what it let out, and what that came from it was
+/// dropped by which cause.
 ///
 /// # Errors
 ///

@@ -40,14 +40,15 @@ pub fn run(rt: &HostRuntime, asked: &Tunnel<'_>) -> Result<(), Stop> {
     keep_freed_memory(alloc);
     let mut gateway = open_anew(rt, &asked.sides, config, opening)?;
     tell_opened(rt, opening.directory, &gateway);
-    let ended = carry(rt, alloc, chores, devices, &mut gateway);
+    let ended = carry(rt, alloc, asked.log_drops, chores, devices, &mut gateway);
     let_go(alloc, opening.directory, gateway, ended)
 }
 
-// Carries packets until that fails, and tells the counts.
+// Carries packets until that fails, and tells the counts. Of so many dropped packets a second a line is written.
 fn carry<R: Files + Eprint, D: Disk + Drop>(
     rt: &R,
     alloc: Global,
+    log_drops: u64,
     mut chores: Chores<'_, R>,
     mut devices: Between<Tun, Tun>,
     gateway: &mut Gateway<D>,
@@ -55,7 +56,7 @@ fn carry<R: Files + Eprint, D: Disk + Drop>(
     requires stands { gateway.old.fallen ≡ false }
     requires none { gateway.old.told.held ≡ [] }
 {
-    let mut carrier = Carrier::new(alloc, chores.first())?;
+    let mut carrier = Carrier::new(alloc, chores.first(), log_drops)?;
     let carried = carrier.carry(&mut chores, &mut devices, gateway);
     if let Ok(counts) = line(alloc, &devices, carrier.counts()) {
         let words = std::str::from_utf8(counts.as_slice()).unwrap_or("");

@@ -1,70 +1,79 @@
-use Rattle.std.proofs.Common.{◌≡◌, ℕ, sym, ap, ◌∙◌, []}
+use Rattle.std.proofs.Common.{◌≡◌, ℕ, [], ◌∷◌, sym, ap, ◌∙◌, arith, inl, inr}
 use Rattle.machine.specs.Machine.{later}
+use Rattle.carrying.specs.Asking.{AsksFor}
 use Rattle.carrying.specs.Carried.{Carries, Fails}
+use Rattle.carrying.specs.Runs.{asked_of}
 use Rattle.carrying.specs.Turns.{Gave, events_of, headers_of}
-use Rattle.carrying.proofs.Joined.{going-first, going-next, ran-ends, ran-fails}
+use Rattle.carrying.proofs.Going.{going-first, going-next, ran-ends, ran-fails}
 use Rattle.socket_edge.proofs.Tending.{idle-fares}
 use Rattle.carrying.proofs.carrier.Carrier.carry.Goals as goal
 
-pub loop-init : goal.loop-init
-loop-init g c =
+pub loop-turn-init : goal.loop-turn-init
+loop-turn-init g c =
     let d = c.args.devices.now in
-    going-first g.D.Disk.honest g.D.Disk.moment g.D.Disk.left c.args.gateway.now c.args.self.now
+    going-first g.D.Disk.honest g.D.Disk.moment g.D.Disk.left g.met.D.Disk.earlier c.events_are_judged_once.ensures c.args.gateway.now c.args.self.now (g.P.Pace.asks c.args.pace.now)
     (g.L.Device.coming d.lan) (g.W.Device.coming d.wan) (g.L.Device.handed d.lan) (g.W.Device.handed d.wan) c.requires.stands c.requires.none
     (idle-fares g.D.Disk.honest g.D.Disk.moment g.D.Disk.left g.D.Disk.seen g.D.Disk.failed g.met.D.Disk.reads g.met.D.Disk.earlier c.args.gateway.now c.stands.ensures [])
 
 pub returns-in_default : goal.returns-in_default
 returns-in_default g c =
     let d = c.args.devices.now in
-    let e = c.loop.devices in
-    rw (c.next.ensures.from_lan, c.next.ensures.from_wan, c.next.ensures.to_lan, c.next.ensures.to_wan) (record {
+    let e = c.loop-turn.devices in
+    let over = c.in_default.ensures.over in
+    rw (c.next.ensures.from_lan, c.next.ensures.from_wan, c.next.ensures.to_lan, c.next.ensures.to_wan, over.1) (record {
       ran =
-          ran-ends g.D.Disk.honest g.D.Disk.moment g.D.Disk.left c.args.gateway.now c.loop.gateway c.args.self.now c.loop.self
+          ran-ends g.D.Disk.honest g.D.Disk.moment g.D.Disk.left c.args.gateway.now c.loop-turn.gateway c.args.self.now c.loop-turn.self c.loop-turn._turn
+          (g.P.Pace.asks c.args.pace.now) (g.P.Pace.asks c.loop-turn.pace)
           (g.L.Device.coming d.lan) (g.L.Device.coming e.lan) (g.W.Device.coming d.wan) (g.W.Device.coming e.wan)
-          (g.L.Device.handed d.lan) (g.L.Device.handed e.lan) (g.W.Device.handed d.wan) (g.W.Device.handed e.wan) c.loop.invariant;
+          (g.L.Device.handed d.lan) (g.L.Device.handed e.lan) (g.W.Device.handed d.wan) (g.W.Device.handed e.wan) c.loop-turn.invariant (inl over.0);
     })
 
 pub returns-in-Err : goal.returns-in-Err
 returns-in-Err g c =
     let d = c.args.devices.now in
-    let e = c.loop.devices in
+    let e = c.loop-turn.devices in
     let f = c.turn_at.new.devices in
     let n = c.next.ensures in
     let t = c.in-Err.ensures.turned in
-    let gave : Gave t.0 (g.L.Device.coming e.lan) (g.L.Device.coming f.lan) (g.W.Device.coming e.wan) (g.W.Device.coming f.wan) = rw (← n.from_lan, ← n.from_wan) t.2 in
-    let fails : Fails g.D.Disk.honest g.D.Disk.moment g.D.Disk.left c.loop.gateway c.turn_at.new.gateway (events_of c.loop.self t.0)
-    (g.L.Device.handed e.lan) (g.L.Device.handed f.lan) (g.W.Device.handed e.wan) (g.W.Device.handed f.wan) = rw (← n.to_lan, ← n.to_wan) t.3 in
+    let asked : AsksFor (g.P.Pace.asks c.loop-turn.pace) (g.P.Pace.asks c.next.new.self) (asked_of t.0 ∷ []) = rw (t.1, t.2) c.in-Some.ensures.asked in
+    let gave : Gave t.0 (g.L.Device.coming e.lan) (g.L.Device.coming f.lan) (g.W.Device.coming e.wan) (g.W.Device.coming f.wan) = rw (← n.from_lan, ← n.from_wan) t.3 in
+    let fails : Fails g.D.Disk.honest g.D.Disk.moment g.D.Disk.left c.loop-turn.gateway c.turn_at.new.gateway (events_of c.loop-turn.self t.0)
+    (g.L.Device.handed e.lan) (g.L.Device.handed f.lan) (g.W.Device.handed e.wan) (g.W.Device.handed f.wan) = rw (← n.to_lan, ← n.to_wan) t.4 in
     record {
       ran =
-          ran-fails g.D.Disk.honest g.D.Disk.moment g.D.Disk.left g.met.D.Disk.earlier c.args.gateway.now c.loop.gateway c.turn_at.new.gateway c.requires.stands c.requires.none c.args.self.now c.loop.self c.in-Err.fault t.0
+          ran-fails g.D.Disk.honest g.D.Disk.moment g.D.Disk.left g.met.D.Disk.earlier c.args.gateway.now c.loop-turn.gateway c.turn_at.new.gateway c.requires.stands c.requires.none c.args.self.now c.loop-turn.self c.loop-turn._turn c.in-Err.fault t.0
+          (g.P.Pace.asks c.args.pace.now) (g.P.Pace.asks c.loop-turn.pace) (g.P.Pace.asks c.next.new.self)
           (g.L.Device.coming d.lan) (g.L.Device.coming e.lan) (g.L.Device.coming f.lan) (g.W.Device.coming d.wan) (g.W.Device.coming e.wan) (g.W.Device.coming f.wan)
           (g.L.Device.handed d.lan) (g.L.Device.handed e.lan) (g.L.Device.handed f.lan) (g.W.Device.handed d.wan) (g.W.Device.handed e.wan) (g.W.Device.handed f.wan)
-          c.loop.invariant gave fails;
+          c.loop-turn.invariant asked gave fails;
     }
 
-pub loop-preserved : goal.loop-preserved
-loop-preserved g c =
+pub loop-turn-preserved : goal.loop-turn-preserved
+loop-turn-preserved g c =
     let d = c.args.devices.now in
-    let e = c.loop.devices in
+    let e = c.loop-turn.devices in
     let f = c.turn_at.new.devices in
     let n = c.next.ensures in
     let t = c.in-Ok.ensures.turned in
-    let gave : Gave t.0 (g.L.Device.coming e.lan) (g.L.Device.coming f.lan) (g.W.Device.coming e.wan) (g.W.Device.coming f.wan) = rw (← n.from_lan, ← n.from_wan) t.2 in
-    let carries : Carries g.D.Disk.honest g.D.Disk.moment g.D.Disk.left c.loop.gateway c.turn_at.new.gateway (events_of c.loop.self t.0) (headers_of c.loop.self t.0)
-    (g.L.Device.handed e.lan) (g.L.Device.handed f.lan) (g.W.Device.handed e.wan) (g.W.Device.handed f.wan) = rw (← n.to_lan, ← n.to_wan) t.3 in
-    let at : c.turn_at.new.self ≡ later c.loop.self t.0.moment = c.turn_at.ensures.latest ∙ ap (λ (m : ℕ). later c.loop.self m) (sym t.1) in
-    going-next g.D.Disk.honest g.D.Disk.moment g.D.Disk.left g.met.D.Disk.earlier c.args.gateway.now c.loop.gateway c.turn_at.new.gateway c.requires.stands c.requires.none c.args.self.now c.loop.self c.turn_at.new.self t.0
+    let asked : AsksFor (g.P.Pace.asks c.loop-turn.pace) (g.P.Pace.asks c.next.new.self) (asked_of t.0 ∷ []) = rw (t.1, t.2) c.in-Some.ensures.asked in
+    let gave : Gave t.0 (g.L.Device.coming e.lan) (g.L.Device.coming f.lan) (g.W.Device.coming e.wan) (g.W.Device.coming f.wan) = rw (← n.from_lan, ← n.from_wan) t.3 in
+    let carries : Carries g.D.Disk.honest g.D.Disk.moment g.D.Disk.left c.loop-turn.gateway c.turn_at.new.gateway (events_of c.loop-turn.self t.0) (headers_of c.loop-turn.self t.0)
+    (g.L.Device.handed e.lan) (g.L.Device.handed f.lan) (g.W.Device.handed e.wan) (g.W.Device.handed f.wan) = rw (← n.to_lan, ← n.to_wan) t.4 in
+    let at : c.turn_at.new.self ≡ later c.loop-turn.self t.0.moment = c.turn_at.ensures.latest ∙ ap (λ (m : ℕ). later c.loop-turn.self m) (sym t.1) in
+    going-next g.D.Disk.honest g.D.Disk.moment g.D.Disk.left g.met.D.Disk.earlier c.args.gateway.now c.loop-turn.gateway c.turn_at.new.gateway c.requires.stands c.requires.none c.events_are_judged_once.ensures c.args.self.now c.loop-turn.self c.turn_at.new.self c.loop-turn._turn t.0
+    (g.P.Pace.asks c.args.pace.now) (g.P.Pace.asks c.loop-turn.pace) (g.P.Pace.asks c.next.new.self)
     (g.L.Device.coming d.lan) (g.L.Device.coming e.lan) (g.L.Device.coming f.lan) (g.W.Device.coming d.wan) (g.W.Device.coming e.wan) (g.W.Device.coming f.wan)
     (g.L.Device.handed d.lan) (g.L.Device.handed e.lan) (g.L.Device.handed f.lan) (g.W.Device.handed d.wan) (g.W.Device.handed e.wan) (g.W.Device.handed f.wan)
-    c.loop.invariant gave at c.in-Ok.ensures.stands carries
+    c.loop-turn.invariant asked gave at c.in-Ok.ensures.stands carries
 
 pub returns : goal.returns
 returns g c =
     let d = c.args.devices.now in
-    let e = c.loop.devices in
+    let e = c.loop-turn.devices in
     record {
       ran =
-          ran-ends g.D.Disk.honest g.D.Disk.moment g.D.Disk.left c.args.gateway.now c.loop.gateway c.args.self.now c.loop.self
+          ran-ends g.D.Disk.honest g.D.Disk.moment g.D.Disk.left c.args.gateway.now c.loop-turn.gateway c.args.self.now c.loop-turn.self c.loop-turn._turn
+          (g.P.Pace.asks c.args.pace.now) (g.P.Pace.asks c.loop-turn.pace)
           (g.L.Device.coming d.lan) (g.L.Device.coming e.lan) (g.W.Device.coming d.wan) (g.W.Device.coming e.wan)
-          (g.L.Device.handed d.lan) (g.L.Device.handed e.lan) (g.W.Device.handed d.wan) (g.W.Device.handed e.wan) c.loop.invariant;
+          (g.L.Device.handed d.lan) (g.L.Device.handed e.lan) (g.W.Device.handed d.wan) (g.W.Device.handed e.wan) c.loop-turn.invariant (inr (omega (arith, c.loop-turn-test.false, c.loop-turn.auto._turn-end)));
     }

@@ -1,11 +1,11 @@
-use Rattle.std.proofs.Common.{◌≡◌, ◌<◌, ◌^◌, ◌++◌, ℕ, List, refl, sym, ap, subst, ◌∙◌}
+use Rattle.std.proofs.Common.{◌≡◌, ◌<◌, ◌^◌, ◌++◌, ℕ, List, sym, ap, subst, ◌∙◌}
 use Rattle.std.specs.List.{AllByRecursion}
 use Rattle.std.proofs.lemmas.List.{append-nil}
 use Rattle.machine.specs.Machine.{later}
 use Rattle.frames.specs.Streams.{FitsFrame}
 use Rattle.from_devices.specs.Requests.{Gathered}
 use Rattle.socket_edge.specs.Running.{Answered, Fares, events_in}
-use Rattle.carrying.specs.Turns.{events_of, gathered}
+use Rattle.carrying.specs.Turns.{events_of}
 use Rattle.carrying.proofs.Settled.{carried, failed}
 use Rattle.carrying.proofs.Streamed.{Streams, streams, text_short, turn_fits}
 use Rattle.carrying.proofs.carrier.Carrier.turn.Goals as goal

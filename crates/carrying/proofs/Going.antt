@@ -1,0 +1,132 @@
+-- A run of turns, and how it ends.
+use Rattle.std.proofs.Common.{◌≡◌, ◌⊎◌, ℕ, ◌+◌, ◌-◌, ◌^◌, ◌≤◌, false, List, [], ◌∷◌, ◌++◌, length, map, Ok, Err, refl, sym, ap, subst, ◌∙◌, arith, length-append}
+use Rattle.std.proofs.lemmas.List.{append-nil}
+use Rattle.disk_model.specs.Disk.{Files}
+use Rattle.packet.specs.declared.endpoint.Iface.TheVariants.{Lan, Wan}
+use Rattle.devices.specs.Handing.{Frames, Gives, Hands}
+use Rattle.frames.specs.Answers.{frames}
+use Rattle.gateway.specs.Kept.{Kept}
+use Rattle.gateway.proofs.Taking.{took_none}
+use Rattle.machine.specs.Laws.{EventsAreJudgedOnce}
+use Rattle.machine.specs.Machine.{later}
+use Rattle.machine.specs.declared.event.Event.{Event}
+use Rattle.socket_edge.specs.declared.fault.EdgeFault.{EdgeFault}
+use Rattle.socket_edge.specs.Running.{Fares}
+use Rattle.to_devices.proofs.Letting.{Hands-nil}
+use Rattle.from_devices.proofs.Gathering.{Gives-nil, Gives-then}
+use Rattle.carrying.specs.Asking.{Asks, AsksFor, IsOver}
+use Rattle.carrying.specs.Carried.{Carries, Fails, handed_to}
+use Rattle.carrying.specs.Runs.{ComesBy, Ran, all_events, all_headers, asked_of, from_lan, from_wan, last_of}
+use Rattle.carrying.specs.Turns.{Gave, Turn, events_of, headers_of}
+use Rattle.carrying.proofs.Joined.{AsksFor-nil, all_long, asked-then, events-then, fares-behind, headers-then, lan-then, last-then, wan-then}
+use Rattle.carrying.proofs.Stopping.{Trail, comes-end, comes-on, trail-first, trail-then}
+
+module _ {D : Type 0} (honest : D → Type 0) (moment : D → ℕ) (left : D → ℕ → Files → Type 0) where
+  module _ (start now : Kept D) (last at done : ℕ) (asks asks' : Asks) (lan lan' wan wan' : Frames) (lan_handed lan_handed' wan_handed wan_handed' : Frames) where
+    -- so many turns were carried, and more may come
+    pub record Going : Type 0 where
+      pub turns : List Turn
+      pub count : length turns ≡ done
+      pub asked : AsksFor asks asks' (map asked_of turns)
+      pub gave_lan : Gives lan lan' (from_lan turns)
+      pub gave_wan : Gives wan wan' (from_wan turns)
+      pub moment_is : at ≡ last_of last turns
+      pub stands : now.fallen ≡ false
+      pub trail : Trail honest moment left start now last turns (all_events last turns) (all_headers last turns) lan_handed lan_handed' wan_handed wan_handed'
+
+  -- none yet
+  pub going-first : (earlier : (disk : D) (s t : ℕ) (files : Files) → s ≤ t → left disk t files → left disk s files) → EventsAreJudgedOnce
+      → (start : Kept D) (last : ℕ) (asks : Asks) (lan wan lan_handed wan_handed : Frames) → start.fallen ≡ false → start.told.held ≡ [] → Fares honest moment left start start [] []
+      → Going start start last last 0 asks asks lan lan wan wan lan_handed lan_handed wan_handed wan_handed
+  going-first earlier once start last asks lan wan lan_handed wan_handed stands none fares = record {
+    turns = [];
+    count = refl;
+    asked = AsksFor-nil asks;
+    gave_lan = Gives-nil lan;
+    gave_wan = Gives-nil wan;
+    moment_is = refl;
+    stands = stands;
+    trail =
+        trail-first honest moment left earlier once start last lan_handed wan_handed
+        (record {
+          answered = [];
+          took = took_none start.told;
+          none = none;
+          to_lan = Hands-nil lan_handed;
+          to_wan = Hands-nil wan_handed;
+          fares = fares;
+        });
+  }
+
+  module _ (earlier : (disk : D) (s t : ℕ) (files : Files) → s ≤ t → left disk t files → left disk s files) (start now new : Kept D) (stood : start.fallen ≡ false) (none : start.told.held ≡ []) where
+    -- one more
+    pub going-next : EventsAreJudgedOnce → (last at at' done : ℕ) (turn : Turn) (a a' a'' : Asks) (l l' l'' w w' w'' k k' k'' v v' v'' : Frames) → Going start now last at done a a' l l' w w' k k' v v' → AsksFor a' a'' (asked_of turn ∷ []) → Gave turn l' l'' w' w'' → at' ≡ later at turn.moment
+        → new.fallen ≡ false → Carries honest moment left now new (events_of at turn) (headers_of at turn) k' k'' v' v'' → Going start new last at' (done + 1) a a'' l l'' w w'' k k'' v v''
+    going-next once last at at' done turn a a' a'' l l' l'' w w' w'' k k' k'' v v' v'' i asked gave is stands c =
+        let there : last_of last i.turns ≡ at = sym i.moment_is in
+        let one : Carries honest moment left now new (events_of (last_of last i.turns) turn) (headers_of (last_of last i.turns) turn) k' k'' v' v'' =
+        subst (λ (m : ℕ). Carries honest moment left now new (events_of m turn) (headers_of m turn) k' k'' v' v'') i.moment_is c in
+        record {
+          turns = i.turns ++ turn ∷ [];
+          count = length-append i.turns (turn ∷ []) ∙ ap (λ (n : ℕ). n + 1) i.count;
+          asked = asked-then a a' a'' i.turns turn i.asked asked;
+          gave_lan = rw (lan-then i.turns turn) (Gives-then l l' l'' _ _ i.gave_lan gave.from_lan);
+          gave_wan = rw (wan-then i.turns turn) (Gives-then w w' w'' _ _ i.gave_wan gave.from_wan);
+          moment_is = is ∙ ap (λ (m : ℕ). later m turn.moment) i.moment_is ∙ sym (last-then last i.turns turn);
+          stands = stands;
+          trail = rw (events-then last i.turns turn, headers-then last i.turns turn)
+              (trail-then honest moment left earlier once start now new last i.turns turn (all_events last i.turns) (events_of (last_of last i.turns) turn) (all_headers last i.turns) (headers_of (last_of last i.turns) turn)
+              k k' k'' v v' v'' stood i.stands none (all_long last i.turns) (events-then last i.turns turn) (headers-then last i.turns turn) i.trail one);
+        }
+
+    -- and one that failed
+    pub ran-fails : (last at done : ℕ) (fault : EdgeFault) (turn : Turn) (a a' a'' : Asks) (l l' l'' w w' w'' k k' k'' v v' v'' : Frames) → Going start now last at done a a' l l' w w' k k' v v' → AsksFor a' a'' (asked_of turn ∷ []) → Gave turn l' l'' w' w''
+        → Fails honest moment left now new (events_of at turn) k' k'' v' v'' → Ran honest moment left start new (Err fault) last a a'' l l'' w w'' k k'' v v''
+    ran-fails last at done fault turn a a' a'' l l' l'' w w' w'' k k' k'' v v' v'' i asked gave f =
+        let fares : Fares honest moment left now new (events_of (last_of last i.turns) turn) f.sent =
+        subst (λ (m : ℕ). Fares honest moment left now new (events_of m turn) f.sent) i.moment_is f.fares in
+        record {
+          turns = i.turns;
+          failed = turn ∷ [];
+          asked = asked-then a a' a'' i.turns turn i.asked asked;
+          ends = refl;
+          gave_lan = rw (lan-then i.turns turn) (Gives-then l l' l'' _ _ i.gave_lan gave.from_lan);
+          gave_wan = rw (wan-then i.turns turn) (Gives-then w w' w'' _ _ i.gave_wan gave.from_wan);
+          settled = now;
+          stays = λ none. absurd (omega (arith, ap length none));
+          answered = i.trail.carries.answered;
+          took = i.trail.carries.took;
+          none = i.trail.carries.none;
+          to_lan = subst (λ (x : Frames). Hands k x (handed_to Lan (all_headers last i.turns) i.trail.carries.answered)) (sym f.to_lan) i.trail.carries.to_lan;
+          to_wan = subst (λ (x : Frames). Hands v x (handed_to Wan (all_headers last i.turns) i.trail.carries.answered)) (sym f.to_wan) i.trail.carries.to_wan;
+          more = f.sent;
+          fares = rw (events-then last i.turns turn)
+              (fares-behind honest moment left earlier start now new stood i.stands none (all_events last i.turns) (events_of (last_of last i.turns) turn) (all_headers last i.turns) k k' v v' f.sent i.trail.carries fares);
+          stops = λ before after e.
+              subst (λ (es : List Event). ComesBy honest moment left start new last before es k k'' v v'') (sym (events-then last i.turns turn))
+              (comes-on honest moment left start now (all_events last i.turns) (all_headers last i.turns) k k' v v' i.trail.carries earlier new i.stands last before (i.trail.passed before after e)
+              (events_of (last_of last i.turns) turn) f.sent k'' v'' fares f.to_lan f.to_wan);
+        }
+
+  -- they ended well
+  pub ran-ends : (start now : Kept D) (last at done : ℕ) (a a' : Asks) (l l' w w' k k' v v' : Frames) → Going start now last at done a a' l l' w w' k k' v v' → IsOver a' ⊎ (done ≡ 2 ^ 64 - 1) → Ran honest moment left start now (Ok tt) last a a' l l' w w' k k' v v'
+  ran-ends start now last at done a a' l l' w w' k k' v v' i over = record {
+    turns = i.turns;
+    failed = [];
+    asked = rw (append-nil i.turns) i.asked;
+    ends = (refl, subst (λ (n : ℕ). IsOver a' ⊎ (n ≡ 2 ^ 64 - 1)) (sym i.count) over);
+    gave_lan = rw (append-nil i.turns) i.gave_lan;
+    gave_wan = rw (append-nil i.turns) i.gave_wan;
+    settled = now;
+    stays = λ none. refl;
+    answered = i.trail.carries.answered;
+    took = i.trail.carries.took;
+    none = i.trail.carries.none;
+    to_lan = i.trail.carries.to_lan;
+    to_wan = i.trail.carries.to_wan;
+    more = [];
+    fares = rw (append-nil i.turns, append-nil (frames i.trail.carries.answered)) i.trail.carries.fares;
+    stops = λ before after e.
+        subst (λ (ts : List Turn). ComesBy honest moment left start now last before (all_events last ts) k k' v v') (sym (append-nil i.turns))
+        (comes-end honest moment left start now (all_events last i.turns) (all_headers last i.turns) k k' v v' i.trail.carries last before (i.trail.passed before after e));
+  }

@@ -1,0 +1,5 @@
+use Rattle.carrying.proofs.Lives.{stops-are}
+use Rattle.carrying.proofs.laws.stops_are_lives.Goals as goal
+
+pub returns : goal.returns
+returns g c = stops-are g.D.Disk.honest g.D.Disk.moment g.D.Disk.left g.D.Disk.seen

@@ -1,0 +1,35 @@
+//! The causes of drops.
+
+/// Their names, by their numbers (docs/frames.md); 0 is none.
+const NAMES: &[&str] = &[
+    "",
+    "Short",
+    "Version",
+    "HeaderLength",
+    "Length",
+    "HeaderSum",
+    "Fragment",
+    "Protocol",
+    "Transport",
+    "PortZero",
+    "Ttl",
+    "Spoofed",
+    "NoRoute",
+    "NoMapping",
+    "Filtered",
+    "NoSession",
+    "Rule",
+    "Clash",
+    "SelfMapped",
+    "NoPort",
+    "TableFull",
+];
+
+/// The name of the cause with this number; of any other number the empty one.
+pub fn cause_name(cause: usize) -> &'static str {
+    if cause < NAMES.len() {
+        NAMES[cause]
+    } else {
+        ""
+    }
+}
