@@ -1,15 +1,17 @@
 -- Clients that are served one after the other.
 use Rattle.std.specs.Prelude.{◌≡◌, ◌≤◌, ◌⊎◌, ℕ, zero, suc, List, Result, false}
+use Rattle.disk_model.specs.Disk.{Files}
 use Rattle.gateway.specs.Kept.{Kept}
-use Rattle.socket_edge.specs.Running.{AnswersFirst, RunEnded}
+use Rattle.socket_edge.specs.Running.{AnswersFirst, AtEachTurn, Fares, RunEnded, events_in}
 use Rattle.socket_edge.specs.Turns.{Turn, given, taken}
 use Rattle.socket_edge.specs.declared.fault.EdgeFault.{EdgeFault}
 
 module _ {C D : Type 0} (came : C → C → Type 0) (went : C → C → List Turn → Type 0) (ended : C → Type 0)
-    (left : C → C → Type 0) where
+    (left : C → C → Type 0)
+    (honest : D → Type 0) (moment : D → ℕ) (by_crash : D → ℕ → Files → Type 0) where
   -- A client came. The gateway stood then, and had taken and answered as much as before. The client was answered, to its
-  -- end or to a fault, and each time that it was asked for more it had the answers to what it had sent. Then it was let
-  -- go.
+  -- end or to a fault, and each time that it was asked for more it had the answers to what it had sent. No crash in the
+  -- meantime loses what they answer. Then the client was let go.
   pub record Visit (before after : C) (old new : Kept D) : Type 0 where
     pub start : Kept D
     pub told : start.told ≡ old.told
@@ -22,6 +24,8 @@ module _ {C D : Type 0} (came : C → C → Type 0) (went : C → C → List Tur
     pub end : Result ℕ EdgeFault
     pub ran : RunEnded end start.told new.told (given turns) (taken turns) (ended last)
     pub first : AnswersFirst start.told turns
+    pub fares : Fares honest moment by_crash start new (events_in (given turns)) (taken turns)
+    pub each_turn : AtEachTurn honest moment by_crash start new turns
     pub leaves : left last after
 
   -- so many, one after the other

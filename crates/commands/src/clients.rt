@@ -2,7 +2,7 @@
 //! clients of a Unix socket.
 ghost use Rattle.std.specs.Prelude.{◌≡◌, List, false, true, IsErrOf, IsOk, IfErr, OnErr, OnOk, ⊤};
 ghost use Rattle.gateway.specs.declared.fault.GatewayFault.{GatewayFault};
-ghost use Rattle.socket_edge.specs.Running.{AnswersFirst, RunEnded};
+ghost use Rattle.socket_edge.specs.Running.{AnswersFirst, AtEachTurn, Fares, RunEnded, events_in};
 ghost use Rattle.socket_edge.specs.Turns.{Turn, given, taken};
 ghost use Rattle.refusals.specs.declared.refusal.Refusal.TheVariants.{Device};
 ghost use Rattle.commands.specs.Faults.{IsOfServing, gateway_refusal};
@@ -122,7 +122,7 @@ fn compact_between_clients<D: Disk + Drop>(gateway: &mut Gateway<D>) -> Result<(
     }
 }
 
-// Answers the requests of the client. What a crash leaves of the files is said of the call within.
+// Answers the requests of the client.
 fn answer_client<C: Peer, D: Disk + Drop>(
     alloc: Global,
     client: &mut C,
@@ -131,7 +131,10 @@ fn answer_client<C: Peer, D: Disk + Drop>(
     ensures ran { (turns : List Turn) × C.went client.old client.new turns
         × RunEnded result gateway.old.told gateway.new.told (given turns) (taken turns)
         (C.ended client.new)
-        × AnswersFirst gateway.old.told turns }
+        × Fares D.honest D.moment D.left gateway.old gateway.new (events_in (given turns))
+        (taken turns)
+        × AnswersFirst gateway.old.told turns
+        × AtEachTurn D.honest D.moment D.left gateway.old gateway.new turns }
 {
     run_with(alloc, client, gateway)
 }
@@ -144,7 +147,7 @@ fn meet_next<C: Clients, D: Disk + Drop>(
     gateway: &mut Gateway<D>,
 ) -> io::Result<Result<u64, EdgeFault>>
     requires stands { gateway.old.fallen ≡ false }
-    ensures visit { OnOk result (Visit C.came C.went C.ended C.left
+    ensures visit { OnOk result (Visit C.came C.went C.ended C.left D.honest D.moment D.left
         clients.old clients.new gateway.old gateway.new) }
     ensures missed { OnErr result (C.missed clients.old clients.new) }
     ensures stays { OnErr result (gateway.new ≡ gateway.old) }
@@ -164,10 +167,10 @@ fn serve_next<C: Clients, W: Write, D: Disk + Drop>(
     errors: &mut W,
     gateway: &mut Gateway<D>,
 ) -> Result<(), Stop>
-    ensures ok { OnOk result (Visit C.came C.went C.ended C.left
+    ensures ok { OnOk result (Visit C.came C.went C.ended C.left D.honest D.moment D.left
         clients.old clients.new gateway.old gateway.new) }
-    ensures err { OnErr result (LastVisit C.came C.went C.ended C.left C.missed
-        clients.old clients.new gateway.old gateway.new) }
+    ensures err { OnErr result (LastVisit C.came C.went C.ended C.left D.honest D.moment D.left
+        C.missed clients.old clients.new gateway.old gateway.new) }
     ensures stands { OnOk result (gateway.new.fallen ≡ false) }
     ensures causes { IfErr result (λ stop. IsOfServing stop.refusal) }
 {
@@ -201,12 +204,12 @@ pub fn serve_each<C: Clients, W: Write, D: Disk + Drop>(
     errors: &mut W,
     gateway: &mut Gateway<D>,
 ) -> Result<(), Stop>
-    // So many came, in order, and each was served and let go.
-    ensures ok { OnOk result (Visits C.came C.went C.ended C.left connections
-        clients.old clients.new gateway.old gateway.new) }
+    // So many came, in order, and each was served and let go. `Visit` tells too what a crash leaves while it is served.
+    ensures ok { OnOk result (Visits C.came C.went C.ended C.left D.honest D.moment D.left
+        connections clients.old clients.new gateway.old gateway.new) }
     // Of those that came each was served, and after the last no other came.
-    ensures err { OnErr result (SomeVisits C.came C.went C.ended C.left C.missed connections
-        clients.old clients.new gateway.old gateway.new) }
+    ensures err { OnErr result (SomeVisits C.came C.went C.ended C.left D.honest D.moment D.left
+        C.missed connections clients.old clients.new gateway.old gateway.new) }
     ensures none { connections ≡ 0 → IsOk result × (gateway.new ≡ gateway.old)
         × (errors.new ≡ errors.old) }
     ensures stands { OnOk result (gateway.old.fallen ≡ false → gateway.new.fallen ≡ false) }

@@ -4,14 +4,16 @@
 //! that nothing rests on what an earlier process wrote. `unopened` tells why there is no disk, `unsuitable` why
 //! no gateway opens over it: where the files themselves are refused, `unsound` says what `diagnosis::diagnose` finds.
 //! `tell_migration` tells of files that were migrated by the opening.
-ghost use Rattle.std.specs.Prelude.{◌≡◌, ◌+◌, [], ℕ, IfErr, IfOk, IsOk, OnOk, false, true};
+ghost use Rattle.std.specs.Prelude.{◌≡◌, ◌↔◌, ◌+◌, [], ℕ, IfErr, IfOk, IsOk, MatchResult, OnOk, false, true};
 ghost use Rattle.std.specs.Io.KnownBytes.{Appends};
 ghost use Rattle.durable.specs.Entering.{Durable, IsDurable};
 ghost use Rattle.machine.specs.Noted.{IsResumed};
 ghost use Rattle.refusals.specs.Words.{IsOfPath, migrated_line};
+ghost use Rattle.disk_model.specs.Disk.{Leaves, LeavesNow, LeavesOnly};
 ghost use Rattle.disk_model.specs.declared.disk.FileId.{FileId};
 ghost use Rattle.durable.specs.Coding.{Heading};
-ghost use Rattle.durable.specs.Recovery.{IsActive, IsCurrent};
+ghost use Rattle.durable.specs.Recovery.{Alike, IsActive, IsConfigured, IsCurrent, Recovers};
+ghost use Rattle.snapshot.specs.Store.{Migrates};
 ghost use Rattle.commands.specs.Faults.{IsOfFiles, IsOfOpening};
 
 use crate::faults::{of_gateway, of_opening};
@@ -173,12 +175,37 @@ pub fn open_over<D: Disk + Drop>(
     bounds: Bounds,
     moment: u64,
 ) -> Result<Gateway<D>, (D, AnewFault)>
+    ensures honest { MatchResult result (λ gateway. D.honest disk ↔ D.honest gateway.disk)
+        (λ e. D.honest e.0 → D.honest disk) }
+
+    // Whatever a crash leaves since the entry, within the making too, stands for what some pair left at the entry
+    // stands for.
+    ensures any_moment { D.honest disk
+        → MatchResult result (λ gateway. Leaves D.moment D.left disk gateway.disk Alike)
+        (λ e. Leaves D.moment D.left disk e.0 Alike) }
+
+    // Where each pair left at the entry has this configuration in its active file, if it has one, so has each since.
+    ensures configured { D.honest disk → LeavesNow D.moment D.left disk (IsConfigured bounds)
+        → MatchResult result
+        (λ gateway. LeavesOnly D.moment D.left disk gateway.disk (IsConfigured bounds))
+        (λ e. LeavesOnly D.moment D.left disk e.0 (IsConfigured bounds)) }
+
+    // The state is begun again from what the files stood for, which a crash leaves from now on.
+    ensures ok { D.honest disk → IfOk result (λ gateway. (d : Durable) × Recovers (D.seen disk) d
+        × IsResumed bounds d moment gateway.told.state
+        × LeavesNow D.moment D.left gateway.disk (λ files. Recovers files d)) }
+
     // Where a file was active, the active one has the next generation now: it was made since.
     ensures anew { D.honest disk → (file : FileId) (h : Heading) (d : Durable) (end : ℕ)
         → IsActive (D.seen disk) file h d end → IsCurrent (D.seen disk)
         → IfOk result (λ gateway. gateway.generation ≡ h.generation + 1) }
     ensures grown { IfOk result (λ gateway. gateway.migrated ≡ false → gateway.grown ≡ 0) }
+    // A file of a former version stays as it was, and the other one is made anew for its state.
+    ensures migrated { D.honest disk
+        → IfOk result (λ gateway. Migrates bounds (D.seen disk) (D.seen gateway.disk)) }
     ensures config { IfOk result (λ gateway. gateway.told.config ≡ bounds) }
+
+    // Whatever the disk: the state is one that survives, begun again at the moment.
     ensures resumed { IfOk result (λ gateway. (d : Durable) × IsDurable bounds d
         × IsResumed bounds d moment gateway.told.state) }
     ensures begins { IfOk result (λ gateway. (gateway.told.last ≡ 0)

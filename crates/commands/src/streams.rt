@@ -4,7 +4,7 @@ ghost use Rattle.std.specs.Io.KnownBytes.{Appends, Consumes, IsAtEnd};
 ghost use Rattle.refusals.specs.declared.refusal.Refusal.TheVariants.{Output};
 ghost use Rattle.refusals.specs.Words.{first_line};
 ghost use Rattle.commands.specs.Faults.{IsOfGateway, IsOfStream, EndIsToldAs, edge_refusal};
-ghost use Rattle.socket_edge.specs.Running.{RunEnded};
+ghost use Rattle.socket_edge.specs.Running.{Fares, RunEnded, events_in};
 ghost use Rattle.socket_edge.specs.declared.fault.EdgeFault.{EdgeFault as Fault};
 
 use crate::faults::{ends_program, of_edge};
@@ -15,7 +15,7 @@ use socket_edge::EdgeFault;
 use std::alloc::Global;
 use std::io::{Read, Write};
 
-/// Answers the requests of one stream. What a crash leaves of the files is said of the call within.
+/// Answers the requests of one stream.
 pub(crate) fn answer_all<R: Read, W: Write, D: Disk + Drop>(
     alloc: Global,
     reader: &mut R,
@@ -26,7 +26,8 @@ pub(crate) fn answer_all<R: Read, W: Write, D: Disk + Drop>(
         × Consumes (R.remaining reader.old) (R.remaining reader.new) given
         × Appends (W.contents writer.old) (W.contents writer.new) written
         × RunEnded result gateway.old.told gateway.new.told given written
-        (IsAtEnd (R.remaining reader.new)) }
+        (IsAtEnd (R.remaining reader.new))
+        × Fares D.honest D.moment D.left gateway.old gateway.new (events_in given) written }
 {
     socket_edge::run(alloc, reader, writer, gateway)
 }
@@ -42,12 +43,13 @@ pub fn replay<R: Read, W: Write, D: Disk + Drop>(
     writer: &mut W,
     gateway: &mut Gateway<D>,
 ) -> Result<(), Refusal>
-    // What was read and what was written, and how the run ended that this tells of.
+    // What was read and what was written, how the run ended that this tells of, and what a crash leaves of it.
     ensures ran { (ended : Result ℕ Fault) × EndIsToldAs ended result × (given written : List ℕ)
         × Consumes (R.remaining reader.old) (R.remaining reader.new) given
         × Appends (W.contents writer.old) (W.contents writer.new) written
         × RunEnded ended gateway.old.told gateway.new.told given written
-        (IsAtEnd (R.remaining reader.new)) }
+        (IsAtEnd (R.remaining reader.new))
+        × Fares D.honest D.moment D.left gateway.old gateway.new (events_in given) written }
     ensures causes { IfErr result IsOfStream }
 {
     match answer_all(alloc, reader, writer, gateway) {

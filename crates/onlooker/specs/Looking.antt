@@ -47,6 +47,12 @@ IsUnfit config files Damaged = (d : Durable) → ¬ Recovers files d
 IsUnfit config files (Differs stored) = HasOther config files stored
 IsUnfit config files fault = ⊥
 
+-- a further look may come to more
+abbrev pub IsInVain : LookFault → Type 0
+IsInVain Changing = ⊤
+IsInVain Damaged = ⊤
+IsInVain fault = ⊥
+
 -- the system refused a file or memory
 abbrev pub IsOfSystem : LookFault → Type 0
 IsOfSystem (File file error) = ⊤

@@ -2,7 +2,7 @@
 ghost use Rattle.std.specs.Prelude.{◌≡◌, ◌↔◌, ◌<◌, ℕ, IsTrue, IfOk, IfErr, take};
 ghost use Rattle.disk_model.specs.Disk.{pair};
 ghost use Rattle.durable.specs.Entering.{durable};
-ghost use Rattle.onlooker.specs.Looking.{IsOfSystem, IsSteady, IsUnfit, IsUnseen, IsWhy, LooksInVain, ReadsBoth, Sees, SeesState, StandsFor, front_length};
+ghost use Rattle.onlooker.specs.Looking.{IsInVain, IsOfSystem, IsSteady, IsUnfit, IsUnseen, IsWhy, LooksInVain, ReadsBoth, Sees, SeesState, StandsFor, front_length};
 
 use crate::{LookFault, Readable};
 use disk_model::FileId;
@@ -142,6 +142,9 @@ pub fn look<F: Readable>(
     ensures err { IfErr result (λ fault. (n : ℕ) × (n < most)
         × (from : F) × LooksInVain F.gives n files.old from
         × IsWhy F.gives bounds.now from files.new fault) }
+    // A further look is given up only behind as many as there may be.
+    ensures all { IfErr result (λ fault. IsInVain fault
+        → LooksInVain F.gives most files.old files.new) }
 {
     match look_once(alloc, files, bounds) {
         Err(LookFault::Changing) if most > 1 => look(alloc, files, bounds, most - 1),

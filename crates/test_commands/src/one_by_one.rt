@@ -12,13 +12,22 @@ use std::test::Fail;
 // Clients that send these requests, each its own, and what becomes of them.
 #[derive(Drop)]
 struct Callers<'a> {
-    // What those send that haven't come yet.
-    later: &'a [&'a [u8]],
-    // What the one who is there has still to send.
-    left: &'a [u8],
+    // What each of them sends.
+    sent: &'a [&'a [u8]],
+    // How many have come, and how many bytes of the last one were read.
+    came: usize,
+    read: usize,
     answers: Vec<u8>,
     // For each that came a `c`, and an `l` when it was let go.
     visits: Vec<u8>,
+}
+
+// What the last of so many that came has still to send, once so many bytes of it were read.
+fn left_of<'a>(sent: &'a [&'a [u8]], came: usize, read: usize) -> &'a [u8] {
+    match sent.get(came.saturating_sub(1)) {
+        Some(all) => all.split_at(read.min(all.len())).1,
+        None => b"",
+    }
 }
 
 impl Peer for Callers<'_> {
@@ -27,7 +36,10 @@ impl Peer for Callers<'_> {
     ghost ended = { λ _. ⊤ };
 
     fn read(&mut self, bytes: &mut [u8]) -> io::Result<usize> {
-        self.left.read(bytes)
+        let mut left = left_of(self.sent, self.came, self.read);
+        let count = left.read(bytes)?;
+        self.read = self.read.saturating_add(count);
+        Ok(count)
     }
 
     fn write(&mut self, bytes: &[u8]) -> io::Result<usize> {
@@ -47,11 +59,11 @@ impl Clients for Callers<'_> {
     ghost left = { λ _ _. ⊤ };
 
     fn accept(&mut self) -> io::Result<()> {
-        let Some((next, later)) = self.later.split_first() else {
+        if self.came >= self.sent.len() {
             return Err(io::Error::from(io::ErrorKind::ConnectionAborted));
-        };
-        self.later = later;
-        self.left = *next;
+        }
+        self.came += 1;
+        self.read = 0;
         self.visits.write_all(b"c")
     }
 
@@ -70,8 +82,9 @@ fn serve_two(
 ) -> Option<Option<Refusal>> {
     let (first, second) = REQUESTS.split_at(115);
     let mut callers = Callers {
-        later: &[first, second],
-        left: b"",
+        sent: &[first, second],
+        came: 0,
+        read: 0,
         answers: Vec::new(alloc),
         visits: Vec::new(alloc),
     };

@@ -14,6 +14,9 @@ fn bytes_come_back(rt: HostRuntime) -> Result<(), Fail> {
 }
 
 fn bytes_of(disk: &mut FileDisk<MemoryFile>, file: FileId) -> Result<[u8; 3], DiskFault> {
+    if disk.len(file)? < 3 {
+        return Err(DiskFault);
+    }
     let mut bytes = [7; 3];
     disk.read_at(file, 0, &mut bytes)?;
     Ok(bytes)

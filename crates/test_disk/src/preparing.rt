@@ -30,7 +30,8 @@ impl Noted {
         if self.calls.push(call).is_err() {
             return Err(Error::from(ErrorKind::OutOfMemory));
         }
-        match self.fails {
+        let fails = self.fails;
+        match fails {
             Some((failing, kind)) if failing == call => Err(Error::from(kind)),
             _ => Ok(()),
         }
@@ -151,10 +152,8 @@ fn is_right(alloc: Global, row: &Row) -> bool {
 
 #[test]
 fn calls_of_an_opened_file(rt: HostRuntime) -> Result<(), Fail> {
-    let mut row = 0;
-    for expected in &ROWS {
+    for (row, expected) in ROWS.iter().enumerate() {
         assert!(rt; is_right(rt.alloc(), expected), "row {row}");
-        row += 1;
     }
     Ok(())
 }

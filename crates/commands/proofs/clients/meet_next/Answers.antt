@@ -15,6 +15,8 @@ returns-clause-visit g c =
       goes = r.1;
       end = c.answer_client-ended.result;
       ran = r.2;
-      first = r.3;
+      first = r.4;
+      fares = r.3;
+      each_turn = r.5;
       leaves = c.leave.ensures;
     }

@@ -18,15 +18,15 @@ returns-in-Err-clause-err g c = inr (record { none = inr c.in-Err.ensures.missed
 
 pub returns-in-Err-tell_end-clause-err : goal.returns-in-Err-tell_end-clause-err
 returns-in-Err-tell_end-clause-err g c =
-    inl (visit-behind g.C.Clients.came g.C.Peer.went g.C.Peer.ended g.C.Clients.left c.args.clients.now c.meet_next.new.clients c.args.gateway.now c.compact_between_clients.new.gateway c.meet_next.new.gateway
+    inl (visit-behind g.C.Clients.came g.C.Peer.went g.C.Peer.ended g.C.Clients.left g.D.Disk.honest g.D.Disk.moment g.D.Disk.left c.args.clients.now c.meet_next.new.clients c.args.gateway.now c.compact_between_clients.new.gateway c.meet_next.new.gateway
     c.compact_between_clients.ensures.told c.in-Ok.ensures.visit)
 
 pub returns-then-has_fallen-clause-err : goal.returns-then-has_fallen-clause-err
 returns-then-has_fallen-clause-err g c =
-    inl (visit-behind g.C.Clients.came g.C.Peer.went g.C.Peer.ended g.C.Clients.left c.args.clients.now c.meet_next.new.clients c.args.gateway.now c.compact_between_clients.new.gateway c.meet_next.new.gateway
+    inl (visit-behind g.C.Clients.came g.C.Peer.went g.C.Peer.ended g.C.Clients.left g.D.Disk.honest g.D.Disk.moment g.D.Disk.left c.args.clients.now c.meet_next.new.clients c.args.gateway.now c.compact_between_clients.new.gateway c.meet_next.new.gateway
     c.compact_between_clients.ensures.told c.in-Ok.ensures.visit)
 
 pub returns-clause-ok : goal.returns-clause-ok
 returns-clause-ok g c =
-    visit-behind g.C.Clients.came g.C.Peer.went g.C.Peer.ended g.C.Clients.left c.args.clients.now c.meet_next.new.clients c.args.gateway.now c.compact_between_clients.new.gateway c.meet_next.new.gateway
+    visit-behind g.C.Clients.came g.C.Peer.went g.C.Peer.ended g.C.Clients.left g.D.Disk.honest g.D.Disk.moment g.D.Disk.left c.args.clients.now c.meet_next.new.clients c.args.gateway.now c.compact_between_clients.new.gateway c.meet_next.new.gateway
     c.compact_between_clients.ensures.told c.in-Ok.ensures.visit

@@ -1,5 +1,13 @@
-use Rattle.std.proofs.Common.{◌≡◌, ◌∙◌, ◌+◌, ap, ℕ}
-use Rattle.commands.proofs.Anew.{is_open, same_generation}
+use Rattle.std.proofs.Common.{◌≡◌, ◌∙◌, ◌+◌, ap, false, rules, ℕ, subst, sym}
+use Rattle.std.proofs.lemmas.Bool.{false≢true}
+use Rattle.disk_model.specs.Disk.{Leaves, LeavesOnly}
+use Rattle.durable.specs.Recovery.{Alike, IsConfigured}
+use Rattle.machine.specs.Machine.{State}
+use Rattle.machine.specs.Noted.{IsResumed}
+use Rattle.gateway.specs.Told.{Told}
+use Rattle.gateway.specs.declared.fault.GatewayFault.TheVariants as fault
+use Rattle.gateway.proofs.Runs.{stands-still}
+use Rattle.commands.proofs.Anew.{alike_since, configured_since, is_open, made_now, remade, same_generation}
 use Rattle.commands.proofs.opening.open_over.Goals as goal
 
 pub returns-in-Ok-made-clause-anew : goal.returns-in-Ok-made-clause-anew
@@ -11,3 +19,69 @@ returns-in-Ok-made-clause-anew g c = λ honest file h d end active current.
     let groups = c.has_fallen-stands.ensures.groups stands (c.in-Ok.ensures.honest.0 honest) in
     let same = same_generation old (g.D.Disk.seen found.disk) file h d end found.generation found.grown groups.0 looks.stays active groups.1 in
     c.in-Ok-made.ensures.generation ∙ ap (λ (n : ℕ). n + 1) same
+
+pub returns-in-Ok-made-clause-honest : goal.returns-in-Ok-made-clause-honest
+returns-in-Ok-made-clause-honest g c =
+    let on = c.in-Ok.ensures.honest in
+    let stands = stands-still c.in-Ok-made.field-0 fault.Device c.compact-made.new.self.fallen c.in-Ok-made.ensures.fell c.in-Ok.ensures.stands in
+    ((λ honest. c.compact-made.ensures.stays_honest stands (on.0 honest)), (λ honest. on.1 (c.compact-made.ensures.honest honest)))
+
+pub returns-in-Ok-made-clause-any_moment : goal.returns-in-Ok-made-clause-any_moment
+returns-in-Ok-made-clause-any_moment g c = λ honest.
+    let found = c.in-Ok.gateway in
+    let new = c.compact-made.new.self in
+    let there = c.in-Ok.ensures.honest.0 honest in
+    let ok = c.in-Ok.ensures.ok honest in
+    let present = c.has_fallen-stands.ensures.present (c.has_fallen-stands.ensures.value ∙ c.in-Ok.ensures.stands) there c.in-Ok.ensures.none in
+    alike_since g.D.Disk.moment g.D.Disk.left g.met.D.Disk.earlier c.args.disk found.disk new.disk g.D.Disk.seen ok.0 found.told.state (g.met.D.Disk.reads found.disk there) present ok.3
+    (c.in-Ok.ensures.any_moment honest) (c.compact-made.ensures.any_moment c.in-Ok.ensures.stands there)
+
+pub returns-in-Ok-made-clause-configured : goal.returns-in-Ok-made-clause-configured
+returns-in-Ok-made-clause-configured g c = λ honest stored.
+    let found = c.in-Ok.gateway in
+    let new = c.compact-made.new.self in
+    let there = c.in-Ok.ensures.honest.0 honest in
+    configured_since g.D.Disk.moment g.D.Disk.left g.met.D.Disk.earlier c.args.disk found.disk new.disk c.args.bounds found.told.config c.in-Ok.ensures.config
+    (c.in-Ok.ensures.configured honest stored) (c.compact-made.ensures.configured c.in-Ok.ensures.stands there)
+
+pub returns-in-Ok-made-clause-ok : goal.returns-in-Ok-made-clause-ok
+returns-in-Ok-made-clause-ok g c = λ honest.
+    let found = c.in-Ok.gateway in
+    let new = c.compact-made.new.self in
+    let there = c.in-Ok.ensures.honest.0 honest in
+    let ok = c.in-Ok.ensures.ok honest in
+    let present = c.has_fallen-stands.ensures.present (c.has_fallen-stands.ensures.value ∙ c.in-Ok.ensures.stands) there c.in-Ok.ensures.none in
+    let next = remade g.D.Disk.moment g.D.Disk.left g.met.D.Disk.earlier c.args.disk found.disk new.disk g.D.Disk.seen ok.0 found.told.state (g.met.D.Disk.reads found.disk there) present ok.3
+    (c.compact-made.ensures.any_moment c.in-Ok.ensures.stands there) in
+    let state = ap (λ (told : Told). told.state) c.compact-made.ensures.told in (
+      ok.0,
+      ok.1,
+      subst (λ (s : State). IsResumed c.args.bounds ok.0 c.args.moment s) (sym state) ok.2,
+      made_now g.D.Disk.moment g.D.Disk.left g.met.D.Disk.earlier c.args.disk found.disk new.disk ok.0 next,
+    )
+
+pub returns-in-Err-made-clause-any_moment : goal.returns-in-Err-made-clause-any_moment
+returns-in-Err-made-clause-any_moment g c = λ honest.
+    let found = c.in-Ok.gateway in
+    let new = c.compact-made.new.self in
+    let there = c.in-Ok.ensures.honest.0 honest in
+    let ok = c.in-Ok.ensures.ok honest in
+    let present = c.has_fallen-stands.ensures.present (c.has_fallen-stands.ensures.value ∙ c.in-Ok.ensures.stands) there c.in-Ok.ensures.none in
+    let since = alike_since g.D.Disk.moment g.D.Disk.left g.met.D.Disk.earlier c.args.disk found.disk new.disk g.D.Disk.seen ok.0 found.told.state (g.met.D.Disk.reads found.disk there) present ok.3
+    (c.in-Ok.ensures.any_moment honest) (c.compact-made.ensures.any_moment c.in-Ok.ensures.stands there) in
+    subst (λ disk. Leaves g.D.Disk.moment g.D.Disk.left c.args.disk disk Alike) (sym c.into_disk.ensures) since
+
+pub returns-in-Err-made-clause-configured : goal.returns-in-Err-made-clause-configured
+returns-in-Err-made-clause-configured g c = λ honest stored.
+    let found = c.in-Ok.gateway in
+    let new = c.compact-made.new.self in
+    let there = c.in-Ok.ensures.honest.0 honest in
+    let since = configured_since g.D.Disk.moment g.D.Disk.left g.met.D.Disk.earlier c.args.disk found.disk new.disk c.args.bounds found.told.config c.in-Ok.ensures.config
+    (c.in-Ok.ensures.configured honest stored) (c.compact-made.ensures.configured c.in-Ok.ensures.stands there) in
+    subst (λ disk. LeavesOnly g.D.Disk.moment g.D.Disk.left c.args.disk disk (IsConfigured c.args.bounds)) (sym c.into_disk.ensures) since
+
+pub returns-in-Ok-made-clause-migrated : goal.returns-in-Ok-made-clause-migrated
+returns-in-Ok-made-clause-migrated g c = λ honest file h d end active former.
+    let migrated = (c.in-Ok.ensures.was honest).1 (λ current. former (current file h d end active)) in
+    let is_not : c.in-Ok.gateway.migrated ≡ false = search rules in
+    absurd (false≢true (sym is_not ∙ migrated))
