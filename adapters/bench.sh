@@ -136,9 +136,11 @@ bench_down() {
   rm -rf "$work"
 }
 
-# OFFLOAD=no leaves the kernel's offloads away.
+# OFFLOAD=no leaves the kernel's offloads away. LOG_DROPS=N has N dropped packets a second told of in the adapter's log.
 offload=()
 [ "${OFFLOAD:-yes}" = yes ] || offload=(--no-offload)
+log_drops=()
+[ -z "${LOG_DROPS-}" ] || log_drops=(--log-drops "$LOG_DROPS")
 spaces_of_devices=(--lan-netns "$bench-lan" --wan-netns "$bench-wan")
 
 # Starts natgw over the directory of the bench, with the ruleset at $work/rules.nft; its id is in `gateway`, and that of what
@@ -146,7 +148,7 @@ spaces_of_devices=(--lan-netns "$bench-lan" --wan-netns "$bench-wan")
 start_natgw() {
   if [ "$way" = tun ]; then
     "$repository/adapters/with-tuns" "${offload[@]}" "${spaces_of_devices[@]}" -- "$natgw" tun "${sides[@]}" --dir "$work/state" \
-      --rules "$work/rules.nft" --report 1 --report-file "$work/natgw.prom" 2>>"$work/adapter.log" &
+      --rules "$work/rules.nft" --report 1 --report-file "$work/natgw.prom" "${log_drops[@]}" 2>>"$work/adapter.log" &
     carrier=$!
   else
     rm -f "$work/natgw.sock"
@@ -167,7 +169,7 @@ kill_natgw() {
 start_adapter() {
   if [ "$way" = adapter ]; then
     python3 "$adapter" "${offload[@]}" --socket "$work/natgw.sock" --rules "$work/rules.nft" "${spaces_of_devices[@]}" \
-      2>>"$work/adapter.log" &
+      --report 1 --report-file "$work/natgw.prom" "${log_drops[@]}" 2>>"$work/adapter.log" &
     carrier=$!
     started+=("$carrier")
   fi
@@ -184,16 +186,10 @@ load_rules() {
   until_said "is loaded" $((loads + 1))
 }
 
-# Prints the counts of what carries packets.
+# Prints the counts of what carries packets, without the zeros. They are written once a second.
 tell_counts() {
-  if [ "$way" = tun ]; then
-    sleep 1.5
-    grep -v "^#\| 0$" "$work/natgw.prom"
-    return
-  fi
-  kill -USR1 "$carrier"
-  until_said "from lan" 1
-  grep "from lan" "$work/adapter.log" | tail -n 1
+  sleep 2.5
+  grep -v "^#\| 0$" "$work/natgw.prom"
 }
 
 # until_said WORDS N: waits until the adapter has said these words N times, ten seconds at most.

@@ -19,6 +19,7 @@ import struct
 import sys
 import time
 
+import counts
 import devices
 import frames
 
@@ -56,20 +57,24 @@ class Clock:
 class Adapter:
     """The two devices, the connection to natgw, and what is on its way between them."""
 
-    def __init__(self, tuns, offload, path, rules):
-        self.tuns, self.offload, self.path, self.rules = tuns, offload, path, rules
+    def __init__(self, tuns, given):
+        self.tuns, self.path, self.rules = tuns, given.socket, given.rules
+        # So many bytes stand in front of each packet.
+        self.front = 0 if given.no_offload else devices.HEADER.size
         self.clock = Clock()
         self.connection = None
         self.told_away = False
         self.unsent = bytearray()
         self.unanswered = 0
-        # For each request without an answer, what stood in front of its packet.
-        self.headers = collections.deque()
+        # For each request without an answer the side, and what stood in front of its packet, with the packet's front; of
+        # others than packets no side.
+        self.asked = collections.deque()
         self.told_moment = 0
-        self.load_wanted = rules is not None
+        self.load_wanted = self.rules is not None
         self.load_unanswered = False
-        self.counts = collections.Counter()
-        self.dropped = collections.Counter()
+        self.counts = counts.Counts()
+        self.report, self.report_file, self.reported = given.report, given.report_file, 0
+        self.log = counts.DropLog(given.log_drops)
 
     # The connection
 
@@ -93,10 +98,10 @@ class Adapter:
         """natgw has gone."""
         self.connection.close()
         self.connection = None
-        self.counts["unanswered"] += self.unanswered
+        self.counts.unanswered += sum(side is not None for side, _front in self.asked)
         self.unsent.clear()
         self.unanswered = 0
-        self.headers.clear()
+        self.asked.clear()
         # A load that has no answer may not have been taken: the next connection begins with it.
         self.load_wanted = self.load_wanted or self.load_unanswered
         self.load_unanswered = False
@@ -104,22 +109,22 @@ class Adapter:
 
     # From the devices to natgw
 
-    def ask(self, request, header=b""):
+    def ask(self, request, side=None, front=b""):
         """Puts a request behind those that aren't sent yet."""
         self.unsent += request
         self.unanswered += 1
-        self.headers.append(header)
+        self.asked.append((side, front))
 
     def take(self, side, moment):
         """Reads packets from a device until it has none, or a batch is full."""
-        front = devices.HEADER.size if self.offload else 0
+        front = self.front
         for _ in range(min(BATCH, MOST_UNANSWERED - self.unanswered)):
             try:
                 data = os.read(self.tuns[side], front + frames.LONGEST_PACKET)
             except BlockingIOError:
                 return
-            self.counts["from", side] += 1
-            self.ask(frames.packet(side, moment, memoryview(data)[front:]), data[:front])
+            self.counts.passed(side, "came", len(data) - front)
+            self.ask(frames.packet(side, moment, memoryview(data)[front:]), side, data[:front + counts.FRONT])
 
     def load(self):
         """Asks natgw to load the ruleset's file."""
@@ -156,16 +161,20 @@ class Adapter:
             raise ConnectionError
         for kind, _number, body in self.answers.feed(data):
             self.unanswered -= 1
-            header = self.headers.popleft()
+            side, front = self.asked.popleft()
             if kind == frames.FORWARD:
-                self.put(body[0], memoryview(body)[1:], header)
+                self.put(body[0], memoryview(body)[1:], front[:self.front])
             elif kind == frames.DROPPED:
-                self.dropped[body[0]] += 1
+                cause = frames.CAUSES[body[0]]
+                self.counts.dropped(side, cause)
+                self.log.tell(side, cause, front[self.front:])
             elif kind == frames.LOADED:
                 self.load_unanswered = False
+                self.counts.rulesets["loaded"] += 1
                 say(f"{self.rules} is loaded")
             elif kind == frames.REFUSED:
                 self.load_unanswered = False
+                self.counts.rulesets["refused"] += 1
                 say(f"{self.rules} was refused, the old rules stay; natgw check says why")
 
     def put(self, side, packet, header):
@@ -180,17 +189,18 @@ class Adapter:
             parts = [devices.HEADER.pack(flags, kind, length, size, start, offset), packet]
         try:
             os.writev(self.tuns[side], parts)
-            self.counts["to", side] += 1
+            self.counts.passed(side, "left", len(packet))
         except OSError as fault:
             if fault.errno not in (errno.EIO, errno.EAGAIN, errno.ENOBUFS, errno.EINVAL):
                 raise
-            self.counts["not put out"] += 1
+            self.counts.lost(side)
 
     # All together
 
     def turn(self, wake):
         """One turn: waits until there is something to do, at most a second, and does it."""
         moment = self.clock.now()
+        self.log.begin(moment)
         if self.load_wanted:
             self.load()
         if moment != self.told_moment:
@@ -214,6 +224,7 @@ class Adapter:
         """Carries packets until TERM or INT."""
         while True:
             woken = True
+            self.tell_counts()
             try:
                 if self.connection is None:
                     self.connect()
@@ -232,15 +243,19 @@ class Adapter:
             self.load_wanted = True
         ends = signal.SIGTERM in numbers or signal.SIGINT in numbers
         if ends or signal.SIGUSR1 in numbers:
-            say(self.told())
+            say(self.counts.line())
         return ends
 
-    def told(self):
-        """The counts, in words."""
-        ways = [f"{way} {name} {self.counts[way, side]}" for way in ("from", "to") for side, name in enumerate(frames.SIDES)]
-        ways += [f"{name} {self.counts[name]}" for name in ("unanswered", "not put out")]
-        causes = ", ".join(f"{frames.CAUSES[cause]} {count}" for cause, count in sorted(self.dropped.items()))
-        return ", ".join(ways) + f", dropped {sum(self.dropped.values())}" + (f" ({causes})" if causes else "")
+    def tell_counts(self):
+        """Writes the counts to their file once they are as old as they may be."""
+        now = time.monotonic()
+        if not self.report or now < self.reported + self.report:
+            return
+        self.reported = now
+        try:
+            self.counts.write(self.report_file)
+        except OSError as fault:
+            say(f"{self.report_file} can't be written: {fault.strerror}")
 
 
 def listen():
@@ -266,6 +281,11 @@ def main():
     words = argparse.ArgumentParser(description="Carries packets between two TUN devices and natgw serve.")
     words.add_argument("--socket", required=True, help="the path that natgw serve was given")
     words.add_argument("--rules", metavar="FILE", help="a ruleset, loaded at the start and on HUP")
+    words.add_argument("--report", type=int, default=0, metavar="N",
+                       help="every so many seconds the counts are written to --report-file; 0 is never (%(default)s)")
+    words.add_argument("--report-file", default="natgw.prom", metavar="FILE", help="(%(default)s)")
+    words.add_argument("--log-drops", type=int, default=0, metavar="N",
+                       help="tells of dropped packets on standard error, at most so many a second (%(default)s)")
     devices.add_options(words, frames.SIDES)
     given = words.parse_args()
     try:
@@ -273,7 +293,7 @@ def main():
     except OSError as fault:
         raise SystemExit(f"tun.py: a device can't be had (is this root?): {fault}") from None
     wake, _end = listen()
-    Adapter(tuns, not given.no_offload, given.socket, given.rules).run(wake, arrived)
+    Adapter(tuns, given).run(wake, arrived)
 
 
 if __name__ == "__main__":

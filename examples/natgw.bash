@@ -13,13 +13,13 @@ _natgw() {
       mapfile -t COMPREPLY < <(compgen -d -- "$word")
       return
       ;;
-    *:--inside | *:--external | *:--lan | *:--wan | *:--at | *:--connections | *:--lan-fd | *:--wan-fd | *:--report) return ;;
+    *:--inside | *:--external | *:--lan | *:--wan | *:--at | *:--connections | *:--lan-fd | *:--wan-fd | *:--report | *:--log-drops) return ;;
     *:--socket | *:--rules | *:--report-file) ;;
     *)
       case $command in
         check) choices="--explain $sides" ;;
         serve) choices="$state --socket --socket-mode --connections $sides" ;;
-        tun) choices="$state --lan-fd --wan-fd --rules --no-offload --report --report-file $sides" ;;
+        tun) choices="$state --lan-fd --wan-fd --rules --no-offload --report --report-file --log-drops $sides" ;;
         show) choices="$state --running --json $sides" ;;
         rules) choices="$state --running $sides" ;;
         replay | loop) choices="$state $sides" ;;
