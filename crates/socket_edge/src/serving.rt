@@ -101,6 +101,9 @@ fn make_places<T>(items: &mut Vec<T>, more: usize) -> Result<(), AllocError>
 fn keep_bodies(answers: &mut Vec<(u64, Answer)>, bodies: &mut Vec<Vec<u8>>)
     ensures none { answers.new.items ≡ [] }
     ensures capacity { vec_capacity answers.new ≡ vec_capacity answers.old }
+    ensures few { vec_len bodies.old ≤ 1024 → vec_len bodies.new ≤ 1024 }
+    ensures short { AreShort bodies.old.items → AreShort bodies.new.items }
+    ensures places { vec_capacity bodies.new ≤ max (vec_capacity bodies.old) 2048 }
 {
     while let Some((_, answer)) = answers.pop() {
         if let Answer::Forward(_, packet) = answer {
@@ -124,7 +127,8 @@ fn keep_body(bodies: &mut Vec<Vec<u8>>, body: Vec<u8>)
     }
 }
 
-/// Lets the answers go, and makes room for so many where they were.
+/// Lets the answers go, and makes room for so many where they were. Keeps the memory of some of their packets for
+/// bodies: at most 1,024, each of at most 2,048 bytes, if there were no more and no longer ones before.
 pub fn empty_for(
     answers: &mut Vec<(u64, Answer)>,
     bodies: &mut Vec<Vec<u8>>,
@@ -132,6 +136,10 @@ pub fn empty_for(
 ) -> Result<(), AllocError>
     ensures none { answers.new.items ≡ [] }
     ensures ok { OnOk result (vec_len answers.new + count ≤ vec_capacity answers.new) }
+    ensures most { vec_capacity answers.new ≤ max (vec_capacity answers.old) (2 * count) }
+    ensures few { vec_len bodies.old ≤ 1024 → vec_len bodies.new ≤ 1024 }
+    ensures short { AreShort bodies.old.items → AreShort bodies.new.items }
+    ensures places { vec_capacity bodies.new ≤ max (vec_capacity bodies.old) 2048 }
 {
     keep_bodies(answers, bodies);
     make_places(answers, count)

@@ -1,13 +1,16 @@
 //! The bytes that were read and aren't answered yet, and in front of them, in the same memory, the frames of answers to
 //! those that were. The next read goes right behind them, into memory that is kept.
 //!
+//! Memory is cleared before it is first read into, and a run may be of one packet. So the first reads ask for 4,096
+//! bytes, and all behind one that came full ask for 65,536.
+//!
 //! `read` puts what comes behind the bytes that wait. A frame leaves their front by `forward_next` and `take_next`,
 //! which have its packet taken where it lies (`forwarding::forward_frame` and `answer_in_place`) and make its answer of
 //! it, or by `skip`, where `serving` offers a copy of it; then `put` writes the answer where the request stood
 //! (`frames::fill_frames`), if there is room there. `answered` is what stands here to be written:
 //! `forget_answered` lets it go behind that. `cut_answered` takes the frames of held answers away: where their changes
 //! could not be synced, or where they make way for a frame that is offered as a copy (`serving::make_way`).
-ghost use Rattle.std.specs.Prelude.{◌≡◌, ◌≢◌, ◌+◌, ◌-◌, ◌≤◌, ◌++◌, ◌∷◌, [], ℕ, List, IfNone, IfErr, IfOk, IfSome, OnOk, OnErr, length, take, drop, true, false};
+ghost use Rattle.std.specs.Prelude.{◌≡◌, ◌≢◌, ◌+◌, ◌-◌, ◌<◌, ◌≤◌, ◌++◌, ◌∷◌, [], ℕ, List, IfNone, IfErr, IfOk, IfSome, OnOk, OnErr, length, take, drop, true, false};
 ghost use Rattle.gateway.specs.Running.{CarriesOn};
 ghost use Rattle.machine.specs.declared.event.Answer.{Answer};
 ghost use Rattle.machine.specs.declared.event.Event.{Event};
@@ -28,6 +31,9 @@ use std::marker::Model;
 /// The most bytes that one read takes.
 const MOST_READ: usize = 65_536;
 
+/// How many bytes a read asks for until one of them came full.
+const FIRST_READ: usize = 4_096;
+
 /// Why nothing was read.
 #[derive(Clone, Copy, Drop)]
 pub enum Unread {
@@ -47,10 +53,12 @@ pub struct Waiting {
     start: usize,
     /// Where they end.
     end: usize,
+    /// How many bytes the next read asks for.
+    asks: usize,
 }
 
 impl Model for Waiting {
-    ghost use Rattle.std.specs.Prelude.{◌≤◌, length, take, drop};
+    ghost use Rattle.std.specs.Prelude.{◌<◌, ◌≤◌, length, take, drop};
     ghost use Rattle.socket_edge.specs.Exchange.{Exchange};
 
     ghost Value = { Exchange };
@@ -62,7 +70,7 @@ impl Model for Waiting {
     } };
 
     ghost invariant = { λ w. (w.answered ≤ w.start) × (w.start ≤ w.end)
-        × (w.end ≤ length w.bytes.items) };
+        × (w.end ≤ length w.bytes.items) × (0 < w.asks) × (w.asks ≤ 65536) };
 }
 
 impl Waiting {
@@ -75,6 +83,7 @@ impl Waiting {
             answered: 0,
             start: 0,
             end: 0,
+            asks: FIRST_READ,
         }
     }
 
@@ -256,12 +265,13 @@ impl Waiting {
             → P.went peer.old peer.new (Gave [] ∷ [])) }
     {
         self.move_to_front();
-        if make_room(&mut self.bytes, self.end).is_err() {
+        if make_room(&mut self.bytes, self.end, self.asks).is_err() {
             return Err(Unread::NoMemory);
         }
-        match read_behind(self.bytes.as_mut_slice(), self.end, peer) {
+        match read_behind(self.bytes.as_mut_slice(), self.end, self.asks, peer) {
             Ok(n) => {
                 self.end += n;
+                self.asks = asks_behind(self.asks, n);
                 Ok(n)
             }
             Err(fault) => Err(fault),
@@ -297,35 +307,54 @@ fn move_down(bytes: &mut [u8], from: usize, len: usize, to: usize)
     }
 }
 
-/// Makes room for a read behind the first `len` bytes.
-fn make_room(bytes: &mut Vec<u8>, len: usize) -> Result<(), AllocError>
-    requires { len ≤ length bytes.old.items }
+/// How many bytes a read asks for behind one that asked for `asked` and got `got`.
+fn asks_behind(asked: usize, got: usize) -> usize
+    requires some { 0 < asked }
+    requires most { asked ≤ 65536 }
+    ensures some { 0 < result }
+    ensures most { result ≤ 65536 }
+    ensures full { got ≡ asked → result ≡ 65536 }
+    ensures same { got ≢ asked → result ≡ asked }
+{
+    if got == asked { MOST_READ } else { asked }
+}
+
+/// Makes room for a read of `size` bytes behind the first `len`.
+fn make_room(bytes: &mut Vec<u8>, len: usize, size: usize) -> Result<(), AllocError>
+    requires within { len ≤ length bytes.old.items }
+    requires size { size ≤ 65536 }
     ensures front { take len bytes.new.items ≡ take len bytes.old.items }
     ensures longer { length bytes.old.items ≤ length bytes.new.items }
     ensures most { length bytes.new.items ≢ length bytes.old.items
-        → length bytes.new.items ≡ len + 65536 }
-    ensures ok { OnOk result (len + 65536 ≤ length bytes.new.items) }
+        → length bytes.new.items ≡ len + size }
+    ensures ok { OnOk result (len + size ≤ length bytes.new.items) }
 {
-    let end = len + MOST_READ;
+    let end = len + size;
     if bytes.as_slice().len() >= end {
         return Ok(());
     }
     bytes.resize(end, 0)
 }
 
-/// Reads once, behind the first `len` bytes, and says how many bytes came.
-fn read_behind<P: Peer>(bytes: &mut [u8], len: usize, peer: &mut P) -> Result<usize, Unread>
-    requires { len + 65536 ≤ length bytes.old }
+/// Asks once for `size` bytes, puts what comes behind the first `len`, and says how many bytes came.
+fn read_behind<P: Peer>(
+    bytes: &mut [u8],
+    len: usize,
+    size: usize,
+    peer: &mut P,
+) -> Result<usize, Unread>
+    requires room { len + size ≤ length bytes.old }
+    requires some { 0 < size }
     ensures len { length bytes.new ≡ length bytes.old }
     ensures ok { IfOk result (λ n. (got : List ℕ)
         × P.went peer.old peer.new (Gave got ∷ [])
-        × (take (len + n) bytes.new ≡ take len bytes.old ++ got) × (n ≡ length got) × (n ≤ 65536)) }
+        × (take (len + n) bytes.new ≡ take len bytes.old ++ got) × (n ≡ length got) × (n ≤ size)) }
     ensures end { IfOk result (λ n. n ≡ 0 → P.ended peer.new) }
     ensures err { OnErr result (take len bytes.new ≡ take len bytes.old) }
     ensures failed { IfErr result (λ e. (e ≡ Unread.Failed)
         × P.went peer.old peer.new (Gave [] ∷ [])) }
 {
-    match peer.read(&mut bytes[len..len + MOST_READ]) {
+    match peer.read(&mut bytes[len..len + size]) {
         Ok(n) => Ok(n),
         Err(_) => Err(Unread::Failed),
     }

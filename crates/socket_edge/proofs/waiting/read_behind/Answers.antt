@@ -14,10 +14,10 @@ pub returns-in-Ok-clause-ok : goal.returns-in-Ok-clause-ok
 returns-in-Ok-clause-ok g c =
     let n = c.in-Ok.n in
     let few : n ≤ length c.read.new.bytes = c.in-Ok.ensures.bound.0 in
-    let room : length c.read.new.bytes ≤ 65536 = grind (arith, common_steps) in (
+    let room : length c.read.new.bytes ≤ c.args.size = grind (arith, common_steps) in (
       take n c.read.new.bytes,
       c.in-Ok.ensures.went,
-      front_then c.args.len n c.args.bytes.now c.read.new.bytes _ (omega (arith, c.requires)) few,
+      front_then c.args.len n c.args.bytes.now c.read.new.bytes _ (omega (arith, c.requires.room)) few,
       c.in-Ok.ensures.bound.1,
       omega (arith, few, room),
     )

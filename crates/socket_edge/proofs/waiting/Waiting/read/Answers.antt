@@ -14,8 +14,8 @@ returns-in-Ok-clause-ok g c =
     let it = c.in-Ok.ensures.ok in
     let value = c.as_mut_slice.ensures.value in
     let same : take self.end mid ≡ take self.end old = ap (take self.end) value ∙ c.make_room.ensures.front in
-    let room : self.end + 65536 ≤ length c.make_room.new.bytes.items = ok_of c.make_room.result (sym c.is_err.ensures.value ∙ c.if-is_err.false) c.make_room.ensures.ok in
-    let fits : self.end + 65536 ≤ length mid = omega (arith, ap length value, room) in
+    let room : self.end + self.asks ≤ length c.make_room.new.bytes.items = ok_of c.make_room.result (sym c.is_err.ensures.value ∙ c.if-is_err.false) c.make_room.ensures.ok in
+    let fits : self.end + self.asks ≤ length mid = omega (arith, ap length value, room) in
     let now = with_items_is c.make_room.new.bytes new (c.in-Ok.ensures.len ∙ c.as_mut_slice.ensures.len) in
     let seen = seen_behind self.answered self.start self.end c.in-Ok.n old mid new it.0 i.0 i.1 i.2 (omega (arith, fits)) (omega (arith, c.in-Ok.ensures.len, it.4, fits)) same it.2 in (
       it.0,
@@ -23,7 +23,7 @@ returns-in-Ok-clause-ok g c =
       ap (view self.answered self.start (self.end + c.in-Ok.n)) now ∙ seen
           ∙ ap (λ (x : Exchange). record { answered = x.answered; unanswered = x.unanswered ++ it.0; reach = x.reach + c.in-Ok.n }) (c.self.view_is ∙ c.move_to_front.ensures),
       it.3,
-      it.4,
+      omega (arith, it.4, i.4),
     )
 
 pub returns-in-Err-clause-err : goal.returns-in-Err-clause-err
