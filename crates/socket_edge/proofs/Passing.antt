@@ -9,7 +9,7 @@ use Rattle.machine.specs.declared.event.Answer.{Answer}
 use Rattle.machine.specs.declared.event.Event.{Event}
 use Rattle.gateway.specs.Kept.{Kept}
 use Rattle.frames.specs.Answers.{frame, frames}
-use Rattle.socket_edge.specs.Serving.{TakenInPlace}
+use Rattle.socket_edge.specs.Serving.{AreHeld, TakenInPlace}
 
 pub some_of : {T : Type 0} {P : T → Type 0} (o : Option T) → is_some o ≡ true → IfSome o P → (x : T) × P x
 some_of None e p = absurd cc
@@ -22,6 +22,11 @@ none_of (Some x) e p = absurd cc
 pub none_or_some : (o : Option ℕ) → (o ≡ None) ⊎ (o ≢ None)
 none_or_some None = inl refl
 none_or_some (Some n) = inr (λ e. absurd cc)
+
+-- where none is held, no frame of a held answer stands in front
+pub none-in-front : {D : Type 0} (from : Option ℕ) (answered : List ℕ) (gateway : Kept D) → AreHeld from answered gateway → gateway.told.held ≡ [] → from ≡ None
+none-in-front None answered gateway held none = refl
+none-in-front (Some n) answered gateway held none = absurd (held.2 none)
 
 pub one-more : (held : List (ℕ × Answer)) (answer : ℕ × Answer) → frames (held ++ answer ∷ []) ≡ frames held ++ frame answer
 one-more held answer = flat_map-append frame held (answer ∷ []) ∙ ap (λ (zs : List ℕ). flat_map frame held ++ zs) (append-nil (frame answer))

@@ -2,12 +2,13 @@
 //! `edge::answer_read` and `edge::answer_front` go it:
 //!
 //! - `empty_for`: the answers of the read before are let go, and their memory is kept for bodies (`keep_bodies`);
-//! - `offer_all`: frame after frame is offered, until a `Halt`. `offer_next` has a packet taken where it lies
-//!   (`Waiting::forward_next` and `take_next`), behind others whose answers are held (`take_or_settle`) until these are
-//!   synced (`gateway::running::settle`), or where none are (`offer_idle`). Of any other frame a copy is offered:
-//!   `offer_copy` takes it (`frames::take_frame`), and `offer_event` hands its event to
-//!   `gateway::running::take`. Before one that is never taken so, the frames of held answers make way (`make_way`).
-//!   What is answered goes back into the bytes (`put_back`);
+//! - `offer_all`: frame after frame is offered, until a `Halt`. A packet that leaves at once does so where it lies
+//!   (`send_at_once`, by `Waiting::forward_next`). `offer_next` has any other taken where it lies too
+//!   (`Waiting::take_next`), behind others whose answers are held (`take_or_settle`) until these are synced
+//!   (`gateway::running::settle`), or where none are (`offer_idle`). Of any other frame a copy is offered: `offer_copy`
+//!   takes it (`frames::take_frame`), and `offer_event` hands its event to `gateway::running::take`. Before one that is
+//!   never taken so, the frames of held answers make way (`make_way`). What is answered goes back into the bytes
+//!   (`put_back`);
 //! - `close`: what is held is synced and handed out (`give_held`, by `gateway::running::hand_out`) and put back too,
 //!   and `end_at` says what the halt means for the run. Then `edge` writes the answers (`sending::send_behind`);
 //! - `compact_grown`: a file that has grown is made short (`Gateway::compact`).
@@ -258,10 +259,12 @@ fn is_idle<D: Disk + Drop>(answers: &[(u64, Answer)], gateway: &Gateway<D>) -> b
     answers.is_empty() && gateway.held() == 0
 }
 
-/// Has the packet at the front leave at once, where it lies, if there is hope that it does. Says whether it left.
+/// Has the packet at the front leave at once, where it lies, if there is hope that it does and no answer waits before
+/// its own. Says whether it left.
 fn send_at_once<D: Disk + Drop>(
     hopeful: bool,
     waiting: &mut Waiting,
+    answers: &[(u64, Answer)],
     gateway: &mut Gateway<D>,
 ) -> bool
     requires stands { gateway.old.fallen ≡ false }
@@ -270,11 +273,15 @@ fn send_at_once<D: Disk + Drop>(
         × (waiting.new.answered ≡ waiting.old.answered ++ frame answer)
         × ((before : List (ℕ × Answer)) → CarriesOn D.honest D.moment D.left D.failed
         gateway.old gateway.new (event ∷ []) before (before ++ answer ∷ [])) }
+    ensures first { result ≡ true → (answers.now ≡ []) × (gateway.old.told.held ≡ []) }
     ensures stays { result ≡ false → (waiting.new ≡ waiting.old) × (gateway.new ≡ gateway.old) }
     ensures held { gateway.new.told.held ≡ gateway.old.told.held }
     ensures stands { gateway.new.fallen ≡ false }
 {
-    hopeful && waiting.forward_next(gateway)
+    if !hopeful || !is_idle(answers, gateway) {
+        return false;
+    }
+    waiting.forward_next(gateway)
 }
 
 /// Offers the frame at the front, before which no held answer's frame stands. If `answers` is empty and the gateway
@@ -282,7 +289,6 @@ fn send_at_once<D: Disk + Drop>(
 /// take it so, a copy of the frame is offered.
 fn offer_idle<D: Disk + Drop>(
     alloc: Global,
-    hopeful: bool,
     waiting: &mut Waiting,
     answers: &mut Vec<(u64, Answer)>,
     bodies: &mut Vec<Vec<u8>>,
@@ -304,12 +310,6 @@ fn offer_idle<D: Disk + Drop>(
 {
     if !is_idle(answers.as_slice(), gateway) {
         return offer_copy(alloc, waiting, answers, bodies, gateway);
-    }
-    if send_at_once(hopeful, waiting, gateway) {
-        return Step::Took {
-            leaves: true,
-            held_from: None,
-        };
     }
     if make_places(answers, MOST_HELD).is_err() {
         return offer_copy(alloc, waiting, answers, bodies, gateway);
@@ -427,7 +427,6 @@ fn make_way<D: Disk + Drop>(
 /// Offers the frame at the front, behind the frames of held answers that stand from `held_from` on, if any do.
 fn offer_next<D: Disk + Drop>(
     alloc: Global,
-    hopeful: bool,
     held_from: Option<usize>,
     waiting: &mut Waiting,
     answers: &mut Vec<(u64, Answer)>,
@@ -453,7 +452,7 @@ fn offer_next<D: Disk + Drop>(
     let held_from = make_way(held_from, waiting, gateway);
     match take_or_settle(held_from, waiting, gateway) {
         Some(step) => step,
-        None => offer_idle(alloc, hopeful, waiting, answers, bodies, gateway),
+        None => offer_idle(alloc, waiting, answers, bodies, gateway),
     }
 }
 
@@ -493,7 +492,13 @@ pub fn offer_all<D: Disk + Drop>(
     loop {
         ahead = ahead.next(waiting.unanswered(), gateway);
         let hopeful = ahead.is_known() && misses < MOST_MISSES;
-        match offer_next(alloc, hopeful, held_from, waiting, answers, bodies, gateway) {
+        if send_at_once(hopeful, waiting, answers.as_slice(), gateway) {
+            prove!(count < most);
+            count += 1;
+            misses = 0;
+            continue;
+        }
+        match offer_next(alloc, held_from, waiting, answers, bodies, gateway) {
             Step::Took {
                 leaves,
                 held_from: now_held_from,

@@ -4,33 +4,14 @@ use Rattle.std.proofs.Math.Seq.{take-append_seam}
 use Rattle.gateway.specs.Running.{CarriesOn}
 use Rattle.machine.specs.declared.event.Answer.{Answer}
 use Rattle.frames.specs.Answers.{frame}
-use Rattle.socket_edge.specs.Exchange.{Exchange}
 use Rattle.socket_edge.proofs.serving.offer_idle.Goals as goal
-
-pub returns-then-send_at_once-clause-step : goal.returns-then-send_at_once-clause-step
-returns-then-send_at_once-clause-step g c =
-    let left = c.if-send_at_once.ensures.left refl in
-    let event = left.0 in
-    let answer = left.1 in
-    let none : c.args.answers.now.items ≡ [] = sym c.as_slice.ensures.value ∙ c.if-not-is_idle.ensures.none refl in (
-      answer ∷ [],
-      left.3 ∙ ap (λ (bytes : List ℕ). c.args.waiting.now.answered ++ bytes) (sym (append-nil (frame answer))),
-      λ before. (
-        event,
-        left.2,
-        subst (λ (items : List (ℕ × Answer)). CarriesOn g.D.Disk.honest g.D.Disk.moment g.D.Disk.left g.D.Disk.failed c.args.gateway.now c.send_at_once.new.gateway (event ∷ []) (before ++ items) (before ++ answer ∷ items)) (sym none)
-            (subst (λ (front : List (ℕ × Answer)). CarriesOn g.D.Disk.honest g.D.Disk.moment g.D.Disk.left g.D.Disk.failed c.args.gateway.now c.send_at_once.new.gateway (event ∷ []) front (before ++ answer ∷ [])) (sym (append-nil before))
-            (left.4 before)),
-      ),
-    )
 
 pub returns-then-placed-clause-step : goal.returns-then-placed-clause-step
 returns-then-placed-clause-step g c =
-    let same = c.if-send_at_once.ensures.stays refl in
-    let p = rw (same.0, same.1) at c.in-Some.ensures.some in
+    let p = c.in-Some.ensures.some in
     let passes = rw c.if-placed.true at p.4 in
     let was = c.args.waiting.now.answered in
-    let size : length c.answered-from.result.now ≡ length was = ap length (c.answered-from.ensures ∙ ap (λ (x : Exchange). x.answered) same.0) in (
+    let size : length c.answered-from.result.now ≡ length was = ap length c.answered-from.ensures in (
       [],
       ap (λ (n : ℕ). take n c.take_next.new.self.answered) size ∙ ap (take (length was)) p.3 ∙ take-append_seam was (frame p.1) ∙ sym (append-nil was),
       λ before. (
@@ -43,8 +24,7 @@ returns-then-placed-clause-step g c =
 
 pub returns-clause-step : goal.returns-clause-step
 returns-clause-step g c =
-    let same = c.if-send_at_once.ensures.stays refl in
-    let p = rw (same.0, same.1) at c.in-Some.ensures.some in
+    let p = c.in-Some.ensures.some in
     let passes = rw c.if-placed.false at p.4 in
     let answer = p.1 in
     let none : c.args.answers.now.items ≡ [] = sym c.as_slice.ensures.value ∙ c.if-not-is_idle.ensures.none refl in (
