@@ -1,8 +1,8 @@
 //! The bytes that were read and aren't answered yet, and in front of them, in the same memory, the frames of answers to
 //! those that were. The next read goes right behind them, into memory that is kept.
 //!
-//! Memory is cleared before it is first read into, and a run may be of one packet. So the first reads ask for 4,096
-//! bytes, and all behind one that came full ask for 65,536.
+//! Memory is cleared before it is first read into, and a run may be of one packet. So the first reads ask for 16,384
+//! bytes, which hold a turn of short packets, and all behind one that came full ask for 65,536.
 //!
 //! `read` puts what comes behind the bytes that wait. A frame leaves their front by `forward_next` and `take_next`,
 //! which have its packet taken where it lies (`forwarding::forward_frame` and `answer_in_place`) and make its answer of
@@ -32,7 +32,7 @@ use std::marker::Model;
 const MOST_READ: usize = 65_536;
 
 /// How many bytes a read asks for until one of them came full.
-const FIRST_READ: usize = 4_096;
+const FIRST_READ: usize = 16_384;
 
 /// Why nothing was read.
 #[derive(Clone, Copy, Drop)]
