@@ -1,5 +1,5 @@
 //! A directory, of which both files are opened.
-ghost use Rattle.std.specs.Prelude.{◌≡◌, ◌<◌, IfOk};
+ghost use Rattle.std.specs.Prelude.{◌≡◌, ◌<◌, IfOk, OnOk};
 ghost use Rattle.disk_model.specs.declared.disk.FileId.{FileId};
 ghost use Rattle.file_disk.specs.Prepared.{IsPrepared};
 
@@ -15,6 +15,9 @@ pub trait Directory {
     /// It is this file that stands at that name.
     ghost gives: { Self → FileId → Self.File → Type 0 };
 
+    /// A loss of power leaves this file at that name.
+    ghost keeps_name: { Self → FileId → Self.File → Type 0 };
+
     /// Opens one file, made if it is missing, and locks it until it is dropped.
     ///
     /// # Errors
@@ -23,12 +26,14 @@ pub trait Directory {
     fn open_file(&self, file: FileId) -> Result<Self::File, OpenError>
         ensures { IfOk result (λ opened. gives self.now file opened) };
 
-    /// Syncs the names.
+    /// Syncs the names of these two files, `natgw.a` and `natgw.b`, which it has opened.
     ///
     /// # Errors
     ///
-    /// Why that can't be done.
-    fn sync_names(&self) -> Result<(), OpenError>;
+    /// Why that can't be done, or that a name no longer leads to its file.
+    fn sync_names(&self, a: &Self::File, b: &Self::File) -> Result<(), OpenError>
+        ensures { OnOk result (keeps_name self.now FileId.A a.now
+            × keeps_name self.now FileId.B b.now) };
 }
 
 // Opens one file and prepares it.
@@ -57,11 +62,13 @@ pub fn open_in<D: Directory>(directory: &D, room: u64) -> Result<FileDisk<D::Fil
         × IsPrepared D.File.honest D.File.holds D.File.leaves room found disk.files.a) }
     ensures b { IfOk result (λ disk. (found : D.File) × D.gives directory.now FileId.B found
         × IsPrepared D.File.honest D.File.holds D.File.leaves room found disk.files.b) }
+    ensures names { IfOk result (λ disk. D.keeps_name directory.now FileId.A disk.files.a
+        × D.keeps_name directory.now FileId.B disk.files.b) }
     ensures calls { IfOk result (λ disk. disk.calls ≡ 0) }
     ensures failures { IfOk result (λ disk. disk.failures ≡ 0) }
 {
     let a = opened(directory, FileId::A, room)?;
     let b = opened(directory, FileId::B, room)?;
-    directory.sync_names()?;
+    directory.sync_names(&a, &b)?;
     Ok(FileDisk::of(a, b))
 }

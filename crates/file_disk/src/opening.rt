@@ -4,7 +4,7 @@ ghost use Rattle.file_disk.specs.Named.{file_name};
 ghost use Rattle.file_disk.specs.Refused.{IsLockToldAs, IsToldAs, IsToldOf};
 ghost use Rattle.file_disk.specs.declared.opening.OpenError.TheVariants.{NoMemory};
 
-use crate::{Directory, FileDisk, HeldFile, open_in};
+use crate::{Directory, DiskFile, FileDisk, HeldFile, open_in};
 use disk_model::FileId;
 use std::alloc::AllocError;
 use std::fs::{self, File, Metadata, OpenOptions, TryLockError};
@@ -178,6 +178,8 @@ impl Directory for SystemDirectory<'_> {
 
     ghost gives = { λ _ _ _. Unit {0} };
 
+    ghost keeps_name = { λ _ _ _. Unit {0} };
+
     fn open_file(&self, id: FileId) -> Result<HeldFile, OpenError> {
         match self.held(id) {
             Ok(file) => Ok(file),
@@ -185,9 +187,12 @@ impl Directory for SystemDirectory<'_> {
         }
     }
 
-    fn sync_names(&self) -> Result<(), OpenError> {
+    fn sync_names(&self, a: &HeldFile, b: &HeldFile) -> Result<(), OpenError> {
         self.folder.sync_all()?;
         if !is_one(&fs::metadata(self.rt, self.path)?, &self.folder.metadata()?) {
+            return Err(OpenError::Changed);
+        }
+        if !a.is_in_place()? || !b.is_in_place()? {
             return Err(OpenError::Changed);
         }
         Ok(())

@@ -25,6 +25,8 @@ impl Directory for MemoryDirectory {
     ghost gives = { λ directory file opened.
         opened.bytes ≡ pair directory.a.items directory.b.items file };
 
+    ghost keeps_name = { λ _ _ _. Unit {0} };
+
     fn open_file(&self, file: FileId) -> Result<MemoryFile, OpenError> {
         let bytes = match file {
             FileId::A => &self.a,
@@ -33,7 +35,8 @@ impl Directory for MemoryDirectory {
         Ok(MemoryFile::of(self.alloc, bytes)?)
     }
 
-    fn sync_names(&self) -> Result<(), OpenError> {
+    // No loss of power takes a name from memory.
+    fn sync_names(&self, _a: &MemoryFile, _b: &MemoryFile) -> Result<(), OpenError> {
         Ok(())
     }
 }
