@@ -31,7 +31,9 @@ pub mod Refreshing
 pub mod Called
 pub mod Beginnings
 pub mod Lived
+pub mod Idling
 pub mod Admitting
+pub mod Hairpinning
 pub mod Keeping
 pub mod Sources
 pub mod Looked

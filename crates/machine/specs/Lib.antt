@@ -3,6 +3,7 @@ pub mod Core
 pub mod Fates
 pub mod Flows
 pub mod Former
+pub mod Hairpins
 pub mod Hosts
 pub mod Judged
 pub mod Laws

@@ -1,5 +1,5 @@
 -- What RFC 4787 (UDP) and RFC 5382 (TCP) ask of a translator, said of a step of every sound state and of every packet.
-use Rattle.std.specs.Prelude.{◌≡◌, ◌≢◌, ◌⊎◌, ℕ, ◌<◌, ◌^◌, List, length, Some, None, IsTrue, IsFalse}
+use Rattle.std.specs.Prelude.{◌≡◌, ◌≢◌, ◌⊎◌, ℕ, ◌+◌, ◌<◌, ◌≤◌, ◌^◌, List, length, Some, None, IsTrue, IsFalse}
 use Rattle.std.specs.List.{Contains}
 use Rattle.packet.specs.Config.{Config, is_config, is_inside}
 use Rattle.packet.specs.Translated.{translated}
@@ -10,15 +10,17 @@ use Rattle.packet.specs.declared.endpoint.Flags.{Flags}
 use Rattle.packet.specs.declared.endpoint.Iface.{Iface}
 use Rattle.packet.specs.declared.endpoint.Iface.TheVariants.{Lan, Wan}
 use Rattle.packet.specs.declared.endpoint.Proto.{Proto}
+use Rattle.packet.specs.declared.endpoint.Proto.TheVariants.{Tcp, Udp}
 use Rattle.packet.specs.declared.route.Route.{Route}
 use Rattle.packet.specs.declared.route.Route.TheVariants.{Out, Hairpin}
 use Rattle.packet.specs.declared.route.Route.TheVariants.{In as InRoute}
 use Rattle.packet.specs.declared.view.View.{View}
 use Rattle.portpick.specs.Choice.{IsAlike}
 use Rattle.sessions.specs.Laws.{IsMapping}
-use Rattle.sessions.specs.Life.{restarts, shown}
+use Rattle.sessions.specs.Life.{phase_of, restarts, shown}
 use Rattle.sessions.specs.Listing.{In}
 use Rattle.sessions.specs.Table.{HasInside, HasOutside, HasPeer, most_sessions, restarted, seen}
+use Rattle.sessions.specs.declared.life.Phase.TheVariants.{Closing, Established, Partial}
 use Rattle.sessions.specs.declared.session.Opener.{Opener}
 use Rattle.sessions.specs.declared.session.Opener.TheVariants.{Inside, Remote}
 use Rattle.sessions.specs.declared.session.Session.{Session}
@@ -33,7 +35,7 @@ use Rattle.hairpin.specs.Legs.{connection_of, needs_session}
 use Rattle.machine.specs.Hosts.{IsOccupied}
 use Rattle.machine.specs.Judged.{AreJudged, IsJudged, Judged}
 use Rattle.machine.specs.Laws.{Came, IsLeftAlone, LetsPass, living}
-use Rattle.machine.specs.Machine.{State, after, empty_at, step}
+use Rattle.machine.specs.Machine.{State, after, empty_at, later, step}
 use Rattle.machine.specs.Noted.{IsResumed, lasting}
 use Rattle.machine.specs.Sound.{IsSoundState}
 use Rattle.machine.specs.declared.event.Answer.TheVariants.{Forward}
@@ -341,3 +343,42 @@ PacketsOutCameIn =
     → (step config s judged).1 ≡ Forward out packet
     → (iface : Iface) × (bytes : List ℕ) × (source : Endpoint) × (destination : Endpoint)
     × (event.what ≡ what.Packet iface bytes) × (packet ≡ translated bytes source destination)
+
+-- ---- how long a session may be idle (RFC 4787, REQ-5; RFC 5382, REQ-5)
+
+-- it may be idle for so many seconds
+abbrev pub MayBeIdle : Session → ℕ → Type 0
+MayBeIdle t seconds = ((t.proto ≡ Udp) × (seconds ≡ 300))
+    ⊎ ((t.proto ≡ Tcp) × (phase_of t.seen ≡ Partial) × (seconds ≡ 240))
+    ⊎ ((t.proto ≡ Tcp) × (phase_of t.seen ≡ Established) × (seconds ≡ 7440))
+    ⊎ ((t.proto ≡ Tcp) × (phase_of t.seen ≡ Closing) × (seconds ≡ 240))
+
+-- whatever its phase, it may be idle for at least so many
+abbrev pub MayAlwaysBeIdle : Proto → ℕ → Type 0
+MayAlwaysBeIdle Udp seconds = seconds ≡ 300
+MayAlwaysBeIdle Tcp seconds = seconds ≡ 240
+
+-- it is held between the endpoints that it had, and its last packet is the same or a later one
+pub record GoesOn (s : State) (t : Session) : Type 0 where
+  pub session : Session
+  pub is_held : In session s.sessions
+  pub flow : HasInside t.proto t.inside t.remote session
+  pub outside : session.outside ≡ t.outside
+  pub last : t.last ≤ session.last
+
+-- Whatever an event brings, a session goes on that has been idle for less than its time, and one whose time has passed
+-- has ended: only by beginning anew there is one of its protocol, inside and remote endpoint. And whatever a run of
+-- events brings, each session goes on that has been idle for less than the least such time at its end.
+pub record SessionsLiveTheirTime : Type 0 where
+  pub lives : (config : Config) (s : State) (judged : Judged) (t : Session) (seconds : ℕ)
+      → IsSoundState config s → In t s.sessions → MayBeIdle t seconds
+      → later s.clock judged.moment < t.last + seconds → GoesOn (step config s judged).0 t
+  pub ends : (config : Config) (s : State) (judged : Judged) (t u : Session) (seconds : ℕ)
+      → IsSoundState config s → In t s.sessions → MayBeIdle t seconds
+      → t.last + seconds ≤ later s.clock judged.moment
+      → In u (step config s judged).0.sessions → HasInside t.proto t.inside t.remote u
+      → Began config s judged u
+  pub runs : (config : Config) (s : State) (events : List Event) (judged : List Judged)
+      (t : Session) (seconds : ℕ) → IsTrue (is_config config) → AreJudged config events judged
+      → IsSoundState config s → In t s.sessions → MayAlwaysBeIdle t.proto seconds
+      → (after config s judged).clock < t.last + seconds → GoesOn (after config s judged) t

@@ -3,9 +3,10 @@
 //!
 //! A state is sound where its sessions can be held together, which makes the mappings of each protocol one-to-one,
 //! no packet of theirs is later than the clock, and the rules are those of the text (`specs/Sound`).
+ghost use Rattle.machine.specs.Hairpins.{HairpinsComeIn};
 ghost use Rattle.machine.specs.Laws.{AnswersComeIn, ClockNeverFalls, DropsChangeNothing, EventsAreJudgedOnce, FilteredByAddressAlone, ForwardsArePlanned, FullAddressesArePassedOver, HostsKeepOneAddress, InsideMapsOnce, KnownAddressesAreLetIn, LivingMappingsStay, LoadsTakeForce, MappingsAreReused, NewMappingsArePaired, NewPortsKeepClass, OneAddressIsAsBefore, OnlyKnownAddressesComeIn, OnlyLoadsChangeRules, OnlyTranslationsMoveHosts, OutsideIsNotShared, RefusalsChangeNothing, RunsKeepSound, SessionsAreAlive, SessionsGoOut, StartIsSound, StepsKeepSound, StrangersAreFiltered, TranslationsStayInBounds};
 ghost use Rattle.machine.specs.Order.{CausesComeInOrder};
-ghost use Rattle.machine.specs.Requirements.{HairpinsHaveExternalSources, LivingSessionsStay, MappingsLetIn, NewMappingsKeepPorts, PacketsLeaveBySessions, PacketsOutCameIn, SessionsBeginByPackets};
+ghost use Rattle.machine.specs.Requirements.{HairpinsHaveExternalSources, LivingSessionsStay, MappingsLetIn, NewMappingsKeepPorts, PacketsLeaveBySessions, PacketsOutCameIn, SessionsBeginByPackets, SessionsLiveTheirTime};
 
 use rulesyntax::one_ruleset;
 
@@ -180,6 +181,14 @@ pub fn mappings_let_in()
     ensures { MappingsLetIn }
 {}
 
+/// A packet from lan to the outside endpoint of a living mapping comes to its inside endpoint, from the outside
+/// endpoint of its sender: its mapping's, or one that it is given (RFC 4787, REQ-9; RFC 5382, REQ-8). So does a packet
+/// of two living sessions, one that it goes out by, and one that it comes in by. The cause of each drop that may come
+/// first is named at its premise.
+pub fn hairpins_come_in()
+    ensures { HairpinsComeIn }
+{}
+
 /// A hairpin that passes leaves on lan, from the external endpoint of its sender, to the inside endpoint that is mapped
 /// to the one it was sent to, by a mapping that was there or by dnat (RFC 4787, REQ-9 and REQ-9 a); RFC 5382, REQ-8).
 /// Of files that no gateway wrote from nothing this isn't known: by a session in them that leads from an inside endpoint
@@ -208,6 +217,14 @@ pub fn packets_leave_by_sessions()
 /// the clock's. But a SYN alone begins a closing session anew, with nothing seen, and its sender is the opener.
 pub fn living_sessions_stay()
     ensures { LivingSessionsStay }
+{}
+
+/// A session goes on, whatever an event brings, while it has been idle for less than its time, and ends once that has
+/// passed: 300 seconds for UDP (RFC 4787, REQ-5); for TCP 7,440 once both sides have acknowledged, and 240 before, or
+/// once it is closing (RFC 5382, REQ-5). At the end of any run of events each session goes on whose last packet was
+/// less than 300 seconds ago, or 240 for TCP.
+pub fn sessions_live_their_time()
+    ensures { SessionsLiveTheirTime }
 {}
 
 /// Only a packet begins a session, and of TCP a SYN alone, and only if the chains let it pass. A packet that goes out

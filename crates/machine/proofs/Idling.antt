@@ -1,0 +1,137 @@
+-- A session lives its time, and no longer.
+use Rattle.std.proofs.Common.{◌≡◌, ℕ, ◌+◌, ◌<◌, ◌≤◌, Bool, true, false, List, [], ◌∷◌, if◌then◌else◌, refl, sym, ap, ◌∙◌, subst, inl, inr, arith}
+use Rattle.std.proofs.lemmas.Bool.{lt-ltb, ltb-true}
+use Rattle.packet.specs.Config.{Config, is_config}
+use Rattle.packet.specs.declared.endpoint.Flags.{Flags}
+use Rattle.packet.specs.declared.endpoint.Proto.{Proto}
+use Rattle.packet.specs.declared.endpoint.Proto.TheVariants.{Tcp, Udp}
+use Rattle.sessions.specs.Life.{alive, is_acknowledged, is_closing, timeout_by, timeout_in, timeout_of}
+use Rattle.sessions.specs.Listing.{In}
+use Rattle.sessions.specs.Table.{HasInside}
+use Rattle.sessions.specs.declared.life.Phase.TheVariants.{Closing, Established, Partial}
+use Rattle.sessions.specs.declared.session.Opener.{Opener}
+use Rattle.sessions.specs.declared.session.Session.{Session}
+use Rattle.sessions.proofs.Puts.{keys-from}
+use Rattle.sessions.proofs.Sets.{In-filter, filter-In}
+use Rattle.machine.specs.Judged.{AreJudged, Judged}
+use Rattle.machine.specs.Machine.{State, after, later, step}
+use Rattle.machine.specs.Requirements.{Began, GoesOn, MayAlwaysBeIdle, MayBeIdle, SessionsLiveTheirTime, WentOn}
+use Rattle.machine.specs.Sound.{IsSoundState}
+use Rattle.machine.specs.declared.event.Event.{Event}
+use Rattle.machine.proofs.Lasting.{step-clock}
+use Rattle.machine.proofs.Lived.{living-stay}
+use Rattle.machine.proofs.Passing.{one-of-flow}
+use Rattle.machine.proofs.Soundness.{later-above, step-sound}
+
+-- ---- the times
+
+idle-time : (t : Session) (seconds : ℕ) → MayBeIdle t seconds → timeout_of t ≡ seconds
+idle-time t seconds (inl udp) = ap (λ p. timeout_by p t.seen) udp.0 ∙ sym udp.1
+idle-time t seconds (inr (inl partial)) = ap (λ p. timeout_by p t.seen) partial.0 ∙ ap timeout_in partial.1 ∙ sym partial.2
+idle-time t seconds (inr (inr (inl established))) = ap (λ p. timeout_by p t.seen) established.0 ∙ ap timeout_in established.1 ∙ sym established.2
+idle-time t seconds (inr (inr (inr closing))) = ap (λ p. timeout_by p t.seen) closing.0 ∙ ap timeout_in closing.1 ∙ sym closing.2
+
+idle-some : (t : Session) (seconds : ℕ) → MayBeIdle t seconds → 0 < seconds
+idle-some t seconds (inl udp) = omega (arith, udp.1)
+idle-some t seconds (inr (inl partial)) = omega (arith, partial.2)
+idle-some t seconds (inr (inr (inl established))) = omega (arith, established.2)
+idle-some t seconds (inr (inr (inr closing))) = omega (arith, closing.2)
+
+least-phase : (closing established : Bool) → 240 ≤ timeout_in (if closing then Closing else (if established then Established else Partial))
+least-phase true established = omega arith
+least-phase false true = omega arith
+least-phase false false = omega arith
+
+least-time : (proto : Proto) (seen seconds : ℕ) → MayAlwaysBeIdle proto seconds → seconds ≤ timeout_by proto seen
+least-time Udp seen seconds least = omega (arith, least)
+least-time Tcp seen seconds least = omega (arith, least, least-phase (is_closing seen) (is_acknowledged seen))
+
+least-some : (proto : Proto) (seconds : ℕ) → MayAlwaysBeIdle proto seconds → 0 < seconds
+least-some Udp seconds least = omega (arith, least)
+least-some Tcp seconds least = omega (arith, least)
+
+alive-within : (now : ℕ) (t : Session) (seconds : ℕ) → 0 < seconds → seconds ≤ timeout_of t → now < t.last + seconds → alive now t ≡ true
+alive-within now t seconds some within before = lt-ltb _ _ (omega (arith, some, within, before))
+
+-- ---- over a step
+
+itself : (s : State) (t : Session) → In t s.sessions → GoesOn s t
+itself s t is = record { session = t; is_held = is; flow = (refl, refl, refl); outside = refl; last = omega arith }
+
+as-went : (s : State) (t u : Session) (sender : Opener) (flags : Flags) (now : ℕ) → t.last ≤ now → In u s.sessions → WentOn t sender flags now u → GoesOn s t
+as-went s t u sender flags now le is (inl on) = record {
+  session = u;
+  is_held = is;
+  flow = (ap (λ (v : Session). v.proto) on.1, ap (λ (v : Session). v.inside) on.1, ap (λ (v : Session). v.remote) on.1);
+  outside = ap (λ (v : Session). v.outside) on.1;
+  last = subst (λ n. t.last ≤ n) (sym (ap (λ (v : Session). v.last) on.1)) le;
+}
+as-went s t u sender flags now le is (inr anew) = record {
+  session = u;
+  is_held = is;
+  flow = (ap (λ (v : Session). v.proto) anew.1, ap (λ (v : Session). v.inside) anew.1, ap (λ (v : Session). v.remote) anew.1);
+  outside = ap (λ (v : Session). v.outside) anew.1;
+  last = subst (λ n. t.last ≤ n) (sym (ap (λ (v : Session). v.last) anew.1)) le;
+}
+
+goes-on : (config : Config) (s : State) (judged : Judged) (t : Session) → IsSoundState config s → In t s.sessions → alive (later s.clock judged.moment) t ≡ true → GoesOn (step config s judged).0 t
+goes-on config s judged t sound is lives =
+    let now = later s.clock judged.moment in
+    let le : t.last ≤ now = omega (arith, sound.latest t is, later-above s.clock judged.moment) in
+    elim (living-stay config s judged t sound (filter-In (alive now) s.sessions t is lives)) [
+      | inl held ↦ itself (step config s judged).0 t held
+      | inr passed ↦ as-went (step config s judged).0 t passed.session passed.sender passed.view.flags now le passed.is_held passed.went_on
+    ]
+
+begins-anew : (config : Config) (s : State) (judged : Judged) (t u : Session) (seconds : ℕ) → IsSoundState config s → In t s.sessions → timeout_of t ≡ seconds → t.last + seconds ≤ later s.clock judged.moment
+    → In u (step config s judged).0.sessions → HasInside t.proto t.inside t.remote u → Began config s judged u
+begins-anew config s judged t u seconds sound is time over held flow =
+    let now = later s.clock judged.moment in
+    record {
+      is_held = held;
+      new = λ v in_v own.
+          let was = In-filter (alive now) s.sessions v in_v in
+          let it = one-of-flow s.sessions sound.sessions.rises v t was.0 is (keys-from t v (own.0 ∙ flow.0, own.1 ∙ flow.1, own.2 ∙ flow.2)) in
+          omega (arith, time, over, ltb-true _ _ (ap (alive now) (sym it) ∙ was.1));
+    }
+
+-- ---- over a run
+
+goes-further : (s : State) (t u : Session) → HasInside t.proto t.inside t.remote u → u.outside ≡ t.outside → t.last ≤ u.last → GoesOn s u → GoesOn s t
+goes-further s t u flow outside le on = record {
+  session = on.session;
+  is_held = on.is_held;
+  flow = (on.flow.0 ∙ flow.0, on.flow.1 ∙ flow.1, on.flow.2 ∙ flow.2);
+  outside = on.outside ∙ outside;
+  last = omega (arith, le, on.last);
+}
+
+module _ (config : Config) (is_one : is_config config ≡ true) where
+  run-clock : (s : State) (events : List Event) (judged : List Judged) → AreJudged config events judged → IsSoundState config s → s.clock ≤ (after config s judged).clock
+  run-clock s [] [] are sound = omega arith
+  run-clock s [] (j ∷ more) are sound = absurd are
+  run-clock s (event ∷ events) [] are sound = absurd are
+  run-clock s (event ∷ events) (j ∷ more) are sound =
+      omega (arith, later-above s.clock j.moment, step-clock config is_one s j sound, run-clock (step config s j).0 events more are.1 (step-sound config is_one s j are.0.right sound))
+
+  run-goes-on : (s : State) (events : List Event) (judged : List Judged) (t : Session) (seconds : ℕ) → AreJudged config events judged → IsSoundState config s → In t s.sessions → MayAlwaysBeIdle t.proto seconds
+      → (after config s judged).clock < t.last + seconds → GoesOn (after config s judged) t
+  run-goes-on s [] [] t seconds are sound is least before = itself s t is
+  run-goes-on s [] (j ∷ more) t seconds are sound is least before = absurd are
+  run-goes-on s (event ∷ events) [] t seconds are sound is least before = absurd are
+  run-goes-on s (event ∷ events) (j ∷ more) t seconds are sound is least before =
+      let sound' = step-sound config is_one s j are.0.right sound in
+      let until = run-clock (step config s j).0 events more are.1 sound' in
+      let now_before : later s.clock j.moment < t.last + seconds = omega (arith, step-clock config is_one s j sound, until, before) in
+      let on = goes-on config s j t sound is (alive-within (later s.clock j.moment) t seconds (least-some t.proto seconds least) (least-time t.proto t.seen seconds least) now_before) in
+      goes-further (after config (step config s j).0 more) t on.session on.flow on.outside on.last
+      (run-goes-on (step config s j).0 events more on.session seconds are.1 sound' on.is_held (subst (λ p. MayAlwaysBeIdle p seconds) (sym on.flow.0) least) (omega (arith, on.last, before)))
+
+pub live-their-time : SessionsLiveTheirTime
+live-their-time = record {
+  lives = λ config s judged t seconds sound is idle before.
+      let time = idle-time t seconds idle in
+      goes-on config s judged t sound is (alive-within (later s.clock judged.moment) t seconds (idle-some t seconds idle) (omega (arith, time)) before);
+  ends = λ config s judged t u seconds sound is idle over held flow. begins-anew config s judged t u seconds sound is (idle-time t seconds idle) over held flow;
+  runs = λ config s events judged t seconds is_one are sound is least before. run-goes-on config is_one s events judged t seconds are sound is least before;
+}
