@@ -2,6 +2,8 @@
 pub mod OneFile
 -- What a call of the disk asks of its two files.
 pub mod Filed
+-- Want of space.
+pub mod Space
 -- What an opening makes of a file.
 pub mod Prepared
 -- What was answered, without the error of the system.

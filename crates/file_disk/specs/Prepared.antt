@@ -26,9 +26,13 @@ module _ {F : Type 0} (honest : F → Type 0) (holds : F → List ℕ) (leaves :
     pub bytes : holds new ≡ prepared room (holds old)
     pub synced : IsSynced new
 
+  -- only an empty one may lack its zeros, if there was no space for them
+  abbrev pub IsWholeOrShort : (F → Type 0) → ℕ → F → F → Type 0
+  IsWholeOrShort lacks_space room old new = IsWhole room old new
+      ⊎ ((length (holds old) ≡ 0) × lacks_space new)
+
   -- a file as it was found, and prepared
-  pub record IsPrepared (room : ℕ) (old new : F) : Type 0 where
+  pub record IsPrepared (lacks_space : F → Type 0) (room : ℕ) (old new : F) : Type 0 where
     pub was_honest : honest new → honest old
-    -- only an empty one may lack its zeros: there was no space for them
-    pub whole : honest old → IsWhole room old new ⊎ (length (holds old) ≡ 0)
+    pub whole : honest old → IsWholeOrShort lacks_space room old new
     pub closed : honest old → OpensNone old new

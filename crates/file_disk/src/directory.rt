@@ -40,7 +40,8 @@ pub trait Directory {
 fn opened<D: Directory>(directory: &D, file: FileId, room: u64) -> Result<D::File, OpenError>
     requires { 0 < room }
     ensures { IfOk result (λ opened. (found : D.File) × D.gives directory.now file found
-        × IsPrepared D.File.honest D.File.holds D.File.leaves room found opened) }
+        × IsPrepared D.File.honest D.File.holds D.File.leaves D.File.lacks_space room found
+        opened) }
 {
     let mut found = directory.open_file(file)?;
     match prepare(&mut found, room) {
@@ -59,9 +60,11 @@ fn opened<D: Directory>(directory: &D, file: FileId, room: u64) -> Result<D::Fil
 pub fn open_in<D: Directory>(directory: &D, room: u64) -> Result<FileDisk<D::File>, OpenError>
     requires { 0 < room }
     ensures a { IfOk result (λ disk. (found : D.File) × D.gives directory.now FileId.A found
-        × IsPrepared D.File.honest D.File.holds D.File.leaves room found disk.files.a) }
+        × IsPrepared D.File.honest D.File.holds D.File.leaves D.File.lacks_space room found
+        disk.files.a) }
     ensures b { IfOk result (λ disk. (found : D.File) × D.gives directory.now FileId.B found
-        × IsPrepared D.File.honest D.File.holds D.File.leaves room found disk.files.b) }
+        × IsPrepared D.File.honest D.File.holds D.File.leaves D.File.lacks_space room found
+        disk.files.b) }
     ensures names { IfOk result (λ disk. D.keeps_name directory.now FileId.A disk.files.a
         × D.keeps_name directory.now FileId.B disk.files.b) }
     ensures calls { IfOk result (λ disk. disk.calls ≡ 0) }

@@ -1,6 +1,7 @@
 //! What a disk asks of one file.
-ghost use Rattle.std.specs.Prelude.{◌↔◌, List, ℕ, ◌-◌, length, replicate, IfOk, IsTrue};
+ghost use Rattle.std.specs.Prelude.{◌↔◌, List, ℕ, ◌-◌, length, replicate, IfErr, IfOk, IsTrue};
 ghost use Rattle.file_disk.specs.OneFile.{Measures, Fills, Puts, Syncs};
+ghost use Rattle.file_disk.specs.Space.{TellsOfSpace};
 
 use std::io;
 
@@ -20,6 +21,9 @@ pub trait DiskFile {
 
     /// Its name leads to it.
     ghost in_place: { Self → Type 0 };
+
+    /// The device has no space for what it was to keep.
+    ghost lacks_space: { Self → Type 0 };
 
     /// The length.
     ///
@@ -43,7 +47,8 @@ pub trait DiskFile {
     ///
     /// Why the call fails. Some of the bytes may have been put.
     fn write_fully(&mut self, at: u64, bytes: &[u8]) -> io::Result<()>
-        ensures { Puts honest holds leaves at bytes.now result self.old self.new };
+        ensures puts { Puts honest holds leaves at bytes.now result self.old self.new }
+        ensures space { IfErr result (TellsOfSpace (lacks_space self.new)) };
 
     /// Has the device keep the bytes and the length.
     ///
@@ -51,7 +56,8 @@ pub trait DiskFile {
     ///
     /// Why the call fails.
     fn sync_file(&mut self) -> io::Result<()>
-        ensures { Syncs honest holds leaves result self.old self.new };
+        ensures syncs { Syncs honest holds leaves result self.old self.new }
+        ensures space { IfErr result (TellsOfSpace (lacks_space self.new)) };
 
     /// Makes it this long, by zeros. It asks that it isn't longer.
     ///
@@ -59,8 +65,9 @@ pub trait DiskFile {
     ///
     /// Why the call fails.
     fn lengthen(&mut self, to: u64) -> io::Result<()>
-        ensures { Puts honest holds leaves (length (holds self.old)) (replicate
-            (to - length (holds self.old)) 0) result self.old self.new };
+        ensures puts { Puts honest holds leaves (length (holds self.old)) (replicate
+            (to - length (holds self.old)) 0) result self.old self.new }
+        ensures space { IfErr result (TellsOfSpace (lacks_space self.new)) };
 
     /// Has the device keep all of a file that was just opened, and lets go what the system has of it in memory: after a
     /// sync that failed, of an earlier run say, that may differ from what the device has.

@@ -65,6 +65,8 @@ impl DiskFile for HeldFile {
 
     ghost in_place = { λ _. ⊥ };
 
+    ghost lacks_space = { λ _. Unit {0} };
+
     ghost reads = { λ _ honest. absurd honest };
 
     fn length(&mut self) -> io::Result<u64> {

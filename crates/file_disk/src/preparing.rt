@@ -1,7 +1,9 @@
 //! A file that was opened is prepared.
-ghost use Rattle.std.specs.Prelude.{◌≡◌, ◌⊎◌, ◌<◌, [], ◌∷◌, length, OnOk};
+ghost use Rattle.std.specs.Prelude.{◌≡◌, ◌<◌, [], ◌∷◌, length, IfErr, IsTrue, OnOk};
+ghost use Rattle.std.specs.IoError.{error_kind};
 ghost use Rattle.file_disk.specs.OneFile.{NoMore};
-ghost use Rattle.file_disk.specs.Prepared.{prepared, OpensNone, IsSynced, IsWhole};
+ghost use Rattle.file_disk.specs.Prepared.{prepared, OpensNone, IsSynced, IsWholeOrShort};
+ghost use Rattle.file_disk.specs.Space.{IsWantOfSpace, TellsOfSpace};
 
 use crate::DiskFile;
 use std::io::{self, ErrorKind};
@@ -16,8 +18,8 @@ use std::io::{self, ErrorKind};
 pub fn prepare<F: DiskFile>(file: &mut F, room: u64) -> io::Result<()>
     requires { 0 < room }
     ensures honest { F.honest file.new → F.honest file.old }
-    ensures whole { F.honest file.old → OnOk result (IsWhole F.honest F.holds F.leaves room file.old
-        file.new ⊎ (length (F.holds file.old) ≡ 0)) }
+    ensures whole { F.honest file.old → OnOk result (IsWholeOrShort F.honest F.holds F.leaves
+        F.lacks_space room file.old file.new) }
     ensures kept { F.honest file.old → 0 < length (F.holds file.old)
         → NoMore F.honest F.holds F.leaves file.old file.new }
     ensures closed { F.honest file.old
@@ -37,7 +39,9 @@ pub fn prepare<F: DiskFile>(file: &mut F, room: u64) -> io::Result<()>
     }
 }
 
-fn is_want_of_space(error: &io::Error) -> bool {
+fn is_want_of_space(error: &io::Error) -> bool
+    ensures { IsTrue result → IsWantOfSpace (error_kind error.now) }
+{
     matches!(
         error.kind(),
         ErrorKind::StorageFull | ErrorKind::QuotaExceeded
@@ -54,6 +58,7 @@ fn make_room<F: DiskFile>(file: &mut F, room: u64) -> io::Result<()>
         ≡ prepared room (F.holds file.old)) }
     ensures closed { F.honest file.old
         → OpensNone F.honest F.holds F.leaves file.old file.new }
+    ensures space { IfErr result (TellsOfSpace (F.lacks_space file.new)) }
 {
     close(file)?;
     file.lengthen(room)?;
@@ -70,6 +75,7 @@ fn close<F: DiskFile>(file: &mut F) -> io::Result<()>
         → OnOk result (IsSynced F.honest F.holds F.leaves file.new) }
     ensures closed { F.honest file.old
         → OpensNone F.honest F.holds F.leaves file.old file.new }
+    ensures space { IfErr result (TellsOfSpace (F.lacks_space file.new)) }
 {
     file.write_fully(0, &[0])?;
     file.sync_file()?;

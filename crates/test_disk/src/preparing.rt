@@ -47,6 +47,8 @@ impl DiskFile for Noted {
 
     ghost in_place = { λ _. ⊥ };
 
+    ghost lacks_space = { λ _. Unit {0} };
+
     ghost reads = { λ _ honest. absurd honest };
 
     fn length(&mut self) -> io::Result<u64> {

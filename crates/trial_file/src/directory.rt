@@ -1,5 +1,5 @@
 //! A directory in memory.
-ghost use Rattle.std.specs.Prelude.{◌≡◌, ◌⊎◌, length, IfOk};
+ghost use Rattle.std.specs.Prelude.{◌≡◌, IfOk};
 ghost use Rattle.disk_model.specs.declared.disk.FileId.{FileId};
 ghost use Rattle.disk_model.specs.Disk.{pair};
 ghost use Rattle.file_disk.specs.Filed.{both_hold};
@@ -47,10 +47,10 @@ impl Directory for MemoryDirectory {
 ///
 /// `NoMemory` if memory is refused.
 pub fn opened_disk(directory: &MemoryDirectory) -> Result<FileDisk<MemoryFile>, OpenError>
-    ensures a { IfOk result (λ disk. (both_hold bytes_of disk FileId.A
-        ≡ prepared 8 directory.now.a.items) ⊎ (length directory.now.a.items ≡ 0)) }
-    ensures b { IfOk result (λ disk. (both_hold bytes_of disk FileId.B
-        ≡ prepared 8 directory.now.b.items) ⊎ (length directory.now.b.items ≡ 0)) }
+    ensures a { IfOk result (λ disk. both_hold bytes_of disk FileId.A
+        ≡ prepared 8 directory.now.a.items) }
+    ensures b { IfOk result (λ disk. both_hold bytes_of disk FileId.B
+        ≡ prepared 8 directory.now.b.items) }
 {
     open_in(directory, 8)
 }

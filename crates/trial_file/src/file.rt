@@ -88,6 +88,8 @@ impl DiskFile for MemoryFile {
 
     ghost in_place = { IsInPlace };
 
+    ghost lacks_space = { λ _. ⊥ };
+
     ghost reads = { λ _ _. inl refl };
 
     fn length(&mut self) -> io::Result<u64> {
