@@ -1,5 +1,5 @@
 -- The calls of a gateway make lives.
-use Rattle.std.proofs.Common.{◌≡◌, ◌↔◌, Result, Ok, Err, false, true, ℕ, ◌+◌, ◌≤◌, List, [], ◌∷◌, ◌++◌, length, take, drop, arith, inr, refl, sym, ◌∙◌, ap, subst, append_assoc, length-append}
+use Rattle.std.proofs.Common.{◌≡◌, ◌≢◌, ◌↔◌, Result, Ok, Err, Bool, false, true, ℕ, ◌+◌, ◌≤◌, List, [], ◌∷◌, ◌++◌, length, take, drop, arith, inr, refl, sym, ◌∙◌, ap, subst, append_assoc, length-append}
 use Rattle.std.specs.Prelude.{IfErr, IfOk, IsErrOf, MatchResult, OnErr, OnOk}
 use Rattle.std.proofs.lemmas.List.{append-nil, length-take-le, take-append-drop}
 use Rattle.std.proofs.Math.Seq.{take-append-add}
@@ -18,13 +18,13 @@ use Rattle.snapshot.specs.Store.{IsLastFormer, RecoversEither}
 use Rattle.snapshot.specs.declared.fault.OpenFault.{OpenFault}
 use Rattle.snapshot.specs.declared.fault.OpenFault.TheVariants as open_fault
 use Rattle.gateway.specs.Kept.{Kept, IsAtRest, IsSafe}
-use Rattle.gateway.specs.Told.{Told, TookAll}
+use Rattle.gateway.specs.Told.{Told, TookAll, TookFirst}
 use Rattle.gateway.specs.Running.{Ends, Stands, StopsWithin}
 use Rattle.gateway.specs.declared.fault.GatewayFault.{GatewayFault}
 use Rattle.gateway.specs.declared.fault.GatewayFault.TheVariants as fault
 use Rattle.gateway.specs.Lives.{Course, Stopped, Refused, IsLife}
-use Rattle.gateway.specs.Living.{IsLived, RestsInLife, IsInLife, RunsInLife, RestsAgain, StopsInLife, GoesOnInLife, TakesInLife, EndsLife, CallsAreLives}
-use Rattle.gateway.proofs.Runs.{compact-stopped, compacted, counted, either, ended, flush-stopped, flushed, length-numbered, stands-still}
+use Rattle.gateway.specs.Living.{IsLived, RestsInLife, IsInLife, RunsInLife, RestsAgain, StaysInLife, StopsInLife, GoesOnInLife, TakesInLife, EndsLife, CallsAreLives}
+use Rattle.gateway.proofs.Runs.{compact-stopped, compacted, counted, either, ended, flush-stopped, flushed, length-numbered, stands-still, true-false}
 use Rattle.gateway.proofs.Taking.{after-append, answers-append, length-answers, numbered-append, took_none}
 
 -- ---- an opening, by its clauses
@@ -237,11 +237,39 @@ module _ {D : Type 0} (honest : D → Type 0) (moment : D → ℕ) (left : D →
         (record { stands = stands; is_honest = stays stands r.rests.is_honest; none = none }),
   )
 
+  -- it had fallen, so that it was in no life
+  fallen-rests : old.fallen ≡ true → IsAtRest honest old → ⊥
+  fallen-rests down rests = true-false old.fallen down rests.stands
+
+  -- a fault is no failure of the disk
+  stays-in-life : (more : List Event) (out : List (ℕ × Answer)) → Stands honest moment left failed old new more out → StaysInLife honest moment left seen failed old new more out
+  stays-in-life more out s = λ config entry at begun events given r.
+      record { earlier = events; answered = given; rested = old; rests = r; more = more; out = out; stands = s; events_are = refl; given_are = refl }
+
+  -- what was taken of the events, and what becomes of the life
+  abbrev TakesFront : List Event → List (ℕ × Answer) → GatewayFault → Type 0
+  TakesFront events out why = (front : List Event) × (back : List Event) × (events ≡ front ++ back) × RunsInLife honest moment left seen old new front out
+      × (why ≢ fault.Device → StaysInLife honest moment left seen failed old new front out)
+
+  takes-front : (events : List Event) (out : List (ℕ × Answer)) (why : GatewayFault) (fallen : Bool) → old.fallen ≡ fallen
+      → (old.fallen ≡ false → StopsWithin honest moment left failed old new events out why) → TookFirst old.told new.told events out → TakesFront events out why
+  takes-front events out why false up within first =
+      let w = within up in
+      (w.front, w.back, w.split, runs-in-life w.front out (λ rests. w.stops.ends), λ other. stays-in-life w.front out (w.stops.stays other))
+  takes-front events out why true down within first = (
+    first.front,
+    first.back,
+    first.split,
+    (λ config entry at begun es given r. absurd (fallen-rests down r.rests)),
+    (λ other config entry at begun es given r. absurd (fallen-rests down r.rests)),
+  )
+
   pub run-err : {T E : Type 0} (result : Result T E) (events : List Event) (items : E → List (ℕ × Answer)) (why : E → GatewayFault)
-      → IfErr result (λ e. StopsWithin honest moment left failed old new events (items e) (why e))
-      → IfErr result (λ e. (front : List Event) × (back : List Event) × (events ≡ front ++ back) × RunsInLife honest moment left seen old new front (items e))
-  run-err (Ok a) events items why within = tt
-  run-err (Err e) events items why within = (within.front, within.back, within.split, runs-in-life within.front (items e) (λ rests. within.stops.ends))
+      → (old.fallen ≡ false → IfErr result (λ e. StopsWithin honest moment left failed old new events (items e) (why e)))
+      → IfErr result (λ e. TookFirst old.told new.told events (items e))
+      → IfErr result (λ e. TakesFront events (items e) (why e))
+  run-err (Ok a) events items why within first = tt
+  run-err (Err e) events items why within first = takes-front events (items e) (why e) old.fallen refl within first
 
 -- ---- call by call
 

@@ -1,5 +1,5 @@
 -- A run of events, call by call.
-use Rattle.std.proofs.Common.{◌≡◌, ◌≢◌, ◌⊎◌, ◌↔◌, Result, Ok, Err, inl, inr, ⊎_elim, ℕ, zero, suc, ◌+◌, ◌-◌, ◌^◌, ◌<◌, ◌≤◌, List, [], ◌∷◌, ◌++◌, Bool, true, false, length, take, refl, sym, ◌∙◌, ap, subst, arith, append_assoc, length-append}
+use Rattle.std.proofs.Common.{◌≡◌, ◌≢◌, ◌⊎◌, ◌↔◌, Result, Ok, Err, Option, Some, None, IfSome, OnSome, inl, inr, ⊎_elim, ℕ, zero, suc, ◌+◌, ◌-◌, ◌^◌, ◌<◌, ◌≤◌, List, [], ◌∷◌, ◌++◌, Bool, true, false, length, take, refl, sym, ◌∙◌, ap, subst, arith, append_assoc, length-append}
 use Rattle.std.specs.Prelude.{IsErrOf}
 use Rattle.std.proofs.lemmas.Bool.{false≢true}
 use Rattle.std.proofs.lemmas.List.{append-nil, take_all, take-append-le}
@@ -28,6 +28,17 @@ use Rattle.gateway.specs.Kept.{Kept, IsAtRest, IsSafe}
 use Rattle.gateway.specs.Running.{Ran, Stands, Ends, IsWhy, Stops, StopsWithin, CarriesOn, BreaksOff, SafeWithin, standing}
 use Rattle.gateway.specs.Standing.{Standing, Offers, StandsFor}
 use Rattle.gateway.proofs.Standings.{offered-on, settled-on}
+
+-- ---- what is said of the value that there is
+
+pub some-both : {T : Type 0} (P Q R : T → Type 0) (o : Option T) → IfSome o P → IfSome o Q → ((x : T) → P x → Q x → R x) → IfSome o R
+some-both P Q R None p q on = tt
+some-both P Q R (Some x) p q on = on x p q
+
+pub some-all : {T : Type 0} (P : T → Type 0) (Q R : Type 0) (S : T → Type 0) (o : Option T) → IfSome o P → OnSome o Q → OnSome o R
+    → ((x : T) → P x → Q → R → S x) → IfSome o S
+some-all P Q R S None p q r on = tt
+some-all P Q R S (Some x) p q r on = on x p q r
 
 -- ---- the events and their answers
 

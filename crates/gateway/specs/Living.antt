@@ -115,6 +115,14 @@ module _ {D : Type 0} (honest : D → Type 0) (moment : D → ℕ) (left : D →
         → IsInLife config entry opened_at begun events given old
         → IsInLife config entry opened_at begun (events ++ event ∷ []) (given ++ out) new
 
+    -- The call takes these events. A gateway that rested before is in the same life after it, with these answers given
+    -- out too; it may hold others.
+    abbrev pub StaysInLife : List Event → List (ℕ × Answer) → Type 0
+    StaysInLife more out = (config : Config) (entry : D) (opened_at : ℕ) (begun : Kept D)
+        (events : List Event) (given : List (ℕ × Answer))
+        → RestsInLife honest moment left seen config entry opened_at begun events given old
+        → IsInLife config entry opened_at begun (events ++ more) (given ++ out) new
+
     -- A stop after the call is the end of its life.
     abbrev pub EndsLife : Type 0
     EndsLife = (config : Config) (entry : D) (opened_at : ℕ) (begun : Kept D)

@@ -4,21 +4,24 @@
 //! - `calls_stand_for_the_model`: calls one by one, and what the files stand for between them
 //! - `lives_are_the_models`: gateways opened one after the other over the same files, each stopped at any moment
 //! - `goes_on_after_a_stop`: the plainest case of it
-//! - `open_in_lives`, `run_in_lives`, `offer_in_lives`, `flush_in_lives`, `settle_in_lives`, `compact_in_lives`: the
-//!   calls of `Gateway`, each with the clauses that say that it makes such lives
+//! - `open_in_lives`, `run_in_lives`, `offer_in_lives`, `forward_in_lives`, `offer_in_place_in_lives`, `flush_in_lives`,
+//!   `settle_in_lives`, `compact_in_lives`: the calls of `Gateway`, each with the clauses that say that it makes such
+//!   lives
 //! - `calls_are_lives`: so do the calls of `running`, which make these
-ghost use Rattle.std.specs.Prelude.{◌≡◌, ◌++◌, [], List, IfErr, IfOk, MatchResult, OnErr, OnOk, false, true};
+ghost use Rattle.std.specs.Prelude.{◌≡◌, ◌≢◌, ◌++◌, ◌∷◌, [], List, IfErr, IfNone, IfOk, IfSome, MatchResult, OnErr, OnOk, true};
 ghost use Rattle.packet.specs.Config.{Config};
+ghost use Rattle.machine.specs.declared.event.Answer.TheVariants.{Forward};
 ghost use Rattle.machine.specs.declared.event.Event.{Event};
-ghost use Rattle.gateway.specs.Given.{handed};
+ghost use Rattle.machine.specs.declared.event.What.TheVariants.{Packet};
+ghost use Rattle.gateway.specs.Given.{answer_given, given_by, handed};
 ghost use Rattle.gateway.specs.Lives.{GoesOnAfterAStop, IsLife, LivesAreTheModels, Refused, Stopped};
-ghost use Rattle.gateway.specs.Living.{CallsAreLives, EndsLife, GoesOnInLife, RestsAgain, RestsInLife, RunsInLife, StopsInLife, TakesInLife};
+ghost use Rattle.gateway.specs.Living.{CallsAreLives, EndsLife, GoesOnInLife, RestsAgain, RestsInLife, RunsInLife, StaysInLife, StopsInLife, TakesInLife};
 ghost use Rattle.gateway.specs.Standing.{CallsStandForTheModel};
 
 use crate::calls::Gateway;
-use crate::{GatewayFault, Given, OpenFault};
+use crate::{GatewayFault, Given, GivenInPlace, OpenFault};
 use disk_model::Disk;
-use machine::{Answer, Event};
+use machine::{Answer, Event, Iface};
 use packet::Bounds;
 use std::alloc::Global;
 
@@ -76,8 +79,8 @@ pub fn open_in_lives<D: Disk + Drop>(
     Gateway::open(alloc, disk, bounds, moment)
 }
 
-/// Takes events (`Gateway::run`), for a gateway that rests in its life. Stopped within it, or after it, that is a life;
-/// if it ends well, the gateway rests again.
+/// Takes events (`Gateway::run`), for a gateway that rests in its life. Stopped within it, or after it, that is a life.
+/// If it ends well, the gateway rests again; with any fault but `Device` it goes on in its life, and may hold answers.
 ///
 /// # Errors
 ///
@@ -92,10 +95,13 @@ pub fn run_in_lives<D: Disk + Drop>(
         × RestsAgain D.honest D.moment D.left D.seen gateway.old gateway.new events.items
         answers.items) }
 
-    // With a fault, this is said of those that were taken.
-    ensures err { gateway.old.fallen ≡ false → IfErr result (λ e. (front : List Event)
+    // With a fault, this is said of those that were taken. Unless a call of the disk failed, the gateway stays in its
+    // life.
+    ensures err { IfErr result (λ e. (front : List Event)
         × (back : List Event) × (events.items ≡ front ++ back)
-        × RunsInLife D.honest D.moment D.left D.seen gateway.old gateway.new front e.0.items) }
+        × RunsInLife D.honest D.moment D.left D.seen gateway.old gateway.new front e.0.items
+        × (e.1 ≢ GatewayFault.Device → StaysInLife D.honest D.moment D.left D.seen D.failed
+        gateway.old gateway.new front e.0.items)) }
 {
     gateway.run(events)
 }
@@ -118,6 +124,52 @@ pub fn offer_in_lives<D: Disk + Drop>(
 {
     gateway.facts();
     gateway.offer(event)
+}
+
+/// Takes a packet in its caller's bytes (`Gateway::forward`), for a gateway in its life. Stopped within it, that is a
+/// life, in which the packet isn't taken. If it answers, the gateway goes on in its life, and the answer counts as given
+/// out: it lies in these bytes. Otherwise nothing has changed, so that its life is as before.
+pub fn forward_in_lives<D: Disk + Drop>(
+    gateway: &mut Gateway<D>,
+    moment: u64,
+    iface: Iface,
+    packet: &mut [u8],
+) -> Option<(u64, Iface)>
+    ensures stopped { StopsInLife D.honest D.moment D.left D.seen D.failed gateway.old gateway.new }
+    ensures some { IfSome result (λ given. TakesInLife D.honest D.moment D.left D.seen D.failed
+        gateway.old gateway.new (record { moment = moment; what = Packet iface packet.old })
+        ((given.0, Forward given.1 packet.new) ∷ [])) }
+    ensures none { IfNone result ((gateway.new ≡ gateway.old) × (packet.new ≡ packet.old)) }
+{
+    gateway.facts();
+    gateway.forward(moment, iface, packet)
+}
+
+/// Takes a packet in its caller's bytes (`Gateway::offer_in_place`), for a gateway in its life. Stopped within it, that
+/// is a life, in which the packet isn't taken. If it answers, the gateway goes on in its life. The answer, which lies in
+/// these bytes, counts as given out if it is told at once. If it is held, it doesn't yet, so its caller keeps it back: it
+/// counts once `settle_in_lives` or `flush_in_lives` has ended well. Otherwise nothing has changed, so that its life is
+/// as before.
+pub fn offer_in_place_in_lives<D: Disk + Drop>(
+    gateway: &mut Gateway<D>,
+    moment: u64,
+    iface: Iface,
+    packet: &mut [u8],
+) -> Option<GivenInPlace>
+    ensures stopped { StopsInLife D.honest D.moment D.left D.seen D.failed gateway.old gateway.new }
+    ensures some { IfSome result (λ taken. TakesInLife D.honest D.moment D.left D.seen D.failed
+        gateway.old gateway.new (record { moment = moment; what = Packet iface packet.old })
+        (handed (given_by taken packet.new))) }
+
+    // Told at once, or held, it is the answer that lies there. It counts as told in place, as `settle_in_lives` asks.
+    ensures answer { IfSome result (λ taken.
+        handed (given_by taken packet.new) ++ gateway.new.told.held
+        ≡ gateway.old.told.held ++ answer_given taken packet.new ∷ []) }
+    ensures in_place { gateway.new.in_place ≡ gateway.old.in_place }
+    ensures none { IfNone result ((gateway.new ≡ gateway.old) × (packet.new ≡ packet.old)) }
+{
+    gateway.facts();
+    gateway.offer_in_place(moment, iface, packet)
 }
 
 /// Flushes (`Gateway::flush`), for a gateway in its life. Stopped within it, that is a life, in which no answer counts
@@ -157,7 +209,7 @@ pub fn settle_in_lives<D: Disk + Drop>(gateway: &mut Gateway<D>) -> Result<(), G
 }
 
 /// Compacts (`Gateway::compact`), for a gateway in its life that holds nothing. Stopped within it, that is a life.
-/// After it the gateway goes on in its life; with a fault, that is its end.
+/// After it the gateway goes on in its life. With `Device`, that is its end; any other fault changes nothing.
 ///
 /// # Errors
 ///
@@ -169,6 +221,7 @@ pub fn compact_in_lives<D: Disk + Drop>(gateway: &mut Gateway<D>) -> Result<(), 
         gateway.new []) }
     ensures err { OnErr result (EndsLife D.honest D.moment D.left D.seen D.failed gateway.old
         gateway.new) }
+    ensures stays { IfErr result (λ e. e ≢ GatewayFault.Device → gateway.new ≡ gateway.old) }
 {
     gateway.compact()
 }

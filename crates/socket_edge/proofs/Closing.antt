@@ -21,7 +21,8 @@ use Rattle.frames.specs.Requests.{Cut, Bad, next}
 use Rattle.frames.specs.Framing.{EventsAndRest, Rest, Fault, with_first, whole_frames}
 use Rattle.frames.specs.Answers.{frame}
 use Rattle.socket_edge.specs.Progress.{Progress, AnsweredFirst}
-use Rattle.socket_edge.specs.Running.{Answered, Fares, events_in}
+use Rattle.socket_edge.specs.Running.{Answered, Fares, LastTurn, events_in}
+use Rattle.socket_edge.specs.Turns.{Turn, AllPass}
 use Rattle.socket_edge.specs.Serving.{Closed, IsBad, GatewayRefuses, Offered, Reads, Served, SettledAndSent, end_of}
 use Rattle.frames.proofs.Frames.{framed_cut, framed_bad}
 use Rattle.socket_edge.proofs.Reading.{Reads-is}
@@ -59,6 +60,18 @@ split_more all events front back more e split = e ∙ ap (λ (xs : List Event). 
 front_none : (events front back more : List Event) → [] ≡ front ++ back → events ++ more ≡ (events ++ front) ++ (back ++ more)
 front_none events front back more e =
     ap (λ (xs : List Event). events ++ (xs ++ more)) e ∙ ap (λ (xs : List Event). events ++ xs) (append_assoc front back more) ∙ sym (append_assoc events front (back ++ more))
+
+module _ {D : Type 0} (honest : D → Type 0) (moment : D → ℕ) (left : D → ℕ → Files → Type 0) (failed : D → ℕ) (start now : Kept D) where
+  -- all answers were sent, so that bytes went at each turn
+  pub closed-turns : (e : EdgeFault) (bytes rest : List ℕ) (count : ℕ) (out : List (ℕ × Answer)) (turns : List Turn) → Closed honest moment left failed (Err e) bytes rest count start now out
+      → AllPass turns → LastTurn e turns
+  closed-turns BadKind bytes rest count out turns k p = p
+  closed-turns BadInterface bytes rest count out turns k p = p
+  closed-turns TooLong bytes rest count out turns k p = p
+  closed-turns Truncated bytes rest count out turns k p = absurd k
+  closed-turns Input bytes rest count out turns k p = absurd k
+  closed-turns Output bytes rest count out turns k p = absurd k
+  closed-turns (Gateway why) bytes rest count out turns k p = p
 
 module _ {D : Type 0} (honest : D → Type 0) (moment : D → ℕ) (left : D → ℕ → Files → Type 0) (seen : D → Files) (failed : D → ℕ)
     (reads : (disk : D) → honest disk → left disk (moment disk) (seen disk))

@@ -16,7 +16,6 @@ use Rattle.machine.proofs.Judging.{AreJudged-append, AreJudged-length}
 use Rattle.gateway.specs.declared.fault.GatewayFault.{GatewayFault}
 use Rattle.gateway.specs.Kept.{Kept, IsAtRest, IsSafe}
 use Rattle.gateway.specs.Running.{Stands, CarriesOn, BreaksOff}
-use Rattle.gateway.specs.Told.{Told}
 use Rattle.gateway.proofs.Runs.{ended, safe-less}
 use Rattle.frames.specs.Answers.{frame}
 use Rattle.frames.specs.Framing.{EventsAndRest}
@@ -24,7 +23,7 @@ use Rattle.socket_edge.specs.Joined.{given_then, taken_then}
 use Rattle.socket_edge.specs.Progress.{replies, Progress}
 use Rattle.socket_edge.specs.Running.{AtEachTurn, MayGoOn, ComesBy, Fares, Preserves, events_in}
 use Rattle.socket_edge.specs.Serving.{AsksFirst, AsksOnce, NeverAsks, SettledAndSent}
-use Rattle.socket_edge.specs.Turns.{Turn, Gave, Took, given, taken}
+use Rattle.socket_edge.specs.Turns.{Turn, Gave, ReadFailed, Took, WriteFailed, given, taken}
 use Rattle.socket_edge.proofs.Answers.{Progress-told, Reached-then, all_sent, last_of, reached-told, replies-append}
 use Rattle.socket_edge.proofs.Behind.{all-once}
 use Rattle.socket_edge.proofs.Closing.{events_cut, framed_then_cut}
@@ -50,12 +49,16 @@ front_of (x ∷ xs) ys (b ∷ before) after e =
 never_front : (turns after : List Turn) → NeverAsks (turns ++ after) → NeverAsks turns
 never_front [] after p = tt
 never_front (Gave bytes ∷ turns) after p = absurd p
+never_front (ReadFailed ∷ turns) after p = absurd p
 never_front (Took bytes ∷ turns) after p = never_front turns after p
+never_front (WriteFailed ∷ turns) after p = never_front turns after p
 
 -- what was given was given first
 first_given : (t : Turn) (middle after : List Turn) → AsksFirst ((t ∷ middle) ++ after) → given (t ∷ middle) ≡ given ((t ∷ middle) ++ after)
 first_given (Gave bytes) middle after asks = ap (λ (x : List ℕ). bytes ++ x) (never_given middle (never_front middle after asks) ∙ sym (never_given (middle ++ after) asks))
+first_given ReadFailed middle after asks = never_given middle (never_front middle after asks) ∙ sym (never_given (middle ++ after) asks)
 first_given (Took bytes) middle after asks = absurd asks
+first_given WriteFailed middle after asks = absurd asks
 
 module _ {D : Type 0} (honest : D → Type 0) (moment : D → ℕ) (left : D → ℕ → Files → Type 0)
     (earlier : (disk : D) (s t : ℕ) (files : Files) → s ≤ t → left disk t files → left disk s files) where
@@ -262,10 +265,12 @@ module _ {D : Type 0} (honest : D → Type 0) (moment : D → ℕ) (left : D →
   -- ---- a run
 
   module _ {P : Type 0} (went : P → P → List Turn → Type 0) where
-    -- how far it has come with its peer, and what a crash leaves that comes after some of the turns
-    pub record Walked (start now : Kept D) (old new : P) (got sent : List ℕ) : Type 0 where
+    -- how far it has come with its peer, by turns of which this is so, and what a crash leaves that comes after some of
+    -- them
+    pub record Walked (so : List Turn → Type 0) (start now : Kept D) (old new : P) (got sent : List ℕ) : Type 0 where
       pub talked : Talked went start.told old new got sent
       pub stops : AtEachTurn honest moment left start now talked.turns
+      pub are : so talked.turns
 
     at_no_turn : (start now : Kept D) → ComesBy honest moment left start now (events_in []) (events_in []) [] → (before after : List Turn) → [] ≡ before ++ after
         → ComesBy honest moment left start now (events_in (given before)) (events_in []) (taken before)
@@ -275,11 +280,12 @@ module _ {D : Type 0} (honest : D → Type 0) (moment : D → ℕ) (left : D →
     pub stops-nil : (start now : Kept D) → Fares honest moment left start now (events_in []) [] → AtEachTurn honest moment left start now []
     stops-nil start now f = at_no_turn start now (by-end start now (events_in []) [] f)
 
-    pub walked-first : (still : (peer : P) → went peer peer []) (start : Kept D) (a : P) → Fares honest moment left start start (events_in []) [] → Walked start start a a [] []
-    walked-first still start a f = record { talked = record { turns = []; goes = still a; first = first-nil start.told; gives = refl; takes = refl }; stops = stops-nil start start f }
+    pub walked-first : (still : (peer : P) → went peer peer []) (start : Kept D) (a : P) → Fares honest moment left start start (events_in []) [] → (so : List Turn → Type 0) → so []
+        → Walked so start start a a [] []
+    walked-first still start a f so is = record { talked = record { turns = []; goes = still a; first = first-nil start.told; gives = refl; takes = refl }; stops = stops-nil start start f; are = is }
 
     module _ (failed : D → ℕ) (further : (a b c : P) (turns more : List Turn) → went a b turns → went b c more → went a c (turns ++ more)) (once : EventsAreJudgedOnce)
-        (start b c : Kept D) (p q r : P) (x y got sent unanswered : List ℕ) (n : ℕ) (w : Walked start b p q x y) (g : Going honest moment left failed earlier start b x unanswered y n)
+        (start b c : Kept D) (p q r : P) (x y got sent unanswered : List ℕ) (n : ℕ) (so : List Turn → Type 0) (w : Walked so start b p q x y) (g : Going honest moment left failed earlier start b x unanswered y n)
         (f : Fares honest moment left b c (events_in (unanswered ++ got)) sent) (by : ComesBy honest moment left b c (events_in (unanswered ++ got)) (events_in (unanswered ++ got)) sent) (a : AsksOnce went q r got sent) where
       rested : IsAtRest honest start → IsAtRest honest b
       rested ready = record { stands = g.stands; is_honest = g.stays_honest ready.is_honest; none = g.served.none ready.none }
@@ -327,8 +333,8 @@ module _ {D : Type 0} (honest : D → Type 0) (moment : D → ℕ) (left : D →
                 preserves-behind start b c there.now g.served.events (events_in (unanswered ++ got)) y g.served.progress g.served.none (g.stays_honest ready.is_honest) g.stands ready (taken front) (there.since (rested ready));
           })
 
-      pub walked-then : Walked start c p r (x ++ got) (y ++ sent)
-      walked-then =
+      pub walked-then : (then : List Turn → Type 0) → then (w.talked.turns ++ a.turns) → Walked then start c p r (x ++ got) (y ++ sent)
+      walked-then then is =
           let t = w.talked in
           let answered : MayGoOn start.told x y = (
             b.told,
@@ -349,4 +355,5 @@ module _ {D : Type 0} (honest : D → Type 0) (moment : D → ℕ) (left : D →
               | inl m ↦ then-earlier before m.0 m.1
               | inr m ↦ then-later before after m.0 m.1 m.2 m.3
             ];
+            are = is;
           }

@@ -3,17 +3,21 @@
 use Rattle.std.proofs.Common.{◌≡◌, ℕ, List, [], ◌∷◌, ◌++◌, Option, Some, None, refl, sym, ap, subst, ◌∙◌, append_assoc}
 use Rattle.std.proofs.lemmas.List.{append-nil}
 use Rattle.std.specs.Io.KnownBytes.{Appends, Consumes}
-use Rattle.socket_edge.specs.Turns.{Turn, Gave, Took, given, taken}
+use Rattle.socket_edge.specs.Turns.{Turn, Gave, ReadFailed, Took, WriteFailed, given, taken}
 
 pub given_then : (turns more : List Turn) → given (turns ++ more) ≡ given turns ++ given more
 given_then [] more = refl
 given_then (Gave bytes ∷ turns) more = ap (λ (x : List ℕ). bytes ++ x) (given_then turns more) ∙ sym (append_assoc bytes (given turns) (given more))
+given_then (ReadFailed ∷ turns) more = given_then turns more
 given_then (Took bytes ∷ turns) more = given_then turns more
+given_then (WriteFailed ∷ turns) more = given_then turns more
 
 pub taken_then : (turns more : List Turn) → taken (turns ++ more) ≡ taken turns ++ taken more
 taken_then [] more = refl
 taken_then (Gave bytes ∷ turns) more = taken_then turns more
+taken_then (ReadFailed ∷ turns) more = taken_then turns more
 taken_then (Took bytes ∷ turns) more = ap (λ (x : List ℕ). bytes ++ x) (taken_then turns more) ∙ sym (append_assoc bytes (taken turns) (taken more))
+taken_then (WriteFailed ∷ turns) more = taken_then turns more
 
 pub Appends-then : (a b c : Option (List ℕ)) (x y : List ℕ) → Appends a b x → Appends b c y → Appends a c (x ++ y)
 Appends-then None b c x y p q = tt

@@ -1,5 +1,5 @@
 -- What a run does.
-use Rattle.std.specs.Prelude.{◌≡◌, ◌≢◌, ◌≤◌, ℕ, List, [], ◌∷◌, ◌++◌, length, take, false, Result, Ok, Err}
+use Rattle.std.specs.Prelude.{◌≡◌, ◌≢◌, ◌⊎◌, ◌≤◌, ◌-◌, ◌^◌, ℕ, List, [], ◌∷◌, ◌++◌, length, take, false, Result, Ok, Err}
 use Rattle.disk_model.specs.Disk.{Files, LeavesNow, LeavesOnly}
 use Rattle.durable.specs.Recovery.{IsConfigured}
 use Rattle.machine.specs.Judged.{Judged, AreJudged}
@@ -13,7 +13,7 @@ use Rattle.gateway.specs.Running.{IsWhy}
 use Rattle.socket_edge.specs.declared.fault.EdgeFault.{EdgeFault}
 use Rattle.socket_edge.specs.declared.fault.EdgeFault.TheVariants.{BadKind, BadInterface, TooLong, Truncated, Input, Output, Gateway}
 use Rattle.socket_edge.specs.Progress.{replies, Progress, Reached, AnsweredFirst, BeginsFrames}
-use Rattle.socket_edge.specs.Turns.{Turn, Gave, given, taken}
+use Rattle.socket_edge.specs.Turns.{Turn, Gave, ReadFailed, AllPass, Asks, LastIs, LastTookNone, given, taken, times_asked}
 
 -- the events of the bytes
 abbrev pub events_in : List ℕ → List Event
@@ -38,8 +38,8 @@ MayGoOn old bytes sent = (now : Told) × Answered old now bytes sent
 -- Each time that the peer was asked for more, what it had taken by then answered all whole frames that it had given by
 -- then, if nothing was held before; and none that it had given is faulty.
 abbrev pub AnswersFirst : Told → List Turn → Type 0
-AnswersFirst old turns = (before : List Turn) (bytes : List ℕ) (after : List Turn)
-    → turns ≡ before ++ Gave bytes ∷ after → MayGoOn old (given before) (taken before)
+AnswersFirst old turns = (before : List Turn) (turn : Turn) (after : List Turn)
+    → turns ≡ before ++ turn ∷ after → Asks turn → MayGoOn old (given before) (taken before)
 
 -- what a fault says of the bytes that were read and sent; `at_end` is that the input has ended
 abbrev pub EndsBy : EdgeFault → Told → Told → List ℕ → List ℕ → Type 0 → Type 0
@@ -69,6 +69,24 @@ pub record AllAnswered (count : ℕ) (old new : Told) (bytes sent : List ℕ)
 abbrev pub RunEnded : Result ℕ EdgeFault → Told → Told → List ℕ → List ℕ → Type 0 → Type 0
 RunEnded (Ok count) old new bytes sent at_end = AllAnswered count old new bytes sent at_end
 RunEnded (Err fault) old new bytes sent at_end = EndsBy fault old new bytes sent at_end
+
+-- By which turn a run ended with this fault. Truncated: a read gave nothing. Input: a read failed. Output: a write
+-- failed, or took nothing. Bytes went at each turn before, and with any other fault at each.
+abbrev pub LastTurn : EdgeFault → List Turn → Type 0
+LastTurn BadKind turns = AllPass turns
+LastTurn BadInterface turns = AllPass turns
+LastTurn TooLong turns = AllPass turns
+LastTurn Truncated turns = LastIs (Gave []) turns
+LastTurn Input turns = LastIs ReadFailed turns
+LastTurn Output turns = LastTookNone turns
+LastTurn (Gateway fault) turns = AllPass turns
+
+-- By which turn a run ended. If it ended well, a read gave nothing. Input comes too behind 2^64 - 1 reads that each
+-- gave some.
+abbrev pub TurnsEnd : Result ℕ EdgeFault → List Turn → Type 0
+TurnsEnd (Ok count) turns = LastIs (Gave []) turns
+TurnsEnd (Err fault) turns = LastTurn fault turns
+    ⊎ ((fault ≡ Input) × AllPass turns × (times_asked turns ≡ 2 ^ 64 - 1))
 
 module _ {D : Type 0} (honest : D → Type 0) (moment : D → ℕ) (left : D → ℕ → Files → Type 0)
     (old new : Kept D) where

@@ -24,20 +24,24 @@ use Rattle.socket_edge.specs.declared.serving.Step.TheVariants as step
 use Rattle.socket_edge.specs.declared.edge.ReadOutcome.{ReadOutcome}
 use Rattle.socket_edge.specs.declared.edge.ReadOutcome.TheVariants as read_outcome
 use Rattle.socket_edge.specs.Progress.{Progress}
-use Rattle.socket_edge.specs.Turns.{Turn, Gave, Took, given, taken}
-use Rattle.socket_edge.specs.Running.{AllAnswered, EndsBy, Fares, Explains, events_in}
+use Rattle.socket_edge.specs.Turns.{Turn, Gave, ReadFailed, Took, WriteFailed, AllPass, LastIs, LastTookNone, given, taken, times_asked}
+use Rattle.socket_edge.specs.Running.{AllAnswered, EndsBy, Fares, Explains, LastTurn, events_in}
 
 -- the peer was asked for nothing
 abbrev pub NeverAsks : List Turn → Type 0
 NeverAsks [] = Unit {0}
 NeverAsks (Gave bytes ∷ turns) = ⊥
+NeverAsks (ReadFailed ∷ turns) = ⊥
 NeverAsks (Took bytes ∷ turns) = NeverAsks turns
+NeverAsks (WriteFailed ∷ turns) = NeverAsks turns
 
 -- it was asked once at most, and before all else
 abbrev pub AsksFirst : List Turn → Type 0
 AsksFirst [] = Unit {0}
 AsksFirst (Gave bytes ∷ turns) = NeverAsks turns
+AsksFirst (ReadFailed ∷ turns) = NeverAsks turns
 AsksFirst (Took bytes ∷ turns) = ⊥
+AsksFirst (WriteFailed ∷ turns) = ⊥
 
 module _ {P : Type 0} (went : P → P → List Turn → Type 0) where
   -- it was handed these bytes and took all of them, and was asked for nothing
@@ -47,12 +51,21 @@ module _ {P : Type 0} (went : P → P → List Turn → Type 0) where
     pub unasked : NeverAsks turns
     pub takes : taken turns ≡ bytes
 
-  -- so a beginning of the bytes
+  -- and at each turn it took some
+  pub record HandsAll (old new : P) (bytes : List ℕ) : Type 0 where
+    pub turns : List Turn
+    pub goes : went old new turns
+    pub unasked : NeverAsks turns
+    pub takes : taken turns ≡ bytes
+    pub passed : AllPass turns
+
+  -- so a beginning of the bytes, and then it took none
   pub record HandsFront (old new : P) (bytes : List ℕ) : Type 0 where
     pub written : List ℕ
     pub lost : List ℕ
     pub splits : written ++ lost ≡ bytes
     pub hands : Hands old new written
+    pub last : LastTookNone hands.turns
 
   -- it was asked once at most, and gave these bytes; then it was handed those and took all of them
   pub record AsksOnce (old new : P) (got sent : List ℕ) : Type 0 where
@@ -84,6 +97,17 @@ pub record Served (old new : Told) (bytes rest sent : List ℕ) (count : ℕ) : 
 abbrev pub FrontCame : Result ℕ EdgeFault → Told → Told → List ℕ → List ℕ → List ℕ → Type 0
 FrontCame (Ok count) old new bytes rest sent = Served old new bytes rest sent count
 FrontCame (Err fault) old new bytes rest sent = EndsBy fault old new bytes sent ⊥
+
+-- the turns by which these answers were sent
+abbrev pub SentBy : Result ℕ EdgeFault → List Turn → Type 0
+SentBy (Ok count) turns = AllPass turns
+SentBy (Err fault) turns = LastTurn fault turns
+
+-- the turns of one read, and of the answers to all that it made whole
+abbrev pub ReadBy : Result ReadOutcome EdgeFault → List Turn → Type 0
+ReadBy (Ok (read_outcome.More count)) turns = AllPass turns × (times_asked turns ≡ 1)
+ReadBy (Ok read_outcome.End) turns = LastIs (Gave []) turns
+ReadBy (Err fault) turns = LastTurn fault turns
 
 -- what one read, and all that it made whole, came to
 abbrev pub ReadCame : Result ReadOutcome EdgeFault → Told → Told → List ℕ → List ℕ → List ℕ → Type 0

@@ -8,8 +8,8 @@ ghost use Rattle.std.specs.Prelude.{◌≡◌, ◌≢◌, ◌↔◌, ℕ, List, 
 ghost use Rattle.std.specs.Io.KnownBytes.{Appends, Consumes, IsAtEnd};
 ghost use Rattle.machine.specs.declared.event.Answer.{Answer};
 ghost use Rattle.frames.specs.Requests.{next, Cut};
-ghost use Rattle.socket_edge.specs.Running.{AnswersFirst, AtEachTurn, ComesBy, Explains, Fares, RunEnded, events_in};
-ghost use Rattle.socket_edge.specs.Serving.{AsksOnce, FrontCame, Hands, SettledAndSent, ReadCame};
+ghost use Rattle.socket_edge.specs.Running.{AnswersFirst, AtEachTurn, ComesBy, Explains, Fares, RunEnded, TurnsEnd, events_in};
+ghost use Rattle.socket_edge.specs.Serving.{AsksOnce, FrontCame, Hands, ReadBy, ReadCame, SentBy, SettledAndSent};
 ghost use Rattle.socket_edge.specs.Turns.{Turn, given, taken};
 
 use crate::fault::EdgeFault;
@@ -54,9 +54,10 @@ fn answer_front<P: Peer, D: Disk + Drop>(
     requires none { answers.old.items ≡ [] }
     requires room { vec_len answers.old + length gateway.old.told.held ≤ vec_capacity answers.old }
     ensures came { (handed : List (ℕ × Answer)) × (sent : List ℕ)
-        × Hands P.went peer.old peer.new sent
+        × (hands : Hands P.went peer.old peer.new sent)
         × SettledAndSent D.honest D.moment D.left D.failed result gateway.old gateway.new
-        waiting.old.unanswered waiting.new.unanswered (handed ++ answers.new.items) sent }
+        waiting.old.unanswered waiting.new.unanswered (handed ++ answers.new.items) sent
+        × SentBy result hands.turns }
     ensures sent { OnOk result (waiting.new.answered ≡ []) }
     ensures room { vec_len answers.new + length gateway.new.told.held ≤ vec_capacity answers.new }
 {
@@ -79,13 +80,14 @@ fn answer_read<P: Peer, D: Disk + Drop>(
 ) -> Result<u64, EdgeFault>
     requires stands { gateway.old.fallen ≡ false }
     requires sent { waiting.old.answered ≡ [] }
-    ensures served { (sent : List ℕ) × Hands P.went peer.old peer.new sent
+    ensures served { (sent : List ℕ) × (hands : Hands P.went peer.old peer.new sent)
         × FrontCame result gateway.old.told gateway.new.told
         waiting.old.unanswered waiting.new.unanswered sent
         × Fares D.honest D.moment D.left gateway.old gateway.new
         (events_in waiting.old.unanswered) sent
         × ComesBy D.honest D.moment D.left gateway.old gateway.new
-        (events_in waiting.old.unanswered) (events_in waiting.old.unanswered) sent }
+        (events_in waiting.old.unanswered) (events_in waiting.old.unanswered) sent
+        × SentBy result hands.turns }
     ensures why { IfErr result (λ e. Explains D.honest D.moment D.left D.failed e gateway.old
         gateway.new) }
     ensures stands { OnOk result (gateway.new.fallen ≡ false) }
@@ -125,7 +127,7 @@ fn read_once<P: Peer, D: Disk + Drop>(
     requires sent { waiting.old.answered ≡ [] }
     requires cut { next waiting.old.unanswered ≡ Cut }
     ensures came { (got sent : List ℕ)
-        × AsksOnce P.went peer.old peer.new got sent
+        × (asks : AsksOnce P.went peer.old peer.new got sent)
         × ReadCame result gateway.old.told gateway.new.told (waiting.old.unanswered ++ got)
         waiting.new.unanswered sent
         (P.ended peer.new)
@@ -133,7 +135,8 @@ fn read_once<P: Peer, D: Disk + Drop>(
         (events_in (waiting.old.unanswered ++ got)) sent
         × ComesBy D.honest D.moment D.left gateway.old gateway.new
         (events_in (waiting.old.unanswered ++ got)) (events_in (waiting.old.unanswered ++ got))
-        sent }
+        sent
+        × ReadBy result asks.turns }
     ensures why { IfErr result (λ e. Explains D.honest D.moment D.left D.failed e gateway.old
         gateway.new) }
     ensures stands { OnOk result (gateway.new.fallen ≡ false) }
@@ -171,7 +174,9 @@ fn sum(count: u64, more: u64) -> u64
 
 /// Answers each request that the peer gives, in order, as `run` does of two streams. Each time that it asks the peer
 /// for more, the peer has taken the answers to all whole frames that it had given by then, if nothing was held before,
-/// and none of them was faulty. So this never waits for a peer that waits for an answer, or to be cut off.
+/// and none of them was faulty. So this never waits for a peer that waits for an answer, or to be cut off. The last turn
+/// tells why the run ended (`TurnsEnd` of `specs/Running`), and bytes went at each turn before: no call follows one that
+/// failed.
 ///
 /// # Errors
 ///
@@ -181,15 +186,16 @@ pub fn run_with<P: Peer, D: Disk + Drop>(
     peer: &mut P,
     gateway: &mut Gateway<D>,
 ) -> Result<u64, EdgeFault>
-    // By which turns it went, how the run ended, what a crash leaves of it, that answers came first, and what a crash
-    // leaves that comes after some of the turns.
+    // By which turns it went, how the run ended, what a crash leaves of it, that answers came first, what a crash
+    // leaves that comes after some of the turns, and which turn was the last.
     ensures ran { (turns : List Turn) × P.went peer.old peer.new turns
         × RunEnded result gateway.old.told gateway.new.told (given turns) (taken turns)
         (P.ended peer.new)
         × Fares D.honest D.moment D.left gateway.old gateway.new (events_in (given turns))
         (taken turns)
         × AnswersFirst gateway.old.told turns
-        × AtEachTurn D.honest D.moment D.left gateway.old gateway.new turns }
+        × AtEachTurn D.honest D.moment D.left gateway.old gateway.new turns
+        × TurnsEnd result turns }
     ensures untouched { gateway.old.fallen ≡ true → peer.new ≡ peer.old }
     ensures why { gateway.old.fallen ≡ false
         → IfErr result (λ e. Explains D.honest D.moment D.left D.failed e gateway.old gateway.new) }

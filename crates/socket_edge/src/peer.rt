@@ -3,7 +3,7 @@ ghost use Rattle.std.specs.Prelude.{◌≡◌, ◌<◌, ◌++◌, [], ◌∷◌,
 ghost use Rattle.std.specs.Io.{ReadsAtMost, WritesAtMost};
 ghost use Rattle.std.specs.Io.KnownBytes.{Appends, Consumes, IsAtEnd};
 ghost use Rattle.std.proofs.Common.{refl, ◌∙◌};
-ghost use Rattle.socket_edge.specs.Turns.{Turn, Gave, Took, given, taken, passed};
+ghost use Rattle.socket_edge.specs.Turns.{Turn, given, read_turn, taken, write_turn};
 ghost use Rattle.socket_edge.specs.Joined.{Appends-nil, Consumes-nil, appended_then, consumed_then};
 
 use std::io;
@@ -26,7 +26,7 @@ pub trait Peer {
     /// Those of the stream. It gave nothing.
     fn read(&mut self, bytes: &mut [u8]) -> io::Result<usize>
         ensures bound { ReadsAtMost result bytes.new }
-        ensures went { went self.old self.new (Gave (passed result bytes.new) ∷ []) }
+        ensures went { went self.old self.new (read_turn result bytes.new ∷ []) }
         ensures end { IfOk result (λ n. n ≡ 0 → 0 < length bytes.old → ended self.new) };
 
     /// Hands it bytes, and says how many of them, from the front, it took.
@@ -36,7 +36,7 @@ pub trait Peer {
     /// Those of the stream. It took nothing.
     fn write(&mut self, bytes: &[u8]) -> io::Result<usize>
         ensures bound { WritesAtMost result bytes.now }
-        ensures went { went self.old self.new (Took (passed result bytes.now) ∷ []) };
+        ensures went { went self.old self.new (write_turn result bytes.now ∷ []) };
 
     /// From a peer to itself it goes by no turn.
     ghost still: { (peer : Self) → went peer peer [] };

@@ -4,7 +4,7 @@ ghost use Rattle.std.specs.Prelude.{◌≡◌, ◌++◌, OnOk, IfErr};
 ghost use Rattle.std.specs.Io.KnownBytes.{Appends};
 ghost use Rattle.frames.specs.Answers.{answer_body, frame_head, frame, frames};
 ghost use Rattle.socket_edge.specs.Progress.{AppendsFront};
-ghost use Rattle.socket_edge.specs.Serving.{Hands, HandsFront};
+ghost use Rattle.socket_edge.specs.Serving.{HandsAll, HandsFront};
 
 use crate::fault::EdgeFault;
 use crate::peer::{Both, Peer};
@@ -16,7 +16,7 @@ use std::io::Write;
 
 /// Writes all of the bytes, in as many calls as the peer needs.
 fn write_out<P: Peer>(peer: &mut P, bytes: &[u8]) -> Result<(), EdgeFault>
-    ensures ok { OnOk result (Hands P.went peer.old peer.new bytes.now) }
+    ensures ok { OnOk result (HandsAll P.went peer.old peer.new bytes.now) }
     ensures err { IfErr result (λ e. (e ≡ EdgeFault.Output)
         × HandsFront P.went peer.old peer.new bytes.now) }
 {
@@ -33,7 +33,7 @@ fn write_out<P: Peer>(peer: &mut P, bytes: &[u8]) -> Result<(), EdgeFault>
 
 /// Writes the one and then the other.
 fn write_both<P: Peer>(peer: &mut P, first: &[u8], second: &[u8]) -> Result<(), EdgeFault>
-    ensures ok { OnOk result (Hands P.went peer.old peer.new (first.now
+    ensures ok { OnOk result (HandsAll P.went peer.old peer.new (first.now
         ++ second.now)) }
     ensures err { IfErr result (λ e. (e ≡ EdgeFault.Output)
         × HandsFront P.went peer.old peer.new (first.now ++ second.now)) }
@@ -43,7 +43,7 @@ fn write_both<P: Peer>(peer: &mut P, first: &[u8], second: &[u8]) -> Result<(), 
 }
 
 fn write_head<P: Peer>(peer: &mut P, number: u64, answer: &Answer) -> Result<(), EdgeFault>
-    ensures ok { OnOk result (Hands P.went peer.old peer.new
+    ensures ok { OnOk result (HandsAll P.went peer.old peer.new
         (frame_head (number, answer.now))) }
     ensures err { IfErr result (λ e. (e ≡ EdgeFault.Output)
         × HandsFront P.went peer.old peer.new
@@ -54,7 +54,7 @@ fn write_head<P: Peer>(peer: &mut P, number: u64, answer: &Answer) -> Result<(),
 }
 
 fn write_body<P: Peer>(peer: &mut P, answer: &Answer) -> Result<(), EdgeFault>
-    ensures ok { OnOk result (Hands P.went peer.old peer.new
+    ensures ok { OnOk result (HandsAll P.went peer.old peer.new
         (answer_body answer.now)) }
     ensures err { IfErr result (λ e. (e ≡ EdgeFault.Output)
         × HandsFront P.went peer.old peer.new (answer_body answer.now)) }
@@ -70,7 +70,7 @@ fn write_body<P: Peer>(peer: &mut P, answer: &Answer) -> Result<(), EdgeFault>
 
 /// Writes a frame without memory.
 fn write_frame<P: Peer>(peer: &mut P, number: u64, answer: &Answer) -> Result<(), EdgeFault>
-    ensures ok { OnOk result (Hands P.went peer.old peer.new
+    ensures ok { OnOk result (HandsAll P.went peer.old peer.new
         (frame (number, answer.now))) }
     ensures err { IfErr result (λ e. (e ≡ EdgeFault.Output)
         × HandsFront P.went peer.old peer.new
@@ -82,7 +82,7 @@ fn write_frame<P: Peer>(peer: &mut P, number: u64, answer: &Answer) -> Result<()
 
 /// Writes the frames of the answers one by one, without memory.
 fn send_frames<P: Peer>(peer: &mut P, answers: &[(u64, Answer)]) -> Result<(), EdgeFault>
-    ensures ok { OnOk result (Hands P.went peer.old peer.new
+    ensures ok { OnOk result (HandsAll P.went peer.old peer.new
         (frames answers.now)) }
     ensures err { IfErr result (λ e. (e ≡ EdgeFault.Output)
         × HandsFront P.went peer.old peer.new (frames answers.now)) }
@@ -123,7 +123,7 @@ pub(crate) fn send_behind<P: Peer>(
     bytes: &[u8],
     answers: &[(u64, Answer)],
 ) -> Result<(), EdgeFault>
-    ensures ok { OnOk result (Hands P.went peer.old peer.new (bytes.now
+    ensures ok { OnOk result (HandsAll P.went peer.old peer.new (bytes.now
         ++ frames answers.now)) }
     ensures err { IfErr result (λ e. (e ≡ EdgeFault.Output)
         × HandsFront P.went peer.old peer.new (bytes.now

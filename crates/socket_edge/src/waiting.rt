@@ -18,7 +18,7 @@ ghost use Rattle.machine.specs.declared.event.What.TheVariants.{Packet};
 ghost use Rattle.frames.specs.Answers.{frame, frames};
 ghost use Rattle.frames.specs.Requests.{next, Whole};
 ghost use Rattle.socket_edge.specs.Serving.{TakenInPlace};
-ghost use Rattle.socket_edge.specs.Turns.{Gave};
+ghost use Rattle.socket_edge.specs.Turns.{Gave, ReadFailed};
 
 use crate::forwarding::{Placed, answer_in_place, forward_frame};
 use crate::peer::Peer;
@@ -262,7 +262,7 @@ impl Waiting {
         ensures err { OnErr result (self.new ≡ record self.old { reach = length self.old.unanswered }) }
         ensures unasked { IfErr result (λ e. e ≡ Unread.NoMemory → peer.new ≡ peer.old) }
         ensures failed { IfErr result (λ e. e ≡ Unread.Failed
-            → P.went peer.old peer.new (Gave [] ∷ [])) }
+            → P.went peer.old peer.new (ReadFailed ∷ [])) }
     {
         self.move_to_front();
         if make_room(&mut self.bytes, self.end, self.asks).is_err() {
@@ -352,7 +352,7 @@ fn read_behind<P: Peer>(
     ensures end { IfOk result (λ n. n ≡ 0 → P.ended peer.new) }
     ensures err { OnErr result (take len bytes.new ≡ take len bytes.old) }
     ensures failed { IfErr result (λ e. (e ≡ Unread.Failed)
-        × P.went peer.old peer.new (Gave [] ∷ [])) }
+        × P.went peer.old peer.new (ReadFailed ∷ [])) }
 {
     match peer.read(&mut bytes[len..len + size]) {
         Ok(n) => Ok(n),

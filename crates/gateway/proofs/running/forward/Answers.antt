@@ -1,4 +1,4 @@
-use Rattle.std.proofs.Common.{ℕ, [], ◌∷◌, ◌++◌, List, Option, Some, None, IfSome, OnSome}
+use Rattle.std.proofs.Common.{ℕ, [], ◌∷◌, ◌++◌, List}
 use Rattle.packet.specs.declared.endpoint.Iface.{Iface}
 use Rattle.machine.specs.declared.event.Answer.{Answer}
 use Rattle.machine.specs.declared.event.Answer.TheVariants.{Forward}
@@ -7,21 +7,15 @@ use Rattle.machine.specs.declared.event.What.TheVariants.{Packet}
 use Rattle.gateway.specs.Told.{Took}
 use Rattle.gateway.specs.Running.{CarriesOn}
 use Rattle.gateway.specs.declared.given.Given.TheVariants.{Now}
-use Rattle.gateway.proofs.Runs.{offered, still-within}
+use Rattle.gateway.proofs.Runs.{offered, some-all, still-within}
 use Rattle.gateway.proofs.running.forward.Goals as goal
-
--- what is said of the value that there is
-together : {T : Type 0} (P : T → Type 0) (Q R : Type 0) (S : T → Type 0) (o : Option T) → IfSome o P → OnSome o Q → OnSome o R
-    → ((x : T) → P x → Q → R → S x) → IfSome o S
-together P Q R S None p q r on = tt
-together P Q R S (Some x) p q r on = on x p q r
 
 pub returns-clause-some : goal.returns-clause-some
 returns-clause-some g c =
     let event : Event = record { moment = c.args.moment; what = Packet c.args.iface c.args.packet.now } in
     let answer : ℕ × Iface → Answer = λ given. Forward given.1 c.forward.new.packet in
     let e = c.forward.ensures in
-    together (λ (given : ℕ × Iface). Took c.args.gateway.now.told c.forward.new.self.told event (Now given.0 (answer given))) _ _
+    some-all (λ (given : ℕ × Iface). Took c.args.gateway.now.told c.forward.new.self.told event (Now given.0 (answer given))) _ _
     (λ (given : ℕ × Iface). (before : List (ℕ × Answer)) → CarriesOn g.D.Disk.honest g.D.Disk.moment g.D.Disk.left g.D.Disk.failed c.args.gateway.now c.forward.new.self
     (event ∷ []) before (before ++ (given.0, answer given) ∷ []))
     c.forward.result e.took e.none_held e.no_entry

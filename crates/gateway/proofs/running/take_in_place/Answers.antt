@@ -1,4 +1,4 @@
-use Rattle.std.proofs.Common.{◌≡◌, ◌↔◌, ℕ, [], ◌∷◌, ◌++◌, List, Option, Some, None, IfSome}
+use Rattle.std.proofs.Common.{◌≡◌, ◌↔◌, ℕ, [], ◌∷◌, ◌++◌, List}
 use Rattle.machine.specs.Judged.{Judged, IsJudged}
 use Rattle.machine.specs.Noted.{HasEntry}
 use Rattle.machine.specs.declared.event.Answer.{Answer}
@@ -8,20 +8,15 @@ use Rattle.gateway.specs.Given.{IsNow, given_by, handed}
 use Rattle.gateway.specs.Running.{CarriesOn}
 use Rattle.gateway.specs.Told.{Took}
 use Rattle.gateway.specs.declared.given.GivenInPlace.{GivenInPlace}
-use Rattle.gateway.proofs.Runs.{offered, still-within}
+use Rattle.gateway.proofs.Runs.{offered, some-both, still-within}
 use Rattle.gateway.proofs.running.take_in_place.Goals as goal
-
--- what is said of the value that there is
-both : {T : Type 0} (P Q R : T → Type 0) (o : Option T) → IfSome o P → IfSome o Q → ((x : T) → P x → Q x → R x) → IfSome o R
-both P Q R None p q on = tt
-both P Q R (Some x) p q on = on x p q
 
 pub returns-clause-some : goal.returns-clause-some
 returns-clause-some g c =
     let event : Event = record { moment = c.args.moment; what = Packet c.args.iface c.args.packet.now } in
     let packet = c.offer_in_place.new.packet in
     let e = c.offer_in_place.ensures in
-    both (λ (taken : GivenInPlace). Took c.args.gateway.now.told c.offer_in_place.new.self.told event (given_by taken packet))
+    some-both (λ (taken : GivenInPlace). Took c.args.gateway.now.told c.offer_in_place.new.self.told event (given_by taken packet))
     (λ (taken : GivenInPlace). (judged : Judged) → IsJudged c.args.gateway.now.told.config event judged
     → IsNow (given_by taken packet) ↔ ((c.args.gateway.now.told.held ≡ []) × ¬ HasEntry c.args.gateway.now.told.config c.args.gateway.now.told.state judged))
     (λ (taken : GivenInPlace). (before : List (ℕ × Answer)) → CarriesOn g.D.Disk.honest g.D.Disk.moment g.D.Disk.left g.D.Disk.failed c.args.gateway.now c.offer_in_place.new.self

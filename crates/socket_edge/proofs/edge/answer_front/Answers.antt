@@ -6,8 +6,9 @@ use Rattle.machine.specs.declared.event.Answer.{Answer}
 use Rattle.frames.specs.Answers.{frame, frames}
 use Rattle.socket_edge.specs.Exchange.{Exchange}
 use Rattle.frames.specs.Requests.{next}
-use Rattle.socket_edge.specs.Serving.{Hands, IsSettled, Reads}
-use Rattle.socket_edge.proofs.Closing.{sent-bad, sent-some}
+use Rattle.socket_edge.specs.Serving.{IsSettled, Reads}
+use Rattle.socket_edge.proofs.Closing.{closed-turns, sent-bad, sent-some}
+use Rattle.socket_edge.proofs.Talks.{handed-all}
 use Rattle.socket_edge.proofs.edge.answer_front.Goals as goal
 
 -- the frames in front, and those that are sent behind them
@@ -35,6 +36,7 @@ returns-in_err-send_behind-clause-came g c =
       front.hands,
       rw (p.1, p.2, e.0) (sent-some g.D.Disk.honest g.D.Disk.moment g.D.Disk.left g.D.Disk.seen g.D.Disk.failed g.met.D.Disk.reads g.met.D.Disk.earlier c.args.gateway.now c.close-closed.result c.close-closed.new.gateway bytes rest
           c.offer_all-count.result.0 (o.0 ++ (k.0 ++ items)) front.written front.lost closed (front.splits ∙ whole) c.close-closed.new.waiting.unanswered items),
+      rw (p.1, p.2, e.0) front.last,
     )
 
 pub returns-in_err-closed-clause-came : goal.returns-in_err-closed-clause-came
@@ -48,12 +50,14 @@ returns-in_err-closed-clause-came g c =
     let offered = rw c.requires.none at o.2 in
     let closed = k.2 c.args.gateway.now bytes rest c.offer_all-count.result.0 o.0 c.stands.ensures offered in
     let whole = all_frames c.args.waiting.now.answered c.offer_all-count.new.waiting.answered c.answered.result.now o.0 k.0 items c.requires.sent o.1 (c.answered.ensures ∙ ap (λ (x : Exchange). x.answered) k.1) in
-    let sent = rw c.as_slice.ensures.value at c.in_ok-send_behind.ensures.ok in (
+    let h = handed-all g.P.Peer.went c.args.peer.now c.send_behind.new.peer _ _ whole (rw c.as_slice.ensures.value at c.in_ok-send_behind.ensures.ok) in (
       [],
       frames (o.0 ++ (k.0 ++ items)),
-      subst (Hands g.P.Peer.went c.args.peer.now c.send_behind.new.peer) whole sent,
+      h.0,
       rw (p.1, p.2) (sent-bad g.D.Disk.honest g.D.Disk.moment g.D.Disk.left g.D.Disk.seen g.D.Disk.failed g.met.D.Disk.reads g.met.D.Disk.earlier c.args.gateway.now c.in_err-closed.field-0.0 c.close-closed.new.gateway bytes rest
           c.offer_all-count.result.0 (o.0 ++ (k.0 ++ items)) closed c.close-closed.new.waiting.unanswered items),
+      rw (p.1, p.2) (closed-turns g.D.Disk.honest g.D.Disk.moment g.D.Disk.left g.D.Disk.failed c.args.gateway.now c.close-closed.new.gateway c.in_err-closed.field-0.0 bytes rest
+          c.offer_all-count.result.0 (o.0 ++ (k.0 ++ items)) h.0.turns closed h.1),
     )
 
 pub returns-clause-came : goal.returns-clause-came
@@ -66,12 +70,12 @@ returns-clause-came g c =
     let offered = rw c.requires.none at o.2 in
     let closed = k.2 c.args.gateway.now bytes rest c.offer_all-count.result.0 o.0 c.stands.ensures offered in
     let whole = all_frames c.args.waiting.now.answered c.offer_all-count.new.waiting.answered c.answered.result.now o.0 k.0 items c.requires.sent o.1 (c.answered.ensures ∙ ap (λ (x : Exchange). x.answered) k.1) in
-    let sent = rw c.as_slice.ensures.value at c.in_ok-send_behind.ensures.ok in
+    let h = handed-all g.P.Peer.went c.args.peer.now c.send_behind.new.peer _ _ whole (rw c.as_slice.ensures.value at c.in_ok-send_behind.ensures.ok) in
     let left : c.forget_answered.new.self.unanswered ≡ rest = ap (λ (x : Exchange). x.unanswered) c.forget_answered.ensures ∙ ap (λ (x : Exchange). x.unanswered) k.1 in
     let all : o.0 ++ (k.0 ++ items) ≡ (o.0 ++ k.0) ++ items = sym (append_assoc o.0 k.0 items) in (
       o.0 ++ k.0,
       frames (o.0 ++ (k.0 ++ items)),
-      subst (Hands g.P.Peer.went c.args.peer.now c.send_behind.new.peer) whole sent,
+      h.0,
       (
         closed.0,
         subst (Reads bytes closed.0) (sym left) closed.1,
@@ -80,4 +84,5 @@ returns-clause-came g c =
         subst (IsSettled g.D.Disk.honest g.D.Disk.moment g.D.Disk.left g.D.Disk.failed c.args.gateway.now c.close-closed.new.gateway closed.0) all closed.4,
         ap frames all,
       ),
+      h.1,
     )

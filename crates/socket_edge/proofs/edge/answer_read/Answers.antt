@@ -1,7 +1,7 @@
 use Rattle.std.proofs.Common.{[], ◌++◌, refl}
 use Rattle.std.proofs.lemmas.Result.{err_from_is_err_and}
 use Rattle.socket_edge.specs.Running.{events_in}
-use Rattle.socket_edge.proofs.Talks.{Hands-nil}
+use Rattle.socket_edge.proofs.Talks.{handed-none}
 use Rattle.socket_edge.proofs.Answers.{AnsweredFirst-nothing}
 use Rattle.socket_edge.proofs.Closing.{served, served-fares, served-no_failure, not_compacted}
 use Rattle.socket_edge.proofs.Stopping.{by-end, compacted-by, compacted-fares, stopped-fares}
@@ -10,12 +10,14 @@ use Rattle.socket_edge.proofs.edge.answer_read.Goals as goal
 
 pub returns-then-is_err-clause-served : goal.returns-then-is_err-clause-served
 returns-then-is_err-clause-served g c =
-    let f = idle-fares g.D.Disk.honest g.D.Disk.moment g.D.Disk.left g.D.Disk.seen g.D.Disk.failed g.met.D.Disk.reads g.met.D.Disk.earlier c.args.gateway.now c.stands.ensures (events_in c.args.waiting.now.unanswered) in (
+    let f = idle-fares g.D.Disk.honest g.D.Disk.moment g.D.Disk.left g.D.Disk.seen g.D.Disk.failed g.met.D.Disk.reads g.met.D.Disk.earlier c.args.gateway.now c.stands.ensures (events_in c.args.waiting.now.unanswered) in
+    let h = handed-none g.P.Peer.went g.met.P.Peer.still c.args.peer.now in (
       [],
-      Hands-nil g.P.Peer.went g.met.P.Peer.still c.args.peer.now,
+      h.0,
       AnsweredFirst-nothing c.args.gateway.now.told (events_in c.args.waiting.now.unanswered),
       f,
       by-end g.D.Disk.honest g.D.Disk.moment g.D.Disk.left g.met.D.Disk.earlier c.args.gateway.now c.args.gateway.now (events_in c.args.waiting.now.unanswered) [] f,
+      h.1,
     )
 
 pub returns-in_err-count-clause-served : goal.returns-in_err-count-clause-served
@@ -28,6 +30,7 @@ returns-in_err-count-clause-served g c =
       a.3.0,
       a.3.1,
       by-end g.D.Disk.honest g.D.Disk.moment g.D.Disk.left g.met.D.Disk.earlier c.args.gateway.now c.answer_front.new.gateway (events_in c.args.waiting.now.unanswered) a.1 a.3.1,
+      a.4,
     )
 
 pub returns-in-Ok-clause-served : goal.returns-in-Ok-clause-served
@@ -46,6 +49,7 @@ returns-in-Ok-clause-served g c =
       served-fares g.D.Disk.honest g.D.Disk.moment g.D.Disk.left g.D.Disk.seen g.D.Disk.failed g.met.D.Disk.reads g.met.D.Disk.earlier old mid new bytes rest c.in_ok-count.count out out a.1 a.3 (e.ok out) refl e.none,
       compacted-by g.D.Disk.honest g.D.Disk.moment g.D.Disk.left g.met.D.Disk.earlier g.D.Disk.seen g.D.Disk.failed g.met.D.Disk.reads c.events_are_judged_once.ensures old mid new bytes rest c.in_ok-count.count out a.1 a.3
           (compacted-fares g.D.Disk.honest g.D.Disk.moment g.D.Disk.left g.met.D.Disk.earlier g.D.Disk.seen g.D.Disk.failed g.met.D.Disk.reads mid new (e.ok []) c.stands-2.ensures e.none),
+      a.4,
     )
 
 pub returns-in-Ok-clause-no_failure : goal.returns-in-Ok-clause-no_failure
@@ -72,6 +76,7 @@ returns-in-Err-clause-served g c =
       is.1,
       compacted-by g.D.Disk.honest g.D.Disk.moment g.D.Disk.left g.met.D.Disk.earlier g.D.Disk.seen g.D.Disk.failed g.met.D.Disk.reads c.events_are_judged_once.ensures old mid new bytes rest c.in_ok-count.count out a.1 a.3
           (stopped-fares g.D.Disk.honest g.D.Disk.moment g.D.Disk.left g.met.D.Disk.earlier g.D.Disk.seen g.D.Disk.failed g.met.D.Disk.reads mid new c.in-Err.fault (e.err []) c.stands-2.ensures e.none),
+      a.4,
     )
 
 pub returns-in-Err-clause-why : goal.returns-in-Err-clause-why

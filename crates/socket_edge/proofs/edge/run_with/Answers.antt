@@ -1,8 +1,9 @@
-use Rattle.std.proofs.Common.{◌≡◌, ◌+◌, [], ◌++◌, ℕ, List, arith, ap, sym, subst, ◌∙◌}
+use Rattle.std.proofs.Common.{◌≡◌, ◌+◌, [], ◌++◌, ℕ, List, Ok, Err, inl, inr, refl, arith, ap, sym, subst, ◌∙◌}
 use Rattle.socket_edge.specs.Exchange.{Exchange}
-use Rattle.socket_edge.specs.Running.{AllAnswered, Answered, EndsBy, Fares, events_in}
+use Rattle.socket_edge.specs.Running.{AllAnswered, Answered, EndsBy, Fares, TurnsEnd, events_in}
+use Rattle.socket_edge.specs.Turns.{Gave}
 use Rattle.socket_edge.proofs.Stopping.{stops-nil, walked-first, walked-then}
-use Rattle.socket_edge.proofs.Talks.{first-nil, told}
+use Rattle.socket_edge.proofs.Talks.{Counted, counted_then, fault_then, first-nil, last_then, told}
 use Rattle.socket_edge.proofs.Answers.{AnsweredFirst-nothing}
 use Rattle.socket_edge.proofs.Runs.{AllAnswered-then, EndsBy-then, Served-answered, fallen-fares, going-ends, going-first, going-next, going-stops}
 use Rattle.socket_edge.proofs.Tending.{idle-fares}
@@ -21,6 +22,7 @@ returns-then-has_fallen-clause-ran g c = (
   first-nil c.args.gateway.now.told,
   stops-nil g.D.Disk.honest g.D.Disk.moment g.D.Disk.left g.met.D.Disk.earlier g.P.Peer.went c.args.gateway.now c.args.gateway.now
       (fallen-fares g.D.Disk.honest g.D.Disk.moment g.D.Disk.left g.D.Disk.failed g.met.D.Disk.earlier c.args.gateway.now (events_in []) (sym c.has_fallen.ensures.value ∙ c.if-has_fallen.true)),
+  inl tt,
 )
 
 pub loop-init : goal.loop-init
@@ -28,7 +30,7 @@ loop-init g c = (
   [],
   [],
   walked-first g.D.Disk.honest g.D.Disk.moment g.D.Disk.left g.met.D.Disk.earlier g.P.Peer.went g.met.P.Peer.still c.args.gateway.now c.args.peer.now
-      (idle-fares g.D.Disk.honest g.D.Disk.moment g.D.Disk.left g.D.Disk.seen g.D.Disk.failed g.met.D.Disk.reads g.met.D.Disk.earlier c.args.gateway.now c.stands.ensures (events_in [])),
+      (idle-fares g.D.Disk.honest g.D.Disk.moment g.D.Disk.left g.D.Disk.seen g.D.Disk.failed g.met.D.Disk.reads g.met.D.Disk.earlier c.args.gateway.now c.stands.ensures (events_in [])) (Counted 0) (tt, refl),
   rw c.new-waiting.ensures (going-first g.D.Disk.honest g.D.Disk.moment g.D.Disk.left g.D.Disk.failed g.met.D.Disk.earlier c.args.gateway.now c.stands.ensures),
   ap (λ (x : Exchange). x.answered) c.new-waiting.ensures,
 )
@@ -39,7 +41,8 @@ returns-in-Ok-End-clause-ran g c =
     let t = rw c.in-Ok-End.field-0-is at c.in-Ok-End.ensures.came in
     let at_end = g.P.Peer.ended c.read_once.new.peer in
     let w = walked-then g.D.Disk.honest g.D.Disk.moment g.D.Disk.left g.met.D.Disk.earlier g.P.Peer.went g.D.Disk.failed g.met.P.Peer.further c.events_are_judged_once.ensures c.args.gateway.now c.loop.gateway c.read_once.new.gateway c.args.peer.now c.loop.peer c.read_once.new.peer
-    i.0 i.1 t.0 t.1 c.loop.waiting.unanswered c.loop.count i.2 i.3 t.4 t.5 t.2 in
+    i.0 i.1 t.0 t.1 c.loop.waiting.unanswered c.loop.count (Counted c.loop.counter) i.2 i.3 t.4 t.5 t.2
+    (TurnsEnd (Ok c.loop.count)) (last_then (Gave []) i.2.talked.turns t.2.turns i.2.are.0 t.6) in
     let k = w.talked in
     let so = told g.P.Peer.went c.args.gateway.now.told c.args.peer.now c.read_once.new.peer (i.0 ++ t.0) (i.1 ++ t.1) k in (
       k.turns,
@@ -51,6 +54,7 @@ returns-in-Ok-End-clause-ran g c =
           (going-ends g.D.Disk.honest g.D.Disk.moment g.D.Disk.left g.D.Disk.failed g.met.D.Disk.earlier c.args.gateway.now c.loop.gateway c.read_once.new.gateway i.0 c.loop.waiting.unanswered t.0 i.1 t.1 c.loop.count i.3 t.4),
       k.first,
       w.stops,
+      w.are,
     )
 
 pub returns-in-Err-clause-ran : goal.returns-in-Err-clause-ran
@@ -59,7 +63,8 @@ returns-in-Err-clause-ran g c =
     let t = c.in-Err.ensures.came in
     let at_end = g.P.Peer.ended c.read_once.new.peer in
     let w = walked-then g.D.Disk.honest g.D.Disk.moment g.D.Disk.left g.met.D.Disk.earlier g.P.Peer.went g.D.Disk.failed g.met.P.Peer.further c.events_are_judged_once.ensures c.args.gateway.now c.loop.gateway c.read_once.new.gateway c.args.peer.now c.loop.peer c.read_once.new.peer
-    i.0 i.1 t.0 t.1 c.loop.waiting.unanswered c.loop.count i.2 i.3 t.4 t.5 t.2 in
+    i.0 i.1 t.0 t.1 c.loop.waiting.unanswered c.loop.count (Counted c.loop.counter) i.2 i.3 t.4 t.5 t.2
+    (TurnsEnd (Err c.in-Err.fault)) (inl (fault_then c.in-Err.fault i.2.talked.turns t.2.turns i.2.are.0 t.6)) in
     let k = w.talked in
     let so = told g.P.Peer.went c.args.gateway.now.told c.args.peer.now c.read_once.new.peer (i.0 ++ t.0) (i.1 ++ t.1) k in (
       k.turns,
@@ -70,6 +75,7 @@ returns-in-Err-clause-ran g c =
           (going-ends g.D.Disk.honest g.D.Disk.moment g.D.Disk.left g.D.Disk.failed g.met.D.Disk.earlier c.args.gateway.now c.loop.gateway c.read_once.new.gateway i.0 c.loop.waiting.unanswered t.0 i.1 t.1 c.loop.count i.3 t.4),
       k.first,
       w.stops,
+      w.are,
     )
 
 pub loop-preserved : goal.loop-preserved
@@ -79,7 +85,8 @@ loop-preserved g c =
       i.0 ++ t.0,
       i.1 ++ t.1,
       walked-then g.D.Disk.honest g.D.Disk.moment g.D.Disk.left g.met.D.Disk.earlier g.P.Peer.went g.D.Disk.failed g.met.P.Peer.further c.events_are_judged_once.ensures c.args.gateway.now c.loop.gateway c.read_once.new.gateway c.args.peer.now c.loop.peer c.read_once.new.peer
-          i.0 i.1 t.0 t.1 c.loop.waiting.unanswered c.loop.count i.2 i.3 t.4 t.5 t.2,
+          i.0 i.1 t.0 t.1 c.loop.waiting.unanswered c.loop.count (Counted c.loop.counter) i.2 i.3 t.4 t.5 t.2
+          (Counted (c.loop.counter + 1)) (counted_then c.loop.counter i.2.talked.turns t.2.turns i.2.are t.6),
       rw c.sum-count.ensures (going-next g.D.Disk.honest g.D.Disk.moment g.D.Disk.left g.D.Disk.failed g.met.D.Disk.earlier c.args.gateway.now c.loop.gateway c.read_once.new.gateway i.0 c.loop.waiting.unanswered t.0 c.read_once.new.waiting.unanswered i.1 t.1 c.loop.count c.in-Ok-More.more i.3 t.3 t.4
           c.in-Ok-More.ensures.stands c.in-Ok-More.ensures.no_failure (c.in-Ok-More.ensures.grown (λ is. absurd cc))),
       c.in-Ok-More.ensures.sent,
@@ -98,4 +105,5 @@ returns-clause-ran g c =
           (going-stops g.D.Disk.honest g.D.Disk.moment g.D.Disk.left g.D.Disk.failed g.met.D.Disk.earlier c.args.gateway.now c.loop.gateway i.0 c.loop.waiting.unanswered i.1 c.loop.count i.3 (idle-fares g.D.Disk.honest g.D.Disk.moment g.D.Disk.left g.D.Disk.seen g.D.Disk.failed g.met.D.Disk.reads g.met.D.Disk.earlier c.loop.gateway c.stands-2.ensures)),
       k.first,
       i.2.stops,
+      inr (refl, i.2.are.0, omega (arith, i.2.are.1, c.loop-test.false, c.loop.auto.counter-end)),
     )

@@ -2,7 +2,7 @@ use Rattle.std.proofs.Common.{ℕ, List, ◌∙◌, subst, sym, take}
 use Rattle.std.specs.List.{flat_map}
 use Rattle.frames.specs.Answers.{frame}
 use Rattle.frames.proofs.Parts.{frames_step}
-use Rattle.socket_edge.specs.Serving.{Hands}
+use Rattle.socket_edge.specs.Serving.{HandsAll}
 use Rattle.socket_edge.proofs.Talks.{Hands-then}
 use Rattle.socket_edge.proofs.Written.{Front-next}
 use Rattle.std.proofs.lemmas.Result.{err_from_is_err_and}
@@ -22,4 +22,4 @@ pub loop-pair-preserved : goal.loop-pair-preserved
 loop-pair-preserved g c =
     let front : List ℕ = flat_map frame (take c.loop-pair.pair-index c.args.answers.now) in
     let both = Hands-then g.P.Peer.went g.met.P.Peer.further c.args.peer.now c.loop-pair.peer c.write_frame.new.peer front (frame c.pair-item.result) c.loop-pair.invariant c.in_ok-write_frame.ensures.ok in
-    subst (Hands g.P.Peer.went c.args.peer.now c.write_frame.new.peer) (sym (frames_step c.args.answers.now c.loop-pair.pair-index c.pair-item.result c.loop-pair-test.true c.pair-item.is)) both
+    subst (HandsAll g.P.Peer.went c.args.peer.now c.write_frame.new.peer) (sym (frames_step c.args.answers.now c.loop-pair.pair-index c.pair-item.result c.loop-pair-test.true c.pair-item.is)) both

@@ -1,8 +1,8 @@
 use Rattle.std.proofs.Common.{take}
-use Rattle.socket_edge.specs.Serving.{Hands}
+use Rattle.socket_edge.specs.Serving.{HandsAll}
 use Rattle.std.specs.List.{flat_map}
 use Rattle.frames.specs.Answers.{frame}
 use Rattle.socket_edge.proofs.sending.send_frames.Given as goal
 
 abbrev pub invariant-loop-pair : goal.invariant-loop-pair
-invariant-loop-pair g l = Hands g.P.Peer.went l.fn.peer l.peer (flat_map frame (take l.pair-index l.answers))
+invariant-loop-pair g l = HandsAll g.P.Peer.went l.fn.peer l.peer (flat_map frame (take l.pair-index l.answers))
