@@ -76,13 +76,6 @@ pub due_held : (o : Option Session) (now : ℕ) → IsSomeAnd o (IsDue now) → 
 due_held None now is = absurd is
 due_held (Some s) now is = refl
 
--- no session is seen later for an expiry
-pub latest_expired : (old new : List (Option Session)) (now : ℕ) → listing new ≡ filter (alive now) (listing old) → IsNoneLater old now → IsNoneLater new now
-latest_expired old new now e latest = λ slot s is.
-    let kept = In-filter (alive now) (listing old) s (subst (In s) e (listing-In new s slot is)) in
-    let at = In-listing old s kept.0 in
-    latest at.0 s at.1
-
 -- where every session is alive none is due
 pub none_due : (held : List (Option Session)) (now : ℕ) → ((t : Session) → In t (listing held) → alive now t ≡ true) → (slot : ℕ) → ¬ IsSomeAnd (get_or held slot None) (IsDue now)
 none_due held now lives slot = none_at (get_or held slot None) refl

@@ -66,7 +66,7 @@ module _ (config : Config) (is_one : is_config config ≡ true) where
       let now = later s.clock judged.moment in
       act-dropped (aged now s) (aged-sound config is_one s sound now (later-above s.clock judged.moment)) judged.deed number e
 
-  act-alive : (s : State) → IsSoundState config s → ((t : Session) → In t s.sessions → IsAlive s.clock t) → (d : Deed) (t : Session) → In t (act config s d).0.sessions → IsAlive s.clock t
+  pub act-alive : (s : State) → IsSoundState config s → ((t : Session) → In t s.sessions → IsAlive s.clock t) → (d : Deed) (t : Session) → In t (act config s d).0.sessions → IsAlive s.clock t
   act-alive s sound lives d = act-by config is_one s sound (λ p. (t : Session) → In t p.0.sessions → IsAlive s.clock t) (λ a. lives)
       (λ ts iface bytes joins u is. elim (put_all-member ts s.sessions u is) [
         | inl new ↦ alive-last s.clock u (joins.last u new)

@@ -9,6 +9,7 @@ pub mod Expiry
 pub mod Forwarding
 pub mod Hosts
 pub mod Judging
+pub mod Keepings
 pub mod Lasting
 pub mod Later
 pub mod Letting
@@ -17,6 +18,7 @@ pub mod Pooling
 pub mod Quiet
 pub mod Reading
 pub mod Resuming
+pub mod Rising
 pub mod Slots
 pub mod Soundness
 pub mod Stepping

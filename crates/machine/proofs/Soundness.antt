@@ -121,7 +121,7 @@ module _ (config : Config) (is_one : is_config config ≡ true) where
     in_force = sound.in_force;
   }
 
-  act-sound : (s : State) → IsSoundState config s → (d : Deed) → IsRight config d → IsSoundState config (act config s d).0
+  pub act-sound : (s : State) → IsSoundState config s → (d : Deed) → IsRight config d → IsSoundState config (act config s d).0
   act-sound s sound d right = act-by config is_one s sound (λ p. IsSoundState config p.0) (λ a. sound)
       (λ ts iface bytes joins. record {
         sessions = joins.sound;

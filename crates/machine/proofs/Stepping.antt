@@ -1,5 +1,5 @@
 -- What an event's entries say of it.
-use Rattle.std.proofs.Common.{◌≡◌, ◌++◌, ◌∷◌, [], ℕ, List, Result, Ok, Err, IsOk, IfErr, IsTrue, Bool, false, inl, inr, refl, sym, ap, subst, ◌∙◌}
+use Rattle.std.proofs.Common.{◌≡◌, ◌++◌, ◌∷◌, [], ℕ, List, false, inl, inr, refl, sym, ap, subst, ◌∙◌}
 use Rattle.std.specs.List.{filter}
 use Rattle.std.proofs.lemmas.Bool.{cases_Bool, false≢true}
 use Rattle.packet.specs.Config.{Config}
@@ -50,13 +50,3 @@ none-ended now sessions stay = record {
   over = λ t held. absurd held;
   all = λ t held over. absurd (false≢true (sym over ∙ (In-filter (alive now) sessions t (subst (In t) stay held)).1));
 }
-
--- where there is no error, all is said of it
-pub if_err_of_ok : {T E : Type 0} (r : Result T E) (P : E → Type 0) → IsOk r → IfErr r P
-if_err_of_ok (Ok x) P is = tt
-if_err_of_ok (Err e) P is = absurd (false≢true is)
-
--- what is said of an error, which there is only where nothing is ready
-pub if_err_unready : {T E : Type 0} (ready : Bool) (r : Result T E) (P Q : E → Type 0) → (IsTrue ready → IsOk r) → IfErr r P → (ready ≡ false → (e : E) → P e → Q e) → IfErr r Q
-if_err_unready ready (Ok x) P Q succeeds said more = tt
-if_err_unready ready (Err e) P Q succeeds said more = elim (cases_Bool ready) [ inl is ↦ absurd (false≢true (succeeds is)) | inr unready ↦ more unready e said ]

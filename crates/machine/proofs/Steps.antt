@@ -1,6 +1,5 @@
 -- What is done at the sessions that are held is what the machine does.
 use Rattle.std.proofs.Common.{◌≡◌, ℕ, ◌+◌, ◌≤◌, List, [], get_or, Option, None, Result, Ok, Err, sym, ap, ◌∙◌, subst, arith}
-use Rattle.std.specs.List.{filter}
 use Rattle.packet.specs.Config.{Config, Pool}
 use Rattle.packet.specs.Fields.{fields}
 use Rattle.packet.specs.Route.{route}
@@ -10,14 +9,11 @@ use Rattle.packet.specs.declared.endpoint.Iface.{Iface}
 use Rattle.packet.specs.declared.route.Route.{Route}
 use Rattle.packet.specs.declared.view.View.{View}
 use Rattle.ruletree.specs.declared.tree.Spelled.{Spelled}
-use Rattle.sessions.specs.Life.{alive}
 use Rattle.sessions.specs.Listing.{listing}
 use Rattle.sessions.specs.declared.session.Session.{Session}
 use Rattle.sessions.specs.Table.{IsSoundTable}
 use Rattle.sessions.proofs.Sets.{Apart-sound, listing-In}
-use Rattle.sessions.specs.Sound.{AreSound}
 use Rattle.hairpin.proofs.Beginning.{listing-none}
-use Rattle.hairpin.proofs.Soundness.{filter-sound}
 use Rattle.hairpin.specs.Legs.{Passage, put_all}
 use Rattle.hairpin.specs.Plans.{GiveAll, Plans}
 use Rattle.hairpin.specs.declared.cause.Cause.{Cause}
@@ -58,10 +54,6 @@ plan-leads external old new now bytes plan made (Err cause) is = absurd is
 pub on_packet-is : (config : Config) (iface : Iface) (bytes : List ℕ) (view : View) (r : Route) → fields bytes ≡ Ok view → route config iface view ≡ Ok r
     → (s : State) → on_packet config s iface bytes ≡ on_route config s bytes view (Ok r)
 on_packet-is config iface bytes view r is on s = ap (with_fields config s iface bytes) is ∙ ap (on_route config s bytes view) on
-
--- what is held once the sessions that are alive no longer have ended
-pub live-sound : (config : Config) (old new : List (Option Session)) (now : ℕ) → listing new ≡ filter (alive now) (listing old) → AreSound config (listing old) → AreSound config (listing new)
-live-sound config old new now e sound = subst (AreSound config) (sym e) (filter-sound config (listing old) sound (alive now))
 
 -- what a sound state says of the slots
 pub latest_held : (config : Config) (text : List ℕ) (rules : Spelled) (clock now : ℕ) (held : List (Option Session)) → IsSoundState config (state_of text rules held clock) → clock ≤ now → IsNoneLater held now

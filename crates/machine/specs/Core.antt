@@ -19,6 +19,18 @@ abbrev pub state_of : List ℕ → Spelled → List (Option Session) → ℕ →
 state_of text rules held now =
     record { text = text; rules = rules; sessions = listing held; clock = now }
 
+-- what a core is made of: the configuration, the text in force with its rules, the sessions with their timers and
+-- mappings, and the clock
+pub record Parts : Type 0 where
+  pub config : Config
+  pub text : List ℕ
+  pub rules : Spelled
+  pub flows : Flows
+  pub clock : ℕ
+
+abbrev pub state_in : Parts → State
+state_in p = state_of p.text p.rules p.flows.table.held p.clock
+
 -- the flows are those of a sound state, all of them alive, and translate at its external addresses
 pub record IsCore (config : Config) (text : List ℕ) (rules : Spelled) (flows : Flows)
     (clock : ℕ) : Type 0 where

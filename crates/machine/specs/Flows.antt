@@ -1,5 +1,5 @@
 -- What contracts see of the sessions with their timers and mappings, and what ties these to the sessions.
-use Rattle.std.specs.Prelude.{◌≡◌, ◌≢◌, ℕ, ◌≤◌, List, Option, Some, None, count_by, is_some, false, slice_index_or}
+use Rattle.std.specs.Prelude.{◌≡◌, ◌≢◌, ℕ, ◌≤◌, List, Option, Some, None, Result, count_by, is_some, false, slice_index_or}
 use Rattle.std.specs.Option.{option_map}
 use Rattle.packet.specs.Config.{Pool}
 use Rattle.packet.specs.Same.{same_endpoint}
@@ -13,7 +13,11 @@ use Rattle.timers.specs.Laws.{idle_of}
 use Rattle.mappings.specs.declared.map.Mapping.{Mapping}
 use Rattle.mappings.specs.Map.{Mappings, times}
 use Rattle.hairpin.specs.Tallies.{tally}
+use Rattle.hairpin.specs.Legs.{Passage}
+use Rattle.hairpin.specs.Plans.{Gives, GiveAll, Plans}
 use Rattle.hairpin.specs.Translations.{Translations, HasRoom, IsExternal}
+use Rattle.hairpin.specs.declared.cause.Cause.{Cause}
+use Rattle.hairpin.specs.declared.plan.Plan.{Plan}
 
 -- each session that is held, and no other slot, is watched with its last moment and its timeout; each
 -- mapping is held as often as translated sessions have it
@@ -38,6 +42,19 @@ pub record TakesMore (n : ℕ) (f : Flows) : Type 0 where
   pub table : n ≤ f.table.room
   pub watchable : f.table.slots ≤ f.watchable
   pub translations : HasRoom n f.translations
+
+module _ (f : Flows) (now : ℕ) where
+  -- among these sessions the change gives this one
+  abbrev pub ChangeGives : Change → Session → Type 0
+  ChangeGives = Gives f.translations.external f.table.held now
+
+  -- the changes of the plan give these, in turn
+  abbrev pub PlanGives : Plan → List Session → Type 0
+  PlanGives plan = GiveAll f.translations.external f.table.held now plan.first plan.second
+
+  -- a leg's code has come to what its definition says
+  abbrev pub IsWay : Result Plan Cause → Result Passage Cause → Type 0
+  IsWay = Plans f.translations.external f.table.held now
 
 -- no session was seen after this moment
 abbrev pub IsNoneLater : List (Option Session) → ℕ → Type 0

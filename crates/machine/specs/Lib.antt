@@ -10,6 +10,7 @@ pub mod Laws
 pub mod Machine
 pub mod Noted
 pub mod Order
+pub mod Outcomes
 pub mod Requirements
 pub mod Sizes
 pub mod Sound

@@ -1,40 +1,34 @@
 //! `Core`: all the state of a gateway (the text in force and its rules, the sessions, the clock), and the step
 //! that an event does to it. It gives no numbers and holds nothing: that is for the crates above.
 //!
-//! - `step_noted`: `judge` reads the text of a load; `age_and_answer` ends what is alive no longer
-//!   (`Flows::expire_since`), and `answer_deed` puts rules in force (`in_force`), or asks what a packet comes to
-//!   (`answering::answer_packet`).
-//! - `step_in_place`: the step of a packet, where it lies (`age_and_answer_packet`, `answering::answer_packet`).
-//! - `forward`: the shortest way of a packet (`answering::forward_quiet`).
+//! - `step_noted`: `judge` reads the text of a load, and then the state does the step (`State::age`,
+//!   `State::answer_deed`).
+//! - `step_in_place`: the step of a packet, where it lies (`State::age`, `State::answer_packet`).
+//! - `forward`: the shortest way of a packet (`State::forward_quiet`).
 //! - `resume`: begins again from what survived (`in_force_again`, `Flows::of`).
-ghost use Rattle.std.specs.Prelude.{◌≡◌, ◌↔◌, ◌<◌, ◌≤◌, ◌+◌, ◌*◌, ◌++◌, [], List, length, OnOk, Ok, Err, IsTrue, IfOk, IfErr, IfNone, IfSome, IsOk, OnErr, OnSome};
+ghost use Rattle.std.specs.Prelude.{◌≡◌, ◌↔◌, ◌+◌, ◌*◌, ◌++◌, [], List, length, OnOk, IsTrue, IfOk, IfErr, IfNone, IfSome, IsOk, OnErr};
 ghost use Rattle.packet.specs.Config.{is_config};
-ghost use Rattle.packet.specs.Fields.{fields};
-ghost use Rattle.sessions.specs.Listing.{listing};
-ghost use Rattle.sessions.specs.Sound.{AreSound};
-ghost use Rattle.machine.specs.Core.{state_of};
 ghost use Rattle.machine.specs.Fates.{answer_of};
-ghost use Rattle.machine.specs.Judged.{Judged, IsJudged, IsNoLoad, brought};
-ghost use Rattle.machine.specs.Machine.{KeepsCount, EndsNone, act, aged, empty_at, later, on_packet, step};
+ghost use Rattle.machine.specs.Judged.{Judged, IsJudged, IsNoLoad};
+ghost use Rattle.machine.specs.Machine.{KeepsCount, EndsNone, empty_at, later, step};
 ghost use Rattle.durable.specs.Coding.{Entry as Recorded};
 ghost use Rattle.durable.specs.Entering.{IsDurable, durable};
-ghost use Rattle.machine.specs.Noted.{AreEntriesOf, AreOver, IsResumed, ends, of_deed, of_fields};
+ghost use Rattle.machine.specs.Noted.{AreEntriesOf, AreOver, IsResumed};
 ghost use Rattle.machine.specs.Sizes.{most_bytes};
 ghost use Rattle.sessions.specs.declared.session.Session.{Session};
-ghost use Rattle.machine.specs.Sound.{IsInForce, IsSoundState};
-ghost use Rattle.machine.specs.Flows.{IsNoneLater, TakesMore};
+ghost use Rattle.machine.specs.Sound.{IsSoundState};
 ghost use Rattle.machine.specs.declared.event.Answer.TheVariants.{Forward};
 ghost use Rattle.machine.specs.declared.event.What.TheVariants.{Packet};
 
 use crate::ahead::is_wide;
-use crate::answering::{answer_packet, forward_quiet};
 use crate::bytes::Bytes;
-use crate::deed::{Deed, judge};
+use crate::deed::judge;
 use crate::event::{Answer, Event, Fate, What};
 use crate::fault::{NoMemory, StepFault};
 use crate::flows::Flows;
-use crate::in_force::{InForce, in_force_again, note_load, put_in_force};
+use crate::in_force::{InForce, in_force_again};
 use crate::notes::{MOST_OF_PACKET, Notes, Unkept};
+use crate::state::State;
 use packet::{Bounds, Iface};
 use sessions::{Coming, MOST_AHEAD, Session};
 use std::alloc::Global;
@@ -45,207 +39,15 @@ use verdict::Rules;
 #[derive(Drop)]
 pub struct Core {
     alloc: Global,
-    bounds: Bounds,
-    in_force: InForce,
-    flows: Flows,
-    clock: u64,
+    state: State,
 }
 
 impl Model for Core {
-    ghost use Rattle.machine.specs.Core.{Core as View, IsCore, state_of};
+    ghost use Rattle.machine.specs.Core.{Core as View, state_in};
 
     ghost Value = { View };
 
-    ghost view = { λ c. record {
-      config = c.bounds;
-      state = state_of c.in_force.text c.in_force.rules c.flows.table.held c.clock;
-    } };
-
-    ghost invariant = { λ c. IsCore c.bounds c.in_force.text c.in_force.rules c.flows c.clock };
-}
-
-fn later_of(a: u64, b: u64) -> u64
-    ensures { result ≡ later a b }
-{
-    if a <= b { b } else { a }
-}
-
-// What is done once the sessions that are no longer alive have ended. `ready` says that some have (`expire_since`):
-// then there is room already for two more sessions and for the entries of the deed, and it can't be refused.
-fn answer_deed<N: Notes>(
-    flows: &mut Flows,
-    in_force: &mut InForce,
-    bounds: &Bounds,
-    ready: bool,
-    deed: Deed,
-    now: u64,
-    notes: &mut N,
-) -> Result<Answer, (What, StepFault)>
-    requires external { flows.old.translations.external ≡ bounds.now.external }
-    requires sound { AreSound bounds.now (listing flows.old.table.held) }
-    requires in_force { IsInForce bounds.now in_force.old.text in_force.old.rules }
-    requires latest { IsNoneLater flows.old.table.held now }
-    requires ready { IsTrue ready → TakesMore 2 flows.old }
-    requires room { IsTrue ready → N.keeps notes.old → most_bytes deed ≤ N.room notes.old }
-    ensures ok { IfOk result (λ answer. act bounds.now
-        (state_of in_force.old.text in_force.old.rules flows.old.table.held now) deed
-        ≡ (state_of in_force.new.text in_force.new.rules flows.new.table.held now, answer)) }
-    ensures err { IfErr result (λ e. (e.0 ≡ brought deed)
-        × (flows.new.table.held ≡ flows.old.table.held)) }
-    ensures stays { OnErr result (in_force.new ≡ in_force.old) }
-    ensures external { flows.new.translations.external ≡ flows.old.translations.external }
-    ensures ready { IsTrue ready → IsOk result }
-    ensures adds_none { let s = state_of in_force.old.text in_force.old.rules
-        flows.old.table.held now in
-        KeepsCount s (act bounds.now s deed) → N.grants notes.old → IsOk result }
-    ensures keeps { N.keeps notes.old ↔ N.keeps notes.new }
-    ensures beside { N.beside notes.new ≡ N.beside notes.old }
-    ensures noted { OnOk result (N.keeps notes.old → N.noted notes.new ≡ N.noted notes.old
-        ++ of_deed bounds.now
-        (state_of in_force.old.text in_force.old.rules flows.old.table.held now) deed) }
-    ensures err_noted { OnErr result (N.noted notes.new ≡ N.noted notes.old) }
-    ensures full { IfErr result (λ e. e.1 ≡ StepFault.Full
-        → N.too_many notes.old (most_bytes deed)) }
-    ensures no_memory { let s = state_of in_force.old.text in_force.old.rules
-        flows.old.table.held now in
-        KeepsCount s (act bounds.now s deed) → IfErr result (λ e. e.1 ≡ StepFault.NoMemory
-        → ¬ N.too_many notes.old (most_bytes deed)) }
-    ensures quiet { of_deed bounds.now
-        (state_of in_force.old.text in_force.old.rules flows.old.table.held now) deed ≡ []
-        → IsOk result }
-{
-    match deed {
-        Deed::Take(text, rules) => {
-            if let Err(fault) = note_load(ready, &text, notes) {
-                drop(rules);
-                return Err((What::Load(text), fault));
-            }
-            put_in_force(in_force, text, rules);
-            Ok(Answer::Loaded)
-        }
-        Deed::Refuse(_) => Ok(Answer::Refused),
-        Deed::Moment => Ok(Answer::Ticked),
-        Deed::Packet(iface, bytes) => {
-            let mut packet = bytes.into_vec();
-            let comes_to = answer_packet(
-                flows,
-                in_force,
-                bounds,
-                ready,
-                iface,
-                &mut packet,
-                now,
-                notes,
-            );
-            let bytes = Bytes::of(packet);
-            match comes_to {
-                Ok(Fate::Leaves(out)) => Ok(Answer::Forward(out, bytes)),
-                Ok(Fate::Dropped(cause)) => Ok(Answer::Dropped(cause)),
-                Err(fault) => Err((What::Packet(iface, bytes), fault)),
-            }
-        }
-    }
-}
-
-// Ends the sessions that are no longer alive, and then does what the event says.
-fn age_and_answer<N: Notes>(
-    flows: &mut Flows,
-    in_force: &mut InForce,
-    alloc: Global,
-    bounds: &Bounds,
-    deed: Deed,
-    clock: u64,
-    now: u64,
-    notes: &mut N,
-) -> Result<Answer, (What, StepFault)>
-    requires external { flows.old.translations.external ≡ bounds.now.external }
-    requires sound { AreSound bounds.now (listing flows.old.table.held) }
-    requires in_force { IsInForce bounds.now in_force.old.text in_force.old.rules }
-    requires latest { IsNoneLater flows.old.table.held now }
-    requires live { EndsNone clock (state_of in_force.old.text in_force.old.rules
-        flows.old.table.held clock) }
-    ensures ok { IfOk result (λ answer. act bounds.now
-        (aged now (state_of in_force.old.text in_force.old.rules flows.old.table.held clock))
-        deed
-        ≡ (state_of in_force.new.text in_force.new.rules flows.new.table.held now, answer)) }
-    ensures err { IfErr result (λ e. (e.0 ≡ brought deed)
-        × (flows.new.table.held ≡ flows.old.table.held)) }
-    ensures stays { OnErr result (in_force.new ≡ in_force.old) }
-    ensures external { flows.new.translations.external ≡ flows.old.translations.external }
-    ensures succeeds { let s = state_of in_force.old.text in_force.old.rules
-        flows.old.table.held clock in
-        EndsNone now s → KeepsCount s (act bounds.now (aged now s) deed) → N.grants notes.old
-        → IsOk result }
-    ensures keeps { N.keeps notes.old ↔ N.keeps notes.new }
-    ensures beside { N.beside notes.new ≡ N.beside notes.old }
-    ensures noted { OnOk result (N.keeps notes.old → (gone : List Session)
-        × AreOver now (listing flows.old.table.held) gone
-        × (N.noted notes.new ≡ N.noted notes.old ++ (ends gone ++ of_deed bounds.now
-        (aged now (state_of in_force.old.text in_force.old.rules flows.old.table.held clock))
-        deed))) }
-    ensures err_noted { OnErr result (N.noted notes.new ≡ N.noted notes.old) }
-    ensures full { IfErr result (λ e. e.1 ≡ StepFault.Full
-        → (gone : List Session) × AreOver now (listing flows.old.table.held) gone
-        × N.too_many notes.old (14 * length gone + most_bytes deed)) }
-    ensures no_memory { let s = state_of in_force.old.text in_force.old.rules
-        flows.old.table.held clock in
-        EndsNone now s → KeepsCount s (act bounds.now (aged now s) deed)
-        → IfErr result (λ e. e.1 ≡ StepFault.NoMemory
-        → ¬ N.too_many notes.old (most_bytes deed)) }
-    ensures quiet { let s = state_of in_force.old.text in_force.old.rules
-        flows.old.table.held clock in
-        EndsNone now s → of_deed bounds.now (aged now s) deed ≡ [] → IsOk result }
-{
-    match flows.expire_since(alloc, clock, now, deed.most_bytes(), notes) {
-        Ok(ready) => answer_deed(flows, in_force, bounds, ready, deed, now, notes),
-        Err(fault) => Err((deed.into_what(), fault)),
-    }
-}
-
-// Ends the sessions that are no longer alive, and then says what a packet comes to, where it lies. `None` says that
-// memory or room for entries was refused, and nothing has changed: where a session has ended, there is room for the
-// packet too.
-#[inline(always)]
-fn age_and_answer_packet<N: Notes>(
-    flows: &mut Flows,
-    in_force: &InForce,
-    alloc: Global,
-    bounds: &Bounds,
-    iface: Iface,
-    packet: &mut [u8],
-    clock: u64,
-    now: u64,
-    notes: &mut N,
-) -> Option<Fate>
-    requires external { flows.old.translations.external ≡ bounds.now.external }
-    requires sound { AreSound bounds.now (listing flows.old.table.held) }
-    requires in_force { IsInForce bounds.now in_force.now.text in_force.now.rules }
-    requires latest { IsNoneLater flows.old.table.held now }
-    requires live { EndsNone clock (state_of in_force.now.text in_force.now.rules
-        flows.old.table.held clock) }
-    ensures some { IfSome result (λ fate. on_packet bounds.now
-        (aged now (state_of in_force.now.text in_force.now.rules flows.old.table.held clock))
-        iface packet.old
-        ≡ (
-          state_of in_force.now.text in_force.now.rules flows.new.table.held now,
-          answer_of fate packet.new,
-        )) }
-    ensures none { IfNone result ((flows.new.table.held ≡ flows.old.table.held)
-        × (packet.new ≡ packet.old) × (N.noted notes.new ≡ N.noted notes.old)) }
-    ensures external { flows.new.translations.external ≡ flows.old.translations.external }
-    ensures keeps { N.keeps notes.old ↔ N.keeps notes.new }
-    ensures beside { N.beside notes.new ≡ N.beside notes.old }
-    ensures noted { OnSome result (N.keeps notes.old → (gone : List Session)
-        × AreOver now (listing flows.old.table.held) gone
-        × (N.noted notes.new ≡ N.noted notes.old ++ (ends gone ++ of_fields bounds.now
-        (aged now (state_of in_force.now.text in_force.now.rules flows.old.table.held clock))
-        iface (fields packet.old)))) }
-    ensures length { length packet.new ≡ length packet.old }
-{
-    let Ok(ready) = flows.expire_since(alloc, clock, now, MOST_OF_PACKET, notes) else {
-        return None;
-    };
-    answer_packet(flows, in_force, bounds, ready, iface, packet, now, notes).ok()
+    ghost view = { λ c. record { config = c.state.config; state = state_in c.state } };
 }
 
 impl Core {
@@ -258,16 +60,19 @@ impl Core {
         ensures { IfOk result (λ c. c ≡ record { config = bounds; state = empty_at moment }) }
     {
         match Flows::new(alloc, bounds.external()) {
-            Ok(flows) => Ok(Core {
-                alloc,
-                bounds,
-                in_force: InForce {
+            Ok(flows) => {
+                let in_force = InForce {
                     text: Bytes::of(Vec::new(alloc)),
                     rules: Rules::none(alloc),
-                },
-                flows,
-                clock: moment,
-            }),
+                };
+                let state = State {
+                    bounds,
+                    in_force,
+                    flows,
+                    clock: moment,
+                };
+                Ok(Core { alloc, state })
+            }
             Err(_) => Err(NoMemory),
         }
     }
@@ -292,13 +97,15 @@ impl Core {
     {
         let in_force = in_force_again(alloc, &bounds, text)?;
         match Flows::of(alloc, &bounds, sessions, moment) {
-            Ok(flows) => Ok(Core {
-                alloc,
-                bounds,
-                in_force,
-                flows,
-                clock: moment,
-            }),
+            Ok(flows) => {
+                let state = State {
+                    bounds,
+                    in_force,
+                    flows,
+                    clock: moment,
+                };
+                Ok(Core { alloc, state })
+            }
             Err(_) => Err(NoMemory),
         }
     }
@@ -307,7 +114,7 @@ impl Core {
     pub fn text(&self) -> &[u8]
         ensures { result.now ≡ self.now.state.text }
     {
-        self.in_force.text.as_slice()
+        self.state.in_force.text.as_slice()
     }
 
     /// The sessions, in the order of protocol number, inside and remote endpoint.
@@ -318,7 +125,7 @@ impl Core {
     pub fn sessions(&self) -> Result<Vec<Session>, NoMemory>
         ensures { IfOk result (λ sessions. sessions.items ≡ self.now.state.sessions) }
     {
-        match self.flows.list(self.alloc) {
+        match self.state.flows.list(self.alloc) {
             Ok(sessions) => Ok(sessions),
             Err(_) => Err(NoMemory),
         }
@@ -333,9 +140,7 @@ impl Core {
         ensures config { IsTrue (is_config self.now.config) }
         ensures sound { IsSoundState self.now.config self.now.state }
     {
-        self.bounds.facts();
-        // What the flows keep is known once the field is read.
-        let _flows = &self.flows;
+        self.state.bounds.facts();
     }
 
     /// Does a step: the clock rises to the event's moment, the sessions that are no longer alive end, and then
@@ -410,30 +215,26 @@ impl Core {
             → AreEntriesOf self.old.config self.old.state judged [] → IsOk result }
     {
         let Event { moment, what } = event;
-        let now = later_of(self.clock, moment);
-        self.bounds.facts();
-        let deed = match judge(self.alloc, &self.bounds, what) {
+        let clock = self.state.clock();
+        let deed = match judge(self.alloc, self.state.bounds(), what) {
             Ok(deed) => deed,
             Err(text) => {
                 let what = What::Load(text);
                 return Err((Event { moment, what }, StepFault::NoMemory));
             }
         };
-        match age_and_answer(
-            &mut self.flows,
-            &mut self.in_force,
-            self.alloc,
-            &self.bounds,
-            deed,
-            self.clock,
-            now,
-            notes,
-        ) {
-            Ok(answer) => {
-                self.clock = now;
-                Ok(answer)
+        match self.state.age(self.alloc, moment, deed.most_bytes(), notes) {
+            Ok(ready) => match self.state.answer_deed(ready, deed, notes) {
+                Ok(answer) => Ok(answer),
+                Err((what, fault)) => {
+                    self.state.put_back(clock);
+                    Err((Event { moment, what }, fault))
+                }
+            },
+            Err(fault) => {
+                let what = deed.into_what();
+                Err((Event { moment, what }, fault))
             }
-            Err((what, fault)) => Err((Event { moment, what }, fault)),
         }
     }
 
@@ -465,32 +266,28 @@ impl Core {
         ensures beside { N.beside notes.new ≡ N.beside notes.old }
         ensures length { length packet.new ≡ length packet.old }
     {
-        let now = later_of(self.clock, moment);
-        self.bounds.facts();
-        let fate = age_and_answer_packet(
-            &mut self.flows,
-            &self.in_force,
-            self.alloc,
-            &self.bounds,
-            iface,
-            packet,
-            self.clock,
-            now,
-            notes,
-        )?;
-        self.clock = now;
-        Some(fate)
+        let clock = self.state.clock();
+        let Ok(ready) = self.state.age(self.alloc, moment, MOST_OF_PACKET, notes) else {
+            return None;
+        };
+        match self.state.answer_packet(ready, iface, packet, notes) {
+            Ok(fate) => Some(fate),
+            Err(_) => {
+                self.state.put_back(clock);
+                None
+            }
+        }
     }
 
     /// Whether so many sessions have been held at once that a processor's near caches don't hold all of them.
     pub fn is_wide(&self) -> bool {
-        is_wide(self.flows.table())
+        is_wide(self.state.flows.table())
     }
 
     /// How many of these packets seem to be of sessions that are held, or of an inside endpoint that has a mapping. It
     /// says nothing of what is: whoever asks before they come waits once for the memory that their steps will read.
     pub fn look_ahead(&self, coming: &[Coming; MOST_AHEAD]) -> usize {
-        self.flows.look_ahead(coming)
+        self.state.flows.look_ahead(coming)
     }
 
     /// Translates in place a packet whose session goes on, as `step` does at this event, and says by which interface it
@@ -510,22 +307,6 @@ impl Core {
         ensures config { self.new.config ≡ self.old.config }
         ensures length { length packet.new ≡ length packet.old }
     {
-        self.bounds.facts();
-        let clock = later_of(self.clock, moment);
-        if !self.flows.keeps_all_since(self.alloc, self.clock, clock) {
-            return None;
-        }
-        let Some(out) = forward_quiet(
-            &mut self.flows,
-            &self.in_force.rules,
-            &self.bounds,
-            iface,
-            packet,
-            clock,
-        ) else {
-            return None;
-        };
-        self.clock = clock;
-        Some(out)
+        self.state.forward_quiet(self.alloc, moment, iface, packet)
     }
 }

@@ -9,7 +9,7 @@
 //!   `end_noted`, `end`).
 //! - `new`, `of`: no session, or those that survived (`place`).
 //! - `watch`, `touch`: the timers of one.
-ghost use Rattle.std.specs.Prelude.{◌≡◌, ◌↔◌, ◌+◌, ◌-◌, ◌*◌, ◌<◌, ◌≤◌, ◌++◌, ◌∷◌, [], ℕ, List, true, false, IsErrOf, IsTrue, Some, None, IfOk, OnOk, OnErr, IsOk, IfSome, IsSome, IsSomeAnd, length, map, slice_index, bit_or};
+ghost use Rattle.std.specs.Prelude.{◌≡◌, ◌↔◌, ◌+◌, ◌-◌, ◌*◌, ◌<◌, ◌≤◌, ◌∷◌, [], ℕ, List, true, false, IsErrOf, IsTrue, Some, None, IfOk, OnOk, OnErr, IsOk, IfSome, IsSome, IsSomeAnd, length, map, slice_index, bit_or};
 ghost use Rattle.std.specs.List.{Contains, filter};
 ghost use Rattle.std.specs.Option.{option_map};
 ghost use Rattle.sessions.specs.Life.{IsSeen, IsTimeout, alive, timeout_of};
@@ -23,11 +23,12 @@ ghost use Rattle.mappings.specs.declared.map.Mapping.{Mapping};
 ghost use Rattle.mappings.specs.Map.{times};
 ghost use Rattle.hairpin.specs.Going.{plan_of};
 ghost use Rattle.hairpin.specs.Legs.{put_all};
-ghost use Rattle.hairpin.specs.Plans.{Became, Gives, GiveAll};
+ghost use Rattle.hairpin.specs.Plans.{Became};
 ghost use Rattle.hairpin.specs.Tallies.{tally};
 ghost use Rattle.machine.specs.Noted.{AreOver, ends, entries_for, entries_for_all, sessions_at};
 ghost use Rattle.machine.specs.Sizes.{bytes_of};
-ghost use Rattle.machine.specs.Flows.{IsDue, IsNoneLater, TakesMore, MayJoin, adds as adds_by, adds_second};
+ghost use Rattle.machine.specs.Flows.{ChangeGives, IsDue, IsNoneLater, MayJoin, PlanGives, TakesMore, adds as adds_by, adds_second};
+ghost use Rattle.machine.specs.Outcomes.{Noted, NotedIfOk, Unnoted};
 
 use crate::ahead::{count_ending, count_mapped};
 use crate::fault::StepFault;
@@ -327,11 +328,9 @@ impl Flows {
     #[inline(always)]
     fn apply(&mut self, change: &Change, now: u64)
         requires latest { IsNoneLater self.old.table.held now }
-        requires gives { (t : Session)
-            × Gives self.old.translations.external self.old.table.held now change.now t }
+        requires gives { (t : Session) × ChangeGives self.old now change.now t }
         requires ready { 0 < adds_by change.now → TakesMore 1 self.old }
-        ensures became { (t : Session)
-            → Gives self.old.translations.external self.old.table.held now change.now t
+        ensures became { (t : Session) → ChangeGives self.old now change.now t
             → Became self.old.table.held change.now t self.new.table.held }
         ensures latest { IsNoneLater self.new.table.held now }
         ensures ready { (n : ℕ) → TakesMore (n + adds_by change.now) self.old
@@ -350,28 +349,21 @@ impl Flows {
     #[inline(always)]
     fn apply_noted<N: Notes>(&mut self, change: &Change, now: u64, notes: &mut N)
         requires latest { IsNoneLater self.old.table.held now }
-        requires gives { (t : Session)
-            × Gives self.old.translations.external self.old.table.held now change.now t
+        requires gives { (t : Session) × ChangeGives self.old now change.now t
             × (N.keeps notes.old → bytes_of (entries_for (listing self.old.table.held) t)
             ≤ N.room notes.old) }
         requires ready { 0 < adds_by change.now → TakesMore 1 self.old }
-        ensures became { (t : Session)
-            → Gives self.old.translations.external self.old.table.held now change.now t
+        ensures became { (t : Session) → ChangeGives self.old now change.now t
             → Became self.old.table.held change.now t self.new.table.held }
         ensures latest { IsNoneLater self.new.table.held now }
         ensures ready { (n : ℕ) → TakesMore (n + adds_by change.now) self.old
             → TakesMore n self.new }
         ensures external { self.new.translations.external ≡ self.old.translations.external }
-        ensures keeps { N.keeps notes.old ↔ N.keeps notes.new }
-        ensures beside { N.beside notes.new ≡ N.beside notes.old }
-        ensures noted { (t : Session)
-            → Gives self.old.translations.external self.old.table.held now change.now t
-            → N.keeps notes.old
-            → N.noted notes.new ≡ N.noted notes.old ++ entries_for (listing self.old.table.held) t }
-        ensures room { (t : Session)
-            → Gives self.old.translations.external self.old.table.held now change.now t
-            → N.keeps notes.old
-            → N.room notes.old ≤ N.room notes.new
+        ensures noted { (t : Session) → ChangeGives self.old now change.now t
+            → Noted N.keeps N.beside N.noted notes.old notes.new
+            (entries_for (listing self.old.table.held) t) }
+        ensures room { (t : Session) → ChangeGives self.old now change.now t
+            → N.keeps notes.old → N.room notes.old ≤ N.room notes.new
             + bytes_of (entries_for (listing self.old.table.held) t) }
     {
         let entry = entry_for(&self.table, change);
@@ -382,23 +374,15 @@ impl Flows {
     /// Does what a plan says, one change after the other, for which there is room, and notes it.
     fn apply_all<N: Notes>(&mut self, plan: &Plan, now: u64, notes: &mut N)
         requires latest { IsNoneLater self.old.table.held now }
-        requires give { (ts : List Session)
-            × GiveAll self.old.translations.external self.old.table.held now plan.now.first
-            plan.now.second ts
+        requires give { (ts : List Session) × PlanGives self.old now plan.now ts
             × (N.keeps notes.old → bytes_of (entries_for_all ts (listing self.old.table.held))
             ≤ N.room notes.old) }
         requires ready { 0 < adds_by plan.now.first + adds_second plan.now.second
             → TakesMore 2 self.old }
-        ensures keeps { N.keeps notes.old ↔ N.keeps notes.new }
-        ensures beside { N.beside notes.new ≡ N.beside notes.old }
-        ensures noted { (ts : List Session)
-            → GiveAll self.old.translations.external self.old.table.held now plan.now.first
-            plan.now.second ts
-            → N.keeps notes.old → N.noted notes.new ≡ N.noted notes.old
-            ++ entries_for_all ts (listing self.old.table.held) }
-        ensures listing { (ts : List Session)
-            → GiveAll self.old.translations.external self.old.table.held now plan.now.first
-            plan.now.second ts
+        ensures noted { (ts : List Session) → PlanGives self.old now plan.now ts
+            → Noted N.keeps N.beside N.noted notes.old notes.new
+            (entries_for_all ts (listing self.old.table.held)) }
+        ensures listing { (ts : List Session) → PlanGives self.old now plan.now ts
             → listing self.new.table.held ≡ put_all ts (listing self.old.table.held) }
         ensures latest { IsNoneLater self.new.table.held now }
         ensures external { self.new.translations.external ≡ self.old.translations.external }
@@ -417,32 +401,24 @@ impl Flows {
         now: u64,
         notes: &mut N,
     ) -> Result<(), StepFault>
-        requires give { (ts : List Session)
-            × GiveAll self.old.translations.external self.old.table.held now plan.now.first
-            plan.now.second ts }
+        requires give { (ts : List Session) × PlanGives self.old now plan.now ts }
         requires ready { IsTrue ready → TakesMore 2 self.old }
         requires room { IsTrue ready → N.keeps notes.old → 44 ≤ N.room notes.old }
         ensures ready { OnOk result (0 < adds_by plan.now.first + adds_second plan.now.second
             → TakesMore 2 self.new) }
-        ensures room { OnOk result ((ts : List Session)
-            → GiveAll self.old.translations.external self.old.table.held now plan.now.first
-            plan.now.second ts
+        ensures room { OnOk result ((ts : List Session) → PlanGives self.old now plan.now ts
             → N.keeps notes.old → bytes_of (entries_for_all ts (listing self.old.table.held))
             ≤ N.room notes.new) }
         ensures held { self.new.table.held ≡ self.old.table.held }
         ensures external { self.new.translations.external ≡ self.old.translations.external }
-        ensures keeps { N.keeps notes.old ↔ N.keeps notes.new }
-        ensures beside { N.beside notes.new ≡ N.beside notes.old }
-        ensures noted { N.noted notes.new ≡ N.noted notes.old }
+        ensures noted { Unnoted N.keeps N.beside N.noted notes.old notes.new }
         ensures full { IsErrOf result StepFault.Full → N.too_many notes.old 44 }
         ensures no_memory { adds_by plan.now.first + adds_second plan.now.second ≡ 0
             → IsErrOf result StepFault.NoMemory → ¬ N.too_many notes.old 44 }
         ensures succeeds { IsTrue ready → IsOk result }
         ensures adds_none { adds_by plan.now.first + adds_second plan.now.second ≡ 0
             → N.grants notes.old → IsOk result }
-        ensures quiet { (ts : List Session)
-            → GiveAll self.old.translations.external self.old.table.held now plan.now.first
-            plan.now.second ts
+        ensures quiet { (ts : List Session) → PlanGives self.old now plan.now ts
             → entries_for_all ts (listing self.old.table.held) ≡ [] → IsOk result }
     {
         self.table.facts();
@@ -473,35 +449,23 @@ impl Flows {
         notes: &mut N,
     ) -> Result<(), StepFault>
         requires latest { IsNoneLater self.old.table.held now }
-        requires give { (ts : List Session)
-            × GiveAll self.old.translations.external self.old.table.held now plan.now.first
-            plan.now.second ts }
+        requires give { (ts : List Session) × PlanGives self.old now plan.now ts }
         requires ready { IsTrue ready → TakesMore 2 self.old }
         requires room { IsTrue ready → N.keeps notes.old → 44 ≤ N.room notes.old }
-        ensures ok { OnOk result ((ts : List Session)
-            → GiveAll self.old.translations.external self.old.table.held now plan.now.first
-            plan.now.second ts
+        ensures ok { OnOk result ((ts : List Session) → PlanGives self.old now plan.now ts
             → listing self.new.table.held ≡ put_all ts (listing self.old.table.held)) }
         ensures err { OnErr result (self.new.table.held ≡ self.old.table.held) }
-        ensures latest { IsNoneLater self.new.table.held now }
         ensures external { self.new.translations.external ≡ self.old.translations.external }
-        ensures keeps { N.keeps notes.old ↔ N.keeps notes.new }
-        ensures beside { N.beside notes.new ≡ N.beside notes.old }
-        ensures noted { OnOk result ((ts : List Session)
-            → GiveAll self.old.translations.external self.old.table.held now plan.now.first
-            plan.now.second ts
-            → N.keeps notes.old → N.noted notes.new ≡ N.noted notes.old
-            ++ entries_for_all ts (listing self.old.table.held)) }
-        ensures err_noted { OnErr result (N.noted notes.new ≡ N.noted notes.old) }
+        ensures noted { (ts : List Session) → PlanGives self.old now plan.now ts
+            → NotedIfOk N.keeps N.beside N.noted result notes.old notes.new
+            (entries_for_all ts (listing self.old.table.held)) }
         ensures full { IsErrOf result StepFault.Full → N.too_many notes.old 44 }
         ensures no_memory { adds_by plan.now.first + adds_second plan.now.second ≡ 0
             → IsErrOf result StepFault.NoMemory → ¬ N.too_many notes.old 44 }
         ensures succeeds { IsTrue ready → IsOk result }
         ensures adds_none { adds_by plan.now.first + adds_second plan.now.second ≡ 0
             → N.grants notes.old → IsOk result }
-        ensures quiet { (ts : List Session)
-            → GiveAll self.old.translations.external self.old.table.held now plan.now.first
-            plan.now.second ts
+        ensures quiet { (ts : List Session) → PlanGives self.old now plan.now ts
             → entries_for_all ts (listing self.old.table.held) ≡ [] → IsOk result }
     {
         match self.make_room(ready, plan, now, notes) {
@@ -528,31 +492,21 @@ impl Flows {
         notes: &mut N,
     ) -> Result<(), StepFault>
         requires latest { IsNoneLater self.old.table.held now }
-        requires give { (ts : List Session)
-            × GiveAll self.old.translations.external self.old.table.held now
-            (plan_of going.now).first (plan_of going.now).second ts }
+        requires give { (ts : List Session) × PlanGives self.old now (plan_of going.now) ts }
         requires room { IsTrue ready → N.keeps notes.old → 44 ≤ N.room notes.old }
         ensures ok { OnOk result ((ts : List Session)
-            → GiveAll self.old.translations.external self.old.table.held now
-            (plan_of going.now).first (plan_of going.now).second ts
+            → PlanGives self.old now (plan_of going.now) ts
             → listing self.new.table.held ≡ put_all ts (listing self.old.table.held)) }
         ensures err { OnErr result (self.new.table.held ≡ self.old.table.held) }
         ensures external { self.new.translations.external ≡ self.old.translations.external }
-        ensures keeps { N.keeps notes.old ↔ N.keeps notes.new }
-        ensures beside { N.beside notes.new ≡ N.beside notes.old }
-        ensures noted { OnOk result ((ts : List Session)
-            → GiveAll self.old.translations.external self.old.table.held now
-            (plan_of going.now).first (plan_of going.now).second ts
-            → N.keeps notes.old → N.noted notes.new ≡ N.noted notes.old
-            ++ entries_for_all ts (listing self.old.table.held)) }
-        ensures err_noted { OnErr result (N.noted notes.new ≡ N.noted notes.old) }
+        ensures noted { (ts : List Session) → PlanGives self.old now (plan_of going.now) ts
+            → NotedIfOk N.keeps N.beside N.noted result notes.old notes.new
+            (entries_for_all ts (listing self.old.table.held)) }
         ensures full { IsErrOf result StepFault.Full → N.too_many notes.old 44 }
         ensures no_memory { IsErrOf result StepFault.NoMemory → ¬ N.too_many notes.old 44 }
         ensures succeeds { IsTrue ready → IsOk result }
         ensures grants { N.grants notes.old → IsOk result }
-        ensures quiet { (ts : List Session)
-            → GiveAll self.old.translations.external self.old.table.held now
-            (plan_of going.now).first (plan_of going.now).second ts
+        ensures quiet { (ts : List Session) → PlanGives self.old now (plan_of going.now) ts
             → entries_for_all ts (listing self.old.table.held) ≡ [] → IsOk result }
     {
         let change = Change::Seen(going.slot, going.bits);
@@ -568,15 +522,9 @@ impl Flows {
     /// A packet passed whose session goes on, at the moment `now`, and that shows nothing new of it.
     pub fn see_going(&mut self, going: &Going, now: u64)
         requires latest { IsNoneLater self.old.table.held now }
-        requires give { (ts : List Session)
-            × GiveAll self.old.translations.external self.old.table.held now
-            (plan_of going.now).first (plan_of going.now).second ts }
-        ensures listing { (ts : List Session)
-            → GiveAll self.old.translations.external self.old.table.held now
-            (plan_of going.now).first (plan_of going.now).second ts
+        requires give { (ts : List Session) × PlanGives self.old now (plan_of going.now) ts }
+        ensures listing { (ts : List Session) → PlanGives self.old now (plan_of going.now) ts
             → listing self.new.table.held ≡ put_all ts (listing self.old.table.held) }
-        ensures latest { IsNoneLater self.new.table.held now }
-        ensures ready { (n : ℕ) → TakesMore n self.old → TakesMore n self.new }
         ensures external { self.new.translations.external ≡ self.old.translations.external }
     {
         self.see(going.slot, going.bits, now);
@@ -603,10 +551,8 @@ impl Flows {
         ensures updates { Updates self.old.table self.new.table slot None }
         ensures ready { (n : ℕ) → TakesMore n self.old → TakesMore n self.new }
         ensures external { self.new.translations.external ≡ self.old.translations.external }
-        ensures keeps { N.keeps notes.old ↔ N.keeps notes.new }
-        ensures beside { N.beside notes.new ≡ N.beside notes.old }
-        ensures noted { N.keeps notes.old → N.noted notes.new
-            ≡ N.noted notes.old ++ ends (sessions_at self.old.table.held (slot ∷ [])) }
+        ensures noted { Noted N.keeps N.beside N.noted notes.old notes.new
+            (ends (sessions_at self.old.table.held (slot ∷ []))) }
         ensures room { N.keeps notes.old → N.room notes.old ≤ N.room notes.new + 14 }
     {
         if let Some(session) = self.table.get(slot) {
@@ -628,10 +574,8 @@ impl Flows {
         ensures sound { IsSoundTable self.new.table.held }
         ensures ready { (n : ℕ) → TakesMore n self.old → TakesMore n self.new }
         ensures external { self.new.translations.external ≡ self.old.translations.external }
-        ensures keeps { N.keeps notes.old ↔ N.keeps notes.new }
-        ensures beside { N.beside notes.new ≡ N.beside notes.old }
-        ensures noted { N.keeps notes.old → N.noted notes.new
-            ≡ N.noted notes.old ++ ends (sessions_at self.old.table.held slots.now) }
+        ensures noted { Noted N.keeps N.beside N.noted notes.old notes.new
+            (ends (sessions_at self.old.table.held slots.now)) }
         ensures room { N.keeps notes.old
             → N.room notes.old ≤ N.room notes.new + 14 * length slots.now }
     {
@@ -661,18 +605,14 @@ impl Flows {
             ≡ filter (alive now) (listing self.old.table.held)) }
         ensures err { OnErr result (self.new.table.held ≡ self.old.table.held) }
         ensures external { self.new.translations.external ≡ self.old.translations.external }
-        ensures ready { IfOk result (λ any. IsTrue any → TakesMore 2 self.new) }
-        ensures room { IfOk result (λ any. IsTrue any → N.keeps notes.old
-            → others ≤ N.room notes.new) }
+        ensures any { IfOk result (λ any. IsTrue any → TakesMore 2 self.new
+            × (N.keeps notes.old → others ≤ N.room notes.new)) }
         ensures none { IfOk result (λ any. any ≡ false
-            → self.new.table.held ≡ self.old.table.held) }
-        ensures keeps { N.keeps notes.old ↔ N.keeps notes.new }
-        ensures beside { N.beside notes.new ≡ N.beside notes.old }
-        ensures noted { OnOk result (N.keeps notes.old
-            → (gone : List Session) × AreOver now (listing self.old.table.held) gone
-            × (N.noted notes.new ≡ N.noted notes.old ++ ends gone)) }
-        ensures unchanged { IfOk result (λ any. any ≡ false → notes.new ≡ notes.old) }
-        ensures err_noted { OnErr result (N.noted notes.new ≡ N.noted notes.old) }
+            → (self.new.table.held ≡ self.old.table.held) × (notes.new ≡ notes.old)) }
+        ensures noted { OnOk result ((gone : List Session)
+            × AreOver now (listing self.old.table.held) gone
+            × Noted N.keeps N.beside N.noted notes.old notes.new (ends gone)) }
+        ensures err_noted { OnErr result (Unnoted N.keeps N.beside N.noted notes.old notes.new) }
         ensures full { IsErrOf result StepFault.Full → (gone : List Session)
             × AreOver now (listing self.old.table.held) gone
             × N.too_many notes.old (14 * length gone + others) }
@@ -712,18 +652,14 @@ impl Flows {
             ≡ filter (alive now) (listing self.old.table.held)) }
         ensures err { OnErr result (self.new.table.held ≡ self.old.table.held) }
         ensures external { self.new.translations.external ≡ self.old.translations.external }
-        ensures ready { IfOk result (λ any. IsTrue any → TakesMore 2 self.new) }
-        ensures room { IfOk result (λ any. IsTrue any → N.keeps notes.old
-            → others ≤ N.room notes.new) }
+        ensures any { IfOk result (λ any. IsTrue any → TakesMore 2 self.new
+            × (N.keeps notes.old → others ≤ N.room notes.new)) }
         ensures none { IfOk result (λ any. any ≡ false
-            → self.new.table.held ≡ self.old.table.held) }
-        ensures keeps { N.keeps notes.old ↔ N.keeps notes.new }
-        ensures beside { N.beside notes.new ≡ N.beside notes.old }
-        ensures noted { OnOk result (N.keeps notes.old
-            → (gone : List Session) × AreOver now (listing self.old.table.held) gone
-            × (N.noted notes.new ≡ N.noted notes.old ++ ends gone)) }
-        ensures unchanged { IfOk result (λ any. any ≡ false → notes.new ≡ notes.old) }
-        ensures err_noted { OnErr result (N.noted notes.new ≡ N.noted notes.old) }
+            → (self.new.table.held ≡ self.old.table.held) × (notes.new ≡ notes.old)) }
+        ensures noted { OnOk result ((gone : List Session)
+            × AreOver now (listing self.old.table.held) gone
+            × Noted N.keeps N.beside N.noted notes.old notes.new (ends gone)) }
+        ensures err_noted { OnErr result (Unnoted N.keeps N.beside N.noted notes.old notes.new) }
         ensures full { IsErrOf result StepFault.Full → (gone : List Session)
             × AreOver now (listing self.old.table.held) gone
             × N.too_many notes.old (14 * length gone + others) }

@@ -1,7 +1,8 @@
 //! The text that loaded last, with its rules: how it is noted, put in force, and found again.
-ghost use Rattle.std.specs.Prelude.{◌≡◌, ◌↔◌, ◌<◌, ◌≤◌, ◌+◌, ◌++◌, ◌∷◌, [], length, IsErrOf, OnOk, Ok, IsTrue, IfOk, IsOk, OnErr};
+ghost use Rattle.std.specs.Prelude.{◌≡◌, ◌<◌, ◌≤◌, ◌+◌, ◌∷◌, [], length, IsErrOf, OnOk, Ok, IsTrue, IfOk, IsOk};
 ghost use Rattle.durable.specs.Coding.{Load};
 ghost use Rattle.durable.specs.Entering.{IsRuleset};
+ghost use Rattle.machine.specs.Outcomes.{NotedIfOk};
 ghost use Rattle.machine.specs.Sound.{IsInForce};
 
 use crate::bytes::Bytes;
@@ -24,11 +25,8 @@ pub(crate) struct InForce {
 // Notes that a text is loaded; `ready` says that there is room for its entry, 5 bytes and the text, already.
 pub(crate) fn note_load<N: Notes>(ready: bool, text: &Bytes, notes: &mut N) -> Result<(), StepFault>
     requires { IsTrue ready → N.keeps notes.old → 5 + length text.now ≤ N.room notes.old }
-    ensures keeps { N.keeps notes.old ↔ N.keeps notes.new }
-    ensures beside { N.beside notes.new ≡ N.beside notes.old }
-    ensures noted { OnOk result (N.keeps notes.old
-        → N.noted notes.new ≡ N.noted notes.old ++ Load text.now ∷ []) }
-    ensures err_noted { OnErr result (N.noted notes.new ≡ N.noted notes.old) }
+    ensures noted { NotedIfOk N.keeps N.beside N.noted result notes.old notes.new
+        (Load text.now ∷ []) }
     ensures full { IsErrOf result StepFault.Full → N.too_many notes.old (5 + length text.now) }
     ensures no_memory { IsErrOf result StepFault.NoMemory
         → ¬ N.too_many notes.old (5 + length text.now) }

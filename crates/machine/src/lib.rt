@@ -11,8 +11,9 @@
 //! - `ahead`: among many sessions, a look at what packets and ends of sessions are going to read.
 //! - `deed`: what an event does, once its text is read.
 //! - `in_force`: the text that loaded last, with its rules.
-//! - `answering`: what a packet comes to: by the session that a guess tells, where nothing new is shown of it (the
-//!   shortest way) or something may be (the short one), or by a plan.
+//! - `state`: `State`, what a step changes: the clock rises and sessions end (`age`), and then the event is answered. A
+//!   packet goes by the session that a guess tells, where nothing new is shown of it (the shortest way) or something
+//!   may be (the short one), or by a plan; `answering` does what was found.
 //! - `core_state`: `Core`, which has all the state and takes a step for each event (`step`, `step_noted`). Any packet
 //!   it also takes where the packet lies, for which no `Event` is made (`step_in_place`), and one whose session goes on
 //!   by the shortest way (`forward`).
@@ -35,6 +36,7 @@ mod in_force;
 pub mod laws;
 mod notes;
 mod noting;
+mod state;
 
 pub use bytes::Bytes;
 pub use core_state::Core;

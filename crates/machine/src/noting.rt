@@ -5,13 +5,14 @@
 //! - Of a plan: whether it makes one (`plan_makes_entry`), and whether it adds a session (`adds_any`), which it needs
 //!   room for beside.
 //! - Of a packet: room for all its entries (`make_room_for_packet`).
-ghost use Rattle.std.specs.Prelude.{◌≡◌, ◌≢◌, ◌↔◌, ◌+◌, ◌<◌, ◌≤◌, ◌++◌, [], ℕ, List, IsErrOf, IsOk, IsTrue, OnOk};
+ghost use Rattle.std.specs.Prelude.{◌≡◌, ◌≢◌, ◌↔◌, ◌+◌, ◌<◌, ◌≤◌, [], ℕ, List, IsErrOf, IsOk, IsTrue, OnOk};
 ghost use Rattle.packet.specs.Config.{Pool};
 ghost use Rattle.durable.specs.Coding.{AreEntries, IsFlow, IsSession};
 ghost use Rattle.durable.specs.Entering.{flow_of as flow_in};
 ghost use Rattle.hairpin.specs.Plans.{GiveAll, Gives};
 ghost use Rattle.machine.specs.Flows.{adds as adds_by, adds_second};
 ghost use Rattle.machine.specs.Noted.{between as entries_between, entries_for, entries_for_all};
+ghost use Rattle.machine.specs.Outcomes.{Noted, Unnoted};
 ghost use Rattle.machine.specs.Sizes.{bytes_of, listed};
 ghost use Rattle.sessions.specs.Life.{IsSeen};
 ghost use Rattle.sessions.specs.Listing.{listing};
@@ -117,9 +118,7 @@ pub fn makes_entry(table: &Table, change: &Change) -> bool
 pub fn make_room_for_packet<N: Notes>(ready: bool, notes: &mut N) -> Result<(), StepFault>
     requires room { IsTrue ready → N.keeps notes.old → 44 ≤ N.room notes.old }
     ensures room { OnOk result (N.keeps notes.old → 44 ≤ N.room notes.new) }
-    ensures keeps { N.keeps notes.old ↔ N.keeps notes.new }
-    ensures beside { N.beside notes.new ≡ N.beside notes.old }
-    ensures noted { N.noted notes.new ≡ N.noted notes.old }
+    ensures noted { Unnoted N.keeps N.beside N.noted notes.old notes.new }
     ensures full { IsErrOf result StepFault.Full → N.too_many notes.old 44 }
     ensures no_memory { IsErrOf result StepFault.NoMemory → ¬ N.too_many notes.old 44 }
     ensures succeeds { IsTrue ready → IsOk result }
@@ -171,10 +170,7 @@ pub fn entry_for(table: &Table, change: &Change) -> Option<Entry<'static>>
 pub fn note<N: Notes>(notes: &mut N, item: Option<Entry<'_>>)
     requires coded { AreEntries (listed item) }
     requires room { N.keeps notes.old → bytes_of (listed item) ≤ N.room notes.old }
-    ensures keeps { N.keeps notes.old ↔ N.keeps notes.new }
-    ensures beside { N.beside notes.new ≡ N.beside notes.old }
-    ensures noted { N.keeps notes.old → N.noted notes.new
-        ≡ N.noted notes.old ++ listed item.entry }
+    ensures noted { Noted N.keeps N.beside N.noted notes.old notes.new (listed item.entry) }
     ensures room { N.keeps notes.old
         → N.room notes.old ≤ N.room notes.new + bytes_of (listed item.entry) }
 {

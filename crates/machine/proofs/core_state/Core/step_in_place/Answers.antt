@@ -1,36 +1,51 @@
-use Rattle.std.proofs.Common.{refl}
-use Rattle.machine.specs.Core.{state_of}
-use Rattle.machine.specs.Fates.{answer_of}
+use Rattle.std.proofs.Common.{◌≡◌, false, refl, sym, ap, subst, ◌∙◌}
+use Rattle.std.proofs.lemmas.Bool.{false_from_ne_true, false≢true}
+use Rattle.packet.specs.Config.{Config}
+use Rattle.machine.specs.Core.{Core, Parts, state_in}
 use Rattle.machine.specs.Judged.{Judged}
-use Rattle.machine.specs.Machine.{State}
-use Rattle.machine.specs.declared.event.Answer.{Answer}
+use Rattle.machine.specs.Machine.{State, EndsNone}
+use Rattle.machine.specs.Sound.{IsSoundState}
 use Rattle.machine.specs.declared.deed.Deed.TheVariants as deed
-use Rattle.machine.proofs.Forwarding.{core-after}
-use Rattle.machine.proofs.Stepping.{entries-of}
-use Rattle.machine.proofs.Steps.{latest_later, step-is}
+use Rattle.machine.proofs.Rising.{noted-from, put-back, step-from}
 use Rattle.machine.proofs.core_state.Core.step_in_place.Goals as goal
 
-pub age_and_answer_packet-requires-clause-latest : goal.age_and_answer_packet-requires-clause-latest
-age_and_answer_packet-requires-clause-latest g c =
-    let own = c.self.inside in
-    latest_later own.bounds own.in_force.text own.in_force.rules own.clock c.args.moment c.later_of-now.result own.flows.table.held c.self.invariant.sound c.later_of-now.ensures
+pub put_back-requires : goal.put_back-requires
+put_back-requires g c =
+    let own = c.self.inside.state in
+    let unready : c.in-Ok.ready ≡ false = false_from_ne_true _ (λ is. false≢true (c.in-Err.ensures.ready is)) in
+    let clock = c.clock-clock in
+    let mid = state_in c.answer_packet.new.self in
+    let is = put-back own mid _ clock.result clock.ensures.value (c.in-Ok.ensures.none unready).0 (c.in-Err.ensures.err.1 ∙ c.in-Ok.ensures.ok) in
+    record {
+      sound = subst (λ (config : Config). IsSoundState config (record mid { clock = clock.result })) (sym (c.answer_packet.ensures.config ∙ c.age.ensures.config))
+          (subst (IsSoundState own.config) (sym is) clock.ensures.sound);
+      live = subst (EndsNone clock.result) (sym is) (subst (λ n. EndsNone n (state_in own)) (sym clock.ensures.value) clock.ensures.live);
+    }
 
-pub invariant_of-self-2 : goal.invariant_of-self-2
-invariant_of-self-2 g c =
-    let own = c.self.inside in
-    core-after own.bounds own.in_force.text own.in_force.rules own.flows c.age_and_answer_packet.new.flows own.clock c.args.moment c.later_of-now.result c.args.iface c.args.packet.now _
-    c.later_of-now.ensures c.facts.ensures.valid c.self.invariant c.age_and_answer_packet.ensures.external c.in_ok-fate.ensures.some
-
-pub returns-clause-some : goal.returns-clause-some
-returns-clause-some g c = rw (← c.self.view_is) (
-    let own = c.self.inside in
-    let old = state_of own.in_force.text own.in_force.rules own.flows.table.held own.clock in
+pub returns-in-Ok-answer_packet-clause-some : goal.returns-in-Ok-answer_packet-clause-some
+returns-in-Ok-answer_packet-clause-some g c = rw (← c.self.view_is) (
+    let own = c.self.inside.state in
+    let mid = state_in c.age.new.self in
     let judged : Judged = record { moment = c.args.moment; deed = deed.Packet c.args.iface c.args.packet.now } in
-    let now = c.later_of-now.result in
-    let now_is = c.later_of-now.ensures in
-    let done : State × Answer = (state_of own.in_force.text own.in_force.rules c.age_and_answer_packet.new.flows.table.held now, answer_of c.in_ok-fate.fate c.age_and_answer_packet.new.packet) in (
+    let told = c.in-Ok.ensures.noted in (
       judged,
       record { at = refl; what = refl; right = tt },
-      step-is own.bounds old judged now done now_is c.in_ok-fate.ensures.some,
-      (λ keeps. let told = c.in_ok-fate.ensures.noted keeps in (_, entries-of own.bounds old judged now told.0 now_is told.1, told.2)),
+      step-from own.config (state_in own) mid judged c.in-Ok.ensures.ok _ (rw c.age.ensures.config at c.in-Ok-answer_packet.ensures.ok),
+      noted-from own.config (state_in own) mid judged c.in-Ok.ensures.ok g.N.Notes.keeps g.N.Notes.beside g.N.Notes.noted c.args.notes.now c.age.new.notes c.answer_packet.new.notes told.0 told.1 told.2
+          (rw c.age.ensures.config at c.in-Ok-answer_packet.ensures.noted),
+    ))
+
+pub returns-in-Err-clause-none : goal.returns-in-Err-clause-none
+returns-in-Err-clause-none g c = rw (← c.self.view_is) (
+    let own = c.self.inside.state in
+    let unready : c.in-Ok.ready ≡ false = false_from_ne_true _ (λ is. false≢true (c.in-Err.ensures.ready is)) in
+    let none = c.in-Ok.ensures.none unready in
+    let mid = state_in c.answer_packet.new.self in
+    let is = put-back own mid _ c.clock-clock.result c.clock-clock.ensures.value none.0 (c.in-Err.ensures.err.1 ∙ c.in-Ok.ensures.ok) in
+    let core : Config → State → Core = λ config state. record { config = config; state = state } in (
+      ap (λ (p : Parts). core p.config (state_in p)) c.put_back.ensures
+          ∙ ap (λ config. core config (record mid { clock = c.clock-clock.result })) (c.answer_packet.ensures.config ∙ c.age.ensures.config)
+          ∙ ap (core own.config) is,
+      c.in-Err.ensures.err.0,
+      c.in-Err.ensures.noted.same ∙ ap g.N.Notes.noted none.1,
     ))

@@ -16,6 +16,7 @@ loop-slot-preserved g c =
     let updates = c.end_noted.ensures.updates in
     let before = c.loop-slot.invariant in
     let held = c.loop-slot.self.table.held in
+    let told = c.end_noted.ensures.noted in
     record {
       ended = λ k few. elim (cases_lt k i) [
         | inl less ↦ updates.others (slice_index slots k) (λ e. c.requires.once k i less lt (e ∙ sym is)) ∙ before.ended k less
@@ -24,11 +25,13 @@ loop-slot-preserved g c =
       others = λ place away. updates.others place (λ e. away i (omega arith) (is ∙ sym e)) ∙ before.others place (λ k less. away k (omega (arith, less)));
       external = c.end_noted.ensures.external ∙ before.external;
       ready = λ n is_ready. c.end_noted.ensures.ready n (before.ready n is_ready);
-      keeps = (λ keeps. c.end_noted.ensures.keeps.0 (before.keeps.0 keeps), λ keeps. before.keeps.1 (c.end_noted.ensures.keeps.1 keeps));
-      beside = c.end_noted.ensures.beside ∙ before.beside;
-      noted = λ keeps.
-          ends-more c.args.self.now.table.held held slots i (g.N.Notes.noted c.args.notes.now) (g.N.Notes.noted c.loop-slot.notes) (g.N.Notes.noted c.end_noted.new.notes) lt
-          (before.others (slice_index slots i) (λ k less. c.requires.once k i less lt)) (before.noted keeps)
-          (c.end_noted.ensures.noted (before.keeps.0 keeps) ∙ ap (λ slot. g.N.Notes.noted c.loop-slot.notes ++ ends (sessions_at held (slot ∷ []))) (sym is));
-      room = λ keeps. omega (arith, before.room keeps, c.end_noted.ensures.room (before.keeps.0 keeps));
+      noted = record {
+        kept = (λ keeps. told.kept.0 (before.noted.kept.0 keeps), λ keeps. before.noted.kept.1 (told.kept.1 keeps));
+        stays = told.stays ∙ before.noted.stays;
+        added = λ keeps.
+            ends-more c.args.self.now.table.held held slots i (g.N.Notes.noted c.args.notes.now) (g.N.Notes.noted c.loop-slot.notes) (g.N.Notes.noted c.end_noted.new.notes) lt
+            (before.others (slice_index slots i) (λ k less. c.requires.once k i less lt)) (before.noted.added keeps)
+            (told.added (before.noted.kept.0 keeps) ∙ ap (λ slot. g.N.Notes.noted c.loop-slot.notes ++ ends (sessions_at held (slot ∷ []))) (sym is));
+      };
+      room = λ keeps. omega (arith, before.room keeps, c.end_noted.ensures.room (before.noted.kept.0 keeps));
     }

@@ -1,10 +1,11 @@
-use Rattle.std.proofs.Common.{◌≡◌, ◌<◌, ◌+◌, ◌*◌, ◌++◌, [], length, Err, refl, sym, ap, subst, ◌∙◌, append-nil, arith}
+use Rattle.std.proofs.Common.{◌≡◌, ◌<◌, ◌+◌, ◌*◌, [], length, Err, refl, sym, ap, subst, ◌∙◌, arith}
 use Rattle.std.proofs.lemmas.Grind.{common_steps}
 use Rattle.std.proofs.lemmas.Result.{err_from_is_err_and}
 use Rattle.durable.proofs.Errors.{same_error}
 use Rattle.machine.specs.Flows.{Flows}
 use Rattle.machine.specs.Noted.{ends, sessions_at}
 use Rattle.machine.proofs.Expiry.{expired, first_of}
+use Rattle.machine.proofs.Keepings.{noted-behind, noted-nothing}
 use Rattle.machine.proofs.Slots.{length-at, none-over, slots-over, some-at}
 use Rattle.machine.proofs.flows.Flows.expire.Goals as goal
 
@@ -18,13 +19,13 @@ returns-then-is_empty-clause-ok g c =
     expired held held items c.args.now c.slots_due.ensures.sound c.slots_due.ensures.sound c.in-Ok.ensures.exactly (λ k lt. absurd (omega arith)) (λ slot not_in. refl)
 
 pub returns-then-is_empty-clause-noted : goal.returns-then-is_empty-clause-noted
-returns-then-is_empty-clause-noted g c = λ keeps.
+returns-then-is_empty-clause-noted g c =
     let held = c.args.self.now.table.held in
     let items = c.in-Ok.slots.items in
     let a = c.if-is_empty.true in
     let b = c.is_empty.ensures in
     let empty : length items ≡ 0 = grind (arith, common_steps) in
-    ([], none-over held c.slots_due.ensures.sound c.args.now items c.in-Ok.ensures.exactly c.in-Ok.ensures.once empty, sym (append-nil (g.N.Notes.noted c.args.notes.now)))
+    ([], none-over held c.slots_due.ensures.sound c.args.now items c.in-Ok.ensures.exactly c.in-Ok.ensures.once empty, noted-nothing g.N.Notes.keeps g.N.Notes.beside g.N.Notes.noted c.args.notes.now)
 
 pub returns-then-is_err-clause-succeeds : goal.returns-then-is_err-clause-succeeds
 returns-then-is_err-clause-succeeds g c = λ none.
@@ -67,12 +68,14 @@ returns-clause-ok g c =
     expired held c.end_all.new.self.table.held items c.args.now c.slots_due.ensures.sound c.end_all.ensures.sound c.in-Ok.ensures.exactly ended others
 
 pub returns-clause-noted : goal.returns-clause-noted
-returns-clause-noted g c = λ keeps.
+returns-clause-noted g c =
     let held = c.args.self.now.table.held in
     let same : c.look_over.new.self.table.held ≡ held = ap (λ (flows : Flows). flows.table.held) c.look_over.ensures ∙ c.reserve.ensures.held in
     let items = c.in-Ok.slots.items in
-    let noted = rw (c.deref-2.ensures.value, same) at c.end_all.ensures.noted in (
+    let told = rw (c.deref-2.ensures.value, same) at c.end_all.ensures.noted in
+    let made = c.reserve-2.ensures in (
       sessions_at held items,
       slots-over held c.slots_due.ensures.sound c.args.now items c.in-Ok.ensures.exactly c.in-Ok.ensures.once,
-      noted (c.reserve-2.ensures.keeps.0 keeps) ∙ ap (λ es. es ++ ends (sessions_at held items)) c.reserve-2.ensures.noted,
+      noted-behind g.N.Notes.keeps g.N.Notes.beside g.N.Notes.noted c.args.notes.now c.reserve-2.new.self c.end_all.new.notes (ends (sessions_at held items))
+          (record { kept = made.keeps; stays = made.beside; same = made.noted }) told,
     )
