@@ -491,7 +491,7 @@ pub fn offer_all<D: Disk + Drop>(
     let mut held_from = None;
     loop {
         ahead = ahead.next(waiting.unanswered(), gateway);
-        let hopeful = ahead.is_known() && misses < MOST_MISSES;
+        let hopeful = held_from.is_none() && ahead.is_known() && misses < MOST_MISSES;
         if send_at_once(hopeful, waiting, answers.as_slice(), gateway) {
             prove!(count < most);
             count += 1;
