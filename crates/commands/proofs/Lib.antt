@@ -1,3 +1,4 @@
 pub mod Anew
 pub mod Joined
+pub mod Lived
 pub mod Visited

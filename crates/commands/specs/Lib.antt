@@ -1,3 +1,6 @@
+pub mod Causes
 pub mod Faults
+pub mod Lives
 pub mod Telling
 pub mod Visits
+pub mod Working

@@ -1,17 +1,18 @@
 //! Clients that are served one after the other by one gateway: the trait `Clients`, what serving them comes to, and the
 //! clients of a Unix socket.
-ghost use Rattle.std.specs.Prelude.{◌≡◌, List, false, true, IsErrOf, IsOk, IfErr, OnErr, OnOk, ⊤};
+ghost use Rattle.std.specs.Prelude.{◌≡◌, ℕ, List, Result, false, Err, IsOk, IfErr, IfOk, OnErr, OnOk, ⊤};
 ghost use Rattle.gateway.specs.declared.fault.GatewayFault.{GatewayFault};
 ghost use Rattle.socket_edge.specs.Running.{AnswersFirst, AtEachTurn, Fares, RunEnded, events_in};
 ghost use Rattle.socket_edge.specs.Turns.{Turn, given, taken};
-ghost use Rattle.refusals.specs.declared.refusal.Refusal.TheVariants.{Device};
-ghost use Rattle.commands.specs.Faults.{IsOfServing, gateway_refusal};
-ghost use Rattle.commands.specs.Visits.{LastVisit, SomeVisits, Visit, Visits};
+ghost use Rattle.socket_edge.specs.declared.fault.EdgeFault.{EdgeFault as Fault};
+ghost use Rattle.commands.specs.Faults.{IsOfGateway, IsOfServing, gateway_refusal};
+ghost use Rattle.commands.specs.Visits.{EndHasCause, GoesOn, Idles, Meeting, MeetsNone, ServiceEnds, SomeUnseenVisits, SomeVisits, UnseenVisits, Visit, Visits};
 
 use crate::faults::of_gateway;
 use crate::sockets::off_standard_streams;
 use crate::streams::tell_end;
 use disk_model::Disk;
+use gateway::running::stands;
 use gateway::{Gateway, GatewayFault};
 use refusals::{Refusal, Stop};
 use socket_edge::{EdgeFault, MOST_GROWN, Peer, run_with};
@@ -103,16 +104,16 @@ impl Clients for SocketClients<'_> {
 // Compacts where a client has left the file grown: behind a read that ends in a client's fault the edge doesn't. Where
 // memory for it is refused, it waits for the next client. A gateway that has fallen meets no client.
 fn compact_between_clients<D: Disk + Drop>(gateway: &mut Gateway<D>) -> Result<(), Refusal>
-    ensures causes { IfErr result (λ refusal. (fault : GatewayFault)
-        × (refusal ≡ gateway_refusal fault)) }
+    ensures idles { Idles D.honest D.moment D.left gateway.old gateway.new }
     ensures stands { OnOk result (gateway.new.fallen ≡ false) }
-    ensures device { gateway.old.fallen ≡ false → gateway.new.fallen ≡ true
-        → IsErrOf result Device }
-    ensures told { gateway.new.told ≡ gateway.old.told }
+    ensures causes { IfErr result (λ refusal. (fault : GatewayFault)
+        × (refusal ≡ gateway_refusal fault)
+        × MeetsNone D.honest D.moment D.left D.failed fault gateway.old gateway.new) }
 {
     if gateway.has_fallen() {
         return Err(Refusal::Reopen);
     }
+    stands(gateway);
     if gateway.held() > 0 || gateway.grown() <= MOST_GROWN {
         return Ok(());
     }
@@ -128,6 +129,7 @@ fn answer_client<C: Peer, D: Disk + Drop>(
     client: &mut C,
     gateway: &mut Gateway<D>,
 ) -> Result<u64, EdgeFault>
+    requires stands { gateway.old.fallen ≡ false }
     ensures ran { (turns : List Turn) × C.went client.old client.new turns
         × RunEnded result gateway.old.told gateway.new.told (given turns) (taken turns)
         (C.ended client.new)
@@ -135,6 +137,7 @@ fn answer_client<C: Peer, D: Disk + Drop>(
         (taken turns)
         × AnswersFirst gateway.old.told turns
         × AtEachTurn D.honest D.moment D.left gateway.old gateway.new turns }
+    ensures cause { EndHasCause D.honest D.moment D.left D.failed result gateway.old gateway.new }
 {
     run_with(alloc, client, gateway)
 }
@@ -147,8 +150,8 @@ fn meet_next<C: Clients, D: Disk + Drop>(
     gateway: &mut Gateway<D>,
 ) -> io::Result<Result<u64, EdgeFault>>
     requires stands { gateway.old.fallen ≡ false }
-    ensures visit { OnOk result (Visit C.came C.went C.ended C.left D.honest D.moment D.left
-        clients.old clients.new gateway.old gateway.new) }
+    ensures meets { IfOk result (λ ended. Meeting D.honest D.moment D.left D.failed
+        C.came C.went C.ended C.left ended clients.old clients.new gateway.old gateway.new) }
     ensures missed { OnErr result (C.missed clients.old clients.new) }
     ensures stays { OnErr result (gateway.new ≡ gateway.old) }
 {
@@ -158,8 +161,21 @@ fn meet_next<C: Clients, D: Disk + Drop>(
     Ok(ended)
 }
 
+// Tells the word of a client's fault. One of the gateway is given back instead, since it ends the service. A word that
+// can't be told ends nothing: others are still to be served.
+fn tell_on<W: Write>(ended: Result<u64, EdgeFault>, errors: &mut W) -> Result<(), Refusal>
+    ensures ok { OnOk result (IfErr ended (λ fault. ¬ IsOfGateway fault)) }
+    ensures err { IfErr result (λ refusal. (fault : GatewayFault) × (ended ≡ Err (EdgeFault.Gateway fault))
+        × (refusal ≡ gateway_refusal fault)) }
+{
+    match tell_end(ended, errors) {
+        Ok(()) | Err(Refusal::Output) => Ok(()),
+        Err(refusal) => Err(refusal),
+    }
+}
+
 // Serves the next client. Where the gateway has fallen once the client is served, the refusal says so, even if the
-// client's own fault was that it took no answer. A word that can't be told ends nothing: others are still to be served.
+// client's own fault was that it took no answer.
 fn serve_next<C: Clients, W: Write, D: Disk + Drop>(
     alloc: Global,
     clients: &mut C,
@@ -167,11 +183,12 @@ fn serve_next<C: Clients, W: Write, D: Disk + Drop>(
     errors: &mut W,
     gateway: &mut Gateway<D>,
 ) -> Result<(), Stop>
-    ensures ok { OnOk result (Visit C.came C.went C.ended C.left D.honest D.moment D.left
-        clients.old clients.new gateway.old gateway.new) }
-    ensures err { OnErr result (LastVisit C.came C.went C.ended C.left D.honest D.moment D.left
-        C.missed clients.old clients.new gateway.old gateway.new) }
-    ensures stands { OnOk result (gateway.new.fallen ≡ false) }
+    ensures ok { OnOk result ((end : Result ℕ Fault) × Visit D.honest D.moment D.left D.failed
+        C.came C.went C.ended C.left end clients.old clients.new gateway.old gateway.new
+        × GoesOn end gateway.new) }
+    ensures err { IfErr result (λ stop. ServiceEnds D.honest D.moment D.left D.failed
+        C.came C.went C.ended C.left C.missed stop.refusal clients.old clients.new
+        gateway.old gateway.new) }
     ensures causes { IfErr result (λ stop. IsOfServing stop.refusal) }
 {
     compact_between_clients(gateway)?;
@@ -179,10 +196,7 @@ fn serve_next<C: Clients, W: Write, D: Disk + Drop>(
         Ok(ended) => ended,
         Err(error) => return Err(Stop::at_path(alloc, path, "accepts no client", &error)),
     };
-    match tell_end(ended, errors) {
-        Ok(()) | Err(Refusal::Output) => {}
-        Err(refusal) => return Err(Stop::from(refusal)),
-    }
+    tell_on(ended, errors)?;
     if gateway.has_fallen() {
         return Err(Stop::from(Refusal::Reopen));
     }
@@ -204,12 +218,13 @@ pub fn serve_each<C: Clients, W: Write, D: Disk + Drop>(
     errors: &mut W,
     gateway: &mut Gateway<D>,
 ) -> Result<(), Stop>
-    // So many came, in order, and each was served and let go. `Visit` tells too what a crash leaves while it is served.
-    ensures ok { OnOk result (Visits C.came C.went C.ended C.left D.honest D.moment D.left
+    // So many came, in order, and each was served and let go. What a crash leaves is told of each, and between them.
+    ensures ok { OnOk result (Visits D.honest D.moment D.left D.failed C.came C.went C.ended C.left
         connections clients.old clients.new gateway.old gateway.new) }
-    // Of those that came each was served, and after the last no other came.
-    ensures err { OnErr result (SomeVisits C.came C.went C.ended C.left D.honest D.moment D.left
-        C.missed connections clients.old clients.new gateway.old gateway.new) }
+    // Fewer were served, and why no other one is: the gateway has a fault, none came, or the last one's end.
+    ensures err { IfErr result (λ stop. SomeVisits D.honest D.moment D.left D.failed
+        C.came C.went C.ended C.left C.missed connections stop.refusal clients.old clients.new
+        gateway.old gateway.new) }
     ensures none { connections ≡ 0 → IsOk result × (gateway.new ≡ gateway.old)
         × (errors.new ≡ errors.old) }
     ensures stands { OnOk result (gateway.old.fallen ≡ false → gateway.new.fallen ≡ false) }
@@ -236,6 +251,11 @@ pub fn serve_clients<W: Write, D: Disk + Drop>(
     errors: &mut W,
     gateway: &mut Gateway<D>,
 ) -> Result<(), Stop>
+    // As `serve_each` says it, of what is seen of the gateway.
+    ensures ok { OnOk result (UnseenVisits D.honest D.moment D.left D.failed connections
+        gateway.old gateway.new) }
+    ensures err { IfErr result (λ stop. SomeUnseenVisits D.honest D.moment D.left D.failed
+        connections stop.refusal gateway.old gateway.new) }
     ensures none { connections ≡ 0 → IsOk result × (gateway.new ≡ gateway.old)
         × (errors.new ≡ errors.old) }
     ensures stands { OnOk result (gateway.old.fallen ≡ false → gateway.new.fallen ≡ false) }

@@ -8,11 +8,13 @@
 //! - `onlooking`: the same of a gateway that another natgw may be serving;
 //! - `streams`: streams of requests, and what the end of one means;
 //! - `sockets`: a Unix socket is bound, and requests are sent through it and back;
-//! - `running`: the commands, put together of all this.
+//! - `running`: the commands, put together of all this;
+//! - `laws`: what follows from the definitions of `specs/Visits`.
 #![tactic(auto)]
 
 mod clients;
 mod faults;
+pub mod laws;
 mod onlooking;
 mod opening;
 mod running;

@@ -4,7 +4,7 @@
 //! that nothing rests on what an earlier process wrote. `unopened` tells why there is no disk, `unsuitable` why
 //! no gateway opens over it: where the files themselves are refused, `unsound` says what `diagnosis::diagnose` finds.
 //! `tell_migration` tells of files that were migrated by the opening.
-ghost use Rattle.std.specs.Prelude.{◌≡◌, ◌↔◌, ◌+◌, [], ℕ, IfErr, IfOk, IsOk, MatchResult, OnOk, false, true};
+ghost use Rattle.std.specs.Prelude.{◌≡◌, ◌↔◌, ◌+◌, ◌≤◌, [], ℕ, IfErr, IfOk, IsOk, MatchResult, OnOk, false, true};
 ghost use Rattle.std.specs.Io.KnownBytes.{Appends};
 ghost use Rattle.durable.specs.Entering.{Durable, IsDurable};
 ghost use Rattle.machine.specs.Noted.{IsResumed};
@@ -14,6 +14,7 @@ ghost use Rattle.disk_model.specs.declared.disk.FileId.{FileId};
 ghost use Rattle.durable.specs.Coding.{Heading};
 ghost use Rattle.durable.specs.Recovery.{Alike, IsActive, IsConfigured, IsCurrent, Recovers};
 ghost use Rattle.snapshot.specs.Store.{Migrates};
+ghost use Rattle.commands.specs.Causes.{AnewHasCause};
 ghost use Rattle.commands.specs.Faults.{IsOfFiles, IsOfOpening};
 
 use crate::faults::{of_gateway, of_opening};
@@ -168,7 +169,7 @@ pub enum AnewFault {
 ///
 /// # Errors
 ///
-/// The disk comes back, and why: what `Gateway::open` or `Gateway::compact` answered.
+/// The disk comes back, and why: what `Gateway::open` or `Gateway::compact` answered; of the latter never `Reopen`.
 pub fn open_over<D: Disk + Drop>(
     alloc: Global,
     disk: D,
@@ -210,6 +211,12 @@ pub fn open_over<D: Disk + Drop>(
         × IsResumed bounds d moment gateway.told.state) }
     ensures begins { IfOk result (λ gateway. (gateway.told.last ≡ 0)
         × (gateway.told.held ≡ []) × (gateway.fallen ≡ false)) }
+
+    // A fault has its cause, and no call of the disk follows one that has failed.
+    ensures cause { IfErr result (λ e. AnewHasCause D.honest D.moment D.left D.seen D.failed bounds
+        disk e.0 e.1) }
+    ensures by_one { IfErr result (λ e. D.failed e.0 ≤ D.failed disk + 1) }
+    ensures no_failure { IfOk result (λ gateway. D.failed gateway.disk ≡ D.failed disk) }
 {
     let mut gateway = match Gateway::open(alloc, disk, bounds, moment) {
         Ok(gateway) => gateway,

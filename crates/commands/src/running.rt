@@ -1,4 +1,7 @@
 //! The commands, put together.
+ghost use Rattle.std.specs.Prelude.{IfOk};
+ghost use Rattle.commands.specs.Working.{IsMadeAnew, IsOpenedFor};
+
 use crate::clients::serve_clients;
 use crate::onlooking::look_in;
 use crate::opening::{open, open_anew, tell_migration};
@@ -110,7 +113,9 @@ fn open_for(
     bounds: Bounds,
     opening: Opening<'_>,
     work: Work<'_>,
-) -> Result<Gateway<FileDisk>, Stop> {
+) -> Result<Gateway<FileDisk>, Stop>
+    ensures { IfOk result (λ gateway. IsOpenedFor work.entry gateway) }
+{
     match work {
         Work::View(_) => open(rt, sides, bounds, opening),
         Work::Replay | Work::Serve { .. } | Work::Loop { .. } => {
@@ -176,7 +181,9 @@ fn work_on<D: Disk + Drop>(
     work: Work<'_>,
     requests: &[u8],
     gateway: &mut Gateway<D>,
-) -> Result<(), Stop> {
+) -> Result<(), Stop>
+    requires { IsOpenedFor work gateway.old }
+{
     let alloc = rt.alloc();
     match work {
         Work::Replay => replay_streams(rt, gateway),
@@ -192,7 +199,9 @@ fn work_on<D: Disk + Drop>(
 
 // Answers standard input on standard output. Where a call of the disk has failed, that is what is told, also where
 // standard output took no more before.
-fn replay_streams<D: Disk + Drop>(rt: &HostRuntime, gateway: &mut Gateway<D>) -> Result<(), Stop> {
+fn replay_streams<D: Disk + Drop>(rt: &HostRuntime, gateway: &mut Gateway<D>) -> Result<(), Stop>
+    requires { IsMadeAnew gateway.old }
+{
     let ended = replay(rt.alloc(), &mut rt.stdin(), &mut rt.stdout(), gateway);
     if ended == Err(Refusal::Output) && gateway.has_fallen() {
         return Err(Stop::from(Refusal::Reopen));
@@ -213,7 +222,9 @@ fn serve_at<D: Disk + Drop>(
     access: Access,
     connections: u64,
     gateway: &mut Gateway<D>,
-) -> Result<(), Stop> {
+) -> Result<(), Stop>
+    requires { IsMadeAnew gateway.old }
+{
     let alloc = rt.alloc();
     let listener = bind_for(rt, alloc, socket, access)?;
     let own = identity(rt, socket);
@@ -236,7 +247,9 @@ fn loop_in<D: Disk + Drop>(
     directory: &str,
     requests: &[u8],
     gateway: &mut Gateway<D>,
-) -> Result<(), Stop> {
+) -> Result<(), Stop>
+    requires { IsMadeAnew gateway.old }
+{
     let alloc = rt.alloc();
     let socket = format!(in alloc; "{directory}/natgw.sock")?;
     let listener = bind(rt, alloc, socket.as_str())?;

@@ -1,11 +1,13 @@
 //! Streams of requests, and what the end of one means.
-ghost use Rattle.std.specs.Prelude.{◌≡◌, ℕ, List, Result, IsOk, IfErr, OnOk};
+ghost use Rattle.std.specs.Prelude.{◌≡◌, ℕ, List, Result, Err, IsOk, IfErr, OnOk, false, true};
 ghost use Rattle.std.specs.Io.KnownBytes.{Appends, Consumes, IsAtEnd};
-ghost use Rattle.refusals.specs.declared.refusal.Refusal.TheVariants.{Output};
+ghost use Rattle.gateway.specs.declared.fault.GatewayFault.TheVariants as gateway_fault;
+ghost use Rattle.refusals.specs.declared.refusal.Refusal.TheVariants.{Output, Reopen};
 ghost use Rattle.refusals.specs.Words.{first_line};
 ghost use Rattle.commands.specs.Faults.{IsOfGateway, IsOfStream, EndIsToldAs, edge_refusal};
 ghost use Rattle.socket_edge.specs.Running.{Fares, RunEnded, events_in};
 ghost use Rattle.socket_edge.specs.declared.fault.EdgeFault.{EdgeFault as Fault};
+ghost use Rattle.commands.specs.Visits.{EndHasCause};
 
 use crate::faults::{ends_program, of_edge};
 use disk_model::Disk;
@@ -28,6 +30,11 @@ pub(crate) fn answer_all<R: Read, W: Write, D: Disk + Drop>(
         × RunEnded result gateway.old.told gateway.new.told given written
         (IsAtEnd (R.remaining reader.new))
         × Fares D.honest D.moment D.left gateway.old gateway.new (events_in given) written }
+    ensures cause { gateway.old.fallen ≡ false
+        → EndHasCause D.honest D.moment D.left D.failed result gateway.old gateway.new }
+    ensures reopen { gateway.old.fallen ≡ true
+        → (result ≡ Err (EdgeFault.Gateway gateway_fault.Reopen)) × (gateway.new ≡ gateway.old)
+        × (reader.new ≡ reader.old) × (writer.new ≡ writer.old) }
 {
     socket_edge::run(alloc, reader, writer, gateway)
 }
@@ -36,20 +43,26 @@ pub(crate) fn answer_all<R: Read, W: Write, D: Disk + Drop>(
 ///
 /// # Errors
 ///
-/// The refusal for the stream's fault. What was answered before is written.
+/// The refusal for the stream's fault. What was answered before is written. `Reopen` if the gateway had fallen before:
+/// then nothing is read, and nothing changes.
 pub fn replay<R: Read, W: Write, D: Disk + Drop>(
     alloc: Global,
     reader: &mut R,
     writer: &mut W,
     gateway: &mut Gateway<D>,
 ) -> Result<(), Refusal>
-    // What was read and what was written, how the run ended that this tells of, and what a crash leaves of it.
+    // What was read and what was written, how the run ended that this tells of, what a crash leaves of it, and why it
+    // ended so.
     ensures ran { (ended : Result ℕ Fault) × EndIsToldAs ended result × (given written : List ℕ)
         × Consumes (R.remaining reader.old) (R.remaining reader.new) given
         × Appends (W.contents writer.old) (W.contents writer.new) written
         × RunEnded ended gateway.old.told gateway.new.told given written
         (IsAtEnd (R.remaining reader.new))
-        × Fares D.honest D.moment D.left gateway.old gateway.new (events_in given) written }
+        × Fares D.honest D.moment D.left gateway.old gateway.new (events_in given) written
+        × (gateway.old.fallen ≡ false
+        → EndHasCause D.honest D.moment D.left D.failed ended gateway.old gateway.new) }
+    ensures reopen { gateway.old.fallen ≡ true → (result ≡ Err Reopen)
+        × (gateway.new ≡ gateway.old) × (reader.new ≡ reader.old) × (writer.new ≡ writer.old) }
     ensures causes { IfErr result IsOfStream }
 {
     match answer_all(alloc, reader, writer, gateway) {

@@ -1,12 +1,14 @@
 -- Packets that are handed on one after the other.
 use Rattle.std.proofs.Common.{◌≡◌, ℕ, suc, ◌+◌, ◌≤◌, List, [], ◌∷◌, ◌++◌, length, take, drop, Option, Some, None, refl, sym, ap, ◌∙◌, append_assoc, arith, length-append, length-drop, take-add}
-use Rattle.std.specs.Prelude.{get_or}
+use Rattle.std.specs.Prelude.{Bool, get_or, nat_le}
 use Rattle.std.specs.List.{flat_map, AllByRecursion}
 use Rattle.std.proofs.lemmas.Grind.{flat_map-append}
 use Rattle.std.proofs.lemmas.List.{append-nil, length-take-le, drop-drop}
 use Rattle.std.proofs.Math.Seq.{drop-append-add, drop-append_seam}
 use Rattle.devices.specs.Handing.{Hands}
+use Rattle.to_devices.specs.Counting.{AreCounted, counted}
 use Rattle.to_devices.specs.Replies.{Reply, FitsReply, reply_frame}
+use Rattle.to_devices.specs.declared.counts.Counts.{Counts}
 use Rattle.to_devices.specs.Leaving.{leaving, leaving_by, no_header}
 use borrow.Rule.Slice.PartMut.{put_mid, same_len_mid}
 
@@ -38,6 +40,15 @@ leaving-then side headers (s ∷ done) r =
     ap (λ (x : List (List ℕ)). first ++ x) (rest ∙ ap (λ (h : List ℕ). leaving side (drop 1 headers) done ++ leaving_by side h r) at)
     ∙ sym (append_assoc first (leaving side (drop 1 headers) done) (leaving_by side (get_or headers (suc (length done)) no_header) r))
 
+pub counted-then : (wan_from number : ℕ) (done : List Reply) (r : Reply) (c c' c'' : Counts) → AreCounted wan_from number done c c'
+    → (out : Bool) × (c'' ≡ counted (nat_le wan_from (number + length done)) out r.kind r.body c') → AreCounted wan_from number (done ++ r ∷ []) c c''
+counted-then wan_from number [] r c c' c'' are one =
+    let here : number + 0 ≡ number = omega arith in
+    (one.0, one.1 ∙ ap (λ (i : ℕ). counted (nat_le wan_from i) one.0 r.kind r.body c') here ∙ ap (counted (nat_le wan_from number) one.0 r.kind r.body) are)
+counted-then wan_from number (s ∷ done) r c c' c'' are one =
+    let here : number + suc (length done) ≡ number + 1 + length done = omega arith in
+    (are.0, counted-then wan_from (number + 1) done r (counted (nat_le wan_from number) are.0 s.kind s.body c) c' c'' are.1 (one.0, one.1 ∙ ap (λ (i : ℕ). counted (nat_le wan_from i) one.0 r.kind r.body c') here))
+
 pub fits-then : (done : List Reply) (r : Reply) → AllByRecursion FitsReply done → FitsReply r → AllByRecursion FitsReply (done ++ r ∷ [])
 fits-then [] r p q = (q, tt)
 fits-then (s ∷ done) r p q = (p.0, fits-then done r p.1 q)
@@ -54,7 +65,7 @@ behind_mid at n xs ys within size =
     ∙ ap (λ (m : ℕ). drop m (ys ++ more)) (sym size) ∙ drop-append_seam ys more ∙ drop-drop n at xs
 
 -- so far the answers in front were done, and what is behind them stays as it was
-pub record Passed (bytes now : List ℕ) (headers : List (List ℕ)) (at number : ℕ) (lan lan' wan wan' : Option (List (List ℕ))) : Type 0 where
+pub record Passed (bytes now : List ℕ) (headers : List (List ℕ)) (at number : ℕ) (lan lan' wan wan' : Option (List (List ℕ))) (wan_from : ℕ) (counts counts' : Counts) : Type 0 where
   pub done : List Reply
   pub fit : AllByRecursion FitsReply done
   pub count : number ≡ length done
@@ -65,9 +76,10 @@ pub record Passed (bytes now : List ℕ) (headers : List (List ℕ)) (at number 
   pub back : drop at now ≡ drop at bytes
   pub lan_is : Hands lan lan' (leaving 0 headers done)
   pub wan_is : Hands wan wan' (leaving 1 headers done)
+  pub counts_are : AreCounted wan_from 0 done counts counts'
 
-pub nothing_passed : (bytes : List ℕ) (headers : List (List ℕ)) (lan wan : Option (List (List ℕ))) → Passed bytes bytes headers 0 0 lan lan wan wan
-nothing_passed bytes headers lan wan = record {
+pub nothing_passed : (bytes : List ℕ) (headers : List (List ℕ)) (lan wan : Option (List (List ℕ))) (wan_from : ℕ) (counts : Counts) → Passed bytes bytes headers 0 0 lan lan wan wan wan_from counts counts
+nothing_passed bytes headers lan wan wan_from counts = record {
   done = [];
   fit = tt;
   count = refl;
@@ -78,14 +90,17 @@ nothing_passed bytes headers lan wan = record {
   back = refl;
   lan_is = Hands-nil lan;
   wan_is = Hands-nil wan;
+  counts_are = refl;
 }
 
-pub one_passed : (bytes now ys : List ℕ) (headers : List (List ℕ)) (at number n k : ℕ) (l l' l'' w w' w'' : Option (List (List ℕ))) (r : Reply)
-    → Passed bytes now headers at number l l' w w' → FitsReply r → take n (drop at now) ≡ reply_frame r → n ≤ length (drop at now) → 13 ≤ n → k ≡ n → length ys ≡ n
+pub one_passed : (bytes now ys : List ℕ) (headers : List (List ℕ)) (at number n k : ℕ) (l l' l'' w w' w'' : Option (List (List ℕ))) (wan_from : ℕ) (c c' c'' : Counts) (r : Reply)
+    → Passed bytes now headers at number l l' w w' wan_from c c' → FitsReply r → take n (drop at now) ≡ reply_frame r → n ≤ length (drop at now) → 13 ≤ n → k ≡ n → length ys ≡ n
     → Hands l' l'' (leaving_by 0 (get_or headers number no_header) r) → Hands w' w'' (leaving_by 1 (get_or headers number no_header) r)
-    → Passed bytes (put_mid at k now ys) headers (at + n) (number + 1) l l'' w w''
-one_passed bytes now ys headers at number n k l l' l'' w w' w'' r p fits is whole least part size to_lan to_wan =
+    → (out : Bool) × (c'' ≡ counted (nat_le wan_from number) out r.kind r.body c')
+    → Passed bytes (put_mid at k now ys) headers (at + n) (number + 1) l l'' w w'' wan_from c c''
+one_passed bytes now ys headers at number n k l l' l'' w w' w'' wan_from c c' c'' r p fits is whole least part size to_lan to_wan counts =
     let here : get_or headers number no_header ≡ get_or headers (length p.done) no_header = ap (λ (i : ℕ). get_or headers i no_header) p.count in
+    let counts_at : number ≡ 0 + length p.done = omega (arith, p.count) in
     let long : length (put_mid at n now ys) ≡ length now = same_len_mid at n now ys (size ∙ sym (length-take-le n (drop at now) whole)) in
     let behind : drop (at + n) now ≡ drop (at + n) bytes = sym (drop-drop n at now) ∙ ap (drop n) p.back ∙ drop-drop n at bytes in
     let next : take (at + n) bytes ≡ take at bytes ++ reply_frame r =
@@ -101,4 +116,6 @@ one_passed bytes now ys headers at number n k l l' l'' w w' w'' r p fits is whol
       back = behind_mid at n now ys p.within size ∙ behind;
       lan_is = rw (leaving-then 0 headers p.done r, ← here) (Hands-then l l' l'' _ _ p.lan_is to_lan);
       wan_is = rw (leaving-then 1 headers p.done r, ← here) (Hands-then w w' w'' _ _ p.wan_is to_wan);
+      counts_are = counted-then wan_from 0 p.done r c c' c'' p.counts_are
+          (counts.0, counts.1 ∙ ap (λ (i : ℕ). counted (nat_le wan_from i) counts.0 r.kind r.body c') counts_at);
     })

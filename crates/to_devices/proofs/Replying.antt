@@ -11,7 +11,9 @@ use Rattle.std.proofs.Math.Seq.{take-append-add, take-append_seam, take-length, 
 use Rattle.byteorder.specs.Endian.{big_number, big_bytes}
 use Rattle.byteorder.specs.Numbers.{big_from-take, big_from-lt, big_number-reads_back}
 use Rattle.packet.specs.Laws.{AreBytes}
+use Rattle.to_devices.specs.Counting.{counted, leaves_one}
 use Rattle.to_devices.specs.Replies.{Reply, FitsReply, HasNoReply, reply_frame}
+use Rattle.to_devices.specs.declared.counts.Counts.{Counts}
 use Rattle.to_devices.specs.Leaving.{leaving_by, leaving_on}
 use Rattle.to_devices.specs.Laws.{LeavesAlike}
 
@@ -136,6 +138,29 @@ pub no_body : (side : ℕ) (header b : List ℕ) (r : Reply) → b ≡ reply_fra
 no_body side header b r e short =
     let none : r.body ≡ [] = nil_from_length r.body (omega (arith, ap length e, front_size r, short)) in
     rw none (either_none (r.kind == 1))
+
+-- ---- what is counted
+
+pub counts_other : (from_wan : Bool) (b : List ℕ) (r : Reply) (c c' : Counts) → b ≡ reply_frame r → c' ≡ counted from_wan false (slice_index b 0) (drop 13 b) c
+    → (out : Bool) × (c' ≡ counted from_wan out r.kind r.body c)
+counts_other from_wan b r c c' e is = (
+  false,
+  is ∙ ap (λ (k : ℕ). counted from_wan false k (drop 13 b) c) (kind_read r b e) ∙ ap (λ (x : List ℕ). counted from_wan false r.kind x c) (body_read r b e),
+)
+
+pub counts_none : (from_wan : Bool) (b : List ℕ) (r : Reply) (c : Counts) → b ≡ reply_frame r → slice_index b 0 ≡ 1 → length b < 14
+    → (out : Bool) × (c ≡ counted from_wan out r.kind r.body c)
+counts_none from_wan b r c e kind short =
+    let k : r.kind ≡ 1 = sym (kind_read r b e) ∙ kind in
+    let none : r.body ≡ [] = nil_from_length r.body (omega (arith, ap length e, front_size r, short)) in
+    (false, rw (k, none) refl)
+
+pub counts_left : (from_wan : Bool) (b : List ℕ) (r : Reply) (c c' : Counts) → b ≡ reply_frame r → slice_index b 0 ≡ 1 → 14 ≤ length b
+    → (out : Bool) × (c' ≡ leaves_one out (slice_index b 13 ∷ drop 14 b) c) → (out : Bool) × (c' ≡ counted from_wan out r.kind r.body c)
+counts_left from_wan b r c c' e kind long is =
+    let k : r.kind ≡ 1 = sym (kind_read r b e) ∙ kind in
+    let body : r.body ≡ slice_index b 13 ∷ drop 14 b = sym (body_read r b e) ∙ one_more 13 b (omega arith) in
+    (is.0, rw (k, body) is.1)
 
 -- ---- the same bytes, told apart otherwise
 

@@ -1,3 +1,4 @@
+pub mod Counting
 pub mod Replies
 pub mod Leaving
 pub mod Laws

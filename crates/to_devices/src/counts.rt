@@ -1,4 +1,6 @@
-//! How many packets there were. Nothing is proved of the counts: they are for people. At the greatest u64 a count stays.
+//! How many packets there were. The counts are for people. At the greatest u64 a count stays.
+ghost use Rattle.std.specs.Prelude.{◌≡◌, ◌≢◌, ◌≤◌, false, drop, length, slice_index};
+ghost use Rattle.to_devices.specs.Counting.{counted, drops_one, handed_on};
 
 /// How many causes of drops there are, and one more: 0 is none.
 pub const CAUSES: usize = 21;
@@ -50,7 +52,9 @@ impl Side {
     }
 
     // One more of so many bytes was handed on; whether it was let out.
-    pub(crate) fn leave(&mut self, bytes: usize, out: bool) {
+    pub(crate) fn leave(&mut self, bytes: usize, out: bool)
+        ensures { self.new ≡ handed_on out bytes self.old }
+    {
         if out {
             self.left = self.left.saturating_add(1);
             self.left_bytes = self.left_bytes.saturating_add(bytes as u64);
@@ -60,7 +64,10 @@ impl Side {
     }
 
     // One more packet that is dropped.
-    fn drop_one(&mut self, frame: &[u8]) {
+    fn drop_one(&mut self, frame: &[u8])
+        requires { 13 ≤ length frame.now }
+        ensures { self.new ≡ drops_one (drop 13 frame.now) self.old }
+    {
         if frame.len() <= BODY {
             return;
         }
@@ -83,7 +90,12 @@ impl Counts {
     }
 
     // One more answer, by which no packet leaves; whether its request came from wan.
-    pub(crate) fn tell(&mut self, frame: &[u8], from_wan: bool) {
+    pub(crate) fn tell(&mut self, frame: &[u8], from_wan: bool)
+        requires whole { 13 ≤ length frame.now }
+        requires stays { slice_index frame.now 0 ≢ 1 }
+        ensures { self.new
+            ≡ counted from_wan false (slice_index frame.now 0) (drop 13 frame.now) self.old }
+    {
         match frame {
             [LOADED, ..] => self.loaded = self.loaded.saturating_add(1),
             [REFUSED, ..] => self.refused = self.refused.saturating_add(1),

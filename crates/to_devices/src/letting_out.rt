@@ -1,7 +1,8 @@
 //! The packets that leave by the frames of answers.
-ghost use Rattle.std.specs.Prelude.{◌≡◌, ◌≤◌, ◌∷◌, ◌++◌, ℕ, List, IfNone, IfSome, drop, get_or, length, slice_index, take};
+ghost use Rattle.std.specs.Prelude.{◌≡◌, ◌≤◌, ◌∷◌, ◌++◌, ℕ, Bool, List, IfNone, IfSome, drop, get_or, length, slice_index, take};
 ghost use Rattle.std.specs.List.{AllByRecursion, flat_map};
 ghost use Rattle.devices.specs.Handing.{Hands};
+ghost use Rattle.to_devices.specs.Counting.{AreCounted, counted, leaves_one};
 ghost use Rattle.to_devices.specs.Leaving.{leaving, leaving_by, leaving_on, no_header};
 ghost use Rattle.to_devices.specs.Replies.{FitsReply, HasNoReply, Reply, reply_frame};
 
@@ -64,6 +65,8 @@ fn hand_on<L: Device, W: Device>(
     ensures from_lan { L.coming lan.new ≡ L.coming lan.old }
     ensures from_wan { W.coming wan.new ≡ W.coming wan.old }
     ensures len { length frame.new ≡ length frame.old }
+    ensures counts { (out : Bool) × (counts.new ≡ leaves_one out
+        (slice_index frame.old 13 ∷ drop 14 frame.old) counts.old) }
 {
     let side = frame[REPLY_HEAD];
     // The header takes the place of what stands before the packet in the frame.
@@ -94,6 +97,8 @@ fn let_one_out<L: Device, W: Device>(
     ensures from_lan { L.coming lan.new ≡ L.coming lan.old }
     ensures from_wan { W.coming wan.new ≡ W.coming wan.old }
     ensures len { length frame.new ≡ length frame.old }
+    ensures counts { (reply : Reply) → frame.old ≡ reply_frame reply → (out : Bool)
+        × (counts.new ≡ counted from_wan out reply.kind reply.body counts.old) }
 {
     if frame[0] != FORWARD {
         counts.tell(frame, from_wan);
@@ -108,7 +113,7 @@ fn let_one_out<L: Device, W: Device>(
 /// Hands the packets that leave by these answers to the devices of their interfaces, in order, each once. The headers
 /// are those of the requests that they answer; where there are fewer, `NO_HEADER`. Of an answer that isn't whole
 /// nothing leaves. The bytes mean nothing afterwards. From the one with the number `wan_from` on, counted from 0, the
-/// requests came from wan, which only the counts are told.
+/// requests came from wan, which only the counts are told. Each answer is counted once.
 pub(crate) fn let_all_out<L: Device, W: Device>(
     answers: &mut [u8],
     headers: &[Header],
@@ -120,7 +125,8 @@ pub(crate) fn let_all_out<L: Device, W: Device>(
     ensures left { (replies : List Reply) × (rest : List ℕ) × AllByRecursion FitsReply replies
         × (answers.old ≡ flat_map reply_frame replies ++ rest) × HasNoReply rest
         × Hands (L.handed lan.old) (L.handed lan.new) (leaving 0 headers.now replies)
-        × Hands (W.handed wan.old) (W.handed wan.new) (leaving 1 headers.now replies) }
+        × Hands (W.handed wan.old) (W.handed wan.new) (leaving 1 headers.now replies)
+        × AreCounted wan_from 0 replies counts.old counts.new }
     ensures from_lan { L.coming lan.new ≡ L.coming lan.old }
     ensures from_wan { W.coming wan.new ≡ W.coming wan.old }
 {

@@ -4,6 +4,7 @@ ghost use Rattle.std.specs.Io.{WritesAtMost};
 ghost use Rattle.std.specs.Io.KnownBytes.{Keeps, WriteAppends};
 ghost use Rattle.std.specs.List.{AllByRecursion, flat_map};
 ghost use Rattle.devices.specs.Handing.{Hands};
+ghost use Rattle.to_devices.specs.Counting.{AreCounted};
 ghost use Rattle.to_devices.specs.Leaving.{leaving};
 ghost use Rattle.to_devices.specs.Replies.{FitsReply, HasNoReply, Reply, reply_frame};
 
@@ -62,7 +63,8 @@ impl ToDevices {
     /// Hands the packets that leave by the answers that wait to the devices of their interfaces, in order, each once.
     /// The headers are those of the requests that they answer; where there are fewer, `NO_HEADER`. Of an answer that
     /// isn't whole nothing leaves. No answer waits then. From the request with the number `wan_from` on, counted from 0,
-    /// they came from wan, which only the counts are told.
+    /// they came from wan, which only the counts are told. Each answer is counted once: a packet that leaves at its
+    /// device, as let out or lost, one that is dropped at the device that it came from, and a ruleset.
     pub fn let_out<L: Device, W: Device>(
         &mut self,
         headers: &[Header],
@@ -74,7 +76,8 @@ impl ToDevices {
         ensures left { (replies : List Reply) × (rest : List ℕ) × AllByRecursion FitsReply replies
             × (self.old ≡ flat_map reply_frame replies ++ rest) × HasNoReply rest
             × Hands (L.handed lan.old) (L.handed lan.new) (leaving 0 headers.now replies)
-            × Hands (W.handed wan.old) (W.handed wan.new) (leaving 1 headers.now replies) }
+            × Hands (W.handed wan.old) (W.handed wan.new) (leaving 1 headers.now replies)
+            × AreCounted wan_from 0 replies counts.old counts.new }
         ensures none { self.new ≡ [] }
         ensures from_lan { L.coming lan.new ≡ L.coming lan.old }
         ensures from_wan { W.coming wan.new ≡ W.coming wan.old }

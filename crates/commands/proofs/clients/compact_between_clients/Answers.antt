@@ -1,6 +1,41 @@
-use Rattle.std.proofs.Common.{refl}
+use Rattle.std.proofs.Common.{◌≡◌, Err, refl, sym, ap, ◌∙◌, arith}
+use Rattle.std.proofs.lemmas.List.{nil_from_length}
 use Rattle.gateway.specs.declared.fault.GatewayFault.TheVariants as fault
+use Rattle.gateway.proofs.Runs.{fault-is}
+use Rattle.commands.proofs.Visited.{compacted-idles, compacted-meets-none, fallen-meets-none, still-idles}
 use Rattle.commands.proofs.clients.compact_between_clients.Goals as goal
 
 pub returns-then-has_fallen-clause-causes : goal.returns-then-has_fallen-clause-causes
-returns-then-has_fallen-clause-causes g c = (fault.Reopen, refl)
+returns-then-has_fallen-clause-causes g c = (fault.Reopen, refl, fallen-meets-none g.D.Disk.honest g.D.Disk.moment g.D.Disk.left g.D.Disk.seen g.D.Disk.failed g.met.D.Disk.reads g.met.D.Disk.earlier c.args.gateway.now (sym c.has_fallen.ensures.value ∙ c.if-has_fallen.true))
+
+pub returns-then-held-gt0-clause-idles : goal.returns-then-held-gt0-clause-idles
+returns-then-held-gt0-clause-idles g c = still-idles g.D.Disk.honest g.D.Disk.moment g.D.Disk.left g.D.Disk.seen g.D.Disk.failed g.met.D.Disk.reads g.met.D.Disk.earlier c.args.gateway.now c.stands.ensures
+
+pub returns-in-Ok-clause-idles : goal.returns-in-Ok-clause-idles
+returns-in-Ok-clause-idles g c =
+    let e = c.compact.ensures in
+    compacted-idles g.D.Disk.honest g.D.Disk.moment g.D.Disk.left g.D.Disk.seen g.D.Disk.failed g.met.D.Disk.reads g.met.D.Disk.earlier c.args.gateway.now c.stands.ensures c.compact.new.self
+    e.honest e.stays_honest e.configured e.any_moment e.told (nil_from_length c.args.gateway.now.told.held (omega (arith, c.held.ensures.value, c.if-held-gt0.false)))
+
+pub returns-in-Ok-2-clause-idles : goal.returns-in-Ok-2-clause-idles
+returns-in-Ok-2-clause-idles g c =
+    let e = c.compact.ensures in
+    compacted-idles g.D.Disk.honest g.D.Disk.moment g.D.Disk.left g.D.Disk.seen g.D.Disk.failed g.met.D.Disk.reads g.met.D.Disk.earlier c.args.gateway.now c.stands.ensures c.compact.new.self
+    e.honest e.stays_honest e.configured e.any_moment e.told (nil_from_length c.args.gateway.now.told.held (omega (arith, c.held.ensures.value, c.if-held-gt0.false)))
+
+pub returns-in-Err-clause-idles : goal.returns-in-Err-clause-idles
+returns-in-Err-clause-idles g c =
+    let e = c.compact.ensures in
+    compacted-idles g.D.Disk.honest g.D.Disk.moment g.D.Disk.left g.D.Disk.seen g.D.Disk.failed g.met.D.Disk.reads g.met.D.Disk.earlier c.args.gateway.now c.stands.ensures c.compact.new.self
+    e.honest e.stays_honest e.configured e.any_moment e.told (nil_from_length c.args.gateway.now.told.held (omega (arith, c.held.ensures.value, c.if-held-gt0.false)))
+
+pub returns-in-Err-clause-causes : goal.returns-in-Err-clause-causes
+returns-in-Err-clause-causes g c =
+    let e = c.in-Err.ensures in
+    let why = c.in-Err.fault in (
+      why,
+      c.of_gateway.ensures,
+      compacted-meets-none g.D.Disk.honest g.D.Disk.moment g.D.Disk.left g.D.Disk.seen g.D.Disk.failed g.met.D.Disk.reads g.met.D.Disk.earlier c.args.gateway.now c.stands.ensures c.compact.new.self
+          why (fault-is why fault.Reopen e.reopen) (fault-is why fault.Device e.fell) e.causes (λ is. e.device (ap Err is)) e.by_one
+          (λ is. ap (λ n. n.generation) (e.stays (λ d. let bad : fault.Generations ≡ fault.Device = sym is ∙ d in absurd cc)) ∙ e.generations (ap Err is)),
+    )

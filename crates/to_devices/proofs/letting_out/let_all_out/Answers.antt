@@ -27,8 +27,9 @@ loop-len-preserved g c =
     let to_lan = subst (λ (h : List ℕ). Hands (l c.loop-len.lan) (l c.let_one_out.new.lan) (leaving_by 0 h it.0)) header (c.let_one_out.ensures.lan it.0 frame) in
     let to_wan = subst (λ (h : List ℕ). Hands (w c.loop-len.wan) (w c.let_one_out.new.wan) (leaving_by 1 h it.0)) header (c.let_one_out.ensures.wan it.0 frame) in (
       one_passed c.args.answers.now now c.let_one_out.new.frame c.args.headers.now at c.loop-len.number n (at + n - at)
-          (l c.args.lan.now) (l c.loop-len.lan) (l c.let_one_out.new.lan) (w c.args.wan.now) (w c.loop-len.wan) (w c.let_one_out.new.wan) it.0
-          i.0 it.1 is whole c.in-Some.ensures.head part size to_lan to_wan,
+          (l c.args.lan.now) (l c.loop-len.lan) (l c.let_one_out.new.lan) (w c.args.wan.now) (w c.loop-len.wan) (w c.let_one_out.new.wan)
+          c.args.wan_from c.args.counts.now c.loop-len.counts c.let_one_out.new.counts it.0
+          i.0 it.1 is whole c.in-Some.ensures.head part size to_lan to_wan (c.let_one_out.ensures.counts it.0 frame),
       c.let_one_out.ensures.from_lan ∙ i.1,
       c.let_one_out.ensures.from_wan ∙ i.2,
     )
@@ -47,4 +48,5 @@ returns-clause-left g c =
       subst HasNoReply rest c.in_default.ensures.none,
       p.lan_is,
       p.wan_is,
+      p.counts_are,
     )

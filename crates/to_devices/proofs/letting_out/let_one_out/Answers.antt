@@ -1,7 +1,7 @@
 use Rattle.std.proofs.Common.{List, ℕ, sym, subst, arith}
 use Rattle.devices.specs.Handing.{Hands}
 use Rattle.to_devices.proofs.Letting.{Hands-nil}
-use Rattle.to_devices.proofs.Replying.{leaves, no_body, other_kind}
+use Rattle.to_devices.proofs.Replying.{counts_left, counts_none, counts_other, leaves, no_body, other_kind}
 use Rattle.to_devices.proofs.letting_out.let_one_out.Goals as goal
 
 pub returns-then-frame-ne-FORWARD-clause-lan : goal.returns-then-frame-ne-FORWARD-clause-lan
@@ -35,3 +35,14 @@ returns-clause-wan g c = λ reply is.
     let f = c.args.frame.now in
     subst (λ (x : List (List ℕ)). Hands (g.W.Device.handed c.args.wan.now) (g.W.Device.handed c.hand_on.new.wan) x)
     (sym (leaves 1 c.args.header.now f reply is (omega (arith, c.if-frame-ne-FORWARD.false)) (omega (arith, c.if-frame-lt-REPLY_FRONT.false)))) c.hand_on.ensures.wan
+
+pub returns-then-frame-ne-FORWARD-clause-counts : goal.returns-then-frame-ne-FORWARD-clause-counts
+returns-then-frame-ne-FORWARD-clause-counts g c = λ reply is. counts_other c.args.from_wan c.args.frame.now reply c.args.counts.now c.tell.new.self is c.tell.ensures
+
+pub returns-then-frame-lt-REPLY_FRONT-clause-counts : goal.returns-then-frame-lt-REPLY_FRONT-clause-counts
+returns-then-frame-lt-REPLY_FRONT-clause-counts g c = λ reply is.
+    counts_none c.args.from_wan c.args.frame.now reply c.args.counts.now is (omega (arith, c.if-frame-ne-FORWARD.false)) (omega (arith, c.if-frame-lt-REPLY_FRONT.true))
+
+pub returns-clause-counts : goal.returns-clause-counts
+returns-clause-counts g c = λ reply is.
+    counts_left c.args.from_wan c.args.frame.now reply c.args.counts.now c.hand_on.new.counts is (omega (arith, c.if-frame-ne-FORWARD.false)) (omega (arith, c.if-frame-lt-REPLY_FRONT.false)) c.hand_on.ensures.counts

@@ -1,0 +1,58 @@
+-- Clients that are served one after the other, in the life of a gateway, as `gateway/specs/Lives` and `Living` define
+-- it.
+use Rattle.std.specs.Prelude.{◌≡◌, ℕ, List, ◌++◌, Result}
+use Rattle.packet.specs.Config.{Config}
+use Rattle.disk_model.specs.Disk.{Files}
+use Rattle.machine.specs.declared.event.Answer.{Answer}
+use Rattle.machine.specs.declared.event.Event.{Event}
+use Rattle.gateway.specs.Kept.{Kept}
+use Rattle.gateway.specs.Living.{IsLived, RestsInLife}
+use Rattle.socket_edge.specs.Lives.{EdgeRuns, EdgeStops}
+use Rattle.socket_edge.specs.Running.{events_in}
+use Rattle.socket_edge.specs.Turns.{Turn, given, taken}
+use Rattle.socket_edge.specs.declared.fault.EdgeFault.{EdgeFault}
+use Rattle.commands.specs.Visits.{Idles, Visit, Visits}
+
+module _ {C D : Type 0} (honest : D → Type 0) (moment : D → ℕ) (by_crash : D → ℕ → Files → Type 0)
+    (seen : D → Files) (failed : D → ℕ) (came : C → C → Type 0)
+    (went : C → C → List Turn → Type 0) (ended : C → Type 0) (left : C → C → Type 0) where
+  -- The gateway's life had come to `events` and `answered`, and then there was this visit.
+  pub record VisitIsLife (config : Config) (entry : D) (opened_at : ℕ) (begun : Kept D)
+      (events : List Event) (answered : List (ℕ × Answer)) (end : Result ℕ EdgeFault) (a b : C)
+      (old new : Kept D)
+      (visit : Visit honest moment by_crash failed came went ended left end a b old new) : Type 0 where
+    -- A stop before the client came is the end of the life.
+    pub before : IsLived honest moment by_crash seen config entry opened_at begun events answered
+        old.disk visit.start.disk
+    -- So is one while the client is served, or after that; and unless the gateway has fallen, it rests again.
+    pub serves : EdgeRuns honest moment by_crash seen config entry opened_at begun visit.start new
+        events answered (events_in (given visit.meets.turns)) (taken visit.meets.turns)
+    -- Each answer counts as given out that the client had taken by the last turn before the stop.
+    pub stops : (done rest : List Turn) → (split : visit.meets.turns ≡ done ++ rest)
+        → EdgeStops honest moment by_crash seen config entry opened_at begun visit.start
+        (visit.meets.each_turn done rest split).now new events answered
+        (events_in (given visit.meets.turns)) (taken done)
+
+  -- Of a gateway that rests in its life:
+  pub record VisitsAreLives : Type 0 where
+    -- a stop between two clients is the end of the life
+    pub between : (config : Config) (entry : D) (opened_at : ℕ) (begun old new : Kept D)
+        (events : List Event) (answered : List (ℕ × Answer))
+        → RestsInLife honest moment by_crash seen config entry opened_at begun events answered old
+        → Idles honest moment by_crash old new
+        → IsLived honest moment by_crash seen config entry opened_at begun events answered old.disk
+        new.disk
+    -- so is a stop within a visit
+    pub each : (config : Config) (entry : D) (opened_at : ℕ) (begun old new : Kept D)
+        (events : List Event) (answered : List (ℕ × Answer)) (end : Result ℕ EdgeFault) (a b : C)
+        → RestsInLife honest moment by_crash seen config entry opened_at begun events answered old
+        → (visit : Visit honest moment by_crash failed came went ended left end a b old new)
+        → VisitIsLife config entry opened_at begun events answered end a b old new visit
+    -- After so many visits it rests in the same life, and the next one may follow.
+    pub rests : (config : Config) (entry : D) (opened_at : ℕ) (begun old new : Kept D)
+        (events : List Event) (answered : List (ℕ × Answer)) (n : ℕ) (a b : C)
+        → RestsInLife honest moment by_crash seen config entry opened_at begun events answered old
+        → Visits honest moment by_crash failed came went ended left n a b old new
+        → (more : List Event) × (out : List (ℕ × Answer))
+        × RestsInLife honest moment by_crash seen config entry opened_at begun (events ++ more)
+        (answered ++ out) new
