@@ -124,6 +124,7 @@ module _ {D : Type 0} (honest : D → Type 0) (moment : D → ℕ) (by_crash : D
             first = m.first;
             fares = m.fares;
             each_turn = m.each_turn;
+            last_turn = m.last_turn;
             cause = m.cause;
             leaves = tt;
           };

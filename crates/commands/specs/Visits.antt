@@ -5,7 +5,7 @@ use Rattle.gateway.specs.Kept.{Kept}
 use Rattle.gateway.specs.Running.{IsWhy}
 use Rattle.gateway.specs.declared.fault.GatewayFault.{GatewayFault}
 use Rattle.gateway.specs.declared.fault.GatewayFault.TheVariants as gateway_fault
-use Rattle.socket_edge.specs.Running.{AnswersFirst, AtEachTurn, Explains, Fares, RunEnded, events_in}
+use Rattle.socket_edge.specs.Running.{AnswersFirst, AtEachTurn, Explains, Fares, RunEnded, TurnsEnd, events_in}
 use Rattle.socket_edge.specs.Turns.{Turn, given, taken}
 use Rattle.socket_edge.specs.declared.fault.EdgeFault.{EdgeFault}
 use Rattle.socket_edge.specs.declared.fault.EdgeFault.TheVariants.{Gateway}
@@ -46,8 +46,8 @@ module _ {D : Type 0} (honest : D → Type 0) (moment : D → ℕ) (by_crash : D
 
   module _ {C : Type 0} (came : C → C → Type 0) (went : C → C → List Turn → Type 0)
       (ended : C → Type 0) (left : C → C → Type 0) where
-    -- A client came, to a gateway that stood. It was answered, to its end or to a fault, and each time that it was
-    -- asked for more it had the answers to what it had sent. No crash in the meantime loses what they answer. Then the
+    -- A client came, to a gateway that stood. It was answered, to its end or to a fault, which its last turn tells, and
+    -- each time that it was asked for more it had the answers to what it had sent. No crash in the meantime loses what they answer. Then the
     -- client was let go.
     pub record Meeting (end : Result ℕ EdgeFault) (before after : C)
         (old new : Kept D) : Type 0 where
@@ -61,6 +61,7 @@ module _ {D : Type 0} (honest : D → Type 0) (moment : D → ℕ) (by_crash : D
       pub first : AnswersFirst old.told turns
       pub fares : Fares honest moment by_crash old new (events_in (given turns)) (taken turns)
       pub each_turn : AtEachTurn honest moment by_crash old new turns
+      pub last_turn : TurnsEnd end turns
       pub cause : EndHasCause end old new
       pub leaves : left last after
 

@@ -2,7 +2,7 @@
 //! clients of a Unix socket.
 ghost use Rattle.std.specs.Prelude.{◌≡◌, ℕ, List, Result, false, Err, IsOk, IfErr, IfOk, OnErr, OnOk, ⊤};
 ghost use Rattle.gateway.specs.declared.fault.GatewayFault.{GatewayFault};
-ghost use Rattle.socket_edge.specs.Running.{AnswersFirst, AtEachTurn, Fares, RunEnded, events_in};
+ghost use Rattle.socket_edge.specs.Running.{AnswersFirst, AtEachTurn, Fares, RunEnded, TurnsEnd, events_in};
 ghost use Rattle.socket_edge.specs.Turns.{Turn, given, taken};
 ghost use Rattle.socket_edge.specs.declared.fault.EdgeFault.{EdgeFault as Fault};
 ghost use Rattle.commands.specs.Faults.{IsOfGateway, IsOfServing, gateway_refusal};
@@ -136,7 +136,8 @@ fn answer_client<C: Peer, D: Disk + Drop>(
         × Fares D.honest D.moment D.left gateway.old gateway.new (events_in (given turns))
         (taken turns)
         × AnswersFirst gateway.old.told turns
-        × AtEachTurn D.honest D.moment D.left gateway.old gateway.new turns }
+        × AtEachTurn D.honest D.moment D.left gateway.old gateway.new turns
+        × TurnsEnd result turns }
     ensures cause { EndHasCause D.honest D.moment D.left D.failed result gateway.old gateway.new }
 {
     run_with(alloc, client, gateway)

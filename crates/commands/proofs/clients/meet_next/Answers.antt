@@ -14,6 +14,7 @@ returns-clause-meets g c =
       first = r.4;
       fares = r.3;
       each_turn = r.5;
+      last_turn = r.6;
       cause = c.answer_client-ended.ensures.cause;
       leaves = c.leave.ensures;
     }
