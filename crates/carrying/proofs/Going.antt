@@ -81,32 +81,35 @@ module _ {D : Type 0} (honest : D → Type 0) (moment : D → ℕ) (left : D →
 
     -- and one that failed
     pub ran-fails : (last at done : ℕ) (fault : EdgeFault) (turn : Turn) (a a' a'' : Asks) (l l' l'' w w' w'' k k' k'' v v' v'' : Frames) → Going start now last at done a a' l l' w w' k k' v v' → AsksFor a' a'' (asked_of turn ∷ []) → Gave turn l' l'' w' w''
-        → Fails honest moment left now new (events_of at turn) k' k'' v' v'' → Ran honest moment left start new (Err fault) last a a'' l l'' w w'' k k'' v v''
+        → Fails honest moment left now new (events_of at turn) k' k'' v' v''
+        → (run : Ran honest moment left start new (Err fault) last a a'' l l'' w w'' k k'' v v'') × (run.settled ≡ now)
     ran-fails last at done fault turn a a' a'' l l' l'' w w' w'' k k' k'' v v' v'' i asked gave f =
         let fares : Fares honest moment left now new (events_of (last_of last i.turns) turn) f.sent =
-        subst (λ (m : ℕ). Fares honest moment left now new (events_of m turn) f.sent) i.moment_is f.fares in
-        record {
-          turns = i.turns;
-          failed = turn ∷ [];
-          asked = asked-then a a' a'' i.turns turn i.asked asked;
-          ends = refl;
-          gave_lan = rw (lan-then i.turns turn) (Gives-then l l' l'' _ _ i.gave_lan gave.from_lan);
-          gave_wan = rw (wan-then i.turns turn) (Gives-then w w' w'' _ _ i.gave_wan gave.from_wan);
-          settled = now;
-          stays = λ none. absurd (omega (arith, ap length none));
-          answered = i.trail.carries.answered;
-          took = i.trail.carries.took;
-          none = i.trail.carries.none;
-          to_lan = subst (λ (x : Frames). Hands k x (handed_to Lan (all_headers last i.turns) i.trail.carries.answered)) (sym f.to_lan) i.trail.carries.to_lan;
-          to_wan = subst (λ (x : Frames). Hands v x (handed_to Wan (all_headers last i.turns) i.trail.carries.answered)) (sym f.to_wan) i.trail.carries.to_wan;
-          more = f.sent;
-          fares = rw (events-then last i.turns turn)
-              (fares-behind honest moment left earlier start now new stood i.stands none (all_events last i.turns) (events_of (last_of last i.turns) turn) (all_headers last i.turns) k k' v v' f.sent i.trail.carries fares);
-          stops = λ before after e.
-              subst (λ (es : List Event). ComesBy honest moment left start new last before es k k'' v v'') (sym (events-then last i.turns turn))
-              (comes-on honest moment left start now (all_events last i.turns) (all_headers last i.turns) k k' v v' i.trail.carries earlier new i.stands last before (i.trail.passed before after e)
-              (events_of (last_of last i.turns) turn) f.sent k'' v'' fares f.to_lan f.to_wan);
-        }
+        subst (λ (m : ℕ). Fares honest moment left now new (events_of m turn) f.sent) i.moment_is f.fares in (
+          record {
+            turns = i.turns;
+            failed = turn ∷ [];
+            asked = asked-then a a' a'' i.turns turn i.asked asked;
+            ends = refl;
+            gave_lan = rw (lan-then i.turns turn) (Gives-then l l' l'' _ _ i.gave_lan gave.from_lan);
+            gave_wan = rw (wan-then i.turns turn) (Gives-then w w' w'' _ _ i.gave_wan gave.from_wan);
+            settled = now;
+            stays = λ none. absurd (omega (arith, ap length none));
+            answered = i.trail.carries.answered;
+            took = i.trail.carries.took;
+            none = i.trail.carries.none;
+            to_lan = subst (λ (x : Frames). Hands k x (handed_to Lan (all_headers last i.turns) i.trail.carries.answered)) (sym f.to_lan) i.trail.carries.to_lan;
+            to_wan = subst (λ (x : Frames). Hands v x (handed_to Wan (all_headers last i.turns) i.trail.carries.answered)) (sym f.to_wan) i.trail.carries.to_wan;
+            more = f.sent;
+            fares = rw (events-then last i.turns turn)
+                (fares-behind honest moment left earlier start now new stood i.stands none (all_events last i.turns) (events_of (last_of last i.turns) turn) (all_headers last i.turns) k k' v v' f.sent i.trail.carries fares);
+            stops = λ before after e.
+                subst (λ (es : List Event). ComesBy honest moment left start new last before es k k'' v v'') (sym (events-then last i.turns turn))
+                (comes-on honest moment left start now (all_events last i.turns) (all_headers last i.turns) k k' v v' i.trail.carries earlier new i.stands last before (i.trail.passed before after e)
+                (events_of (last_of last i.turns) turn) f.sent k'' v'' fares f.to_lan f.to_wan);
+          },
+          refl,
+        )
 
   -- they ended well
   pub ran-ends : (start now : Kept D) (last at done : ℕ) (a a' : Asks) (l l' w w' k k' v v' : Frames) → Going start now last at done a a' l l' w w' k k' v v' → IsOver a' ⊎ (done ≡ 2 ^ 64 - 1) → Ran honest moment left start now (Ok tt) last a a' l l' w w' k k' v v'

@@ -201,6 +201,8 @@ impl Carrier {
             (W.handed devices.old.wan) (W.handed devices.new.wan) }
         ensures latest { self.new ≡ later self.old beat.now.moment }
         ensures stands { OnOk result (gateway.new.fallen ≡ false) }
+        ensures why { IfErr result (λ e. Explains D.honest D.moment D.left D.failed e gateway.old
+            gateway.new) }
     {
         match &beat.text {
             Some(text) => self.turn(beat.moment, Some(text.as_slice()), devices, gateway),
@@ -222,14 +224,15 @@ impl Carrier {
     ) -> Result<(), EdgeFault>
         requires stands { gateway.old.fallen ≡ false }
         requires none { gateway.old.told.held ≡ [] }
-        // By which turns it went, all that came from the devices in them, and all that went to these; and what a stop
-        // leaves, also one in the midst.
-        ensures ran { Ran D.honest D.moment D.left gateway.old gateway.new result self.old
+        // By which turns it went, all that came from the devices in them, and all that went to these; what a stop leaves,
+        // also one in the midst; and why the last turn failed, if one did.
+        ensures ran { (run : Ran D.honest D.moment D.left gateway.old gateway.new result self.old
             (P.asks pace.old) (P.asks pace.new)
             (L.coming devices.old.lan) (L.coming devices.new.lan)
             (W.coming devices.old.wan) (W.coming devices.new.wan)
             (L.handed devices.old.lan) (L.handed devices.new.lan)
-            (W.handed devices.old.wan) (W.handed devices.new.wan) }
+            (W.handed devices.old.wan) (W.handed devices.new.wan))
+            × IfErr result (λ e. Explains D.honest D.moment D.left D.failed e run.settled gateway.new) }
     {
         stands(gateway);
         events_are_judged_once();

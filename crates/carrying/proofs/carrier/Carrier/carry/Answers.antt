@@ -1,10 +1,11 @@
-use Rattle.std.proofs.Common.{◌≡◌, ℕ, [], ◌∷◌, sym, ap, ◌∙◌, arith, inl, inr}
+use Rattle.std.proofs.Common.{◌≡◌, ℕ, [], ◌∷◌, sym, ap, subst, ◌∙◌, arith, inl, inr}
 use Rattle.machine.specs.Machine.{later}
 use Rattle.carrying.specs.Asking.{AsksFor}
 use Rattle.carrying.specs.Carried.{Carries, Fails}
 use Rattle.carrying.specs.Runs.{asked_of}
 use Rattle.carrying.specs.Turns.{Gave, events_of, headers_of}
 use Rattle.carrying.proofs.Going.{going-first, going-next, ran-ends, ran-fails}
+use Rattle.socket_edge.specs.Running.{Explains}
 use Rattle.socket_edge.proofs.Tending.{idle-fares}
 use Rattle.carrying.proofs.carrier.Carrier.carry.Goals as goal
 
@@ -21,11 +22,13 @@ returns-in_default g c =
     let e = c.loop-turn.devices in
     let over = c.in_default.ensures.over in
     rw (c.next.ensures.from_lan, c.next.ensures.from_wan, c.next.ensures.to_lan, c.next.ensures.to_wan, over.1) (record {
-      ran =
-          ran-ends g.D.Disk.honest g.D.Disk.moment g.D.Disk.left c.args.gateway.now c.loop-turn.gateway c.args.self.now c.loop-turn.self c.loop-turn._turn
-          (g.P.Pace.asks c.args.pace.now) (g.P.Pace.asks c.loop-turn.pace)
-          (g.L.Device.coming d.lan) (g.L.Device.coming e.lan) (g.W.Device.coming d.wan) (g.W.Device.coming e.wan)
-          (g.L.Device.handed d.lan) (g.L.Device.handed e.lan) (g.W.Device.handed d.wan) (g.W.Device.handed e.wan) c.loop-turn.invariant (inl over.0);
+      ran = (
+        ran-ends g.D.Disk.honest g.D.Disk.moment g.D.Disk.left c.args.gateway.now c.loop-turn.gateway c.args.self.now c.loop-turn.self c.loop-turn._turn
+            (g.P.Pace.asks c.args.pace.now) (g.P.Pace.asks c.loop-turn.pace)
+            (g.L.Device.coming d.lan) (g.L.Device.coming e.lan) (g.W.Device.coming d.wan) (g.W.Device.coming e.wan)
+            (g.L.Device.handed d.lan) (g.L.Device.handed e.lan) (g.W.Device.handed d.wan) (g.W.Device.handed e.wan) c.loop-turn.invariant (inl over.0),
+        tt,
+      );
     })
 
 pub returns-in-Err : goal.returns-in-Err
@@ -39,14 +42,14 @@ returns-in-Err g c =
     let gave : Gave t.0 (g.L.Device.coming e.lan) (g.L.Device.coming f.lan) (g.W.Device.coming e.wan) (g.W.Device.coming f.wan) = rw (← n.from_lan, ← n.from_wan) t.3 in
     let fails : Fails g.D.Disk.honest g.D.Disk.moment g.D.Disk.left c.loop-turn.gateway c.turn_at.new.gateway (events_of c.loop-turn.self t.0)
     (g.L.Device.handed e.lan) (g.L.Device.handed f.lan) (g.W.Device.handed e.wan) (g.W.Device.handed f.wan) = rw (← n.to_lan, ← n.to_wan) t.4 in
-    record {
-      ran =
-          ran-fails g.D.Disk.honest g.D.Disk.moment g.D.Disk.left g.met.D.Disk.earlier c.args.gateway.now c.loop-turn.gateway c.turn_at.new.gateway c.requires.stands c.requires.none c.args.self.now c.loop-turn.self c.loop-turn._turn c.in-Err.fault t.0
-          (g.P.Pace.asks c.args.pace.now) (g.P.Pace.asks c.loop-turn.pace) (g.P.Pace.asks c.next.new.self)
-          (g.L.Device.coming d.lan) (g.L.Device.coming e.lan) (g.L.Device.coming f.lan) (g.W.Device.coming d.wan) (g.W.Device.coming e.wan) (g.W.Device.coming f.wan)
-          (g.L.Device.handed d.lan) (g.L.Device.handed e.lan) (g.L.Device.handed f.lan) (g.W.Device.handed d.wan) (g.W.Device.handed e.wan) (g.W.Device.handed f.wan)
-          c.loop-turn.invariant asked gave fails;
-    }
+    let run =
+    ran-fails g.D.Disk.honest g.D.Disk.moment g.D.Disk.left g.met.D.Disk.earlier c.args.gateway.now c.loop-turn.gateway c.turn_at.new.gateway c.requires.stands c.requires.none c.args.self.now c.loop-turn.self c.loop-turn._turn c.in-Err.fault t.0
+    (g.P.Pace.asks c.args.pace.now) (g.P.Pace.asks c.loop-turn.pace) (g.P.Pace.asks c.next.new.self)
+    (g.L.Device.coming d.lan) (g.L.Device.coming e.lan) (g.L.Device.coming f.lan) (g.W.Device.coming d.wan) (g.W.Device.coming e.wan) (g.W.Device.coming f.wan)
+    (g.L.Device.handed d.lan) (g.L.Device.handed e.lan) (g.L.Device.handed f.lan) (g.W.Device.handed d.wan) (g.W.Device.handed e.wan) (g.W.Device.handed f.wan)
+    c.loop-turn.invariant asked gave fails in
+    let why = subst (λ k. Explains g.D.Disk.honest g.D.Disk.moment g.D.Disk.left g.D.Disk.failed c.in-Err.fault k c.turn_at.new.gateway) (sym run.1) c.in-Err.ensures.why in
+    record { ran = (run.0, why) }
 
 pub loop-turn-preserved : goal.loop-turn-preserved
 loop-turn-preserved g c =
@@ -71,9 +74,11 @@ returns g c =
     let d = c.args.devices.now in
     let e = c.loop-turn.devices in
     record {
-      ran =
-          ran-ends g.D.Disk.honest g.D.Disk.moment g.D.Disk.left c.args.gateway.now c.loop-turn.gateway c.args.self.now c.loop-turn.self c.loop-turn._turn
-          (g.P.Pace.asks c.args.pace.now) (g.P.Pace.asks c.loop-turn.pace)
-          (g.L.Device.coming d.lan) (g.L.Device.coming e.lan) (g.W.Device.coming d.wan) (g.W.Device.coming e.wan)
-          (g.L.Device.handed d.lan) (g.L.Device.handed e.lan) (g.W.Device.handed d.wan) (g.W.Device.handed e.wan) c.loop-turn.invariant (inr (omega (arith, c.loop-turn-test.false, c.loop-turn.auto._turn-end)));
+      ran = (
+        ran-ends g.D.Disk.honest g.D.Disk.moment g.D.Disk.left c.args.gateway.now c.loop-turn.gateway c.args.self.now c.loop-turn.self c.loop-turn._turn
+            (g.P.Pace.asks c.args.pace.now) (g.P.Pace.asks c.loop-turn.pace)
+            (g.L.Device.coming d.lan) (g.L.Device.coming e.lan) (g.W.Device.coming d.wan) (g.W.Device.coming e.wan)
+            (g.L.Device.handed d.lan) (g.L.Device.handed e.lan) (g.W.Device.handed d.wan) (g.W.Device.handed e.wan) c.loop-turn.invariant (inr (omega (arith, c.loop-turn-test.false, c.loop-turn.auto._turn-end))),
+        tt,
+      );
     }
