@@ -1,6 +1,6 @@
 //! What a descriptor has to be.
-ghost use Rattle.std.specs.Prelude.{◌≡◌, IfOk};
-ghost use Rattle.descriptors.specs.Telling.{IsDevice};
+ghost use Rattle.std.specs.Prelude.{◌≡◌, IfErr, IfOk};
+ghost use Rattle.descriptors.specs.Telling.{IsDevice, Lacks};
 
 use crate::telling::{octal, value_of};
 
@@ -30,7 +30,8 @@ pub enum Unfit {
 ///
 /// What it lacks to be taken, the first in the order of `Unfit`.
 pub fn device_of(told: &[u8]) -> Result<&[u8], Unfit>
-    ensures { IfOk result (λ name. IsDevice told.now name.now) }
+    ensures ok { IfOk result (λ name. IsDevice told.now name.now) }
+    ensures err { IfErr result (Lacks told.now) }
 {
     let Some(name) = value_of(told, b"iff:\t") else {
         return Err(Unfit::NoTun);

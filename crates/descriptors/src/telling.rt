@@ -1,7 +1,7 @@
 //! The lines that Linux tells.
-ghost use Rattle.std.specs.Prelude.{◌≡◌, ◌==◌, ◌++◌, IfSome};
+ghost use Rattle.std.specs.Prelude.{◌≡◌, ◌==◌, ◌++◌, ℕ, IfNone, IfSome};
 ghost use Rattle.std.specs.List.{position};
-ghost use Rattle.descriptors.specs.Telling.{HasLine, SpellsOctal};
+ghost use Rattle.descriptors.specs.Telling.{HasLine, LacksKey, SpellsOctal};
 
 // Where the first line ends.
 fn line_end(text: &[u8]) -> Option<usize>
@@ -12,7 +12,8 @@ fn line_end(text: &[u8]) -> Option<usize>
 
 /// The value of the first line with this key.
 pub fn value_of<'a>(text: &'a [u8], key: &[u8]) -> Option<&'a [u8]>
-    ensures { IfSome result (λ value. HasLine text.now (key.now ++ value.now)) }
+    ensures some { IfSome result (λ value. HasLine text.now (key.now ++ value.now)) }
+    ensures none { IfNone result (LacksKey text.now key.now) }
 {
     let mut rest = text;
     while let Some(end) = line_end(rest) {
@@ -27,7 +28,8 @@ pub fn value_of<'a>(text: &'a [u8], key: &[u8]) -> Option<&'a [u8]>
 
 /// The number that octal digits spell, below 2^32.
 pub fn octal(digits: &[u8]) -> Option<u32>
-    ensures { IfSome result (λ n. SpellsOctal digits.now n) }
+    ensures some { IfSome result (SpellsOctal digits.now) }
+    ensures none { IfNone result ((n : ℕ) → ¬ SpellsOctal digits.now n) }
 {
     match std::str::from_utf8(digits) {
         Ok(text) => match u32::from_str_radix(text, 8) {
