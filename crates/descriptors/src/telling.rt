@@ -10,7 +10,7 @@ fn line_end(text: &[u8]) -> Option<usize>
     text.iter().position(|byte| *byte == b'\n')
 }
 
-/// The value of the first line with this key.
+/// The value of the first line with this key; `None` if no line has it.
 pub fn value_of<'a>(text: &'a [u8], key: &[u8]) -> Option<&'a [u8]>
     ensures some { IfSome result (λ value. HasLine text.now (key.now ++ value.now)) }
     ensures none { IfNone result (LacksKey text.now key.now) }
@@ -26,7 +26,7 @@ pub fn value_of<'a>(text: &'a [u8], key: &[u8]) -> Option<&'a [u8]>
     None
 }
 
-/// The number that octal digits spell, below 2^32.
+/// The number that octal digits spell, if it is below 2^32.
 pub fn octal(digits: &[u8]) -> Option<u32>
     ensures some { IfSome result (SpellsOctal digits.now) }
     ensures none { IfNone result ((n : ℕ) → ¬ SpellsOctal digits.now n) }

@@ -1,4 +1,6 @@
 //! The causes of drops.
+ghost use Rattle.std.specs.Prelude.{◌≡◌};
+ghost use Rattle.drop_lines.specs.Causes.{name_of};
 
 /// Their names, by their numbers (docs/frames.md); 0 is none.
 const NAMES: &[&str] = &[
@@ -26,7 +28,9 @@ const NAMES: &[&str] = &[
 ];
 
 /// The name of the cause with this number; of any other number the empty one.
-pub fn cause_name(cause: usize) -> &'static str {
+pub fn cause_name(cause: usize) -> &'static str
+    ensures { result.now ≡ name_of cause }
+{
     if cause < NAMES.len() {
         NAMES[cause]
     } else {
