@@ -89,23 +89,23 @@ passed rest line n l h =
     let behind = drop 1 (drop n rest) in
     ⊎_elim
     (λ none.
-        let e : line ++ 10 ∷ h.after ≡ front ++ 10 ∷ behind = ap (λ (b : List ℕ). b ++ (line ++ 10 ∷ h.after)) (sym none) ∙ sym h.text_is ∙ l.rest_is in
-        ⊎_elim
-        (λ c. inl c.0)
-        (λ c. absurd (no_end line c.0 (subst LacksEnd c.1 l.one)))
-        (cut_alike line front h.after behind h.one e))
+    let e : line ++ 10 ∷ h.after ≡ front ++ 10 ∷ behind = ap (λ (b : List ℕ). b ++ (line ++ 10 ∷ h.after)) (sym none) ∙ sym h.text_is ∙ l.rest_is in
+    ⊎_elim
+    (λ c. inl c.0)
+    (λ c. absurd (no_end line c.0 (subst LacksEnd c.1 l.one)))
+    (cut_alike line front h.after behind h.one e))
     (λ m.
-        let e : front ++ 10 ∷ behind ≡ m.0 ++ 10 ∷ (line ++ 10 ∷ h.after) = sym l.rest_is ∙ h.text_is ∙ ap (λ (b : List ℕ). b ++ (line ++ 10 ∷ h.after)) m.1 ∙ append_assoc m.0 (10 ∷ []) (line ++ 10 ∷ h.after) in
-        ⊎_elim
-        (λ c. inr (record { before = []; after = h.after; text_is = c.1; begins = inl refl; one = h.one }))
-        (λ c. inr (record {
-          before = c.0 ++ 10 ∷ [];
-          after = h.after;
-          text_is = c.2 ∙ sym (append_assoc c.0 (10 ∷ []) (line ++ 10 ∷ h.after));
-          begins = inr (c.0, refl);
-          one = h.one;
-        }))
-        (cut_alike front m.0 behind (line ++ 10 ∷ h.after) l.one e))
+    let e : front ++ 10 ∷ behind ≡ m.0 ++ 10 ∷ (line ++ 10 ∷ h.after) = sym l.rest_is ∙ h.text_is ∙ ap (λ (b : List ℕ). b ++ (line ++ 10 ∷ h.after)) m.1 ∙ append_assoc m.0 (10 ∷ []) (line ++ 10 ∷ h.after) in
+    ⊎_elim
+    (λ c. inr (record { before = []; after = h.after; text_is = c.1; begins = inl refl; one = h.one }))
+    (λ c. inr (record {
+      before = c.0 ++ 10 ∷ [];
+      after = h.after;
+      text_is = c.2 ∙ sym (append_assoc c.0 (10 ∷ []) (line ++ 10 ∷ h.after));
+      begins = inr (c.0, refl);
+      one = h.one;
+    }))
+    (cut_alike front m.0 behind (line ++ 10 ∷ h.after) l.one e))
     h.begins
 
 -- the line at the front hasn't this key
