@@ -13,7 +13,7 @@ ghost use Rattle.durable.specs.Laws.{anew, IsFresh};
 ghost use Rattle.durable.specs.Recovery.{Alike, IsConfigured, IsCurrent, NoneOpen, Recovers};
 ghost use Rattle.durable.specs.Versions.{latest};
 ghost use Rattle.snapshot.specs.Opening.{IsFoundFor, IsRecovered, IsCopied, found_state};
-ghost use Rattle.snapshot.specs.Store.{IsLastFormer, MakesFirst, Migrates};
+ghost use Rattle.snapshot.specs.Store.{IsLastFormer, MakesFirst, MayWrite, Migrates};
 
 use crate::OpenFault;
 use crate::closed_heading::closed_heading;
@@ -225,6 +225,7 @@ fn migrate<D: Disk>(alloc: Global, disk: &mut D, found: Ready) -> Result<Ready, 
     ensures current { IfOk result (λ r. r.version ≡ latest) }
     ensures was { IfOk result (λ r. r.migrated ≡ true) }
     ensures bounds { IfOk result (λ r. r.bounds ≡ found.bounds) }
+    ensures unwritten { ¬ (found.generation + 1 < 2 ^ 64) → disk.new ≡ disk.old }
     ensures generations { IsErrOf result OpenFault.Generations
         → found.generation ≡ 2 ^ 64 - 1 }
     ensures stays { ¬ IsErrOf result OpenFault.Device → OnErr result (disk.new ≡ disk.old) }
@@ -287,7 +288,8 @@ fn make_current<D: Disk>(alloc: Global, disk: &mut D, found: Ready) -> Result<Re
         → Synced D.moment D.left D.seen disk.new file) }
     ensures migrated { D.honest disk.old
         → OnOk result (Migrates found.bounds (D.seen disk.old) (D.seen disk.new)) }
-    ensures only_looks { found.version ≡ latest → OnOk result (disk.new ≡ disk.old) }
+    ensures unwritten { ¬ ((found.version ≢ latest) × (found.generation + 1 < 2 ^ 64))
+        → disk.new ≡ disk.old }
     ensures had_generation { OnOk result (found.version ≢ latest
         → found.generation + 1 < 2 ^ 64) }
     ensures state { IfOk result (λ r. found_state r ≡ found_state found) }
@@ -363,6 +365,8 @@ pub(crate) fn make_ready<D: Disk>(
         → IsLastFormer bounds.now (D.seen disk.old) }
     ensures looks { D.honest disk.old → ¬ IsErrOf result OpenFault.Device
         → OnErr result (Looks D.moment D.left D.seen disk.old disk.new) }
+    ensures unwritten { D.honest disk.old → ¬ MayWrite bounds.now (D.seen disk.old)
+        → Leaves D.moment D.left disk.old disk.new Same }
     ensures failures { D.failed disk.old ≤ D.failed disk.new }
     ensures by_one { D.failed disk.new ≤ D.failed disk.old + 1 }
     ensures no_failure { OnOk result (D.failed disk.new ≡ D.failed disk.old) }

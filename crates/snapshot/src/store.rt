@@ -1,14 +1,14 @@
 //! The store: two files, of which one is active. It is opened (`open`), commits groups (`commit`), and is compacted
 //! (`compact`); once a call of its disk has failed it can only give that back (`into_disk`).
 ghost use Rattle.std.specs.Prelude.{◌≡◌, ◌∷◌, ◌+◌, ◌-◌, ◌^◌, ◌<◌, ◌≤◌, ◌↔◌, length, IsTrue, MatchResult, IfOk, IfErr, OnOk, IsErrOf, true, false};
-ghost use Rattle.disk_model.specs.Disk.{Elsewhere, Leaves, LeavesNow, LeavesOnly, Looks, Put, Called, Grew};
+ghost use Rattle.disk_model.specs.Disk.{Elsewhere, Leaves, LeavesNow, LeavesOnly, Looks, Put, Same, Called, Grew};
 ghost use Rattle.disk_model.specs.declared.disk.FileId.{FileId};
 ghost use Rattle.durable.specs.Coding.{heading_bytes};
 ghost use Rattle.durable.specs.Entering.{Durable, IsDurable, durable, BodyEnters};
 ghost use Rattle.durable.specs.Laws.{anew, IsFresh};
 ghost use Rattle.durable.specs.Recovery.{Alike, IsConfigured, IsCurrent, NoneOpen, Recovers};
 ghost use Rattle.journal.specs.Groups.{sealed};
-ghost use Rattle.snapshot.specs.Store.{Keeps, RecoversEither, MakesFirst, Migrates, IsLastFormer, HasLatest, BodyFits};
+ghost use Rattle.snapshot.specs.Store.{Keeps, RecoversEither, MakesFirst, MayWrite, Migrates, IsLastFormer, HasLatest, BodyFits};
 
 use crate::closed_heading::closed_heading;
 use crate::opening::{Ready, make_ready};
@@ -80,7 +80,7 @@ pub struct Opened<D: Disk + Drop> {
 impl<D: Disk + Drop> Store<D> {
     /// Opens the store that two files hold. Both are synced, then read. Where neither gate is open, file A is made
     /// anew, for no text and no session. Where the active file is of a former version, the other one is made anew for
-    /// the same state; otherwise neither is written.
+    /// the same state. All other files are never written, those of another configuration and damaged ones too.
     ///
     /// # Errors
     ///
@@ -154,6 +154,11 @@ impl<D: Disk + Drop> Store<D> {
             → IsLastFormer bounds.now (D.seen disk)) }
         ensures looks { D.honest disk → IfErr result (λ e. ¬ (e.1 ≡ OpenFault.Device)
             → Looks D.moment D.left D.seen disk e.0) }
+
+        // Over all other files nothing is written, whatever is answered and wherever the call is stopped.
+        ensures unwritten { D.honest disk → ¬ MayWrite bounds.now (D.seen disk)
+            → MatchResult result (λ o. Leaves D.moment D.left disk o.store.disk Same)
+            (λ e. Leaves D.moment D.left disk e.0 Same) }
         ensures failures { MatchResult result (λ o. D.failed o.store.disk ≡ D.failed disk)
             (λ e. D.failed disk ≤ D.failed e.0) }
 
