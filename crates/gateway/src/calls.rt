@@ -11,11 +11,11 @@
 //! - `run`: `running::take_all` does these calls for a list of events.
 ghost use Rattle.std.specs.Prelude.{◌≡◌, ◌≢◌, ◌↔◌, ◌⊎◌, ◌+◌, ◌-◌, ◌^◌, ◌<◌, ◌≤◌, ◌++◌, ◌∷◌, [], ℕ, List, IfOk, IfErr, IfNone, IfSome, OnOk, OnErr, OnSome, IsOk, IsErrOf, MatchResult, IsTrue, length, true, false};
 ghost use Rattle.packet.specs.Config.{is_config};
-ghost use Rattle.disk_model.specs.Disk.{Leaves, LeavesNow, LeavesOnly, Looks, Called, Grew};
+ghost use Rattle.disk_model.specs.Disk.{Leaves, LeavesNow, LeavesOnly, Looks, Same, Called, Grew};
 ghost use Rattle.durable.specs.Coding.{Entry, body_bytes};
 ghost use Rattle.durable.specs.Entering.{Durable, IsDurable};
 ghost use Rattle.durable.specs.Recovery.{Alike, IsConfigured, IsCurrent, NoneOpen, Recovers};
-ghost use Rattle.snapshot.specs.Store.{HasLatest, IsLastFormer, MakesFirst, Migrates, RecoversEither};
+ghost use Rattle.snapshot.specs.Store.{HasLatest, IsLastFormer, MakesFirst, MayWrite, Migrates, RecoversEither};
 ghost use Rattle.machine.specs.Judged.{Judged, IsJudged, IsNoLoad};
 ghost use Rattle.machine.specs.Machine.{KeepsCount, EndsNone, later, step};
 ghost use Rattle.machine.specs.Sizes.{most_bytes};
@@ -101,18 +101,14 @@ impl<D: Disk + Drop> Gateway<D> {
     ///
     /// # Errors
     ///
-    /// The disk comes back.
-    /// - `Device` where a call of the disk has failed, which is the last one made. The files stand for what they stood
-    ///   for.
-    /// - `Damaged` only where the files, as they read, stand for no state. They are not changed.
-    /// - `ConfigDiffers` only where they stand for one, and the active file has another configuration than these
-    ///   bounds. They are not changed.
-    /// - `Generations` only where the active file has these bounds and is of a former version, and there is no generation
-    ///   behind its own. They are not changed.
-    /// - `NoMemory` where memory is refused. The files stand for what they stood for.
+    /// The disk comes back. The files stand for what they stood for, and only `Device` and `NoMemory` may change them.
+    /// - `Device` if a call of the disk has failed, which is the last one made.
+    /// - `Damaged` only if the files, as they read, stand for no state.
+    /// - `ConfigDiffers` only if they stand for one, and the active file has another configuration than these bounds.
+    /// - `Generations` only if the active file has these bounds, is of a former version, and of the last generation.
+    /// - `NoMemory` if memory is refused.
     ///
-    /// Where the files stand for no state, the active one has another configuration, or it can't be made anew, `Damaged`,
-    /// `ConfigDiffers` or `Generations` comes, unless memory is refused or a call of the disk fails.
+    /// Such files are always refused so, unless memory is refused or a call of the disk fails.
     pub fn open(
         alloc: Global,
         disk: D,
@@ -142,8 +138,7 @@ impl<D: Disk + Drop> Gateway<D> {
         ensures had_config { D.honest disk → OnOk result (IsConfigured bounds (D.seen disk)) }
         ensures had_generation { D.honest disk → OnOk result (¬ IsLastFormer bounds (D.seen disk)) }
 
-        // Where no file is open, file A is made anew, of the first generation. Where the active one is of the version
-        // that is written, both are only looked at.
+        // If no file is open, file A is made anew, of the first generation. Current files are only looked at.
         ensures first { D.honest disk → NoneOpen (D.seen disk)
             → IfOk result (λ g. MakesFirst bounds (D.seen disk) (D.seen g.disk)) }
         ensures generation { D.honest disk → NoneOpen (D.seen disk)
@@ -176,6 +171,11 @@ impl<D: Disk + Drop> Gateway<D> {
         ensures looks { D.honest disk → IfErr result (λ e. (e.1 ≡ OpenFault.Damaged)
             ⊎ (e.1 ≡ OpenFault.ConfigDiffers) ⊎ (e.1 ≡ OpenFault.Generations)
             → Looks D.moment D.left D.seen disk e.0) }
+
+        // Over all other files nothing is written, whatever is answered and wherever the call is stopped.
+        ensures unwritten { D.honest disk → ¬ MayWrite bounds (D.seen disk)
+            → MatchResult result (λ g. Leaves D.moment D.left disk g.disk Same)
+            (λ e. Leaves D.moment D.left disk e.0 Same) }
         ensures device { IfErr result (λ e. e.1 ≡ OpenFault.Device
             → Grew (D.failed disk) (D.failed e.0)) }
 

@@ -1,5 +1,6 @@
 use Rattle.std.proofs.Common.{◌∙◌, List, refl, sym, subst, ap}
 use Rattle.sessions.specs.declared.session.Session.{Session}
+use Rattle.disk_model.specs.Disk.{Leaves, Same}
 use Rattle.durable.specs.Entering.{IsDurable, durable}
 use Rattle.machine.specs.Noted.{IsResumed}
 use Rattle.gateway.specs.HeldAnswers.{HeldAnswers}
@@ -36,3 +37,7 @@ returns-in-Ok-resume_core-clause-ok g c = λ honest.
     let resumed = subst (λ (ss : List Session). IsResumed c.args.bounds (durable text ss) c.args.moment c.in-Ok-resume_core.core.state) c.as_slice.ensures.value c.in-Ok-resume_core.ensures.state in
     let ok = c.in-Ok.ensures.ok honest in
     (durable text c.in-Ok.field-0.sessions.items, ok.0, resumed, ok.1.leaves)
+
+pub returns-in-Ok-clause-unwritten : goal.returns-in-Ok-clause-unwritten
+returns-in-Ok-clause-unwritten g c = λ honest other.
+    subst (λ (d : g.row.D.Denot). Leaves g.D.Disk.moment g.D.Disk.left c.args.disk d Same) (sym c.into_disk.ensures) (c.in-Ok.ensures.unwritten honest other)
