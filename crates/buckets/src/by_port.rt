@@ -148,6 +148,7 @@ impl ByPort {
     ///
     /// `AllocError` where memory for the two is refused, and never where there is room for two already. Each key
     /// has the value that it had in any case, and no room is lost.
+    #[inline(always)]
     pub fn reserve(&mut self) -> Result<(), AllocError>
         ensures ok { OnOk result (2 ≤ self.new.room) }
         ensures succeeds { 2 ≤ self.old.room → IsOk result }
@@ -177,13 +178,21 @@ impl ByPort {
 }
 
 // Asks for memory for all places, if that wasn't done before.
+#[inline(always)]
 fn ask_for_places(places: &mut Vec<Place>, has_asked: &mut bool)
     ensures { places.new.items ≡ places.old.items }
 {
     if !*has_asked {
         *has_asked = true;
-        let _ = places.reserve_exact(PLACES);
+        ask_for_all(places);
     }
+}
+
+#[inline(never)]
+fn ask_for_all(places: &mut Vec<Place>)
+    ensures { places.new.items ≡ places.old.items }
+{
+    let _ = places.reserve_exact(PLACES);
 }
 
 // The place of the key.
