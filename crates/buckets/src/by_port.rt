@@ -73,11 +73,11 @@ impl ByPort {
         find(&self.places, &self.others, self.has_others, key)
     }
 
-    /// Whether a look at its place tells that an entry has the key. That none does says nothing: whoever asks of
+    /// Whether by a look at its place an entry seems to have the key. It says nothing of what is: whoever asks of
     /// several keys in turn waits once for the memory that their look-ups are going to read.
     pub fn seems_held(&self, key: u64) -> bool {
         match self.places.get(place_of(key)) {
-            Some(place) => place.has(key),
+            Some(place) => place.seems_to_have(key),
             None => false,
         }
     }

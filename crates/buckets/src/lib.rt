@@ -91,7 +91,7 @@ impl Buckets {
         find(&self.places, &self.overflow, self.are_packed, key)
     }
 
-    /// Whether a look at two places of its bucket tells that an entry has the key. That none does says nothing: whoever
+    /// Whether by a look at two places of its bucket an entry seems to have the key. It says nothing of what is: whoever
     /// asks of several keys in turn waits once for the memory that their look-ups are going to read.
     pub fn seems_held(&self, key: u64) -> bool {
         seems_held(&self.places, key)

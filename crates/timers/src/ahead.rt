@@ -13,8 +13,11 @@ pub fn count_joined(links: &[Cell], slots: &[usize; MOST_AHEAD]) -> usize {
     if slots.iter().all(|slot| *slot >= links.len()) {
         return 0;
     }
-    let beside = slots.map(|slot| beside(links, slot.saturating_add(HEADS)));
-    beside.iter().filter(|it| are_joined(links, it)).count()
+    let mut places = [[NOWHERE; 3]; MOST_AHEAD];
+    for (place, slot) in places.iter_mut().zip(slots.iter()) {
+        *place = beside(links, slot.saturating_add(HEADS));
+    }
+    places.iter().filter(|it| are_joined(links, it)).count()
 }
 
 // The place before this one in its queue, this one, and the one behind.
