@@ -7,8 +7,8 @@ use sessions::MOST_AHEAD;
 const NOWHERE: usize = usize::MAX;
 
 /// How many of the slots of these numbers seem to be watched, by the places beside them in their queues. All of their
-/// places are read before any of those beside them, so that these are waited for together. Where no slot has a place, as
-/// where all packets are of new flows, nothing is read.
+/// places are read before any of those beside them, so that these are waited for together. If no slot has a place, as
+/// if all packets are of new flows, nothing is read.
 pub fn count_joined(links: &[Cell], slots: &[usize; MOST_AHEAD]) -> usize {
     if slots.iter().all(|slot| *slot >= links.len()) {
         return 0;
