@@ -91,8 +91,8 @@ impl Buckets {
         find(&self.places, &self.overflow, self.are_packed, key)
     }
 
-    /// Whether by a look at two places of its bucket an entry seems to have the key. It says nothing of what is: whoever
-    /// asks of several keys in turn waits once for the memory that their look-ups are going to read.
+    /// Whether by a look at two places of its bucket an entry seems to have the key. It says nothing of what is:
+    /// whoever asks of several keys in turn waits once for the memory that their look-ups are going to read.
     pub fn seems_held(&self, key: u64) -> bool {
         seems_held(&self.places, key)
     }
