@@ -530,17 +530,18 @@ impl Flows {
         self.see(going.slot, going.bits, now);
     }
 
-    /// Ends the session, which the slot holds.
-    #[inline(always)]
-    fn end(&mut self, slot: Slot, session: &Session)
-        requires { at self.old.table slot ≡ Some session.now }
+    /// Ends the session of the slot.
+    fn end(&mut self, slot: Slot)
+        requires { IsSome (at self.old.table slot) }
         ensures updates { Updates self.old.table self.new.table slot None }
         ensures ready { (n : ℕ) → TakesMore n self.old → TakesMore n self.new }
         ensures external { self.new.translations.external ≡ self.old.translations.external }
     {
-        self.translations.release(session);
-        self.due.remove(slot);
-        self.table.end(slot);
+        if let Some(session) = self.table.get(slot) {
+            self.translations.release(&session);
+            self.due.remove(slot);
+            self.table.end(slot);
+        }
     }
 
     /// Ends the session of the slot, and notes it.
@@ -556,7 +557,7 @@ impl Flows {
     {
         if let Some(session) = self.table.get(slot) {
             notes.note(Entry::End(flow_of(&session)));
-            self.end(slot, &session);
+            self.end(slot);
         }
     }
 
