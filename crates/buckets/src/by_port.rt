@@ -73,11 +73,11 @@ impl ByPort {
         find(&self.places, &self.others, self.has_others, key)
     }
 
-    /// Whether a look at its place tells that an entry has the key. That none does says nothing: whoever asks of
+    /// Whether by a look at its place an entry seems to have the key. It says nothing of what is: whoever asks of
     /// several keys in turn waits once for the memory that their look-ups are going to read.
     pub fn seems_held(&self, key: u64) -> bool {
         match self.places.get(place_of(key)) {
-            Some(place) => place.has(key),
+            Some(place) => place.seems_to_have(key),
             None => false,
         }
     }
@@ -148,6 +148,7 @@ impl ByPort {
     ///
     /// `AllocError` where memory for the two is refused, and never where there is room for two already. Each key
     /// has the value that it had in any case, and no room is lost.
+    #[inline(always)]
     pub fn reserve(&mut self) -> Result<(), AllocError>
         ensures ok { OnOk result (2 ≤ self.new.room) }
         ensures succeeds { 2 ≤ self.old.room → IsOk result }
@@ -177,13 +178,21 @@ impl ByPort {
 }
 
 // Asks for memory for all places, if that wasn't done before.
+#[inline(always)]
 fn ask_for_places(places: &mut Vec<Place>, has_asked: &mut bool)
     ensures { places.new.items ≡ places.old.items }
 {
     if !*has_asked {
         *has_asked = true;
-        let _ = places.reserve_exact(PLACES);
+        ask_for_all(places);
     }
+}
+
+#[inline(never)]
+fn ask_for_all(places: &mut Vec<Place>)
+    ensures { places.new.items ≡ places.old.items }
+{
+    let _ = places.reserve_exact(PLACES);
 }
 
 // The place of the key.

@@ -91,8 +91,8 @@ impl Buckets {
         find(&self.places, &self.overflow, self.are_packed, key)
     }
 
-    /// Whether a look at two places of its bucket tells that an entry has the key. That none does says nothing: whoever
-    /// asks of several keys in turn waits once for the memory that their look-ups are going to read.
+    /// Whether by a look at two places of its bucket an entry seems to have the key. It says nothing of what is:
+    /// whoever asks of several keys in turn waits once for the memory that their look-ups are going to read.
     pub fn seems_held(&self, key: u64) -> bool {
         seems_held(&self.places, key)
     }
@@ -176,6 +176,8 @@ impl Buckets {
     ///
     /// `AllocError` where memory for the two is refused, and never where there is room for two already. Each key
     /// has the value that it had in any case, and no room is lost.
+    // Most calls find room. Compiled into its callers, such a call is a few comparisons.
+    #[inline(always)]
     pub fn reserve(&mut self) -> Result<(), AllocError>
         ensures ok { OnOk result (2 ≤ self.new.room) }
         ensures succeeds { 2 ≤ self.old.room → IsOk result }
@@ -204,6 +206,7 @@ impl Buckets {
     }
 
     // Makes more places where few are free.
+    #[inline(always)]
     fn make_places(&mut self)
         ensures same { KeepsAll self.old self.new }
         ensures room { self.old.room ≤ self.new.room }

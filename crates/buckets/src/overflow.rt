@@ -102,6 +102,7 @@ impl Overflow {
     /// # Errors
     ///
     /// As of `Rows::reserve`.
+    #[inline(always)]
     pub fn reserve(&mut self) -> Result<(), AllocError>
         ensures ok { OnOk result (2 ≤ self.new.room) }
         ensures succeeds { 2 ≤ self.old.room → IsOk result }

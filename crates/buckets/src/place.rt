@@ -89,6 +89,11 @@ impl Place {
         is_key && self.value != NOTHING
     }
 
+    /// Whether it seems to have the key: its lower half is compared alone, and an empty place has one of 0.
+    pub fn seems_to_have(&self, key: u64) -> bool {
+        self.low == (key % HALF) as u32
+    }
+
     /// The key of its entry.
     pub fn key(&self) -> Option<u64>
         ensures { result ≡ option_map (λ entry. entry.key) self.now }

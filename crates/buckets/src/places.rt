@@ -173,8 +173,9 @@ fn free_between(places: &[Place], start: usize, end: usize) -> Option<usize>
     None
 }
 
-/// Whether one of two places of its bucket has the key: the first one, and one behind it that lies in the next line of
-/// a cache. Both are read in any case, so that nothing is awaited before the places of another key are asked for.
+/// Whether one of two places of its bucket seems to have the key: the first one, and one behind it that lies in the
+/// next line of a cache. Both are read in any case, so that nothing is awaited before the places of another key are
+/// asked for.
 pub fn seems_held(places: &[Place], key: u64) -> bool {
     let start = bucket_of(places.len(), key);
     has_at(places, start, key) | has_at(places, start + NEXT_LINE, key)
@@ -182,7 +183,7 @@ pub fn seems_held(places: &[Place], key: u64) -> bool {
 
 fn has_at(places: &[Place], place: usize, key: u64) -> bool {
     match places.get(place) {
-        Some(place) => place.has(key),
+        Some(place) => place.seems_to_have(key),
         None => false,
     }
 }

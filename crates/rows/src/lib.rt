@@ -132,6 +132,20 @@ impl Rows {
         ensures held { self.new.held ≡ self.old.held }
         ensures room { self.old.room ≤ self.new.room }
     {
+        if self.spare.len() >= 2 {
+            return Ok(());
+        }
+        self.reserve_two()
+    }
+
+    // As `reserve`, which asks before whether there is room already, as there mostly is. Not compiled into its caller.
+    #[inline(never)]
+    fn reserve_two(&mut self) -> Result<(), AllocError>
+        ensures ok { OnOk result (2 ≤ self.new.room) }
+        ensures succeeds { 2 ≤ self.old.room → IsOk result }
+        ensures held { self.new.held ≡ self.old.held }
+        ensures room { self.old.room ≤ self.new.room }
+    {
         self.reserve_one()?;
         if self.spare.len() < 2 {
             add_spare(self.alloc, &mut self.runs, &mut self.spare)?;

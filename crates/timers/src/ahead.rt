@@ -7,10 +7,17 @@ use sessions::MOST_AHEAD;
 const NOWHERE: usize = usize::MAX;
 
 /// How many of the slots of these numbers seem to be watched, by the places beside them in their queues. All of their
-/// places are read before any of those beside them, so that these are waited for together.
+/// places are read before any of those beside them, so that these are waited for together. If no slot has a place, as
+/// if all packets are of new flows, nothing is read.
 pub fn count_joined(links: &[Cell], slots: &[usize; MOST_AHEAD]) -> usize {
-    let beside = slots.map(|slot| beside(links, slot.saturating_add(HEADS)));
-    beside.iter().filter(|it| are_joined(links, it)).count()
+    if slots.iter().all(|slot| *slot >= links.len()) {
+        return 0;
+    }
+    let mut places = [[NOWHERE; 3]; MOST_AHEAD];
+    for (place, slot) in places.iter_mut().zip(slots.iter()) {
+        *place = beside(links, slot.saturating_add(HEADS));
+    }
+    places.iter().filter(|it| are_joined(links, it)).count()
 }
 
 // The place before this one in its queue, this one, and the one behind.

@@ -62,6 +62,7 @@ impl Due {
     ///
     /// `AllocError` where a growth was refused, and never where there is that room already. The same slots
     /// are watched in any case, and no room is lost.
+    #[inline(always)]
     pub fn reserve(&mut self, slots: usize) -> Result<(), AllocError>
         ensures ok { OnOk result (slots ≤ self.new.watchable) }
         ensures succeeds { slots ≤ self.old.watchable → IsOk result }

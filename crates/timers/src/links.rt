@@ -76,6 +76,7 @@ impl Queue {
 
 /// Makes the row long enough for each slot below this number, and no longer than that, with nothing watched
 /// in the new places.
+#[inline(always)]
 pub fn grow(links: &mut Vec<Cell>, slots: usize) -> Result<(), AllocError>
     ensures ok { OnOk result (slots ≤ length links.new.items - 3) }
     ensures same { (k : ℕ) → link links.new.items k ≡ link links.old.items k }
@@ -86,6 +87,18 @@ pub fn grow(links: &mut Vec<Cell>, slots: usize) -> Result<(), AllocError>
     if slots <= links.len().saturating_sub(HEADS) {
         return Ok(());
     }
+    grow_to(links, slots)
+}
+
+// Makes the row longer, so that there is a place for each slot below this number.
+#[inline(never)]
+fn grow_to(links: &mut Vec<Cell>, slots: usize) -> Result<(), AllocError>
+    requires { length links.old.items - 3 < slots }
+    ensures ok { OnOk result (slots ≤ length links.new.items - 3) }
+    ensures same { (k : ℕ) → link links.new.items k ≡ link links.old.items k }
+    ensures longer { length links.old.items ≤ length links.new.items }
+    ensures few { length links.old.items ≤ most_places → length links.new.items ≤ most_places }
+{
     let places = slots.checked_add(HEADS).ok_or(AllocError)?;
     links.reserve_exact(places - links.len())?;
     grow_past(links, slots - 1)
