@@ -1,5 +1,6 @@
 -- What a turn takes of the devices, and turns one after the other.
-use Rattle.std.proofs.Common.{◌≡◌, ◌⊎◌, inl, inr, ℕ, ◌+◌, ◌≤◌, List, [], ◌∷◌, ◌++◌, length, map, take, refl, sym, ap, ◌∙◌, arith, length-append, length-map}
+use Rattle.std.proofs.Common.{◌≡◌, ◌⊎◌, inl, inr, ℕ, ◌+◌, ◌≤◌, List, [], ◌∷◌, ◌++◌, length, map, take, refl, sym, ap, ◌∙◌, arith, length-append}
+use Rattle.std.proofs.lemmas.List.{length-map}
 use Rattle.devices.specs.Handing.{Frames, GaveAll, Gives}
 use Rattle.from_devices.specs.Requests.{Gathered, IsEnough, with_packets}
 use Rattle.from_devices.proofs.Gathering.{Gives-then}
@@ -9,7 +10,7 @@ use Rattle.carrying.specs.Turns.{Suffices, TakesAll, Turn}
 
 module _ (iface : Iface) (given : List (List ℕ)) (before behind : Gathered) (is : behind ≡ with_packets iface given before) (few : length behind.headers ≤ length before.headers + 64) where
   headers_long : length behind.headers ≡ length before.headers + length given
-  headers_long = ap (λ (g : Gathered). length g.headers) is ∙ length-append before.headers (map (take 10) given) ∙ ap (λ (n : ℕ). length before.headers + n) (length-map (take 10) given)
+  headers_long = ap (λ (g : Gathered). length g.headers) is ∙ length-append before.headers (map (take 10) given) ∙ ap (λ (n : ℕ). length before.headers + n) (length-map given (take 10))
 
   pub at_most : length given ≤ 64
   at_most = omega (arith, headers_long, few)
