@@ -43,7 +43,8 @@ from_wan turns = flat_map (λ (turn : Turn). turn.wan) turns
 abbrev pub asked_of : Turn → Asked
 asked_of turn = record { moment = turn.moment; text = turn.text }
 
--- Each of these turns takes all. Of what a device gave up to its end, these say that the device had no more.
+-- Each of these turns takes all. Of what a device gave up to the end of a turn, `lan_gave_all` and `wan_gave_all` say
+-- that it was all that it had then.
 abbrev pub EachTakesAll : ℕ → (List (List ℕ) → Type 0) → (List (List ℕ) → Type 0) → List Turn → Type 0
 EachTakesAll last lan_gave_all wan_gave_all turns = (before after : List Turn) (turn : Turn)
     → turns ≡ before ++ turn ∷ after

@@ -235,8 +235,8 @@ impl Carrier {
     ) -> Result<(), EdgeFault>
         requires stands { gateway.old.fallen ≡ false }
         requires none { gateway.old.told.held ≡ [] }
-        // By which turns it went, all that came from the devices in them, and all that went to these; what a stop leaves,
-        // also one in the midst; why the last turn failed, if one did; and that each took what the devices had.
+        // By which turns it went, all that came from the devices in them, and all that went to these; what a stop
+        // leaves, also one in the midst; why the last turn failed, if one did; and that each took what the devices had.
         ensures ran { (run : Ran D.honest D.moment D.left gateway.old gateway.new result self.old
             (P.asks pace.old) (P.asks pace.new)
             (L.coming devices.old.lan) (L.coming devices.new.lan)

@@ -53,8 +53,8 @@ with_packets iface given g = record g {
   headers = g.headers ++ map (take 10) given;
 }
 
--- Enough packets of a device for a turn: 64, or so many that there may be no room for one more, within 256 requests, and
--- within `most` bytes and 1,048,576 bytes of them.
+-- Enough packets of a device for a turn: 64, or so many that there may be no room for one more, within 256 requests,
+-- and within `most` bytes and 1,048,576 bytes of them.
 abbrev pub IsEnough : ℕ → Gathered → Gathered → Type 0
 IsEnough most before behind = (length behind.headers ≡ length before.headers + 64)
     ⊎ ((256 ≤ length behind.headers) ⊎ (min most 1048576 < length behind.requests + 65549))
