@@ -3,6 +3,7 @@ mod Handed
 mod Fronted
 mod Settled
 mod Joined
+mod Taken
 mod Stopping
 mod Going
 mod Lives

@@ -17,7 +17,7 @@ use Rattle.socket_edge.specs.Progress.{replies}
 use Rattle.socket_edge.specs.Running.{Fares}
 use Rattle.carrying.specs.Asking.{Asked, Asks, AsksFor, IsOver}
 use Rattle.carrying.specs.Carried.{handed_to}
-use Rattle.carrying.specs.Turns.{Turn, events_of, headers_of}
+use Rattle.carrying.specs.Turns.{TakesAll, Turn, events_of, headers_of}
 
 -- the latest moment behind turns
 abbrev pub last_of : ℕ → List Turn → ℕ
@@ -42,6 +42,14 @@ from_wan turns = flat_map (λ (turn : Turn). turn.wan) turns
 -- what they were asked for by
 abbrev pub asked_of : Turn → Asked
 asked_of turn = record { moment = turn.moment; text = turn.text }
+
+-- Each of these turns takes all. Of what a device gave up to the end of a turn, `lan_gave_all` and `wan_gave_all` say
+-- that it was all that it had then.
+abbrev pub EachTakesAll : ℕ → (List (List ℕ) → Type 0) → (List (List ℕ) → Type 0) → List Turn → Type 0
+EachTakesAll last lan_gave_all wan_gave_all turns = (before after : List Turn) (turn : Turn)
+    → turns ≡ before ++ turn ∷ after
+    → TakesAll (last_of last before) turn (lan_gave_all (from_lan before ++ turn.lan))
+    (wan_gave_all (from_wan before ++ turn.wan))
 
 -- A run that ended well did so as nothing more was asked for, or behind as many turns as there can be. In any other one
 -- a turn failed, the last one.

@@ -1,5 +1,5 @@
 -- What comes in: turns, and the events that they are.
-use Rattle.std.specs.Prelude.{ℕ, List, [], ◌∷◌, ◌++◌, map, take, drop, replicate, Option, None, Some, nat_lt, if◌then◌else◌}
+use Rattle.std.specs.Prelude.{◌≡◌, ◌⊎◌, ℕ, ◌+◌, ◌<◌, ◌≤◌, List, [], ◌∷◌, ◌++◌, length, map, take, drop, replicate, Option, None, Some, nat_lt, if◌then◌else◌}
 use Rattle.std.specs.List.{AllByRecursion}
 use Rattle.packet.specs.declared.endpoint.Iface.{Iface}
 use Rattle.packet.specs.declared.endpoint.Iface.TheVariants.{Lan, Wan}
@@ -64,7 +64,27 @@ abbrev pub with_text : Option (List ℕ) → Gathered → Gathered
 with_text None g = g
 with_text (Some text) g = with_load text g
 
+-- the requests of a turn up to those of lan's packets
+abbrev pub gathered_to_lan : Turn → Gathered → Gathered
+gathered_to_lan turn g = with_packets Lan turn.lan (with_text turn.text (begun turn.moment g))
+
 -- the requests of a turn
 abbrev pub gathered : Turn → Gathered → Gathered
-gathered turn g = with_packets Wan turn.wan
-    (with_packets Lan turn.lan (with_text turn.text (begun turn.moment g)))
+gathered turn g = with_packets Wan turn.wan (gathered_to_lan turn g)
+
+-- no requests, behind the last moment
+abbrev pub ungathered : ℕ → Gathered
+ungathered last = record { requests = []; headers = []; told = last }
+
+-- Enough packets of a device for a turn: 64, or so many that behind these requests one more might have no room within
+-- so many bytes.
+abbrev pub Suffices : ℕ → List (List ℕ) → Gathered → Type 0
+Suffices most given behind = (length given ≡ 64) ⊎ (most < length behind.requests + 65549)
+
+-- A turn behind the last moment takes at most 64 packets of a device, and fewer only if that gave all that it had, or
+-- if they suffice.
+pub record TakesAll (last : ℕ) (turn : Turn) (lan_gave_all wan_gave_all : Type 0) : Type 0 where
+  pub of_lan : lan_gave_all ⊎ Suffices 655360 turn.lan (gathered_to_lan turn (ungathered last))
+  pub of_wan : wan_gave_all ⊎ Suffices 1048576 turn.wan (gathered turn (ungathered last))
+  pub few_of_lan : length turn.lan ≤ 64
+  pub few_of_wan : length turn.wan ≤ 64

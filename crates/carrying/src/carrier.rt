@@ -1,12 +1,13 @@
 //! A turn: what the devices give is answered, and what leaves is handed to them.
 ghost use Rattle.std.specs.Prelude.{◌≡◌, ◌≤◌, ◌<◌, ◌^◌, ◌++◌, ℕ, List, [], None, Some, IfOk, IfErr, IfNone, IfSome, MatchOption, OnOk, false, length};
+ghost use Rattle.devices.specs.Handing.{GaveAll};
 ghost use Rattle.from_devices.specs.Requests.{begun, with_load};
 ghost use Rattle.machine.specs.Machine.{later};
 ghost use Rattle.socket_edge.specs.Running.{Answered, Explains, Fares, events_in};
 ghost use Rattle.carrying.specs.Asking.{text_of};
 ghost use Rattle.carrying.specs.Carried.{Turned};
-ghost use Rattle.carrying.specs.Runs.{Ran};
-ghost use Rattle.carrying.specs.Turns.{Gave, Turn, events_of, gathered, headers_of};
+ghost use Rattle.carrying.specs.Runs.{EachTakesAll, Ran};
+ghost use Rattle.carrying.specs.Turns.{Gave, TakesAll, Turn, events_of, gathered, headers_of};
 
 use crate::between::Between;
 use crate::drops::{Dropped, Drops};
@@ -49,6 +50,7 @@ fn open_turn(from: &mut FromDevices, moment: u64, text: Option<&[u8]>)
     requires { IfSome text (λ bytes. length bytes.now ≤ 262144) }
     ensures load { IfSome text.entry (λ bytes. from.new ≡ with_load bytes.now (begun moment from.old)) }
     ensures none { IfNone text.entry (from.new ≡ begun moment from.old) }
+    ensures few { length from.new.headers ≤ 2 }
 {
     from.begin(moment);
     if let Some(text) = text {
@@ -68,7 +70,10 @@ fn gather<L: Device, W: Device>(
         × MatchOption text.entry (turn.text ≡ None) (λ bytes. turn.text ≡ Some bytes.now)
         × Gave turn (L.coming devices.old.lan) (L.coming devices.new.lan)
         (W.coming devices.old.wan) (W.coming devices.new.wan)
-        × (from.new ≡ gathered turn from.old) }
+        × (from.new ≡ gathered turn from.old)
+        × TakesAll from.old.told turn
+        (GaveAll L.coming L.has_none (L.coming devices.old.lan) turn.lan)
+        (GaveAll W.coming W.has_none (W.coming devices.old.wan) turn.wan) }
     ensures fits { later from.old.told moment < 2 ^ 64 }
     ensures to_lan { L.handed devices.new.lan ≡ L.handed devices.old.lan }
     ensures to_wan { W.handed devices.new.wan ≡ W.handed devices.old.wan }
@@ -154,7 +159,7 @@ impl Carrier {
         requires short { IfSome text (λ bytes. length bytes.now ≤ 262144) }
         requires stands { gateway.old.fallen ≡ false }
         requires none { gateway.old.told.held ≡ [] }
-        // What came, and what went.
+        // What came, and what went; and that all that the devices had came, or enough.
         ensures turned { (turn : Turn) × (turn.moment ≡ moment)
             × MatchOption text.entry (turn.text ≡ None) (λ bytes. turn.text ≡ Some bytes.now)
             × Gave turn (L.coming devices.old.lan) (L.coming devices.new.lan)
@@ -162,7 +167,10 @@ impl Carrier {
             × Turned D.honest D.moment D.left gateway.old gateway.new result
             (events_of self.old turn) (headers_of self.old turn)
             (L.handed devices.old.lan) (L.handed devices.new.lan)
-            (W.handed devices.old.wan) (W.handed devices.new.wan) }
+            (W.handed devices.old.wan) (W.handed devices.new.wan)
+            × TakesAll self.old turn
+            (GaveAll L.coming L.has_none (L.coming devices.old.lan) turn.lan)
+            (GaveAll W.coming W.has_none (W.coming devices.old.wan) turn.wan) }
         ensures latest { self.new ≡ later self.old moment }
         ensures rests { OnOk result (gateway.new.told.held ≡ []) }
         ensures stands { OnOk result (gateway.new.fallen ≡ false) }
@@ -198,7 +206,10 @@ impl Carrier {
             × Turned D.honest D.moment D.left gateway.old gateway.new result
             (events_of self.old turn) (headers_of self.old turn)
             (L.handed devices.old.lan) (L.handed devices.new.lan)
-            (W.handed devices.old.wan) (W.handed devices.new.wan) }
+            (W.handed devices.old.wan) (W.handed devices.new.wan)
+            × TakesAll self.old turn
+            (GaveAll L.coming L.has_none (L.coming devices.old.lan) turn.lan)
+            (GaveAll W.coming W.has_none (W.coming devices.old.wan) turn.wan) }
         ensures latest { self.new ≡ later self.old beat.now.moment }
         ensures stands { OnOk result (gateway.new.fallen ≡ false) }
         ensures why { IfErr result (λ e. Explains D.honest D.moment D.left D.failed e gateway.old
@@ -224,15 +235,18 @@ impl Carrier {
     ) -> Result<(), EdgeFault>
         requires stands { gateway.old.fallen ≡ false }
         requires none { gateway.old.told.held ≡ [] }
-        // By which turns it went, all that came from the devices in them, and all that went to these; what a stop leaves,
-        // also one in the midst; and why the last turn failed, if one did.
+        // By which turns it went, all that came from the devices in them, and all that went to these; what a stop
+        // leaves, also one in the midst; why the last turn failed, if one did; and that each took what the devices had.
         ensures ran { (run : Ran D.honest D.moment D.left gateway.old gateway.new result self.old
             (P.asks pace.old) (P.asks pace.new)
             (L.coming devices.old.lan) (L.coming devices.new.lan)
             (W.coming devices.old.wan) (W.coming devices.new.wan)
             (L.handed devices.old.lan) (L.handed devices.new.lan)
             (W.handed devices.old.wan) (W.handed devices.new.wan))
-            × IfErr result (λ e. Explains D.honest D.moment D.left D.failed e run.settled gateway.new) }
+            × IfErr result (λ e. Explains D.honest D.moment D.left D.failed e run.settled gateway.new)
+            × EachTakesAll self.old
+            (GaveAll L.coming L.has_none (L.coming devices.old.lan))
+            (GaveAll W.coming W.has_none (W.coming devices.old.wan)) (run.turns ++ run.failed) }
     {
         stands(gateway);
         events_are_judged_once();

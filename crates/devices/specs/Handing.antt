@@ -21,3 +21,7 @@ Hands (Some xs) (Some ys) more = ys ≡ xs ++ more
 abbrev pub Gave : Frames → Frames → Option ℕ → List ℕ → Type 0
 Gave old new None room = new ≡ old
 Gave old new (Some n) room = Gives old new (take n room ∷ [])
+
+-- a device gave these from here on, and then it had none
+abbrev pub GaveAll : {D : Type 0} → (D → Frames) → (D → Type 0) → Frames → List (List ℕ) → Type 0
+GaveAll {D = D} coming has_none old given = (device : D) × has_none device × Gives old (coming device) given

@@ -1,5 +1,5 @@
 //! A device: what it gives, and what it is handed to be let out.
-ghost use Rattle.std.specs.Prelude.{◌≡◌, ◌≤◌, ℕ, List, [], ◌∷◌, Option, None, IfSome, length};
+ghost use Rattle.std.specs.Prelude.{◌≡◌, ◌≤◌, ℕ, List, [], ◌∷◌, Option, None, IfNone, IfSome, length};
 ghost use Rattle.devices.specs.Handing.{Gave, Hands};
 
 /// The bytes of the header in front of a packet.
@@ -26,6 +26,9 @@ pub trait Device {
     /// What it gives from here on, each time a header and its packet, where that is known.
     ghost coming: { Self → Option (List (List ℕ)) } = { λ _. None };
 
+    /// It has no packet now, as far as it was asked.
+    ghost has_none: { Self → Type 0 };
+
     /// What it was handed to be let out, where that is known.
     ghost handed: { Self → Option (List (List ℕ)) } = { λ _. None };
 
@@ -34,6 +37,7 @@ pub trait Device {
     fn receive(&mut self, room: &mut [u8]) -> Option<usize>
         requires room { 65545 ≤ length room.old }
         ensures gave { Gave (coming self.old) (coming self.new) result room.new }
+        ensures none { IfNone result (has_none self.new) }
         ensures header { IfSome result (λ n. 10 ≤ n) }
         ensures longest { IfSome result (λ n. n ≤ 65545) }
         ensures handed { handed self.new ≡ handed self.old };

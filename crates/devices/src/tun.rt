@@ -53,6 +53,11 @@ impl Tun {
 }
 
 impl Device for Tun {
+    ghost use Rattle.std.specs.Prelude.{◌≢◌};
+    ghost use Rattle.devices.specs.declared.tun.Readiness.TheVariants.{Packet};
+
+    ghost has_none = { λ d. d.ready ≢ Packet };
+
     fn receive(&mut self, room: &mut [u8]) -> Option<usize> {
         if self.ready != Readiness::Packet {
             return None;

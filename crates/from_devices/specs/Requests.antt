@@ -1,5 +1,5 @@
 -- The requests of a turn. Each is a header of 14 bytes (kind, interface, length of the body, moment) and the body.
-use Rattle.std.specs.Prelude.{ℕ, ◌≤◌, List, [], ◌∷◌, ◌++◌, length, map, take, drop, replicate, nat_lt, if◌then◌else◌}
+use Rattle.std.specs.Prelude.{◌≡◌, ◌⊎◌, ℕ, ◌+◌, ◌≤◌, ◌<◌, min, List, [], ◌∷◌, ◌++◌, length, map, take, drop, replicate, nat_lt, if◌then◌else◌}
 use Rattle.std.specs.List.{flat_map}
 use Rattle.byteorder.specs.Endian.{big_bytes}
 use Rattle.packet.specs.declared.endpoint.Iface.{Iface}
@@ -52,3 +52,9 @@ with_packets iface given g = record g {
   requests = g.requests ++ flat_map (packet_request g.told iface) given;
   headers = g.headers ++ map (take 10) given;
 }
+
+-- Enough packets of a device for a turn: 64, or so many that there may be no room for one more, within 256 requests,
+-- and within `most` bytes and 1,048,576 bytes of them.
+abbrev pub IsEnough : ℕ → Gathered → Gathered → Type 0
+IsEnough most before behind = (length behind.headers ≡ length before.headers + 64)
+    ⊎ ((256 ≤ length behind.headers) ⊎ (min most 1048576 < length behind.requests + 65549))

@@ -91,7 +91,8 @@ pub fn take_packet<D: Device>(
         × (take got.1 bytes.new ≡ packet_request moment iface given)
         × (length given ≤ 65545)) }
     ensures size { IfSome result (λ got. got.1 ≤ 65549) }
-    ensures none { IfNone result (D.coming device.new ≡ D.coming device.old) }
+    ensures none { IfNone result ((D.coming device.new ≡ D.coming device.old)
+        × D.has_none device.new) }
     ensures handed { D.handed device.new ≡ D.handed device.old }
     ensures len { length bytes.new ≡ length bytes.old }
 {

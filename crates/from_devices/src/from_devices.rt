@@ -1,8 +1,8 @@
 //! The requests of a turn: the moment, the text of a ruleset, and what the devices gave.
-ghost use Rattle.std.specs.Prelude.{◌≡◌, ◌+◌, ◌<◌, ◌≤◌, ◌^◌, ◌∷◌, ◌++◌, [], ℕ, List, IfOk, false, true, length, take};
+ghost use Rattle.std.specs.Prelude.{◌≡◌, ◌⊎◌, ◌+◌, ◌<◌, ◌≤◌, ◌^◌, ◌∷◌, ◌++◌, [], ℕ, List, IfOk, false, true, length, take};
 ghost use Rattle.std.specs.List.{AllByRecursion};
 ghost use Rattle.devices.specs.Handing.{Gives};
-ghost use Rattle.from_devices.specs.Requests.{IsPacket, begun, with_load, with_packets};
+ghost use Rattle.from_devices.specs.Requests.{IsEnough, IsPacket, begun, with_load, with_packets};
 
 use crate::framing::{LOAD, LONGEST_REQUEST, MOMENT};
 use crate::room::Room;
@@ -117,6 +117,7 @@ impl FromDevices {
             × IsPacket given
             × (self.new ≡ with_packets iface (given ∷ []) self.old) }
         ensures none { result ≡ false → (D.coming device.new ≡ D.coming device.old)
+            × D.has_none device.new
             × (self.new ≡ self.old) }
         ensures handed { D.handed device.new ≡ D.handed device.old }
     {
@@ -136,10 +137,12 @@ impl FromDevices {
             × Gives (D.coming device.old) (D.coming device.new) given
             × AllByRecursion IsPacket given
             × (self.new ≡ with_packets iface given self.old) }
+        ensures all { D.has_none device.new ⊎ IsEnough most self.old self.new }
+        ensures few { length self.new.headers ≤ length self.old.headers + 64 }
         ensures handed { D.handed device.new ≡ D.handed device.old }
     {
         let most = most.min(crate::room::MOST_BYTES);
-        for _ in 0..MOST_TAKEN {
+        for _taken in 0..MOST_TAKEN {
             if self.requests.len() + LONGEST_REQUEST > most || self.headers.len() >= MOST_REQUESTS {
                 return;
             }

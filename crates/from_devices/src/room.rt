@@ -83,6 +83,7 @@ impl Room {
             × (self.new ≡ self.old ++ packet_request moment iface given)
             × (length given ≤ 65545)) }
         ensures none { IfNone result ((D.coming device.new ≡ D.coming device.old)
+            × D.has_none device.new
             × (self.new ≡ self.old)) }
         ensures handed { D.handed device.new ≡ D.handed device.old }
     {

@@ -46,10 +46,12 @@ fn keep(alloc: Global, kept: &mut Vec<Vec<u8>>, frame: &[u8]) -> Result<(), Allo
 }
 
 impl Device for Memory {
-    ghost use Rattle.test_carrying.specs.Contents.{bodies_of};
+    ghost use Rattle.test_carrying.specs.Contents.{HasNoFrame, bodies_of};
     ghost use Rattle.std.specs.Prelude.{None, Some, drop, if◌then◌else◌};
 
     ghost coming = { λ d. Some (drop d.gave (bodies_of d.given.items)) };
+
+    ghost has_none = { λ d. HasNoFrame (drop d.gave (bodies_of d.given.items)) };
 
     ghost handed = { λ d. if d.forgot then None else Some (bodies_of d.kept.items) };
 

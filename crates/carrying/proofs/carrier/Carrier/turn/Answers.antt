@@ -28,6 +28,7 @@ returns-in-Err-clause-turned g c =
       rw (← view) (failed g.D.Disk.honest g.D.Disk.moment g.D.Disk.left c.args.gateway.now c.answer.new.gateway old.told turn c.gather-wan_from.new.from c.requests.result.now a.0 a.1 c.answer.new.to
           (g.L.Device.handed c.args.devices.now.lan) (g.L.Device.handed c.gather-wan_from.new.devices.lan) (g.W.Device.handed c.args.devices.now.wan) (g.W.Device.handed c.gather-wan_from.new.devices.wan)
           s fit c.requests.ensures a.2 a.3 c.gather-wan_from.ensures.to_lan c.gather-wan_from.ensures.to_wan),
+      rw (← view) p.5,
     )
 
 pub returns-clause-turned : goal.returns-clause-turned
@@ -55,4 +56,5 @@ returns-clause-turned g c =
       rw (← view, ← lan, ← wan) (carried g.D.Disk.honest g.D.Disk.moment g.D.Disk.left c.args.gateway.now c.answer.new.gateway old.told turn c.gather-wan_from.new.from requests c.answer.new.to c.headers.result.now o.0 o.1
           (g.L.Device.handed c.gather-wan_from.new.devices.lan) (g.L.Device.handed c.let_out.new.lan) (g.W.Device.handed c.gather-wan_from.new.devices.wan) (g.W.Device.handed c.let_out.new.wan)
           s fit c.requests.ensures c.headers.ensures fares answered c.requires.none c.answer.ensures.short o.2 o.4 o.3 o.5 o.6),
+      rw (← view) p.5,
     )
