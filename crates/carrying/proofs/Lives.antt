@@ -8,7 +8,9 @@ use Rattle.machine.specs.declared.event.Answer.{Answer}
 use Rattle.gateway.proofs.Living.{stopped-in}
 use Rattle.socket_edge.specs.Progress.{replies}
 use Rattle.carrying.specs.Carried.{Carries}
-use Rattle.carrying.specs.Lives.{CarryStopsAreLives}
+use Rattle.carrying.specs.Lives.{CarryRunsAreLives, CarryStopsAreLives}
+use Rattle.frames.specs.Answers.{frames}
+use Rattle.socket_edge.proofs.Lives.{runs-are}
 use Rattle.carrying.specs.Runs.{all_events, all_headers}
 use Rattle.carrying.proofs.Stopping.{at-exit}
 
@@ -43,3 +45,7 @@ module _ {D : Type 0} (honest : D → Type 0) (moment : D → ℕ) (left : D →
             (λ files since. (k.since.each files since).2)
             (λ files since. (k.configured.each files since).2);
       }
+
+  pub carried-are : CarryRunsAreLives honest moment left seen
+  carried-are config entry at begun old new events given ended last asks asks' lan lan' wan wan' handed handed' far far' r run =
+      runs-are honest moment left seen earlier config entry at begun old new events given (all_events last (run.turns ++ run.failed)) (frames run.answered ++ run.more) r run.fares

@@ -14,12 +14,13 @@ use Rattle.machine.specs.Laws.{EventsAreJudgedOnce}
 use Rattle.machine.specs.declared.event.Answer.{Answer}
 use Rattle.machine.specs.declared.event.Event.{Event}
 use Rattle.machine.proofs.Judging.{AreJudged-append, AreJudged-length}
+use Rattle.socket_edge.proofs.Answers.{Reached-then, reached-told}
 use Rattle.gateway.specs.Kept.{Kept, IsAtRest, IsSafe}
 use Rattle.gateway.specs.Told.{Told, TookAll}
 use Rattle.gateway.proofs.Runs.{safe-less}
 use Rattle.socket_edge.specs.Progress.{replies}
 use Rattle.socket_edge.specs.Running.{Fares}
-use Rattle.socket_edge.proofs.Answers.{Reached-then, reached-told, replies-append, last_of as last_number}
+use Rattle.socket_edge.proofs.Answers.{replies-append, last_of as last_number}
 use Rattle.socket_edge.proofs.Behind.{all-once}
 use Rattle.socket_edge.proofs.Lasting.{safe-behind, safe-fewer}
 use Rattle.to_devices.proofs.Letting.{Hands-nil, Hands-then}

@@ -1,5 +1,5 @@
 -- A run of turns in the life of a gateway, as `gateway/specs/Lives` and `Living` define it.
-use Rattle.std.specs.Prelude.{◌≡◌, ℕ, List, ◌++◌}
+use Rattle.std.specs.Prelude.{◌≡◌, ℕ, List, ◌++◌, Result}
 use Rattle.disk_model.specs.Disk.{Files}
 use Rattle.packet.specs.Config.{Config}
 use Rattle.devices.specs.Handing.{Frames}
@@ -8,8 +8,12 @@ use Rattle.machine.specs.declared.event.Answer.{Answer}
 use Rattle.machine.specs.declared.event.Event.{Event}
 use Rattle.gateway.specs.Kept.{Kept}
 use Rattle.gateway.specs.Living.{IsLived, RestsInLife}
+use Rattle.frames.specs.Answers.{frames}
+use Rattle.socket_edge.specs.Lives.{EdgeRuns}
 use Rattle.socket_edge.specs.Progress.{Reached}
-use Rattle.carrying.specs.Runs.{ComesBy, all_events}
+use Rattle.socket_edge.specs.declared.fault.EdgeFault.{EdgeFault}
+use Rattle.carrying.specs.Asking.{Asks}
+use Rattle.carrying.specs.Runs.{ComesBy, Ran, all_events}
 use Rattle.carrying.specs.Turns.{Turn}
 
 module _ {D : Type 0} (honest : D → Type 0) (moment : D → ℕ) (left : D → ℕ → Files → Type 0)
@@ -42,3 +46,17 @@ module _ {D : Type 0} (honest : D → Type 0) (moment : D → ℕ) (left : D →
       → (by : ComesBy honest moment left old new last before came lan lan' wan wan')
       → CarryStops config entry opened_at begun old by.now new events given
       (all_events last before) came by.answered
+
+  -- A whole run, over a gateway that rests in its life, is as one of the edge over the events of its turns: a stop in it
+  -- or after it is the end of the life, and unless the gateway has fallen it rests again. Of the answers given out those
+  -- are the first by which the devices were handed packets.
+  abbrev pub CarryRunsAreLives : Type 0
+  CarryRunsAreLives = (config : Config) (entry : D) (opened_at : ℕ) (begun old new : Kept D)
+      (events : List Event) (given : List (ℕ × Answer)) (ended : Result (Unit {0}) EdgeFault)
+      (last : ℕ) (asks asks' : Asks) (lan lan' wan wan' : Frames)
+      (lan_handed lan_handed' wan_handed wan_handed' : Frames)
+      → RestsInLife honest moment left seen config entry opened_at begun events given old
+      → (run : Ran honest moment left old new ended last asks asks' lan lan' wan wan'
+      lan_handed lan_handed' wan_handed wan_handed')
+      → EdgeRuns honest moment left seen config entry opened_at begun old new events given
+      (all_events last (run.turns ++ run.failed)) (frames run.answered ++ run.more)

@@ -1,14 +1,11 @@
 -- A gateway was opened, and its file made anew behind that: the generation, and what a crash leaves.
-use Rattle.std.proofs.Common.{◌≡◌, ◌≤◌, ◌∙◌, ℕ, ap, refl, subst, sym}
+use Rattle.std.proofs.Common.{◌≡◌, ◌≤◌, ◌∙◌, ℕ, ap, subst, sym}
 use Rattle.disk_model.specs.Disk.{Files, Leaves, LeavesNow, LeavesOnly, Same}
 use Rattle.disk_model.proofs.Moments.{at_end, follows, only_now, only_then}
 use Rattle.disk_model.specs.declared.disk.FileId.{FileId}
 use Rattle.durable.specs.Coding.{Heading}
 use Rattle.durable.specs.Entering.{Durable}
-use Rattle.durable.specs.Versions.{latest}
-use Rattle.durable.specs.declared.version.Version.{Version}
-use Rattle.durable.specs.declared.version.Version.TheVariants.{First, Second}
-use Rattle.durable.specs.Recovery.{Alike, IsActive, IsConfigured, IsCurrent, NoneOpen, Recovers}
+use Rattle.durable.specs.Recovery.{Alike, IsActive, IsConfigured, NoneOpen, Recovers}
 use Rattle.durable.proofs.Headed.{headed_open, recovers_once}
 use Rattle.packet.specs.Config.{Config}
 use Rattle.machine.specs.Machine.{State}
@@ -18,14 +15,6 @@ use Rattle.snapshot.proofs.States.{active_same, none_open}
 
 pub is_open : (files : Files) (file : FileId) (h : Heading) (d : Durable) (end : ℕ) → IsActive files file h d end → ¬ NoneOpen files
 is_open files file h d end active none = none_open files file none (headed_open (files file) h active.0.headed)
-
-latest_unless : (v : Version) → ¬ ¬ (v ≡ latest) → v ≡ latest
-latest_unless First h = absurd (h (λ is. absurd cc))
-latest_unless Second h = refl
-
--- files that aren't of a former version are of the one that is written
-pub current_unless : (files : Files) → ¬ ¬ IsCurrent files → IsCurrent files
-current_unless files h file heading d end active = latest_unless heading.version (λ other. h (λ current. other (current file heading d end active)))
 
 pub same_generation :
     (old new : Files) (file : FileId) (h : Heading) (d : Durable) (end generation grown place : ℕ)

@@ -14,12 +14,11 @@ use Rattle.gateway.specs.declared.fault.GatewayFault.TheVariants as gateway_faul
 use Rattle.commands.specs.declared.opening.AnewFault.{AnewFault}
 use Rattle.commands.specs.declared.opening.AnewFault.TheVariants.{Opening, Making}
 
--- A file is open, and the active one is of the version that is written, and has the greatest generation.
+-- The active file, if it is of the version that is written, has the greatest generation; and a file is open.
 pub record IsLastCurrent (files : Files) : Type 0 where
   pub is_open : ¬ NoneOpen files
-  pub current : IsCurrent files
   pub last : (file : FileId) (h : Heading) (d : Durable) (end : ℕ) → IsActive files file h d end
-      → h.generation ≡ 2 ^ 64 - 1
+      → IsCurrent files → h.generation ≡ 2 ^ 64 - 1
 
 module _ {D : Type 0} (honest : D → Type 0) (moment : D → ℕ) (left : D → ℕ → Files → Type 0)
     (seen : D → Files) (failed : D → ℕ) (config : Config) (old new : D) where

@@ -1,14 +1,14 @@
 use Rattle.std.proofs.Common.{◌≡◌, ◌∙◌, ◌+◌, Err, ap, arith, false, inl, inr, rules, ℕ, subst, sym}
 use Rattle.std.proofs.lemmas.Bool.{false≢true}
 use Rattle.disk_model.specs.Disk.{Grew, Leaves, LeavesOnly}
-use Rattle.durable.specs.Recovery.{Alike, IsConfigured, IsCurrent}
+use Rattle.durable.specs.Recovery.{Alike, IsConfigured}
 use Rattle.machine.specs.Machine.{State}
 use Rattle.machine.specs.Noted.{IsResumed}
 use Rattle.gateway.specs.Told.{Told}
 use Rattle.gateway.specs.declared.fault.GatewayFault.TheVariants as fault
 use Rattle.gateway.specs.Kept.{Kept}
 use Rattle.gateway.proofs.Runs.{fault-is, stands-still, true-false}
-use Rattle.commands.proofs.Anew.{alike_since, configured_since, current_unless, is_open, made_now, remade, same_generation}
+use Rattle.commands.proofs.Anew.{alike_since, configured_since, is_open, made_now, remade, same_generation}
 use Rattle.commands.proofs.opening.open_over.Goals as goal
 
 pub returns-in-Ok-made-clause-anew : goal.returns-in-Ok-made-clause-anew
@@ -106,8 +106,6 @@ returns-in-Err-made-clause-cause g c =
     let found = c.in-Ok.gateway in
     let failed = g.D.Disk.failed in
     let same = c.into_disk.ensures in
-    let is_not : found.migrated ≡ false = search rules in
-    let current : g.D.Disk.honest c.args.disk → IsCurrent old = λ honest. current_unless old (λ former. absurd (false≢true (sym is_not ∙ (o.was honest).1 former))) in
     record {
       causes = elim m.causes [
         | inl reopen ↦ absurd (true-false found.fallen ((fault-is c.in-Err-made.fault fault.Reopen m.reopen).0 reopen) o.stands)
@@ -116,9 +114,8 @@ returns-in-Err-made-clause-cause g c =
       opens = λ honest. (((o.ok honest).0, (o.ok honest).1), o.had_config honest);
       generations = λ honest is. record {
         is_open = λ none. absurd (omega (arith, o.generation honest none, m.generations (ap Err is)));
-        current = current honest;
-        last = λ file h d end active.
-            let looks = o.only_looks honest (is_open old file h d end active) (current honest) in
+        last = λ file h d end active current.
+            let looks = o.only_looks honest (is_open old file h d end active) current in
             let stands = c.has_fallen-stands.ensures.value ∙ o.stands in
             let groups = c.has_fallen-stands.ensures.groups stands (o.honest.0 honest) in
             sym (same_generation old (g.D.Disk.seen found.disk) file h d end found.generation found.grown groups.0 looks.stays active groups.1) ∙ m.generations (ap Err is);
