@@ -47,9 +47,9 @@ module _ {D : Type 0} (honest : D → Type 0) (moment : D → ℕ) (left : D →
       → CarryStops config entry opened_at begun old by.now new events given
       (all_events last before) came by.answered
 
-  -- A whole run, over a gateway that rests in its life, is as one of the edge over the events of its turns: a stop in it
-  -- or after it is the end of the life, and unless the gateway has fallen it rests again. Of the answers given out those
-  -- are the first by which the devices were handed packets.
+  -- A whole run, over a gateway that rests in its life, is as one of the edge over the events of its turns: a stop in
+  -- it or after it is the end of the life, and unless the gateway has fallen it rests again. Of the answers given out
+  -- those are the first by which the devices were handed packets.
   abbrev pub CarryRunsAreLives : Type 0
   CarryRunsAreLives = (config : Config) (entry : D) (opened_at : ℕ) (begun old new : Kept D)
       (events : List Event) (given : List (ℕ × Answer)) (ended : Result (Unit {0}) EdgeFault)
