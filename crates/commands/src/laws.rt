@@ -1,5 +1,5 @@
-//! What follows from the definitions of `specs/Lives` and `specs/Visits`: an opening that makes its file anew, and clients
-//! that are served one after the other, are part of the life of a gateway, as `gateway::laws` speaks of lives.
+//! What follows from the definitions of `specs/Lives` and `specs/Visits`: an opening that makes its file anew, and
+//! clients that are served one after the other, are part of the life of a gateway, as `gateway::laws` speaks of lives.
 ghost use Rattle.std.specs.Prelude.{◌≡◌, [], List, IfErr, IfOk, MatchResult};
 ghost use Rattle.disk_model.specs.Disk.{LeavesNow};
 ghost use Rattle.durable.specs.Entering.{Durable};
