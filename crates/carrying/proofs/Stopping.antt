@@ -14,6 +14,7 @@ use Rattle.machine.specs.Laws.{EventsAreJudgedOnce}
 use Rattle.machine.specs.declared.event.Answer.{Answer}
 use Rattle.machine.specs.declared.event.Event.{Event}
 use Rattle.machine.proofs.Judging.{AreJudged-append, AreJudged-length}
+use Rattle.socket_edge.proofs.Answers.{Reached-then, reached-told}
 use Rattle.gateway.specs.Kept.{Kept, IsAtRest, IsSafe}
 use Rattle.gateway.specs.Told.{Told, TookAll}
 use Rattle.gateway.proofs.Runs.{safe-less}
@@ -75,7 +76,7 @@ module _ {D : Type 0} (honest : D → Type 0) (moment : D → ℕ) (left : D →
 
   module _ (a b : Kept D) (es : List Event) (hs : List (List ℕ)) (l l' w w' : Frames) (k : Carries honest moment left a b es hs l l' w w') where
     -- a crash at the exit loses none of them
-    at-exit : EventsAreJudgedOnce → IsAtRest honest a → LeavesNow moment left b.disk (IsSafe a.told.config a.told.state es (length k.answered))
+    pub at-exit : EventsAreJudgedOnce → IsAtRest honest a → LeavesNow moment left b.disk (IsSafe a.told.config a.told.state es (length k.answered))
     at-exit once ready =
         let o = k.fares.outlives ready in
         let t = k.took in
@@ -106,6 +107,7 @@ module _ {D : Type 0} (honest : D → Type 0) (moment : D → ℕ) (left : D →
         split = sym (append-nil es);
         judged = k.took.judged;
         are_judged = k.took.are_judged;
+        reached = reached-told a.told b.told es k.answered k.took;
         first = (p.first.0, p.first.1 ∙ answered_are a.told b.told es k.answered k.took ready.none k.none);
         since = p.since ready;
         configured = p.configured ready;
@@ -190,6 +192,7 @@ module _ {D : Type 0} (honest : D → Type 0) (moment : D → ℕ) (left : D →
                 split = ap (λ (xs : List Event). es ++ xs) o.split ∙ sym (append_assoc es o.front o.back);
                 judged = js ++ o.judged;
                 are_judged = AreJudged-append a.told.config es o.front js o.judged k.took.are_judged (subst (λ (i : Config). AreJudged i o.front o.judged) k.took.config o.are_judged);
+                reached = Reached-then a.told b.told c.told js o.judged (reached-told a.told b.told es k.answered k.took) o.reached;
                 first = (
                   p.first.0 ++ then,
                   sym (append_assoc p.answered p.first.0 then) ∙ ap (λ (xs : List (ℕ × Answer)). xs ++ then) (p.first.1 ∙ are)

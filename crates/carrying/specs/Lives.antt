@@ -1,26 +1,38 @@
 -- A run of turns in the life of a gateway, as `gateway/specs/Lives` and `Living` define it.
-use Rattle.std.specs.Prelude.{◌≡◌, ℕ, List, ◌++◌}
+use Rattle.std.specs.Prelude.{◌≡◌, ℕ, List, ◌++◌, Result}
 use Rattle.disk_model.specs.Disk.{Files}
 use Rattle.packet.specs.Config.{Config}
 use Rattle.devices.specs.Handing.{Frames}
+use Rattle.machine.specs.Judged.{AreJudged, Judged}
 use Rattle.machine.specs.declared.event.Answer.{Answer}
 use Rattle.machine.specs.declared.event.Event.{Event}
 use Rattle.gateway.specs.Kept.{Kept}
 use Rattle.gateway.specs.Living.{IsLived, RestsInLife}
-use Rattle.carrying.specs.Runs.{ComesBy}
+use Rattle.frames.specs.Answers.{frames}
+use Rattle.socket_edge.specs.Lives.{EdgeRuns}
+use Rattle.socket_edge.specs.Progress.{Reached}
+use Rattle.socket_edge.specs.declared.fault.EdgeFault.{EdgeFault}
+use Rattle.carrying.specs.Asking.{Asks}
+use Rattle.carrying.specs.Runs.{ComesBy, Ran, all_events}
 use Rattle.carrying.specs.Turns.{Turn}
 
 module _ {D : Type 0} (honest : D → Type 0) (moment : D → ℕ) (left : D → ℕ → Files → Type 0)
     (seen : D → Files) where
-  -- The gateway's life had come to `events` and `given`, and the run took it from its entry by `now` to `new`: the
-  -- first of its events were taken. A stop since then, within the run, is the end of a life, in which these answers
-  -- count as given out.
-  pub record CarryStops (config : Config) (entry : D) (opened_at : ℕ) (begun now new : Kept D)
-      (events : List Event) (given : List (ℕ × Answer)) (came : List Event)
+  -- The gateway's life had come to `events` and `given`, and the run took it from `old` by `now` to `new`: by then it
+  -- had taken just the events so far, and all these answers count as given out.
+  pub record CarryStops (config : Config) (entry : D) (opened_at : ℕ) (begun old now new : Kept D)
+      (events : List Event) (given : List (ℕ × Answer)) (so_far came : List Event)
       (answered : List (ℕ × Answer)) : Type 0 where
+    -- A stop just then is the end of a life, which knows of no event that came later.
+    pub until : IsLived honest moment left seen config entry opened_at begun (events ++ so_far)
+        (given ++ answered) now.disk now.disk
+    -- So is a stop since then, within the run, which takes just these, the first of its events.
     pub front : List Event
     pub back : List Event
     pub split : came ≡ front ++ back
+    pub judged : List Judged
+    pub are_judged : AreJudged old.told.config front judged
+    pub reached : Reached old.told new.told judged
     pub since : IsLived honest moment left seen config entry opened_at begun (events ++ front)
         (given ++ answered) now.disk new.disk
 
@@ -32,4 +44,19 @@ module _ {D : Type 0} (honest : D → Type 0) (moment : D → ℕ) (left : D →
       (came : List Event) (lan lan' wan wan' : Frames)
       → RestsInLife honest moment left seen config entry opened_at begun events given old
       → (by : ComesBy honest moment left old new last before came lan lan' wan wan')
-      → CarryStops config entry opened_at begun by.now new events given came by.answered
+      → CarryStops config entry opened_at begun old by.now new events given
+      (all_events last before) came by.answered
+
+  -- A whole run, over a gateway that rests in its life, is as one of the edge over the events of its turns: a stop in
+  -- it or after it is the end of the life, and unless the gateway has fallen it rests again. Of the answers given out
+  -- those are the first by which the devices were handed packets.
+  abbrev pub CarryRunsAreLives : Type 0
+  CarryRunsAreLives = (config : Config) (entry : D) (opened_at : ℕ) (begun old new : Kept D)
+      (events : List Event) (given : List (ℕ × Answer)) (ended : Result (Unit {0}) EdgeFault)
+      (last : ℕ) (asks asks' : Asks) (lan lan' wan wan' : Frames)
+      (lan_handed lan_handed' wan_handed wan_handed' : Frames)
+      → RestsInLife honest moment left seen config entry opened_at begun events given old
+      → (run : Ran honest moment left old new ended last asks asks' lan lan' wan wan'
+      lan_handed lan_handed' wan_handed wan_handed')
+      → EdgeRuns honest moment left seen config entry opened_at begun old new events given
+      (all_events last (run.turns ++ run.failed)) (frames run.answered ++ run.more)

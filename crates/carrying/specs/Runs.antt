@@ -13,7 +13,7 @@ use Rattle.machine.specs.Machine.{later}
 use Rattle.machine.specs.declared.event.Answer.{Answer}
 use Rattle.machine.specs.declared.event.Event.{Event}
 use Rattle.socket_edge.specs.declared.fault.EdgeFault.{EdgeFault}
-use Rattle.socket_edge.specs.Progress.{replies}
+use Rattle.socket_edge.specs.Progress.{Reached, replies}
 use Rattle.socket_edge.specs.Running.{Fares}
 use Rattle.carrying.specs.Asking.{Asked, Asks, AsksFor, IsOver}
 use Rattle.carrying.specs.Carried.{handed_to}
@@ -73,6 +73,7 @@ module _ {D : Type 0} (honest : D → Type 0) (moment : D → ℕ) (left : D →
     pub split : events ≡ front ++ back
     pub judged : List Judged
     pub are_judged : AreJudged old.told.config front judged
+    pub reached : Reached old.told new.told judged
     pub first : (more : List (ℕ × Answer)) × (answered ++ more ≡ replies old.told judged)
     pub since : LeavesOnly moment left now.disk new.disk
         (IsSafe old.told.config old.told.state front (length answered))

@@ -13,7 +13,7 @@ use Rattle.socket_edge.specs.Running.{events_in}
 use Rattle.socket_edge.specs.Turns.{Turn, given, taken}
 use Rattle.socket_edge.specs.declared.fault.EdgeFault.{EdgeFault}
 use Rattle.socket_edge.proofs.Lives.{runs-are, stops-are}
-use Rattle.commands.specs.Lives.{VisitIsLife, VisitsAreLives}
+use Rattle.commands.specs.Lives.{TookInVisits, VisitIsLife, VisitsAreLives}
 use Rattle.commands.specs.Visits.{Idles, Visit, Visits}
 
 none-before : (front back : List Event) → [] ≡ front ++ back → front ≡ []
@@ -55,23 +55,29 @@ module _ {C D : Type 0} (honest : D → Type 0) (moment : D → ℕ) (by_crash :
             (v.meets.each_turn done rest split);
       }
 
+  -- what is known behind so many visits
+  abbrev Behind : (n : ℕ) (old new : Kept D) (events : List Event) (answered : List (ℕ × Answer)) (a b : C) → Visits honest moment by_crash failed came went ended left n a b old new → Type 0
+  Behind n old new events answered a b vs =
+      (more : List Event) × (out : List (ℕ × Answer)) × TookInVisits honest moment by_crash seen failed came went ended left n a b old new vs more
+      × RestsInLife honest moment by_crash seen config entry at begun (events ++ more) (answered ++ out) new
+
   rests : (n : ℕ) (old new : Kept D) (events : List Event) (answered : List (ℕ × Answer)) (a b : C) → RestsInLife honest moment by_crash seen config entry at begun events answered old
-      → Visits honest moment by_crash failed came went ended left n a b old new
-      → (more : List Event) × (out : List (ℕ × Answer)) × RestsInLife honest moment by_crash seen config entry at begun (events ++ more) (answered ++ out) new
+      → (vs : Visits honest moment by_crash failed came went ended left n a b old new) → Behind n old new events answered a b vs
   rests zero old new events answered a b r vs =
       let still = subst (λ (k : Kept D). RestsInLife honest moment by_crash seen config entry at begun events answered k) (sym vs.1) r in
       let more = subst (λ (es : List Event). RestsInLife honest moment by_crash seen config entry at begun es answered new) (sym (append-nil events)) still in
-      ([], [], subst (λ (l : List (ℕ × Answer)). RestsInLife honest moment by_crash seen config entry at begun (events ++ []) l new) (sym (append-nil answered)) more)
+      ([], [], refl, subst (λ (l : List (ℕ × Answer)). RestsInLife honest moment by_crash seen config entry at begun (events ++ []) l new) (sym (append-nil answered)) more)
   rests (suc n) old new events answered a b r vs =
       let first = rests n old vs.1 events answered a vs.0 r vs.3 in
       let es = events ++ first.0 in
       let out = answered ++ first.1 in
-      let serves = (each vs.1 new es out vs.2 vs.0 b first.2 vs.4).serves in
+      let serves = (each vs.1 new es out vs.2 vs.0 b first.3 vs.4).serves in
       let front = serves.front in
       let told = replies vs.4.start.told serves.judged in
       let there = subst (λ (xs : List Event). RestsInLife honest moment by_crash seen config entry at begun xs (out ++ told) new) (append_assoc events first.0 front) (serves.rests vs.5.1) in (
         first.0 ++ front,
         first.1 ++ told,
+        (first.0, front, serves.back, refl, first.2, serves.split),
         subst (λ (l : List (ℕ × Answer)). RestsInLife honest moment by_crash seen config entry at begun (events ++ (first.0 ++ front)) l new) (append_assoc answered first.1 told) there,
       )
 

@@ -1,5 +1,5 @@
 -- One client after the other.
-use Rattle.std.proofs.Common.{◌≡◌, ◌↔◌, ◌⊎◌, inl, inr, Result, Ok, Err, IfErr, OnOk, ℕ, zero, suc, ◌+◌, ◌-◌, ◌^◌, ◌<◌, ◌≤◌, List, [], false, true, refl, sym, subst, ap, ◌∙◌, arith}
+use Rattle.std.proofs.Common.{◌≡◌, ◌≢◌, ◌↔◌, ◌⊎◌, inl, inr, Result, Ok, Err, IfErr, OnOk, ℕ, zero, suc, ◌+◌, ◌-◌, ◌^◌, ◌<◌, ◌≤◌, List, [], false, true, refl, sym, subst, ap, ◌∙◌, arith}
 use Rattle.std.specs.Bool.{⊤}
 use Rattle.disk_model.specs.Disk.{Files, Grew, LeavesOnly}
 use Rattle.durable.specs.Recovery.{IsConfigured, Recovers}
@@ -34,8 +34,10 @@ module _ {D : Type 0} (honest : D → Type 0) (moment : D → ℕ) (by_crash : D
 
   pub fallen-meets-none : old.fallen ≡ true → MeetsNone honest moment by_crash failed fault.Reopen old old
   fallen-meets-none down = record {
+    faults = inl refl;
     reopen = ((λ is. down), (λ is. refl));
-    stays = λ is. refl;
+    stays = λ other. refl;
+    grown = λ stands. absurd (true-false old.fallen down stands);
     why = λ stands. absurd (true-false old.fallen down stands);
   }
 
@@ -58,11 +60,19 @@ module _ {D : Type 0} (honest : D → Type 0) (moment : D → ℕ) (by_crash : D
 
     pub compacted-meets-none : (why : GatewayFault) → (why ≡ fault.Reopen) ↔ (old.fallen ≡ true) → (why ≡ fault.Device) ↔ ((old.fallen ≡ false) × (new.fallen ≡ true))
         → (why ≡ fault.Reopen) ⊎ (why ≡ fault.NoMemory) ⊎ (why ≡ fault.Device) ⊎ (why ≡ fault.Generations) → (why ≡ fault.Device → Grew (failed old.disk) (failed new.disk))
-        → failed new.disk ≤ failed old.disk + 1 → (why ≡ fault.Generations → new.generation ≡ 2 ^ 64 - 1) → MeetsNone honest moment by_crash failed why old new
-    compacted-meets-none why reopen fell causes grew by_one generations = record {
+        → failed new.disk ≤ failed old.disk + 1 → (why ≡ fault.Generations → old.generation ≡ 2 ^ 64 - 1) → (why ≢ fault.Device → new ≡ old) → why ≢ fault.NoMemory → 1048576 < old.grown
+        → MeetsNone honest moment by_crash failed why old new
+    compacted-meets-none why reopen fell causes grew by_one last stays room grown = record {
+      faults = elim causes [
+        | inl is ↦ inl is
+        | inr (inl is) ↦ absurd (room is)
+        | inr (inr is) ↦ inr is
+      ];
       reopen = reopen;
-      stays = λ down. absurd (true-false old.fallen down s.stands);
-      why = λ stands. compact-why honest moment by_crash seen failed reads earlier old old [] [] s new why reopen fell causes grew by_one generations;
+      stays = stays;
+      grown = λ stands. grown;
+      why = λ stands. compact-why honest moment by_crash seen failed reads earlier old old [] [] s new why reopen fell causes grew by_one
+          (λ is. ap (λ (k : Kept D). k.generation) (stays (λ device. let bad : fault.Generations ≡ fault.Device = sym is ∙ device in absurd cc)) ∙ last is);
     }
 
 -- ---- one client, and several

@@ -1,17 +1,38 @@
--- Clients that are served one after the other, in the life of a gateway, as `gateway/specs/Lives` and `Living` define
--- it.
-use Rattle.std.specs.Prelude.{◌≡◌, ℕ, List, ◌++◌, Result}
+-- What an opening tells behind earlier lives, and clients that are served one after the other in the life of a gateway,
+-- as `gateway/specs/Lives` and `Living` define it.
+use Rattle.std.specs.Prelude.{◌≡◌, ◌≢◌, ℕ, zero, suc, List, [], ◌++◌, Result}
 use Rattle.packet.specs.Config.{Config}
 use Rattle.disk_model.specs.Disk.{Files}
+use Rattle.durable.specs.Entering.{Durable}
 use Rattle.machine.specs.declared.event.Answer.{Answer}
 use Rattle.machine.specs.declared.event.Event.{Event}
 use Rattle.gateway.specs.Kept.{Kept}
+use Rattle.gateway.specs.Lives.{Life, LivesLeave}
 use Rattle.gateway.specs.Living.{IsLived, RestsInLife}
+use Rattle.gateway.specs.declared.fault.GatewayFault.TheVariants as gateway_fault
+use Rattle.snapshot.specs.Store.{IsLastFormer}
+use Rattle.snapshot.specs.declared.fault.OpenFault.TheVariants as open_fault
 use Rattle.socket_edge.specs.Lives.{EdgeRuns, EdgeStops}
 use Rattle.socket_edge.specs.Running.{events_in}
 use Rattle.socket_edge.specs.Turns.{Turn, given, taken}
 use Rattle.socket_edge.specs.declared.fault.EdgeFault.{EdgeFault}
+use Rattle.commands.specs.Causes.{IsLastCurrent}
 use Rattle.commands.specs.Visits.{Idles, Visit, Visits}
+use Rattle.commands.specs.declared.opening.AnewFault.{AnewFault}
+use Rattle.commands.specs.declared.opening.AnewFault.TheVariants.{Making, Opening}
+
+module _ {D : Type 0} (honest : D → Type 0) (moment : D → ℕ) (by_crash : D → ℕ → Files → Type 0)
+    (seen : D → Files) (config : Config) where
+  -- What an opening may tell behind these lives, of files that they may have left: neither damage nor another
+  -- configuration; and that the generations are used up only if they may have left such files.
+  abbrev pub TellsBehind : Durable → List (Life D) → AnewFault → Type 0
+  TellsBehind first earlier (Opening fault) =
+      (fault ≢ open_fault.Damaged) × (fault ≢ open_fault.ConfigDiffers)
+      × (fault ≡ open_fault.Generations → (files : Files)
+      × LivesLeave honest moment by_crash seen config first earlier files
+      × IsLastFormer config files)
+  TellsBehind first earlier (Making fault) = fault ≡ gateway_fault.Generations → (files : Files)
+      × LivesLeave honest moment by_crash seen config first earlier files × IsLastCurrent files
 
 module _ {C D : Type 0} (honest : D → Type 0) (moment : D → ℕ) (by_crash : D → ℕ → Files → Type 0)
     (seen : D → Files) (failed : D → ℕ) (came : C → C → Type 0)
@@ -30,8 +51,18 @@ module _ {C D : Type 0} (honest : D → Type 0) (moment : D → ℕ) (by_crash :
     -- Each answer counts as given out that the client had taken by the last turn before the stop.
     pub stops : (done rest : List Turn) → (split : visit.meets.turns ≡ done ++ rest)
         → EdgeStops honest moment by_crash seen config entry opened_at begun visit.start
-        (visit.meets.each_turn done rest split).now new events answered
+        (visit.meets.each_turn done rest split).now new events answered (events_in (given done))
         (events_in (given visit.meets.turns)) (taken done)
+
+  -- These events were taken in so many visits: of each client the first of those that it gave, one client behind the
+  -- other.
+  abbrev pub TookInVisits : (n : ℕ) (a b : C) (old new : Kept D)
+      → Visits honest moment by_crash failed came went ended left n a b old new → List Event → Type 0
+  TookInVisits zero a b old new visits taken_events = taken_events ≡ []
+  TookInVisits (suc n) a b old new visits taken_events = (earlier front back : List Event)
+      × (taken_events ≡ earlier ++ front)
+      × TookInVisits n a visits.0 old visits.1 visits.3 earlier
+      × (events_in (given visits.4.meets.turns) ≡ front ++ back)
 
   -- Of a gateway that rests in its life:
   pub record VisitsAreLives : Type 0 where
@@ -48,11 +79,12 @@ module _ {C D : Type 0} (honest : D → Type 0) (moment : D → ℕ) (by_crash :
         → RestsInLife honest moment by_crash seen config entry opened_at begun events answered old
         → (visit : Visit honest moment by_crash failed came went ended left end a b old new)
         → VisitIsLife config entry opened_at begun events answered end a b old new visit
-    -- After so many visits it rests in the same life, and the next one may follow.
+    -- After so many visits it rests in the same life, in which it has taken these events too, and the next one may
+    -- follow.
     pub rests : (config : Config) (entry : D) (opened_at : ℕ) (begun old new : Kept D)
         (events : List Event) (answered : List (ℕ × Answer)) (n : ℕ) (a b : C)
         → RestsInLife honest moment by_crash seen config entry opened_at begun events answered old
-        → Visits honest moment by_crash failed came went ended left n a b old new
-        → (more : List Event) × (out : List (ℕ × Answer))
+        → (visits : Visits honest moment by_crash failed came went ended left n a b old new)
+        → (more : List Event) × (out : List (ℕ × Answer)) × TookInVisits n a b old new visits more
         × RestsInLife honest moment by_crash seen config entry opened_at begun (events ++ more)
         (answered ++ out) new

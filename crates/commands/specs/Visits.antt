@@ -1,5 +1,5 @@
 -- Clients that are served one after the other.
-use Rattle.std.specs.Prelude.{◌≡◌, ◌<◌, ◌⊎◌, ◌↔◌, ⊤, ℕ, zero, suc, List, [], Result, Ok, Err, IfErr, true, false}
+use Rattle.std.specs.Prelude.{◌≡◌, ◌≢◌, ◌<◌, ◌⊎◌, ◌↔◌, ⊤, ℕ, zero, suc, List, [], Result, Ok, Err, IfErr, true, false}
 use Rattle.disk_model.specs.Disk.{Files}
 use Rattle.gateway.specs.Kept.{Kept}
 use Rattle.gateway.specs.Running.{IsWhy}
@@ -33,10 +33,15 @@ module _ {D : Type 0} (honest : D → Type 0) (moment : D → ℕ) (by_crash : D
 
 module _ {D : Type 0} (honest : D → Type 0) (moment : D → ℕ) (by_crash : D → ℕ → Files → Type 0)
     (failed : D → ℕ) where
-  -- Why a gateway lets no client come: it had fallen before, and nothing has changed; or it couldn't be compacted.
+  -- Why a gateway lets no client come: it had fallen before (Reopen); or its file has grown above 1,048,576 bytes, and
+  -- can't be made anew, since a call of the disk failed (Device), or its generation is the last one (Generations). With
+  -- any fault but Device nothing has changed. Memory that is refused is no reason, nor is a number of answers.
   pub record MeetsNone (fault : GatewayFault) (old new : Kept D) : Type 0 where
+    pub faults : (fault ≡ gateway_fault.Reopen) ⊎ (fault ≡ gateway_fault.Device)
+        ⊎ (fault ≡ gateway_fault.Generations)
     pub reopen : (fault ≡ gateway_fault.Reopen) ↔ (old.fallen ≡ true)
-    pub stays : old.fallen ≡ true → new ≡ old
+    pub stays : fault ≢ gateway_fault.Device → new ≡ old
+    pub grown : old.fallen ≡ false → 1048576 < old.grown
     pub why : old.fallen ≡ false → IsWhy honest moment by_crash failed old new fault
 
   -- After a stream that ended well the gateway stands; a fault that ended it has its cause.

@@ -1,13 +1,13 @@
 -- A session lives its time, and no longer.
-use Rattle.std.proofs.Common.{◌≡◌, ℕ, ◌+◌, ◌<◌, ◌≤◌, Bool, true, false, List, [], ◌∷◌, if◌then◌else◌, refl, sym, ap, ◌∙◌, subst, inl, inr, arith}
+use Rattle.std.proofs.Common.{◌≡◌, ℕ, ◌+◌, ◌<◌, ◌≤◌, Bool, true, false, List, [], ◌∷◌, bit_or, if◌then◌else◌, refl, sym, ap, ◌∙◌, subst, inl, inr, arith}
 use Rattle.std.proofs.lemmas.Bool.{lt-ltb, ltb-true}
 use Rattle.packet.specs.Config.{Config, is_config}
 use Rattle.packet.specs.declared.endpoint.Flags.{Flags}
 use Rattle.packet.specs.declared.endpoint.Proto.{Proto}
 use Rattle.packet.specs.declared.endpoint.Proto.TheVariants.{Tcp, Udp}
-use Rattle.sessions.specs.Life.{alive, is_acknowledged, is_closing, timeout_by, timeout_in, timeout_of}
+use Rattle.sessions.specs.Life.{alive, is_acknowledged, is_closing, phase_of, shown, timeout_by, timeout_in, timeout_of}
 use Rattle.sessions.specs.Listing.{In}
-use Rattle.sessions.specs.Table.{HasInside}
+use Rattle.sessions.specs.Table.{HasInside, seen}
 use Rattle.sessions.specs.declared.life.Phase.TheVariants.{Closing, Established, Partial}
 use Rattle.sessions.specs.declared.session.Opener.{Opener}
 use Rattle.sessions.specs.declared.session.Session.{Session}
@@ -15,9 +15,10 @@ use Rattle.sessions.proofs.Puts.{keys-from}
 use Rattle.sessions.proofs.Sets.{In-filter, filter-In}
 use Rattle.machine.specs.Judged.{AreJudged, Judged}
 use Rattle.machine.specs.Machine.{State, after, later, step}
-use Rattle.machine.specs.Requirements.{Began, GoesOn, MayAlwaysBeIdle, MayBeIdle, SessionsLiveTheirTime, WentOn}
+use Rattle.machine.specs.Requirements.{Began, GoesOn, GoesOnEstablished, MayAlwaysBeIdle, MayBeIdle, SessionsLiveTheirTime, StaysOpen, WentOn}
 use Rattle.machine.specs.Sound.{IsSoundState}
 use Rattle.machine.specs.declared.event.Event.{Event}
+use Rattle.machine.proofs.Enduring.{established-on, never-restarts, stays-open}
 use Rattle.machine.proofs.Lasting.{step-clock}
 use Rattle.machine.proofs.Lived.{living-stay}
 use Rattle.machine.proofs.Passing.{one-of-flow}
@@ -127,6 +128,52 @@ module _ (config : Config) (is_one : is_config config ≡ true) where
       goes-further (after config (step config s j).0 more) t on.session on.flow on.outside on.last
       (run-goes-on (step config s j).0 events more on.session seconds are.1 sound' on.is_held (subst (λ p. MayAlwaysBeIdle p seconds) (sym on.flow.0) least) (omega (arith, on.last, before)))
 
+  -- what goes on from a later state of it goes on from this one
+  further-established : (s : State) (t u : Session) → HasInside t.proto t.inside t.remote u → u.outside ≡ t.outside → t.last ≤ u.last → u.opener ≡ t.opener → GoesOnEstablished s u → GoesOnEstablished s t
+  further-established s t u flow outside le opener on =
+      let k = on.goes_on in
+      record {
+        goes_on = record {
+          session = k.session;
+          is_held = k.is_held;
+          flow = (k.flow.0 ∙ flow.0, k.flow.1 ∙ flow.1, k.flow.2 ∙ flow.2);
+          outside = k.outside ∙ outside;
+          last = omega (arith, le, k.last);
+        };
+        phase = on.phase;
+        opener = on.opener ∙ opener;
+      }
+
+  run-established : (s : State) (events : List Event) (judged : List Judged) (t : Session) → AreJudged config events judged → IsSoundState config s → In t s.sessions → t.proto ≡ Tcp → phase_of t.seen ≡ Established
+      → StaysOpen config s judged t → (after config s judged).clock < t.last + 7440 → GoesOnEstablished (after config s judged) t
+  run-established s [] [] t are sound is tcp phase left_open before =
+      record { goes_on = record { session = t; is_held = is; flow = (refl, refl, refl); outside = refl; last = omega arith }; phase = phase; opener = refl }
+  run-established s [] (j ∷ more) t are sound is tcp phase left_open before = absurd are
+  run-established s (event ∷ events) [] t are sound is tcp phase left_open before = absurd are
+  run-established s (event ∷ events) (j ∷ more) t are sound is tcp phase left_open before =
+      let sound' = step-sound config is_one s j are.0.right sound in
+      let next = (step config s j).0 in
+      let now = later s.clock j.moment in
+      let until = run-clock next events more are.1 sound' in
+      let now_before : now < t.last + 7440 = omega (arith, step-clock config is_one s j sound, until, before) in
+      let time = idle-time t 7440 (inr (inr (inl (tcp, phase, refl)))) in
+      let lives = alive-within now t 7440 (omega arith) (omega (arith, time)) now_before in
+      let le : t.last ≤ now = omega (arith, sound.latest t is, later-above s.clock j.moment) in
+      elim (living-stay config s j t sound (filter-In (alive now) s.sessions t is lives)) [
+        | inl held ↦ run-established next events more t are.1 sound' held tcp phase left_open.1 before
+        | inr p ↦ elim p.went_on [
+          | inl on ↦
+              let left = left_open.0 p.iface p.bytes p.view p.way p.sender p.came p.is_of in
+              let bits = shown t.proto t.opener p.sender p.view.flags in
+              let u = seen t bits now in
+              let phase' : phase_of u.seen ≡ Established = subst (λ (proto : Proto). phase_of (bit_or t.seen (shown proto t.opener p.sender p.view.flags)) ≡ Established) (sym tcp)
+              (established-on t.seen t.opener p.sender p.view.flags phase left.0 left.1) in
+              further-established (after config next more) t u (refl, refl, refl) refl le refl
+              (run-established next events more u are.1 sound' (subst (λ (v : Session). In v next.sessions) on.1 p.is_held) tcp phase' (stays-open config next more t bits now left_open.1) (omega (arith, le, before)))
+          | inr anew ↦ absurd (never-restarts t p.view.flags phase anew.0)
+        ]
+      ]
+
 pub live-their-time : SessionsLiveTheirTime
 live-their-time = record {
   lives = λ config s judged t seconds sound is idle before.
@@ -134,4 +181,5 @@ live-their-time = record {
       goes-on config s judged t sound is (alive-within (later s.clock judged.moment) t seconds (idle-some t seconds idle) (omega (arith, time)) before);
   ends = λ config s judged t u seconds sound is idle over held flow. begins-anew config s judged t u seconds sound is (idle-time t seconds idle) over held flow;
   runs = λ config s events judged t seconds is_one are sound is least before. run-goes-on config is_one s events judged t seconds are sound is least before;
+  established = λ config s events judged t is_one are sound is tcp phase left_open before. run-established config is_one s events judged t are sound is tcp phase left_open before;
 }

@@ -33,6 +33,7 @@ pub mod Refreshing
 pub mod Called
 pub mod Beginnings
 pub mod Lived
+pub mod Enduring
 pub mod Idling
 pub mod Admitting
 pub mod Hairpinning

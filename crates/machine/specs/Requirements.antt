@@ -1,5 +1,5 @@
 -- What RFC 4787 (UDP) and RFC 5382 (TCP) ask of a translator, said of a step of every sound state and of every packet.
-use Rattle.std.specs.Prelude.{◌≡◌, ◌≢◌, ◌⊎◌, ℕ, ◌+◌, ◌<◌, ◌≤◌, ◌^◌, List, length, Some, None, IsTrue, IsFalse}
+use Rattle.std.specs.Prelude.{◌≡◌, ◌≢◌, ◌⊎◌, ℕ, ◌+◌, ◌<◌, ◌≤◌, ◌^◌, List, [], ◌∷◌, length, Some, None, IsTrue, IsFalse}
 use Rattle.std.specs.List.{Contains}
 use Rattle.packet.specs.Config.{Config, is_config, is_inside}
 use Rattle.packet.specs.Translated.{translated}
@@ -366,9 +366,30 @@ pub record GoesOn (s : State) (t : Session) : Type 0 where
   pub outside : session.outside ≡ t.outside
   pub last : t.last ≤ session.last
 
+-- no packet of the session, from either side of it, shows a FIN or a RST in this step
+abbrev pub IsLeftOpen : Config → State → Judged → Session → Type 0
+IsLeftOpen config s judged t =
+    (iface : Iface) (bytes : List ℕ) (view : View) (way : Route) (sender : Opener)
+    → Came config judged iface bytes view way
+    → IsOf (step config s judged).0.sessions view way sender t
+    → IsFalse view.flags.fin × IsFalse view.flags.rst
+
+-- nor in any step of a run
+abbrev pub StaysOpen : Config → State → List Judged → Session → Type 0
+StaysOpen config s [] t = Unit {0}
+StaysOpen config s (judged ∷ more) t =
+    IsLeftOpen config s judged t × StaysOpen config (step config s judged).0 more t
+
+-- it goes on, it is established, and the side that opened it is the same: it wasn't begun anew
+pub record GoesOnEstablished (s : State) (t : Session) : Type 0 where
+  pub goes_on : GoesOn s t
+  pub phase : phase_of goes_on.session.seen ≡ Established
+  pub opener : goes_on.session.opener ≡ t.opener
+
 -- Whatever an event brings, a session goes on that has been idle for less than its time, and one whose time has passed
 -- has ended: only by beginning anew there is one of its protocol, inside and remote endpoint. And whatever a run of
--- events brings, each session goes on that has been idle for less than the least such time at its end.
+-- events brings, each session goes on that has been idle for less than the least such time at its end; and of TCP, if
+-- it is established at the start, and no packet of it shows a FIN or a RST, for less than 7,440 seconds.
 pub record SessionsLiveTheirTime : Type 0 where
   pub lives : (config : Config) (s : State) (judged : Judged) (t : Session) (seconds : ℕ)
       → IsSoundState config s → In t s.sessions → MayBeIdle t seconds
@@ -382,3 +403,8 @@ pub record SessionsLiveTheirTime : Type 0 where
       (t : Session) (seconds : ℕ) → IsTrue (is_config config) → AreJudged config events judged
       → IsSoundState config s → In t s.sessions → MayAlwaysBeIdle t.proto seconds
       → (after config s judged).clock < t.last + seconds → GoesOn (after config s judged) t
+  pub established : (config : Config) (s : State) (events : List Event) (judged : List Judged)
+      (t : Session) → IsTrue (is_config config) → AreJudged config events judged
+      → IsSoundState config s → In t s.sessions → t.proto ≡ Tcp → phase_of t.seen ≡ Established
+      → StaysOpen config s judged t → (after config s judged).clock < t.last + 7440
+      → GoesOnEstablished (after config s judged) t

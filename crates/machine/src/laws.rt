@@ -222,7 +222,9 @@ pub fn living_sessions_stay()
 /// A session goes on, whatever an event brings, while it has been idle for less than its time, and ends once that has
 /// passed: 300 seconds for UDP (RFC 4787, REQ-5); for TCP 7,440 once both sides have acknowledged, and 240 before, or
 /// once it is closing (RFC 5382, REQ-5). At the end of any run of events each session goes on whose last packet was
-/// less than 300 seconds ago, or 240 for TCP.
+/// less than 300 seconds ago, or 240 for TCP. If a TCP session is established, and no packet of it in the run shows a
+/// FIN or a RST, it goes on, established and not begun anew, at each moment before 7,440 seconds have passed since its
+/// last packet, whatever else comes.
 pub fn sessions_live_their_time()
     ensures { SessionsLiveTheirTime }
 {}

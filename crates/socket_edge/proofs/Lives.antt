@@ -25,6 +25,9 @@ module _ {D : Type 0} (honest : D → Type 0) (moment : D → ℕ) (left : D →
         split = o.split;
         judged = o.judged;
         are_judged = o.are_judged;
+        reached = o.reached;
+        unsent = o.unsent;
+        begins = o.begins;
         within = subst (λ (l : List (ℕ × Answer)). IsLived honest moment left seen config entry at begun (events ++ o.front) l old.disk new.disk) (append-nil given)
             (stopped-first honest moment left seen config entry at begun events given old r old.disk new.disk o.front o.judged 0 o.are_judged (omega arith)
             (λ files since. (o.any_moment.each files since).2) (λ files since. (conf.each files since).2));
@@ -51,11 +54,13 @@ module _ {D : Type 0} (honest : D → Type 0) (moment : D → ℕ) (left : D →
   stops-are config entry at begun old new events given so_far read sent r by =
       let k = by.since r.rests in
       record {
+        until = runs-are config entry at begun old by.now events given so_far sent r by.until;
         front = k.front;
         back = k.back;
         split = k.split;
         judged = k.judged;
         are_judged = k.are_judged;
+        reached = k.reached;
         since = λ n le whole. stopped-first honest moment left seen config entry at begun events given old r by.now.disk new.disk k.front k.judged n k.are_judged le
             (λ files since. ((k.since n le whole).each files since).2)
             (λ files since. (k.configured.each files since).2);

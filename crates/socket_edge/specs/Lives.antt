@@ -8,7 +8,7 @@ use Rattle.machine.specs.declared.event.Event.{Event}
 use Rattle.frames.specs.Answers.{frames}
 use Rattle.gateway.specs.Kept.{Kept}
 use Rattle.gateway.specs.Living.{IsLived, RestsInLife}
-use Rattle.socket_edge.specs.Progress.{replies}
+use Rattle.socket_edge.specs.Progress.{Reached, replies}
 use Rattle.socket_edge.specs.Running.{Fares, ComesBy}
 
 module _ {D : Type 0} (honest : D → Type 0) (moment : D → ℕ) (left : D → ℕ → Files → Type 0)
@@ -23,6 +23,11 @@ module _ {D : Type 0} (honest : D → Type 0) (moment : D → ℕ) (left : D →
     pub split : read ≡ front ++ back
     pub judged : List Judged
     pub are_judged : AreJudged old.told.config front judged
+    -- just these: they bring the gateway where it stands, and its last number counts them
+    pub reached : Reached old.told new.told judged
+    -- what was sent is a beginning of their answers' frames
+    pub unsent : List ℕ
+    pub begins : sent ++ unsent ≡ frames (replies old.told judged)
     -- A stop within the run is the end of a life, in which none of these events counts as answered.
     pub within : IsLived honest moment left seen config entry opened_at begun (events ++ front)
         given old.disk new.disk
@@ -45,15 +50,20 @@ module _ {D : Type 0} (honest : D → Type 0) (moment : D → ℕ) (left : D →
       → EdgeRuns config entry opened_at begun old new events given read sent
 
   -- The gateway's life had come to `events` and `given`, and the edge took it from `old` by `now` to `new`: the first of
-  -- the events that were read are taken, and these bytes were sent when it was at `now`.
+  -- the events that were read are taken. When it was at `now`, the first of those so far were, and these bytes were
+  -- sent.
   pub record EdgeStops (config : Config) (entry : D) (opened_at : ℕ) (begun old now new : Kept D)
-      (events : List Event) (given : List (ℕ × Answer)) (read : List Event)
+      (events : List Event) (given : List (ℕ × Answer)) (so_far read : List Event)
       (sent : List ℕ) : Type 0 where
+    -- A stop by then, or just then, is as one of a run that ends there: it knows of no event that was read later.
+    pub until : EdgeRuns config entry opened_at begun old now events given so_far sent
     pub front : List Event
     pub back : List Event
     pub split : read ≡ front ++ back
     pub judged : List Judged
     pub are_judged : AreJudged old.told.config front judged
+    -- just these bring the gateway to the end of the run
+    pub reached : Reached old.told new.told judged
     -- A stop since then, within the run, is the end of a life. Each answer counts as given out whose frame lies whole
     -- in what was sent by then.
     pub since : (n : ℕ) → n ≤ length front
@@ -68,4 +78,4 @@ module _ {D : Type 0} (honest : D → Type 0) (moment : D → ℕ) (left : D →
       (events : List Event) (given : List (ℕ × Answer)) (so_far read : List Event) (sent : List ℕ)
       → RestsInLife honest moment left seen config entry opened_at begun events given old
       → (by : ComesBy honest moment left old new so_far read sent)
-      → EdgeStops config entry opened_at begun old by.now new events given read sent
+      → EdgeStops config entry opened_at begun old by.now new events given so_far read sent

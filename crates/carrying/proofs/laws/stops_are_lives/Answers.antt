@@ -1,5 +1,8 @@
-use Rattle.carrying.proofs.Lives.{stops-are}
+use Rattle.carrying.proofs.Lives.{carried-are, stops-are}
 use Rattle.carrying.proofs.laws.stops_are_lives.Goals as goal
 
-pub returns : goal.returns
-returns g c = stops-are g.D.Disk.honest g.D.Disk.moment g.D.Disk.left g.D.Disk.seen
+pub returns-clause-stops : goal.returns-clause-stops
+returns-clause-stops g c = stops-are g.D.Disk.honest g.D.Disk.moment g.D.Disk.left g.D.Disk.seen g.met.D.Disk.earlier c.events_are_judged_once.ensures
+
+pub returns-clause-runs : goal.returns-clause-runs
+returns-clause-runs g c = carried-are g.D.Disk.honest g.D.Disk.moment g.D.Disk.left g.D.Disk.seen g.met.D.Disk.earlier c.events_are_judged_once.ensures

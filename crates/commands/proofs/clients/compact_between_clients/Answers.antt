@@ -1,4 +1,4 @@
-use Rattle.std.proofs.Common.{◌≡◌, Err, refl, sym, ap, ◌∙◌, arith}
+use Rattle.std.proofs.Common.{◌≢◌, ◌<◌, Err, refl, sym, ap, ◌∙◌, arith, rules}
 use Rattle.std.proofs.lemmas.List.{nil_from_length}
 use Rattle.gateway.specs.declared.fault.GatewayFault.TheVariants as fault
 use Rattle.gateway.proofs.Runs.{fault-is}
@@ -32,10 +32,11 @@ returns-in-Err-clause-idles g c =
 pub returns-in-Err-clause-causes : goal.returns-in-Err-clause-causes
 returns-in-Err-clause-causes g c =
     let e = c.in-Err.ensures in
-    let why = c.in-Err.fault in (
+    let why = c.in-Err.fault in
+    let room : why ≢ fault.NoMemory = search rules in
+    let grown : 1048576 < c.args.gateway.now.grown = search rules in (
       why,
       c.of_gateway.ensures,
       compacted-meets-none g.D.Disk.honest g.D.Disk.moment g.D.Disk.left g.D.Disk.seen g.D.Disk.failed g.met.D.Disk.reads g.met.D.Disk.earlier c.args.gateway.now c.stands.ensures c.compact.new.self
-          why (fault-is why fault.Reopen e.reopen) (fault-is why fault.Device e.fell) e.causes (λ is. e.device (ap Err is)) e.by_one
-          (λ is. ap (λ n. n.generation) (e.stays (λ d. let bad : fault.Generations ≡ fault.Device = sym is ∙ d in absurd cc)) ∙ e.generations (ap Err is)),
+          why (fault-is why fault.Reopen e.reopen) (fault-is why fault.Device e.fell) e.causes (λ is. e.device (ap Err is)) e.by_one (λ is. e.generations (ap Err is)) e.stays room grown,
     )
