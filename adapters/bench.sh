@@ -9,7 +9,7 @@
 # the namespaces lan and wan; there is no other way between these two. Nothing outside the namespaces is changed.
 #
 # WAY says what carries the packets: tun, natgw tun by itself, or adapter, tun.py with natgw serve. OFFLOAD=no leaves the
-# kernel's offloads away.
+# kernel's offloads away, STEERING=no its steering.
 
 repository=$(cd "$(dirname "${BASH_SOURCE[0]}")/.." && pwd)
 natgw=${NATGW:-$repository/crates/natgw/out/natgw}
@@ -136,9 +136,11 @@ bench_down() {
   rm -rf "$work"
 }
 
-# OFFLOAD=no leaves the kernel's offloads away. LOG_DROPS=N has N dropped packets a second told of in the adapter's log.
-offload=()
-[ "${OFFLOAD:-yes}" = yes ] || offload=(--no-offload)
+# OFFLOAD=no leaves the kernel's offloads away, STEERING=no its steering. LOG_DROPS=N has N dropped packets a second
+# told of in the adapter's log.
+of_devices=()
+[ "${OFFLOAD:-yes}" = yes ] || of_devices+=(--no-offload)
+[ "${STEERING:-yes}" = yes ] || of_devices+=(--no-steering)
 log_drops=()
 [ -z "${LOG_DROPS-}" ] || log_drops=(--log-drops "$LOG_DROPS")
 spaces_of_devices=(--lan-netns "$bench-lan" --wan-netns "$bench-wan")
@@ -147,7 +149,7 @@ spaces_of_devices=(--lan-netns "$bench-lan" --wan-netns "$bench-wan")
 # carries packets in `carrier`. The socket of a killed one is removed first.
 start_natgw() {
   if [ "$way" = tun ]; then
-    "$repository/adapters/with-tuns" "${offload[@]}" "${spaces_of_devices[@]}" -- "$natgw" tun "${sides[@]}" --dir "$work/state" \
+    "$repository/adapters/with-tuns" "${of_devices[@]}" "${spaces_of_devices[@]}" -- "$natgw" tun "${sides[@]}" --dir "$work/state" \
       --rules "$work/rules.nft" --report 1 --report-file "$work/natgw.prom" "${log_drops[@]}" 2>>"$work/adapter.log" &
     carrier=$!
   else
@@ -168,7 +170,7 @@ kill_natgw() {
 # start_adapter: what carries packets, if natgw doesn't itself; its id is in `carrier`. Waits until the rules are loaded.
 start_adapter() {
   if [ "$way" = adapter ]; then
-    python3 "$adapter" "${offload[@]}" --socket "$work/natgw.sock" --rules "$work/rules.nft" "${spaces_of_devices[@]}" \
+    python3 "$adapter" "${of_devices[@]}" --socket "$work/natgw.sock" --rules "$work/rules.nft" "${spaces_of_devices[@]}" \
       --report 1 --report-file "$work/natgw.prom" "${log_drops[@]}" 2>>"$work/adapter.log" &
     carrier=$!
     started+=("$carrier")

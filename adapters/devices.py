@@ -1,9 +1,11 @@
-"""TUN devices for the programs beside this file, with the kernel's offloads or without."""
+"""TUN devices for the programs beside this file, with the kernel's offloads and its steering or without."""
 import ctypes
 import errno
 import fcntl
 import os
 import struct
+import subprocess
+import sys
 
 # From linux/if_tun.h: a device that carries IP, without a header of its own; and the header of linux/virtio_net.h.
 TUNSETIFF, IFF_TUN, IFF_NO_PI, IFF_VNET_HDR = 0x400454CA, 0x0001, 0x1000, 0x4000
@@ -56,14 +58,39 @@ def attach(name, namespace, offload):
     return tun
 
 
+def processors():
+    """The processors that this may run on, as /sys has them: a bit for each, in hex."""
+    with open("/proc/self/status", encoding="ascii") as file:
+        return next(line.split()[1] for line in file if line.startswith("Cpus_allowed:"))
+
+
+def steer(name, namespace):
+    """Has the kernel go on with what is handed to a device on all processors, each flow on one of them (receive packet
+    steering). Otherwise it does so within the call that hands it over."""
+    if len(os.sched_getaffinity(0)) == 1:
+        return
+    inside = ["ip", "netns", "exec", namespace] if namespace else []
+    command = [*inside, "tee", f"/sys/class/net/{name}/queues/rx-0/rps_cpus"]
+    done = subprocess.run(command, input=processors(), capture_output=True, text=True, check=False)
+    if done.returncode != 0:
+        print(f"{name} isn't steered: {done.stderr.strip()}", file=sys.stderr, flush=True)
+
+
 def add_options(words, sides):
-    """Adds the options that name the devices, and the one that leaves the offloads away."""
+    """Adds the options that name the devices, and those that leave offloads and steering away."""
     for side in sides:
         words.add_argument(f"--{side}-device", default=f"natgw-{side}", metavar="NAME", help="(%(default)s)")
         words.add_argument(f"--{side}-netns", metavar="NAME", help="the network namespace that the device is in")
     words.add_argument("--no-offload", action="store_true", help="each packet as the link has it, cut and summed up by the kernel")
+    words.add_argument("--no-steering", action="store_true", help="the devices' receive packet steering stays as it is")
 
 
 def attach_both(given, sides):
-    """Attaches to the devices that the options name."""
-    return [attach(getattr(given, f"{side}_device"), getattr(given, f"{side}_netns"), not given.no_offload) for side in sides]
+    """Attaches to the devices that the options name, and steers them."""
+    tuns = []
+    for side in sides:
+        name, namespace = getattr(given, f"{side}_device"), getattr(given, f"{side}_netns")
+        tuns.append(attach(name, namespace, not given.no_offload))
+        if not given.no_steering:
+            steer(name, namespace)
+    return tuns

@@ -1,11 +1,22 @@
 #!/usr/bin/env bash
-# Throughput and delay through natgw tun and through natgw by tun.py, with the kernel's offloads and without, beside the
-# kernel's own NAT in the same namespaces.
-# Root, iproute2, iperf3, nftables and python3 are needed. NATGW names the program; SECONDS_EACH how long each run takes.
+# Throughput and delay through natgw tun and through natgw by tun.py, beside the kernel's own NAT in the same
+# namespaces.
+#
+#   adapters/measure.sh                       all ways
+#   adapters/measure.sh --ways kernel,tun     these ways in this order; one may come more than once
+#
+# The ways are adapter-no-offload, adapter, tun-no-offload, tun-no-steering, tun and kernel. Root, iproute2, iperf3,
+# nftables and python3 are needed. NATGW names the program; SECONDS_EACH how long each run takes.
 set -euo pipefail
 here=$(cd "$(dirname "${BASH_SOURCE[0]}")" && pwd)
 # shellcheck source=adapters/bench.sh
 . "$here/bench.sh"
+ways='adapter-no-offload,adapter,tun-no-offload,tun-no-steering,tun,kernel'
+case "$#${1-}" in
+  0) ;;
+  2--ways) ways=$2 ;;
+  *) tell_help >&2; exit 2 ;;
+esac
 needs iperf3 nft
 each=${SECONDS_EACH:-10}
 
@@ -88,12 +99,19 @@ stop() {
   wait "$1" 2>/dev/null || true
 }
 
+# unsteered SIDE: takes the steering away that a way before has left with its device.
+unsteered() {
+  on "$1" sh -c "echo 0 >/sys/class/net/natgw-$1/queues/rx-0/rps_cpus"
+}
+
 # by NAME WAY [OPTION]: the line of a way with this option, and the processor time that TCP out takes.
 by() {
   local name=$1 before after ids
   way=$2
   shift 2
-  offload=("$@")
+  of_devices=("$@")
+  unsteered lan
+  unsteered wan
   : >"$work/adapter.log"
   start_natgw
   start_adapter
@@ -109,24 +127,35 @@ by() {
   for id in "${ids[@]}"; do stop "$id"; done
 }
 
-by "natgw by tun.py, no offloads" adapter --no-offload
-by "natgw by tun.py" adapter
-by "natgw tun, no offloads" tun --no-offload
-by "natgw tun" tun
-
-# The kernel's own NAT: the two namespaces get a cable, and the external address goes to lan's end of it.
-on lan ip route del default
-on wan ip route del "$external/32"
-link lan uplink wan downlink
-on lan ip address add "$external/24" dev uplink
-on wan ip address add 203.0.113.254/24 dev downlink
-on lan ip route add default via 203.0.113.254
-on lan nft -f - <<RULES
+# The kernel's own NAT: the two namespaces have a cable, and the external address is that of lan's end.
+by_kernel() {
+  on lan ip route replace default via 203.0.113.254
+  on wan ip route replace "$external/32" dev downlink
+  on lan nft -f - <<RULES
 table ip nat { chain post { type nat hook postrouting priority srcnat; oifname "uplink" masquerade; }; }
 table ip filter { chain forward { type filter hook forward priority filter; policy drop;
   ct state established,related accept; iifname "br0" accept; }; }
 RULES
-all "the kernel's NAT"
-echo
+  all "the kernel's NAT"
+  on lan nft flush ruleset
+  on lan ip route replace default dev natgw-lan
+  on wan ip route replace "$external/32" dev natgw-wan
+}
 
+link lan uplink wan downlink
+on lan ip address add "$external/24" dev uplink
+on wan ip address add 203.0.113.254/24 dev downlink
+: >"$work/used"
+for name in ${ways//,/ }; do
+  case $name in
+    adapter-no-offload) by "natgw by tun.py, no offloads" adapter --no-offload ;;
+    adapter) by "natgw by tun.py" adapter ;;
+    tun-no-offload) by "natgw tun, no offloads" tun --no-offload ;;
+    tun-no-steering) by "natgw tun, no steering" tun --no-steering ;;
+    tun) by "natgw tun" tun ;;
+    kernel) by_kernel ;;
+    *) echo "$0: there is no way $name" >&2; exit 2 ;;
+  esac
+done
+echo
 cat "$work/used"
