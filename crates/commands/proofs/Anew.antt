@@ -1,17 +1,22 @@
 -- A gateway was opened, and its file made anew behind that: the generation, and what a crash leaves.
-use Rattle.std.proofs.Common.{◌≡◌, ◌≤◌, ◌∙◌, ℕ, ap, subst, sym}
+use Rattle.std.proofs.Common.{◌≡◌, ◌≢◌, ◌≤◌, ◌-◌, ◌^◌, ◌∙◌, ℕ, Bool, true, false, ap, refl, subst, sym}
+use Rattle.std.proofs.lemmas.Bool.{false≢true}
 use Rattle.disk_model.specs.Disk.{Files, Leaves, LeavesNow, LeavesOnly, Same}
 use Rattle.disk_model.proofs.Moments.{at_end, follows, only_now, only_then}
 use Rattle.disk_model.specs.declared.disk.FileId.{FileId}
 use Rattle.durable.specs.Coding.{Heading}
 use Rattle.durable.specs.Entering.{Durable}
-use Rattle.durable.specs.Recovery.{Alike, IsActive, IsConfigured, NoneOpen, Recovers}
+use Rattle.durable.specs.Recovery.{Alike, IsActive, IsConfigured, IsCurrent, NoneOpen, Recovers}
+use Rattle.durable.specs.Versions.{latest}
+use Rattle.durable.specs.declared.version.Version.{Version}
+use Rattle.durable.specs.declared.version.Version.TheVariants.{First, Second}
 use Rattle.durable.proofs.Headed.{headed_open, recovers_once}
 use Rattle.packet.specs.Config.{Config}
 use Rattle.machine.specs.Machine.{State}
 use Rattle.machine.specs.Noted.{lasting}
 use Rattle.gateway.specs.Kept.{GroupsEndAt}
 use Rattle.snapshot.proofs.States.{active_same, none_open}
+use Rattle.commands.specs.Causes.{IsLastCurrent}
 
 pub is_open : (files : Files) (file : FileId) (h : Heading) (d : Durable) (end : ℕ) → IsActive files file h d end → ¬ NoneOpen files
 is_open files file h d end active none = none_open files file none (headed_open (files file) h active.0.headed)
@@ -22,6 +27,32 @@ pub same_generation :
 same_generation old new file h d end generation grown place same active groups =
     let once = recovers_once.active new groups.file file groups.heading h groups.durable d place end groups.active (active_same old new file h d end same active) in
     sym groups.numbered ∙ ap (λ (x : Heading). x.generation) once.1
+
+is_second : Version → Bool
+is_second First = false
+is_second Second = true
+
+the_latest : (version : Version) → ¬ (version ≢ latest) → version ≡ latest
+unfolding is_second
+the_latest First other = absurd (other (λ same. false≢true (ap is_second same)))
+the_latest Second other = refl
+
+pub is_current : (files : Files) → ¬ (¬ IsCurrent files) → IsCurrent files
+is_current files no_other file h d end active = the_latest h.version (λ former. no_other (λ current. former (current file h d end active)))
+
+-- the file that a gateway goes on writing is of the last generation
+pub is_last : (old new : Files) (generation grown place : ℕ) → Same old new → IsCurrent old → GroupsEndAt new generation grown place → generation ≡ 2 ^ 64 - 1 → IsLastCurrent old
+is_last old new generation grown place same current groups last =
+    let active = active_same new old groups.file groups.heading groups.durable place (λ file. sym (same file)) groups.active in
+    record {
+      file = groups.file;
+      heading = groups.heading;
+      durable = groups.durable;
+      end = place;
+      active = active;
+      current = current groups.file groups.heading groups.durable place active;
+      last = groups.numbered ∙ last;
+    }
 
 -- what both stand for, if each stands for this
 alike : (one other files : Files) (d : Durable) → Alike one other → Recovers other d → Recovers files d → Alike one files

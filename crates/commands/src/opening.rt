@@ -196,6 +196,8 @@ pub fn open_over<D: Disk + Drop>(
         × IsResumed bounds d moment gateway.told.state
         × LeavesNow D.moment D.left gateway.disk (λ files. Recovers files d)) }
 
+    ensures had_config { D.honest disk → OnOk result (IsConfigured bounds (D.seen disk)) }
+
     // Where a file was active, the active one has the next generation now: it was made since.
     ensures anew { D.honest disk → (file : FileId) (h : Heading) (d : Durable) (end : ℕ)
         → IsActive (D.seen disk) file h d end → IsCurrent (D.seen disk)

@@ -1,14 +1,14 @@
 use Rattle.std.proofs.Common.{◌≡◌, ◌∙◌, ◌+◌, Err, ap, arith, false, inl, inr, rules, ℕ, subst, sym}
 use Rattle.std.proofs.lemmas.Bool.{false≢true}
 use Rattle.disk_model.specs.Disk.{Grew, Leaves, LeavesOnly}
-use Rattle.durable.specs.Recovery.{Alike, IsConfigured}
+use Rattle.durable.specs.Recovery.{Alike, IsConfigured, NoneOpen}
 use Rattle.machine.specs.Machine.{State}
 use Rattle.machine.specs.Noted.{IsResumed}
 use Rattle.gateway.specs.Told.{Told}
 use Rattle.gateway.specs.declared.fault.GatewayFault.TheVariants as fault
 use Rattle.gateway.specs.Kept.{Kept}
 use Rattle.gateway.proofs.Runs.{fault-is, stands-still, true-false}
-use Rattle.commands.proofs.Anew.{alike_since, configured_since, is_open, made_now, remade, same_generation}
+use Rattle.commands.proofs.Anew.{alike_since, configured_since, is_current, is_last, is_open, made_now, remade, same_generation}
 use Rattle.commands.proofs.opening.open_over.Goals as goal
 
 pub returns-in-Ok-made-clause-anew : goal.returns-in-Ok-made-clause-anew
@@ -93,6 +93,7 @@ returns-in-Err-clause-cause g c =
     record {
       cause = λ honest. record { damaged = e.damaged honest; differs = λ is. (e.differs honest is).2; generations = e.generations honest };
       looks = e.looks;
+      unwritten = e.unwritten;
       device = e.device;
       only_device = e.only_device;
       stays_honest = e.stays_honest;
@@ -112,14 +113,13 @@ returns-in-Err-made-clause-cause g c =
         | inr more ↦ more
       ];
       opens = λ honest. (((o.ok honest).0, (o.ok honest).1), o.had_config honest);
-      generations = λ honest is. record {
-        is_open = λ none. absurd (omega (arith, o.generation honest none, m.generations (ap Err is)));
-        last = λ file h d end active current.
-            let looks = o.only_looks honest (is_open old file h d end active) current in
-            let stands = c.has_fallen-stands.ensures.value ∙ o.stands in
-            let groups = c.has_fallen-stands.ensures.groups stands (o.honest.0 honest) in
-            sym (same_generation old (g.D.Disk.seen found.disk) file h d end found.generation found.grown groups.0 looks.stays active groups.1) ∙ m.generations (ap Err is);
-      };
+      generations = λ honest is.
+          let open_so : ¬ NoneOpen old = λ none. absurd (omega (arith, o.generation honest none, m.generations (ap Err is))) in
+          let is_not : found.migrated ≡ false = search rules in
+          let current = is_current old (λ former. absurd (false≢true (sym is_not ∙ (o.was honest).1 former))) in
+          let stands = c.has_fallen-stands.ensures.value ∙ o.stands in
+          let groups = c.has_fallen-stands.ensures.groups stands (o.honest.0 honest) in
+          is_last old (g.D.Disk.seen found.disk) found.generation found.grown groups.0 (o.only_looks honest open_so current).stays current groups.1 (m.generations (ap Err is));
       device = λ is. subst (λ (n : ℕ). Grew n (failed c.into_disk.result)) o.no_failure (subst (λ disk. Grew (failed found.disk) (failed disk)) (sym same) (m.device (ap Err is)));
       only_device = λ other. ap failed same ∙ ap (λ (k : Kept _). failed k.disk) (m.stays other) ∙ o.no_failure;
       stays_honest = λ other honest. subst g.D.Disk.honest (sym (same ∙ ap (λ (k : Kept _). k.disk) (m.stays other))) (o.honest.0 honest);
