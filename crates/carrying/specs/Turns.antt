@@ -84,7 +84,7 @@ Suffices most given behind = (length given ≡ 64) ⊎ (most < length behind.req
 -- A turn behind the last moment takes at most 64 packets of a device, and fewer only if that gave all that it had, or
 -- if they suffice.
 pub record TakesAll (last : ℕ) (turn : Turn) (lan_gave_all wan_gave_all : Type 0) : Type 0 where
-  pub of_lan : lan_gave_all ⊎ Suffices 655360 turn.lan (gathered_to_lan turn (ungathered last))
-  pub of_wan : wan_gave_all ⊎ Suffices 1048576 turn.wan (gathered turn (ungathered last))
+  pub of_lan : lan_gave_all ⊎ Suffices 163840 turn.lan (gathered_to_lan turn (ungathered last))
+  pub of_wan : wan_gave_all ⊎ Suffices 262144 turn.wan (gathered turn (ungathered last))
   pub few_of_lan : length turn.lan ≤ 64
   pub few_of_wan : length turn.wan ≤ 64

@@ -14,7 +14,7 @@ use crate::drops::{Dropped, Drops};
 use crate::pace::{Beat, Pace};
 use devices::Device;
 use disk_model::Disk;
-use from_devices::{FromDevices, MOST_BYTES};
+use from_devices::FromDevices;
 use gateway::Gateway;
 use gateway::running::stands;
 use machine::laws::events_are_judged_once;
@@ -24,8 +24,12 @@ use std::alloc::{AllocError, Global};
 use std::marker::Model;
 use to_devices::{Counts, ToDevices};
 
-/// The requests of a turn may have so many bytes once the packets of lan are taken: the rest is for those of wan.
-const MOST_OF_LAN: usize = 655_360;
+/// The requests of a turn may have so many bytes once the packets of lan are taken: 64 packets of a link without
+/// offloads, or two of the largest. So what was read is still in the processor's cache when it is written.
+const MOST_OF_LAN: usize = 163_840;
+
+/// They may have so many bytes in all.
+const MOST_OF_ALL: usize = 262_144;
 
 /// What carries packets: the requests of a turn, and their answers. Contracts see its latest moment, in seconds.
 #[derive(Drop)]
@@ -82,7 +86,7 @@ fn gather<L: Device, W: Device>(
     let _ = from.moment();
     from.take(Iface::Lan, &mut devices.lan, MOST_OF_LAN);
     let before = from.headers().len();
-    from.take(Iface::Wan, &mut devices.wan, MOST_BYTES);
+    from.take(Iface::Wan, &mut devices.wan, MOST_OF_ALL);
     before
 }
 

@@ -18,8 +18,8 @@ returns-clause-gave g c =
     let of_all : c.take-2.new.self ≡ with_packets Wan wan.0 (with_packets Lan lan.0 (with_text (bytes_of text) (begun c.args.moment c.args.from.now))) = wan.3 ∙ ap (λ (x : Gathered). with_packets Wan wan.0 x) of_lan in
     let GaveLan = GaveAll g.L.Device.coming g.L.Device.has_none (g.L.Device.coming c.args.devices.now.lan) lan.0 in
     let GaveWan = GaveAll g.W.Device.coming g.W.Device.has_none (g.W.Device.coming c.args.devices.now.wan) wan.0 in
-    let ends_lan = ends_by Lan lan.0 c.open_turn.new.from c.take.new.self lan.3 c.take.ensures.few 655360 (g.L.Device.has_none c.take.new.device) GaveLan (λ none. (c.take.new.device, none, lan.1)) (omega arith) (omega (arith, c.open_turn.ensures.few)) c.take.ensures.all in
-    let ends_wan = ends_by Wan wan.0 c.take.new.self c.take-2.new.self wan.3 c.take-2.ensures.few 1048576 (g.W.Device.has_none c.take-2.new.device) GaveWan (λ none. (c.take-2.new.device, none, wan.1)) (omega arith) (omega (arith, c.open_turn.ensures.few, c.take.ensures.few)) c.take-2.ensures.all in (
+    let ends_lan = ends_by Lan lan.0 c.open_turn.new.from c.take.new.self lan.3 c.take.ensures.few 163840 (g.L.Device.has_none c.take.new.device) GaveLan (λ none. (c.take.new.device, none, lan.1)) (omega arith) (omega (arith, c.open_turn.ensures.few)) c.take.ensures.all in
+    let ends_wan = ends_by Wan wan.0 c.take.new.self c.take-2.new.self wan.3 c.take-2.ensures.few 262144 (g.W.Device.has_none c.take-2.new.device) GaveWan (λ none. (c.take-2.new.device, none, wan.1)) (omega arith) (omega (arith, c.open_turn.ensures.few, c.take.ensures.few)) c.take-2.ensures.all in (
       record {
         moment = c.args.moment;
         text = bytes_of text;
@@ -36,8 +36,8 @@ returns-clause-gave g c =
       },
       of_all,
       record {
-        of_lan = subst (λ (x : Gathered). GaveLan ⊎ Suffices 655360 lan.0 x) of_lan ends_lan;
-        of_wan = subst (λ (x : Gathered). GaveWan ⊎ Suffices 1048576 wan.0 x) of_all ends_wan;
+        of_lan = subst (λ (x : Gathered). GaveLan ⊎ Suffices 163840 lan.0 x) of_lan ends_lan;
+        of_wan = subst (λ (x : Gathered). GaveWan ⊎ Suffices 262144 wan.0 x) of_all ends_wan;
         few_of_lan = at_most Lan lan.0 c.open_turn.new.from c.take.new.self lan.3 c.take.ensures.few;
         few_of_wan = at_most Wan wan.0 c.take.new.self c.take-2.new.self wan.3 c.take-2.ensures.few;
       },
