@@ -35,6 +35,7 @@ module _ {D : Type 0} (honest : D → Type 0) (moment : D → ℕ) (left : D →
             (by.took.order ∙ ap (λ (l : List (ℕ × Answer)). l ++ replies old.told by.took.judged) r.rests.none)
             (at-exit honest moment left old by.now es hs lan by.to_lan.0 wan by.to_wan.0 carries once r.rests)
             (only_now moment left old.disk by.now.disk (IsConfigured old.told.config) (earlier by.now.disk) (by.until.configured r.rests.is_honest r.rests.stands));
+        by_then = runs-are honest moment left seen earlier config entry at begun old by.now events given es (frames by.answered) r by.until;
         front = k.front;
         back = k.back;
         split = k.split;

@@ -26,7 +26,10 @@ module _ {D : Type 0} (honest : D → Type 0) (moment : D → ℕ) (left : D →
     -- A stop just then is the end of a life, which knows of no event that came later.
     pub until : IsLived honest moment left seen config entry opened_at begun (events ++ so_far)
         (given ++ answered) now.disk now.disk
-    -- So is a stop since then, within the run, which takes just these, the first of its events.
+    -- Up to then it was as a run of the edge over just these events.
+    pub by_then : EdgeRuns honest moment left seen config entry opened_at begun old now events given
+        so_far (frames answered)
+    -- A stop since then, within the run, is the end of a life too, which takes just these, the first of its events.
     pub front : List Event
     pub back : List Event
     pub split : came ≡ front ++ back

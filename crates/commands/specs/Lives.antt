@@ -1,6 +1,6 @@
 -- What an opening tells behind earlier lives, and clients that are served one after the other in the life of a gateway,
 -- as `gateway/specs/Lives` and `Living` define it.
-use Rattle.std.specs.Prelude.{◌≡◌, ◌≢◌, ℕ, zero, suc, List, [], ◌++◌, Result}
+use Rattle.std.specs.Prelude.{◌≡◌, ◌≢◌, ⊤, ℕ, zero, suc, List, [], ◌++◌, Result}
 use Rattle.packet.specs.Config.{Config}
 use Rattle.disk_model.specs.Disk.{Files}
 use Rattle.durable.specs.Entering.{Durable}
@@ -88,3 +88,10 @@ module _ {C D : Type 0} (honest : D → Type 0) (moment : D → ℕ) (by_crash :
         → (more : List Event) × (out : List (ℕ × Answer)) × TookInVisits n a b old new visits more
         × RestsInLife honest moment by_crash seen config entry opened_at begun (events ++ more)
         (answered ++ out) new
+
+module _ {D : Type 0} (honest : D → Type 0) (moment : D → ℕ) (by_crash : D → ℕ → Files → Type 0)
+    (seen : D → Files) (failed : D → ℕ) where
+  -- the same of clients of whom nothing is seen (`UnseenVisits`)
+  abbrev pub UnseenVisitsAreLives : Type 0
+  UnseenVisitsAreLives = VisitsAreLives {C = Unit {0}} honest moment by_crash seen failed (λ a b. ⊤)
+      (λ a b turns. ⊤) (λ a. ⊤) (λ a b. ⊤)

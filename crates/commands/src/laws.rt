@@ -6,7 +6,7 @@ ghost use Rattle.durable.specs.Entering.{Durable};
 ghost use Rattle.gateway.specs.Lives.{AreLives, IsLife, Life, LivesLeave, Refused, Stopped};
 ghost use Rattle.gateway.specs.Living.{RestsInLife};
 ghost use Rattle.snapshot.specs.declared.fault.OpenFault.{OpenFault};
-ghost use Rattle.commands.specs.Lives.{TellsBehind, VisitsAreLives};
+ghost use Rattle.commands.specs.Lives.{TellsBehind, UnseenVisitsAreLives, VisitsAreLives};
 
 use crate::clients::Clients;
 use crate::opening::{AnewFault, open_over};
@@ -52,7 +52,8 @@ pub fn open_over_in_lives<D: Disk + Drop>(
 /// client had taken by the last turn before the stop. After so many visits it rests in the same life, in which it has
 /// taken of each client the first of the events that it gave, and the next visit may follow. So
 /// `gateway::laws::lives_are_the_models` holds of a whole service, of the stops in it, and of the gateways that are
-/// opened afterwards.
+/// opened afterwards. So it does of clients of whom nothing is seen, as `natgw serve` has them (`unseen`).
 pub fn visits_are_lives<C: Clients, D: Disk>(_: &C, _: &D)
-    ensures { VisitsAreLives D.honest D.moment D.left D.seen D.failed C.came C.went C.ended C.left }
+    ensures visits { VisitsAreLives D.honest D.moment D.left D.seen D.failed C.came C.went C.ended C.left }
+    ensures unseen { UnseenVisitsAreLives D.honest D.moment D.left D.seen D.failed }
 {}
