@@ -52,8 +52,8 @@ module _ {D : Type 0} (honest : D → Type 0) (moment : D → ℕ) (by_crash : D
   module _ {C : Type 0} (came : C → C → Type 0) (went : C → C → List Turn → Type 0)
       (ended : C → Type 0) (left : C → C → Type 0) where
     -- A client came, to a gateway that stood. It was answered, to its end or to a fault, which its last turn tells, and
-    -- each time that it was asked for more it had the answers to what it had sent. No crash in the meantime loses what they answer. Then the
-    -- client was let go.
+    -- each time that it was asked for more it had the answers to what it had sent. No crash in the meantime loses what
+    -- they answer. Then the client was let go.
     pub record Meeting (end : Result ℕ EdgeFault) (before after : C)
         (old new : Kept D) : Type 0 where
       pub stands : old.fallen ≡ false
