@@ -1,4 +1,4 @@
-use Rattle.std.proofs.Common.{⊤}
+use Rattle.std.specs.Prelude.{⊤}
 use Rattle.commands.proofs.Lived.{visits-are}
 use Rattle.commands.proofs.laws.visits_are_lives.Goals as goal
 
