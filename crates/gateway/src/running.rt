@@ -5,19 +5,18 @@
 //! - `take`: one more event. Where 64 answers are held `flush_held_full` hands them out first; then `offer` calls
 //!   `Gateway::offer`, and where that refuses the event as Full, `take_behind_compaction` compacts and offers it again
 //! - `take_all`: several, and a flush behind them (`hand_out`)
-//! - `forward`: one more, if it is a packet whose session goes on, which `Gateway::forward` translates where it lies
-//! - `take_in_place`: one more, if it is a packet, which `Gateway::offer_in_place` translates where it lies
+//! - `take_packet`, `take_load`, `take_moment`: one more, in its caller's bytes, where a packet is translated. Where 64
+//!   answers are held they are settled first; where it is refused as Full, `make_room` settles and compacts
 //! - `hand_out`: what is held is synced and handed out (`Gateway::flush`)
 //! - `settle`: what is held is synced, for those who have its answers (`Gateway::settle`)
 //! - `compact`: what is held is handed out, and the files are made short (`Gateway::compact`)
-ghost use Rattle.std.specs.Prelude.{◌≡◌, ◌≢◌, ◌↔◌, ◌+◌, ◌<◌, ◌≤◌, ◌++◌, ◌∷◌, [], ℕ, List, false, length};
-ghost use Rattle.std.specs.Prelude.{IfErr, IfNone, IfSome, IsTrue, OnErr, OnOk, true, vec_capacity, vec_len};
+ghost use Rattle.std.specs.Prelude.{◌≡◌, ◌≢◌, ◌↔◌, ◌+◌, ◌^◌, ◌<◌, ◌≤◌, ◌++◌, ◌∷◌, [], ℕ, List, false, length};
+ghost use Rattle.std.specs.Prelude.{IfErr, IfOk, IsTrue, OnErr, OnOk, true, vec_capacity, vec_len};
 ghost use Rattle.machine.specs.declared.event.Answer.{Answer};
-ghost use Rattle.machine.specs.declared.event.Answer.TheVariants.{Forward};
-ghost use Rattle.machine.specs.declared.event.What.TheVariants.{Packet};
+ghost use Rattle.machine.specs.declared.event.What.TheVariants.{Load, Moment, Packet};
 ghost use Rattle.gateway.specs.Kept.{IsRoomy};
 ghost use Rattle.gateway.specs.Given.{IsNow, answer_given, given_by, handed};
-ghost use Rattle.gateway.specs.Running.{BreaksOff, CarriesOn, Ends, SafeWithin, Stands, StopsWithin};
+ghost use Rattle.gateway.specs.Running.{BreaksOff, CarriesOn, Ends, Fails, Proceeds, SafeWithin, Stands, StopsWithin};
 
 use crate::calls::Gateway;
 use crate::pending::MOST_HELD;
@@ -96,65 +95,293 @@ pub fn take<D: Disk + Drop>(
     Err(fault)
 }
 
-/// Takes a packet whose session goes on, where nothing is held: one more event, whose packet is translated where it
-/// lies. Its answer isn't put behind the others, but said: its number, and the interface on which the packet leaves.
-/// The moment is in seconds. What it takes, it takes without memory.
+/// Takes a packet where it lies, as `take` takes an event: it is translated there, and what it is answered is told,
+/// whether it is answered at once or its answer is held. Where 64 answers are held they are settled first, since their
+/// caller has them; where the packet is refused as `Full` all are settled, the files are made short, and it is taken
+/// again. The moment is in seconds.
 ///
-/// `None` says nothing of the packet: it isn't taken, nothing has changed, and `take` tells what becomes of it.
-pub fn forward<D: Disk + Drop>(
+/// # Errors
+///
+/// The gateway's fault, `HeldFull` and `Full` never. The packet isn't taken, and lies as it was. Unless a call of the
+/// disk has failed, the gateway may go on.
+#[inline(always)]
+pub fn take_packet<D: Disk + Drop>(
     gateway: &mut Gateway<D>,
     moment: u64,
     iface: Iface,
     packet: &mut [u8],
-) -> Option<(u64, Iface)>
+) -> Result<GivenInPlace, GatewayFault>
     requires stands { gateway.old.fallen ≡ false }
-    ensures some { IfSome result (λ given. (before : List (ℕ × Answer))
-        → CarriesOn D.honest D.moment D.left D.failed gateway.old gateway.new
+    requires in_place { gateway.old.in_place ≡ true }
+    requires short { length packet.old ≤ 65535 }
+    ensures ok { IfOk result (λ taken. Proceeds D.honest D.moment D.left D.failed
+        gateway.old gateway.new
         (record { moment = moment; what = Packet iface packet.old } ∷ [])
-        before (before ++ (given.0, Forward given.1 packet.new) ∷ [])) }
+        (answer_given taken packet.new ∷ [])) }
+    ensures now { IfOk result (λ taken. IsNow (given_by taken packet.new)
+        → gateway.new.told.held ≡ []) }
+    ensures err { IfErr result (λ e. Fails D.honest D.moment D.left D.failed
+        gateway.old gateway.new
+        (record { moment = moment; what = Packet iface packet.old } ∷ []) e) }
+    ensures untouched { OnErr result (packet.new ≡ packet.old) }
     ensures any_moment { (before : List (ℕ × Answer))
         → SafeWithin D.honest D.moment D.left D.failed gateway.old gateway.new before }
-    ensures none { IfNone result ((gateway.new ≡ gateway.old) × (packet.new ≡ packet.old)) }
-    ensures held { gateway.new.told.held ≡ gateway.old.told.held }
-    ensures stands { gateway.new.fallen ≡ false }
+    ensures stands { OnOk result (gateway.new.fallen ≡ false) }
+    ensures in_place { gateway.new.in_place ≡ true }
     ensures length { length packet.new ≡ length packet.old }
 {
-    gateway.facts();
-    gateway.forward(moment, iface, packet)
+    settle_held_full(gateway)?;
+    match offer_packet(gateway, moment, iface, packet) {
+        Ok(taken) => Ok(taken),
+        Err(fault) => {
+            if is_full(fault) {
+                return take_packet_behind_compaction(gateway, moment, iface, packet);
+            }
+            Err(fault)
+        }
+    }
 }
 
-/// Takes a packet where it lies, as `take` takes an event: it is translated there. Its answer isn't put behind the
-/// others, but said, whether it is given at once or held. The moment is in seconds.
-///
-/// `None` says nothing of the packet: it isn't taken, nothing has changed, and `take` tells what becomes of it.
-#[inline(always)]
-pub fn take_in_place<D: Disk + Drop>(
+// Settles and compacts; then there is room for the packet, and it is taken.
+#[inline(never)]
+fn take_packet_behind_compaction<D: Disk + Drop>(
     gateway: &mut Gateway<D>,
     moment: u64,
     iface: Iface,
     packet: &mut [u8],
-) -> Option<GivenInPlace>
+) -> Result<GivenInPlace, GatewayFault>
     requires stands { gateway.old.fallen ≡ false }
-    ensures some { IfSome result (λ taken. (before : List (ℕ × Answer))
-        → CarriesOn D.honest D.moment D.left D.failed gateway.old gateway.new
+    requires in_place { gateway.old.in_place ≡ true }
+    requires short { length packet.old ≤ 65535 }
+    ensures ok { IfOk result (λ taken. Proceeds D.honest D.moment D.left D.failed
+        gateway.old gateway.new
         (record { moment = moment; what = Packet iface packet.old } ∷ [])
-        before (before ++ handed (given_by taken packet.new))) }
+        (answer_given taken packet.new ∷ [])) }
+    ensures now { IfOk result (λ taken. IsNow (given_by taken packet.new)
+        → gateway.new.told.held ≡ []) }
+    ensures err { IfErr result (λ e. Fails D.honest D.moment D.left D.failed
+        gateway.old gateway.new
+        (record { moment = moment; what = Packet iface packet.old } ∷ []) e) }
+    ensures untouched { OnErr result (packet.new ≡ packet.old) }
     ensures any_moment { (before : List (ℕ × Answer))
         → SafeWithin D.honest D.moment D.left D.failed gateway.old gateway.new before }
+    ensures stands { OnOk result (gateway.new.fallen ≡ false) }
+    ensures in_place { gateway.new.in_place ≡ true }
+    ensures length { length packet.new ≡ length packet.old }
+{
+    make_room(gateway)?;
+    offer_packet(gateway, moment, iface, packet)
+}
 
-    // Its answer has the packet as it lies there then.
-    ensures answer { IfSome result (λ taken.
-        handed (given_by taken packet.new) ++ gateway.new.told.held
-        ≡ gateway.old.told.held ++ answer_given taken packet.new ∷ []) }
-    ensures now { IfSome result (λ taken. IsNow (given_by taken packet.new)
-        → gateway.old.told.held ≡ []) }
-    ensures in_place { gateway.new.in_place ≡ gateway.old.in_place }
-    ensures none { IfNone result ((gateway.new ≡ gateway.old) × (packet.new ≡ packet.old)) }
+/// Takes the text of a ruleset, of which it takes a copy, as `take_packet` takes a packet.
+///
+/// # Errors
+///
+/// Those of `take_packet`. The text isn't taken.
+pub fn take_load<D: Disk + Drop>(
+    gateway: &mut Gateway<D>,
+    moment: u64,
+    text: &[u8],
+) -> Result<GivenInPlace, GatewayFault>
+    requires stands { gateway.old.fallen ≡ false }
+    requires in_place { gateway.old.in_place ≡ true }
+    requires short { length text.now < 2 ^ 31 }
+    ensures ok { IfOk result (λ taken. Proceeds D.honest D.moment D.left D.failed
+        gateway.old gateway.new
+        (record { moment = moment; what = Load text.now } ∷ [])
+        (answer_given taken [] ∷ [])) }
+    ensures now { IfOk result (λ taken. IsNow (given_by taken [])
+        → gateway.new.told.held ≡ []) }
+    ensures err { IfErr result (λ e. Fails D.honest D.moment D.left D.failed
+        gateway.old gateway.new
+        (record { moment = moment; what = Load text.now } ∷ []) e) }
+    ensures any_moment { (before : List (ℕ × Answer))
+        → SafeWithin D.honest D.moment D.left D.failed gateway.old gateway.new before }
+    ensures stands { OnOk result (gateway.new.fallen ≡ false) }
+    ensures in_place { gateway.new.in_place ≡ true }
+{
+    settle_held_full(gateway)?;
+    match offer_load(gateway, moment, text) {
+        Ok(taken) => Ok(taken),
+        Err(fault) => {
+            if is_full(fault) {
+                make_room(gateway)?;
+                return offer_load(gateway, moment, text);
+            }
+            Err(fault)
+        }
+    }
+}
+
+/// Takes a moment, in seconds, as `take_packet` takes a packet.
+///
+/// # Errors
+///
+/// Those of `take_packet`. The moment isn't taken.
+pub fn take_moment<D: Disk + Drop>(
+    gateway: &mut Gateway<D>,
+    moment: u64,
+) -> Result<GivenInPlace, GatewayFault>
+    requires stands { gateway.old.fallen ≡ false }
+    requires in_place { gateway.old.in_place ≡ true }
+    ensures ok { IfOk result (λ taken. Proceeds D.honest D.moment D.left D.failed
+        gateway.old gateway.new
+        (record { moment = moment; what = Moment } ∷ [])
+        (answer_given taken [] ∷ [])) }
+    ensures now { IfOk result (λ taken. IsNow (given_by taken [])
+        → gateway.new.told.held ≡ []) }
+    ensures err { IfErr result (λ e. Fails D.honest D.moment D.left D.failed
+        gateway.old gateway.new
+        (record { moment = moment; what = Moment } ∷ []) e) }
+    ensures any_moment { (before : List (ℕ × Answer))
+        → SafeWithin D.honest D.moment D.left D.failed gateway.old gateway.new before }
+    ensures stands { OnOk result (gateway.new.fallen ≡ false) }
+    ensures in_place { gateway.new.in_place ≡ true }
+{
+    settle_held_full(gateway)?;
+    match offer_moment(gateway, moment) {
+        Ok(taken) => Ok(taken),
+        Err(fault) => {
+            if is_full(fault) {
+                make_room(gateway)?;
+                return offer_moment(gateway, moment);
+            }
+            Err(fault)
+        }
+    }
+}
+
+// Settles where 64 answers are held.
+#[inline(always)]
+fn settle_held_full<D: Disk + Drop>(gateway: &mut Gateway<D>) -> Result<(), GatewayFault>
+    requires stands { gateway.old.fallen ≡ false }
+    requires in_place { gateway.old.in_place ≡ true }
+    ensures ok { OnOk result (Proceeds D.honest D.moment D.left D.failed gateway.old gateway.new
+        [] []) }
+    ensures err { IfErr result (λ e. Fails D.honest D.moment D.left D.failed
+        gateway.old gateway.new [] e) }
+    ensures any_moment { (before : List (ℕ × Answer))
+        → SafeWithin D.honest D.moment D.left D.failed gateway.old gateway.new before }
+    ensures stands { OnOk result (gateway.new.fallen ≡ false) }
+    ensures in_place { gateway.new.in_place ≡ true }
+    ensures state { gateway.new.told.state ≡ gateway.old.told.state }
+    ensures last { gateway.new.told.last ≡ gateway.old.told.last }
+    ensures few { OnOk result (length gateway.new.told.held < 64) }
+{
+    if gateway.held() < MOST_HELD {
+        return Ok(());
+    }
+    settle(gateway)
+}
+
+// Settles what is held, and compacts.
+#[inline(never)]
+fn make_room<D: Disk + Drop>(gateway: &mut Gateway<D>) -> Result<(), GatewayFault>
+    requires stands { gateway.old.fallen ≡ false }
+    requires in_place { gateway.old.in_place ≡ true }
+    ensures ok { OnOk result (Proceeds D.honest D.moment D.left D.failed gateway.old gateway.new
+        [] []) }
+    ensures err { IfErr result (λ e. Fails D.honest D.moment D.left D.failed
+        gateway.old gateway.new [] e) }
+    ensures any_moment { (before : List (ℕ × Answer))
+        → SafeWithin D.honest D.moment D.left D.failed gateway.old gateway.new before }
+    ensures stands { OnOk result (gateway.new.fallen ≡ false) }
+    ensures in_place { gateway.new.in_place ≡ true }
+    ensures state { gateway.new.told.state ≡ gateway.old.told.state }
+    ensures last { gateway.new.told.last ≡ gateway.old.told.last }
+    ensures none { OnOk result (gateway.new.told.held ≡ []) }
+    ensures roomy { OnOk result (IsRoomy gateway.new.filled) }
+{
+    settle(gateway)?;
+    compact_settled(gateway)
+}
+
+// Has the gateway take a packet, where fewer than 64 answers are held.
+#[inline(always)]
+fn offer_packet<D: Disk + Drop>(
+    gateway: &mut Gateway<D>,
+    moment: u64,
+    iface: Iface,
+    packet: &mut [u8],
+) -> Result<GivenInPlace, GatewayFault>
+    requires stands { gateway.old.fallen ≡ false }
+    requires few { length gateway.old.told.held < 64 }
+    requires short { length packet.old ≤ 65535 }
+    ensures ok { IfOk result (λ taken. Proceeds D.honest D.moment D.left D.failed
+        gateway.old gateway.new
+        (record { moment = moment; what = Packet iface packet.old } ∷ [])
+        (answer_given taken packet.new ∷ [])) }
+    ensures now { IfOk result (λ taken. IsNow (given_by taken packet.new)
+        → gateway.new.told.held ≡ []) }
+    ensures why { IfErr result (λ e. e ≢ GatewayFault.Full
+        → Fails D.honest D.moment D.left D.failed gateway.old gateway.new
+        (record { moment = moment; what = Packet iface packet.old } ∷ []) e) }
+    ensures full { IsRoomy gateway.old.filled → IfErr result (λ e. e ≢ GatewayFault.Full) }
+    ensures any_moment { (before : List (ℕ × Answer))
+        → SafeWithin D.honest D.moment D.left D.failed gateway.old gateway.new before }
     ensures stands { gateway.new.fallen ≡ false }
+    ensures in_place { gateway.new.in_place ≡ gateway.old.in_place }
+    ensures unchanged { OnErr result ((gateway.new ≡ gateway.old) × (packet.new ≡ packet.old)) }
     ensures length { length packet.new ≡ length packet.old }
 {
     gateway.facts();
-    gateway.offer_in_place(moment, iface, packet)
+    gateway.take_packet(moment, iface, packet)
+}
+
+// Has it take a text.
+fn offer_load<D: Disk + Drop>(
+    gateway: &mut Gateway<D>,
+    moment: u64,
+    text: &[u8],
+) -> Result<GivenInPlace, GatewayFault>
+    requires stands { gateway.old.fallen ≡ false }
+    requires few { length gateway.old.told.held < 64 }
+    requires short { length text.now < 2 ^ 31 }
+    ensures ok { IfOk result (λ taken. Proceeds D.honest D.moment D.left D.failed
+        gateway.old gateway.new
+        (record { moment = moment; what = Load text.now } ∷ [])
+        (answer_given taken [] ∷ [])) }
+    ensures now { IfOk result (λ taken. IsNow (given_by taken [])
+        → gateway.new.told.held ≡ []) }
+    ensures why { IfErr result (λ e. e ≢ GatewayFault.Full
+        → Fails D.honest D.moment D.left D.failed gateway.old gateway.new
+        (record { moment = moment; what = Load text.now } ∷ []) e) }
+    ensures full { IsRoomy gateway.old.filled → IfErr result (λ e. e ≢ GatewayFault.Full) }
+    ensures any_moment { (before : List (ℕ × Answer))
+        → SafeWithin D.honest D.moment D.left D.failed gateway.old gateway.new before }
+    ensures stands { gateway.new.fallen ≡ false }
+    ensures in_place { gateway.new.in_place ≡ gateway.old.in_place }
+    ensures unchanged { OnErr result (gateway.new ≡ gateway.old) }
+{
+    gateway.facts();
+    gateway.take_load(moment, text)
+}
+
+// Has it take a moment.
+fn offer_moment<D: Disk + Drop>(
+    gateway: &mut Gateway<D>,
+    moment: u64,
+) -> Result<GivenInPlace, GatewayFault>
+    requires stands { gateway.old.fallen ≡ false }
+    requires few { length gateway.old.told.held < 64 }
+    ensures ok { IfOk result (λ taken. Proceeds D.honest D.moment D.left D.failed
+        gateway.old gateway.new
+        (record { moment = moment; what = Moment } ∷ [])
+        (answer_given taken [] ∷ [])) }
+    ensures now { IfOk result (λ taken. IsNow (given_by taken [])
+        → gateway.new.told.held ≡ []) }
+    ensures why { IfErr result (λ e. e ≢ GatewayFault.Full
+        → Fails D.honest D.moment D.left D.failed gateway.old gateway.new
+        (record { moment = moment; what = Moment } ∷ []) e) }
+    ensures full { IsRoomy gateway.old.filled → IfErr result (λ e. e ≢ GatewayFault.Full) }
+    ensures any_moment { (before : List (ℕ × Answer))
+        → SafeWithin D.honest D.moment D.left D.failed gateway.old gateway.new before }
+    ensures stands { gateway.new.fallen ≡ false }
+    ensures in_place { gateway.new.in_place ≡ gateway.old.in_place }
+    ensures unchanged { OnErr result (gateway.new ≡ gateway.old) }
+{
+    gateway.facts();
+    gateway.take_moment(moment)
 }
 
 // Flushes and compacts; then there is room for the event, and it is taken.
@@ -217,6 +444,25 @@ pub fn compact<D: Disk + Drop>(
     ensures capacity { vec_capacity answers.old ≤ vec_capacity answers.new }
 {
     hand_out(gateway, answers)?;
+    compact_settled(gateway)
+}
+
+// Compacts a gateway that holds nothing.
+fn compact_settled<D: Disk + Drop>(gateway: &mut Gateway<D>) -> Result<(), GatewayFault>
+    requires stands { gateway.old.fallen ≡ false }
+    requires none { gateway.old.told.held ≡ [] }
+    ensures ok { OnOk result ((before : List (ℕ × Answer))
+        → CarriesOn D.honest D.moment D.left D.failed gateway.old gateway.new [] before before) }
+    ensures err { IfErr result (λ e. (before : List (ℕ × Answer))
+        → BreaksOff D.honest D.moment D.left D.failed gateway.old gateway.new [] before before e) }
+    ensures any_moment { (before : List (ℕ × Answer))
+        → SafeWithin D.honest D.moment D.left D.failed gateway.old gateway.new before }
+    ensures stands { OnOk result (gateway.new.fallen ≡ false) }
+    ensures told { gateway.new.told ≡ gateway.old.told }
+    ensures in_place { gateway.new.in_place ≡ true }
+    ensures roomy { OnOk result (IsRoomy gateway.new.filled) }
+    ensures grown { OnOk result (gateway.new.grown ≡ 0) }
+{
     gateway.compact()?;
     Ok(())
 }
@@ -284,8 +530,7 @@ pub fn hand_out<D: Disk + Drop>(
     Ok(())
 }
 
-/// Flushes, for whoever has the answers that are held already, as `take_in_place` told them. It asks that each was told
-/// so.
+/// Flushes, for whoever has the answers that are held already, as `take_packet` told them. It asks that each was told so.
 ///
 /// # Errors
 ///
@@ -307,6 +552,7 @@ pub fn settle<D: Disk + Drop>(gateway: &mut Gateway<D>) -> Result<(), GatewayFau
     ensures last { gateway.new.told.last ≡ gateway.old.told.last }
     ensures none { OnOk result (gateway.new.told.held ≡ []) }
     ensures stays { OnErr result (gateway.new.told.held ≡ gateway.old.told.held) }
+    ensures in_place { gateway.new.in_place ≡ true }
     ensures device { IfErr result (λ e. e ≡ GatewayFault.Device) }
     ensures generation { gateway.new.generation ≡ gateway.old.generation }
 {
