@@ -18,12 +18,17 @@ use Rattle.gateway.specs.declared.given.GivenInPlace.TheVariants.{Held, Now}
 use Rattle.gateway.proofs.Runs.{breaks-before, breaks-here, breaks-then, carries-then, ended, offer-why, offered, within-then}
 
 -- what is answered at once leaves nothing held
-pub none-held : (taken : GivenInPlace) (packet : List ℕ) (before now : List (ℕ × Answer)) → handed (given_by taken packet) ++ now ≡ before ++ answer_given taken packet ∷ []
+none-held : (taken : GivenInPlace) (packet : List ℕ) (before now : List (ℕ × Answer)) → handed (given_by taken packet) ++ now ≡ before ++ answer_given taken packet ∷ []
     → (IsNow (given_by taken packet) → before ≡ []) → IsNow (given_by taken packet) → now ≡ []
 none-held (Now number fate) packet before now order none is =
     let alone = ap length (none tt) in
     nil_from_length now (omega (arith, ap length order, alone, length-append before (answer_given (Now number fate) packet ∷ [])))
 none-held (Held number fate) packet before now order none is = absurd is
+
+pub none-taken : {D : Type 0} (old new : Kept D) (event : Event) (taken : GivenInPlace) (packet : List ℕ) → TakesInPlace old new event taken packet → IsNow (given_by taken packet)
+    → new.told.held ≡ []
+none-taken old new event taken packet t is =
+    none-held taken packet old.told.held new.told.held t.answer (λ now. ((t.takes.now t.takes.took.judged t.takes.took.is_judged).0 now).0) is
 
 none-out : (taken : GivenInPlace) (packet : List ℕ) (now : List (ℕ × Answer)) → (IsNow (given_by taken packet) → now ≡ []) → 1 < length now → handed (given_by taken packet) ≡ []
 none-out (Now number fate) packet now none more = let alone = ap length (none tt) in absurd (omega (arith, more, alone))
@@ -148,8 +153,7 @@ module _ {D : Type 0} (honest : D → Type 0) (moment : D → ℕ) (left : D →
   proceeds-taken taken packet is_one sound beside t = record {
     out = handed (given_by taken packet);
     order = t.answer;
-    few = none-out taken packet new.told.held
-        (none-held taken packet old.told.held new.told.held t.answer (λ is. ((t.takes.now t.takes.took.judged t.takes.took.is_judged).0 is).0));
+    few = none-out taken packet new.told.held (none-taken old new event taken packet t);
     carries = λ before start events s.
         offered honest moment left seen failed reads earlier start old events before s new event (given_by taken packet) is_one sound
         (ap (λ (g : Kept D). g.disk) beside) (ap (λ (g : Kept D). g.fallen) beside) t.takes.took t.takes.now;

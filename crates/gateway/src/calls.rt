@@ -429,9 +429,8 @@ impl<D: Disk + Drop> Gateway<D> {
         requires short { length packet.old ≤ 65535 }
         ensures ok { IfOk result (λ taken. TakesInPlace self.old self.new
             (record { moment = moment; what = Packet iface packet.old }) taken packet.new) }
-        ensures err { IfErr result (λ e. Refuses self.old
-            (record { moment = moment; what = Packet iface packet.old }) e) }
-        ensures unchanged { OnErr result ((self.new ≡ self.old) × (packet.new ≡ packet.old)) }
+        ensures err { IfErr result (λ e. (self.new ≡ self.old) × (packet.new ≡ packet.old)
+            × Refuses self.old (record { moment = moment; what = Packet iface packet.old }) e) }
 
         // No more than this has changed. An answer that it holds counts as told.
         ensures beside { self.new
@@ -464,9 +463,8 @@ impl<D: Disk + Drop> Gateway<D> {
         requires short { length text.now < 2 ^ 31 }
         ensures ok { IfOk result (λ taken. TakesInPlace self.old self.new
             (record { moment = moment; what = Load text.now }) taken []) }
-        ensures err { IfErr result (λ e. Refuses self.old
-            (record { moment = moment; what = Load text.now }) e) }
-        ensures unchanged { OnErr result (self.new ≡ self.old) }
+        ensures err { IfErr result (λ e. (self.new ≡ self.old)
+            × Refuses self.old (record { moment = moment; what = Load text.now }) e) }
         ensures beside { self.new
             ≡ record self.old { told = self.new.told; filled = self.new.filled } }
     {
@@ -488,9 +486,8 @@ impl<D: Disk + Drop> Gateway<D> {
     pub fn take_moment(&mut self, moment: u64) -> Result<GivenInPlace, GatewayFault>
         ensures ok { IfOk result (λ taken. TakesInPlace self.old self.new
             (record { moment = moment; what = Moment }) taken []) }
-        ensures err { IfErr result (λ e. Refuses self.old
-            (record { moment = moment; what = Moment }) e) }
-        ensures unchanged { OnErr result (self.new ≡ self.old) }
+        ensures err { IfErr result (λ e. (self.new ≡ self.old)
+            × Refuses self.old (record { moment = moment; what = Moment }) e) }
         ensures beside { self.new
             ≡ record self.old { told = self.new.told; filled = self.new.filled } }
     {
@@ -502,8 +499,7 @@ impl<D: Disk + Drop> Gateway<D> {
     fn take_bodiless(&mut self, event: Event) -> Result<GivenInPlace, GatewayFault>
         requires none { IsNoPacket event.what }
         ensures ok { IfOk result (λ taken. TakesInPlace self.old self.new event taken []) }
-        ensures err { IfErr result (λ e. Refuses self.old event e) }
-        ensures unchanged { OnErr result (self.new ≡ self.old) }
+        ensures err { IfErr result (λ e. (self.new ≡ self.old) × Refuses self.old event e) }
         ensures beside { self.new
             ≡ record self.old { told = self.new.told; filled = self.new.filled } }
     {

@@ -8,13 +8,14 @@
 //! - `calls`: `Gateway`, to which events are offered (`offer`), or which takes them in its caller's bytes, where a packet
 //!   is translated (`take_packet`, `take_load`, `take_moment`).
 //! - `surviving`: a core that begins again from what survived, and what survives of one.
-//! - `running`: a run of events over the gateway's calls, event by event.
+//! - `running`, `in_place`: a run of events over the gateway's calls, event by event.
 //! - `laws`: what follows from the definitions of `specs/Standing`.
 #![tactic(auto)]
 
 mod calls;
 mod fault;
 mod given;
+mod in_place;
 pub mod laws;
 mod pending;
 pub mod running;

@@ -1,0 +1,309 @@
+//! One more event of a run, taken in its caller's bytes. Whoever calls these has each held answer already, as it was told;
+//! so what is held is settled, and nothing is handed out.
+//!
+//! - `take_packet`, `take_load`, `take_moment`: where 64 answers are held `settle_held_full` settles them first; then
+//!   `Gateway::take_packet` and its like take the event, and where it is refused as Full, `make_room` settles and
+//!   compacts, and it is taken again
+ghost use Rattle.std.specs.Prelude.{◌≡◌, ◌≢◌, ◌^◌, ◌<◌, ◌≤◌, ◌∷◌, [], ℕ, List, false, length};
+ghost use Rattle.std.specs.Prelude.{IfErr, IfOk, OnErr, OnOk, true};
+ghost use Rattle.machine.specs.declared.event.Answer.{Answer};
+ghost use Rattle.machine.specs.declared.event.What.TheVariants.{Load, Moment, Packet};
+ghost use Rattle.gateway.specs.Kept.{IsRoomy};
+ghost use Rattle.gateway.specs.Given.{IsNow, answer_given, given_by};
+ghost use Rattle.gateway.specs.Running.{Fails, Proceeds, SafeWithin};
+
+use crate::calls::Gateway;
+use crate::pending::MOST_HELD;
+use crate::running::{compact_settled, is_full, settle};
+use crate::{GatewayFault, GivenInPlace};
+use disk_model::Disk;
+use machine::Iface;
+
+/// Takes a packet where it lies, as `take` takes an event: it is translated there, and what it is answered is told,
+/// whether it is answered at once or its answer is held. Where 64 answers are held they are settled first, since their
+/// caller has them; where the packet is refused as `Full` all are settled, the files are made short, and it is taken
+/// again. The moment is in seconds.
+///
+/// # Errors
+///
+/// The gateway's fault, `HeldFull` and `Full` never. The packet isn't taken, and lies as it was. Unless a call of the
+/// disk has failed, the gateway may go on.
+#[inline(always)]
+pub fn take_packet<D: Disk + Drop>(
+    gateway: &mut Gateway<D>,
+    moment: u64,
+    iface: Iface,
+    packet: &mut [u8],
+) -> Result<GivenInPlace, GatewayFault>
+    requires stands { gateway.old.fallen ≡ false }
+    requires in_place { gateway.old.in_place ≡ true }
+    requires short { length packet.old ≤ 65535 }
+    ensures ok { IfOk result (λ taken. Proceeds D.honest D.moment D.left D.failed
+        gateway.old gateway.new
+        (record { moment = moment; what = Packet iface packet.old } ∷ [])
+        (answer_given taken packet.new ∷ [])) }
+    ensures now { IfOk result (λ taken. IsNow (given_by taken packet.new)
+        → gateway.new.told.held ≡ []) }
+    ensures err { IfErr result (λ e. Fails D.honest D.moment D.left D.failed
+        gateway.old gateway.new
+        (record { moment = moment; what = Packet iface packet.old } ∷ []) e) }
+    ensures untouched { OnErr result (packet.new ≡ packet.old) }
+    ensures any_moment { (before : List (ℕ × Answer))
+        → SafeWithin D.honest D.moment D.left D.failed gateway.old gateway.new before }
+    ensures stands { OnOk result (gateway.new.fallen ≡ false) }
+    ensures in_place { gateway.new.in_place ≡ true }
+    ensures length { length packet.new ≡ length packet.old }
+{
+    settle_held_full(gateway)?;
+    match offer_packet(gateway, moment, iface, packet) {
+        Ok(taken) => Ok(taken),
+        Err(fault) => {
+            if is_full(fault) {
+                return take_packet_behind_compaction(gateway, moment, iface, packet);
+            }
+            Err(fault)
+        }
+    }
+}
+
+// Settles and compacts; then there is room for the packet, and it is taken.
+#[inline(never)]
+fn take_packet_behind_compaction<D: Disk + Drop>(
+    gateway: &mut Gateway<D>,
+    moment: u64,
+    iface: Iface,
+    packet: &mut [u8],
+) -> Result<GivenInPlace, GatewayFault>
+    requires stands { gateway.old.fallen ≡ false }
+    requires in_place { gateway.old.in_place ≡ true }
+    requires short { length packet.old ≤ 65535 }
+    ensures ok { IfOk result (λ taken. Proceeds D.honest D.moment D.left D.failed
+        gateway.old gateway.new
+        (record { moment = moment; what = Packet iface packet.old } ∷ [])
+        (answer_given taken packet.new ∷ [])) }
+    ensures now { IfOk result (λ taken. IsNow (given_by taken packet.new)
+        → gateway.new.told.held ≡ []) }
+    ensures err { IfErr result (λ e. Fails D.honest D.moment D.left D.failed
+        gateway.old gateway.new
+        (record { moment = moment; what = Packet iface packet.old } ∷ []) e) }
+    ensures untouched { OnErr result (packet.new ≡ packet.old) }
+    ensures any_moment { (before : List (ℕ × Answer))
+        → SafeWithin D.honest D.moment D.left D.failed gateway.old gateway.new before }
+    ensures stands { OnOk result (gateway.new.fallen ≡ false) }
+    ensures in_place { gateway.new.in_place ≡ true }
+    ensures length { length packet.new ≡ length packet.old }
+{
+    make_room(gateway)?;
+    offer_packet(gateway, moment, iface, packet)
+}
+
+/// Takes the text of a ruleset, of which it takes a copy, as `take_packet` takes a packet.
+///
+/// # Errors
+///
+/// Those of `take_packet`. The text isn't taken.
+pub fn take_load<D: Disk + Drop>(
+    gateway: &mut Gateway<D>,
+    moment: u64,
+    text: &[u8],
+) -> Result<GivenInPlace, GatewayFault>
+    requires stands { gateway.old.fallen ≡ false }
+    requires in_place { gateway.old.in_place ≡ true }
+    requires short { length text.now < 2 ^ 31 }
+    ensures ok { IfOk result (λ taken. Proceeds D.honest D.moment D.left D.failed
+        gateway.old gateway.new
+        (record { moment = moment; what = Load text.now } ∷ [])
+        (answer_given taken [] ∷ [])) }
+    ensures now { IfOk result (λ taken. IsNow (given_by taken [])
+        → gateway.new.told.held ≡ []) }
+    ensures err { IfErr result (λ e. Fails D.honest D.moment D.left D.failed
+        gateway.old gateway.new
+        (record { moment = moment; what = Load text.now } ∷ []) e) }
+    ensures any_moment { (before : List (ℕ × Answer))
+        → SafeWithin D.honest D.moment D.left D.failed gateway.old gateway.new before }
+    ensures stands { OnOk result (gateway.new.fallen ≡ false) }
+    ensures in_place { gateway.new.in_place ≡ true }
+{
+    settle_held_full(gateway)?;
+    match offer_load(gateway, moment, text) {
+        Ok(taken) => Ok(taken),
+        Err(fault) => {
+            if is_full(fault) {
+                make_room(gateway)?;
+                return offer_load(gateway, moment, text);
+            }
+            Err(fault)
+        }
+    }
+}
+
+/// Takes a moment, in seconds, as `take_packet` takes a packet.
+///
+/// # Errors
+///
+/// Those of `take_packet`. The moment isn't taken.
+pub fn take_moment<D: Disk + Drop>(
+    gateway: &mut Gateway<D>,
+    moment: u64,
+) -> Result<GivenInPlace, GatewayFault>
+    requires stands { gateway.old.fallen ≡ false }
+    requires in_place { gateway.old.in_place ≡ true }
+    ensures ok { IfOk result (λ taken. Proceeds D.honest D.moment D.left D.failed
+        gateway.old gateway.new
+        (record { moment = moment; what = Moment } ∷ [])
+        (answer_given taken [] ∷ [])) }
+    ensures now { IfOk result (λ taken. IsNow (given_by taken [])
+        → gateway.new.told.held ≡ []) }
+    ensures err { IfErr result (λ e. Fails D.honest D.moment D.left D.failed
+        gateway.old gateway.new
+        (record { moment = moment; what = Moment } ∷ []) e) }
+    ensures any_moment { (before : List (ℕ × Answer))
+        → SafeWithin D.honest D.moment D.left D.failed gateway.old gateway.new before }
+    ensures stands { OnOk result (gateway.new.fallen ≡ false) }
+    ensures in_place { gateway.new.in_place ≡ true }
+{
+    settle_held_full(gateway)?;
+    match offer_moment(gateway, moment) {
+        Ok(taken) => Ok(taken),
+        Err(fault) => {
+            if is_full(fault) {
+                make_room(gateway)?;
+                return offer_moment(gateway, moment);
+            }
+            Err(fault)
+        }
+    }
+}
+
+// Settles where 64 answers are held.
+#[inline(always)]
+fn settle_held_full<D: Disk + Drop>(gateway: &mut Gateway<D>) -> Result<(), GatewayFault>
+    requires stands { gateway.old.fallen ≡ false }
+    requires in_place { gateway.old.in_place ≡ true }
+    ensures ok { OnOk result (Proceeds D.honest D.moment D.left D.failed gateway.old gateway.new
+        [] []) }
+    ensures err { IfErr result (λ e. Fails D.honest D.moment D.left D.failed
+        gateway.old gateway.new [] e) }
+    ensures any_moment { (before : List (ℕ × Answer))
+        → SafeWithin D.honest D.moment D.left D.failed gateway.old gateway.new before }
+    ensures stands { OnOk result (gateway.new.fallen ≡ false) }
+    ensures in_place { gateway.new.in_place ≡ true }
+    ensures state { gateway.new.told.state ≡ gateway.old.told.state }
+    ensures last { gateway.new.told.last ≡ gateway.old.told.last }
+    ensures few { OnOk result (length gateway.new.told.held < 64) }
+{
+    if gateway.held() < MOST_HELD {
+        return Ok(());
+    }
+    settle(gateway)
+}
+
+// Settles what is held, and compacts.
+#[inline(never)]
+fn make_room<D: Disk + Drop>(gateway: &mut Gateway<D>) -> Result<(), GatewayFault>
+    requires stands { gateway.old.fallen ≡ false }
+    requires in_place { gateway.old.in_place ≡ true }
+    ensures ok { OnOk result (Proceeds D.honest D.moment D.left D.failed gateway.old gateway.new
+        [] []) }
+    ensures err { IfErr result (λ e. Fails D.honest D.moment D.left D.failed
+        gateway.old gateway.new [] e) }
+    ensures any_moment { (before : List (ℕ × Answer))
+        → SafeWithin D.honest D.moment D.left D.failed gateway.old gateway.new before }
+    ensures stands { OnOk result (gateway.new.fallen ≡ false) }
+    ensures in_place { gateway.new.in_place ≡ true }
+    ensures state { gateway.new.told.state ≡ gateway.old.told.state }
+    ensures last { gateway.new.told.last ≡ gateway.old.told.last }
+    ensures none { OnOk result (gateway.new.told.held ≡ []) }
+    ensures roomy { OnOk result (IsRoomy gateway.new.filled) }
+{
+    settle(gateway)?;
+    compact_settled(gateway)
+}
+
+// Has the gateway take a packet, where fewer than 64 answers are held.
+#[inline(always)]
+fn offer_packet<D: Disk + Drop>(
+    gateway: &mut Gateway<D>,
+    moment: u64,
+    iface: Iface,
+    packet: &mut [u8],
+) -> Result<GivenInPlace, GatewayFault>
+    requires stands { gateway.old.fallen ≡ false }
+    requires few { length gateway.old.told.held < 64 }
+    requires short { length packet.old ≤ 65535 }
+    ensures ok { IfOk result (λ taken. Proceeds D.honest D.moment D.left D.failed
+        gateway.old gateway.new
+        (record { moment = moment; what = Packet iface packet.old } ∷ [])
+        (answer_given taken packet.new ∷ [])) }
+    ensures now { IfOk result (λ taken. IsNow (given_by taken packet.new)
+        → gateway.new.told.held ≡ []) }
+    ensures err { IfErr result (λ e. (gateway.new ≡ gateway.old) × (packet.new ≡ packet.old)
+        × (e ≢ GatewayFault.Full
+        → Fails D.honest D.moment D.left D.failed gateway.old gateway.new
+        (record { moment = moment; what = Packet iface packet.old } ∷ []) e)
+        × (IsRoomy gateway.old.filled → e ≢ GatewayFault.Full)) }
+    ensures any_moment { (before : List (ℕ × Answer))
+        → SafeWithin D.honest D.moment D.left D.failed gateway.old gateway.new before }
+    ensures stands { gateway.new.fallen ≡ false }
+    ensures in_place { gateway.new.in_place ≡ gateway.old.in_place }
+    ensures length { length packet.new ≡ length packet.old }
+{
+    gateway.facts();
+    gateway.take_packet(moment, iface, packet)
+}
+
+// Has it take a text.
+fn offer_load<D: Disk + Drop>(
+    gateway: &mut Gateway<D>,
+    moment: u64,
+    text: &[u8],
+) -> Result<GivenInPlace, GatewayFault>
+    requires stands { gateway.old.fallen ≡ false }
+    requires few { length gateway.old.told.held < 64 }
+    requires short { length text.now < 2 ^ 31 }
+    ensures ok { IfOk result (λ taken. Proceeds D.honest D.moment D.left D.failed
+        gateway.old gateway.new
+        (record { moment = moment; what = Load text.now } ∷ [])
+        (answer_given taken [] ∷ [])) }
+    ensures now { IfOk result (λ taken. IsNow (given_by taken [])
+        → gateway.new.told.held ≡ []) }
+    ensures err { IfErr result (λ e. (gateway.new ≡ gateway.old)
+        × (e ≢ GatewayFault.Full
+        → Fails D.honest D.moment D.left D.failed gateway.old gateway.new
+        (record { moment = moment; what = Load text.now } ∷ []) e)
+        × (IsRoomy gateway.old.filled → e ≢ GatewayFault.Full)) }
+    ensures any_moment { (before : List (ℕ × Answer))
+        → SafeWithin D.honest D.moment D.left D.failed gateway.old gateway.new before }
+    ensures stands { gateway.new.fallen ≡ false }
+    ensures in_place { gateway.new.in_place ≡ gateway.old.in_place }
+{
+    gateway.facts();
+    gateway.take_load(moment, text)
+}
+
+// Has it take a moment.
+fn offer_moment<D: Disk + Drop>(
+    gateway: &mut Gateway<D>,
+    moment: u64,
+) -> Result<GivenInPlace, GatewayFault>
+    requires stands { gateway.old.fallen ≡ false }
+    requires few { length gateway.old.told.held < 64 }
+    ensures ok { IfOk result (λ taken. Proceeds D.honest D.moment D.left D.failed
+        gateway.old gateway.new
+        (record { moment = moment; what = Moment } ∷ [])
+        (answer_given taken [] ∷ [])) }
+    ensures now { IfOk result (λ taken. IsNow (given_by taken [])
+        → gateway.new.told.held ≡ []) }
+    ensures err { IfErr result (λ e. (gateway.new ≡ gateway.old)
+        × (e ≢ GatewayFault.Full
+        → Fails D.honest D.moment D.left D.failed gateway.old gateway.new
+        (record { moment = moment; what = Moment } ∷ []) e)
+        × (IsRoomy gateway.old.filled → e ≢ GatewayFault.Full)) }
+    ensures any_moment { (before : List (ℕ × Answer))
+        → SafeWithin D.honest D.moment D.left D.failed gateway.old gateway.new before }
+    ensures stands { gateway.new.fallen ≡ false }
+    ensures in_place { gateway.new.in_place ≡ gateway.old.in_place }
+{
+    gateway.facts();
+    gateway.take_moment(moment)
+}
