@@ -14,6 +14,7 @@ use Rattle.machine.specs.declared.deed.Deed.TheVariants as deed
 use Rattle.machine.specs.declared.event.Answer.{Answer}
 use Rattle.machine.specs.declared.event.Answer.TheVariants as answered
 use Rattle.machine.specs.declared.event.Event.{Event}
+use Rattle.machine.specs.declared.event.What.TheVariants.{Load}
 use Rattle.gateway.specs.Given.{IsNow, handed}
 use Rattle.gateway.specs.HeldAnswers.{Gives, HeldAnswers}
 use Rattle.gateway.specs.Kept.{Kept, IsTooMuch}
@@ -131,3 +132,17 @@ module _ {D : Type 0} (old : Kept D) (event : Event) (why : GatewayFault) where
     where
       other : (which : GatewayFault) → why ≡ which → which ≢ fault.Full → which ≢ fault.NoMemory → ⊥
       other which is first second = elim either [ inl e ↦ first (sym is ∙ e) | inr e ↦ second (sym is ∙ e) ]
+
+-- there is no memory for the text that it brings
+pub refuses_load : {D : Type 0} (old : Kept D) (moment : ℕ) (text : List ℕ) → old.fallen ≡ false → old.told.last < 2 ^ 64 - 1 → length old.told.held < 64
+    → Refuses old (record { moment = moment; what = Load text }) fault.NoMemory
+refuses_load old moment text stands left few = record {
+  reopen = (λ is. absurd cc, λ fallen. absurd (false≢true (sym stands ∙ fallen)));
+  numbers_out = (λ is. absurd cc, λ none. let last = none.1 in absurd (omega (arith, left, last)));
+  held_full = (λ is. absurd cc, λ all. let held = all.2 in absurd (omega (arith, few, held)));
+  full = λ is. absurd cc;
+  roomy = λ room is. absurd cc;
+  no_memory = λ none. absurd (none text refl);
+  causes = (λ is. absurd cc, λ is. absurd cc);
+  quiet = λ _ _ _ none. absurd (none text refl);
+}

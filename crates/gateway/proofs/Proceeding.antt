@@ -1,5 +1,5 @@
 -- Events that are taken in their caller's bytes, and what is settled for them.
-use Rattle.std.proofs.Common.{◌≡◌, ◌≢◌, ℕ, ◌+◌, ◌<◌, ◌≤◌, List, [], ◌∷◌, ◌++◌, length, true, refl, sym, ◌∙◌, ap, subst, arith, append_assoc, length-append}
+use Rattle.std.proofs.Common.{◌≡◌, ◌≢◌, ℕ, ◌+◌, ◌<◌, ◌≤◌, List, [], ◌∷◌, ◌++◌, length, false, true, refl, sym, ◌∙◌, ap, subst, arith, append_assoc, length-append}
 use Rattle.std.proofs.lemmas.List.{append-nil, nil_from_length}
 use Rattle.packet.specs.Config.{is_config}
 use Rattle.disk_model.specs.Disk.{Files}
@@ -15,7 +15,7 @@ use Rattle.gateway.specs.declared.fault.GatewayFault.{GatewayFault}
 use Rattle.gateway.specs.declared.fault.GatewayFault.TheVariants as fault
 use Rattle.gateway.specs.declared.given.GivenInPlace.{GivenInPlace}
 use Rattle.gateway.specs.declared.given.GivenInPlace.TheVariants.{Held, Now}
-use Rattle.gateway.proofs.Runs.{breaks-before, breaks-here, breaks-then, carries-then, ended, offer-why, offered, within-then}
+use Rattle.gateway.proofs.Runs.{breaks-before, breaks-here, breaks-then, carries-then, ended, memory-why, offer-why, offered, within-then}
 
 -- what is answered at once leaves nothing held
 none-held : (taken : GivenInPlace) (packet : List ℕ) (before now : List (ℕ × Answer)) → handed (given_by taken packet) ++ now ≡ before ++ answer_given taken packet ∷ []
@@ -171,3 +171,18 @@ module _ {D : Type 0} (honest : D → Type 0) (moment : D → ℕ) (left : D →
         stays = λ other. subst (λ (n : Kept D). Stands honest moment left failed start n events before) (sym same) s;
       }))
       (ap (λ (g : Kept D). g.told.held) same) (ap (λ (g : Kept D). g.told.state) same) (ap (λ (g : Kept D). g.told.last) same)
+
+module _ {D : Type 0} (honest : D → Type 0) (moment : D → ℕ) (left : D → ℕ → Files → Type 0) (seen : D → Files) (failed : D → ℕ)
+    (reads : (disk : D) → honest disk → left disk (moment disk) (seen disk))
+    (earlier : (disk : D) (s t : ℕ) (files : Files) → s ≤ t → left disk t files → left disk s files) (now : Kept D) (events : List Event) where
+  -- memory was refused before the gateway was asked
+  pub fails-unasked : now.fallen ≡ false → Fails honest moment left failed now now events fault.NoMemory
+  fails-unasked stands =
+      fails-held honest moment left failed now now events fault.NoMemory
+      (λ before. breaks-here honest moment left failed now now events before before fault.NoMemory
+      (λ start past s. record {
+        ends = ended honest moment left seen failed reads earlier start now past before s;
+        is_why = memory-why honest moment left failed start now stands s.no_failure;
+        stays = λ other. s;
+      }))
+      refl refl refl

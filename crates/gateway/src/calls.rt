@@ -21,7 +21,7 @@ ghost use Rattle.machine.specs.Machine.{KeepsCount, EndsNone, later, step};
 ghost use Rattle.machine.specs.Sizes.{most_bytes};
 ghost use Rattle.machine.specs.Noted.{AreEntriesOf, HasEntry, IsResumed, lasting};
 ghost use Rattle.machine.specs.Sound.{IsSoundState};
-ghost use Rattle.machine.specs.declared.event.What.TheVariants.{Load, Moment, Packet};
+ghost use Rattle.machine.specs.declared.event.What.TheVariants.{Packet};
 ghost use Rattle.gateway.specs.Given.{IsNow};
 ghost use Rattle.gateway.specs.Told.{Took, TookAll, TookFirst};
 ghost use Rattle.gateway.specs.Kept.{GroupsEndAt, IsAtRest, IsRoomy, IsSafe, IsTooMuch};
@@ -36,7 +36,7 @@ use crate::surviving::{lasting_sessions, resume_core};
 use crate::{GatewayFault, Given, GivenInPlace, OpenFault};
 use disk_model::Disk;
 use machine::laws::events_are_judged_once;
-use machine::{Answer, Bytes, Coming, Core, Event, Iface, MOST_AHEAD, NoMemory, What};
+use machine::{Answer, Bytes, Coming, Core, Event, Iface, MOST_AHEAD, NoMemory};
 use packet::Bounds;
 use sessions::Session;
 use snapshot::{CommitFault, Opened, Store};
@@ -454,57 +454,21 @@ impl<D: Disk + Drop> Gateway<D> {
         }
     }
 
-    /// Takes the text of a ruleset, of which it takes a copy, as `take_packet` takes a packet.
+    /// Takes an event that brings no packet as `offer` does, and tells what it is answered, as `take_packet` does.
     ///
     /// # Errors
     ///
-    /// Those of `offer`. Nothing has changed.
-    pub fn take_load(&mut self, moment: u64, text: &[u8]) -> Result<GivenInPlace, GatewayFault>
-        requires short { length text.now < 2 ^ 31 }
-        ensures ok { IfOk result (λ taken. TakesInPlace self.old self.new
-            (record { moment = moment; what = Load text.now }) taken []) }
-        ensures err { IfErr result (λ e. (self.new ≡ self.old)
-            × Refuses self.old (record { moment = moment; what = Load text.now }) e) }
-        ensures beside { self.new
-            ≡ record self.old { told = self.new.told; filled = self.new.filled } }
-    {
-        if let Some(fault) = self.why_none() {
-            return Err(fault);
-        }
-        let Ok(text) = Vec::from_slice(self.alloc, text) else {
-            return Err(GatewayFault::NoMemory);
-        };
-        let what = What::Load(Bytes::of(text));
-        self.take_bodiless(Event { moment, what })
-    }
-
-    /// Takes a moment, in seconds, as `take_packet` takes a packet.
-    ///
-    /// # Errors
-    ///
-    /// Those of `offer`. Nothing has changed.
-    pub fn take_moment(&mut self, moment: u64) -> Result<GivenInPlace, GatewayFault>
-        ensures ok { IfOk result (λ taken. TakesInPlace self.old self.new
-            (record { moment = moment; what = Moment }) taken []) }
-        ensures err { IfErr result (λ e. (self.new ≡ self.old)
-            × Refuses self.old (record { moment = moment; what = Moment }) e) }
-        ensures beside { self.new
-            ≡ record self.old { told = self.new.told; filled = self.new.filled } }
-    {
-        let what = What::Moment;
-        self.take_bodiless(Event { moment, what })
-    }
-
-    // Takes an event that brings no packet.
-    fn take_bodiless(&mut self, event: Event) -> Result<GivenInPlace, GatewayFault>
-        requires none { IsNoPacket event.what }
+    /// Those of `offer`. The event comes back, and nothing has changed.
+    pub fn take_event(&mut self, event: Event) -> Result<GivenInPlace, (Event, GatewayFault)>
+        requires bodiless { IsNoPacket event.what }
         ensures ok { IfOk result (λ taken. TakesInPlace self.old self.new event taken []) }
-        ensures err { IfErr result (λ e. (self.new ≡ self.old) × Refuses self.old event e) }
+        ensures err { IfErr result (λ e. (e.0 ≡ event) × (self.new ≡ self.old)
+            × Refuses self.old event e.1) }
         ensures beside { self.new
             ≡ record self.old { told = self.new.told; filled = self.new.filled } }
     {
         if let Some(fault) = self.why_none() {
-            return Err(fault);
+            return Err((event, fault));
         }
         self.core.facts();
         events_are_judged_once();
@@ -514,8 +478,19 @@ impl<D: Disk + Drop> Gateway<D> {
                 let fate = fate_of(answer);
                 Ok(give_copy(&mut self.pending, self.last, fate, &[]))
             }
-            Err((_, fault)) => Err(why_refused(fault)),
+            Err((event, fault)) => Err((event, why_refused(fault))),
         }
+    }
+
+    // A copy of a text.
+    pub(crate) fn copy(&self, text: &[u8]) -> Result<Bytes, NoMemory>
+        requires { length text.now < 2 ^ 31 }
+        ensures { IfOk result (λ bytes. bytes ≡ text.now) }
+    {
+        let Ok(bytes) = Vec::from_slice(self.alloc, text) else {
+            return Err(NoMemory);
+        };
+        Ok(Bytes::of(bytes))
     }
 
     /// Whether so many sessions have been held at once that it serves to look ahead.

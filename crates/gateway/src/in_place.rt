@@ -1,9 +1,9 @@
 //! One more event of a run, taken in its caller's bytes. Whoever calls these has each held answer already, as it was told;
 //! so what is held is settled, and nothing is handed out.
 //!
-//! - `take_packet`, `take_load`, `take_moment`: where 64 answers are held `settle_held_full` settles them first; then
-//!   `Gateway::take_packet` and its like take the event, and where it is refused as Full, `make_room` settles and
-//!   compacts, and it is taken again
+//! - `take_packet`: where 64 answers are held `settle_held_full` settles them first; then `Gateway::take_packet` takes the
+//!   packet, and where it is refused as Full, `make_room` settles and compacts, and it is taken again
+//! - `take_load`, `take_moment`: so does `take_event` an event without a packet, by `Gateway::take_event`
 ghost use Rattle.std.specs.Prelude.{◌≡◌, ◌≢◌, ◌^◌, ◌<◌, ◌≤◌, ◌∷◌, [], ℕ, List, false, length};
 ghost use Rattle.std.specs.Prelude.{IfErr, IfOk, OnErr, OnOk, true};
 ghost use Rattle.machine.specs.declared.event.Answer.{Answer};
@@ -11,13 +11,14 @@ ghost use Rattle.machine.specs.declared.event.What.TheVariants.{Load, Moment, Pa
 ghost use Rattle.gateway.specs.Kept.{IsRoomy};
 ghost use Rattle.gateway.specs.Given.{IsNow, answer_given, given_by};
 ghost use Rattle.gateway.specs.Running.{Fails, Proceeds, SafeWithin};
+ghost use Rattle.gateway.specs.Taking.{IsNoPacket};
 
 use crate::calls::Gateway;
 use crate::pending::MOST_HELD;
 use crate::running::{compact_settled, is_full, settle};
 use crate::{GatewayFault, GivenInPlace};
 use disk_model::Disk;
-use machine::Iface;
+use machine::{Event, Iface, What};
 
 /// Takes a packet where it lies, as `take` takes an event: it is translated there, and what it is answered is told,
 /// whether it is answered at once or its answer is held. Where 64 answers are held they are settled first, since their
@@ -124,17 +125,11 @@ pub fn take_load<D: Disk + Drop>(
     ensures stands { OnOk result (gateway.new.fallen ≡ false) }
     ensures in_place { gateway.new.in_place ≡ true }
 {
-    settle_held_full(gateway)?;
-    match offer_load(gateway, moment, text) {
-        Ok(taken) => Ok(taken),
-        Err(fault) => {
-            if is_full(fault) {
-                make_room(gateway)?;
-                return offer_load(gateway, moment, text);
-            }
-            Err(fault)
-        }
-    }
+    let Ok(text) = gateway.copy(text) else {
+        return Err(GatewayFault::NoMemory);
+    };
+    let what = What::Load(text);
+    take_event(gateway, Event { moment, what })
 }
 
 /// Takes a moment, in seconds, as `take_packet` takes a packet.
@@ -162,16 +157,64 @@ pub fn take_moment<D: Disk + Drop>(
     ensures stands { OnOk result (gateway.new.fallen ≡ false) }
     ensures in_place { gateway.new.in_place ≡ true }
 {
+    let what = What::Moment;
+    take_event(gateway, Event { moment, what })
+}
+
+// Takes an event that brings no packet.
+fn take_event<D: Disk + Drop>(
+    gateway: &mut Gateway<D>,
+    event: Event,
+) -> Result<GivenInPlace, GatewayFault>
+    requires stands { gateway.old.fallen ≡ false }
+    requires in_place { gateway.old.in_place ≡ true }
+    requires bodiless { IsNoPacket event.what }
+    ensures ok { IfOk result (λ taken. Proceeds D.honest D.moment D.left D.failed
+        gateway.old gateway.new (event ∷ []) (answer_given taken [] ∷ [])) }
+    ensures now { IfOk result (λ taken. IsNow (given_by taken [])
+        → gateway.new.told.held ≡ []) }
+    ensures err { IfErr result (λ e. Fails D.honest D.moment D.left D.failed
+        gateway.old gateway.new (event ∷ []) e) }
+    ensures any_moment { (before : List (ℕ × Answer))
+        → SafeWithin D.honest D.moment D.left D.failed gateway.old gateway.new before }
+    ensures stands { OnOk result (gateway.new.fallen ≡ false) }
+    ensures in_place { gateway.new.in_place ≡ true }
+{
     settle_held_full(gateway)?;
-    match offer_moment(gateway, moment) {
+    match offer_event(gateway, event) {
         Ok(taken) => Ok(taken),
-        Err(fault) => {
+        Err((event, fault)) => {
             if is_full(fault) {
-                make_room(gateway)?;
-                return offer_moment(gateway, moment);
+                return take_event_behind_compaction(gateway, event);
             }
             Err(fault)
         }
+    }
+}
+
+// Settles and compacts; then there is room for the event, and it is taken.
+fn take_event_behind_compaction<D: Disk + Drop>(
+    gateway: &mut Gateway<D>,
+    event: Event,
+) -> Result<GivenInPlace, GatewayFault>
+    requires stands { gateway.old.fallen ≡ false }
+    requires in_place { gateway.old.in_place ≡ true }
+    requires bodiless { IsNoPacket event.what }
+    ensures ok { IfOk result (λ taken. Proceeds D.honest D.moment D.left D.failed
+        gateway.old gateway.new (event ∷ []) (answer_given taken [] ∷ [])) }
+    ensures now { IfOk result (λ taken. IsNow (given_by taken [])
+        → gateway.new.told.held ≡ []) }
+    ensures err { IfErr result (λ e. Fails D.honest D.moment D.left D.failed
+        gateway.old gateway.new (event ∷ []) e) }
+    ensures any_moment { (before : List (ℕ × Answer))
+        → SafeWithin D.honest D.moment D.left D.failed gateway.old gateway.new before }
+    ensures stands { OnOk result (gateway.new.fallen ≡ false) }
+    ensures in_place { gateway.new.in_place ≡ true }
+{
+    make_room(gateway)?;
+    match offer_event(gateway, event) {
+        Ok(taken) => Ok(taken),
+        Err((_, fault)) => Err(fault),
     }
 }
 
@@ -195,7 +238,8 @@ fn settle_held_full<D: Disk + Drop>(gateway: &mut Gateway<D>) -> Result<(), Gate
     if gateway.held() < MOST_HELD {
         return Ok(());
     }
-    settle(gateway)
+    settle(gateway)?;
+    Ok(())
 }
 
 // Settles what is held, and compacts.
@@ -217,7 +261,8 @@ fn make_room<D: Disk + Drop>(gateway: &mut Gateway<D>) -> Result<(), GatewayFaul
     ensures roomy { OnOk result (IsRoomy gateway.new.filled) }
 {
     settle(gateway)?;
-    compact_settled(gateway)
+    compact_settled(gateway)?;
+    Ok(())
 }
 
 // Has the gateway take a packet, where fewer than 64 answers are held.
@@ -252,58 +297,27 @@ fn offer_packet<D: Disk + Drop>(
     gateway.take_packet(moment, iface, packet)
 }
 
-// Has it take a text.
-fn offer_load<D: Disk + Drop>(
+// Has it take an event that brings no packet.
+fn offer_event<D: Disk + Drop>(
     gateway: &mut Gateway<D>,
-    moment: u64,
-    text: &[u8],
-) -> Result<GivenInPlace, GatewayFault>
+    event: Event,
+) -> Result<GivenInPlace, (Event, GatewayFault)>
     requires stands { gateway.old.fallen ≡ false }
     requires few { length gateway.old.told.held < 64 }
-    requires short { length text.now < 2 ^ 31 }
+    requires bodiless { IsNoPacket event.what }
     ensures ok { IfOk result (λ taken. Proceeds D.honest D.moment D.left D.failed
-        gateway.old gateway.new
-        (record { moment = moment; what = Load text.now } ∷ [])
-        (answer_given taken [] ∷ [])) }
+        gateway.old gateway.new (event ∷ []) (answer_given taken [] ∷ [])) }
     ensures now { IfOk result (λ taken. IsNow (given_by taken [])
         → gateway.new.told.held ≡ []) }
-    ensures err { IfErr result (λ e. (gateway.new ≡ gateway.old)
-        × (e ≢ GatewayFault.Full
-        → Fails D.honest D.moment D.left D.failed gateway.old gateway.new
-        (record { moment = moment; what = Load text.now } ∷ []) e)
-        × (IsRoomy gateway.old.filled → e ≢ GatewayFault.Full)) }
+    ensures err { IfErr result (λ e. (gateway.new ≡ gateway.old) × (e.0 ≡ event)
+        × (e.1 ≢ GatewayFault.Full
+        → Fails D.honest D.moment D.left D.failed gateway.old gateway.new (event ∷ []) e.1)
+        × (IsRoomy gateway.old.filled → e.1 ≢ GatewayFault.Full)) }
     ensures any_moment { (before : List (ℕ × Answer))
         → SafeWithin D.honest D.moment D.left D.failed gateway.old gateway.new before }
     ensures stands { gateway.new.fallen ≡ false }
     ensures in_place { gateway.new.in_place ≡ gateway.old.in_place }
 {
     gateway.facts();
-    gateway.take_load(moment, text)
-}
-
-// Has it take a moment.
-fn offer_moment<D: Disk + Drop>(
-    gateway: &mut Gateway<D>,
-    moment: u64,
-) -> Result<GivenInPlace, GatewayFault>
-    requires stands { gateway.old.fallen ≡ false }
-    requires few { length gateway.old.told.held < 64 }
-    ensures ok { IfOk result (λ taken. Proceeds D.honest D.moment D.left D.failed
-        gateway.old gateway.new
-        (record { moment = moment; what = Moment } ∷ [])
-        (answer_given taken [] ∷ [])) }
-    ensures now { IfOk result (λ taken. IsNow (given_by taken [])
-        → gateway.new.told.held ≡ []) }
-    ensures err { IfErr result (λ e. (gateway.new ≡ gateway.old)
-        × (e ≢ GatewayFault.Full
-        → Fails D.honest D.moment D.left D.failed gateway.old gateway.new
-        (record { moment = moment; what = Moment } ∷ []) e)
-        × (IsRoomy gateway.old.filled → e ≢ GatewayFault.Full)) }
-    ensures any_moment { (before : List (ℕ × Answer))
-        → SafeWithin D.honest D.moment D.left D.failed gateway.old gateway.new before }
-    ensures stands { gateway.new.fallen ≡ false }
-    ensures in_place { gateway.new.in_place ≡ gateway.old.in_place }
-{
-    gateway.facts();
-    gateway.take_moment(moment)
+    gateway.take_event(event)
 }

@@ -4,18 +4,19 @@
 //! - `calls_stand_for_the_model`: calls one by one, and what the files stand for between them
 //! - `lives_are_the_models`: gateways opened one after the other over the same files, each stopped at any moment
 //! - `goes_on_after_a_stop`: the plainest case of it
-//! - `open_in_lives`, `run_in_lives`, `offer_in_lives`, `take_packet_in_lives`, `take_load_in_lives`,
-//!   `take_moment_in_lives`, `flush_in_lives`, `settle_in_lives`, `compact_in_lives`: the calls of `Gateway`, each with
-//!   the clauses that say that it makes such lives
+//! - `open_in_lives`, `run_in_lives`, `offer_in_lives`, `take_packet_in_lives`, `take_event_in_lives`, `flush_in_lives`,
+//!   `settle_in_lives`, `compact_in_lives`: the calls of `Gateway`, each with the clauses that say that it makes such
+//!   lives
 //! - `calls_are_lives`: so do the calls of `running`, which make these
-ghost use Rattle.std.specs.Prelude.{◌≡◌, ◌≢◌, ◌^◌, ◌<◌, ◌≤◌, ◌++◌, ◌∷◌, [], List, length, IfErr, IfOk, MatchResult, OnErr, OnOk, true};
+ghost use Rattle.std.specs.Prelude.{◌≡◌, ◌≢◌, ◌≤◌, ◌++◌, ◌∷◌, [], List, length, IfErr, IfOk, MatchResult, OnErr, OnOk, true};
 ghost use Rattle.packet.specs.Config.{Config};
 ghost use Rattle.machine.specs.declared.event.Event.{Event};
-ghost use Rattle.machine.specs.declared.event.What.TheVariants.{Load, Moment, Packet};
+ghost use Rattle.machine.specs.declared.event.What.TheVariants.{Packet};
 ghost use Rattle.gateway.specs.Given.{answer_given, given_by, handed};
 ghost use Rattle.gateway.specs.Lives.{GoesOnAfterAStop, IsLife, LivesAreTheModels, Refused, Stopped};
 ghost use Rattle.gateway.specs.Living.{CallsAreLives, EndsLife, GoesOnInLife, RestsAgain, RestsInLife, RunsInLife, StaysInLife, StopsInLife, TakesInLife};
 ghost use Rattle.gateway.specs.Standing.{CallsStandForTheModel};
+ghost use Rattle.gateway.specs.Taking.{IsNoPacket};
 
 use crate::calls::Gateway;
 use crate::{GatewayFault, Given, GivenInPlace, OpenFault};
@@ -157,56 +158,27 @@ pub fn take_packet_in_lives<D: Disk + Drop>(
     gateway.take_packet(moment, iface, packet)
 }
 
-/// Takes the text of a ruleset (`Gateway::take_load`), for a gateway in its life, as `take_packet_in_lives` takes a packet.
+/// Takes an event without a packet (`Gateway::take_event`), for a gateway in its life, as `take_packet_in_lives` takes a
+/// packet.
 ///
 /// # Errors
 ///
-/// Those of `Gateway::take_load`.
-pub fn take_load_in_lives<D: Disk + Drop>(
+/// Those of `Gateway::take_event`.
+pub fn take_event_in_lives<D: Disk + Drop>(
     gateway: &mut Gateway<D>,
-    moment: u64,
-    text: &[u8],
-) -> Result<GivenInPlace, GatewayFault>
-    requires short { length text.now < 2 ^ 31 }
+    event: Event,
+) -> Result<GivenInPlace, (Event, GatewayFault)>
+    requires bodiless { IsNoPacket event.what }
     ensures stopped { StopsInLife D.honest D.moment D.left D.seen D.failed gateway.old gateway.new }
     ensures ok { IfOk result (λ taken. TakesInLife D.honest D.moment D.left D.seen D.failed
-        gateway.old gateway.new (record { moment = moment; what = Load text.now })
-        (handed (given_by taken []))) }
-
-    // Told at once, or held, it is the answer that lies there. It counts as told in place, as `settle_in_lives` asks.
-    ensures answer { IfOk result (λ taken.
-        handed (given_by taken []) ++ gateway.new.told.held
+        gateway.old gateway.new event (handed (given_by taken []))) }
+    ensures answer { IfOk result (λ taken. handed (given_by taken []) ++ gateway.new.told.held
         ≡ gateway.old.told.held ++ answer_given taken [] ∷ []) }
     ensures in_place { gateway.new.in_place ≡ gateway.old.in_place }
-    ensures err { OnErr result (gateway.new ≡ gateway.old) }
+    ensures err { IfErr result (λ e. (e.0 ≡ event) × (gateway.new ≡ gateway.old)) }
 {
     gateway.facts();
-    gateway.take_load(moment, text)
-}
-
-/// Takes a moment (`Gateway::take_moment`), for a gateway in its life, as `take_packet_in_lives` takes a packet.
-///
-/// # Errors
-///
-/// Those of `Gateway::take_moment`.
-pub fn take_moment_in_lives<D: Disk + Drop>(
-    gateway: &mut Gateway<D>,
-    moment: u64,
-) -> Result<GivenInPlace, GatewayFault>
-    ensures stopped { StopsInLife D.honest D.moment D.left D.seen D.failed gateway.old gateway.new }
-    ensures ok { IfOk result (λ taken. TakesInLife D.honest D.moment D.left D.seen D.failed
-        gateway.old gateway.new (record { moment = moment; what = Moment })
-        (handed (given_by taken []))) }
-
-    // Told at once, or held, it is the answer that lies there. It counts as told in place, as `settle_in_lives` asks.
-    ensures answer { IfOk result (λ taken.
-        handed (given_by taken []) ++ gateway.new.told.held
-        ≡ gateway.old.told.held ++ answer_given taken [] ∷ []) }
-    ensures in_place { gateway.new.in_place ≡ gateway.old.in_place }
-    ensures err { OnErr result (gateway.new ≡ gateway.old) }
-{
-    gateway.facts();
-    gateway.take_moment(moment)
+    gateway.take_event(event)
 }
 
 /// Flushes (`Gateway::flush`), for a gateway in its life. Stopped within it, that is a life, in which no answer counts

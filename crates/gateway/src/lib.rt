@@ -5,8 +5,8 @@
 //!
 //! - `given`, `fault`: what becomes of an event, and why it isn't taken.
 //! - `pending`, `slot`: the answers that are held, and the entries of their events.
-//! - `calls`: `Gateway`, to which events are offered (`offer`), or which takes them in its caller's bytes, where a packet
-//!   is translated (`take_packet`, `take_load`, `take_moment`).
+//! - `calls`: `Gateway`, to which events are offered (`offer`), or which takes them and tells their answers at once
+//!   (`take_packet`, which translates a packet in its caller's bytes, and `take_event`).
 //! - `surviving`: a core that begins again from what survived, and what survives of one.
 //! - `running`, `in_place`: a run of events over the gateway's calls, event by event.
 //! - `laws`: what follows from the definitions of `specs/Standing`.
