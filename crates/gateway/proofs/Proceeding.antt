@@ -1,9 +1,9 @@
 -- Events that are taken in their caller's bytes, and what is settled for them.
-use Rattle.std.proofs.Common.{◌≡◌, ◌≢◌, ℕ, ◌+◌, ◌<◌, ◌≤◌, List, [], ◌∷◌, ◌++◌, length, false, true, refl, sym, ◌∙◌, ap, subst, arith, append_assoc, length-append}
+use Rattle.std.proofs.Common.{◌≡◌, ◌≢◌, Result, Ok, Err, ℕ, ◌<◌, ◌≤◌, List, [], ◌∷◌, ◌++◌, length, false, true, refl, sym, ◌∙◌, ap, subst, arith, append_assoc, length-append}
+use Rattle.std.specs.Prelude.{IfErr}
 use Rattle.std.proofs.lemmas.List.{append-nil, nil_from_length}
 use Rattle.packet.specs.Config.{is_config}
 use Rattle.disk_model.specs.Disk.{Files}
-use Rattle.machine.specs.Machine.{State}
 use Rattle.machine.specs.Sound.{IsSoundState}
 use Rattle.machine.specs.declared.event.Answer.{Answer}
 use Rattle.machine.specs.declared.event.Event.{Event}
@@ -16,6 +16,11 @@ use Rattle.gateway.specs.declared.fault.GatewayFault.TheVariants as fault
 use Rattle.gateway.specs.declared.given.GivenInPlace.{GivenInPlace}
 use Rattle.gateway.specs.declared.given.GivenInPlace.TheVariants.{Held, Now}
 use Rattle.gateway.proofs.Runs.{breaks-before, breaks-here, breaks-then, carries-then, ended, memory-why, offer-why, offered, within-then}
+
+-- what is said of the error that there is
+pub err-both : {T E : Type 0} (P Q R : E → Type 0) (r : Result T E) → IfErr r P → IfErr r Q → ((e : E) → P e → Q e → R e) → IfErr r R
+err-both P Q R (Ok x) p q on = tt
+err-both P Q R (Err e) p q on = on e p q
 
 -- what is answered at once leaves nothing held
 none-held : (taken : GivenInPlace) (packet : List ℕ) (before now : List (ℕ × Answer)) → handed (given_by taken packet) ++ now ≡ before ++ answer_given taken packet ∷ []

@@ -429,8 +429,9 @@ impl<D: Disk + Drop> Gateway<D> {
         requires short { length packet.old ≤ 65535 }
         ensures ok { IfOk result (λ taken. TakesInPlace self.old self.new
             (record { moment = moment; what = Packet iface packet.old }) taken packet.new) }
-        ensures err { IfErr result (λ e. (self.new ≡ self.old) × (packet.new ≡ packet.old)
-            × Refuses self.old (record { moment = moment; what = Packet iface packet.old }) e) }
+        ensures err { OnErr result ((self.new ≡ self.old) × (packet.new ≡ packet.old)) }
+        ensures why { IfErr result (λ e. Refuses self.old
+            (record { moment = moment; what = Packet iface packet.old }) e) }
 
         // No more than this has changed. An answer that it holds counts as told.
         ensures beside { self.new
@@ -462,8 +463,8 @@ impl<D: Disk + Drop> Gateway<D> {
     pub fn take_event(&mut self, event: Event) -> Result<GivenInPlace, (Event, GatewayFault)>
         requires bodiless { IsNoPacket event.what }
         ensures ok { IfOk result (λ taken. TakesInPlace self.old self.new event taken []) }
-        ensures err { IfErr result (λ e. (e.0 ≡ event) × (self.new ≡ self.old)
-            × Refuses self.old event e.1) }
+        ensures err { IfErr result (λ e. (e.0 ≡ event) × (self.new ≡ self.old)) }
+        ensures why { IfErr result (λ e. Refuses self.old event e.1) }
         ensures beside { self.new
             ≡ record self.old { told = self.new.told; filled = self.new.filled } }
     {

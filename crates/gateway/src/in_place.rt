@@ -213,8 +213,8 @@ fn take_event_behind_compaction<D: Disk + Drop>(
 {
     make_room(gateway)?;
     match offer_event(gateway, event) {
-        Ok(taken) => Ok(taken),
-        Err((_, fault)) => Err(fault),
+        Ok(taken) => return Ok(taken),
+        Err((_, fault)) => return Err(fault),
     }
 }
 
@@ -309,7 +309,7 @@ fn offer_event<D: Disk + Drop>(
         gateway.old gateway.new (event ∷ []) (answer_given taken [] ∷ [])) }
     ensures now { IfOk result (λ taken. IsNow (given_by taken [])
         → gateway.new.told.held ≡ []) }
-    ensures err { IfErr result (λ e. (gateway.new ≡ gateway.old) × (e.0 ≡ event)
+    ensures err { IfErr result (λ e. (e.0 ≡ event) × (gateway.new ≡ gateway.old)
         × (e.1 ≢ GatewayFault.Full
         → Fails D.honest D.moment D.left D.failed gateway.old gateway.new (event ∷ []) e.1)
         × (IsRoomy gateway.old.filled → e.1 ≢ GatewayFault.Full)) }

@@ -6,7 +6,7 @@ use Rattle.gateway.proofs.in_place.make_room.Goals as goal
 
 pub returns-in_err-settle-clause-err : goal.returns-in_err-settle-clause-err
 returns-in_err-settle-clause-err g c =
-    let p = err_from_is_err_and c.from_residual-in_err-settle.result c.from_residual-in_err-settle.ensures.1 in
+    let p = err_from_is_err_and c.from_residual.result c.from_residual.ensures.1 in
     let e = c.in_err-settle.ensures in
     rw (p.1, p.2) (fails-held g.D.Disk.honest g.D.Disk.moment g.D.Disk.left g.D.Disk.failed c.args.gateway.now c.settle.new.gateway [] c.in_err-settle.field-0.0 e.err e.stays e.state e.last)
 

@@ -1,7 +1,7 @@
 use Rattle.std.proofs.Common.{[], ap}
-use Rattle.std.proofs.lemmas.Result.{IfErr-weaker, IfOk-weaker}
+use Rattle.std.proofs.lemmas.Result.{IfOk-weaker}
 use Rattle.gateway.specs.Kept.{Kept}
-use Rattle.gateway.proofs.Proceeding.{fails-refused, none-taken, proceeds-taken}
+use Rattle.gateway.proofs.Proceeding.{err-both, fails-refused, none-taken, proceeds-taken}
 use Rattle.gateway.proofs.Runs.{still-within}
 use Rattle.gateway.proofs.in_place.offer_event.Goals as goal
 
@@ -19,14 +19,14 @@ returns-clause-now g c =
 
 pub returns-clause-err : goal.returns-clause-err
 returns-clause-err g c =
-    IfErr-weaker c.take_event.result _ _ (λ refused is. (
-      is.1,
-      is.0,
+    let e = c.take_event.ensures in
+    err-both _ _ _ c.take_event.result e.err e.why (λ why still refused. (
+      still.0,
+      still.1,
       (λ full. fails-refused g.D.Disk.honest g.D.Disk.moment g.D.Disk.left g.D.Disk.seen g.D.Disk.failed g.met.D.Disk.reads g.met.D.Disk.earlier c.args.gateway.now c.take_event.new.self c.args.event
-          refused.1 c.requires.few is.1 is.2 full),
-      is.2.roomy,
+          why.1 c.requires.few still.1 refused full),
+      refused.roomy,
     ))
-    c.take_event.ensures.err
 
 pub returns-clause-any_moment : goal.returns-clause-any_moment
 returns-clause-any_moment g c = λ before start events s ready.

@@ -1,9 +1,9 @@
-use Rattle.std.proofs.Common.{[], ap}
-use Rattle.std.proofs.lemmas.Result.{IfErr-weaker, IfOk-weaker}
+use Rattle.std.proofs.Common.{ap}
+use Rattle.std.proofs.lemmas.Result.{IfOk-weaker}
 use Rattle.machine.specs.declared.event.Event.{Event}
 use Rattle.machine.specs.declared.event.What.TheVariants.{Packet}
 use Rattle.gateway.specs.Kept.{Kept}
-use Rattle.gateway.proofs.Proceeding.{fails-refused, none-taken, proceeds-taken}
+use Rattle.gateway.proofs.Proceeding.{err-both, fails-refused, none-taken, proceeds-taken}
 use Rattle.gateway.proofs.Runs.{still-within}
 use Rattle.gateway.proofs.in_place.offer_packet.Goals as goal
 
@@ -24,14 +24,14 @@ returns-clause-now g c =
 pub returns-clause-err : goal.returns-clause-err
 returns-clause-err g c =
     let event : Event = record { moment = c.args.moment; what = Packet c.args.iface c.args.packet.now } in
-    IfErr-weaker c.take_packet.result _ _ (λ why refused. (
-      refused.0,
-      refused.1,
+    let e = c.take_packet.ensures in
+    err-both _ _ _ c.take_packet.result e.err e.why (λ why still refused. (
+      still.0,
+      still.1,
       (λ full. fails-refused g.D.Disk.honest g.D.Disk.moment g.D.Disk.left g.D.Disk.seen g.D.Disk.failed g.met.D.Disk.reads g.met.D.Disk.earlier c.args.gateway.now c.take_packet.new.self event
-          why c.requires.few refused.0 refused.2 full),
-      refused.2.roomy,
+          why c.requires.few still.0 refused full),
+      refused.roomy,
     ))
-    c.take_packet.ensures.err
 
 pub returns-clause-any_moment : goal.returns-clause-any_moment
 returns-clause-any_moment g c = λ before start events s ready.

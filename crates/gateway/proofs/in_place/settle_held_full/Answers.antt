@@ -1,4 +1,4 @@
-use Rattle.std.proofs.Common.{refl}
+use Rattle.std.proofs.Common.{[], refl}
 use Rattle.std.proofs.lemmas.Result.{err_from_is_err_and}
 use Rattle.gateway.proofs.Proceeding.{fails-held, proceeds-none, proceeds-settled}
 use Rattle.gateway.proofs.Runs.{still-within}

@@ -1,4 +1,5 @@
-use Rattle.std.proofs.Common.{[], ◌∷◌}
+use Rattle.std.proofs.Common.{[], ◌∷◌, ◌∙◌, sym}
+use Rattle.std.proofs.lemmas.Bool.{false≢true}
 use Rattle.std.proofs.lemmas.Result.{IfErr-weaker, IfOk-weaker, err_from_is_err_and}
 use Rattle.gateway.proofs.Proceeding.{fails-before, fails-then, proceeds-then, safe-then}
 use Rattle.gateway.proofs.in_place.take_event.Goals as goal
@@ -41,7 +42,7 @@ returns-then-is_full-clause-err g c =
 
 pub returns-then-is_full-clause-any_moment : goal.returns-then-is_full-clause-any_moment
 returns-then-is_full-clause-any_moment g c =
-    let same = c.in-Err.ensures.err.0 in
+    let same = c.in-Err.ensures.err.1 in
     let s = c.in_ok-settle_held_full.ensures in
     let then = c.take_event_behind_compaction.ensures.any_moment in
     safe-then g.D.Disk.honest g.D.Disk.moment g.D.Disk.left g.D.Disk.failed c.args.gateway.now c.settle_held_full.new.gateway c.take_event_behind_compaction.new.gateway
@@ -49,14 +50,14 @@ returns-then-is_full-clause-any_moment g c =
 
 -- it is refused
 
-pub returns-in-Err-clause-err : goal.returns-in-Err-clause-err
-returns-in-Err-clause-err g c =
+pub returns-else-is_full-clause-err : goal.returns-else-is_full-clause-err
+returns-else-is_full-clause-err g c =
     let s = c.in_ok-settle_held_full.ensures in
     fails-then g.D.Disk.honest g.D.Disk.moment g.D.Disk.left g.D.Disk.failed c.args.gateway.now c.settle_held_full.new.gateway c.offer_event.new.gateway
-    s.ok _ c.in-Err.fault s.state s.last (c.in-Err.ensures.err.2.0 (λ full. absurd (c.if-is_full.false (c.is_full.ensures.1 full))))
+    s.ok _ c.in-Err.fault s.state s.last (c.in-Err.ensures.err.2 (λ full. absurd (false≢true (sym c.if-is_full.false ∙ c.is_full.ensures.1 full))))
 
-pub returns-in-Err-clause-any_moment : goal.returns-in-Err-clause-any_moment
-returns-in-Err-clause-any_moment g c =
+pub returns-else-is_full-clause-any_moment : goal.returns-else-is_full-clause-any_moment
+returns-else-is_full-clause-any_moment g c =
     let s = c.in_ok-settle_held_full.ensures in
     safe-then g.D.Disk.honest g.D.Disk.moment g.D.Disk.left g.D.Disk.failed c.args.gateway.now c.settle_held_full.new.gateway c.offer_event.new.gateway
     s.ok g.met.D.Disk.earlier s.any_moment c.offer_event.ensures.any_moment

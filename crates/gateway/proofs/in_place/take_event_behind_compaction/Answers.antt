@@ -19,7 +19,7 @@ returns-in-Err-clause-err g c =
     let r = c.in_ok-make_room.ensures in
     let refused = c.in-Err.ensures.err in
     fails-then g.D.Disk.honest g.D.Disk.moment g.D.Disk.left g.D.Disk.failed c.args.gateway.now c.make_room.new.gateway c.offer_event.new.gateway
-    r.ok _ c.in-Err.fault r.state r.last (refused.2.0 (refused.2.1 r.roomy))
+    r.ok _ c.in-Err.fault r.state r.last (refused.2 (refused.3 r.roomy))
 
 pub returns-in-Ok-clause-any_moment : goal.returns-in-Ok-clause-any_moment
 returns-in-Ok-clause-any_moment g c =

@@ -24,7 +24,7 @@ returns-clause-err g c =
     let r = c.in_ok-make_room.ensures in
     IfErr-weaker c.offer_packet.result _ _ (λ why refused.
     fails-then g.D.Disk.honest g.D.Disk.moment g.D.Disk.left g.D.Disk.failed c.args.gateway.now c.make_room.new.gateway c.offer_packet.new.gateway
-    r.ok _ why r.state r.last (refused.2.0 (refused.2.1 r.roomy)))
+    r.ok _ why r.state r.last (refused.2 (refused.3 r.roomy)))
     c.offer_packet.ensures.err
 
 pub returns-clause-any_moment : goal.returns-clause-any_moment

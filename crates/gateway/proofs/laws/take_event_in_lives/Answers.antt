@@ -1,5 +1,5 @@
 use Rattle.std.proofs.Common.{[], ap}
-use Rattle.std.proofs.lemmas.Result.{IfErr-weaker, IfOk-weaker}
+use Rattle.std.proofs.lemmas.Result.{IfOk-weaker}
 use Rattle.gateway.specs.Given.{given_by, handed}
 use Rattle.gateway.specs.Kept.{Kept}
 use Rattle.gateway.proofs.Living.{calls-are, stops-where-it-was, takes-in-life}
@@ -27,6 +27,3 @@ returns-clause-ok g c =
 
 pub returns-clause-answer : goal.returns-clause-answer
 returns-clause-answer g c = IfOk-weaker c.take_event.result _ _ (λ taken t. t.answer) c.take_event.ensures.ok
-
-pub returns-clause-err : goal.returns-clause-err
-returns-clause-err g c = IfErr-weaker c.take_event.result _ _ (λ refused is. (is.0, is.1)) c.take_event.ensures.err

@@ -1,5 +1,5 @@
-use Rattle.std.proofs.Common.{[], ap}
-use Rattle.std.proofs.lemmas.Result.{IfErr-weaker, IfOk-weaker}
+use Rattle.std.proofs.Common.{ap}
+use Rattle.std.proofs.lemmas.Result.{IfOk-weaker}
 use Rattle.machine.specs.declared.event.Event.{Event}
 use Rattle.machine.specs.declared.event.What.TheVariants.{Packet}
 use Rattle.gateway.specs.Given.{given_by, handed}
@@ -30,6 +30,3 @@ returns-clause-ok g c =
 
 pub returns-clause-answer : goal.returns-clause-answer
 returns-clause-answer g c = IfOk-weaker c.take_packet.result _ _ (λ taken t. t.answer) c.take_packet.ensures.ok
-
-pub returns-clause-err : goal.returns-clause-err
-returns-clause-err g c = IfErr-weaker c.take_packet.result _ _ (λ why refused. (refused.0, refused.1)) c.take_packet.ensures.err

@@ -1,4 +1,4 @@
-use Rattle.std.proofs.Common.{ap, arith, length, length-append, ◌++◌}
+use Rattle.std.proofs.Common.{[], ap, arith, length, length-append}
 use Rattle.std.proofs.lemmas.Result.{IfErr-weaker, on_ok_weaker}
 use Rattle.gateway.proofs.Runs.{breaks-then, carries-then, within-then}
 use Rattle.gateway.proofs.running.compact.Goals as goal

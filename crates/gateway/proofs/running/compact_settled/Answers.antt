@@ -1,4 +1,4 @@
-use Rattle.std.proofs.Common.{◌≡◌, ap, sym, subst, Err, ◌∙◌}
+use Rattle.std.proofs.Common.{◌≡◌, [], ap, sym, subst, Err, ◌∙◌}
 use Rattle.std.proofs.lemmas.Result.{err_from_is_err_and}
 use Rattle.gateway.specs.declared.fault.GatewayFault.TheVariants as fault
 use Rattle.gateway.proofs.Runs.{breaks-here, carries-none, compact-stopped, compact-why, compact-within, compacted, fault-is, stands-still}

@@ -1,7 +1,7 @@
-use Rattle.std.proofs.Common.{◌≡◌, ◌+◌, ◌++◌, ◌∷◌, ◌∙◌, [], refl, sym, subst, ap}
+use Rattle.std.proofs.Common.{◌+◌, ◌++◌, ◌∷◌, ◌∙◌, [], refl, sym, subst, ap}
+use Rattle.std.proofs.lemmas.Bool.{false≢true}
 use Rattle.packet.specs.Config.{Config}
 use Rattle.machine.specs.Besides.{Besides}
-use Rattle.machine.specs.Judged.{Judged}
 use Rattle.machine.specs.Fates.{answer_of}
 use Rattle.machine.specs.declared.event.Event.{Event}
 use Rattle.machine.specs.declared.event.What.TheVariants.{Packet}
@@ -32,7 +32,7 @@ invariant_of-self g c =
 
 pub returns-in-Ok-clause-ok : goal.returns-in-Ok-clause-ok
 returns-in-Ok-clause-ok g c =
-    let none = c.in_default.ensures.none in
+    let none = rw (← c.self.view_is) at c.in_default.ensures.none in
     rw (← c.self.view_is) (
     let own = c.self.inside in
     let event : Event = record { moment = c.args.moment; what = Packet c.args.iface c.args.packet.now } in
@@ -49,7 +49,18 @@ returns-in-Ok-clause-ok g c =
       answer = gives.order ∙ ap (λ held. held ++ (own.last + 1, answer) ∷ []) (ap (λ (b : Besides). b.held) beside) ∙ ap (λ one. own.pending.held ++ one ∷ []) (sym c.give_copy.ensures.answer);
     })
 
-pub returns-in-Some-clause-err : goal.returns-in-Some-clause-err
-returns-in-Some-clause-err g c =
+pub returns-in-Some-clause-why : goal.returns-in-Some-clause-why
+returns-in-Some-clause-why g c =
     let e = c.in-Some.ensures in
-    (refl, refl, refuses_any _ _ c.in-Some.fault e.reopen e.numbers_out e.held_full e.causes)
+    refuses_any _ _ c.in-Some.fault e.reopen e.numbers_out e.held_full e.causes
+
+pub returns-in-Err-clause-why : goal.returns-in-Err-clause-why
+returns-in-Err-clause-why g c =
+    let none = rw (← c.self.view_is) at c.in_default.ensures.none in
+    rw (← c.self.view_is) (
+    let e = c.in-Err.ensures in
+    let why = c.why_refused.ensures in
+    refuses_step _ _ c.why_refused.result none.0 none.1 none.2 c.facts.ensures.config c.facts.ensures.sound why.either
+    (λ is. let full = e.full (why.full.0 is) in record { judged = full.0; is_judged = full.1; gone = full.2; are_over = full.3; over = full.4 })
+    (λ no_load judged is_judged ends keeps is. e.no_memory judged is_judged ends keeps (why.no_memory.0 is))
+    (λ no_load judged is_judged of. false≢true (e.quiet judged is_judged of)))
