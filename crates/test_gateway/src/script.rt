@@ -89,17 +89,16 @@ fn take_packet(
     }
 }
 
-fn take_load(
+fn take_text(
+    alloc: Global,
     gateway: &mut Trials,
     moment: u64,
     text: Bytes,
 ) -> Result<Told, (Event, GatewayFault)> {
-    match gateway.take_load(moment, text.as_slice()) {
-        Ok(taken) => Ok(told(taken, text)),
-        Err(fault) => {
-            let what = What::Load(text);
-            Err((Event { moment, what }, fault))
-        }
+    let what = What::Load(text);
+    match gateway.take_event(Event { moment, what }) {
+        Ok(taken) => Ok(told(taken, Bytes::of(Vec::new(alloc)))),
+        Err(refused) => Err(refused),
     }
 }
 
@@ -108,16 +107,14 @@ fn take_moment(
     gateway: &mut Trials,
     moment: u64,
 ) -> Result<Told, (Event, GatewayFault)> {
-    match gateway.take_moment(moment) {
+    let what = What::Moment;
+    match gateway.take_event(Event { moment, what }) {
         Ok(taken) => Ok(told(taken, Bytes::of(Vec::new(alloc)))),
-        Err(fault) => {
-            let what = What::Moment;
-            Err((Event { moment, what }, fault))
-        }
+        Err(refused) => Err(refused),
     }
 }
 
-/// Has an event taken where its bytes lie. With a fault it comes back as it is then.
+/// Has an event taken, and told at once. With a fault it comes back as it is then.
 pub fn take(
     alloc: Global,
     gateway: &mut Trials,
@@ -126,7 +123,7 @@ pub fn take(
     let Event { moment, what } = event;
     match what {
         What::Packet(iface, packet) => take_packet(gateway, moment, iface, packet),
-        What::Load(text) => take_load(gateway, moment, text),
+        What::Load(text) => take_text(alloc, gateway, moment, text),
         What::Moment => take_moment(alloc, gateway, moment),
     }
 }
