@@ -70,13 +70,8 @@ impl AnswerSlot {
             len,
             mut bytes,
         } = self;
-        match fate {
-            Fate::Leaves(out) => {
-                bytes.truncate(len);
-                (number, Answer::Forward(out, Bytes::of(bytes)))
-            }
-            Fate::Dropped(cause) => (number, Answer::Dropped(cause)),
-        }
+        bytes.truncate(len);
+        (number, fate.answer(Bytes::of(bytes)))
     }
 }
 

@@ -3,7 +3,7 @@
 //!
 //! - `step_noted`: `judge` reads the text of a load, and then the state does the step (`State::age`,
 //!   `State::answer_deed`).
-//! - `step_in_place`: the step of a packet, where it lies (`State::age`, `State::answer_packet`).
+//! - `take_packet`: the step of a packet, where it lies (`State::age`, `State::answer_packet`).
 //! - `forward`: the shortest way of a packet (`State::forward_quiet`).
 //! - `resume`: begins again from what survived (`in_force_again`, `Flows::of`).
 ghost use Rattle.std.specs.Prelude.{◌≡◌, ◌↔◌, ◌+◌, ◌*◌, ◌++◌, [], List, length, OnOk, IsTrue, IfOk, IfErr, IfNone, IfSome, IsOk, OnErr};
@@ -241,17 +241,18 @@ impl Core {
     /// Does the step of a packet's event, as `step_noted` does, where the packet lies: one that leaves is translated
     /// there, and none of its bytes is copied. The moment is in seconds.
     ///
-    /// `None` says nothing of the packet: nothing has changed, nor has what is noted, and `step_noted` tells what it
-    /// comes to. It comes only where memory is refused, or the entries don't fit.
+    /// # Errors
+    ///
+    /// Those of `step_noted`. Nothing has changed, the packet neither; nor has what is noted.
     #[inline(always)]
-    pub fn step_in_place<N: Notes>(
+    pub fn take_packet<N: Notes>(
         &mut self,
         moment: u64,
         iface: Iface,
         packet: &mut [u8],
         notes: &mut N,
-    ) -> Option<Fate>
-        ensures some { IfSome result (λ fate. (judged : Judged)
+    ) -> Result<Fate, StepFault>
+        ensures ok { IfOk result (λ fate. (judged : Judged)
             × IsJudged self.old.config
             (record { moment = moment; what = Packet iface packet.old }) judged
             × (step self.old.config self.old.state judged
@@ -259,23 +260,49 @@ impl Core {
             × (N.keeps notes.old → (entries : List Recorded)
             × AreEntriesOf self.old.config self.old.state judged entries
             × (N.noted notes.new ≡ N.noted notes.old ++ entries))) }
-        ensures none { IfNone result ((self.new ≡ self.old) × (packet.new ≡ packet.old)
+        ensures err { OnErr result ((self.new ≡ self.old) × (packet.new ≡ packet.old)
             × (N.noted notes.new ≡ N.noted notes.old)) }
         ensures config { self.new.config ≡ self.old.config }
         ensures keeps { N.keeps notes.old ↔ N.keeps notes.new }
         ensures beside { N.beside notes.new ≡ N.beside notes.old }
         ensures length { length packet.new ≡ length packet.old }
+        ensures full { IfErr result (λ e. e ≡ StepFault.Full → (judged : Judged)
+            × IsJudged self.old.config
+            (record { moment = moment; what = Packet iface packet.old }) judged
+            × (gone : List Session)
+            × AreOver (later self.old.state.clock moment) self.old.state.sessions gone
+            × N.too_many notes.old (14 * length gone + most_bytes judged.deed)) }
+        ensures no_memory { (judged : Judged)
+            → IsJudged self.old.config
+            (record { moment = moment; what = Packet iface packet.old }) judged
+            → EndsNone (later self.old.state.clock moment) self.old.state
+            → KeepsCount self.old.state (step self.old.config self.old.state judged)
+            → IfErr result (λ e. e ≡ StepFault.NoMemory
+            → ¬ N.too_many notes.old (most_bytes judged.deed)) }
+        ensures succeeds { (judged : Judged)
+            → IsJudged self.old.config
+            (record { moment = moment; what = Packet iface packet.old }) judged
+            → EndsNone (later self.old.state.clock moment) self.old.state
+            → KeepsCount self.old.state (step self.old.config self.old.state judged)
+            → N.grants notes.old → IsOk result }
+        ensures quiet { (judged : Judged)
+            → IsJudged self.old.config
+            (record { moment = moment; what = Packet iface packet.old }) judged
+            → AreEntriesOf self.old.config self.old.state judged [] → IsOk result }
     {
         let clock = self.state.clock();
-        let Ok(ready) = self.state.age(self.alloc, moment, MOST_OF_PACKET, notes) else {
-            return None;
-        };
-        match self.state.answer_packet(ready, iface, packet, notes) {
-            Ok(fate) => Some(fate),
-            Err(_) => {
-                self.state.put_back(clock);
-                None
-            }
+        match self
+            .state
+            .age(self.alloc, moment, MOST_OF_PACKET, notes)
+        {
+            Ok(ready) => match self.state.answer_packet(ready, iface, packet, notes) {
+                Ok(fate) => Ok(fate),
+                Err(fault) => {
+                    self.state.put_back(clock);
+                    Err(fault)
+                }
+            },
+            Err(fault) => Err(fault),
         }
     }
 

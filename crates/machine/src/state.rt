@@ -187,8 +187,7 @@ impl State {
                 let comes_to = self.answer_packet(ready, iface, &mut packet, notes);
                 let bytes = Bytes::of(packet);
                 match comes_to {
-                    Ok(Fate::Leaves(out)) => Ok(Answer::Forward(out, bytes)),
-                    Ok(Fate::Dropped(cause)) => Ok(Answer::Dropped(cause)),
+                    Ok(fate) => Ok(fate.answer(bytes)),
                     Err(fault) => Err((What::Packet(iface, bytes), fault)),
                 }
             }
