@@ -2,7 +2,8 @@
 use Rattle.std.proofs.Common.{◌≡◌, refl, ℕ, suc, ◌+◌, ◌<◌, get_or, arith, List, [], ◌∷◌, ◌++◌, length, take, sym, ap, ◌∙◌, append_assoc, length-append}
 use Rattle.std.proofs.lemmas.List.{append-nil}
 use Rattle.std.proofs.lemmas.List.Concat.{flat_map-append}
-use Rattle.std.proofs.Math.Seq.{take-suc}
+use Rattle.byteorder.specs.Endian.{big_bytes}
+use Rattle.std.proofs.Math.Seq.{take-append_seam, take-suc}
 use Rattle.std.specs.List.{flat_map}
 use Rattle.packet.specs.declared.endpoint.Iface.{Iface}
 use Rattle.machine.specs.declared.event.Answer.{Answer}
@@ -49,3 +50,10 @@ frame_size p = omega (arith, ap (λ (x : List ℕ). length x) (frame_parts p), l
   where
     head_size : (p : ℕ × Answer) → length (frame_head p) ≡ 13
     head_size p = omega arith
+
+-- what stands before a body
+pub head_alone : (kind number len : ℕ) (more : List ℕ) → take 13 ((kind ∷ big_bytes 8 number ++ big_bytes 4 len) ++ more) ≡ kind ∷ big_bytes 8 number ++ big_bytes 4 len
+head_alone kind number len more =
+    let head : List ℕ = kind ∷ big_bytes 8 number ++ big_bytes 4 len in
+    let size : length head ≡ 13 = omega arith in
+    ap (λ (n : ℕ). take n (head ++ more)) (sym size) ∙ take-append_seam head more

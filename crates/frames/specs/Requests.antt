@@ -76,6 +76,6 @@ abbrev pub IsFront : Front → List ℕ → Type 0
 IsFront front.Cut bytes = next bytes ≡ Cut
 IsFront (front.Bad fault) bytes = next bytes ≡ Bad fault
 IsFront (front.Whole k moment size) bytes = (next bytes ≡ Whole (record {
-      moment = moment;
-      what = what_of k (take (size - 14) (drop 14 bytes));
-    }) (drop size bytes)) × (14 ≤ size) × (size ≤ length bytes) × (size ≤ 14 + longest k)
+  moment = moment;
+  what = what_of k (take (size - 14) (drop 14 bytes));
+}) (drop size bytes)) × (14 ≤ size) × (size ≤ length bytes) × (size ≤ 14 + longest k)

@@ -147,14 +147,14 @@ pub fn put_frames(out: &mut Vec<u8>, answers: &[(u64, Answer)]) -> Result<(), Al
     Ok(())
 }
 
-/// Writes a frame without a body over the first bytes. Says how many it has.
+/// Writes a frame without a body over the first bytes, and a zero behind it. Says how many bytes the frame has.
 fn write_bare(front: &mut [u8], kind: u8, number: u64) -> usize
     requires { length front.old ≡ 14 }
     ensures frame { take result front.new ≡ kind ∷ big_bytes 8 number ++ big_bytes 4 0 }
     ensures size { result ≡ 13 }
     ensures length { length front.new ≡ length front.old }
 {
-    front[..ANSWER_HEAD].copy_from_slice(&head_with(kind, number, 0));
+    front.copy_from_slice(&front_with(&head_with(kind, number, 0), 0));
     ANSWER_HEAD
 }
 
