@@ -106,11 +106,13 @@ pub fn offer_all<D: Disk + Drop>(waiting: &mut Waiting, gateway: &mut Gateway<D>
             Front::Cut => return (count as u64, Halt::Cut),
             Front::Bad(fault) => return (count as u64, Halt::Bad(fault)),
             Front::Whole(kind, moment, size) => {
-                if let Err(fault) = waiting.take_next(kind, moment, size, gateway) {
-                    return (count as u64, Halt::Refused(fault));
+                match waiting.take_next(kind, moment, size, gateway) {
+                    Ok(()) => {
+                        prove!(count < most);
+                        count += 1;
+                    }
+                    Err(fault) => return (count as u64, Halt::Refused(fault)),
                 }
-                prove!(count < most);
-                count += 1;
             }
         }
     }

@@ -34,9 +34,9 @@ returns-in-Ok g c =
     let packet = packet_in self.start n self.end xs bytes front.1 ends fits waits in
     let p = c.in-Ok.ensures.ok in
     let out = p.2.out in
-    let from = c.held_from.ensures in
+    let from = c.held_from-self-inside.ensures in
     let count = c.held.ensures.value in
-    let parts = taken-in self.answered self.held xs c.args.self.now.answered c.args.gateway.now.told.held c.answer_request.new.gateway.told.held out c.held_from.result i.0 (omega (arith, fits, i.1, i.2))
+    let parts = taken-in self.answered self.held xs c.args.self.now.answered c.args.gateway.now.told.held c.answer_request.new.gateway.told.held out c.held_from-self-inside.result i.0 (omega (arith, fits, i.1, i.2))
     (ap (λ (x : Exchange). x.answered) was) (ap (λ (x : Exchange). x.held) was ∙ c.requires.held) k two p.0 (omega (arith, few, ends, fits, long, i.1)) (seen.0 ∙ ap (λ (zs : List ℕ). take self.held xs ++ zs) p.1)
     p.2.order p.2.few (λ z. from.none (count ∙ z)) (λ z. from.one (count ∙ z)) (λ z. from.more (omega (arith, count, z))) from.within in
     let event : Event = record { moment = c.args.moment; what = what_of c.args.kind (take (n - 14) (drop 14 bytes)) } in
@@ -45,12 +45,13 @@ returns-in-Ok g c =
         event,
         out,
         front.0 ∙ ap (Whole event) (ap (drop n) (sym waits) ∙ drop-drop n self.start (take self.end xs) ∙ sym (ap (λ (zs : List ℕ). drop (self.start + n) (take self.end zs)) now ∙ seen.1)),
-        ap (take c.held_from.result) now ∙ parts.0,
+        ap (take c.held_from-self-inside.result) now ∙ parts.0,
         λ before.
             subst (λ (body : List ℕ). CarriesOn g.D.Disk.honest g.D.Disk.moment g.D.Disk.left g.D.Disk.failed c.args.gateway.now c.answer_request.new.gateway (record { moment = c.args.moment; what = what_of c.args.kind body } ∷ []) before (before ++ out))
             packet (p.2.carries before),
       );
-      held = ap (λ (zs : List ℕ). drop c.held_from.result (take (self.held + k) zs)) now ∙ parts.1;
+      err = tt;
+      held = ap (λ (zs : List ℕ). drop c.held_from-self-inside.result (take (self.held + k) zs)) now ∙ parts.1;
       stands = c.in-Ok.ensures.stands;
       in_place = c.in-Ok.ensures.in_place;
     }
@@ -75,23 +76,25 @@ returns-in-Err g c =
     let now = with_items_is self.bytes two (long ∙ c.as_mut_slice-bytes.ensures.len) in
     let packet = packet_in self.start n self.end xs bytes front.1 ends fits waits in
     let p = c.in-Err.ensures.err in
-    let from = c.held_from-in-Err.ensures in
+    let from = c.held_from-self-inside-in-Err.ensures in
     let count = c.held-in-Err.ensures.value in
-    let parts = refused-in self.answered self.held xs c.args.self.now.answered c.args.gateway.now.told.held c.answer_request.new.gateway.told.held p.out c.held_from-in-Err.result i.0 (omega (arith, fits, i.1, i.2))
+    let parts = refused-in self.answered self.held xs c.args.self.now.answered c.args.gateway.now.told.held c.answer_request.new.gateway.told.held p.out c.held_from-self-inside-in-Err.result i.0 (omega (arith, fits, i.1, i.2))
     (ap (λ (x : Exchange). x.answered) was) (ap (λ (x : Exchange). x.held) was ∙ c.requires.held) two (omega (arith, fits, long, i.1, i.2)) (take-put_mid_below self.start (self.start + n - self.start) xs ys self.held i.1 (omega (arith, ends, fits)))
     p.order p.few (λ z. from.none (count ∙ z)) (λ z. from.one (count ∙ z)) (λ z. from.more (omega (arith, count, z))) from.within in
     let event : Event = record { moment = c.args.moment; what = what_of c.args.kind (take (n - 14) (drop 14 bytes)) } in
     record {
+      ok = tt;
       err = (
         event,
         drop n bytes,
         p.out,
         front.0,
-        ap (take c.held_from-in-Err.result) now ∙ parts.0,
+        ap (take c.held_from-self-inside-in-Err.result) now ∙ parts.0,
         λ before.
             subst (λ (body : List ℕ). BreaksOff g.D.Disk.honest g.D.Disk.moment g.D.Disk.left g.D.Disk.failed c.args.gateway.now c.answer_request.new.gateway (record { moment = c.args.moment; what = what_of c.args.kind body } ∷ []) before (before ++ p.out) c.in-Err.fault)
             packet (p.breaks before),
       );
-      held = ap (λ (zs : List ℕ). drop c.held_from-in-Err.result (take self.held zs)) now ∙ parts.1;
+      held = ap (λ (zs : List ℕ). drop c.held_from-self-inside-in-Err.result (take self.held zs)) now ∙ parts.1;
+      stands = tt;
       in_place = c.in-Err.ensures.in_place;
     }
