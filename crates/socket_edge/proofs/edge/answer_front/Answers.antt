@@ -19,22 +19,24 @@ all_frames a b c xs ys zs none first then =
     ∙ sym (append_assoc (flat_map frame xs) (flat_map frame ys) (flat_map frame zs))
     ∙ ap (λ (l : List ℕ). l ++ frames zs) (sym (flat_map-append frame xs ys)) ∙ sym (flat_map-append frame (xs ++ ys) zs)
 
-pub returns-in-Err-clause-came : goal.returns-in-Err-clause-came
-returns-in-Err-clause-came g c =
+pub returns-in-Err : goal.returns-in-Err
+returns-in-Err g c =
     let start = c.args.gateway.now in
     let bytes = c.args.waiting.now.unanswered in
     let e = c.in-Err.ensures in
     let h = handed-none g.P.Peer.went g.met.P.Peer.still c.args.peer.now in
-    let refuses = fails-behind g.D.Disk.honest g.D.Disk.moment g.D.Disk.left g.D.Disk.seen g.D.Disk.failed g.met.D.Disk.reads g.met.D.Disk.earlier start start c.hand_out_held.new.gateway bytes bytes [] [] [] [] [] c.in-Err.fault refl refl c.stands.ensures e.err (λ none. absurd (e.some none)) in (
-      [],
-      [],
-      h.0,
-      sent-bad g.D.Disk.honest g.D.Disk.moment g.D.Disk.left g.D.Disk.seen g.D.Disk.failed g.met.D.Disk.reads g.met.D.Disk.earlier start (Gateway c.in-Err.fault) c.hand_out_held.new.gateway bytes bytes 0 [] refuses bytes [],
-      h.1,
-    )
+    let refuses = fails-behind g.D.Disk.honest g.D.Disk.moment g.D.Disk.left g.D.Disk.seen g.D.Disk.failed g.met.D.Disk.reads g.met.D.Disk.earlier start start c.hand_out_held.new.gateway bytes bytes [] [] [] [] [] c.in-Err.fault refl refl c.stands.ensures e.err (λ none. absurd (e.some none)) in record {
+      came = (
+        [],
+        [],
+        h.0,
+        sent-bad g.D.Disk.honest g.D.Disk.moment g.D.Disk.left g.D.Disk.seen g.D.Disk.failed g.met.D.Disk.reads g.met.D.Disk.earlier start (Gateway c.in-Err.fault) c.hand_out_held.new.gateway bytes bytes 0 [] refuses bytes [],
+        h.1,
+      );
+    }
 
-pub returns-in_err-send_before-clause-came : goal.returns-in_err-send_before-clause-came
-returns-in_err-send_before-clause-came g c =
+pub returns-in_err-send_before : goal.returns-in_err-send_before
+returns-in_err-send_before g c =
     let p = err_from_is_err_and c.from_residual.result c.from_residual.ensures.1 in
     let e = c.in_err-send_before.ensures.err in
     let start = c.args.gateway.now in
@@ -46,17 +48,19 @@ returns-in_err-send_before-clause-came g c =
     let offered = Offered-behind g.D.Disk.honest g.D.Disk.moment g.D.Disk.left g.D.Disk.failed start c.hand_out_held.new.gateway c.offer_all-count.new.gateway c.offer_all-count.result.1 bytes rest c.offer_all-count.result.0 [] first (first ++ o.0) c.in-Ok.ensures.ok (o.2 first) in
     let closed = k.2 start bytes rest c.offer_all-count.result.0 (first ++ o.0) c.stands.ensures offered in
     let whole = all_frames c.args.waiting.now.answered c.offer_all-count.new.waiting.answered c.answered.result.now first o.0 k.0 c.requires.sent o.1 (c.answered.ensures ∙ k.1) in
-    let front = rw c.as_slice.ensures.value at e.1 in (
-      [],
-      front.written,
-      front.hands,
-      rw (p.1, p.2, e.0) (sent-some g.D.Disk.honest g.D.Disk.moment g.D.Disk.left g.D.Disk.seen g.D.Disk.failed g.met.D.Disk.reads g.met.D.Disk.earlier start c.close-closed.result c.close-closed.new.gateway bytes rest
-          c.offer_all-count.result.0 ((first ++ o.0) ++ k.0) front.written front.lost closed (front.splits ∙ whole) c.close-closed.new.waiting.unanswered []),
-      rw (p.1, p.2, e.0) front.last,
-    )
+    let front = rw c.as_slice.ensures.value at e.1 in record {
+      came = (
+        [],
+        front.written,
+        front.hands,
+        rw (p.1, p.2, e.0) (sent-some g.D.Disk.honest g.D.Disk.moment g.D.Disk.left g.D.Disk.seen g.D.Disk.failed g.met.D.Disk.reads g.met.D.Disk.earlier start c.close-closed.result c.close-closed.new.gateway bytes rest
+            c.offer_all-count.result.0 ((first ++ o.0) ++ k.0) front.written front.lost closed (front.splits ∙ whole) c.close-closed.new.waiting.unanswered []),
+        rw (p.1, p.2, e.0) front.last,
+      );
+    }
 
-pub returns-in_err-closed-clause-came : goal.returns-in_err-closed-clause-came
-returns-in_err-closed-clause-came g c =
+pub returns-in_err-closed : goal.returns-in_err-closed
+returns-in_err-closed g c =
     let p = err_from_is_err_and c.from_residual-in_err-closed.result c.from_residual-in_err-closed.ensures.1 in
     let start = c.args.gateway.now in
     let bytes = c.args.waiting.now.unanswered in
@@ -67,18 +71,20 @@ returns-in_err-closed-clause-came g c =
     let offered = Offered-behind g.D.Disk.honest g.D.Disk.moment g.D.Disk.left g.D.Disk.failed start c.hand_out_held.new.gateway c.offer_all-count.new.gateway c.offer_all-count.result.1 bytes rest c.offer_all-count.result.0 [] first (first ++ o.0) c.in-Ok.ensures.ok (o.2 first) in
     let closed = k.2 start bytes rest c.offer_all-count.result.0 (first ++ o.0) c.stands.ensures offered in
     let whole = all_frames c.args.waiting.now.answered c.offer_all-count.new.waiting.answered c.answered.result.now first o.0 k.0 c.requires.sent o.1 (c.answered.ensures ∙ k.1) in
-    let h = handed-all g.P.Peer.went c.args.peer.now c.send_before.new.peer _ _ whole (rw c.as_slice.ensures.value at c.in_ok-send_before.ensures.ok) in (
-      [],
-      frames ((first ++ o.0) ++ k.0),
-      h.0,
-      rw (p.1, p.2) (sent-bad g.D.Disk.honest g.D.Disk.moment g.D.Disk.left g.D.Disk.seen g.D.Disk.failed g.met.D.Disk.reads g.met.D.Disk.earlier start c.in_err-closed.field-0.0 c.close-closed.new.gateway bytes rest
-          c.offer_all-count.result.0 ((first ++ o.0) ++ k.0) closed c.close-closed.new.waiting.unanswered []),
-      rw (p.1, p.2) (closed-turns g.D.Disk.honest g.D.Disk.moment g.D.Disk.left g.D.Disk.failed start c.close-closed.new.gateway c.in_err-closed.field-0.0 bytes rest
-          c.offer_all-count.result.0 ((first ++ o.0) ++ k.0) h.0.turns closed h.1),
-    )
+    let h = handed-all g.P.Peer.went c.args.peer.now c.send_before.new.peer _ _ whole (rw c.as_slice.ensures.value at c.in_ok-send_before.ensures.ok) in record {
+      came = (
+        [],
+        frames ((first ++ o.0) ++ k.0),
+        h.0,
+        rw (p.1, p.2) (sent-bad g.D.Disk.honest g.D.Disk.moment g.D.Disk.left g.D.Disk.seen g.D.Disk.failed g.met.D.Disk.reads g.met.D.Disk.earlier start c.in_err-closed.field-0.0 c.close-closed.new.gateway bytes rest
+            c.offer_all-count.result.0 ((first ++ o.0) ++ k.0) closed c.close-closed.new.waiting.unanswered []),
+        rw (p.1, p.2) (closed-turns g.D.Disk.honest g.D.Disk.moment g.D.Disk.left g.D.Disk.failed start c.close-closed.new.gateway c.in_err-closed.field-0.0 bytes rest
+            c.offer_all-count.result.0 ((first ++ o.0) ++ k.0) h.0.turns closed h.1),
+      );
+    }
 
-pub returns-clause-came : goal.returns-clause-came
-returns-clause-came g c =
+pub returns : goal.returns
+returns g c =
     let start = c.args.gateway.now in
     let bytes = c.args.waiting.now.unanswered in
     let rest = c.offer_all-count.new.waiting.unanswered in
@@ -89,17 +95,19 @@ returns-clause-came g c =
     let closed = k.2 start bytes rest c.offer_all-count.result.0 (first ++ o.0) c.stands.ensures offered in
     let whole = all_frames c.args.waiting.now.answered c.offer_all-count.new.waiting.answered c.answered.result.now first o.0 k.0 c.requires.sent o.1 (c.answered.ensures ∙ k.1) in
     let h = handed-all g.P.Peer.went c.args.peer.now c.send_before.new.peer _ _ whole (rw c.as_slice.ensures.value at c.in_ok-send_before.ensures.ok) in
-    let left = c.in_ok-closed.ensures.rest in (
-      (first ++ o.0) ++ k.0,
-      frames ((first ++ o.0) ++ k.0),
-      h.0,
-      (
-        closed.0,
-        subst (Reads bytes closed.0) (sym left) closed.1,
-        ap next left ∙ closed.2,
-        closed.3,
-        closed.4,
-        refl,
-      ),
-      h.1,
-    )
+    let left = c.in_ok-closed.ensures.rest in record {
+      came = (
+        (first ++ o.0) ++ k.0,
+        frames ((first ++ o.0) ++ k.0),
+        h.0,
+        (
+          closed.0,
+          subst (Reads bytes closed.0) (sym left) closed.1,
+          ap next left ∙ closed.2,
+          closed.3,
+          closed.4,
+          refl,
+        ),
+        h.1,
+      );
+    }
