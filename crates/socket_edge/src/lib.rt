@@ -11,8 +11,8 @@
 //! - `answering`: a request that the gateway takes where it lies, and that is answered in its own bytes;
 //! - `ahead`: among many sessions, a look at the next packets before they are taken;
 //! - `serving`: all whole frames at the front, offered in order;
-//! - `sending`: what stands in the bytes of the requests is written in one piece, behind the frames of answers that were
-//!   held when the run began; for whoever has the answers alone all their frames are written in one piece;
+//! - `sending`: what stands in the bytes of the requests is written in one piece, behind the frames of answers that
+//!   were held when the run began; for whoever has the answers alone all their frames are written in one piece;
 //! - `fault`: why a run ends early;
 //! - `laws`: what follows from the definitions of `specs/Running`.
 #![tactic(auto)]

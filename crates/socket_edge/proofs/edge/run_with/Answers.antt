@@ -1,4 +1,4 @@
-use Rattle.std.proofs.Common.{◌≡◌, ◌+◌, [], ◌++◌, ℕ, List, Ok, Err, inl, inr, refl, arith, ap, sym, subst, ◌∙◌}
+use Rattle.std.proofs.Common.{◌≡◌, ◌+◌, [], ◌++◌, ℕ, List, Ok, Err, inl, inr, refl, arith, sym, subst, ◌∙◌}
 use Rattle.socket_edge.specs.Running.{AllAnswered, Answered, EndsBy, Fares, TurnsEnd, events_in}
 use Rattle.socket_edge.specs.Turns.{Gave}
 use Rattle.socket_edge.proofs.Stopping.{stops-nil, walked-first, walked-then}

@@ -1,6 +1,4 @@
-use Rattle.std.proofs.Common.{[], List, ℕ, refl, sym, subst, ◌∙◌}
-use Rattle.machine.specs.declared.event.Answer.{Answer}
-use Rattle.gateway.specs.Running.{BreaksOff, CarriesOn}
+use Rattle.std.proofs.Common.{[], refl, ◌∙◌}
 use Rattle.socket_edge.proofs.Tending.{no-call, no-memory}
 use Rattle.socket_edge.proofs.serving.hand_out_held.Goals as goal
 

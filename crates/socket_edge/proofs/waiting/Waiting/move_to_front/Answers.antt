@@ -1,7 +1,7 @@
-use Rattle.std.proofs.Common.{◌≡◌, ◌-◌, [], List, ℕ, length, take, drop, ap, ◌∙◌, arith}
+use Rattle.std.proofs.Common.{◌-◌, [], List, ℕ, length, take, drop, ap, ◌∙◌, arith}
 use Rattle.std.proofs.lemmas.List.{with_items_is}
 use Rattle.socket_edge.specs.Exchange.{Exchange}
-use Rattle.socket_edge.proofs.Memory.{moved, view}
+use Rattle.socket_edge.proofs.Memory.{moved}
 use Rattle.socket_edge.proofs.waiting.Waiting.move_to_front.Goals as goal
 
 pub returns-then-self-gt0 : goal.returns-then-self-gt0
