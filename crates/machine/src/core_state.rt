@@ -291,10 +291,7 @@ impl Core {
             → AreEntriesOf self.old.config self.old.state judged [] → IsOk result }
     {
         let clock = self.state.clock();
-        match self
-            .state
-            .age(self.alloc, moment, MOST_OF_PACKET, notes)
-        {
+        match self.state.age(self.alloc, moment, MOST_OF_PACKET, notes) {
             Ok(ready) => match self.state.answer_packet(ready, iface, packet, notes) {
                 Ok(fate) => Ok(fate),
                 Err(fault) => {
