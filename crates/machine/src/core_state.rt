@@ -4,9 +4,8 @@
 //! - `step_noted`: `judge` reads the text of a load, and then the state does the step (`State::age`,
 //!   `State::answer_deed`).
 //! - `take_packet`: the step of a packet, where it lies (`State::age`, `State::answer_packet`).
-//! - `forward`: the shortest way of a packet (`State::forward_quiet`).
 //! - `resume`: begins again from what survived (`in_force_again`, `Flows::of`).
-ghost use Rattle.std.specs.Prelude.{◌≡◌, ◌↔◌, ◌+◌, ◌*◌, ◌++◌, [], List, length, OnOk, IsTrue, IfOk, IfErr, IfNone, IfSome, IsOk, OnErr};
+ghost use Rattle.std.specs.Prelude.{◌≡◌, ◌↔◌, ◌+◌, ◌*◌, ◌++◌, [], List, length, IsTrue, IfOk, IfErr, IsOk, OnErr};
 ghost use Rattle.packet.specs.Config.{is_config};
 ghost use Rattle.machine.specs.Fates.{answer_of};
 ghost use Rattle.machine.specs.Judged.{Judged, IsJudged, IsNoLoad};
@@ -17,7 +16,6 @@ ghost use Rattle.machine.specs.Noted.{AreEntriesOf, AreOver, IsResumed};
 ghost use Rattle.machine.specs.Sizes.{most_bytes};
 ghost use Rattle.sessions.specs.declared.session.Session.{Session};
 ghost use Rattle.machine.specs.Sound.{IsSoundState};
-ghost use Rattle.machine.specs.declared.event.Answer.TheVariants.{Forward};
 ghost use Rattle.machine.specs.declared.event.What.TheVariants.{Packet};
 
 use crate::ahead::is_wide;
@@ -291,10 +289,7 @@ impl Core {
             → AreEntriesOf self.old.config self.old.state judged [] → IsOk result }
     {
         let clock = self.state.clock();
-        match self
-            .state
-            .age(self.alloc, moment, MOST_OF_PACKET, notes)
-        {
+        match self.state.age(self.alloc, moment, MOST_OF_PACKET, notes) {
             Ok(ready) => match self.state.answer_packet(ready, iface, packet, notes) {
                 Ok(fate) => Ok(fate),
                 Err(fault) => {
@@ -315,25 +310,5 @@ impl Core {
     /// says nothing of what is: whoever asks before they come waits once for the memory that their steps will read.
     pub fn look_ahead(&self, coming: &[Coming; MOST_AHEAD]) -> usize {
         self.state.flows.look_ahead(coming)
-    }
-
-    /// Translates in place a packet whose session goes on, as `step` does at this event, and says by which interface it
-    /// leaves. The clock rises to the moment, in seconds. That takes no memory, and nothing changes that must survive.
-    ///
-    /// `None` says nothing of the packet: nothing has changed, and `step` tells what it comes to. It comes where a
-    /// session would end at the moment, where no guess tells the packet's session, or the packet shows something new of
-    /// it, and where it is dropped or a hairpin.
-    pub fn forward(&mut self, moment: u64, iface: Iface, packet: &mut [u8]) -> Option<Iface>
-        ensures step { IfSome result (λ out. (judged : Judged)
-            × IsJudged self.old.config
-            (record { moment = moment; what = Packet iface packet.old }) judged
-            × (step self.old.config self.old.state judged
-            ≡ (self.new.state, Forward out packet.new))
-            × AreEntriesOf self.old.config self.old.state judged []) }
-        ensures none { IfNone result ((self.new ≡ self.old) × (packet.new ≡ packet.old)) }
-        ensures config { self.new.config ≡ self.old.config }
-        ensures length { length packet.new ≡ length packet.old }
-    {
-        self.state.forward_quiet(self.alloc, moment, iface, packet)
     }
 }
