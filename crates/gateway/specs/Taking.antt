@@ -37,8 +37,8 @@ pub record Takes {D : Type 0} (old new : Kept D) (event : Event) (given : Given)
   pub numbers_left : old.told.last < 2 ^ 64 - 1
   pub held_few : length old.told.held < 64
 
--- It was taken in its caller's bytes, where its packet, if it has one, lies as it is now. The answers that were held and
--- then its own are handed out or held, in order.
+-- It was taken in its caller's bytes, where its packet, if it has one, lies as it is now. The answers that were held,
+-- and then its own, are handed out or held, in order.
 pub record TakesInPlace {D : Type 0} (old new : Kept D) (event : Event) (taken : GivenInPlace)
     (packet : List ℕ) : Type 0 where
   pub takes : Takes old new event (given_by taken packet)

@@ -413,8 +413,8 @@ impl<D: Disk + Drop> Gateway<D> {
         None
     }
 
-    /// Takes a packet as `offer` does, where it lies: it is translated there, and what it is answered is told, whether it
-    /// is answered at once or its answer is held. No call of the disk is made. The moment is in seconds.
+    /// Takes a packet as `offer` does, where it lies: it is translated there, and what it is answered is told, whether
+    /// it is answered at once or its answer is held. No call of the disk is made. The moment is in seconds.
     ///
     /// # Errors
     ///

@@ -1,8 +1,8 @@
-//! One more event of a run, taken in its caller's bytes. Whoever calls these has each held answer already, as it was told;
-//! so what is held is settled, and nothing is handed out.
+//! One more event of a run, taken in its caller's bytes. Whoever calls these has each held answer already, as it was
+//! told; so what is held is settled, and nothing is handed out.
 //!
-//! - `take_packet`: where 64 answers are held `settle_held_full` settles them first; then `Gateway::take_packet` takes the
-//!   packet, and where it is refused as Full, `make_room` settles and compacts, and it is taken again
+//! - `take_packet`: where 64 answers are held `settle_held_full` settles them first; then `Gateway::take_packet` takes
+//!   the packet, and where it is refused as Full, `make_room` settles and compacts, and it is taken again
 //! - `take_load`, `take_moment`: so does `take_event` an event without a packet, by `Gateway::take_event`
 ghost use Rattle.std.specs.Prelude.{◌≡◌, ◌≢◌, ◌^◌, ◌<◌, ◌≤◌, ◌∷◌, [], ℕ, List, false, length};
 ghost use Rattle.std.specs.Prelude.{IfErr, IfOk, OnErr, OnOk, true};

@@ -4,9 +4,9 @@
 //! - `calls_stand_for_the_model`: calls one by one, and what the files stand for between them
 //! - `lives_are_the_models`: gateways opened one after the other over the same files, each stopped at any moment
 //! - `goes_on_after_a_stop`: the plainest case of it
-//! - `open_in_lives`, `run_in_lives`, `offer_in_lives`, `take_packet_in_lives`, `take_event_in_lives`, `flush_in_lives`,
-//!   `settle_in_lives`, `compact_in_lives`: the calls of `Gateway`, each with the clauses that say that it makes such
-//!   lives
+//! - `open_in_lives`, `run_in_lives`, `offer_in_lives`, `take_packet_in_lives`, `take_event_in_lives`,
+//!   `flush_in_lives`, `settle_in_lives`, `compact_in_lives`: the calls of `Gateway`, each with the clauses that say
+//!   that it makes such lives
 //! - `calls_are_lives`: so do the calls of `running`, which make these
 ghost use Rattle.std.specs.Prelude.{◌≡◌, ◌≢◌, ◌≤◌, ◌++◌, ◌∷◌, [], List, length, IfErr, IfOk, MatchResult, OnErr, OnOk, true};
 ghost use Rattle.packet.specs.Config.{Config};
@@ -126,11 +126,11 @@ pub fn offer_in_lives<D: Disk + Drop>(
     gateway.offer(event)
 }
 
-/// Takes a packet in its caller's bytes (`Gateway::take_packet`), for a gateway in its life. Stopped within it, that is a
-/// life, in which the packet isn't taken. After it the gateway goes on in its life. The answer, which lies in these
-/// bytes, counts as given out if it is told at once. If it is held, it doesn't yet, so its caller keeps it back: it counts
-/// once `settle_in_lives` or `flush_in_lives` has ended well. With a fault nothing has changed, so that its life is as
-/// before.
+/// Takes a packet in its caller's bytes (`Gateway::take_packet`), for a gateway in its life. Stopped within it, that is
+/// a life, in which the packet isn't taken. After it the gateway goes on in its life. The answer, which lies in these
+/// bytes, counts as given out if it is told at once. If it is held, it doesn't yet, so its caller keeps it back: it
+/// counts once `settle_in_lives` or `flush_in_lives` has ended well. With a fault nothing has changed, so that its life
+/// is as before.
 ///
 /// # Errors
 ///
@@ -158,8 +158,8 @@ pub fn take_packet_in_lives<D: Disk + Drop>(
     gateway.take_packet(moment, iface, packet)
 }
 
-/// Takes an event without a packet (`Gateway::take_event`), for a gateway in its life, as `take_packet_in_lives` takes a
-/// packet.
+/// Takes an event without a packet (`Gateway::take_event`), for a gateway in its life, as `take_packet_in_lives` takes
+/// a packet.
 ///
 /// # Errors
 ///

@@ -241,7 +241,8 @@ pub fn hand_out<D: Disk + Drop>(
     Ok(())
 }
 
-/// Flushes, for whoever has the answers that are held already, as `take_packet` told them. It asks that each was told so.
+/// Flushes, for whoever has the answers that are held already, as `take_packet` told them. It asks that each was told
+/// so.
 ///
 /// # Errors
 ///

@@ -120,8 +120,8 @@ fn held_where_something_changes(rt: HostRuntime) -> Result<(), Fail> {
     play_fresh(rt.alloc(), &[TWO_HELD, TWO_FLUSHED, SOMETHING_CHANGES])
 }
 
-// What is taken where it lies is told at once: the packets of a session that goes on leave there; the answer to any other
-// is the one that is flushed, so long as it is held.
+// What is taken where it lies is told at once. The packets of a session that goes on leave there; the answers to others
+// are those that are flushed then.
 const IN_PLACE: &str = "\
 place lan 1000 4500001c00010000 40118eeb c0a80102 c6336407 13880035 0008003c
 = now 3 wan 4500001c00010000 3f111594 cb007101 c6336407 13880035 000885e4

@@ -3,8 +3,8 @@
 //! A line asks, and the lines with `=` behind it are all that is answered:
 //! - an event (module `words`) is offered: `now 3 ticked`, `held 1`, or the fault, as `held-full`; the event then came
 //!   back as it was;
-//! - `place` and an event: it is taken where its bytes lie: `now 3 wan 4500..`, `held 4 loaded`, or the fault; the event
-//!   then came back as it was;
+//! - `place` and an event: it is taken where it lies: `now 3 wan 4500..`, `held 4 loaded`, or the fault; the event then
+//!   came back as it was;
 //! - `flush`: a line for each answer with its number, or the fault; `compact`: `done`, or the fault;
 //! - `held`, `grown`: the number; `rules`: the text; `sessions`: a line for each; `migrated`: whether the opening made a
 //!   file anew since the active one was of a former version.
