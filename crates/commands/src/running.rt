@@ -1,5 +1,5 @@
 //! The commands, put together.
-ghost use Rattle.std.specs.Prelude.{IfOk};
+ghost use Rattle.std.specs.Prelude.{◌≡◌, IfErr, IfOk, IsOk, OnOk};
 ghost use Rattle.commands.specs.Working.{IsMadeAnew, IsOpenedFor};
 
 use crate::clients::serve_clients;
@@ -160,7 +160,11 @@ pub fn let_go(
     directory: &str,
     gateway: Gateway<FileDisk>,
     worked: Result<(), Stop>,
-) -> Result<(), Stop> {
+) -> Result<(), Stop>
+    ensures well { IsOk worked → IsOk result }
+    ensures ok { OnOk result (IsOk worked) }
+    ensures refusal { IfErr worked (λ stop. IfErr result (λ told. told.refusal ≡ stop.refusal)) }
+{
     // `into_disk` has the core dropped within the crate `machine`, where that is proved already.
     let disk = gateway.into_disk();
     let strayed = disk.strayed();

@@ -2,6 +2,7 @@
 ghost use Rattle.std.specs.Prelude.{◌≡◌, [], false, IsErr, IfErr, OnOk};
 ghost use Rattle.refusals.specs.Words.{IsOfPath};
 ghost use Rattle.commands.specs.Faults.{IsOfLooping};
+ghost use Rattle.commands.specs.Visits.{UnseenVisits};
 
 use crate::clients::serve_clients;
 use disk_model::Disk;
@@ -156,6 +157,8 @@ pub fn loop_back<R: Net, W: Write, E: Write, D: Disk + Drop>(
     errors: &mut E,
     gateway: &mut Gateway<D>,
 ) -> Result<(), Stop>
+    ensures served { OnOk result (UnseenVisits D.honest D.moment D.left D.failed 1 gateway.old
+        gateway.new) }
     ensures stands { OnOk result (gateway.old.fallen ≡ false → gateway.new.fallen ≡ false) }
     ensures causes { IfErr result (λ stop. IsOfLooping stop.refusal) }
 {
