@@ -20,8 +20,7 @@ use Rattle.gateway.specs.Told.{Told, TookAll}
 use Rattle.gateway.proofs.Runs.{safe-less}
 use Rattle.socket_edge.specs.Progress.{replies}
 use Rattle.socket_edge.specs.Running.{Fares}
-use Rattle.socket_edge.proofs.Answers.{replies-append, last_of as last_number}
-use Rattle.socket_edge.proofs.Behind.{all-once}
+use Rattle.socket_edge.proofs.Answers.{all-once, replies-append, last_of as last_number}
 use Rattle.socket_edge.proofs.Lasting.{safe-behind, safe-fewer}
 use Rattle.to_devices.proofs.Letting.{Hands-nil, Hands-then}
 use Rattle.carrying.specs.Carried.{Carries, handed_to}

@@ -1,17 +1,14 @@
 -- Laws of the header.
-use Rattle.std.proofs.Common.{◌≡◌, ℕ, ◌+◌, ◌≤◌, Bool, true, false, cond, ltb, List, length, take, drop, Result, Ok, Err, refl}
+use Rattle.std.proofs.Common.{◌≡◌, ℕ, ◌≤◌, Bool, true, false, cond, ltb, List, length, drop, Result, Ok, Err, refl}
 use Rattle.std.specs.Prelude.{slice_index}
-use Rattle.std.proofs.lemmas.Bool.{ltb-false, le-ltb}
+use Rattle.std.proofs.lemmas.Bool.{ltb-false}
 use Rattle.byteorder.specs.Endian.{big_number}
 use Rattle.frames.specs.declared.fault.HeaderFault.{HeaderFault}
 use Rattle.frames.specs.declared.fault.HeaderFault.TheVariants as faults
 use Rattle.frames.specs.declared.request.Kind.{Kind}
 use Rattle.frames.specs.declared.request.Head.{Head}
 use Rattle.frames.specs.declared.request.Head.TheVariants as head
-use Rattle.packet.specs.declared.endpoint.Iface.{Iface}
-use Rattle.machine.specs.declared.event.What.TheVariants as what
-use Rattle.frames.specs.declared.request.Kind.TheVariants as kind
-use Rattle.frames.specs.Requests.{Whole, announced, longest, head_with, head_of, next, what_of}
+use Rattle.frames.specs.Requests.{announced, longest, head_with, head_of}
 
 -- a test that was not taken
 not_first : (b : Bool) (h k : Head) (s : Kind) (m n : ℕ) → h ≡ head.Cut → cond b h k ≡ head.Frame s m n → (b ≡ false) × (k ≡ head.Frame s m n)
@@ -37,16 +34,3 @@ frame_is_short bytes s m n e =
     let kind = announced (slice_index bytes 0) (slice_index bytes 1) in
     let p = not_first (ltb (length bytes) 14) head.Cut (head_with kind (big_number 4 (drop 2 bytes)) (big_number 8 (drop 6 bytes))) s m n refl e in
     short_with kind (big_number 4 (drop 2 bytes)) (big_number 8 (drop 6 bytes)) s m n p.1
-
--- a whole frame
-pub whole_next : (bytes : List ℕ) (k : Kind) (m n : ℕ) → head_of bytes ≡ head.Frame k m n → 14 + n ≤ length bytes
-    → next bytes ≡ Whole (record { moment = m; what = what_of k (take n (drop 14 bytes)) }) (drop (14 + n) bytes)
-unfolding next
-whole_next bytes k m n e long =
-    let whole : ltb (length bytes) (14 + n) ≡ false = le-ltb _ _ long in
-    rw (e, whole) refl
-
--- that of a packet
-pub packet_next : (bytes : List ℕ) (iface : Iface) (m n : ℕ) → head_of bytes ≡ head.Frame (kind.Packet iface) m n → 14 + n ≤ length bytes
-    → next bytes ≡ Whole (record { moment = m; what = what.Packet iface (take n (drop 14 bytes)) }) (drop (14 + n) bytes)
-packet_next bytes iface m n e long = whole_next bytes (kind.Packet iface) m n e long

@@ -2,6 +2,5 @@ pub mod Heads
 pub mod Fronts
 pub mod Frames
 pub mod Parts
-pub mod Over
 pub mod Composed
 pub mod Decomposed

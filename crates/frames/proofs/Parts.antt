@@ -1,8 +1,9 @@
 -- The parts of an answer's frame, and one frame behind the other.
-use Rattle.std.proofs.Common.{◌≡◌, refl, ℕ, suc, ◌+◌, ◌<◌, get_or, arith, List, [], ◌∷◌, ◌++◌, length, take, drop, sym, ap, ◌∙◌, append_assoc, length-append}
-use Rattle.std.proofs.lemmas.List.{take-append-drop, append-nil}
+use Rattle.std.proofs.Common.{◌≡◌, refl, ℕ, suc, ◌+◌, ◌<◌, get_or, arith, List, [], ◌∷◌, ◌++◌, length, take, sym, ap, ◌∙◌, append_assoc, length-append}
+use Rattle.std.proofs.lemmas.List.{append-nil}
 use Rattle.std.proofs.lemmas.List.Concat.{flat_map-append}
-use Rattle.std.proofs.Math.Seq.{take-suc}
+use Rattle.byteorder.specs.Endian.{big_bytes}
+use Rattle.std.proofs.Math.Seq.{take-append_seam, take-suc}
 use Rattle.std.specs.List.{flat_map}
 use Rattle.packet.specs.declared.endpoint.Iface.{Iface}
 use Rattle.machine.specs.declared.event.Answer.{Answer}
@@ -32,13 +33,17 @@ frame_behind before p first more is =
 pub frame_whole : (before : List ℕ) (p : ℕ × Answer) (only : ℕ) → answer_body p.1 ≡ only ∷ [] → before ++ (frame_head p ++ only ∷ []) ≡ before ++ frame p
 frame_whole before p only is = ap (λ (z : List ℕ). before ++ z) (ap (λ (z : List ℕ). frame_head p ++ z) (sym is) ∙ frame_parts p)
 
--- neither a packet nor a drop: no body
+-- no body
+pub frame_alone : (p : ℕ × Answer) → answer_body p.1 ≡ [] → frame_head p ≡ frame p
+frame_alone p none = sym (append-nil (frame_head p)) ∙ ap (λ (z : List ℕ). frame_head p ++ z) (sym none) ∙ frame_parts p
+
+-- nor has any other than a packet that leaves and a drop one
 pub frame_bare : (p : ℕ × Answer) → ((iface : Iface) (packet : List ℕ) → p.1 ≡ answer.Forward iface packet → ⊥) → ((cause : ℕ) → p.1 ≡ answer.Dropped cause → ⊥) → frame_head p ≡ frame p
 frame_bare (n, answer.Forward iface packet) f d = absurd (f iface packet refl)
 frame_bare (n, answer.Dropped cause) f d = absurd (d cause refl)
-frame_bare (n, answer.Loaded) f d = sym (append-nil (frame_head (n, answer.Loaded))) ∙ frame_parts (n, answer.Loaded)
-frame_bare (n, answer.Refused) f d = sym (append-nil (frame_head (n, answer.Refused))) ∙ frame_parts (n, answer.Refused)
-frame_bare (n, answer.Ticked) f d = sym (append-nil (frame_head (n, answer.Ticked))) ∙ frame_parts (n, answer.Ticked)
+frame_bare (n, answer.Loaded) f d = frame_alone (n, answer.Loaded) refl
+frame_bare (n, answer.Refused) f d = frame_alone (n, answer.Refused) refl
+frame_bare (n, answer.Ticked) f d = frame_alone (n, answer.Ticked) refl
 
 pub frame_size : (p : ℕ × Answer) → length (frame p) ≡ 13 + length (answer_body p.1)
 frame_size p = omega (arith, ap (λ (x : List ℕ). length x) (frame_parts p), length-append (frame_head p) (answer_body p.1), head_size p)
@@ -46,18 +51,9 @@ frame_size p = omega (arith, ap (λ (x : List ℕ). length x) (frame_parts p), l
     head_size : (p : ℕ × Answer) → length (frame_head p) ≡ 13
     head_size p = omega arith
 
--- the first i frames have so many bytes, and behind them there is no room for the next one
-pub no_room : (answers : List (ℕ × Answer)) (i at : ℕ) (p : ℕ × Answer) (room : ℕ) → i < length answers → p ≡ get_or answers i p
-    → at ≡ length (flat_map frame (take i answers)) → room < at + length (frame p) → room < length (flat_map frame answers)
-no_room answers i at p room lt is size small =
-    let after : List ℕ = flat_map frame (drop (i + 1) answers) in
-    let whole : (flat_map frame (take i answers) ++ frame p) ++ after ≡ flat_map frame answers =
-    ap (λ (z : List ℕ). z ++ after) (sym (frames_step answers i p lt is)) ∙ sym (flat_map-append frame (take (i + 1) answers) (drop (i + 1) answers)) ∙ ap (flat_map frame) (take-append-drop (i + 1) answers) in
-    omega (
-      arith,
-      ap (λ (z : List ℕ). length z) whole,
-      length-append (flat_map frame (take i answers) ++ frame p) after,
-      length-append (flat_map frame (take i answers)) (frame p),
-      size,
-      small,
-    )
+-- what stands before a body
+pub head_alone : (kind number len : ℕ) (more : List ℕ) → take 13 ((kind ∷ big_bytes 8 number ++ big_bytes 4 len) ++ more) ≡ kind ∷ big_bytes 8 number ++ big_bytes 4 len
+head_alone kind number len more =
+    let head : List ℕ = kind ∷ big_bytes 8 number ++ big_bytes 4 len in
+    let size : length head ≡ 13 = omega arith in
+    ap (λ (n : ℕ). take n (head ++ more)) (sym size) ∙ take-append_seam head more

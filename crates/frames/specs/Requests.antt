@@ -1,6 +1,6 @@
 -- A request at the front of the bytes: a header of 14 bytes (kind, interface, length of the body, moment), and the
 -- body.
-use Rattle.std.specs.Prelude.{◌≡◌, ◌≤◌, ℕ, ◌+◌, Bool, List, length, take, drop, slice_index, Result, Ok, Err, nat_le, nat_lt, ◌==◌, ◌&&◌, if◌then◌else◌}
+use Rattle.std.specs.Prelude.{◌≡◌, ◌≤◌, ℕ, ◌+◌, ◌-◌, List, length, take, drop, slice_index, Result, Ok, Err, nat_lt, ◌==◌, if◌then◌else◌}
 use Rattle.byteorder.specs.Endian.{big_number}
 use Rattle.packet.specs.declared.endpoint.Iface.TheVariants.{Lan, Wan}
 use Rattle.rulesyntax.specs.Text.{greatest_length}
@@ -13,8 +13,8 @@ use Rattle.frames.specs.declared.request.Kind.{Kind}
 use Rattle.frames.specs.declared.request.Kind.TheVariants as kind
 use Rattle.frames.specs.declared.request.Head.{Head}
 use Rattle.frames.specs.declared.request.Head.TheVariants as head
-use Rattle.frames.specs.declared.request.Taken.{Taken}
-use Rattle.frames.specs.declared.request.Taken.TheVariants as taken
+use Rattle.frames.specs.declared.request.Front.{Front}
+use Rattle.frames.specs.declared.request.Front.TheVariants as front
 
 -- a kind that has no interface: its byte is 0
 abbrev pub without_interface : ℕ → Kind → Result Kind HeaderFault
@@ -48,11 +48,6 @@ head_of bytes = if nat_lt (length bytes) 14 then head.Cut
     else head_with (announced (slice_index bytes 0) (slice_index bytes 1))
     (big_number 4 (drop 2 bytes)) (big_number 8 (drop 6 bytes))
 
--- a header of a packet of at most so many bytes stands at the front; its interface isn't looked at
-abbrev pub announces_packet : List ℕ → ℕ → Bool
-announces_packet bytes most = nat_le 14 (length bytes) && slice_index bytes 0 == 1
-    && nat_le (big_number 4 (drop 2 bytes)) most
-
 abbrev pub what_of : Kind → List ℕ → What
 what_of (kind.Packet iface) body = what.Packet iface body
 what_of kind.Load body = what.Load body
@@ -76,9 +71,11 @@ with_body (head.Frame k moment len) bytes = if nat_lt (length bytes) (14 + len) 
 unfoldable pub next : List ℕ → Next
 next bytes = with_body (head_of bytes) bytes
 
--- what was taken is what stands at the front
-abbrev pub TakesNext : Taken → List ℕ → Type 0
-TakesNext taken.Cut bytes = next bytes ≡ Cut
-TakesNext (taken.Bad fault) bytes = next bytes ≡ Bad fault
-TakesNext (taken.Whole event n) bytes = (next bytes ≡ Whole event (drop n bytes)) × (14 ≤ n)
-    × (n ≤ length bytes)
+-- what was read is what stands at the front; a whole frame is told by its kind, its moment and its length
+abbrev pub IsFront : Front → List ℕ → Type 0
+IsFront front.Cut bytes = next bytes ≡ Cut
+IsFront (front.Bad fault) bytes = next bytes ≡ Bad fault
+IsFront (front.Whole k moment size) bytes = (next bytes ≡ Whole (record {
+  moment = moment;
+  what = what_of k (take (size - 14) (drop 14 bytes));
+}) (drop size bytes)) × (14 ≤ size) × (size ≤ length bytes) × (size ≤ 14 + longest k)

@@ -1,11 +1,12 @@
-//! The frames of answers: written over those of their requests (`fill_frames`), put behind bytes (`put_frames`), or as
-//! far as a packet that lies there already (`forward_front`).
-ghost use Rattle.std.specs.Prelude.{◌≡◌, ◌+◌, ◌<◌, ◌≤◌, ◌^◌, ℕ, List, [], ◌∷◌, ◌++◌, IfSome, IfNone, OnOk, OnErr, length, take};
+//! The frames of answers: put behind bytes (`put_frames`), or written over the request's own, as far as a packet that
+//! lies there already (`write_front`).
+ghost use Rattle.std.specs.Prelude.{◌≡◌, ◌+◌, ◌<◌, ◌≤◌, ◌^◌, ℕ, List, [], ◌∷◌, ◌++◌, OnOk, OnErr, length, take};
 ghost use Rattle.byteorder.specs.Endian.{big_bytes};
+ghost use Rattle.machine.specs.Fates.{answer_of};
 ghost use Rattle.machine.specs.declared.event.Answer.TheVariants.{Dropped, Forward};
 ghost use Rattle.frames.specs.Answers.{iface_byte, kind_byte, answer_body, frame_head, frame, frames};
 
-use machine::{Answer, Iface};
+use machine::{Answer, Fate, Iface};
 use std::alloc::AllocError;
 
 /// The bytes of an answer's frame before its body.
@@ -75,7 +76,7 @@ fn front_with(head: &[u8; ANSWER_HEAD], first: u8) -> [u8; ANSWER_FRONT]
 }
 
 /// All bytes in front of the packet in the frame of a packet that leaves, whose length is in bytes.
-pub fn forward_front(number: u64, iface: Iface, len: usize) -> [u8; ANSWER_FRONT]
+fn forward_front(number: u64, iface: Iface, len: usize) -> [u8; ANSWER_FRONT]
     requires { len < 2 ^ 31 }
     ensures { (packet : List ℕ) → length packet ≡ len
         → result ++ packet ≡ frame (number, Forward iface packet) }
@@ -84,7 +85,7 @@ pub fn forward_front(number: u64, iface: Iface, len: usize) -> [u8; ANSWER_FRONT
 }
 
 /// The frame of a packet that is dropped, for the cause with this number.
-pub fn drop_frame(number: u64, cause: u8) -> [u8; ANSWER_FRONT]
+fn drop_frame(number: u64, cause: u8) -> [u8; ANSWER_FRONT]
     ensures { result ≡ frame (number, Dropped cause) }
 {
     front_with(&head_with(2, number, 1), cause)
@@ -146,75 +147,40 @@ pub fn put_frames(out: &mut Vec<u8>, answers: &[(u64, Answer)]) -> Result<(), Al
     Ok(())
 }
 
-/// Writes the frame of a packet that leaves over these bytes, which are as many.
-fn write_forward_over(bytes: &mut [u8], number: u64, iface: Iface, packet: &[u8])
-    requires small { length packet.now < 2 ^ 31 }
-    requires len { length bytes.old ≡ 14 + length packet.now }
-    ensures { bytes.new ≡ frame (number, Forward iface packet.now) }
+/// Writes a frame without a body over the first bytes, and a zero behind it. Says how many bytes the frame has.
+fn write_bare(front: &mut [u8], kind: u8, number: u64) -> usize
+    requires { length front.old ≡ 14 }
+    ensures frame { take result front.new ≡ kind ∷ big_bytes 8 number ++ big_bytes 4 0 }
+    ensures size { result ≡ 13 }
+    ensures length { length front.new ≡ length front.old }
 {
-    let (front, body) = bytes.split_at_mut(ANSWER_FRONT);
-    front.copy_from_slice(&forward_front(number, iface, packet.len()));
-    body.copy_from_slice(packet);
+    front.copy_from_slice(&front_with(&head_with(kind, number, 0), 0));
+    ANSWER_HEAD
 }
 
-/// Writes the frame of a packet that leaves over the first bytes, if it fits. Says how many it has.
-fn fill_forward(bytes: &mut [u8], number: u64, iface: Iface, packet: &[u8]) -> Option<usize>
-    requires small { length packet.now < 2 ^ 31 }
-    ensures some { IfSome result (λ n. (n ≤ length bytes.new)
-        × (take n bytes.new ≡ frame (number, Forward iface packet.now))) }
-    ensures none { IfNone result
-        (length bytes.old < length (frame (number, Forward iface packet.now))) }
-    ensures len { length bytes.new ≡ length bytes.old }
+/// Writes the frame of an answer over the first 14 bytes of its request's, as far as a packet that leaves: that one
+/// has `len` bytes, and lies behind them already. Says how many bytes the frame has, which are no more than the
+/// request's. Compiled into its callers, since each request is answered so.
+#[inline(always)]
+pub fn write_front(front: &mut [u8], number: u64, fate: Fate, len: usize) -> usize
+    requires size { length front.old ≡ 14 }
+    requires small { len < 2 ^ 31 }
+    ensures frame { (packet : List ℕ) → length packet ≡ len
+        → take result (front.new ++ packet) ≡ frame (number, answer_of fate packet) }
+    ensures within { result ≤ 14 + len }
+    ensures size { length front.new ≡ length front.old }
 {
-    let len = ANSWER_FRONT + packet.len();
-    if bytes.len() < len {
-        return None;
-    }
-    write_forward_over(&mut bytes[..len], number, iface, packet);
-    Some(len)
-}
-
-/// Writes these bytes over the first ones, if they fit. Says how many they are.
-fn fill_with(bytes: &mut [u8], all: &[u8]) -> Option<usize>
-    ensures some { IfSome result (λ n. (n ≤ length bytes.new) × (take n bytes.new ≡ all.now)) }
-    ensures none { IfNone result (length bytes.old < length all.now) }
-    ensures len { length bytes.new ≡ length bytes.old }
-{
-    let len = all.len();
-    if bytes.len() < len {
-        return None;
-    }
-    bytes[..len].copy_from_slice(all);
-    Some(len)
-}
-
-/// Writes the frame of an answer with this number over the first bytes, if it fits. Says how many it has.
-fn fill_frame(bytes: &mut [u8], number: u64, answer: &Answer) -> Option<usize>
-    ensures some { IfSome result (λ n. (n ≤ length bytes.new)
-        × (take n bytes.new ≡ frame (number, answer.now))) }
-    ensures none { IfNone result (length bytes.old < length (frame (number, answer.now))) }
-    ensures len { length bytes.new ≡ length bytes.old }
-{
-    match answer {
-        Answer::Forward(iface, packet) => fill_forward(bytes, number, *iface, packet.as_slice()),
-        Answer::Dropped(cause) => fill_with(bytes, &drop_frame(number, *cause)),
-        _ => fill_with(bytes, &head_bytes(number, answer)),
-    }
-}
-
-/// Writes the frames of answers, each with its number, over the first bytes, if all fit. Says how many they have.
-pub fn fill_frames(bytes: &mut [u8], answers: &[(u64, Answer)]) -> Option<usize>
-    ensures some { IfSome result (λ n. (n ≤ length bytes.new)
-        × (take n bytes.new ≡ frames answers.now)) }
-    ensures none { IfNone result (length bytes.old < length (frames answers.now)) }
-    ensures len { length bytes.new ≡ length bytes.old }
-{
-    let mut at = 0;
-    for pair in answers {
-        match fill_frame(&mut bytes[at..], pair.0, &pair.1) {
-            Some(size) => at += size,
-            None => return None,
+    match fate {
+        Fate::Leaves(iface) => {
+            front.copy_from_slice(&forward_front(number, iface, len));
+            ANSWER_FRONT + len
         }
+        Fate::Dropped(cause) => {
+            front.copy_from_slice(&drop_frame(number, cause));
+            ANSWER_FRONT
+        }
+        Fate::Loaded => write_bare(front, 3, number),
+        Fate::Refused => write_bare(front, 4, number),
+        Fate::Ticked => write_bare(front, 5, number),
     }
-    Some(at)
 }

@@ -13,11 +13,6 @@ mod fault;
 pub mod laws;
 mod request;
 
-pub use answer::{
-    ANSWER_FRONT, ANSWER_HEAD, byte_of, drop_frame, fill_frames, forward_front, head_bytes,
-    put_frames,
-};
+pub use answer::{ANSWER_FRONT, byte_of, head_bytes, put_frames, write_front};
 pub use fault::HeaderFault;
-pub use request::{
-    Head, Kind, LONGEST_PACKET, REQUEST_HEAD, Taken, announces_packet, read_head, take_frame,
-};
+pub use request::{Front, Kind, REQUEST_HEAD, read_front};

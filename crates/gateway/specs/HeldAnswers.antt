@@ -1,8 +1,10 @@
 -- The answers that are held, and the entries of their events. No public clause cites this module.
-use Rattle.std.specs.Prelude.{◌≡◌, ◌≢◌, ◌⊎◌, ◌<◌, ◌≤◌, ◌+◌, ℕ, zero, suc, List, [], ◌∷◌, ◌++◌, length, take, Option, Some, None}
+use Rattle.std.specs.Prelude.{◌≡◌, ◌≢◌, ◌⊎◌, ◌↔◌, ◌<◌, ◌≤◌, ◌+◌, ℕ, zero, suc, List, [], ◌∷◌, ◌++◌, length, take, Option, Some, None}
 use Rattle.machine.specs.declared.event.Answer.{Answer}
 use Rattle.durable.specs.Coding.{Entry, AreEntries, body_bytes}
 use Rattle.durable.specs.Reading.{entry_at}
+use Rattle.gateway.specs.Given.{IsNow, handed, number_of}
+use Rattle.gateway.specs.declared.given.Given.{Given}
 
 -- what is held, the entries of the events that are held, the place in the file where their group will stand, and how
 -- many more bytes of entries find room
@@ -11,6 +13,16 @@ pub record HeldAnswers : Type 0 where
   pub entries : List Entry
   pub place : ℕ
   pub room : ℕ
+
+-- an answer is given at once exactly if no entry waits, and else held behind the others
+pub record Gives (old new : HeldAnswers) (given : Given) (one : ℕ × Answer) : Type 0 where
+  pub order : handed given ++ new.held ≡ old.held ++ one ∷ []
+  pub number : number_of given ≡ one.0
+  pub now : IsNow given ↔ (old.entries ≡ [])
+  pub quiet : IsNow given → old.held ≡ []
+  pub none : new.held ≡ [] → new.entries ≡ []
+  pub entries : new.entries ≡ old.entries
+  pub place : new.place ≡ old.place
 
 -- the entry that was read, if one was, and behind it what more gives of the other bytes
 abbrev pub behind_it : (List ℕ → List Entry) → Option (Entry × List ℕ) → List Entry

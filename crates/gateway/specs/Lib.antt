@@ -6,6 +6,8 @@ pub mod Told
 pub mod HeldAnswers
 -- What contracts see of a gateway.
 pub mod Kept
+-- What an event that is taken does to a gateway, and why one isn't taken.
+pub mod Taking
 -- What the two files stand for between calls.
 pub mod Standing
 -- How far a run has come.

@@ -1,5 +1,5 @@
 -- How far a run of events has come, against where it began.
-use Rattle.std.specs.Prelude.{◌≡◌, ◌≢◌, ◌↔◌, ℕ, ◌+◌, ◌-◌, ◌^◌, ◌≤◌, List, ◌++◌, length, true, false}
+use Rattle.std.specs.Prelude.{◌≡◌, ◌≢◌, ◌↔◌, ℕ, ◌+◌, ◌-◌, ◌^◌, ◌<◌, ◌≤◌, List, [], ◌++◌, length, true, false}
 use Rattle.disk_model.specs.Disk.{Files, LeavesNow, LeavesOnly, Grew}
 use Rattle.durable.specs.Entering.{Durable}
 use Rattle.durable.specs.Recovery.{IsConfigured, Recovers}
@@ -109,3 +109,20 @@ module _ {D : Type 0} (honest : D → Type 0) (moment : D → ℕ) (left : D →
       → LeavesOnly moment left old.disk new.disk
       (IsSafe start.told.config start.told.state events (length before))
       × LeavesOnly moment left old.disk new.disk (IsConfigured start.told.config)
+
+  -- It takes these events, which are answered so. The answers that were held and then these are handed out or held, in
+  -- order; if one is held still that was held before, none is handed out.
+  pub record Proceeds (events : List Event) (answers : List (ℕ × Answer)) : Type 0 where
+    pub out : List (ℕ × Answer)
+    pub order : out ++ new.told.held ≡ old.told.held ++ answers
+    pub few : length answers < length new.told.held → out ≡ []
+    pub carries : (before : List (ℕ × Answer)) → CarriesOn events before (before ++ out)
+
+  -- It takes none of them, but may have handed out what was held.
+  pub record Fails (events : List Event) (why : GatewayFault) : Type 0 where
+    pub out : List (ℕ × Answer)
+    pub order : out ++ new.told.held ≡ old.told.held
+    pub few : new.told.held ≢ [] → out ≡ []
+    pub breaks : (before : List (ℕ × Answer)) → BreaksOff events before (before ++ out) why
+    pub state : new.told.state ≡ old.told.state
+    pub last : new.told.last ≡ old.told.last

@@ -4,7 +4,7 @@
 //! - `open`: `Store::open` reads the files, and `resume_core` has a core begin again from what they stood for.
 //! - `offer`: `Core::step_noted` does the step and has `Pending` note its entries; `give` answers at once, or holds.
 //! - `forward`: `Core::forward` translates a packet where it lies, if nothing has to be held or noted.
-//! - `offer_in_place`: as `offer`, by `Core::step_in_place` and `give_copy`, for a packet where it lies.
+//! - `offer_in_place`: as `offer`, by `Core::take_packet` and `give_copy`, for a packet where it lies.
 //! - `flush`: `Store::commit` syncs the group of `Pending`, and `Pending::release` hands out what was held.
 //! - `settle`: as `flush`, but `Pending::let_go` lets go what was held: its caller has it already.
 //! - `compact`: `Store::compact` makes a file of what must survive (`lasting_sessions`), with no groups.
@@ -21,24 +21,22 @@ ghost use Rattle.machine.specs.Machine.{KeepsCount, EndsNone, later, step};
 ghost use Rattle.machine.specs.Sizes.{most_bytes};
 ghost use Rattle.machine.specs.Noted.{AreEntriesOf, HasEntry, IsResumed, lasting};
 ghost use Rattle.machine.specs.Sound.{IsSoundState};
-ghost use Rattle.machine.specs.declared.event.Answer.TheVariants.{Forward};
 ghost use Rattle.machine.specs.declared.event.What.TheVariants.{Packet};
-ghost use Rattle.gateway.specs.Given.{IsNow, answer_given, given_by, handed};
+ghost use Rattle.gateway.specs.Given.{IsNow};
 ghost use Rattle.gateway.specs.Told.{Took, TookAll, TookFirst};
-ghost use Rattle.gateway.specs.declared.given.Given.TheVariants.{Now};
 ghost use Rattle.gateway.specs.Kept.{GroupsEndAt, IsAtRest, IsRoomy, IsSafe, IsTooMuch};
 ghost use Rattle.gateway.specs.Running.{StopsWithin};
+ghost use Rattle.gateway.specs.Taking.{IsNoPacket, Refuses, TakesInPlace};
 
 use crate::fault::{why_not_compacted, why_refused};
-use crate::given::{give, give_copy};
+use crate::given::{fate_of, give, give_copy};
 use crate::pending::{MOST_HELD, Pending};
 use crate::running::take_all;
-use crate::slot::LONGEST_COPY;
 use crate::surviving::{lasting_sessions, resume_core};
 use crate::{GatewayFault, Given, GivenInPlace, OpenFault};
 use disk_model::Disk;
 use machine::laws::events_are_judged_once;
-use machine::{Answer, Coming, Core, Event, Iface, MOST_AHEAD, NoMemory};
+use machine::{Answer, Bytes, Coming, Core, Event, Iface, MOST_AHEAD, NoMemory};
 use packet::Bounds;
 use sessions::Session;
 use snapshot::{CommitFault, Opened, Store};
@@ -415,111 +413,85 @@ impl<D: Disk + Drop> Gateway<D> {
         None
     }
 
-    /// Takes a packet whose session goes on, where nothing is held: an event that is answered at once, and whose packet
-    /// is translated where it lies. Says the number of the event, and the interface on which the packet leaves. Nothing
-    /// changes that must survive, no memory is taken, and no call of the disk is made. The moment is in seconds.
+    /// Takes a packet as `offer` does, where it lies: it is translated there, and what it is answered is told, whether
+    /// it is answered at once or its answer is held. No call of the disk is made. The moment is in seconds.
     ///
-    /// `None` says nothing of the packet: it isn't taken, nothing has changed, and `offer` tells what becomes of it. It
-    /// comes wherever a session would end at the moment, an answer is held, no number is left, or a call of the disk
-    /// has failed before.
-    pub fn forward(&mut self, moment: u64, iface: Iface, packet: &mut [u8]) -> Option<(u64, Iface)>
-        ensures disk { self.new.disk ≡ self.old.disk }
-        ensures fallen { self.new.fallen ≡ self.old.fallen }
-        ensures generation { self.new.generation ≡ self.old.generation }
-        ensures grown { self.new.grown ≡ self.old.grown }
-        ensures filled { self.new.filled ≡ self.old.filled }
-        ensures held { self.new.told.held ≡ self.old.told.held }
-        ensures took { IfSome result (λ given. Took self.old.told self.new.told
-            (record { moment = moment; what = Packet iface packet.old })
-            (Now given.0 (Forward given.1 packet.new))) }
-
-        // It is answered at once as where it is offered: nothing is held, and nothing changes that must survive.
-        ensures none_held { OnSome result (self.old.told.held ≡ []) }
-        ensures no_entry { OnSome result ((judged : Judged)
-            → IsJudged self.old.told.config
-            (record { moment = moment; what = Packet iface packet.old }) judged
-            → ¬ HasEntry self.old.told.config self.old.told.state judged) }
-        ensures stood { OnSome result (self.old.fallen ≡ false) }
-        ensures numbers_left { OnSome result (self.old.told.last < 2 ^ 64 - 1) }
-        ensures none { IfNone result ((self.new ≡ self.old) × (packet.new ≡ packet.old)) }
-        ensures length { length packet.new ≡ length packet.old }
-    {
-        if self.store.has_fallen() {
-            return None;
-        }
-        if !self.pending.is_quiet() {
-            return None;
-        }
-        let Some(number) = self.last.checked_add(1) else {
-            return None;
-        };
-        self.core.facts();
-        events_are_judged_once();
-        let Some(out) = self.core.forward(moment, iface, packet) else {
-            return None;
-        };
-        self.last = number;
-        Some((number, out))
-    }
-
-    /// Takes a packet as `offer` does, where it lies: it is translated there, and the event is answered at once or its
-    /// answer is held. No call of the disk is made. The moment is in seconds.
+    /// # Errors
     ///
-    /// `None` says nothing of the packet: it isn't taken, nothing has changed, and `offer` tells what becomes of it. It
-    /// comes wherever `offer` refuses the event, and where the packet has more than 2,048 bytes (`LONGEST_COPY`).
+    /// Those of `offer`. Nothing has changed, the packet neither.
     #[inline(always)]
-    pub fn offer_in_place(
+    pub fn take_packet(
         &mut self,
         moment: u64,
         iface: Iface,
         packet: &mut [u8],
-    ) -> Option<GivenInPlace>
-        ensures disk { self.new.disk ≡ self.old.disk }
-        ensures fallen { self.new.fallen ≡ self.old.fallen }
-        ensures generation { self.new.generation ≡ self.old.generation }
-        ensures grown { self.new.grown ≡ self.old.grown }
-        ensures took { IfSome result (λ taken. Took self.old.told self.new.told
-            (record { moment = moment; what = Packet iface packet.old })
-            (given_by taken packet.new)) }
+    ) -> Result<GivenInPlace, GatewayFault>
+        requires short { length packet.old ≤ 65535 }
+        ensures ok { IfOk result (λ taken. TakesInPlace self.old self.new
+            (record { moment = moment; what = Packet iface packet.old }) taken packet.new) }
+        ensures err { OnErr result ((self.new ≡ self.old) × (packet.new ≡ packet.old)) }
+        ensures why { IfErr result (λ e. Refuses self.old
+            (record { moment = moment; what = Packet iface packet.old }) e) }
 
-        // Its answer has the packet as it lies there then, and counts as told.
-        ensures answer { IfSome result (λ taken.
-            handed (given_by taken packet.new) ++ self.new.told.held
-            ≡ self.old.told.held ++ answer_given taken packet.new ∷ []) }
-        ensures in_place { self.new.in_place ≡ self.old.in_place }
-        ensures now { IfSome result (λ taken. (judged : Judged)
-            → IsJudged self.old.told.config
-            (record { moment = moment; what = Packet iface packet.old }) judged
-            → IsNow (given_by taken packet.new) ↔ ((self.old.told.held ≡ [])
-            × ¬ HasEntry self.old.told.config self.old.told.state judged)) }
-        ensures filled { OnSome result ((judged : Judged) × (entries : List Entry)
-            × IsJudged self.old.told.config
-            (record { moment = moment; what = Packet iface packet.old }) judged
-            × AreEntriesOf self.old.told.config self.old.told.state judged entries
-            × (self.new.filled ≡ self.old.filled + length (body_bytes entries))) }
-        ensures stood { OnSome result (self.old.fallen ≡ false) }
-        ensures numbers_left { OnSome result (self.old.told.last < 2 ^ 64 - 1) }
-        ensures held_few { OnSome result (length self.old.told.held < 64) }
-        ensures short { OnSome result (length packet.old ≤ 2048) }
-        ensures none { IfNone result ((self.new ≡ self.old) × (packet.new ≡ packet.old)) }
+        // No more than this has changed. An answer that it holds counts as told.
+        ensures beside { self.new
+            ≡ record self.old { told = self.new.told; filled = self.new.filled } }
         ensures length { length packet.new ≡ length packet.old }
     {
-        if self.why_none().is_some() {
-            return None;
-        }
-        if packet.len() > LONGEST_COPY {
-            return None;
+        if let Some(fault) = self.why_none() {
+            return Err(fault);
         }
         self.core.facts();
         events_are_judged_once();
-        let Some(fate) = self
+        match self
             .core
-            .step_in_place(moment, iface, packet, &mut self.pending)
-        else {
-            return None;
+            .take_packet(moment, iface, packet, &mut self.pending)
+        {
+            Ok(fate) => {
+                self.last += 1;
+                Ok(give_copy(&mut self.pending, self.last, fate, packet))
+            }
+            Err(fault) => Err(why_refused(fault)),
+        }
+    }
+
+    /// Takes an event that brings no packet as `offer` does, and tells what it is answered, as `take_packet` does.
+    ///
+    /// # Errors
+    ///
+    /// Those of `offer`. The event comes back, and nothing has changed.
+    pub fn take_event(&mut self, event: Event) -> Result<GivenInPlace, (Event, GatewayFault)>
+        requires bodiless { IsNoPacket event.what }
+        ensures ok { IfOk result (λ taken. TakesInPlace self.old self.new event taken []) }
+        ensures err { IfErr result (λ e. (e.0 ≡ event) × (self.new ≡ self.old)) }
+        ensures why { IfErr result (λ e. Refuses self.old event e.1) }
+        ensures beside { self.new
+            ≡ record self.old { told = self.new.told; filled = self.new.filled } }
+    {
+        if let Some(fault) = self.why_none() {
+            return Err((event, fault));
+        }
+        self.core.facts();
+        events_are_judged_once();
+        match self.core.step_noted(event, &mut self.pending) {
+            Ok(answer) => {
+                self.last += 1;
+                let fate = fate_of(answer);
+                Ok(give_copy(&mut self.pending, self.last, fate, &[]))
+            }
+            Err((event, fault)) => Err((event, why_refused(fault))),
+        }
+    }
+
+    // A copy of a text.
+    pub(crate) fn copy(&self, text: &[u8]) -> Result<Bytes, NoMemory>
+        requires { length text.now < 2 ^ 31 }
+        ensures { IfOk result (λ bytes. bytes ≡ text.now) }
+    {
+        let Ok(bytes) = Vec::from_slice(self.alloc, text) else {
+            return Err(NoMemory);
         };
-        self.last += 1;
-        Some(give_copy(&mut self.pending, self.last, fate, packet))
+        Ok(Bytes::of(bytes))
     }
 
     /// Whether so many sessions have been held at once that it serves to look ahead.
@@ -600,7 +572,7 @@ impl<D: Disk + Drop> Gateway<D> {
         }
     }
 
-    /// As `flush`, for whoever has the held answers already, as `offer_in_place` told them: they are let go. It asks
+    /// As `flush`, for whoever has the held answers already, as `take_packet` told them: they are let go. It asks
     /// that each answer that is held was told so. What else is said of `flush` is said of it, by the same clauses.
     ///
     /// # Errors
@@ -624,6 +596,7 @@ impl<D: Disk + Drop> Gateway<D> {
         ensures reads { D.honest self.old.disk
             → OnOk result (Recovers (D.seen self.new.disk) (lasting self.old.told.state)) }
         ensures none { OnOk result (self.new.told ≡ record self.old.told { held = [] }) }
+        ensures in_place { self.new.in_place ≡ true }
         ensures generation { self.new.generation ≡ self.old.generation }
         ensures err { OnErr result (self.new.told ≡ self.old.told) }
         ensures reopen { IsErrOf result GatewayFault.Reopen ↔ (self.old.fallen ≡ true) }
@@ -676,6 +649,7 @@ impl<D: Disk + Drop> Gateway<D> {
         ensures stays_honest { self.new.fallen ≡ false
             → D.honest self.old.disk → D.honest self.new.disk }
         ensures told { self.new.told ≡ self.old.told }
+        ensures in_place { self.new.in_place ≡ true }
 
         // A crash at any moment leaves the present state.
         ensures any_moment { self.old.fallen ≡ false → D.honest self.old.disk

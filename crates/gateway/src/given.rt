@@ -1,7 +1,10 @@
 //! What became of an event that was taken: its answer is handed out at once, or held (`give`, `give_copy`).
-ghost use Rattle.std.specs.Prelude.{◌≡◌, ◌↔◌, ◌<◌, ◌≤◌, ◌++◌, ◌∷◌, [], length};
+ghost use Rattle.std.specs.Prelude.{◌≡◌, ◌≢◌, ◌<◌, ◌≤◌, ℕ, List, length};
+ghost use Rattle.packet.specs.declared.endpoint.Iface.{Iface};
 ghost use Rattle.machine.specs.Fates.{answer_of};
-ghost use Rattle.gateway.specs.Given.{IsNow, answer_given, given_by, handed, number_of};
+ghost use Rattle.machine.specs.declared.event.Answer.TheVariants.{Forward};
+ghost use Rattle.gateway.specs.Given.{answer_given, given_by};
+ghost use Rattle.gateway.specs.HeldAnswers.{Gives};
 
 use crate::pending::Pending;
 use machine::{Answer, Fate};
@@ -15,7 +18,7 @@ pub enum Given {
     Held(u64),
 }
 
-/// What became of a packet that was taken where it lies, with the number of its event.
+/// What became of an event that was taken in its caller's bytes, with its number. A packet that leaves lies there.
 #[derive(Clone, Copy, Drop)]
 pub enum GivenInPlace {
     /// It is answered.
@@ -27,13 +30,7 @@ pub enum GivenInPlace {
 // Hands out an answer at once where no entry waits, and holds it otherwise.
 pub(crate) fn give(pending: &mut Pending, number: u64, answer: Answer) -> Given
     requires few { length pending.old.held < 64 }
-    ensures order { handed result ++ pending.new.held ≡ pending.old.held ++ (number, answer) ∷ [] }
-    ensures number { number_of result ≡ number }
-    ensures now { IsNow result ↔ (pending.old.entries ≡ []) }
-    ensures quiet { IsNow result → pending.old.held ≡ [] }
-    ensures none { pending.new.held ≡ [] → pending.new.entries ≡ [] }
-    ensures entries { pending.new.entries ≡ pending.old.entries }
-    ensures place { pending.new.place ≡ pending.old.place }
+    ensures { Gives pending.old pending.new result (number, answer) }
 {
     if pending.is_quiet() {
         return Given::Now(number, answer);
@@ -42,7 +39,7 @@ pub(crate) fn give(pending: &mut Pending, number: u64, answer: Answer) -> Given
     Given::Held(number)
 }
 
-// Says what a packet comes to at once where no entry waits, and else holds its answer, with a copy of the packet.
+// Says what an event comes to at once where no entry waits, and else holds its answer, with a copy of its packet.
 pub(crate) fn give_copy(
     pending: &mut Pending,
     number: u64,
@@ -50,20 +47,29 @@ pub(crate) fn give_copy(
     packet: &[u8],
 ) -> GivenInPlace
     requires few { length pending.old.held < 64 }
-    requires short { length packet.now ≤ 2048 }
-    ensures order { handed (given_by result packet.now) ++ pending.new.held
-        ≡ pending.old.held ++ (number, answer_of fate packet.now) ∷ [] }
+    requires short { length packet.now ≤ 65535 }
+    ensures gives { Gives pending.old pending.new (given_by result packet.now)
+        (number, answer_of fate packet.now) }
     ensures answer { answer_given result packet.now ≡ (number, answer_of fate packet.now) }
-    ensures number { number_of (given_by result packet.now) ≡ number }
-    ensures now { IsNow (given_by result packet.now) ↔ (pending.old.entries ≡ []) }
-    ensures quiet { IsNow (given_by result packet.now) → pending.old.held ≡ [] }
-    ensures none { pending.new.held ≡ [] → pending.new.entries ≡ [] }
-    ensures entries { pending.new.entries ≡ pending.old.entries }
-    ensures place { pending.new.place ≡ pending.old.place }
 {
     if !pending.is_quiet() {
         pending.hold_copy(number, fate, packet);
         return GivenInPlace::Held(number, fate);
     }
     GivenInPlace::Now(number, fate)
+}
+
+// What an event came to that brought no packet.
+pub(crate) fn fate_of(answer: Answer) -> Fate
+    requires { (iface : Iface) (packet : List ℕ) → answer ≢ Forward iface packet }
+    ensures { (packet : List ℕ) → answer_of result packet ≡ answer }
+{
+    match answer {
+        Answer::Dropped(cause) => Fate::Dropped(cause),
+        Answer::Loaded => Fate::Loaded,
+        Answer::Refused => Fate::Refused,
+        Answer::Ticked => Fate::Ticked,
+        // Only a packet leaves.
+        Answer::Forward(..) => unreachable!(),
+    }
 }

@@ -4,19 +4,19 @@
 //! - `calls_stand_for_the_model`: calls one by one, and what the files stand for between them
 //! - `lives_are_the_models`: gateways opened one after the other over the same files, each stopped at any moment
 //! - `goes_on_after_a_stop`: the plainest case of it
-//! - `open_in_lives`, `run_in_lives`, `offer_in_lives`, `forward_in_lives`, `offer_in_place_in_lives`, `flush_in_lives`,
-//!   `settle_in_lives`, `compact_in_lives`: the calls of `Gateway`, each with the clauses that say that it makes such
-//!   lives
+//! - `open_in_lives`, `run_in_lives`, `offer_in_lives`, `take_packet_in_lives`, `take_event_in_lives`,
+//!   `flush_in_lives`, `settle_in_lives`, `compact_in_lives`: the calls of `Gateway`, each with the clauses that say
+//!   that it makes such lives
 //! - `calls_are_lives`: so do the calls of `running`, which make these
-ghost use Rattle.std.specs.Prelude.{◌≡◌, ◌≢◌, ◌++◌, ◌∷◌, [], List, IfErr, IfNone, IfOk, IfSome, MatchResult, OnErr, OnOk, true};
+ghost use Rattle.std.specs.Prelude.{◌≡◌, ◌≢◌, ◌≤◌, ◌++◌, ◌∷◌, [], List, length, IfErr, IfOk, MatchResult, OnErr, OnOk, true};
 ghost use Rattle.packet.specs.Config.{Config};
-ghost use Rattle.machine.specs.declared.event.Answer.TheVariants.{Forward};
 ghost use Rattle.machine.specs.declared.event.Event.{Event};
 ghost use Rattle.machine.specs.declared.event.What.TheVariants.{Packet};
 ghost use Rattle.gateway.specs.Given.{answer_given, given_by, handed};
 ghost use Rattle.gateway.specs.Lives.{GoesOnAfterAStop, IsLife, LivesAreTheModels, Refused, Stopped};
 ghost use Rattle.gateway.specs.Living.{CallsAreLives, EndsLife, GoesOnInLife, RestsAgain, RestsInLife, RunsInLife, StaysInLife, StopsInLife, TakesInLife};
 ghost use Rattle.gateway.specs.Standing.{CallsStandForTheModel};
+ghost use Rattle.gateway.specs.Taking.{IsNoPacket};
 
 use crate::calls::Gateway;
 use crate::{GatewayFault, Given, GivenInPlace, OpenFault};
@@ -126,50 +126,59 @@ pub fn offer_in_lives<D: Disk + Drop>(
     gateway.offer(event)
 }
 
-/// Takes a packet in its caller's bytes (`Gateway::forward`), for a gateway in its life. Stopped within it, that is a
-/// life, in which the packet isn't taken. If it answers, the gateway goes on in its life, and the answer counts as given
-/// out: it lies in these bytes. Otherwise nothing has changed, so that its life is as before.
-pub fn forward_in_lives<D: Disk + Drop>(
+/// Takes a packet in its caller's bytes (`Gateway::take_packet`), for a gateway in its life. Stopped within it, that is
+/// a life, in which the packet isn't taken. After it the gateway goes on in its life. The answer, which lies in these
+/// bytes, counts as given out if it is told at once. If it is held, it doesn't yet, so its caller keeps it back: it
+/// counts once `settle_in_lives` or `flush_in_lives` has ended well. With a fault nothing has changed, so that its life
+/// is as before.
+///
+/// # Errors
+///
+/// Those of `Gateway::take_packet`.
+pub fn take_packet_in_lives<D: Disk + Drop>(
     gateway: &mut Gateway<D>,
     moment: u64,
     iface: Iface,
     packet: &mut [u8],
-) -> Option<(u64, Iface)>
+) -> Result<GivenInPlace, GatewayFault>
+    requires short { length packet.old ≤ 65535 }
     ensures stopped { StopsInLife D.honest D.moment D.left D.seen D.failed gateway.old gateway.new }
-    ensures some { IfSome result (λ given. TakesInLife D.honest D.moment D.left D.seen D.failed
-        gateway.old gateway.new (record { moment = moment; what = Packet iface packet.old })
-        ((given.0, Forward given.1 packet.new) ∷ [])) }
-    ensures none { IfNone result ((gateway.new ≡ gateway.old) × (packet.new ≡ packet.old)) }
-{
-    gateway.facts();
-    gateway.forward(moment, iface, packet)
-}
-
-/// Takes a packet in its caller's bytes (`Gateway::offer_in_place`), for a gateway in its life. Stopped within it, that
-/// is a life, in which the packet isn't taken. If it answers, the gateway goes on in its life. The answer, which lies in
-/// these bytes, counts as given out if it is told at once. If it is held, it doesn't yet, so its caller keeps it back: it
-/// counts once `settle_in_lives` or `flush_in_lives` has ended well. Otherwise nothing has changed, so that its life is
-/// as before.
-pub fn offer_in_place_in_lives<D: Disk + Drop>(
-    gateway: &mut Gateway<D>,
-    moment: u64,
-    iface: Iface,
-    packet: &mut [u8],
-) -> Option<GivenInPlace>
-    ensures stopped { StopsInLife D.honest D.moment D.left D.seen D.failed gateway.old gateway.new }
-    ensures some { IfSome result (λ taken. TakesInLife D.honest D.moment D.left D.seen D.failed
+    ensures ok { IfOk result (λ taken. TakesInLife D.honest D.moment D.left D.seen D.failed
         gateway.old gateway.new (record { moment = moment; what = Packet iface packet.old })
         (handed (given_by taken packet.new))) }
 
     // Told at once, or held, it is the answer that lies there. It counts as told in place, as `settle_in_lives` asks.
-    ensures answer { IfSome result (λ taken.
+    ensures answer { IfOk result (λ taken.
         handed (given_by taken packet.new) ++ gateway.new.told.held
         ≡ gateway.old.told.held ++ answer_given taken packet.new ∷ []) }
     ensures in_place { gateway.new.in_place ≡ gateway.old.in_place }
-    ensures none { IfNone result ((gateway.new ≡ gateway.old) × (packet.new ≡ packet.old)) }
+    ensures err { OnErr result ((gateway.new ≡ gateway.old) × (packet.new ≡ packet.old)) }
 {
     gateway.facts();
-    gateway.offer_in_place(moment, iface, packet)
+    gateway.take_packet(moment, iface, packet)
+}
+
+/// Takes an event without a packet (`Gateway::take_event`), for a gateway in its life, as `take_packet_in_lives` takes
+/// a packet.
+///
+/// # Errors
+///
+/// Those of `Gateway::take_event`.
+pub fn take_event_in_lives<D: Disk + Drop>(
+    gateway: &mut Gateway<D>,
+    event: Event,
+) -> Result<GivenInPlace, (Event, GatewayFault)>
+    requires bodiless { IsNoPacket event.what }
+    ensures stopped { StopsInLife D.honest D.moment D.left D.seen D.failed gateway.old gateway.new }
+    ensures ok { IfOk result (λ taken. TakesInLife D.honest D.moment D.left D.seen D.failed
+        gateway.old gateway.new event (handed (given_by taken []))) }
+    ensures answer { IfOk result (λ taken. handed (given_by taken []) ++ gateway.new.told.held
+        ≡ gateway.old.told.held ++ answer_given taken [] ∷ []) }
+    ensures in_place { gateway.new.in_place ≡ gateway.old.in_place }
+    ensures err { IfErr result (λ e. (e.0 ≡ event) × (gateway.new ≡ gateway.old)) }
+{
+    gateway.facts();
+    gateway.take_event(event)
 }
 
 /// Flushes (`Gateway::flush`), for a gateway in its life. Stopped within it, that is a life, in which no answer counts

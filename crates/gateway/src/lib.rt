@@ -5,17 +5,17 @@
 //!
 //! - `given`, `fault`: what becomes of an event, and why it isn't taken.
 //! - `pending`, `slot`: the answers that are held, and the entries of their events.
-//! - `calls`: `Gateway`, to which events are offered. A packet whose session goes on leaves at once, translated
-//!   where it lies, if nothing is held (`forward`); any packet of at most 2,048 bytes may be taken where it lies
-//!   (`offer_in_place`).
+//! - `calls`: `Gateway`, to which events are offered (`offer`), or which takes them and tells their answers at once
+//!   (`take_packet`, which translates a packet in its caller's bytes, and `take_event`).
 //! - `surviving`: a core that begins again from what survived, and what survives of one.
-//! - `running`: a run of events over the gateway's calls, event by event.
+//! - `running`, `in_place`: a run of events over the gateway's calls, event by event.
 //! - `laws`: what follows from the definitions of `specs/Standing`.
 #![tactic(auto)]
 
 mod calls;
 mod fault;
 mod given;
+mod in_place;
 pub mod laws;
 mod pending;
 pub mod running;
@@ -29,5 +29,4 @@ pub use machine::{
     Answer, Bytes, Cause, Coming, Event, Fate, Iface, MOST_AHEAD, NoMemory, Session, What,
 };
 pub use pending::MOST_HELD;
-pub use slot::LONGEST_COPY;
 pub use snapshot::OpenFault;

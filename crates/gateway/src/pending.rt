@@ -4,7 +4,7 @@
 //! of a group. `Gateway::offer` has the answer held behind them (`hold`), and a flush writes the `group` and lets all
 //! of it go (`release`).
 //!
-//! `Gateway::offer_in_place` has a copy of the packet held (`hold_copy`), in a slot that stands ready since `reserve`.
+//! `Gateway::take_packet` has a copy of the packet held (`hold_copy`), in a slot that stands ready since `reserve`.
 //! A settlement lets the answers go (`let_go`), and their slots hold others. Where answers are handed out, or one comes
 //! that isn't copied, those in slots are made into such as the others (`move_out`).
 ghost use Rattle.std.specs.Prelude.{◌≡◌, ◌≢◌, ◌↔◌, ◌+◌, ◌*◌, ◌<◌, ◌≤◌, ◌^◌, ◌++◌, ◌∷◌, [], length, take, drop, IfOk, IfSome, IfNone, OnOk, IsTrue, vec_len, vec_capacity};
@@ -127,12 +127,12 @@ impl Pending {
         push(&mut self.held, number, answer);
     }
 
-    /// Holds the answer to a packet behind the others, with a copy of it. Some entry waits, so there is a slot for it.
+    /// Holds an answer behind the others, with a copy of its packet. Some entry waits, so there is a slot for it.
     #[inline(always)]
     pub(crate) fn hold_copy(&mut self, number: u64, fate: Fate, packet: &[u8])
         requires some { self.old.entries ≢ [] }
         requires few { length self.old.held < 64 }
-        requires short { length packet.now ≤ 2048 }
+        requires short { length packet.now ≤ 65535 }
         ensures held { self.new.held ≡ self.old.held ++ (number, answer_of fate packet.now) ∷ [] }
         ensures entries { self.new.entries ≡ self.old.entries }
         ensures place { self.new.place ≡ self.old.place }

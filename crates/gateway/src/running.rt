@@ -5,25 +5,24 @@
 //! - `take`: one more event. Where 64 answers are held `flush_held_full` hands them out first; then `offer` calls
 //!   `Gateway::offer`, and where that refuses the event as Full, `take_behind_compaction` compacts and offers it again
 //! - `take_all`: several, and a flush behind them (`hand_out`)
-//! - `forward`: one more, if it is a packet whose session goes on, which `Gateway::forward` translates where it lies
-//! - `take_in_place`: one more, if it is a packet, which `Gateway::offer_in_place` translates where it lies
+//! - `take_packet`, `take_load`, `take_moment` (module `in_place`): one more, in its caller's bytes, where a packet is
+//!   translated
 //! - `hand_out`: what is held is synced and handed out (`Gateway::flush`)
 //! - `settle`: what is held is synced, for those who have its answers (`Gateway::settle`)
 //! - `compact`: what is held is handed out, and the files are made short (`Gateway::compact`)
 ghost use Rattle.std.specs.Prelude.{◌≡◌, ◌≢◌, ◌↔◌, ◌+◌, ◌<◌, ◌≤◌, ◌++◌, ◌∷◌, [], ℕ, List, false, length};
-ghost use Rattle.std.specs.Prelude.{IfErr, IfNone, IfSome, IsTrue, OnErr, OnOk, true, vec_capacity, vec_len};
+ghost use Rattle.std.specs.Prelude.{IfErr, IsTrue, OnErr, OnOk, true, vec_capacity, vec_len};
 ghost use Rattle.machine.specs.declared.event.Answer.{Answer};
-ghost use Rattle.machine.specs.declared.event.Answer.TheVariants.{Forward};
-ghost use Rattle.machine.specs.declared.event.What.TheVariants.{Packet};
 ghost use Rattle.gateway.specs.Kept.{IsRoomy};
-ghost use Rattle.gateway.specs.Given.{IsNow, answer_given, given_by, handed};
+ghost use Rattle.gateway.specs.Given.{handed};
 ghost use Rattle.gateway.specs.Running.{BreaksOff, CarriesOn, Ends, SafeWithin, Stands, StopsWithin};
 
 use crate::calls::Gateway;
+pub use crate::in_place::{take_load, take_moment, take_packet};
 use crate::pending::MOST_HELD;
-use crate::{GatewayFault, Given, GivenInPlace};
+use crate::{GatewayFault, Given};
 use disk_model::Disk;
-use machine::{Answer, Event, Iface};
+use machine::{Answer, Event};
 
 /// A gateway that hasn't fallen stands: a run of no event goes from it to itself. It does nothing but carry this fact.
 pub fn stands<D: Disk + Drop>(gateway: &Gateway<D>)
@@ -96,67 +95,6 @@ pub fn take<D: Disk + Drop>(
     Err(fault)
 }
 
-/// Takes a packet whose session goes on, where nothing is held: one more event, whose packet is translated where it
-/// lies. Its answer isn't put behind the others, but said: its number, and the interface on which the packet leaves.
-/// The moment is in seconds. What it takes, it takes without memory.
-///
-/// `None` says nothing of the packet: it isn't taken, nothing has changed, and `take` tells what becomes of it.
-pub fn forward<D: Disk + Drop>(
-    gateway: &mut Gateway<D>,
-    moment: u64,
-    iface: Iface,
-    packet: &mut [u8],
-) -> Option<(u64, Iface)>
-    requires stands { gateway.old.fallen ≡ false }
-    ensures some { IfSome result (λ given. (before : List (ℕ × Answer))
-        → CarriesOn D.honest D.moment D.left D.failed gateway.old gateway.new
-        (record { moment = moment; what = Packet iface packet.old } ∷ [])
-        before (before ++ (given.0, Forward given.1 packet.new) ∷ [])) }
-    ensures any_moment { (before : List (ℕ × Answer))
-        → SafeWithin D.honest D.moment D.left D.failed gateway.old gateway.new before }
-    ensures none { IfNone result ((gateway.new ≡ gateway.old) × (packet.new ≡ packet.old)) }
-    ensures held { gateway.new.told.held ≡ gateway.old.told.held }
-    ensures stands { gateway.new.fallen ≡ false }
-    ensures length { length packet.new ≡ length packet.old }
-{
-    gateway.facts();
-    gateway.forward(moment, iface, packet)
-}
-
-/// Takes a packet where it lies, as `take` takes an event: it is translated there. Its answer isn't put behind the
-/// others, but said, whether it is given at once or held. The moment is in seconds.
-///
-/// `None` says nothing of the packet: it isn't taken, nothing has changed, and `take` tells what becomes of it.
-#[inline(always)]
-pub fn take_in_place<D: Disk + Drop>(
-    gateway: &mut Gateway<D>,
-    moment: u64,
-    iface: Iface,
-    packet: &mut [u8],
-) -> Option<GivenInPlace>
-    requires stands { gateway.old.fallen ≡ false }
-    ensures some { IfSome result (λ taken. (before : List (ℕ × Answer))
-        → CarriesOn D.honest D.moment D.left D.failed gateway.old gateway.new
-        (record { moment = moment; what = Packet iface packet.old } ∷ [])
-        before (before ++ handed (given_by taken packet.new))) }
-    ensures any_moment { (before : List (ℕ × Answer))
-        → SafeWithin D.honest D.moment D.left D.failed gateway.old gateway.new before }
-
-    // Its answer has the packet as it lies there then.
-    ensures answer { IfSome result (λ taken.
-        handed (given_by taken packet.new) ++ gateway.new.told.held
-        ≡ gateway.old.told.held ++ answer_given taken packet.new ∷ []) }
-    ensures now { IfSome result (λ taken. IsNow (given_by taken packet.new)
-        → gateway.old.told.held ≡ []) }
-    ensures in_place { gateway.new.in_place ≡ gateway.old.in_place }
-    ensures none { IfNone result ((gateway.new ≡ gateway.old) × (packet.new ≡ packet.old)) }
-    ensures stands { gateway.new.fallen ≡ false }
-    ensures length { length packet.new ≡ length packet.old }
-{
-    gateway.facts();
-    gateway.offer_in_place(moment, iface, packet)
-}
-
 // Flushes and compacts; then there is room for the event, and it is taken.
 fn take_behind_compaction<D: Disk + Drop>(
     gateway: &mut Gateway<D>,
@@ -217,6 +155,25 @@ pub fn compact<D: Disk + Drop>(
     ensures capacity { vec_capacity answers.old ≤ vec_capacity answers.new }
 {
     hand_out(gateway, answers)?;
+    compact_settled(gateway)
+}
+
+// Compacts a gateway that holds nothing.
+pub(crate) fn compact_settled<D: Disk + Drop>(gateway: &mut Gateway<D>) -> Result<(), GatewayFault>
+    requires stands { gateway.old.fallen ≡ false }
+    requires none { gateway.old.told.held ≡ [] }
+    ensures ok { OnOk result ((before : List (ℕ × Answer))
+        → CarriesOn D.honest D.moment D.left D.failed gateway.old gateway.new [] before before) }
+    ensures err { IfErr result (λ e. (before : List (ℕ × Answer))
+        → BreaksOff D.honest D.moment D.left D.failed gateway.old gateway.new [] before before e) }
+    ensures any_moment { (before : List (ℕ × Answer))
+        → SafeWithin D.honest D.moment D.left D.failed gateway.old gateway.new before }
+    ensures stands { OnOk result (gateway.new.fallen ≡ false) }
+    ensures told { gateway.new.told ≡ gateway.old.told }
+    ensures in_place { gateway.new.in_place ≡ true }
+    ensures roomy { OnOk result (IsRoomy gateway.new.filled) }
+    ensures grown { OnOk result (gateway.new.grown ≡ 0) }
+{
     gateway.compact()?;
     Ok(())
 }
@@ -284,7 +241,7 @@ pub fn hand_out<D: Disk + Drop>(
     Ok(())
 }
 
-/// Flushes, for whoever has the answers that are held already, as `take_in_place` told them. It asks that each was told
+/// Flushes, for whoever has the answers that are held already, as `take_packet` told them. It asks that each was told
 /// so.
 ///
 /// # Errors
@@ -307,6 +264,7 @@ pub fn settle<D: Disk + Drop>(gateway: &mut Gateway<D>) -> Result<(), GatewayFau
     ensures last { gateway.new.told.last ≡ gateway.old.told.last }
     ensures none { OnOk result (gateway.new.told.held ≡ []) }
     ensures stays { OnErr result (gateway.new.told.held ≡ gateway.old.told.held) }
+    ensures in_place { gateway.new.in_place ≡ true }
     ensures device { IfErr result (λ e. e ≡ GatewayFault.Device) }
     ensures generation { gateway.new.generation ≡ gateway.old.generation }
 {
@@ -347,7 +305,7 @@ fn offer<D: Disk + Drop>(
     Ok(())
 }
 
-fn is_full(fault: GatewayFault) -> bool
+pub(crate) fn is_full(fault: GatewayFault) -> bool
     ensures { IsTrue result ↔ (fault ≡ GatewayFault.Full) }
 {
     matches!(fault, GatewayFault::Full)

@@ -1,8 +1,7 @@
 -- What it means that a session goes on.
-use Rattle.std.specs.Prelude.{◌≡◌, ℕ, Some, None, Result, Ok, Err, bit_or, false}
+use Rattle.std.specs.Prelude.{◌≡◌, ◌≢◌, ℕ, None, Result, Ok, Err, bit_or, false, true}
 use Rattle.packet.specs.declared.endpoint.Flags.{Flags}
 use Rattle.sessions.specs.Life.{IsSeen, restarts, shown}
-use Rattle.sessions.specs.Table.{Sessions, at}
 use Rattle.sessions.specs.declared.session.Change.TheVariants.{Seen}
 use Rattle.sessions.specs.declared.session.Opener.{Opener}
 use Rattle.sessions.specs.declared.session.Session.{Session}
@@ -19,9 +18,11 @@ abbrev pub planned : Result Going Cause → Result Plan Cause
 planned (Ok g) = Ok (plan_of g)
 planned (Err cause) = Err cause
 
--- what the packet shows of its session was seen before
-abbrev pub IsQuiet : Sessions → Going → Type 0
-IsQuiet table g = (s : Session) → at table g.slot ≡ Some s → bit_or s.seen g.bits ≡ s.seen
+-- when the last packet of this session passed, and whether the packet shows something new of it
+pub record Tells (s : Session) (g : Going) : Type 0 where
+  pub last : g.last ≡ s.last
+  pub quiet : g.is_new ≡ false → bit_or s.seen g.bits ≡ s.seen
+  pub new : g.is_new ≡ true → bit_or s.seen g.bits ≢ s.seen
 
 -- a packet from this side doesn't begin the session anew, and shows these bits of it
 pub record Shows (s : Session) (sender : Opener) (flags : Flags) (bits : ℕ) : Type 0 where

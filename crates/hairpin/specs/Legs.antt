@@ -10,6 +10,9 @@ use Rattle.packet.specs.declared.endpoint.Iface.{Iface}
 use Rattle.packet.specs.declared.endpoint.Iface.TheVariants.{Lan, Wan}
 use Rattle.packet.specs.declared.endpoint.Proto.{Proto}
 use Rattle.packet.specs.declared.endpoint.Proto.TheVariants.{Tcp}
+use Rattle.packet.specs.declared.route.Route.{Route}
+use Rattle.packet.specs.declared.route.Route.TheVariants.{Out, In}
+use Rattle.packet.specs.declared.route.Route.TheVariants as route
 use Rattle.packet.specs.declared.view.View.{View}
 use Rattle.portpick.specs.Pool.{endpoint, near_choice, pool_choice, port_at}
 use Rattle.ruletree.specs.declared.tree.Spelled.{Spelled}
@@ -272,3 +275,9 @@ module _ (config : Config) (rules : Spelled) (sessions : List Session) (now : â„
 
   abbrev pub hairpin_leg : Result Passage Cause
   hairpin_leg = hairpin_by (find (has_inside view.proto view.src view.dst) sessions)
+
+  -- ---- the leg of a route
+  abbrev pub leg : Route â†’ Result Passage Cause
+  leg Out = out_leg
+  leg In = in_leg
+  leg route.Hairpin = hairpin_leg

@@ -1,20 +1,20 @@
-//! A packet whose session goes on, and is told by a guess. By `goes_out` and `comes_in`, the shortest way, which nearly
-//! all go, it shows nothing of its session that wasn't seen before; by `goes_out_showing` and `comes_in_showing`, the
-//! short way, perhaps something. Each of the four finds the session (`glanced_out`, `glanced_in`), asks what the packet
-//! shows of it (`shown`, `shown_again`), and has the forward chains decide (`on_out`, `on_in`).
-ghost use Rattle.std.specs.Prelude.{◌≡◌, ℕ, List, Option, IfOk, IfSome, Some, None, bit_or, slice_index_or, find};
+//! A packet whose session goes on, and is told by a guess: nearly all packets are so. `goes_on` finds the session
+//! (`glanced_out`, `glanced_in`), asks what the packet shows of it, and has the forward chains decide (`on_out`,
+//! `on_in`).
+ghost use Rattle.std.specs.Prelude.{◌≡◌, ℕ, List, Option, IfOk, IfSome, Some, None, slice_index_or, find};
 ghost use Rattle.packet.specs.Config.{Pool};
 ghost use Rattle.sessions.specs.Listing.{has_inside, has_outside, listing};
 ghost use Rattle.sessions.specs.Table.{at};
 ghost use Rattle.sessions.specs.declared.session.Session.{Session};
-ghost use Rattle.hairpin.specs.Going.{IsQuiet, Shows, planned};
-ghost use Rattle.hairpin.specs.Legs.{in_by, in_leg as in_way, out_by, out_leg as out_way};
+ghost use Rattle.hairpin.specs.Going.{Shows, Tells, plan_of, planned};
+ghost use Rattle.hairpin.specs.Legs.{in_by, leg, out_by};
 ghost use Rattle.hairpin.specs.Plans.{Plans};
 
 use crate::cause::Cause;
 use crate::held::{Held, connection_of, facts_of};
-use packet::{Bounds, Endpoint, Flags, Iface, View};
-use sessions::{Opener, Session, Slot, Table};
+use crate::plan::Plan;
+use packet::{Bounds, Endpoint, Iface, Route, View};
+use sessions::{Change, Opener, Slot, Table, is_syn_alone};
 use verdict::{Forwarding, Rules, forward, passes_all};
 
 /// How a packet leaves whose session goes on.
@@ -24,6 +24,10 @@ pub struct Going {
     pub slot: Slot,
     /// What it shows of the session.
     pub bits: u8,
+    /// Whether some of that wasn't seen before.
+    pub is_new: bool,
+    /// When the last packet of the session passed, in seconds.
+    pub last: u64,
     /// The interface that it leaves on.
     pub iface: Iface,
     /// The source that it leaves with.
@@ -32,106 +36,63 @@ pub struct Going {
     pub dst: Endpoint,
 }
 
-/// How a packet goes out whose session goes on, as `out_leg` says. `None` says nothing: no guess tells its session, or
-/// more of it changes than the moment of its last packet.
+impl Going {
+    /// The plan of a packet that leaves so.
+    pub fn plan(&self) -> Plan
+        ensures { result ≡ plan_of self.now }
+    {
+        Plan {
+            first: Change::Seen(self.slot, self.bits),
+            second: None,
+            iface: self.iface,
+            src: self.src,
+            dst: self.dst,
+        }
+    }
+}
+
+/// How a packet leaves on its route, as `out_leg` and `in_leg` say, if a guess tells its session, and that goes on.
+/// `None` says nothing: no guess tells the session, or the packet is a SYN alone or a hairpin.
 ///
 /// # Errors
 ///
 /// `Rule` of forward.
-pub fn goes_out(
+// Compiled into its caller, which needs no place then for what it answers.
+#[inline(always)]
+pub fn goes_on(
     bounds: &Bounds,
     rules: &Rules,
     table: &Table,
+    route: Route,
     view: &View,
 ) -> Option<Result<Going, Cause>>
     ensures way { (external : Pool) (now : ℕ)
         → IfSome result (λ going. Plans external table.now.held now (planned going)
-        (out_way bounds.now rules.now (listing table.now.held) now view.now)) }
-    ensures quiet { IfSome result (λ going. IfOk going (IsQuiet table.now)) }
+        (leg bounds.now rules.now (listing table.now.held) now view.now route)) }
+    ensures told { IfSome result (λ going. IfOk going (λ g.
+        IfSome (at table.now g.slot) (λ s. Tells s g))) }
 {
-    let Some(found) = glanced_out(table, view) else {
+    // A SYN alone seldom has a session, and a guess would wait for memory: the leg looks for it.
+    if is_syn_alone(view.flags) {
         return None;
-    };
-    let Some(bits) = shown_again(&found.session, Opener::Inside, view.flags) else {
-        return None;
-    };
-    Some(on_out(bounds, rules, &found, bits, view))
-}
-
-/// How a packet comes in whose session goes on, as `in_leg` says. `None` says nothing: no guess tells its session, or
-/// more of it changes than the moment of its last packet.
-///
-/// # Errors
-///
-/// `Rule` of forward.
-pub fn comes_in(
-    bounds: &Bounds,
-    rules: &Rules,
-    table: &Table,
-    view: &View,
-) -> Option<Result<Going, Cause>>
-    ensures way { (external : Pool) (now : ℕ)
-        → IfSome result (λ going. Plans external table.now.held now (planned going)
-        (in_way bounds.now rules.now (listing table.now.held) now view.now)) }
-    ensures quiet { IfSome result (λ going. IfOk going (IsQuiet table.now)) }
-{
-    let Some(found) = glanced_in(table, view) else {
-        return None;
-    };
-    let Some(bits) = shown_again(&found.session, Opener::Remote, view.flags) else {
-        return None;
-    };
-    Some(on_in(bounds, rules, &found, bits, view))
-}
-
-/// As `goes_out`, of a packet that may show something new of its session. `None` says nothing: no guess tells its
-/// session, or the packet begins it anew.
-///
-/// # Errors
-///
-/// `Rule` of forward.
-pub fn goes_out_showing(
-    bounds: &Bounds,
-    rules: &Rules,
-    table: &Table,
-    view: &View,
-) -> Option<Result<Going, Cause>>
-    ensures { (external : Pool) (now : ℕ)
-        → IfSome result (λ going. Plans external table.now.held now (planned going)
-        (out_way bounds.now rules.now (listing table.now.held) now view.now)) }
-{
-    let Some(found) = glanced_out(table, view) else {
-        return None;
-    };
-    let Some(bits) = shown(&found.session, Opener::Inside, view.flags) else {
-        return None;
-    };
-    Some(on_out(bounds, rules, &found, bits, view))
-}
-
-/// As `comes_in`, of a packet that may show something new of its session. `None` says nothing: no guess tells its
-/// session, or the packet begins it anew.
-///
-/// # Errors
-///
-/// `Rule` of forward.
-pub fn comes_in_showing(
-    bounds: &Bounds,
-    rules: &Rules,
-    table: &Table,
-    view: &View,
-) -> Option<Result<Going, Cause>>
-    ensures { (external : Pool) (now : ℕ)
-        → IfSome result (λ going. Plans external table.now.held now (planned going)
-        (in_way bounds.now rules.now (listing table.now.held) now view.now)) }
-{
-    let Some(found) = glanced_in(table, view) else {
-        return None;
-    };
-    let Some(bits) = shown(&found.session, Opener::Remote, view.flags) else {
-        return None;
-    };
-    Some(on_in(bounds, rules, &found, bits, view))
+    }
+    match route {
+        Route::Out => {
+            let Some(found) = glanced_out(table, view) else {
+                return None;
+            };
+            let bits = found.session.shown(Opener::Inside, view.flags);
+            Some(on_out(bounds, rules, &found, bits, view))
+        }
+        Route::In => {
+            let Some(found) = glanced_in(table, view) else {
+                return None;
+            };
+            let bits = found.session.shown(Opener::Remote, view.flags);
+            Some(on_in(bounds, rules, &found, bits, view))
+        }
+        Route::Hairpin => None,
+    }
 }
 
 // The session of a packet from inside, where a guess tells it.
@@ -159,30 +120,6 @@ fn glanced_in(table: &Table, view: &View) -> Option<Held>
     Some(Held { slot, session })
 }
 
-// What a packet from this side shows of a session that it doesn't begin anew.
-fn shown(session: &Session, sender: Opener, flags: Flags) -> Option<u8>
-    ensures { IfSome result (Shows session.now sender flags) }
-{
-    if session.restarts(flags) {
-        return None;
-    }
-    Some(session.shown(sender, flags))
-}
-
-// What a packet from this side shows of a session that it doesn't begin anew, where all of that was seen before.
-fn shown_again(session: &Session, sender: Opener, flags: Flags) -> Option<u8>
-    ensures shows { IfSome result (Shows session.now sender flags) }
-    ensures seen { IfSome result (λ bits. bit_or session.now.seen bits ≡ session.now.seen) }
-{
-    let Some(bits) = shown(session, sender, flags) else {
-        return None;
-    };
-    if session.seen | bits != session.seen {
-        return None;
-    }
-    Some(bits)
-}
-
 // How a packet goes out by the session that was found, of which it shows these bits.
 #[inline(always)]
 fn on_out(
@@ -198,7 +135,7 @@ fn on_out(
         → Plans external held now (planned result)
         (out_by bounds.now rules.now (listing held) now view.now (Some found.now.session)) }
     ensures slot { IfOk result (λ g. g.slot ≡ found.now.slot) }
-    ensures bits { IfOk result (λ g. g.bits ≡ bits) }
+    ensures told { IfOk result (Tells found.now.session) }
 {
     let session = &found.session;
     if !passes_all(rules) {
@@ -211,6 +148,8 @@ fn on_out(
     Ok(Going {
         slot: found.slot,
         bits,
+        is_new: session.seen | bits != session.seen,
+        last: session.last,
         iface: Iface::Wan,
         src: session.outside,
         dst: session.remote,
@@ -232,7 +171,7 @@ fn on_in(
         → Plans external held now (planned result)
         (in_by bounds.now rules.now (listing held) now view.now (Some found.now.session)) }
     ensures slot { IfOk result (λ g. g.slot ≡ found.now.slot) }
-    ensures bits { IfOk result (λ g. g.bits ≡ bits) }
+    ensures told { IfOk result (Tells found.now.session) }
 {
     let session = &found.session;
     if !passes_all(rules) {
@@ -245,6 +184,8 @@ fn on_in(
     Ok(Going {
         slot: found.slot,
         bits,
+        is_new: session.seen | bits != session.seen,
+        last: session.last,
         iface: Iface::Lan,
         src: session.remote,
         dst: session.inside,

@@ -2,8 +2,7 @@
 //!
 //! A leg says by which sessions a packet passes and how it leaves (a `Plan`), or why it is dropped (a `Cause`).
 //! `specs/Legs` says what each comes to, over the sessions as a plain list, and `out_leg`, `in_leg` and `hairpin_leg`
-//! are proved to be it. So are the four of `going`, for a packet whose session goes on: the shortest way (`goes_out`,
-//! `comes_in`) and the short one (`goes_out_showing`, `comes_in_showing`). These change nothing and take no memory: the
+//! are proved to be it. So is `goes_on`, for a packet whose session goes on. These change nothing and take no memory: the
 //! crate `machine` does what a plan says (`Flows::carry_out`). It changes `Translations` by that, of which `new` and
 //! `reserve` alone take memory.
 //!
@@ -19,8 +18,7 @@
 //! - `inward`: `in_leg`, from a remote endpoint to an outside one.
 //! - `hairpinning`: `hairpin_leg`, from an inside endpoint to an outside endpoint of the gateway itself: first out,
 //!   then in.
-//! - `going`: `goes_out` and `comes_in`, for a packet whose session goes on, and that shows nothing new of it;
-//!   `goes_out_showing` and `comes_in_showing` where it may show something.
+//! - `going`: `goes_on`, for a packet whose session goes on and is told by a guess.
 //! - `laws`: what holds of the legs, whatever the rules and sessions.
 #![tactic(auto)]
 
@@ -36,7 +34,7 @@ mod plan;
 mod translations;
 
 pub use cause::Cause;
-pub use going::{Going, comes_in, comes_in_showing, goes_out, goes_out_showing};
+pub use going::{Going, goes_on};
 pub use hairpinning::hairpin_leg;
 pub use inward::in_leg;
 pub use outward::out_leg;

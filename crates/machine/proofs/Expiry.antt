@@ -90,21 +90,3 @@ none_over t d m now tied none slot over = none slot ((over_map (table.at t slot)
 pub first_of : (slots : List ℕ) → 0 < length slots → (slot : ℕ) × Contains slots slot
 first_of [] lt = absurd (omega (arith, lt))
 first_of (slot ∷ slots) lt = (slot, (0, omega arith, refl))
-
--- no slot is listed as due just where all are alive
-pub none_listed : (held : List (Option Session)) (now : ℕ) (slots : List ℕ) → ((slot : ℕ) → Contains slots slot ↔ IsSomeAnd (get_or held slot None) (IsDue now))
-    → (length slots ≡ 0) ↔ ((t : Session) → In t (listing held) → alive now t ≡ true)
-none_listed held now slots exactly = (
-  λ none t is. elim (cases_Bool (alive now t)) [
-    | inl lives ↦ lives
-    | inr over ↦
-        let at = In-listing held t is in
-        let has = (exactly at.0).1 (IsSomeAnd-from (IsDue now) (get_or held at.0 None) t at.1 (due-not_alive now t over)) in
-        absurd (omega (arith, none, has.1))
-  ],
-  λ lives. none_in slots exactly lives,
-)
-  where
-    none_in : (xs : List ℕ) → ((slot : ℕ) → Contains xs slot ↔ IsSomeAnd (get_or held slot None) (IsDue now)) → ((t : Session) → In t (listing held) → alive now t ≡ true) → length xs ≡ 0
-    none_in [] are lives = refl
-    none_in (x ∷ more) are lives = absurd (none_due held now lives x ((are x).0 (0, omega arith, refl)))

@@ -6,7 +6,6 @@ pub mod Before
 pub mod Choosing
 pub mod Costs
 pub mod Expiry
-pub mod Forwarding
 pub mod Hosts
 pub mod Judging
 pub mod Keepings
@@ -43,3 +42,4 @@ pub mod Looked
 pub mod Ordered
 pub mod OrderedBoth
 pub mod Answered
+pub mod Refused

@@ -1,5 +1,5 @@
 -- A step in its two parts: the clock rises and sessions end, and then the event is answered.
-use Rattle.std.proofs.Common.{◌≡◌, ◌≤◌, ◌++◌, ℕ, List, length, Option, Result, Ok, Err, IfOk, OnErr, IsTrue, true, sym, ap, ◌∙◌, subst, inr, arith}
+use Rattle.std.proofs.Common.{◌≡◌, ◌++◌, ℕ, List, length, Option, Result, Ok, Err, IfOk, OnErr, IsTrue, true, sym, ap, ◌∙◌, subst, inr, arith}
 use Rattle.std.specs.List.{filter}
 use Rattle.std.proofs.lemmas.Bool.{lt-ltb, ltb-true}
 use Rattle.packet.specs.Config.{Config, is_config}
@@ -117,14 +117,6 @@ put-back own mid moment clock value none is =
     let now = later own.clock moment in
     let stay = ap (λ (ss : List Session). record (state_in own) { sessions = ss; clock = now }) (filter-all (alive now) (listing own.flows.table.held) none) in
     ap (λ n. record mid { clock = n }) value ∙ ap (λ (t : State). record t { clock = own.clock }) (is ∙ stay)
-
-pub core-risen : (config : Config) (text : List ℕ) (rules : Spelled) (flows : Flows) (clock now : ℕ) → clock ≤ now → EndsNone now (state_of text rules flows.table.held clock) → IsCore config text rules flows clock
-    → IsCore config text rules flows now
-core-risen config text rules flows clock now le live core = record {
-  external = core.external;
-  sound = record { sessions = core.sound.sessions; latest = λ t held. omega (arith, core.sound.latest t held, le); in_force = core.sound.in_force };
-  live = live;
-}
 
 -- and what adds no session to all adds none to those that are left
 pub few-aged : (config : Config) (s mid : State) (judged : Judged) (now : ℕ) (d : Deed) → now ≡ later s.clock judged.moment → judged.deed ≡ d → EndsNone now s → mid ≡ aged now s

@@ -1,5 +1,5 @@
 -- What an event's entries say of it.
-use Rattle.std.proofs.Common.{◌≡◌, ◌++◌, ◌∷◌, [], ℕ, List, false, inl, inr, refl, sym, ap, subst, ◌∙◌}
+use Rattle.std.proofs.Common.{◌≡◌, ◌++◌, ◌∷◌, [], ℕ, List, false, inl, inr, refl, sym, subst, ◌∙◌}
 use Rattle.std.specs.List.{filter}
 use Rattle.std.proofs.lemmas.Bool.{cases_Bool, false≢true}
 use Rattle.packet.specs.Config.{Config}
@@ -14,14 +14,6 @@ use Rattle.machine.specs.Machine.{State, EndsNone, aged, later}
 use Rattle.machine.specs.Noted.{AreEntriesOf, AreOver, ends, of_deed}
 use Rattle.machine.specs.declared.deed.Deed.{Deed}
 use Rattle.machine.proofs.Telling.{cons≢nil}
-
-pub entries-of : (config : Config) (s : State) (judged : Judged) (now : ℕ) (gone : List Session) → now ≡ later s.clock judged.moment → AreOver now s.sessions gone
-    → AreEntriesOf config s judged (ends gone ++ of_deed config (aged now s) judged.deed)
-entries-of config s judged now gone is over = record {
-  gone = gone;
-  are_over = subst (λ n. AreOver n s.sessions gone) is over;
-  are = ap (λ n. ends gone ++ of_deed config (aged n s) judged.deed) is;
-}
 
 -- ---- where there is no entry
 

@@ -62,10 +62,6 @@ latest_held config text rules clock now held sound le = λ slot s is. omega (ari
 pub latest_later : (config : Config) (text : List ℕ) (rules : Spelled) (clock moment now : ℕ) (held : List (Option Session)) → IsSoundState config (state_of text rules held clock) → now ≡ later clock moment → IsNoneLater held now
 latest_later config text rules clock moment now held sound e = latest_held config text rules clock now held sound (omega (arith, later-above clock moment, e))
 
-pub step-is : (config : Config) (s : State) (judged : Judged) (now : ℕ) (done : State × Answer) → now ≡ later s.clock judged.moment → act config (aged now s) judged.deed ≡ done → step config s judged ≡ done
-unfolding step
-step-is config s judged now done is e = subst (λ n. act config (aged n s) judged.deed ≡ done) is e
-
 pub few-acts : (config : Config) (s : State) (judged : Judged) (now : ℕ) (d : Deed) → now ≡ later s.clock judged.moment → judged.deed ≡ d → KeepsCount s (step config s judged) → KeepsCount s (act config (aged now s) d)
 unfolding step
 few-acts config s judged now d e is few =

@@ -8,7 +8,6 @@ use Rattle.packet.specs.Translated.{translated}
 use Rattle.packet.specs.declared.endpoint.Iface.{Iface}
 use Rattle.packet.specs.declared.fault.Fault.{Fault}
 use Rattle.packet.specs.declared.route.Route.{Route}
-use Rattle.packet.specs.declared.route.Route.TheVariants.{Out, In, Hairpin}
 use Rattle.packet.specs.declared.route.RouteFault.{RouteFault}
 use Rattle.packet.specs.declared.view.View.{View}
 use Rattle.ruletree.specs.declared.tree.Spelled.{Spelled}
@@ -16,7 +15,7 @@ use Rattle.sessions.specs.Life.{alive}
 use Rattle.sessions.specs.Listing.{In as Member}
 use Rattle.sessions.specs.declared.session.Session.{Session}
 use Rattle.hairpin.specs.Causes.{cause_number}
-use Rattle.hairpin.specs.Legs.{Passage, hairpin_leg, in_leg, out_leg, put_all}
+use Rattle.hairpin.specs.Legs.{Passage, leg as leg_of, put_all}
 use Rattle.hairpin.specs.declared.cause.Cause.{Cause}
 use Rattle.hairpin.specs.declared.cause.Cause.TheVariants as cause
 use Rattle.machine.specs.Judged.{Judged}
@@ -61,9 +60,7 @@ sent s bytes (Ok passage) = (
 
 -- what the leg of a route comes to; of the state it reads no text, so that contracts say it of any
 abbrev pub leg : Config → State → View → Route → Result Passage Cause
-leg config s view Out = out_leg config s.rules s.sessions s.clock view
-leg config s view In = in_leg config s.rules s.sessions s.clock view
-leg config s view Hairpin = hairpin_leg config s.rules s.sessions s.clock view
+leg config s view = leg_of config s.rules s.sessions s.clock view
 
 -- a packet with these fields, on its route
 abbrev pub on_route : Config → State → List ℕ → View → Result Route RouteFault → State × Answer

@@ -1,16 +1,17 @@
-//! Whether a packet's session goes on (`goes_on`), and what the packet comes to by that (`answer_going`, and
-//! `send_quiet` where nothing new is shown of it), or by a plan (`answer_planned`). It is translated where it lies.
-ghost use Rattle.std.specs.Prelude.{◌≡◌, ◌≤◌, [], ℕ, List, length, Ok, Result, IsTrue, IfOk, IfErr, IfSome, IsOk, IsOkAnd, OnErr};
+//! What a packet comes to: by a plan (`answer_planned`), or by its session that goes on, of which it shows nothing new
+//! (`send_on`). It is translated where it lies.
+ghost use Rattle.std.specs.Prelude.{◌≡◌, ◌≤◌, [], length, Ok, Result, Some, IsTrue, false, IfOk, IfErr, IfSome, IsOk, IsOkAnd, OnErr};
 ghost use Rattle.packet.specs.Fields.{fields};
 ghost use Rattle.sessions.specs.Listing.{listing};
+ghost use Rattle.sessions.specs.Table.{at};
 ghost use Rattle.hairpin.specs.Causes.{cause_number};
-ghost use Rattle.hairpin.specs.Going.{IsQuiet, plan_of, planned};
+ghost use Rattle.hairpin.specs.Going.{Tells, plan_of};
 ghost use Rattle.hairpin.specs.Legs.{Passage};
 ghost use Rattle.hairpin.specs.declared.cause.Cause.{Cause};
-ghost use Rattle.machine.specs.Core.{IsTransition, AddsNoSession, state_of};
+ghost use Rattle.machine.specs.Core.{IsTransition, AddsNoSession};
 ghost use Rattle.machine.specs.Fates.{answer_of};
 ghost use Rattle.machine.specs.Flows.{IsNoneLater, IsWay, TakesMore};
-ghost use Rattle.machine.specs.Machine.{leg, sent};
+ghost use Rattle.machine.specs.Machine.{sent};
 ghost use Rattle.machine.specs.Noted.{of_way};
 ghost use Rattle.machine.specs.Outcomes.{NotedIfOk};
 ghost use Rattle.machine.specs.declared.event.Answer.TheVariants.{Forward};
@@ -20,10 +21,8 @@ use crate::event::Fate;
 use crate::fault::StepFault;
 use crate::flows::Flows;
 use crate::notes::Notes;
-use hairpin::{Cause, Going, Plan, comes_in, comes_in_showing, goes_out, goes_out_showing};
-use packet::{Bounds, Route, View, rewrite};
-use sessions::is_syn_alone;
-use verdict::Rules;
+use hairpin::{Cause, Going, Plan};
+use packet::rewrite;
 
 /// The packet is dropped for this cause.
 pub(crate) fn drop_for(cause: Cause) -> Fate
@@ -32,39 +31,19 @@ pub(crate) fn drop_for(cause: Cause) -> Fate
     Fate::Dropped(cause.number())
 }
 
-// How a packet with these fields leaves, if a guess tells its session, and that goes on; if `only_quiet`, only one that
-// shows nothing new of it. Compiled into its callers, to which `only_quiet` is a constant, and which need no place for
-// what it answers.
+// How the packet goes on, if it does, and shows nothing new of its session.
 #[inline(always)]
-pub(crate) fn goes_on(
-    flows: &Flows,
-    rules: &Rules,
-    bounds: &Bounds,
-    route: Route,
-    view: &View,
-    only_quiet: bool,
-) -> Option<Result<Going, Cause>>
-    ensures way { (text : List ℕ) (now : ℕ)
-        → IfSome result (λ going. IsWay flows.now now (planned going)
-        (leg bounds.now (state_of text rules.now flows.now.table.held now) view.now route)) }
-    ensures quiet { IsTrue only_quiet
-        → IfSome result (λ going. IfOk going (IsQuiet flows.now.table)) }
+pub(crate) fn quiet(told: &Option<Result<Going, Cause>>) -> Option<Going>
+    ensures { IfSome result (λ going. (told.now ≡ Some (Ok going)) × (going.is_new ≡ false)) }
 {
-    if only_quiet {
-        return match route {
-            Route::Out => goes_out(bounds, rules, flows.table(), view),
-            Route::In => comes_in(bounds, rules, flows.table(), view),
-            Route::Hairpin => None,
-        };
-    }
-    // One that asks for a new connection and comes here seldom has a session, and the look would wait for memory.
-    if is_syn_alone(view.flags) {
-        return None;
-    }
-    match route {
-        Route::Out => goes_out_showing(bounds, rules, flows.table(), view),
-        Route::In => comes_in_showing(bounds, rules, flows.table(), view),
-        Route::Hairpin => None,
+    match told {
+        Some(Ok(going)) => {
+            if going.is_new {
+                return None;
+            }
+            Some(*going)
+        }
+        _ => None,
     }
 }
 
@@ -117,12 +96,13 @@ pub(crate) fn answer_planned<N: Notes>(
 
 // Sends a packet on, in place, by its session, which goes on and of which it shows nothing new.
 #[inline(always)]
-pub(crate) fn send_quiet(flows: &mut Flows, going: &Going, packet: &mut [u8], now: u64)
+pub(crate) fn send_on(flows: &mut Flows, going: &Going, packet: &mut [u8], now: u64)
     requires read { IsOkAnd (fields packet.old) (λ view. 2 ≤ view.ttl) }
     requires latest { IsNoneLater flows.old.table.held now }
     requires planned { (way : Result Passage Cause)
         × IsWay flows.old now (Ok (plan_of going.now)) way }
-    requires quiet { IsQuiet flows.old.table going.now }
+    requires told { IfSome (at flows.old.table going.now.slot) (λ s. Tells s going.now) }
+    requires quiet { going.now.is_new ≡ false }
     ensures leads { (way : Result Passage Cause)
         → IsWay flows.old now (Ok (plan_of going.now)) way
         → IsTransition (λ s. sent s packet.old way) flows.old.table.held flows.new.table.held now
@@ -131,50 +111,9 @@ pub(crate) fn send_quiet(flows: &mut Flows, going: &Going, packet: &mut [u8], no
     ensures none { (way : Result Passage Cause)
         → IsWay flows.old now (Ok (plan_of going.now)) way
         → of_way (listing flows.old.table.held) way ≡ [] }
+    ensures length { length packet.new ≡ length packet.old }
 {
     flows.table().facts();
-    flows.see_going(going, now);
+    flows.see_again(going, now);
     rewrite(packet, going.src, going.dst);
-}
-
-// What a packet comes to whose session goes on; `ready` says that there is room for its entry already.
-pub(crate) fn answer_going<N: Notes>(
-    flows: &mut Flows,
-    ready: bool,
-    going: &Result<Going, Cause>,
-    packet: &mut [u8],
-    now: u64,
-    notes: &mut N,
-) -> Result<Fate, StepFault>
-    requires read { IsOkAnd (fields packet.old) (λ view. 2 ≤ view.ttl) }
-    requires latest { IsNoneLater flows.old.table.held now }
-    requires room { IsTrue ready → N.keeps notes.old → 44 ≤ N.room notes.old }
-    requires planned { (way : Result Passage Cause)
-        × IsWay flows.old now (planned going.now) way }
-    ensures ok { IfOk result (λ fate. (way : Result Passage Cause)
-        → IsWay flows.old now (planned going.now) way
-        → IsTransition (λ s. sent s packet.old way) flows.old.table.held flows.new.table.held
-        now (answer_of fate packet.new)) }
-    ensures err { OnErr result ((packet.new ≡ packet.old)
-        × (flows.new.table.held ≡ flows.old.table.held)) }
-    ensures length { length packet.new ≡ length packet.old }
-    ensures external { flows.new.translations.external ≡ flows.old.translations.external }
-    ensures ready { IsTrue ready → IsOk result }
-    ensures grants { N.grants notes.old → IsOk result }
-    ensures noted { (way : Result Passage Cause) → IsWay flows.old now (planned going.now) way
-        → NotedIfOk N.keeps N.beside N.noted result notes.old notes.new
-        (of_way (listing flows.old.table.held) way) }
-    ensures full { IfErr result (λ e. e ≡ StepFault.Full → N.too_many notes.old 44) }
-    ensures no_memory { IfErr result (λ e. e ≡ StepFault.NoMemory → ¬ N.too_many notes.old 44) }
-    ensures quiet { (way : Result Passage Cause) → IsWay flows.old now (planned going.now) way
-        → of_way (listing flows.old.table.held) way ≡ [] → IsOk result }
-{
-    match going {
-        Err(cause) => Ok(drop_for(*cause)),
-        Ok(going) => {
-            flows.carry_out_going(ready, going, now, notes)?;
-            rewrite(packet, going.src, going.dst);
-            Ok(Fate::Leaves(going.iface))
-        }
-    }
 }

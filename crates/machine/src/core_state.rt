@@ -3,10 +3,9 @@
 //!
 //! - `step_noted`: `judge` reads the text of a load, and then the state does the step (`State::age`,
 //!   `State::answer_deed`).
-//! - `step_in_place`: the step of a packet, where it lies (`State::age`, `State::answer_packet`).
-//! - `forward`: the shortest way of a packet (`State::forward_quiet`).
+//! - `take_packet`: the step of a packet, where it lies (`State::age`, `State::answer_packet`).
 //! - `resume`: begins again from what survived (`in_force_again`, `Flows::of`).
-ghost use Rattle.std.specs.Prelude.{◌≡◌, ◌↔◌, ◌+◌, ◌*◌, ◌++◌, [], List, length, OnOk, IsTrue, IfOk, IfErr, IfNone, IfSome, IsOk, OnErr};
+ghost use Rattle.std.specs.Prelude.{◌≡◌, ◌↔◌, ◌+◌, ◌*◌, ◌++◌, [], List, length, IsTrue, IfOk, IfErr, IsOk, OnErr};
 ghost use Rattle.packet.specs.Config.{is_config};
 ghost use Rattle.machine.specs.Fates.{answer_of};
 ghost use Rattle.machine.specs.Judged.{Judged, IsJudged, IsNoLoad};
@@ -17,7 +16,6 @@ ghost use Rattle.machine.specs.Noted.{AreEntriesOf, AreOver, IsResumed};
 ghost use Rattle.machine.specs.Sizes.{most_bytes};
 ghost use Rattle.sessions.specs.declared.session.Session.{Session};
 ghost use Rattle.machine.specs.Sound.{IsSoundState};
-ghost use Rattle.machine.specs.declared.event.Answer.TheVariants.{Forward};
 ghost use Rattle.machine.specs.declared.event.What.TheVariants.{Packet};
 
 use crate::ahead::is_wide;
@@ -241,17 +239,18 @@ impl Core {
     /// Does the step of a packet's event, as `step_noted` does, where the packet lies: one that leaves is translated
     /// there, and none of its bytes is copied. The moment is in seconds.
     ///
-    /// `None` says nothing of the packet: nothing has changed, nor has what is noted, and `step_noted` tells what it
-    /// comes to. It comes only where memory is refused, or the entries don't fit.
+    /// # Errors
+    ///
+    /// Those of `step_noted`. Nothing has changed, the packet neither; nor has what is noted.
     #[inline(always)]
-    pub fn step_in_place<N: Notes>(
+    pub fn take_packet<N: Notes>(
         &mut self,
         moment: u64,
         iface: Iface,
         packet: &mut [u8],
         notes: &mut N,
-    ) -> Option<Fate>
-        ensures some { IfSome result (λ fate. (judged : Judged)
+    ) -> Result<Fate, StepFault>
+        ensures ok { IfOk result (λ fate. (judged : Judged)
             × IsJudged self.old.config
             (record { moment = moment; what = Packet iface packet.old }) judged
             × (step self.old.config self.old.state judged
@@ -259,23 +258,46 @@ impl Core {
             × (N.keeps notes.old → (entries : List Recorded)
             × AreEntriesOf self.old.config self.old.state judged entries
             × (N.noted notes.new ≡ N.noted notes.old ++ entries))) }
-        ensures none { IfNone result ((self.new ≡ self.old) × (packet.new ≡ packet.old)
+        ensures err { OnErr result ((self.new ≡ self.old) × (packet.new ≡ packet.old)
             × (N.noted notes.new ≡ N.noted notes.old)) }
         ensures config { self.new.config ≡ self.old.config }
         ensures keeps { N.keeps notes.old ↔ N.keeps notes.new }
         ensures beside { N.beside notes.new ≡ N.beside notes.old }
         ensures length { length packet.new ≡ length packet.old }
+        ensures full { IfErr result (λ e. e ≡ StepFault.Full → (judged : Judged)
+            × IsJudged self.old.config
+            (record { moment = moment; what = Packet iface packet.old }) judged
+            × (gone : List Session)
+            × AreOver (later self.old.state.clock moment) self.old.state.sessions gone
+            × N.too_many notes.old (14 * length gone + most_bytes judged.deed)) }
+        ensures no_memory { (judged : Judged)
+            → IsJudged self.old.config
+            (record { moment = moment; what = Packet iface packet.old }) judged
+            → EndsNone (later self.old.state.clock moment) self.old.state
+            → KeepsCount self.old.state (step self.old.config self.old.state judged)
+            → IfErr result (λ e. e ≡ StepFault.NoMemory
+            → ¬ N.too_many notes.old (most_bytes judged.deed)) }
+        ensures succeeds { (judged : Judged)
+            → IsJudged self.old.config
+            (record { moment = moment; what = Packet iface packet.old }) judged
+            → EndsNone (later self.old.state.clock moment) self.old.state
+            → KeepsCount self.old.state (step self.old.config self.old.state judged)
+            → N.grants notes.old → IsOk result }
+        ensures quiet { (judged : Judged)
+            → IsJudged self.old.config
+            (record { moment = moment; what = Packet iface packet.old }) judged
+            → AreEntriesOf self.old.config self.old.state judged [] → IsOk result }
     {
         let clock = self.state.clock();
-        let Ok(ready) = self.state.age(self.alloc, moment, MOST_OF_PACKET, notes) else {
-            return None;
-        };
-        match self.state.answer_packet(ready, iface, packet, notes) {
-            Ok(fate) => Some(fate),
-            Err(_) => {
-                self.state.put_back(clock);
-                None
-            }
+        match self.state.age(self.alloc, moment, MOST_OF_PACKET, notes) {
+            Ok(ready) => match self.state.answer_packet(ready, iface, packet, notes) {
+                Ok(fate) => Ok(fate),
+                Err(fault) => {
+                    self.state.put_back(clock);
+                    Err(fault)
+                }
+            },
+            Err(fault) => Err(fault),
         }
     }
 
@@ -288,25 +310,5 @@ impl Core {
     /// says nothing of what is: whoever asks before they come waits once for the memory that their steps will read.
     pub fn look_ahead(&self, coming: &[Coming; MOST_AHEAD]) -> usize {
         self.state.flows.look_ahead(coming)
-    }
-
-    /// Translates in place a packet whose session goes on, as `step` does at this event, and says by which interface it
-    /// leaves. The clock rises to the moment, in seconds. That takes no memory, and nothing changes that must survive.
-    ///
-    /// `None` says nothing of the packet: nothing has changed, and `step` tells what it comes to. It comes where a
-    /// session would end at the moment, where no guess tells the packet's session, or the packet shows something new of
-    /// it, and where it is dropped or a hairpin.
-    pub fn forward(&mut self, moment: u64, iface: Iface, packet: &mut [u8]) -> Option<Iface>
-        ensures step { IfSome result (λ out. (judged : Judged)
-            × IsJudged self.old.config
-            (record { moment = moment; what = Packet iface packet.old }) judged
-            × (step self.old.config self.old.state judged
-            ≡ (self.new.state, Forward out packet.new))
-            × AreEntriesOf self.old.config self.old.state judged []) }
-        ensures none { IfNone result ((self.new ≡ self.old) × (packet.new ≡ packet.old)) }
-        ensures config { self.new.config ≡ self.old.config }
-        ensures length { length packet.new ≡ length packet.old }
-    {
-        self.state.forward_quiet(self.alloc, moment, iface, packet)
     }
 }

@@ -1,4 +1,7 @@
 //! What comes in and what goes out: events, and their answers.
+ghost use Rattle.std.specs.Prelude.{◌≡◌};
+ghost use Rattle.machine.specs.Fates.{answer_of};
+
 use crate::bytes::Bytes;
 use packet::Iface;
 
@@ -37,11 +40,32 @@ pub enum Answer {
     Ticked,
 }
 
-/// What a packet comes to, told without its bytes.
+/// What an event comes to. A packet that leaves lies, translated, where it was brought.
 #[derive(Clone, Copy, Drop)]
 pub enum Fate {
-    /// It leaves on this interface, translated.
+    /// The packet leaves on this interface, translated.
     Leaves(Iface),
-    /// It is dropped; the number is that of a `Cause`, 1 to 20.
+    /// The packet is dropped; the number is that of a `Cause`, 1 to 20.
     Dropped(u8),
+    /// The ruleset is in force.
+    Loaded,
+    /// The text isn't taken, and the rules stay as they were.
+    Refused,
+    /// The clock has come to the moment.
+    Ticked,
+}
+
+impl Fate {
+    /// What an event is answered that comes to this, with the bytes that its packet has then.
+    pub fn answer(self, packet: Bytes) -> Answer
+        ensures { result ≡ answer_of self packet }
+    {
+        match self {
+            Fate::Leaves(out) => Answer::Forward(out, packet),
+            Fate::Dropped(cause) => Answer::Dropped(cause),
+            Fate::Loaded => Answer::Loaded,
+            Fate::Refused => Answer::Refused,
+            Fate::Ticked => Answer::Ticked,
+        }
+    }
 }

@@ -2,14 +2,12 @@
 //!
 //! - `carry_out`: what a plan says, once there is room (`make_room`): one change after the other (`apply_all`,
 //!   `apply_noted`, `apply`: `begin`, `see`, `restart`).
-//! - `carry_out_going`, `see_going`: a packet of a session that goes on, with what it shows, or with nothing new. Where
-//!   it leaves the session as it is (`stays`) nothing is put down; otherwise `refresh` does it.
-//! - `keeps_all_since`: whether all sessions are alive still, as they have to be on the shortest way.
+//! - `see_again`: a packet of a session that goes on, of which it shows nothing new.
 //! - `expire_since`, `expire`: those that are no longer alive end, with their entries (`slots_due`, `end_all`,
 //!   `end_noted`, `end`).
 //! - `new`, `of`: no session, or those that survived (`place`).
 //! - `watch`, `touch`: the timers of one.
-ghost use Rattle.std.specs.Prelude.{◌≡◌, ◌↔◌, ◌+◌, ◌-◌, ◌*◌, ◌<◌, ◌≤◌, ◌∷◌, [], ℕ, List, true, false, IsErrOf, IsTrue, Some, None, IfOk, OnOk, OnErr, IsOk, IfSome, IsSome, IsSomeAnd, length, map, slice_index, bit_or};
+ghost use Rattle.std.specs.Prelude.{◌≡◌, ◌↔◌, ◌+◌, ◌-◌, ◌*◌, ◌<◌, ◌≤◌, ◌∷◌, [], ℕ, List, true, false, IsErrOf, IsTrue, Some, None, IfOk, OnOk, OnErr, IsOk, IfSome, IsSome, IsSomeAnd, length, map, slice_index};
 ghost use Rattle.std.specs.List.{Contains, filter};
 ghost use Rattle.std.specs.Option.{option_map};
 ghost use Rattle.sessions.specs.Life.{IsSeen, IsTimeout, alive, timeout_of};
@@ -21,7 +19,7 @@ ghost use Rattle.sessions.specs.declared.session.Session.{Session};
 ghost use Rattle.timers.specs.Due.{AreOnce, at as idle_at, IsLatest as IsLatestIdle, Updates as IdleUpdates};
 ghost use Rattle.mappings.specs.declared.map.Mapping.{Mapping};
 ghost use Rattle.mappings.specs.Map.{times};
-ghost use Rattle.hairpin.specs.Going.{plan_of};
+ghost use Rattle.hairpin.specs.Going.{Tells, plan_of};
 ghost use Rattle.hairpin.specs.Legs.{put_all};
 ghost use Rattle.hairpin.specs.Plans.{Became};
 ghost use Rattle.hairpin.specs.Tallies.{tally};
@@ -33,9 +31,7 @@ ghost use Rattle.machine.specs.Outcomes.{Noted, NotedIfOk, Unnoted};
 use crate::ahead::{count_ending, count_mapped};
 use crate::fault::StepFault;
 use crate::notes::{MOST_OF_PACKET, Notes};
-use crate::noting::{
-    adds_any, entry_for, flow_of, make_room_for_packet, makes_entry, note, plan_makes_entry,
-};
+use crate::noting::{adds_any, entry_for, flow_of, note, plan_makes_entry};
 use durable::Entry;
 use hairpin::{Going, Plan, Translations};
 use packet::Bounds;
@@ -199,63 +195,8 @@ impl Flows {
         self.due.due(alloc, now)
     }
 
-    /// Whether all sessions are alive at the moment `now`. Where they are it takes no memory. Not compiled into its
-    /// caller, which seldom asks it.
-    #[inline(never)]
-    fn keeps_all(&self, alloc: Global, now: u64) -> bool
-        requires { IsNoneLater self.now.table.held now }
-        ensures { IsTrue result
-            ↔ ((s : Session) → In s (listing self.now.table.held) → alive now s ≡ true) }
-    {
-        match self.slots_due(alloc, now) {
-            Ok(slots) => slots.is_empty(),
-            Err(_) => false,
-        }
-    }
-
-    /// As `keeps_all`, where all were alive at the moment `clock`: before the clock rises nothing is looked at.
-    pub fn keeps_all_since(&self, alloc: Global, clock: u64, now: u64) -> bool
-        requires latest { IsNoneLater self.now.table.held now }
-        requires live { (s : Session) → In s (listing self.now.table.held) → alive clock s ≡ true }
-        ensures { IsTrue result
-            ↔ ((s : Session) → In s (listing self.now.table.held) → alive now s ≡ true) }
-    {
-        now == clock || self.keeps_all(alloc, now)
-    }
-
-    /// Whether a packet that shows these bits at this second leaves the session of the slot as it is.
-    fn stays(&self, slot: Slot, bits: u8, last: u64) -> bool
-        ensures { IsTrue result → (s : Session) → at self.now.table slot ≡ Some s
-            → (bit_or s.seen bits ≡ s.seen) × (s.last ≡ last) }
-    {
-        match self.table.get(slot) {
-            Some(session) => session.last == last && session.seen | bits == session.seen,
-            None => false,
-        }
-    }
-
     /// A packet of the session of the slot passed.
     fn see(&mut self, slot: Slot, bits: u8, last: u64)
-        requires held { IsSome (at self.old.table slot) }
-        requires bits { IfSome (at self.old.table slot) (λ s. IsSeen s.proto bits) }
-        requires latest { IsNoneLater self.old.table.held last }
-        ensures became { (s : Session) → at self.old.table slot ≡ Some s
-            → Became self.old.table.held (Change.Seen slot bits) (seen_with s bits last)
-            self.new.table.held }
-        ensures latest { IsNoneLater self.new.table.held last }
-        ensures ready { (n : ℕ) → TakesMore n self.old → TakesMore n self.new }
-        ensures external { self.new.translations.external ≡ self.old.translations.external }
-    {
-        self.table.facts();
-        // Most packets come in the second of their session's packet before, and show what was seen.
-        if self.stays(slot, bits, last) {
-            return;
-        }
-        self.refresh(slot, bits, last);
-    }
-
-    /// Puts what a packet of the session of the slot showed, and when it passed.
-    fn refresh(&mut self, slot: Slot, bits: u8, last: u64)
         requires held { IsSome (at self.old.table slot) }
         requires bits { IfSome (at self.old.table slot) (λ s. IsSeen s.proto bits) }
         requires latest { IsNoneLater self.old.table.held last }
@@ -477,56 +418,22 @@ impl Flows {
         }
     }
 
-    /// Does what a packet does whose session goes on, at the moment `now`, and notes it; `ready` says that there is
-    /// room for its entry already.
-    ///
-    /// # Errors
-    ///
-    /// `Full` only where something is noted and 44 bytes of entries don't fit; `NoMemory` only where they do, there is
-    /// no room for them yet, and memory is refused. The sessions stay as they are, and what is noted too.
-    pub fn carry_out_going<N: Notes>(
-        &mut self,
-        ready: bool,
-        going: &Going,
-        now: u64,
-        notes: &mut N,
-    ) -> Result<(), StepFault>
-        requires latest { IsNoneLater self.old.table.held now }
-        requires give { (ts : List Session) × PlanGives self.old now (plan_of going.now) ts }
-        requires room { IsTrue ready → N.keeps notes.old → 44 ≤ N.room notes.old }
-        ensures ok { OnOk result ((ts : List Session)
-            → PlanGives self.old now (plan_of going.now) ts
-            → listing self.new.table.held ≡ put_all ts (listing self.old.table.held)) }
-        ensures err { OnErr result (self.new.table.held ≡ self.old.table.held) }
-        ensures external { self.new.translations.external ≡ self.old.translations.external }
-        ensures noted { (ts : List Session) → PlanGives self.old now (plan_of going.now) ts
-            → NotedIfOk N.keeps N.beside N.noted result notes.old notes.new
-            (entries_for_all ts (listing self.old.table.held)) }
-        ensures full { IsErrOf result StepFault.Full → N.too_many notes.old 44 }
-        ensures no_memory { IsErrOf result StepFault.NoMemory → ¬ N.too_many notes.old 44 }
-        ensures succeeds { IsTrue ready → IsOk result }
-        ensures grants { N.grants notes.old → IsOk result }
-        ensures quiet { (ts : List Session) → PlanGives self.old now (plan_of going.now) ts
-            → entries_for_all ts (listing self.old.table.held) ≡ [] → IsOk result }
-    {
-        let change = Change::Seen(going.slot, going.bits);
-        if !makes_entry(&self.table, &change) {
-            self.apply(&change, now);
-            return Ok(());
-        }
-        make_room_for_packet(ready, notes)?;
-        self.apply_noted(&change, now, notes);
-        Ok(())
-    }
-
     /// A packet passed whose session goes on, at the moment `now`, and that shows nothing new of it.
-    pub fn see_going(&mut self, going: &Going, now: u64)
+    #[inline(always)]
+    pub fn see_again(&mut self, going: &Going, now: u64)
         requires latest { IsNoneLater self.old.table.held now }
         requires give { (ts : List Session) × PlanGives self.old now (plan_of going.now) ts }
+        requires told { IfSome (at self.old.table going.now.slot) (λ s. Tells s going.now) }
+        requires quiet { going.now.is_new ≡ false }
         ensures listing { (ts : List Session) → PlanGives self.old now (plan_of going.now) ts
             → listing self.new.table.held ≡ put_all ts (listing self.old.table.held) }
         ensures external { self.new.translations.external ≡ self.old.translations.external }
     {
+        self.table.facts();
+        // Most packets come in the second of their session's packet before.
+        if going.last == now {
+            return;
+        }
         self.see(going.slot, going.bits, now);
     }
 

@@ -1,8 +1,8 @@
 //! The machine: the state of a gateway, and the step that an event does to it.
 //!
 //! An event is a ruleset to load, a packet from one of two interfaces, or a moment. `specs/Machine` says what a step
-//! is, on plain lists; `Core::step`, and `step_noted`, `step_in_place` and `forward`, by which a gateway takes it, are
-//! proved to be it.
+//! is, on plain lists; `Core::step`, and `step_noted` and `take_packet`, by which a gateway takes it, are proved to be
+//! it.
 //!
 //! - `event`, `bytes`: what comes in, and what it is answered.
 //! - `fault`: why an event isn't stepped.
@@ -12,11 +12,10 @@
 //! - `deed`: what an event does, once its text is read.
 //! - `in_force`: the text that loaded last, with its rules.
 //! - `state`: `State`, what a step changes: the clock rises and sessions end (`age`), and then the event is answered. A
-//!   packet goes by the session that a guess tells, where nothing new is shown of it (the shortest way) or something
-//!   may be (the short one), or by a plan; `answering` does what was found.
+//!   packet that shows nothing new of its session is sent on at once, and any other goes by a plan; `answering` does
+//!   what was found.
 //! - `core_state`: `Core`, which has all the state and takes a step for each event (`step`, `step_noted`). Any packet
-//!   it also takes where the packet lies, for which no `Event` is made (`step_in_place`), and one whose session goes on
-//!   by the shortest way (`forward`).
+//!   it also takes where the packet lies, for which no `Event` is made (`take_packet`).
 //! - `notes`: where a step notes the entries by which it changes what must survive (crate `durable`).
 //! - `noting`: the entries of changes. `specs/Noted` says which an event has, `specs/Sizes` how many bytes.
 //! - `laws`: what holds of every step, of every state that is reached, and of where the rules of a text that loads

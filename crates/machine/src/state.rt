@@ -2,13 +2,12 @@
 //! the sessions end that are no longer alive (`age`), and then the event is answered at that moment (`answer_deed`,
 //! `answer_packet`). If it is refused, no session has ended, and the clock is put back (`put_back`).
 //!
-//! - `answer_packet`: the short way first (`answering::goes_on`, `answer_going`), or else a plan (`answer_by_plan`:
-//!   `plan_for`, `answering::answer_planned`).
-//! - `forward_quiet`: the shortest way, of a packet that shows nothing new of its session (`answering::goes_on`,
-//!   `send_quiet`).
-ghost use Rattle.std.specs.Prelude.{◌≡◌, ◌<◌, ◌≤◌, ◌+◌, ◌*◌, [], List, length, OnOk, Ok, IsErrOf, IsTrue, false, IfOk, IfErr, IfNone, IfSome, IsOk, OnErr, OnSome};
+//! - `answer_packet`: at once, if the packet shows nothing new of its session (`hairpin::goes_on`, `answering::send_on`),
+//!   or else by a plan (`answer_by_plan`: `plan_for`, `answering::answer_planned`).
+ghost use Rattle.std.specs.Prelude.{◌≡◌, ◌<◌, ◌≤◌, ◌+◌, ◌*◌, [], List, length, OnOk, Ok, IsErrOf, IsTrue, false, IfOk, IfErr, IfSome, IsOk, OnErr};
 ghost use Rattle.packet.specs.Fields.{fields};
 ghost use Rattle.packet.specs.Route.{route as route_for};
+ghost use Rattle.hairpin.specs.Going.{planned};
 ghost use Rattle.machine.specs.Core.{state_in};
 ghost use Rattle.machine.specs.Fates.{answer_of};
 ghost use Rattle.machine.specs.Flows.{IsWay, TakesMore};
@@ -18,10 +17,9 @@ ghost use Rattle.machine.specs.Noted.{AreOver, ends, of_deed, of_fields, of_way}
 ghost use Rattle.machine.specs.Outcomes.{Noted, NotedIfOk, Unnoted};
 ghost use Rattle.machine.specs.Sizes.{most_bytes};
 ghost use Rattle.machine.specs.Sound.{IsSoundState};
-ghost use Rattle.machine.specs.declared.event.Answer.TheVariants.{Forward};
 ghost use Rattle.sessions.specs.declared.session.Session.{Session};
 
-use crate::answering::{answer_going, answer_planned, drop_for, goes_on, send_quiet};
+use crate::answering::{answer_planned, drop_for, quiet, send_on};
 use crate::bytes::Bytes;
 use crate::deed::Deed;
 use crate::event::{Answer, Fate, What};
@@ -29,7 +27,7 @@ use crate::fault::StepFault;
 use crate::flows::Flows;
 use crate::in_force::{InForce, note_load, put_in_force};
 use crate::notes::Notes;
-use hairpin::{Cause, Plan, hairpin_leg, in_leg, out_leg};
+use hairpin::{Cause, Going, Plan, goes_on, hairpin_leg, in_leg, out_leg};
 use packet::{Bounds, Iface, Route, View};
 use std::alloc::Global;
 use std::marker::Model;
@@ -187,8 +185,7 @@ impl State {
                 let comes_to = self.answer_packet(ready, iface, &mut packet, notes);
                 let bytes = Bytes::of(packet);
                 match comes_to {
-                    Ok(Fate::Leaves(out)) => Ok(Answer::Forward(out, bytes)),
-                    Ok(Fate::Dropped(cause)) => Ok(Answer::Dropped(cause)),
+                    Ok(fate) => Ok(fate.answer(bytes)),
                     Err(fault) => Err((What::Packet(iface, bytes), fault)),
                 }
             }
@@ -197,6 +194,7 @@ impl State {
 
     /// What a packet comes to, at the clock's moment; `ready` says that there is room for two sessions and their entries
     /// already. One that leaves is translated where it lies.
+    #[inline(always)]
     pub(crate) fn answer_packet<N: Notes>(
         &mut self,
         ready: bool,
@@ -230,41 +228,45 @@ impl State {
             Err(fault) => Ok(drop_for(Cause::Packet(fault))),
             Ok(view) => match self.bounds.route(iface, &view) {
                 Err(fault) => Ok(drop_for(Cause::Route(fault))),
-                Ok(route) => match goes_on(
-                    &self.flows,
-                    &self.in_force.rules,
-                    &self.bounds,
-                    route,
-                    &view,
-                    false,
-                ) {
-                    Some(going) => {
-                        answer_going(&mut self.flows, ready, &going, packet, self.clock, notes)
+                Ok(route) => {
+                    let rules = &self.in_force.rules;
+                    let told = goes_on(&self.bounds, rules, self.flows.table(), route, &view);
+                    match quiet(&told) {
+                        // Nearly all packets are answered here.
+                        Some(going) => {
+                            send_on(&mut self.flows, &going, packet, self.clock);
+                            Ok(Fate::Leaves(going.iface))
+                        }
+                        None => {
+                            // Put down in memory on this way alone.
+                            let view = view;
+                            let told = told;
+                            self.answer_by_plan(ready, route, &view, told, packet, notes)
+                        }
                     }
-                    None => {
-                        // Put down in memory on this way alone, by which the fields are borrowed.
-                        let view = view;
-                        self.answer_by_plan(ready, route, &view, packet, notes)
-                    }
-                },
+                }
             },
         }
     }
 
-    // What a packet with these fields comes to, on its route, by the plan that is made for it; `ready` says that there
-    // is room for two sessions and their entries already. Not compiled into its caller, so that a packet whose session
-    // goes on clears no place for a plan.
+    // What a packet with these fields comes to, on its route, by the plan that was told, or is made for it; `ready` says
+    // that there is room for two sessions and their entries already. Not compiled into its caller, so that a packet that
+    // shows nothing new of its session clears no place for a plan.
     #[inline(never)]
     fn answer_by_plan<N: Notes>(
         &mut self,
         ready: bool,
         route: Route,
         view: &View,
+        told: Option<Result<Going, Cause>>,
         packet: &mut [u8],
         notes: &mut N,
     ) -> Result<Fate, StepFault>
         requires read { fields packet.old ≡ Ok view.now }
         requires routed { (iface : Iface) × (route_for self.old.config iface view.now ≡ Ok route) }
+        requires told { IfSome told (λ going.
+            IsWay self.old.flows self.old.clock (planned going)
+            (leg self.old.config (state_in self.old) view.now route)) }
         requires ready { IsTrue ready → TakesMore 2 self.old.flows }
         requires room { IsTrue ready → N.keeps notes.old → 44 ≤ N.room notes.old }
         ensures ok { IfOk result (λ fate. sent (state_in self.old) packet.old
@@ -288,19 +290,32 @@ impl State {
         ensures quiet { of_way (state_in self.old).sessions
             (leg self.old.config (state_in self.old) view.now route) ≡ [] → IsOk result }
     {
-        let plan = self.plan_for(route, view);
+        let plan = self.plan_for(route, view, told);
         self.bounds.facts();
         answer_planned(&mut self.flows, ready, &plan, packet, self.clock, notes)
     }
 
-    // The plan of a packet with these fields, on its route. Compiled into its caller, it took fewer instructions.
+    // The plan of a packet with these fields, on its route: the one that was told, or what the leg says. Compiled into
+    // its caller, it took fewer instructions.
     #[inline(always)]
-    fn plan_for(&self, route: Route, view: &View) -> Result<Plan, Cause>
+    fn plan_for(
+        &self,
+        route: Route,
+        view: &View,
+        told: Option<Result<Going, Cause>>,
+    ) -> Result<Plan, Cause>
         requires ports { (0 < view.now.src.port) × (0 < view.now.dst.port) }
         requires routed { (iface : Iface) × (route_for self.now.config iface view.now ≡ Ok route) }
+        requires told { IfSome told (λ going. IsWay self.now.flows self.now.clock (planned going)
+            (leg self.now.config (state_in self.now) view.now route)) }
         ensures { IsWay self.now.flows self.now.clock result
             (leg self.now.config (state_in self.now) view.now route) }
     {
+        match told {
+            Some(Ok(going)) => return Ok(going.plan()),
+            Some(Err(cause)) => return Err(cause),
+            None => {}
+        }
         self.flows.facts();
         let bounds = &self.bounds;
         let rules = &self.in_force.rules;
@@ -311,45 +326,5 @@ impl State {
             Route::In => in_leg(bounds, rules, table, translations, view, self.clock),
             Route::Hairpin => hairpin_leg(bounds, rules, table, translations, view, self.clock),
         }
-    }
-
-    /// Translates in place a packet that shows nothing new of its session, at whose moment, in seconds, all sessions are
-    /// alive still, and says by which interface it leaves. The clock rises to that moment.
-    pub(crate) fn forward_quiet(
-        &mut self,
-        alloc: Global,
-        moment: u64,
-        iface: Iface,
-        packet: &mut [u8],
-    ) -> Option<Iface>
-        ensures live { OnSome result
-            (EndsNone (later self.old.clock moment) (state_in self.old)) }
-        ensures some { IfSome result (λ out. on_packet self.old.config
-            (record (state_in self.old) { clock = later self.old.clock moment }) iface packet.old
-            ≡ (state_in self.new, Forward out packet.new)) }
-        ensures config { self.new.config ≡ self.old.config }
-        ensures quiet { OnSome result (of_fields self.old.config
-            (record (state_in self.old) { clock = later self.old.clock moment })
-            iface (fields packet.old) ≡ []) }
-        ensures none { IfNone result ((self.new ≡ self.old) × (packet.new ≡ packet.old)) }
-    {
-        self.bounds.facts();
-        let now = later_of(self.clock, moment);
-        if !self.flows.keeps_all_since(alloc, self.clock, now) {
-            return None;
-        }
-        let Ok(view) = View::read(packet) else {
-            return None;
-        };
-        let Ok(route) = self.bounds.route(iface, &view) else {
-            return None;
-        };
-        let rules = &self.in_force.rules;
-        let Some(Ok(going)) = goes_on(&self.flows, rules, &self.bounds, route, &view, true) else {
-            return None;
-        };
-        self.clock = now;
-        send_quiet(&mut self.flows, &going, packet, now);
-        Some(going.iface)
     }
 }

@@ -1,5 +1,5 @@
 -- Laws of what has been answered.
-use Rattle.std.proofs.Common.{◌≡◌, ℕ, ◌+◌, List, [], ◌++◌, length, refl, sym, ap, ◌∙◌, arith, append_assoc, length-append, subst}
+use Rattle.std.proofs.Common.{◌≡◌, ℕ, ◌+◌, List, [], ◌∷◌, ◌++◌, length, refl, sym, ap, ◌∙◌, arith, append_assoc, length-append, subst}
 use Rattle.std.specs.List.{flat_map}
 use Rattle.std.proofs.lemmas.List.{append-nil}
 use Rattle.std.proofs.lemmas.List.Concat.{flat_map-append}
@@ -7,6 +7,7 @@ use Rattle.packet.specs.Config.{Config}
 use Rattle.machine.specs.declared.event.Event.{Event}
 use Rattle.machine.specs.declared.event.Answer.{Answer}
 use Rattle.machine.specs.Judged.{Judged, AreJudged}
+use Rattle.machine.specs.Laws.{EventsAreJudgedOnce}
 use Rattle.machine.specs.Machine.{after, answers, numbered}
 use Rattle.gateway.specs.Told.{Told, TookAll}
 use Rattle.machine.proofs.Judging.{AreJudged-append, AreJudged-length}
@@ -136,3 +137,13 @@ unfolding answers_due
 all_sent old new events out p none h =
     let e : p.handed ≡ replies old p.took.judged = sym (append-nil p.handed) ∙ ap (λ (xs : List (ℕ × Answer)). p.handed ++ xs) (sym (none h)) ∙ answers_due-is old new events p.handed p.took ∙ ap (λ (xs : List (ℕ × Answer)). xs ++ replies old p.took.judged) h in
     p.sent ∙ ap (flat_map frame) e
+
+-- events are judged once
+pub all-once : EventsAreJudgedOnce → (config : Config) (es : List Event) (js ks : List Judged) → AreJudged config es js → AreJudged config es ks → js ≡ ks
+all-once once config [] [] [] a b = refl
+all-once once config [] (j ∷ js) ks a b = absurd a
+all-once once config [] [] (k ∷ ks) a b = absurd b
+all-once once config (e ∷ es) [] ks a b = absurd a
+all-once once config (e ∷ es) (j ∷ js) [] a b = absurd b
+all-once once config (e ∷ es) (j ∷ js) (k ∷ ks) a b =
+    ap (λ (x : Judged). x ∷ js) (once config e j k a.0 b.0) ∙ ap (λ (xs : List Judged). k ∷ xs) (all-once once config es js ks a.1 b.1)

@@ -27,7 +27,7 @@ use Rattle.socket_edge.specs.Serving.{Closed, IsBad, GatewayRefuses, Offered, Re
 use Rattle.frames.proofs.Frames.{framed_cut, framed_bad}
 use Rattle.socket_edge.proofs.Reading.{Reads-is}
 use Rattle.socket_edge.proofs.Answers.{AnsweredFirst-told, BeginsFrames-told, Progress-told, all_sent}
-use Rattle.socket_edge.proofs.Lasting.{fares}
+use Rattle.socket_edge.proofs.Lasting.{fares, fares-if}
 
 -- what the bytes are, where no whole frame is left
 pub framed_then_cut : (bytes rest : List ℕ) (events : List Event) → Reads bytes events rest → next rest ≡ Cut → whole_frames bytes ≡ record { events = events; remainder = Rest rest }
@@ -121,11 +121,11 @@ module _ {D : Type 0} (honest : D → Type 0) (moment : D → ℕ) (left : D →
         split = split_more (events_in bytes) o.0 off.0 off.1 (events_in o.1) (events_then bytes o.1 o.0 o.2) off.2;
         ends = ended honest moment left seen failed reads earlier start now off.0 c after;
         is_why = still-why mid now off.0 b c why stops.is_why other before.ran.took after.ran.took same after.stands after.no_failure;
-        none = λ _. none;
+        none = λ held up. none;
       }
 
-  fails-behind : (mid now : Kept D) (bytes later : List ℕ) (events back front : List Event) (b c : List (ℕ × Answer)) (why : GatewayFault) → events ≡ front ++ back → events_in bytes ≡ events ++ events_in later
-      → Up mid front b → BreaksOff honest moment left failed mid now [] b c why → why ≡ fault.Device → GatewayRefuses honest moment left failed why bytes start now c
+  pub fails-behind : (mid now : Kept D) (bytes later : List ℕ) (events back front : List Event) (b c : List (ℕ × Answer)) (why : GatewayFault) → events ≡ front ++ back → events_in bytes ≡ events ++ events_in later
+      → Up mid front b → BreaksOff honest moment left failed mid now [] b c why → (start.told.held ≡ [] → why ≡ fault.Device) → GatewayRefuses honest moment left failed why bytes start now c
   fails-behind mid now bytes later events back front b c why split all s breaks device =
       let off = breaks start front s in
       record {
@@ -134,19 +134,19 @@ module _ {D : Type 0} (honest : D → Type 0) (moment : D → ℕ) (left : D →
         split = split_more (events_in bytes) events front back (events_in later) all split ∙ front_none front off.0 off.1 (back ++ events_in later) off.2;
         ends = off.3.ends;
         is_why = off.3.is_why;
-        none = λ up. absurd (true-false now.fallen (off.3.is_why.fell.0 device) up);
+        none = λ held up. absurd (true-false now.fallen (off.3.is_why.fell.0 (device held)) up);
       }
 
   -- handing out has failed
   pub fails : (s : Halt) (mid now : Kept D) (bytes rest : List ℕ) (count : ℕ) (b c : List (ℕ × Answer)) (why : GatewayFault) → Up start [] [] → Offered honest moment left failed s bytes rest count start mid [] b
       → BreaksOff honest moment left failed mid now [] b c why → mid.fallen ≡ false → why ≡ fault.Device → GatewayRefuses honest moment left failed why bytes start now c
   fails halt.Cut mid now bytes rest count b c why begun o breaks up device =
-      fails-behind mid now bytes rest o.0 [] o.0 b c why (all_of o.0 o.0 refl) (events_then bytes rest o.0 o.1) (o.4 start [] begun) breaks device
+      fails-behind mid now bytes rest o.0 [] o.0 b c why (all_of o.0 o.0 refl) (events_then bytes rest o.0 o.1) (o.4 start [] begun) breaks (λ held. device)
   fails (halt.Bad h) mid now bytes rest count b c why begun o breaks up device =
-      fails-behind mid now bytes rest o.0 [] o.0 b c why (all_of o.0 o.0 refl) (events_then bytes rest o.0 o.1) (o.3 start [] begun) breaks device
+      fails-behind mid now bytes rest o.0 [] o.0 b c why (all_of o.0 o.0 refl) (events_then bytes rest o.0 o.1) (o.3 start [] begun) breaks (λ held. device)
   fails (halt.Refused first) mid now bytes rest count b c why begun o breaks up device =
       let off = o.3 start [] begun in
-      fails-behind mid now bytes o.1 o.0 off.1 off.0 b c why off.2 (events_then bytes o.1 o.0 o.2) (off.3.stays (no-device mid off.0 b first off.3 up)) breaks device
+      fails-behind mid now bytes o.1 o.0 off.1 off.0 b c why off.2 (events_then bytes o.1 o.0 o.2) (off.3.stays (no-device mid off.0 b first off.3 up)) breaks (λ held. device)
 
   -- a call of the disk has failed before
   pub fallen : (s : Halt) (mid : Kept D) (bytes rest : List ℕ) (count : ℕ) (b : List (ℕ × Answer)) → Up start [] [] → Offered honest moment left failed s bytes rest count start mid [] b
@@ -161,19 +161,19 @@ module _ {D : Type 0} (honest : D → Type 0) (moment : D → ℕ) (left : D →
         split = split_more (events_in bytes) o.0 off.0 off.1 (events_in o.1) (events_then bytes o.1 o.0 o.2) off.2;
         ends = off.3.ends;
         is_why = off.3.is_why;
-        none = λ up. absurd (true-false mid.fallen down up);
+        none = λ held up. absurd (true-false mid.fallen down up);
       }
 
   -- ---- what was sent
 
   bad-came : (h : HeaderFault) (now : Kept D) (bytes rest : List ℕ) (out : List (ℕ × Answer)) → IsBad honest moment left failed h bytes rest start now out
-      → (front back : List Event) × (events_in bytes ≡ front ++ back) × Ends honest moment left failed start now front out × (now.fallen ≡ false → now.told.held ≡ [])
+      → (front back : List Event) × (events_in bytes ≡ front ++ back) × Ends honest moment left failed start now front out × (start.told.held ≡ [] → now.fallen ≡ false → now.told.held ≡ [])
   bad-came h now bytes rest out k = (
     k.events,
     [],
     all_of k.events (events_in bytes) (events_bad bytes rest k.events h k.reads k.bad),
     ended honest moment left seen failed reads earlier start now k.events out k.settled.stands,
-    λ _. k.settled.none,
+    λ held up. k.settled.none,
   )
 
   bad-answered : (h : HeaderFault) (now : Kept D) (bytes rest : List ℕ) (out : List (ℕ × Answer)) → IsBad honest moment left failed h bytes rest start now out
@@ -187,9 +187,9 @@ module _ {D : Type 0} (honest : D → Type 0) (moment : D → ℕ) (left : D →
 
   -- the first of the events that the bytes hold were taken
   came : (r : Result (Unit {0}) EdgeFault) (now : Kept D) (bytes rest : List ℕ) (count : ℕ) (out : List (ℕ × Answer)) → Closed honest moment left failed r bytes rest count start now out
-      → (front back : List Event) × (events_in bytes ≡ front ++ back) × Ends honest moment left failed start now front out × (now.fallen ≡ false → now.told.held ≡ [])
+      → (front back : List Event) × (events_in bytes ≡ front ++ back) × Ends honest moment left failed start now front out × (start.told.held ≡ [] → now.fallen ≡ false → now.told.held ≡ [])
   came (Ok done) now bytes rest count out k =
-      (k.0, [], all_of k.0 (events_in bytes) (events_cut bytes rest k.0 k.1 k.2), ended honest moment left seen failed reads earlier start now k.0 out k.4.stands, λ _. k.4.none)
+      (k.0, [], all_of k.0 (events_in bytes) (events_cut bytes rest k.0 k.1 k.2), ended honest moment left seen failed reads earlier start now k.0 out k.4.stands, λ held up. k.4.none)
   came (Err BadKind) now bytes rest count out k = bad-came header.BadKind now bytes rest out k
   came (Err BadInterface) now bytes rest count out k = bad-came header.BadInterface now bytes rest out k
   came (Err TooLong) now bytes rest count out k = bad-came header.TooLong now bytes rest out k
@@ -204,7 +204,7 @@ module _ {D : Type 0} (honest : D → Type 0) (moment : D → ℕ) (left : D →
   sent-some r now bytes rest count out sent lost k begins left_over others =
       let is = came r now bytes rest count out k in (
         BeginsFrames-told start.told now.told (events_in bytes) is.0 is.1 out sent lost is.2 is.3.ran.took begins,
-        fares honest moment left failed start now (events_in bytes) is.0 is.1 out sent lost is.3 is.2 begins is.4,
+        fares-if honest moment left failed start now (events_in bytes) is.0 is.1 out sent lost is.3 is.2 begins is.4,
         tt,
       )
 
@@ -213,7 +213,7 @@ module _ {D : Type 0} (honest : D → Type 0) (moment : D → ℕ) (left : D →
       → Fares honest moment left start now (events_in bytes) (flat_map frame out)
   fares-all r now bytes rest count out k =
       let is = came r now bytes rest count out k in
-      fares honest moment left failed start now (events_in bytes) is.0 is.1 out (flat_map frame out) [] is.3 is.2 (append-nil (flat_map frame out)) is.4
+      fares-if honest moment left failed start now (events_in bytes) is.0 is.1 out (flat_map frame out) [] is.3 is.2 (append-nil (flat_map frame out)) is.4
 
   pub sent-bad : (e : EdgeFault) (now : Kept D) (bytes rest : List ℕ) (count : ℕ) (out : List (ℕ × Answer)) → Closed honest moment left failed (Err e) bytes rest count start now out
       → (left_over : List ℕ) (others : List (ℕ × Answer)) → SettledAndSent honest moment left failed (Err e) start now bytes left_over others (flat_map frame out)

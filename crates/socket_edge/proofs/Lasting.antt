@@ -85,16 +85,16 @@ unfolding answers_due
 answers_due-replies old judged none = ap (λ (xs : List (ℕ × Answer)). xs ++ replies old judged) none
 
 module _ {D : Type 0} (honest : D → Type 0) (moment : D → ℕ) (left : D → ℕ → Files → Type 0) (failed : D → ℕ) where
-  -- the first of the events were taken, and a beginning of the frames of what was handed out was sent
-  pub fares : (start now : Kept D) (events front back : List Event) (out : List (ℕ × Answer)) (sent lost : List ℕ) → Ends honest moment left failed start now front out
-      → events ≡ front ++ back → sent ++ lost ≡ flat_map frame out → (now.fallen ≡ false → now.told.held ≡ []) → Fares honest moment left start now events sent
-  fares start now events front back out sent lost e split begins none =
+  -- the first of the events were taken, and a beginning of the frames of what was handed out was sent; nothing is held, if nothing was
+  pub fares-if : (start now : Kept D) (events front back : List Event) (out : List (ℕ × Answer)) (sent lost : List ℕ) → Ends honest moment left failed start now front out
+      → events ≡ front ++ back → sent ++ lost ≡ flat_map frame out → (start.told.held ≡ [] → now.fallen ≡ false → now.told.held ≡ []) → Fares honest moment left start now events sent
+  fares-if start now events front back out sent lost e split begins none =
       let t = e.ran.took in
       record {
         was_honest = e.ran.was_honest;
         stays_honest = e.ran.stays_honest;
         configured = λ h stood. e.ran.configured h;
-        none = λ held stands. none stands;
+        none = none;
         outlives = λ ready.
             let answered : out ++ now.told.held ≡ replies start.told t.judged = answers_due-is start.told now.told front out t ∙ answers_due-replies start.told t.judged ready.none in
             record {
@@ -117,17 +117,14 @@ module _ {D : Type 0} (honest : D → Type 0) (moment : D → ℕ) (left : D →
             };
       }
 
+  -- or nothing is
+  pub fares : (start now : Kept D) (events front back : List Event) (out : List (ℕ × Answer)) (sent lost : List ℕ) → Ends honest moment left failed start now front out
+      → events ≡ front ++ back → sent ++ lost ≡ flat_map frame out → (now.fallen ≡ false → now.told.held ≡ []) → Fares honest moment left start now events sent
+  fares start now events front back out sent lost e split begins none = fares-if start now events front back out sent lost e split begins (λ held. none)
+
   -- nothing was taken, and nothing sent
   pub fares-none : (start : Kept D) (events : List Event) → Ends honest moment left failed start start [] [] → start.fallen ≡ false → Fares honest moment left start start events []
-  fares-none start events e stands =
-      let it = fares start start events [] events [] [] [] e refl refl in
-      record {
-        was_honest = e.ran.was_honest;
-        stays_honest = e.ran.stays_honest;
-        configured = λ h stood. e.ran.configured h;
-        none = λ held up. held;
-        outlives = λ ready. (it (λ up. ready.none)).outlives ready;
-      }
+  fares-none start events e stands = fares-if start start events [] events [] [] [] e refl refl (λ held up. held)
 
   -- one that came through all its events, and what came behind it
   module _ (earlier : (disk : D) (s t : ℕ) (files : Files) → s ≤ t → left disk t files → left disk s files) (a b c : Kept D) where

@@ -4,10 +4,9 @@ pub mod Answers
 pub mod Lasting
 pub mod Memory
 pub mod Talks
-pub mod Behind
+pub mod Placing
 pub mod Tending
 pub mod Loops
-pub mod Passing
 pub mod Closing
 pub mod Runs
 pub mod Stopping

@@ -1,28 +1,14 @@
 -- Bytes that are written over others, and moved among them.
-use Rattle.std.proofs.Common.{◌≡◌, ℕ, ◌+◌, ◌-◌, ◌≤◌, List, [], ◌++◌, length, take, drop, refl, sym, ap, ◌∙◌, arith, length-drop, take-add}
+use Rattle.std.proofs.Common.{◌≡◌, ℕ, ◌+◌, ◌-◌, ◌≤◌, List, ◌++◌, length, take, drop, refl, sym, ap, ◌∙◌, arith, length-drop, take-add}
 use Rattle.std.specs.List.{copy_within}
 use Rattle.std.proofs.lemmas.List.{drop-drop, length-take-le, take-append-le, drop-append-le, drop-take}
-use Rattle.std.proofs.Math.Seq.{take-append-add, take-length}
+use Rattle.std.proofs.Math.Seq.{take-length}
 use Rattle.std.specs.Prelude.{Result, Ok, Err, OnOk}
 use Rattle.std.specs.Result.{is_err}
 use Rattle.std.proofs.Common.{false}
 use Rattle.std.proofs.lemmas.Slice.{between_is, between-put_mid, drop-put_mid, take-put_mid_below}
 use Rattle.socket_edge.specs.Exchange.{Exchange}
 use borrow.Rule.Slice.PartMut.{put_mid, same_len_mid}
-
--- what the bytes are seen as: frames up to w, and from r to e those that wait
-abbrev pub view : ℕ → ℕ → ℕ → List ℕ → Exchange
-view w r e xs = record { answered = take w xs; unanswered = drop r (take e xs); reach = e }
-
-alike : (a b c d : List ℕ) (m n : ℕ) → a ≡ c → b ≡ d → m ≡ n → ◌≡◌ {A = Exchange} (record { answered = a; unanswered = b; reach = m }) (record { answered = c; unanswered = d; reach = n })
-alike a b c d m n first then same = rw (first, then, same) refl
-
-pub ok_of : {T E P : Type 0} (r : Result T E) → is_err r ≡ false → OnOk r P → P
-ok_of (Ok v) e h = h
-ok_of (Err x) e h = absurd cc
-
-pub part_size : (w r : ℕ) (xs : List ℕ) → w ≤ r → r ≤ length xs → length (take (r - w) (drop w xs)) ≡ r - w
-part_size w r xs within fits = length-take-le (r - w) (drop w xs) (omega (arith, length-drop w xs, within, fits))
 
 -- what stands in front of a front
 pub take_front : (n m : ℕ) (xs : List ℕ) → n ≤ m → m ≤ length xs → take n xs ≡ take n (take m xs)
@@ -34,72 +20,37 @@ take_front n m xs within fits =
     take_whole : (n : ℕ) (xs : List ℕ) → length (take n xs) ≡ n → take n (take n xs) ≡ take n xs
     take_whole n xs size = ap (λ (k : ℕ). take k (take n xs)) (sym size) ∙ take-length (take n xs)
 
--- bytes came behind those that wait
-pub seen_behind : (w r e n : ℕ) (old mid new got : List ℕ) → w ≤ r → r ≤ e → e ≤ length old → e ≤ length mid → e + n ≤ length new
-    → take e mid ≡ take e old → take (e + n) new ≡ take e mid ++ got
-    → view w r (e + n) new ≡ record { answered = take w old; unanswered = drop r (take e old) ++ got; reach = e + n }
-seen_behind w r e n old mid new got first then old_fits mid_fits new_fits same came =
-    let size : length (take e mid) ≡ e = length-take-le e mid mid_fits in
-    alike (take w new) (drop r (take (e + n) new)) (take w old) (drop r (take e old) ++ got) (e + n) (e + n)
-    (take_front w (e + n) new (omega (arith, first, then)) new_fits ∙ ap (take w) came ∙ take-append-le w (take e mid) got (omega (arith, size, first, then))
-    ∙ ap (take w) same ∙ sym (take_front w e old (omega (arith, first, then)) old_fits))
-    (ap (drop r) came ∙ drop-append-le r (take e mid) got (omega (arith, size, then)) ∙ ap (λ (zs : List ℕ). drop r zs ++ got) same)
-    refl
+-- what the bytes are seen as: frames up to a, those of held answers from there to h, and from r to e those that wait
+abbrev pub view : ℕ → ℕ → ℕ → ℕ → List ℕ → Exchange
+view a h r e xs = record { answered = take a xs; held = drop a (take h xs); unanswered = drop r (take e xs) }
 
--- nothing came
-pub seen_still : (w r e : ℕ) (old new : List ℕ) → w ≤ r → r ≤ e → e ≤ length old → e ≤ length new → take e new ≡ take e old → view w r e new ≡ view w r e old
-seen_still w r e old new first then old_fits new_fits same =
-    alike (take w new) (drop r (take e new)) (take w old) (drop r (take e old)) e e
-    (take_front w e new (omega (arith, first, then)) new_fits ∙ ap (take w) same ∙ sym (take_front w e old (omega (arith, first, then)) old_fits))
-    (ap (drop r) same)
-    refl
+-- what is seen depends on the bytes up to the end of those that wait
+pub alike : (a h r e n : ℕ) (xs ys more : List ℕ) → a ≤ h → h ≤ r → r ≤ e → e ≤ length xs → e + n ≤ length ys → take (e + n) ys ≡ take e xs ++ more
+    → view a h r (e + n) ys ≡ record { answered = take a xs; held = drop a (take h xs); unanswered = drop r (take e xs) ++ more }
+alike a h r e n xs ys more first second third fits long is =
+    let size : length (take e xs) ≡ e = length-take-le e xs fits in
+    let same : (k : ℕ) → k ≤ e → take k ys ≡ take k xs = λ k within.
+    take_front k (e + n) ys (omega (arith, within)) long ∙ ap (take k) is ∙ take-append-le k (take e xs) more (omega (arith, size, within)) ∙ sym (take_front k e xs within fits) in
+    rw (same a (omega (arith, first, second, third)), same h (omega (arith, second, third)), ap (drop r) is ∙ drop-append-le r (take e xs) more (omega (arith, size, third))) refl
 
--- bytes were written between the two
-between_same : (w r e : ℕ) (xs ys : List ℕ) → w ≤ r → r ≤ e → e ≤ length xs → length ys ≡ r - w → drop r (take e (put_mid w (r - w) xs ys)) ≡ drop r (take e xs)
-between_same w r e xs ys first then fits as_many =
-    sym (between_is (put_mid w (r - w) xs ys) r e) ∙ ap (take (e - r)) (drop-put_mid w (r - w) xs ys r (omega (arith, first)) (omega (arith, first, then, fits)) as_many) ∙ between_is xs r e
+pub ok_of : {T E P : Type 0} (r : Result T E) → is_err r ≡ false → OnOk r P → P
+ok_of (Ok v) e h = h
+ok_of (Err x) e h = absurd cc
 
-pub seen_between : (w r e : ℕ) (xs ys : List ℕ) → w ≤ r → r ≤ e → e ≤ length xs → length ys ≡ r - w → view w r e (put_mid w (r - w) xs ys) ≡ view w r e xs
-seen_between w r e xs ys first then fits as_many =
-    alike (take w (put_mid w (r - w) xs ys)) (drop r (take e (put_mid w (r - w) xs ys))) (take w xs) (drop r (take e xs)) e e
-    (take-put_mid_below w (r - w) xs ys w (omega arith) (omega (arith, first, then, fits))) (between_same w r e xs ys first then fits as_many) refl
-
--- and a beginning of them is as it is wanted
-pub seen_more : (w r e n : ℕ) (xs ys : List ℕ) → w ≤ r → r ≤ e → e ≤ length xs → length ys ≡ r - w → n ≤ length ys
-    → view (w + n) r e (put_mid w (r - w) xs ys) ≡ record { answered = take w xs ++ take n ys; unanswered = drop r (take e xs); reach = e }
-seen_more w r e n xs ys first then fits as_many few =
-    let behind : List ℕ = drop (r - w) (drop w xs) in
-    let size : length (take w xs) ≡ w = length-take-le w xs (omega (arith, first, then, fits)) in
-    alike (take (w + n) (put_mid w (r - w) xs ys)) (drop r (take e (put_mid w (r - w) xs ys))) (take w xs ++ take n ys) (drop r (take e xs)) e e
-    (ap (λ (k : ℕ). take (k + n) (take w xs ++ (ys ++ behind))) (sym size) ∙ take-append-add (take w xs) (ys ++ behind) n ∙ ap (λ (zs : List ℕ). take w xs ++ zs) (take-append-le n ys behind few))
-    (between_same w r e xs ys first then fits as_many)
-    refl
+pub part_size : (w r : ℕ) (xs : List ℕ) → w ≤ r → r ≤ length xs → length (take (r - w) (drop w xs)) ≡ r - w
+part_size w r xs within fits = length-take-le (r - w) (drop w xs) (omega (arith, length-drop w xs, within, fits))
 
 pub between_size : (w r : ℕ) (xs ys : List ℕ) → w ≤ r → r ≤ length xs → length ys ≡ r - w → length (put_mid w (r - w) xs ys) ≡ length xs
 between_size w r xs ys first fits as_many = same_len_mid w (r - w) xs ys (as_many ∙ sym (part_size w r xs first fits))
 
 -- the bytes that wait are moved to the front, where no frames are
-moved : (r e : ℕ) (xs : List ℕ) → r ≤ e → e ≤ length xs → take (e - r) (copy_within xs r e 0) ≡ drop r (take e xs)
+pub moved : (r e : ℕ) (xs : List ℕ) → r ≤ e → e ≤ length xs → take (e - r) (copy_within xs r e 0) ≡ drop r (take e xs)
 moved r e xs within fits =
     let n = e - r in
     let end : e ≡ r + n = omega (arith, within) in
     let size : length (take n (drop r xs)) ≡ n = part_size r e xs within fits in
     take-append-le n (take n (drop r xs)) (drop (0 + n) xs) (omega (arith, size)) ∙ sym (take_front n n (drop r xs) (omega arith) (omega (arith, length-drop r xs, end, fits)))
     ∙ between_is xs r e
-
-pub seen_moved : (w r e : ℕ) (xs : List ℕ) → w ≤ r → r ≤ e → e ≤ length xs → take w xs ≡ []
-    → view w 0 (e - r) (copy_within xs r e 0) ≡ record { answered = take w xs; unanswered = drop r (take e xs); reach = length (drop r (take e xs)) }
-seen_moved w r e xs first then fits none =
-    let zero : w ≡ 0 = omega (arith, length-take-le w xs (omega (arith, first, then, fits)), ap (λ (zs : List ℕ). length zs) none) in
-    let front : take w (copy_within xs r e 0) ≡ take w xs = rw zero refl in
-    alike (take w (copy_within xs r e 0)) (take (e - r) (copy_within xs r e 0)) (take w xs) (drop r (take e xs)) (e - r) (length (drop r (take e xs))) front (moved r e xs then fits)
-    (omega (arith, length-drop r (take e xs), length-take-le e xs fits))
-
--- where they stand at the front already
-pub seen_there : (w r e : ℕ) (xs : List ℕ) → r ≡ 0 → e ≤ length xs
-    → view w r e xs ≡ record { answered = take w xs; unanswered = drop r (take e xs); reach = length (drop r (take e xs)) }
-seen_there w r e xs zero fits =
-    alike (take w xs) (drop r (take e xs)) (take w xs) (drop r (take e xs)) e (length (drop r (take e xs))) refl refl (omega (arith, zero, length-drop r (take e xs), length-take-le e xs fits))
 
 -- a part was written over, and its first bytes moved behind the frames
 pub seen_passed : (w r k n e : ℕ) (xs two ys : List ℕ) → w ≤ r → r + n ≤ e → e ≤ length xs → length ys ≡ n → k ≤ n
@@ -120,15 +71,6 @@ seen_passed w r k n e xs two ys first then fits as_many few there behind =
           ∙ ap (take (e - (r + n))) (later two ∙ ap (drop (n - k)) behind ∙ sym (later one) ∙ drop-put_mid r (r + n - r) xs ys (r + n) (omega arith) within (as_many ∙ sym m))
           ∙ between_is xs (r + n) e,
     )
-
--- all of it was moved
-pub seen_forward : (w r n e : ℕ) (xs two ys : List ℕ) → w ≤ r → r + n ≤ e → e ≤ length xs → length ys ≡ n
-    → take (w + n) two ≡ take w (put_mid r (r + n - r) xs ys) ++ take n (drop r (put_mid r (r + n - r) xs ys))
-    → drop (r + n) two ≡ drop (r + n) (put_mid r (r + n - r) xs ys)
-    → (take (w + n) two ≡ take w xs ++ ys) × (drop (r + n) (take e two) ≡ drop (r + n) (take e xs))
-seen_forward w r n e xs two ys first then fits as_many there behind =
-    let p = seen_passed w r n n e xs two ys first then fits as_many (omega arith) there behind in
-    (p.0 ∙ ap (λ (zs : List ℕ). take w xs ++ zs) (ap (λ (i : ℕ). take i ys) (sym as_many) ∙ take-length ys), p.1)
 
 -- what stands in the part behind its first bytes
 part_behind : (r k len e : ℕ) (xs : List ℕ) → r + (k + len) ≤ e → e ≤ length xs → drop k (take (r + (k + len) - r) (drop r xs)) ≡ take len (drop k (drop r (take e xs)))

@@ -24,8 +24,7 @@ use Rattle.socket_edge.specs.Progress.{replies, Progress}
 use Rattle.socket_edge.specs.Running.{AtEachTurn, MayGoOn, ComesBy, Fares, Preserves, events_in}
 use Rattle.socket_edge.specs.Serving.{AsksFirst, AsksOnce, NeverAsks, SettledAndSent}
 use Rattle.socket_edge.specs.Turns.{Turn, Gave, ReadFailed, Took, WriteFailed, given, taken}
-use Rattle.socket_edge.proofs.Answers.{Progress-told, Reached-then, all_sent, last_of, reached-told, replies-append}
-use Rattle.socket_edge.proofs.Behind.{all-once}
+use Rattle.socket_edge.proofs.Answers.{all-once, Progress-told, Reached-then, all_sent, last_of, reached-told, replies-append}
 use Rattle.socket_edge.proofs.Closing.{events_cut, framed_then_cut}
 use Rattle.socket_edge.proofs.Lasting.{fares, le-or-lt, not-longer, replies-length, safe-behind, safe-fewer}
 use Rattle.socket_edge.proofs.Runs.{Going, Served-answered, framed_more, going-ends}

@@ -1,7 +1,8 @@
 -- A beginning of bytes, handed to a peer.
-use Rattle.std.proofs.Common.{◌≡◌, ℕ, ◌+◌, ◌<◌, get_or, subst, List, [], ◌∷◌, ◌++◌, Option, Result, IfErr, length, take, drop, sym, ap, ◌∙◌, append_assoc}
+use Rattle.std.proofs.Common.{◌≡◌, ℕ, ◌+◌, ◌-◌, ◌<◌, get_or, subst, List, [], ◌∷◌, ◌++◌, Option, Result, IfErr, length, take, drop, sym, ap, ◌∙◌, append_assoc, length-drop}
 use Rattle.std.proofs.lemmas.List.{take-append-drop, append-nil}
 use Rattle.std.proofs.lemmas.List.Concat.{flat_map-append}
+use Rattle.std.proofs.Math.Seq.{take-length}
 use Rattle.std.specs.List.{flat_map}
 use Rattle.std.proofs.lemmas.Result.{IfErr-weaker}
 use Rattle.std.specs.Io.KnownBytes.{Appends}
@@ -15,6 +16,10 @@ use Rattle.socket_edge.specs.Joined.{taken_then}
 use Rattle.socket_edge.specs.Serving.{HandsAll, HandsFront, NeverAsks}
 use Rattle.socket_edge.specs.Turns.{Turn, LastTookNone, taken}
 use Rattle.socket_edge.proofs.Talks.{never_then, none_then}
+
+-- all that is behind a place
+pub rest_whole : (at : ℕ) (xs : List ℕ) → take (length xs - at) (drop at xs) ≡ drop at xs
+rest_whole at xs = rw (← length-drop at xs) (take-length (drop at xs))
 
 -- a beginning of x is one of what begins with x
 pub Front-of : {P : Type 0} (went : P → P → List Turn → Type 0) (a b : P) (x y : List ℕ) → HandsFront went a b x → HandsFront went a b (x ++ y)

@@ -1,14 +1,11 @@
 -- What the parts of a run do. No public clause cites this module.
-use Rattle.std.specs.Prelude.{◌≡◌, ◌≢◌, ◌≤◌, ℕ, Bool, List, [], ◌∷◌, ◌++◌, length, take, drop, false, true, Option, None, Some, Result, Ok, Err, vec_capacity}
-use Rattle.std.specs.List.{All}
-use Rattle.std.specs.declared.vec.Vec.{Vec}
-use Rattle.std.specs.declared.alloc.Global.{Global}
+use Rattle.std.specs.Prelude.{◌≡◌, ℕ, List, [], ◌∷◌, ◌++◌, length, false, Result, Ok, Err}
 use Rattle.disk_model.specs.Disk.{Files}
 use Rattle.machine.specs.declared.event.Answer.{Answer}
 use Rattle.machine.specs.declared.event.Event.{Event}
 use Rattle.frames.specs.declared.fault.HeaderFault.{HeaderFault}
 use Rattle.frames.specs.declared.fault.HeaderFault.TheVariants as header_fault
-use Rattle.frames.specs.Requests.{Whole, Cut, Bad, next}
+use Rattle.frames.specs.Requests.{Cut, Bad, next}
 use Rattle.frames.specs.Framing.{with_first, whole_frames}
 use Rattle.frames.specs.Answers.{frames}
 use Rattle.gateway.specs.declared.fault.GatewayFault.{GatewayFault}
@@ -19,8 +16,6 @@ use Rattle.socket_edge.specs.declared.fault.EdgeFault.{EdgeFault}
 use Rattle.socket_edge.specs.declared.fault.EdgeFault.TheVariants.{BadKind, BadInterface, TooLong, Truncated, Input, Output, Gateway}
 use Rattle.socket_edge.specs.declared.serving.Halt.{Halt}
 use Rattle.socket_edge.specs.declared.serving.Halt.TheVariants as halt
-use Rattle.socket_edge.specs.declared.serving.Step.{Step}
-use Rattle.socket_edge.specs.declared.serving.Step.TheVariants as step
 use Rattle.socket_edge.specs.declared.edge.ReadOutcome.{ReadOutcome}
 use Rattle.socket_edge.specs.declared.edge.ReadOutcome.TheVariants as read_outcome
 use Rattle.socket_edge.specs.Progress.{Progress}
@@ -75,10 +70,6 @@ module _ {P : Type 0} (went : P → P → List Turn → Type 0) where
     pub gives : given turns ≡ got
     pub takes : taken turns ≡ sent
 
--- each of these bodies has at most 2,048 bytes of memory
-abbrev pub AreShort : List (Vec ℕ Global) → Type 0
-AreShort bodies = All (λ body. vec_capacity body ≤ 2048) bodies
-
 -- the stream so far is these events, and then these bytes
 pub record Reads (given : List ℕ) (events : List Event) (unanswered : List ℕ) : Type 0 where
   pub goes : (more : List ℕ) → whole_frames (given ++ more)
@@ -126,70 +117,10 @@ end_of (halt.Bad header_fault.BadInterface) = Err BadInterface
 end_of (halt.Bad header_fault.TooLong) = Err TooLong
 end_of (halt.Refused fault) = Err (Gateway fault)
 
--- the gateway refused nothing
-abbrev pub RefusesNone : Step → Type 0
-RefusesNone (step.Took leaves held) = Unit {0}
-RefusesNone (step.Ends halt.Cut) = Unit {0}
-RefusesNone (step.Ends (halt.Bad fault)) = Unit {0}
-RefusesNone (step.Ends (halt.Refused fault)) = ⊥
-
--- where answers that are held stand in front, behind so many bytes of answers that are not
-abbrev pub where_held : Step → Option ℕ
-where_held (step.Took leaves held) = held
-where_held (step.Ends s) = None
-
--- the bytes of the answers in front that are not held
-abbrev pub released : Option ℕ → List ℕ → List ℕ
-released None answered = answered
-released (Some n) answered = take n answered
-
--- the others are the frames of all that are held, each of which was told in place
-abbrev pub AreHeld : {D : Type 0} → Option ℕ → List ℕ → Kept D → Type 0
-AreHeld None answered gateway = Unit {0}
-AreHeld (Some n) answered gateway = (n ≤ length answered)
-    × (drop n answered ≡ frames gateway.told.held)
-    × (gateway.told.held ≢ []) × (gateway.in_place ≡ true)
-
 module _ {D : Type 0} (honest : D → Type 0) (moment : D → ℕ) (left : D → ℕ → Files → Type 0)
     (failed : D → ℕ) where
-  -- a packet was taken where it lay, and its answer is held, or handed out
-  abbrev pub TakenInPlace : Bool → Kept D → Kept D → Event → ℕ × Answer → Type 0
-  TakenInPlace true old new event answer = ((before : List (ℕ × Answer))
-      → CarriesOn honest moment left failed old new (event ∷ []) before before)
-      × (new.told.held ≡ old.told.held ++ answer ∷ []) × (new.in_place ≡ old.in_place)
-  TakenInPlace false old new event answer = ((before : List (ℕ × Answer))
-      → CarriesOn honest moment left failed old new (event ∷ []) before (before ++ answer ∷ []))
-      × (old.told.held ≡ []) × (new.told.held ≡ [])
-
-  -- one carries on, or breaks off, whatever other answers were handed out before
-  abbrev pub CarriesBehind : Kept D → Kept D → List Event → List (ℕ × Answer)
-      → List (ℕ × Answer) → Type 0
-  CarriesBehind old new more from to =
-      (before : List (ℕ × Answer))
-      → CarriesOn honest moment left failed old new more (before ++ from) (before ++ to)
-
-  abbrev pub BreaksBehind : Kept D → Kept D → List Event → List (ℕ × Answer) → List (ℕ × Answer)
-      → GatewayFault → Type 0
-  BreaksBehind old new more from to why =
-      (before : List (ℕ × Answer))
-      → BreaksOff honest moment left failed old new more (before ++ from) (before ++ to) why
-
-  -- What one frame at the front came to. Refused: the bytes read as these events and then `later`, and the first of the
-  -- events were taken.
-  abbrev pub Stepped : Step → List ℕ → List ℕ → Kept D → Kept D → List (ℕ × Answer)
-      → List (ℕ × Answer) → Type 0
-  Stepped (step.Took leaves held) bytes rest old new before out = (event : Event)
-      × (next bytes ≡ Whole event rest)
-      × CarriesOn honest moment left failed old new (event ∷ []) before out
-  Stepped (step.Ends halt.Cut) bytes rest old new before out = (rest ≡ bytes) × (next bytes ≡ Cut)
-      × CarriesOn honest moment left failed old new [] before out
-  Stepped (step.Ends (halt.Bad fault)) bytes rest old new before out = (rest ≡ bytes)
-      × (next bytes ≡ Bad fault) × CarriesOn honest moment left failed old new [] before out
-  Stepped (step.Ends (halt.Refused fault)) bytes rest old new before out =
-      (events : List Event) × (later : List ℕ) × Reads bytes events later
-      × BreaksOff honest moment left failed old new events before out fault
-
-  -- what all whole frames at the front came to; refused, as of one
+  -- What all whole frames at the front came to. Refused: the bytes read as these events and then `later`, and the first
+  -- of the events were taken.
   abbrev pub Offered : Halt → List ℕ → List ℕ → ℕ → Kept D → Kept D → List (ℕ × Answer)
       → List (ℕ × Answer) → Type 0
   Offered halt.Cut bytes rest count old new before out =
@@ -224,7 +155,7 @@ module _ {D : Type 0} (honest : D → Type 0) (moment : D → ℕ) (left : D →
     pub split : events_in bytes ≡ front ++ back
     pub ends : Ends honest moment left failed start now front out
     pub is_why : IsWhy honest moment left failed start now fault
-    pub none : now.fallen ≡ false → now.told.held ≡ []
+    pub none : start.told.held ≡ [] → now.fallen ≡ false → now.told.held ≡ []
 
   -- the frames at the front were settled, or why not
   abbrev pub Closed : Result (Unit {0}) EdgeFault → List ℕ → List ℕ → ℕ → Kept D → Kept D

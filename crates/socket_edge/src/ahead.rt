@@ -4,7 +4,7 @@ ghost use Rattle.std.specs.Prelude.{◌≡◌, length};
 
 use byteorder::{BigEndian, ByteOrder};
 use disk_model::Disk;
-use frames::{Head, Kind, REQUEST_HEAD, read_head};
+use frames::{Front, Kind, REQUEST_HEAD, read_front};
 use gateway::{Coming, Gateway, Iface, MOST_AHEAD};
 use packet::{Endpoint, Proto};
 
@@ -25,65 +25,52 @@ const NOTHING: Coming = Coming {
     remote: Endpoint { addr: 0, port: 0 },
 };
 
-/// What a look ahead told.
+/// For how many frames behind the one at the front there is no new look ahead.
 #[derive(Clone, Copy, Drop)]
 pub struct Ahead {
-    /// For so many frames behind the one at the front there is no new look ahead.
     frames: usize,
-    /// As `is_known` says.
-    known: bool,
 }
 
 impl Ahead {
-    /// What is told where it wasn't looked ahead yet.
+    /// Where it wasn't looked ahead yet.
     pub fn none() -> Ahead {
-        unasked(0)
+        Ahead { frames: 0 }
     }
 
-    /// What is told before the frame at the front is offered: as before, or looked for anew.
+    /// Looks ahead before the frame at the front is offered, unless it was looked so far ahead before.
+    #[inline(always)]
     pub fn next<D: Disk + Drop>(self, bytes: &[u8], gateway: &Gateway<D>) -> Ahead {
         match self.frames.checked_sub(1) {
-            Some(frames) => Ahead { frames, ..self },
+            Some(frames) => Ahead { frames },
             None => look_ahead(bytes, gateway),
         }
-    }
-
-    /// Whether one of the next packets at least seems to be of a session that is held, or of an inside endpoint that
-    /// has a mapping. Where that wasn't asked it is taken to be so.
-    pub fn is_known(self) -> bool {
-        self.known
     }
 }
 
 // Looks ahead for the whole frames at the front, 16 at most.
 #[inline(never)]
 fn look_ahead<D: Disk + Drop>(bytes: &[u8], gateway: &Gateway<D>) -> Ahead {
+    let frames = CLOSE_FRAMES;
     if !gateway.is_wide() {
-        return unasked(CLOSE_FRAMES);
+        return Ahead { frames };
     }
     let mut coming = [NOTHING; MOST_AHEAD];
     let count = fill(&mut coming, bytes);
-    let frames = count.saturating_sub(1);
     if count_apart(&coming) >= FEW_APART {
+        // If none of them seems known, the next look comes a frame later. This tells little: it is asked, so that a
+        // compiler can't leave the look out.
+        let known = usize::from(gateway.look_ahead(&coming) > 0);
         return Ahead {
-            frames,
-            known: gateway.look_ahead(&coming) > 0,
+            frames: count.saturating_sub(known),
         };
     }
     // Fewer packets than it looks ahead for tell nothing of those behind them.
-    unasked(if count < MOST_AHEAD {
-        frames
-    } else {
-        CLOSE_FRAMES
-    })
-}
-
-// What is told where the gateway isn't asked.
-fn unasked(frames: usize) -> Ahead {
-    Ahead {
-        frames,
-        known: true,
+    if count < MOST_AHEAD {
+        return Ahead {
+            frames: count.saturating_sub(1),
+        };
     }
+    Ahead { frames }
 }
 
 // Puts down by what the packets at the front are looked for, as far as there are whole frames of packets. Says how
@@ -103,14 +90,10 @@ fn fill(coming: &mut [Coming; MOST_AHEAD], bytes: &[u8]) -> usize {
 
 // The packet of the frame at the front, the interface that it comes from, and the bytes behind it.
 fn next_packet(bytes: &[u8]) -> Option<(Iface, &[u8], &[u8])> {
-    let Head::Frame(Kind::Packet(iface), _, len) = read_head(bytes) else {
+    let Front::Whole(Kind::Packet(iface), _, size) = read_front(bytes) else {
         return None;
     };
-    let len = REQUEST_HEAD + len as usize;
-    if bytes.len() < len {
-        return None;
-    }
-    let (frame, behind) = bytes.split_at(len);
+    let (frame, behind) = bytes.split_at(size);
     Some((iface, &frame[REQUEST_HEAD..], behind))
 }
 

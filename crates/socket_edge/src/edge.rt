@@ -3,8 +3,8 @@
 //! `run_with` calls `read_once` until the input ends; `run` hands it two streams as one peer. `read_once` reads
 //! (`Waiting::read`) and calls `answer_read`. That has `answer_front` answer all that is whole then, and compacts a file
 //! that has grown (`serving::compact_grown`). `answer_front` offers frame after frame (`serving::offer_all`), has what
-//! is held synced (`serving::close`), and only then writes the answers (`sending::send_behind`).
-ghost use Rattle.std.specs.Prelude.{◌≡◌, ◌≢◌, ◌↔◌, ℕ, List, [], ◌++◌, ◌+◌, ◌<◌, ◌≤◌, ◌^◌, true, false, IfOk, IfErr, OnOk, length, vec_len, vec_capacity};
+//! is held synced (`serving::close`), and only then writes the answers (`sending::send_before`).
+ghost use Rattle.std.specs.Prelude.{◌≡◌, ◌≢◌, ◌↔◌, ℕ, List, [], ◌++◌, ◌+◌, ◌<◌, ◌≤◌, ◌^◌, true, false, IfOk, IfErr, OnOk, length};
 ghost use Rattle.std.specs.Io.KnownBytes.{Appends, Consumes, IsAtEnd};
 ghost use Rattle.machine.specs.declared.event.Answer.{Answer};
 ghost use Rattle.frames.specs.Requests.{next, Cut};
@@ -14,12 +14,12 @@ ghost use Rattle.socket_edge.specs.Turns.{Turn, given, taken};
 
 use crate::fault::EdgeFault;
 use crate::peer::{Both, Peer};
-use crate::sending::send_behind;
-use crate::serving::{close, compact_grown, empty_for, offer_all};
+use crate::sending::send_before;
+use crate::serving::{close, compact_grown, hand_out_held, offer_all};
 use crate::waiting::{Unread, Waiting};
 use disk_model::Disk;
 use gateway::running::stands;
-use gateway::{Answer, Gateway, GatewayFault};
+use gateway::{Gateway, GatewayFault};
 use machine::laws::events_are_judged_once;
 use std::alloc::Global;
 use std::io::{Read, Write};
@@ -33,40 +33,33 @@ pub enum ReadOutcome {
     End,
 }
 
-/// Memory that is kept from read to read. What stands there means nothing to the next one.
-#[derive(Drop)]
-struct Room {
-    answers: Vec<(u64, Answer)>,
-    bodies: Vec<Vec<u8>>,
-}
-
-/// Offers the whole frames at the front of `waiting`, and writes their answers. Says how many there were.
+/// Hands out what the gateway holds, offers the whole frames at the front of `waiting`, and writes all these answers.
+/// Says how many frames there were.
 fn answer_front<P: Peer, D: Disk + Drop>(
     alloc: Global,
     peer: &mut P,
     gateway: &mut Gateway<D>,
     waiting: &mut Waiting,
-    answers: &mut Vec<(u64, Answer)>,
-    bodies: &mut Vec<Vec<u8>>,
 ) -> Result<u64, EdgeFault>
     requires stands { gateway.old.fallen ≡ false }
     requires sent { waiting.old.answered ≡ [] }
-    requires none { answers.old.items ≡ [] }
-    requires room { vec_len answers.old + length gateway.old.told.held ≤ vec_capacity answers.old }
+    requires none_held { waiting.old.held ≡ [] }
     ensures came { (handed : List (ℕ × Answer)) × (sent : List ℕ)
         × (hands : Hands P.went peer.old peer.new sent)
         × SettledAndSent D.honest D.moment D.left D.failed result gateway.old gateway.new
-        waiting.old.unanswered waiting.new.unanswered (handed ++ answers.new.items) sent
+        waiting.old.unanswered waiting.new.unanswered handed sent
         × SentBy result hands.turns }
-    ensures sent { OnOk result (waiting.new.answered ≡ []) }
-    ensures room { vec_len answers.new + length gateway.new.told.held ≤ vec_capacity answers.new }
 {
     stands(gateway);
-    let (count, halt) = offer_all(alloc, waiting, answers, bodies, gateway);
-    let closed = close(halt, waiting, answers, bodies, gateway);
-    send_behind(peer, waiting.answered(), answers.as_slice())?;
+    let former = match hand_out_held(alloc, gateway) {
+        Ok(former) => former,
+        Err(fault) => return Err(EdgeFault::Gateway(fault)),
+    };
+    gateway.held();
+    let (count, halt) = offer_all(waiting, gateway);
+    let closed = close(halt, waiting, gateway);
+    send_before(peer, former.as_slice(), waiting.answered())?;
     closed?;
-    waiting.forget_answered();
     Ok(count)
 }
 
@@ -76,10 +69,10 @@ fn answer_read<P: Peer, D: Disk + Drop>(
     peer: &mut P,
     gateway: &mut Gateway<D>,
     waiting: &mut Waiting,
-    room: &mut Room,
 ) -> Result<u64, EdgeFault>
     requires stands { gateway.old.fallen ≡ false }
     requires sent { waiting.old.answered ≡ [] }
+    requires none_held { waiting.old.held ≡ [] }
     ensures served { (sent : List ℕ) × (hands : Hands P.went peer.old peer.new sent)
         × FrontCame result gateway.old.told gateway.new.told
         waiting.old.unanswered waiting.new.unanswered sent
@@ -91,22 +84,10 @@ fn answer_read<P: Peer, D: Disk + Drop>(
     ensures why { IfErr result (λ e. Explains D.honest D.moment D.left D.failed e gateway.old
         gateway.new) }
     ensures stands { OnOk result (gateway.new.fallen ≡ false) }
-    ensures sent { OnOk result (waiting.new.answered ≡ []) }
     ensures no_failure { OnOk result (D.failed gateway.new.disk ≡ D.failed gateway.old.disk) }
     ensures grown { OnOk result (gateway.new.grown ≤ 1048576) }
 {
-    stands(gateway);
-    if empty_for(&mut room.answers, &mut room.bodies, gateway.held()).is_err() {
-        return Err(EdgeFault::Gateway(GatewayFault::NoMemory));
-    }
-    let count = answer_front(
-        alloc,
-        peer,
-        gateway,
-        waiting,
-        &mut room.answers,
-        &mut room.bodies,
-    )?;
+    let count = answer_front(alloc, peer, gateway, waiting)?;
     stands(gateway);
     events_are_judged_once();
     match compact_grown(gateway) {
@@ -121,10 +102,8 @@ fn read_once<P: Peer, D: Disk + Drop>(
     peer: &mut P,
     gateway: &mut Gateway<D>,
     waiting: &mut Waiting,
-    room: &mut Room,
 ) -> Result<ReadOutcome, EdgeFault>
     requires stands { gateway.old.fallen ≡ false }
-    requires sent { waiting.old.answered ≡ [] }
     requires cut { next waiting.old.unanswered ≡ Cut }
     ensures came { (got sent : List ℕ)
         × (asks : AsksOnce P.went peer.old peer.new got sent)
@@ -140,7 +119,6 @@ fn read_once<P: Peer, D: Disk + Drop>(
     ensures why { IfErr result (λ e. Explains D.honest D.moment D.left D.failed e gateway.old
         gateway.new) }
     ensures stands { OnOk result (gateway.new.fallen ≡ false) }
-    ensures sent { OnOk result (waiting.new.answered ≡ []) }
     ensures no_failure { OnOk result (D.failed gateway.new.disk ≡ D.failed gateway.old.disk) }
     ensures grown { IfOk result (λ outcome. (outcome ≢ ReadOutcome.End)
         → gateway.new.grown ≤ 1048576) }
@@ -158,7 +136,7 @@ fn read_once<P: Peer, D: Disk + Drop>(
         }
         return Err(EdgeFault::Truncated);
     }
-    match answer_read(alloc, peer, gateway, waiting, room) {
+    match answer_read(alloc, peer, gateway, waiting) {
         Ok(count) => Ok(ReadOutcome::More(count)),
         Err(fault) => Err(fault),
     }
@@ -213,13 +191,9 @@ pub fn run_with<P: Peer, D: Disk + Drop>(
     stands(gateway);
     events_are_judged_once();
     let mut waiting = Waiting::new(alloc);
-    let mut room = Room {
-        answers: Vec::new(alloc),
-        bodies: Vec::new(alloc),
-    };
     let mut count: u64 = 0;
     for _ in 0..u64::MAX {
-        match read_once(alloc, peer, gateway, &mut waiting, &mut room) {
+        match read_once(alloc, peer, gateway, &mut waiting) {
             Ok(ReadOutcome::More(more)) => {
                 gateway.facts();
                 count = sum(count, more);

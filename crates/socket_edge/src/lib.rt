@@ -8,20 +8,19 @@
 //! - `edge`: the run, one read after the other;
 //! - `peer`: whoever asks and is answered, and two streams as one peer;
 //! - `waiting`: the bytes that were read and aren't answered yet, and the answers in front of them;
-//! - `forwarding`: a packet that is answered in the bytes of its request: one that leaves at once, or any that has at
-//!   most 2,048 bytes;
+//! - `answering`: a request that the gateway takes where it lies, and that is answered in its own bytes;
 //! - `ahead`: among many sessions, a look at the next packets before they are taken;
 //! - `serving`: all whole frames at the front, offered in order;
-//! - `sending`: what stands in the bytes of the requests is written in one piece, and behind it, one by one, the frames
-//!   of answers that had no room there; for whoever has the answers alone all their frames are written in one piece;
+//! - `sending`: what stands in the bytes of the requests is written in one piece, behind the frames of answers that
+//!   were held when the run began; for whoever has the answers alone all their frames are written in one piece;
 //! - `fault`: why a run ends early;
 //! - `laws`: what follows from the definitions of `specs/Running`.
 #![tactic(auto)]
 
 mod ahead;
+mod answering;
 mod edge;
 mod fault;
-mod forwarding;
 pub mod laws;
 mod peer;
 mod sending;

@@ -1,5 +1,5 @@
-//! Writing the frames of answers: in one piece those that stand in bytes already, and behind them others, one by one;
-//! or all in one piece, for whoever has the answers alone.
+//! Writing the frames of answers: one by one those of answers that were held when a run began, and behind them in one
+//! piece those that stand in bytes already; or all in one piece, for whoever has the answers alone.
 ghost use Rattle.std.specs.Prelude.{◌≡◌, ◌++◌, OnOk, IfErr};
 ghost use Rattle.std.specs.Io.KnownBytes.{Appends};
 ghost use Rattle.frames.specs.Answers.{answer_body, frame_head, frame, frames};
@@ -113,24 +113,24 @@ pub fn send<W: Write>(writer: &mut W, answers: &[(u64, Answer)]) -> Result<(), E
     send_frames(&mut peer, answers)
 }
 
-/// Writes the bytes, and then the frames of the answers, in order.
+/// Writes the frames of the answers, and then the bytes, in order.
 ///
 /// # Errors
 ///
 /// `Output` where a write fails or takes no byte. A beginning of them is written then, also a part of a frame.
-pub(crate) fn send_behind<P: Peer>(
+pub(crate) fn send_before<P: Peer>(
     peer: &mut P,
-    bytes: &[u8],
     answers: &[(u64, Answer)],
+    bytes: &[u8],
 ) -> Result<(), EdgeFault>
-    ensures ok { OnOk result (HandsAll P.went peer.old peer.new (bytes.now
-        ++ frames answers.now)) }
+    ensures ok { OnOk result (HandsAll P.went peer.old peer.new (frames answers.now
+        ++ bytes.now)) }
     ensures err { IfErr result (λ e. (e ≡ EdgeFault.Output)
-        × HandsFront P.went peer.old peer.new (bytes.now
-        ++ frames answers.now)) }
+        × HandsFront P.went peer.old peer.new (frames answers.now
+        ++ bytes.now)) }
 {
-    write_out(peer, bytes)?;
-    send_frames(peer, answers)
+    send_frames(peer, answers)?;
+    write_out(peer, bytes)
 }
 
 /// Writes the frames of the answers, in order: in one piece, or part by part where memory for that is refused.

@@ -1,30 +1,26 @@
 //! The bytes that were read and aren't answered yet, and in front of them, in the same memory, the frames of answers to
-//! those that were. The next read goes right behind them, into memory that is kept.
+//! those that were: first those that were handed out, and then those that are held. The next read goes right behind
+//! them, into memory that is kept.
 //!
 //! Memory is cleared before it is first read into, and a run may be of one packet. So the first reads ask for 16,384
 //! bytes, which hold a turn of short packets, and all behind one that came full ask for 65,536.
 //!
-//! `read` puts what comes behind the bytes that wait. A frame leaves their front by `forward_next` and `take_next`,
-//! which have its packet taken where it lies (`forwarding::forward_frame` and `answer_in_place`) and make its answer of
-//! it, or by `skip`, where `serving` offers a copy of it; then `put` writes the answer where the request stood
-//! (`frames::fill_frames`), if there is room there. `answered` is what stands here to be written:
-//! `forget_answered` lets it go behind that. `cut_answered` takes the frames of held answers away: where their changes
-//! could not be synced, or where they make way for a frame that is offered as a copy (`serving::make_way`).
-ghost use Rattle.std.specs.Prelude.{◌≡◌, ◌≢◌, ◌+◌, ◌-◌, ◌<◌, ◌≤◌, ◌++◌, ◌∷◌, [], ℕ, List, IfNone, IfErr, IfOk, IfSome, OnOk, OnErr, length, take, drop, true, false};
-ghost use Rattle.gateway.specs.Running.{CarriesOn};
+//! `read` lets the answers go, and puts what comes behind the bytes that wait. `take_next` has the gateway take the
+//! request at their front where it lies (`answering::answer_request`), and moves its answer's frame behind the others.
+//! `release` says that the held answers are handed out. `answered` is what may be written.
+ghost use Rattle.std.specs.Prelude.{◌≡◌, ◌≢◌, ◌+◌, ◌<◌, ◌≤◌, ◌++◌, ◌∷◌, [], ℕ, List, IfErr, IfOk, OnOk, OnErr, length, take, drop, true, false};
+ghost use Rattle.gateway.specs.Running.{BreaksOff, CarriesOn};
 ghost use Rattle.machine.specs.declared.event.Answer.{Answer};
 ghost use Rattle.machine.specs.declared.event.Event.{Event};
-ghost use Rattle.machine.specs.declared.event.What.TheVariants.{Packet};
-ghost use Rattle.frames.specs.Answers.{frame, frames};
-ghost use Rattle.frames.specs.Requests.{next, Whole};
-ghost use Rattle.socket_edge.specs.Serving.{TakenInPlace};
+ghost use Rattle.frames.specs.Answers.{frames};
+ghost use Rattle.frames.specs.Requests.{IsFront, next, Whole};
 ghost use Rattle.socket_edge.specs.Turns.{Gave, ReadFailed};
 
-use crate::forwarding::{Placed, answer_in_place, forward_frame};
+use crate::answering::answer_request;
 use crate::peer::Peer;
 use disk_model::Disk;
-use frames::{Head, Kind, LONGEST_PACKET, REQUEST_HEAD, announces_packet, fill_frames, read_head};
-use gateway::{Answer, Gateway, Iface, LONGEST_COPY};
+use frames::{Front, Kind};
+use gateway::{Gateway, GatewayFault};
 use std::alloc::{AllocError, Global};
 use std::marker::Model;
 
@@ -47,8 +43,10 @@ pub enum Unread {
 #[derive(Drop)]
 pub struct Waiting {
     bytes: Vec<u8>,
-    /// How many bytes of answers stand at the front.
+    /// Where the frames of answers that were handed out end, and those of held answers begin.
     answered: usize,
+    /// Where these end.
+    held: usize,
     /// Where the bytes that wait begin.
     start: usize,
     /// Where they end.
@@ -65,22 +63,23 @@ impl Model for Waiting {
 
     ghost view = { λ w. record {
       answered = take w.answered w.bytes.items;
+      held = drop w.answered (take w.held w.bytes.items);
       unanswered = drop w.start (take w.end w.bytes.items);
-      reach = w.end;
     } };
 
-    ghost invariant = { λ w. (w.answered ≤ w.start) × (w.start ≤ w.end)
+    ghost invariant = { λ w. (w.answered ≤ w.held) × (w.held ≤ w.start) × (w.start ≤ w.end)
         × (w.end ≤ length w.bytes.items) × (0 < w.asks) × (w.asks ≤ 65536) };
 }
 
 impl Waiting {
     /// No bytes.
     pub fn new(alloc: Global) -> Waiting
-        ensures { result ≡ record { answered = []; unanswered = []; reach = 0 } }
+        ensures { result ≡ record { answered = []; held = []; unanswered = [] } }
     {
         Waiting {
             bytes: Vec::new(alloc),
             answered: 0,
+            held: 0,
             start: 0,
             end: 0,
             asks: FIRST_READ,
@@ -88,178 +87,97 @@ impl Waiting {
     }
 
     /// The bytes that wait: they were read and aren't answered yet.
+    #[inline(always)]
     pub fn unanswered(&self) -> &[u8]
         ensures { result.now ≡ self.now.unanswered }
     {
         &self.bytes.as_slice()[self.start..self.end]
     }
 
-    /// The bytes of the answers.
+    /// The frames of the answers that were handed out.
     pub fn answered(&self) -> &[u8]
         ensures { result.now ≡ self.now.answered }
     {
         &self.bytes.as_slice()[..self.answered]
     }
 
-    /// Whether a whole frame stands at the front that `Gateway::offer_in_place` never takes: a load, a moment, or a
-    /// packet of more than 2,048 bytes.
+    /// Has the gateway take the request at the front, of this kind, this moment in seconds and so many bytes. The frame
+    /// of its answer stands behind the others then.
+    ///
+    /// # Errors
+    ///
+    /// The gateway's fault. The request isn't taken; answers that were held may be handed out.
     #[inline(always)]
-    pub fn wants_copy(&self) -> bool
-        ensures { result ≡ true → (event : Event) × (rest : List ℕ)
-            × (next self.now.unanswered ≡ Whole event rest) }
-    {
-        let bytes = self.unanswered();
-        if announces_packet(bytes, LONGEST_COPY) {
-            return false;
-        }
-        match read_head(bytes) {
-            Head::Frame(_, _, len) => bytes.len() >= REQUEST_HEAD + len as usize,
-            Head::Cut | Head::Bad(_) => false,
-        }
-    }
-
-    /// Takes the first `count` bytes that wait away.
-    pub fn skip(&mut self, count: usize)
-        requires { count ≤ length self.old.unanswered }
-        ensures { self.new ≡ record self.old { unanswered = drop count self.old.unanswered } }
-    {
-        self.start += count;
-    }
-
-    /// Puts the frames of the answers behind the others, if there is room for all of them in front of the bytes that
-    /// wait. Says whether there was.
-    pub fn put(&mut self, answers: &[(u64, Answer)]) -> bool
-        ensures put { result ≡ true
-            → self.new ≡ record self.old { answered = self.old.answered ++ frames answers.now } }
-        ensures full { result ≡ false → self.new ≡ self.old }
-        ensures fits { length self.old.answered + length (frames answers.now)
-            + length self.old.unanswered ≤ self.old.reach
-            → result ≡ true }
-    {
-        match fill_frames(
-            &mut self.bytes.as_mut_slice()[self.answered..self.start],
-            answers,
-        ) {
-            Some(count) => {
-                self.answered += count;
-                true
-            }
-            None => false,
-        }
-    }
-
-    // The packet at the front, if it has at most `most` bytes and its whole frame stands there: its interface, its
-    // moment in seconds, and how many bytes the frame has.
-    #[inline(always)]
-    fn front_packet(&self, most: usize) -> Option<(Iface, u64, usize)>
-        ensures some { IfSome result (λ front. next self.now.unanswered
-            ≡ Whole (record {
-              moment = front.1;
-              what = Packet front.0 (take (front.2 - 14) (drop 14 self.now.unanswered));
-            }) (drop front.2 self.now.unanswered)) }
-        ensures whole { IfSome result (λ front. front.2 ≤ length self.now.unanswered) }
-        ensures size { IfSome result (λ front. (14 ≤ front.2) × (front.2 ≤ 14 + 65535)) }
-    {
-        let bytes = self.unanswered();
-        if !announces_packet(bytes, most) {
-            return None;
-        }
-        let Head::Frame(Kind::Packet(iface), moment, len) = read_head(bytes) else {
-            return None;
-        };
-        let len = REQUEST_HEAD + len as usize;
-        if bytes.len() < len {
-            return None;
-        }
-        Some((iface, moment, len))
-    }
-
-    /// Offers the packet at the front, where a whole frame of one stands there. If it leaves at once, the frame becomes
-    /// that of its answer and stands behind the other answers; otherwise nothing has changed. Says whether it left.
-    pub fn forward_next<D: Disk + Drop>(&mut self, gateway: &mut Gateway<D>) -> bool
+    pub fn take_next<D: Disk + Drop>(
+        &mut self,
+        kind: Kind,
+        moment: u64,
+        size: usize,
+        gateway: &mut Gateway<D>,
+    ) -> Result<(), GatewayFault>
         requires stands { gateway.old.fallen ≡ false }
-        ensures left { result ≡ true → (event : Event) × (answer : ℕ × Answer)
+        requires in_place { gateway.old.in_place ≡ true }
+        requires front { IsFront (Front.Whole kind moment size) self.old.unanswered }
+        requires held { self.old.held ≡ frames gateway.old.told.held }
+        ensures ok { OnOk result ((event : Event) × (handed : List (ℕ × Answer))
             × (next self.old.unanswered ≡ Whole event self.new.unanswered)
-            × (self.new.answered ≡ self.old.answered ++ frame answer)
+            × (self.new.answered ≡ self.old.answered ++ frames handed)
             × ((before : List (ℕ × Answer)) → CarriesOn D.honest D.moment D.left D.failed
-            gateway.old gateway.new (event ∷ []) before (before ++ answer ∷ [])) }
-        ensures stays { result ≡ false → (self.new ≡ self.old) × (gateway.new ≡ gateway.old) }
-        ensures held { gateway.new.told.held ≡ gateway.old.told.held }
-        ensures stands { gateway.new.fallen ≡ false }
+            gateway.old gateway.new (event ∷ []) before (before ++ handed))) }
+        ensures err { IfErr result (λ e. (event : Event) × (rest : List ℕ)
+            × (handed : List (ℕ × Answer))
+            × (next self.old.unanswered ≡ Whole event rest)
+            × (self.new.answered ≡ self.old.answered ++ frames handed)
+            × ((before : List (ℕ × Answer)) → BreaksOff D.honest D.moment D.left D.failed
+            gateway.old gateway.new (event ∷ []) before (before ++ handed) e)) }
+        ensures held { self.new.held ≡ frames gateway.new.told.held }
+        ensures stands { OnOk result (gateway.new.fallen ≡ false) }
+        ensures in_place { gateway.new.in_place ≡ true }
     {
-        let Some((iface, moment, len)) = self.front_packet(LONGEST_PACKET) else {
-            return false;
-        };
-        let (bytes, end) = (self.bytes.as_mut_slice(), self.start + len);
-        if !forward_frame(&mut bytes[self.start..end], moment, iface, gateway) {
-            return false;
+        let (bytes, end) = (self.bytes.as_mut_slice(), self.start + size);
+        match answer_request(&mut bytes[self.start..end], kind, moment, gateway) {
+            Ok(len) => {
+                let (last, behind) = (self.held, self.held + len);
+                move_down(bytes, self.start, len, last);
+                self.answered = held_from(gateway.held(), self.answered, last, behind);
+                self.held = behind;
+                self.start = end;
+                Ok(())
+            }
+            Err(fault) => {
+                self.answered = held_from(gateway.held(), self.answered, self.answered, self.held);
+                Err(fault)
+            }
         }
-        move_down(bytes, self.start, len, self.answered);
-        self.answered += len;
-        self.start = end;
-        true
     }
 
-    /// Has the gateway take the packet at the front, where a whole frame of one of at most 2,048 bytes stands there. If
-    /// it does, the frame of its answer stands behind the other answers, also where the answer is held; otherwise
-    /// nothing has changed.
-    #[inline(always)]
-    pub fn take_next<D: Disk + Drop>(&mut self, gateway: &mut Gateway<D>) -> Option<Placed>
-        requires stands { gateway.old.fallen ≡ false }
-        ensures some { IfSome result (λ placed. (event : Event) × (answer : ℕ × Answer)
-            × (next self.old.unanswered ≡ Whole event self.new.unanswered)
-            × (self.new.answered ≡ self.old.answered ++ frame answer)
-            × TakenInPlace D.honest D.moment D.left D.failed placed.held gateway.old gateway.new
-            event answer) }
-        ensures none { IfNone result ((self.new ≡ self.old) × (gateway.new ≡ gateway.old)) }
-        ensures stands { gateway.new.fallen ≡ false }
+    /// Says that the held answers are handed out.
+    pub fn release(&mut self)
+        ensures { self.new ≡ record self.old {
+          answered = self.old.answered ++ self.old.held;
+          held = [];
+        } }
     {
-        let Some((iface, moment, len)) = self.front_packet(LONGEST_COPY) else {
-            return None;
-        };
-        let (bytes, end) = (self.bytes.as_mut_slice(), self.start + len);
-        let Some(placed) = answer_in_place(&mut bytes[self.start..end], moment, iface, gateway)
-        else {
-            return None;
-        };
-        move_down(bytes, self.start, placed.size, self.answered);
-        self.answered += placed.size;
-        self.start = end;
-        Some(placed)
+        self.answered = self.held;
     }
 
-    /// Lets the bytes of the answers behind the first `len` go.
-    pub fn cut_answered(&mut self, len: usize)
-        requires { len ≤ length self.old.answered }
-        ensures { self.new ≡ record self.old { answered = take len self.old.answered } }
-    {
-        self.answered = len;
-    }
-
-    /// Lets the bytes of the answers go.
-    pub fn forget_answered(&mut self)
-        ensures { self.new ≡ record self.old { answered = [] } }
-    {
-        self.answered = 0;
-    }
-
-    /// Asks once for more, at most 65,536 bytes, puts what comes behind the others, and says how many bytes came; none
-    /// where the input has ended.
+    /// Lets the answers go, asks once for more, at most 65,536 bytes, puts what comes behind the bytes that wait, and
+    /// says how many bytes came; none where the input has ended.
     ///
     /// # Errors
     ///
     /// `NoMemory`: the peer wasn't asked. `Failed`: it gave nothing.
     pub fn read<P: Peer>(&mut self, peer: &mut P) -> Result<usize, Unread>
-        requires { self.old.answered ≡ [] }
         ensures ok { IfOk result (λ n. (got : List ℕ)
             × P.went peer.old peer.new (Gave got ∷ [])
-            × (self.new ≡ record self.old {
+            × (self.new ≡ record {
+              answered = [];
+              held = [];
               unanswered = self.old.unanswered ++ got;
-              reach = length self.old.unanswered + n;
             })
             × (n ≡ length got) × (n ≤ 65536)) }
         ensures end { IfOk result (λ n. n ≡ 0 → P.ended peer.new) }
-        ensures err { OnErr result (self.new ≡ record self.old { reach = length self.old.unanswered }) }
+        ensures err { OnErr result (self.new ≡ record self.old { answered = []; held = [] }) }
         ensures unasked { IfErr result (λ e. e ≡ Unread.NoMemory → peer.new ≡ peer.old) }
         ensures failed { IfErr result (λ e. e ≡ Unread.Failed
             → P.went peer.old peer.new (ReadFailed ∷ [])) }
@@ -278,11 +196,12 @@ impl Waiting {
         }
     }
 
-    /// Moves the bytes that wait to the front.
+    /// Lets the answers go, and moves the bytes that wait to the front.
     fn move_to_front(&mut self)
-        requires { self.old.answered ≡ [] }
-        ensures { self.new ≡ record self.old { reach = length self.old.unanswered } }
+        ensures { self.new ≡ record self.old { answered = []; held = [] } }
     {
+        self.answered = 0;
+        self.held = 0;
         if self.start > 0 {
             self.bytes
                 .as_mut_slice()
@@ -290,6 +209,24 @@ impl Waiting {
             self.end -= self.start;
             self.start = 0;
         }
+    }
+}
+
+/// Where the frames of held answers begin behind a call of the gateway that leaves so many held: at `end`, behind all
+/// frames, if none is; at the last frame, if its answer alone is; and otherwise where they began before.
+#[inline(always)]
+fn held_from(count: usize, before: usize, last: usize, end: usize) -> usize
+    requires last { before ≤ last }
+    requires end { last ≤ end }
+    ensures none { count ≡ 0 → result ≡ end }
+    ensures one { count ≡ 1 → result ≡ last }
+    ensures more { 1 < count → result ≡ before }
+    ensures within { result ≤ end }
+{
+    match count {
+        0 => end,
+        1 => last,
+        _ => before,
     }
 }
 

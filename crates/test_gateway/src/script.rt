@@ -3,17 +3,18 @@
 //! A line asks, and the lines with `=` behind it are all that is answered:
 //! - an event (module `words`) is offered: `now 3 ticked`, `held 1`, or the fault, as `held-full`; the event then came
 //!   back as it was;
-//! - `forward` and the event of a packet: the packet is handed in where it lies: `3 wan 4500..`, or `none`, and then it
-//!   is as it was;
+//! - `place` and an event: it is taken where it lies: `now 3 wan 4500..`, `held 4 loaded`, or the fault; the event then
+//!   came back as it was;
 //! - `flush`: a line for each answer with its number, or the fault; `compact`: `done`, or the fault;
 //! - `held`, `grown`: the number; `rules`: the text; `sessions`: a line for each; `migrated`: whether the opening made a
 //!   file anew since the active one was of a former version.
 use crate::shared::{
-    Answer, Bytes, Event, GatewayFault, Given, SIDES, Sides, TWO_FLUSHED, TWO_HELD, Trials, What,
-    disk, left_of, opened_as,
+    Answer, Bytes, Event, GatewayFault, Given, GivenInPlace, Iface, SIDES, Sides, TWO_FLUSHED,
+    TWO_HELD, Trials, What, disk, left_of, opened_as,
 };
 use crate::words::{
     event_line, events, given_line, handed_line, put_squeezed, read_event, session_line, squeezed,
+    told_line,
 };
 use std::alloc::{AllocError, Global};
 use std::test::Fail;
@@ -58,19 +59,72 @@ pub fn run(
     gateway.run(events)
 }
 
-/// Hands a packet in where it lies. It leaves there, or comes back as an event; so does any other event.
-pub fn forward(gateway: &mut Trials, event: Event) -> Result<(u64, Answer), Event> {
-    let Event { moment, what } = event;
-    let What::Packet(iface, packet) = what else {
-        return Err(Event { moment, what });
-    };
+/// What became of an event that was taken where it lies: whether its answer is held, its number and its answer.
+pub type Told = (bool, u64, Answer);
+
+fn told(taken: GivenInPlace, packet: Bytes) -> Told {
+    match taken {
+        GivenInPlace::Now(number, fate) => (false, number, fate.answer(packet)),
+        GivenInPlace::Held(number, fate) => (true, number, fate.answer(packet)),
+    }
+}
+
+fn take_packet(
+    gateway: &mut Trials,
+    moment: u64,
+    iface: Iface,
+    packet: Bytes,
+) -> Result<Told, (Event, GatewayFault)> {
     let mut bytes = packet.into_vec();
-    match gateway.forward(moment, iface, &mut bytes) {
-        Some((number, out)) => Ok((number, Answer::Forward(out, Bytes::of(bytes)))),
-        None => Err(Event {
-            moment,
-            what: What::Packet(iface, Bytes::of(bytes)),
-        }),
+    if bytes.len() > 65535 {
+        let what = What::Packet(iface, Bytes::of(bytes));
+        return Err((Event { moment, what }, GatewayFault::NoMemory));
+    }
+    match gateway.take_packet(moment, iface, &mut bytes) {
+        Ok(taken) => Ok(told(taken, Bytes::of(bytes))),
+        Err(fault) => {
+            let what = What::Packet(iface, Bytes::of(bytes));
+            Err((Event { moment, what }, fault))
+        }
+    }
+}
+
+fn take_text(
+    alloc: Global,
+    gateway: &mut Trials,
+    moment: u64,
+    text: Bytes,
+) -> Result<Told, (Event, GatewayFault)> {
+    let what = What::Load(text);
+    match gateway.take_event(Event { moment, what }) {
+        Ok(taken) => Ok(told(taken, Bytes::of(Vec::new(alloc)))),
+        Err(refused) => Err(refused),
+    }
+}
+
+fn take_moment(
+    alloc: Global,
+    gateway: &mut Trials,
+    moment: u64,
+) -> Result<Told, (Event, GatewayFault)> {
+    let what = What::Moment;
+    match gateway.take_event(Event { moment, what }) {
+        Ok(taken) => Ok(told(taken, Bytes::of(Vec::new(alloc)))),
+        Err(refused) => Err(refused),
+    }
+}
+
+/// Has an event taken, and told at once. With a fault it comes back as it is then.
+pub fn take(
+    alloc: Global,
+    gateway: &mut Trials,
+    event: Event,
+) -> Result<Told, (Event, GatewayFault)> {
+    let Event { moment, what } = event;
+    match what {
+        What::Packet(iface, packet) => take_packet(gateway, moment, iface, packet),
+        What::Load(text) => take_text(alloc, gateway, moment, text),
+        What::Moment => take_moment(alloc, gateway, moment),
     }
 }
 
@@ -135,7 +189,7 @@ fn ask_event(
     }
 }
 
-fn ask_forward(
+fn ask_place(
     alloc: Global,
     out: &mut String,
     gateway: &mut Trials,
@@ -144,12 +198,9 @@ fn ask_forward(
     let Some(event) = read_event(alloc, line) else {
         return put_line(out, "no event");
     };
-    if !matches!(&event.what, What::Packet(..)) {
-        return put_line(out, "no packet");
-    }
-    match forward(gateway, event) {
-        Ok((number, answer)) => put_made(out, handed_line(alloc, number, &answer)),
-        Err(event) => put_back(alloc, out, &event, line, "none"),
+    match take(alloc, gateway, event) {
+        Ok((held, number, answer)) => put_made(out, told_line(alloc, held, number, &answer)),
+        Err((event, fault)) => put_back(alloc, out, &event, line, name(fault)),
     }
 }
 
@@ -204,8 +255,8 @@ fn ask(
         "rules" => ask_rules(out, gateway),
         "migrated" => ask_migrated(out, gateway),
         "sessions" => ask_sessions(alloc, out, gateway),
-        _ => match line.strip_prefix("forward ") {
-            Some(line) => ask_forward(alloc, out, gateway, line),
+        _ => match line.strip_prefix("place ") {
+            Some(line) => ask_place(alloc, out, gateway, line),
             None => ask_event(alloc, out, gateway, line),
         },
     }

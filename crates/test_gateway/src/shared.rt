@@ -1,7 +1,8 @@
 //! The gateway, and what several tests begin with.
 use disk_model::FileId;
 pub use gateway::{
-    Answer, Bytes, Event, Gateway, GatewayFault, Given, Iface, OpenFault, Session, What,
+    Answer, Bytes, Event, Gateway, GatewayFault, Given, GivenInPlace, Iface, OpenFault, Session,
+    What,
 };
 use machine::Core;
 use packet::{Bounds, Filtering, Prefix};

@@ -1,6 +1,6 @@
 //! How far a gateway comes whose disk stops or fails, and whether it answers what the machine in memory does.
 use crate::model::{Lasting, Model, is_same};
-use crate::script::{compact, flush, offer};
+use crate::script::{compact, flush, offer, take};
 use crate::shared::{
     Answer, Event, GatewayFault, Given, OpenFault, Sides, Trials, Trouble, disk, expect_trouble,
     open, opened_as, some_bounds,
@@ -86,7 +86,7 @@ fn is_next(wanted: &[Answer], told: &mut Told, number: u64, answer: &Answer) -> 
 }
 
 /// The answers come in order, and are the machine's.
-pub fn hear(wanted: &[Answer], told: &mut Told, number: u64, answer: &Answer) -> Result<(), Fail> {
+fn hear(wanted: &[Answer], told: &mut Told, number: u64, answer: &Answer) -> Result<(), Fail> {
     if is_next(wanted, told, number, answer) {
         return Ok(());
     }
@@ -119,6 +119,21 @@ pub fn do_offer(
     match offer(gateway, event) {
         Ok(Given::Now(number, answer)) => hear(model.answers.as_slice(), told, number, &answer),
         Ok(Given::Held(_)) => Ok(()),
+        Err((_, fault)) => Err(fault.into()),
+    }
+}
+
+/// Has an event taken where it lies, and hears what is answered at once. One that is held is heard when it is flushed.
+pub fn do_take(
+    alloc: Global,
+    model: &Model,
+    gateway: &mut Trials,
+    told: &mut Told,
+    event: Event,
+) -> Result<(), Fail> {
+    match take(alloc, gateway, event) {
+        Ok((false, number, answer)) => hear(model.answers.as_slice(), told, number, &answer),
+        Ok((true, ..)) => Ok(()),
         Err((_, fault)) => Err(fault.into()),
     }
 }

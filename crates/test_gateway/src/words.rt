@@ -212,6 +212,20 @@ fn now_line(alloc: Global, number: u64, answer: &Answer) -> Result<String, Alloc
     format!(in alloc; "now {handed}")
 }
 
+/// What became of an event that was taken where it lies: `now 3 ticked`, `held 1 loaded`.
+pub fn told_line(
+    alloc: Global,
+    held: bool,
+    number: u64,
+    answer: &Answer,
+) -> Result<String, AllocError> {
+    if !held {
+        return now_line(alloc, number, answer);
+    }
+    let handed = handed_line(alloc, number, answer)?;
+    format!(in alloc; "held {handed}")
+}
+
 /// What became of an event: `now 3 ticked`, `held 1`.
 pub fn given_line(alloc: Global, given: &Given) -> Result<String, AllocError> {
     match given {

@@ -1,12 +1,11 @@
 //! The gateway over a disk that is stopped, or fails, at each of its calls, and opened again.
 use crate::drawn::events::{EVENTS, Next, Number, behind, event, numbers, sides};
 use crate::model::{Lasting, Model};
-use crate::script::forward;
 use crate::shared::{
     CHOICES, Event, FIRST_FRESH, SIDES, Sides, Trials, Trouble, close, crashed, disk_of, machine_of,
 };
 use crate::told::{
-    Told, begun, do_compact, do_flush, do_offer, hear, not_begun, opened_again, taken, with_disk,
+    Told, begun, do_compact, do_flush, do_offer, do_take, not_begun, opened_again, taken, with_disk,
 };
 use crate::words::hex;
 use machine::Core;
@@ -72,18 +71,19 @@ fn script_of(alloc: Global, seed: u64, file: &str) -> Result<Script, Fail> {
     })
 }
 
-// A packet is handed in where it lies first.
+// Each second event is taken where it lies.
 fn do_event(
+    alloc: Global,
     model: &Model,
     gateway: &mut Trials,
     told: &mut Told,
     event: Event,
 ) -> Result<(), Fail> {
     told.offered = told.offered.saturating_add(1);
-    match forward(gateway, event) {
-        Ok((number, answer)) => hear(model.answers.as_slice(), told, number, &answer),
-        Err(event) => do_offer(model, gateway, told, event),
+    if told.offered % 2 == 0 {
+        return do_take(alloc, model, gateway, told, event);
     }
+    do_offer(model, gateway, told, event)
 }
 
 fn go_behind(
@@ -112,7 +112,7 @@ fn do_number(
 ) -> Result<(), Fail> {
     let pool = script.sides.pool.len();
     let event = event(alloc, place, number, pool).ok_or("no memory")?;
-    do_event(&script.model, gateway, told, event)?;
+    do_event(alloc, &script.model, gateway, told, event)?;
     go_behind(&script.model, gateway, told, number)
 }
 

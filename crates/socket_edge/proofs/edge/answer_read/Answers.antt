@@ -1,24 +1,9 @@
-use Rattle.std.proofs.Common.{[], ◌++◌, refl}
+use Rattle.std.proofs.Common.{[], refl}
 use Rattle.std.proofs.lemmas.Result.{err_from_is_err_and}
 use Rattle.socket_edge.specs.Running.{events_in}
-use Rattle.socket_edge.proofs.Talks.{handed-none}
-use Rattle.socket_edge.proofs.Answers.{AnsweredFirst-nothing}
 use Rattle.socket_edge.proofs.Closing.{served, served-fares, served-no_failure, not_compacted}
 use Rattle.socket_edge.proofs.Stopping.{by-end, compacted-by, compacted-fares, stopped-fares}
-use Rattle.socket_edge.proofs.Tending.{idle-fares}
 use Rattle.socket_edge.proofs.edge.answer_read.Goals as goal
-
-pub returns-then-is_err-clause-served : goal.returns-then-is_err-clause-served
-returns-then-is_err-clause-served g c =
-    let f = idle-fares g.D.Disk.honest g.D.Disk.moment g.D.Disk.left g.D.Disk.seen g.D.Disk.failed g.met.D.Disk.reads g.met.D.Disk.earlier c.args.gateway.now c.stands.ensures (events_in c.args.waiting.now.unanswered) in
-    let h = handed-none g.P.Peer.went g.met.P.Peer.still c.args.peer.now in (
-      [],
-      h.0,
-      AnsweredFirst-nothing c.args.gateway.now.told (events_in c.args.waiting.now.unanswered),
-      f,
-      by-end g.D.Disk.honest g.D.Disk.moment g.D.Disk.left g.met.D.Disk.earlier c.args.gateway.now c.args.gateway.now (events_in c.args.waiting.now.unanswered) [] f,
-      h.1,
-    )
 
 pub returns-in_err-count-clause-served : goal.returns-in_err-count-clause-served
 returns-in_err-count-clause-served g c =
@@ -39,7 +24,7 @@ returns-in-Ok-clause-served g c =
     let e = c.in-Ok.ensures in
     let bytes = c.args.waiting.now.unanswered in
     let rest = c.answer_front.new.waiting.unanswered in
-    let out = a.0 ++ c.answer_front.new.answers.items in
+    let out = a.0 in
     let old = c.args.gateway.now in
     let mid = c.answer_front.new.gateway in
     let new = c.compact_grown.new.gateway in (
@@ -48,14 +33,14 @@ returns-in-Ok-clause-served g c =
       served g.D.Disk.honest g.D.Disk.moment g.D.Disk.left g.D.Disk.seen g.D.Disk.failed g.met.D.Disk.reads g.met.D.Disk.earlier old mid new bytes rest c.in_ok-count.count out out a.1 a.3 (e.ok out) refl e.none,
       served-fares g.D.Disk.honest g.D.Disk.moment g.D.Disk.left g.D.Disk.seen g.D.Disk.failed g.met.D.Disk.reads g.met.D.Disk.earlier old mid new bytes rest c.in_ok-count.count out out a.1 a.3 (e.ok out) refl e.none,
       compacted-by g.D.Disk.honest g.D.Disk.moment g.D.Disk.left g.met.D.Disk.earlier g.D.Disk.seen g.D.Disk.failed g.met.D.Disk.reads c.events_are_judged_once.ensures old mid new bytes rest c.in_ok-count.count out a.1 a.3
-          (compacted-fares g.D.Disk.honest g.D.Disk.moment g.D.Disk.left g.met.D.Disk.earlier g.D.Disk.seen g.D.Disk.failed g.met.D.Disk.reads mid new (e.ok []) c.stands-2.ensures e.none),
+          (compacted-fares g.D.Disk.honest g.D.Disk.moment g.D.Disk.left g.met.D.Disk.earlier g.D.Disk.seen g.D.Disk.failed g.met.D.Disk.reads mid new (e.ok []) c.stands.ensures e.none),
       a.4,
     )
 
 pub returns-in-Ok-clause-no_failure : goal.returns-in-Ok-clause-no_failure
 returns-in-Ok-clause-no_failure g c =
     let a = c.in_ok-count.ensures.came in
-    let out = a.0 ++ c.answer_front.new.answers.items in
+    let out = a.0 in
     served-no_failure g.D.Disk.honest g.D.Disk.moment g.D.Disk.left g.D.Disk.seen g.D.Disk.failed g.met.D.Disk.reads g.met.D.Disk.earlier c.args.gateway.now c.answer_front.new.gateway c.compact_grown.new.gateway c.args.waiting.now.unanswered c.answer_front.new.waiting.unanswered c.in_ok-count.count
     out out a.1 a.3 (c.in-Ok.ensures.ok out)
 
@@ -65,7 +50,7 @@ returns-in-Err-clause-served g c =
     let e = c.in-Err.ensures in
     let bytes = c.args.waiting.now.unanswered in
     let rest = c.answer_front.new.waiting.unanswered in
-    let out = a.0 ++ c.answer_front.new.answers.items in
+    let out = a.0 in
     let old = c.args.gateway.now in
     let mid = c.answer_front.new.gateway in
     let new = c.compact_grown.new.gateway in
@@ -75,7 +60,7 @@ returns-in-Err-clause-served g c =
       is.0,
       is.1,
       compacted-by g.D.Disk.honest g.D.Disk.moment g.D.Disk.left g.met.D.Disk.earlier g.D.Disk.seen g.D.Disk.failed g.met.D.Disk.reads c.events_are_judged_once.ensures old mid new bytes rest c.in_ok-count.count out a.1 a.3
-          (stopped-fares g.D.Disk.honest g.D.Disk.moment g.D.Disk.left g.met.D.Disk.earlier g.D.Disk.seen g.D.Disk.failed g.met.D.Disk.reads mid new c.in-Err.fault (e.err []) c.stands-2.ensures e.none),
+          (stopped-fares g.D.Disk.honest g.D.Disk.moment g.D.Disk.left g.met.D.Disk.earlier g.D.Disk.seen g.D.Disk.failed g.met.D.Disk.reads mid new c.in-Err.fault (e.err []) c.stands.ensures e.none),
       a.4,
     )
 
@@ -83,7 +68,7 @@ pub returns-in-Err-clause-why : goal.returns-in-Err-clause-why
 returns-in-Err-clause-why g c =
     let a = c.in_ok-count.ensures.came in
     let e = c.in-Err.ensures in
-    let out = a.0 ++ c.answer_front.new.answers.items in
+    let out = a.0 in
     let is = not_compacted g.D.Disk.honest g.D.Disk.moment g.D.Disk.left g.D.Disk.seen g.D.Disk.failed g.met.D.Disk.reads g.met.D.Disk.earlier c.args.gateway.now c.answer_front.new.gateway c.compact_grown.new.gateway c.args.waiting.now.unanswered c.answer_front.new.waiting.unanswered c.in_ok-count.count
     out out a.1 c.in-Err.fault a.3 (e.err out) refl e.none in
     is.2

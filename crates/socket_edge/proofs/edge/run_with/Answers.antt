@@ -1,5 +1,4 @@
-use Rattle.std.proofs.Common.{◌≡◌, ◌+◌, [], ◌++◌, ℕ, List, Ok, Err, inl, inr, refl, arith, ap, sym, subst, ◌∙◌}
-use Rattle.socket_edge.specs.Exchange.{Exchange}
+use Rattle.std.proofs.Common.{◌≡◌, ◌+◌, [], ◌++◌, ℕ, List, Ok, Err, inl, inr, refl, arith, sym, subst, ◌∙◌}
 use Rattle.socket_edge.specs.Running.{AllAnswered, Answered, EndsBy, Fares, TurnsEnd, events_in}
 use Rattle.socket_edge.specs.Turns.{Gave}
 use Rattle.socket_edge.proofs.Stopping.{stops-nil, walked-first, walked-then}
@@ -32,7 +31,6 @@ loop-init g c = (
   walked-first g.D.Disk.honest g.D.Disk.moment g.D.Disk.left g.met.D.Disk.earlier g.P.Peer.went g.met.P.Peer.still c.args.gateway.now c.args.peer.now
       (idle-fares g.D.Disk.honest g.D.Disk.moment g.D.Disk.left g.D.Disk.seen g.D.Disk.failed g.met.D.Disk.reads g.met.D.Disk.earlier c.args.gateway.now c.stands.ensures (events_in [])) (Counted 0) (tt, refl),
   rw c.new-waiting.ensures (going-first g.D.Disk.honest g.D.Disk.moment g.D.Disk.left g.D.Disk.failed g.met.D.Disk.earlier c.args.gateway.now c.stands.ensures),
-  ap (λ (x : Exchange). x.answered) c.new-waiting.ensures,
 )
 
 pub returns-in-Ok-End-clause-ran : goal.returns-in-Ok-End-clause-ran
@@ -89,7 +87,6 @@ loop-preserved g c =
           (Counted (c.loop.counter + 1)) (counted_then c.loop.counter i.2.talked.turns t.2.turns i.2.are t.6),
       rw c.sum-count.ensures (going-next g.D.Disk.honest g.D.Disk.moment g.D.Disk.left g.D.Disk.failed g.met.D.Disk.earlier c.args.gateway.now c.loop.gateway c.read_once.new.gateway i.0 c.loop.waiting.unanswered t.0 c.read_once.new.waiting.unanswered i.1 t.1 c.loop.count c.in-Ok-More.more i.3 t.3 t.4
           c.in-Ok-More.ensures.stands c.in-Ok-More.ensures.no_failure (c.in-Ok-More.ensures.grown (λ is. absurd cc))),
-      c.in-Ok-More.ensures.sent,
     )
 
 pub returns-clause-ran : goal.returns-clause-ran

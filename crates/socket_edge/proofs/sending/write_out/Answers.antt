@@ -1,9 +1,8 @@
 use Rattle.std.proofs.Common.{◌≡◌, ◌≢◌, inl, inr, ℕ, ◌+◌, ◌-◌, ◌≤◌, ◌++◌, length, take, drop, [], arith, sym, ap, ◌∙◌, List, take-add, length-drop, refl}
 use Rattle.std.proofs.lemmas.List.{length-take-le}
-use Rattle.frames.proofs.Over.{rest_whole}
 use Rattle.socket_edge.specs.Turns.{Took, WriteFailed}
 use Rattle.socket_edge.proofs.Talks.{Hands-nil, Hands-once, Hands-then}
-use Rattle.socket_edge.proofs.Written.{Front-stays}
+use Rattle.socket_edge.proofs.Written.{Front-stays, rest_whole}
 use Rattle.socket_edge.proofs.sending.write_out.Goals as goal
 
 pub loop-at-init : goal.loop-at-init

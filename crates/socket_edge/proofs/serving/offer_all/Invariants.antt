@@ -1,17 +1,14 @@
-use Rattle.std.proofs.Common.{◌≡◌, ◌≢◌, [], None, ◌+◌, ◌≤◌, ◌++◌, ℕ, List, false, length, vec_len, vec_capacity}
-use Rattle.std.specs.List.{flat_map}
+use Rattle.std.proofs.Common.{◌≡◌, ◌++◌, ℕ, List, true, false, length}
 use Rattle.machine.specs.declared.event.Answer.{Answer}
-use Rattle.frames.specs.Answers.{frame}
-use Rattle.socket_edge.specs.Serving.{AreHeld, released}
+use Rattle.frames.specs.Answers.{frames}
 use Rattle.socket_edge.proofs.Loops.{SoFar}
 use Rattle.socket_edge.proofs.serving.offer_all.Given as goal
 
-abbrev pub invariant-loop-hopeful : goal.invariant-loop-hopeful
-invariant-loop-hopeful g l =
-    (handed : List (ℕ × Answer)) × (released l.held_from l.waiting.answered ≡ l.fn.waiting.answered ++ flat_map frame handed)
-    × SoFar g.D.Disk.honest g.D.Disk.moment g.D.Disk.left g.D.Disk.failed l.fn.gateway l.gateway l.fn.waiting.unanswered l.waiting.unanswered l.count l.fn.answers.items (handed ++ l.answers.items)
-    × (l.gateway.fallen ≡ false) × (vec_len l.answers + length l.gateway.told.held ≤ vec_capacity l.answers) × (l.most ≡ length l.fn.waiting.unanswered)
-    × AreHeld l.held_from l.waiting.answered l.gateway × (l.held_from ≢ None → (l.answers.items ≡ []) × (64 ≤ vec_capacity l.answers)) × (l.misses ≤ l.count)
+abbrev pub invariant-loop-fault : goal.invariant-loop-fault
+invariant-loop-fault g l =
+    (handed : List (ℕ × Answer)) × (l.waiting.answered ≡ l.fn.waiting.answered ++ frames handed)
+    × SoFar g.D.Disk.honest g.D.Disk.moment g.D.Disk.left g.D.Disk.failed l.fn.gateway l.gateway l.fn.waiting.unanswered l.waiting.unanswered l.count handed
+    × (l.gateway.fallen ≡ false) × (l.gateway.in_place ≡ true) × (l.waiting.held ≡ frames l.gateway.told.held) × (l.most ≡ length l.fn.waiting.unanswered)
 
-abbrev pub decreases-loop-hopeful : goal.decreases-loop-hopeful
-decreases-loop-hopeful g l = length l.waiting.unanswered
+abbrev pub decreases-loop-fault : goal.decreases-loop-fault
+decreases-loop-fault g l = length l.waiting.unanswered

@@ -1,7 +1,7 @@
-use Rattle.std.proofs.Common.{◌≡◌, ◌≤◌, ◌+◌, ◌++◌, length, take, ap, sym, ◌∙◌, arith}
-use Rattle.std.proofs.lemmas.List.{with_items_is}
+use Rattle.std.proofs.Common.{◌≡◌, ◌≤◌, ◌+◌, ◌++◌, [], List, ℕ, length, take, drop, ap, sym, ◌∙◌, arith}
+use Rattle.std.proofs.lemmas.List.{append-nil, with_items_is}
 use Rattle.socket_edge.specs.Exchange.{Exchange}
-use Rattle.socket_edge.proofs.Memory.{ok_of, seen_behind, seen_still, view}
+use Rattle.socket_edge.proofs.Memory.{alike, ok_of, view}
 use Rattle.socket_edge.proofs.waiting.Waiting.read.Goals as goal
 
 pub returns-in-Ok-clause-ok : goal.returns-in-Ok-clause-ok
@@ -17,13 +17,13 @@ returns-in-Ok-clause-ok g c =
     let room : self.end + self.asks ≤ length c.make_room.new.bytes.items = ok_of c.make_room.result (sym c.is_err.ensures.value ∙ c.if-is_err.false) c.make_room.ensures.ok in
     let fits : self.end + self.asks ≤ length mid = omega (arith, ap length value, room) in
     let now = with_items_is c.make_room.new.bytes new (c.in-Ok.ensures.len ∙ c.as_mut_slice.ensures.len) in
-    let seen = seen_behind self.answered self.start self.end c.in-Ok.n old mid new it.0 i.0 i.1 i.2 (omega (arith, fits)) (omega (arith, c.in-Ok.ensures.len, it.4, fits)) same it.2 in (
+    let seen = alike self.answered self.held self.start self.end c.in-Ok.n old new it.0 i.0 i.1 i.2 i.3 (omega (arith, c.in-Ok.ensures.len, it.4, fits)) (it.2 ∙ ap (λ (zs : List ℕ). zs ++ it.0) same) in (
       it.0,
       it.1,
-      ap (view self.answered self.start (self.end + c.in-Ok.n)) now ∙ seen
-          ∙ ap (λ (x : Exchange). record { answered = x.answered; unanswered = x.unanswered ++ it.0; reach = x.reach + c.in-Ok.n }) (c.self.view_is ∙ c.move_to_front.ensures),
+      ap (view self.answered self.held self.start (self.end + c.in-Ok.n)) now ∙ seen
+          ∙ ap (λ (x : Exchange). record { answered = x.answered; held = x.held; unanswered = x.unanswered ++ it.0 }) (c.self.view_is ∙ c.move_to_front.ensures),
       it.3,
-      omega (arith, it.4, i.4),
+      omega (arith, it.4, i.5),
     )
 
 pub returns-in-Err-clause-err : goal.returns-in-Err-clause-err
@@ -32,9 +32,12 @@ returns-in-Err-clause-err g c =
     let i = c.self.invariant in
     let old = self.bytes.items in
     let new = c.read_behind.new.bytes in
-    let it = c.in-Err.ensures.err in
     let value = c.as_mut_slice.ensures.value in
-    let same : take self.end new ≡ take self.end old = it ∙ ap (take self.end) value ∙ c.make_room.ensures.front in
-    let longer : self.end ≤ length new = omega (arith, c.make_room.ensures.longer, ap length value, c.in-Err.ensures.len, i.2) in
+    let same : take self.end new ≡ take self.end old = c.in-Err.ensures.err ∙ ap (take self.end) value ∙ c.make_room.ensures.front in
+    let longer : self.end ≤ length new = omega (arith, c.make_room.ensures.longer, ap length value, c.in-Err.ensures.len, i.3) in
     let now = with_items_is c.make_room.new.bytes new (c.in-Err.ensures.len ∙ c.as_mut_slice.ensures.len) in
-    ap (view self.answered self.start self.end) now ∙ seen_still self.answered self.start self.end old new i.0 i.1 i.2 longer same ∙ c.self.view_is ∙ c.move_to_front.ensures
+    let none : self.end + 0 ≡ self.end = omega arith in
+    let seen = alike self.answered self.held self.start self.end 0 old new [] i.0 i.1 i.2 i.3 (omega (arith, longer)) (ap (λ (n : ℕ). take n new) none ∙ same ∙ sym (append-nil (take self.end old))) in
+    ap (view self.answered self.held self.start self.end) now ∙ ap (λ (n : ℕ). view self.answered self.held self.start n new) (sym none) ∙ seen
+    ∙ ap (λ (zs : List ℕ). record { answered = take self.answered old; held = drop self.answered (take self.held old); unanswered = zs }) (append-nil (drop self.start (take self.end old)))
+    ∙ c.self.view_is ∙ c.move_to_front.ensures
