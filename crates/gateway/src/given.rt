@@ -40,6 +40,7 @@ pub(crate) fn give(pending: &mut Pending, number: u64, answer: Answer) -> Given
 }
 
 // Says what an event comes to at once where no entry waits, and else holds its answer, with a copy of its packet.
+#[inline(always)]
 pub(crate) fn give_copy(
     pending: &mut Pending,
     number: u64,

@@ -128,7 +128,7 @@ impl Pending {
     }
 
     /// Holds an answer behind the others, with a copy of its packet. Some entry waits, so there is a slot for it.
-    #[inline(always)]
+    #[inline(never)]
     pub(crate) fn hold_copy(&mut self, number: u64, fate: Fate, packet: &[u8])
         requires some { self.old.entries ≢ [] }
         requires few { length self.old.held < 64 }

@@ -2,7 +2,8 @@
 //!
 //! - `carry_out`: what a plan says, once there is room (`make_room`): one change after the other (`apply_all`,
 //!   `apply_noted`, `apply`: `begin`, `see`, `restart`).
-//! - `see_again`: a packet of a session that goes on, of which it shows nothing new.
+//! - `carry_out_going`: a packet of a session that goes on, which shows nothing new of it (`see_again`), or some bit
+//!   that is noted (`see_noted`).
 //! - `expire_since`, `expire`: those that are no longer alive end, with their entries (`slots_due`, `end_all`,
 //!   `end_noted`, `end`).
 //! - `new`, `of`: no session, or those that survived (`place`).
@@ -15,6 +16,7 @@ ghost use Rattle.sessions.specs.Listing.{In, listing, put};
 ghost use Rattle.sessions.specs.Sound.{AreSound};
 ghost use Rattle.sessions.specs.Stilled.{at_moment};
 ghost use Rattle.sessions.specs.Table.{at, Updates, IsSoundTable, seen as seen_with, restarted};
+ghost use Rattle.sessions.specs.declared.session.Change.TheVariants.{Seen};
 ghost use Rattle.sessions.specs.declared.session.Session.{Session};
 ghost use Rattle.timers.specs.Due.{AreOnce, at as idle_at, IsLatest as IsLatestIdle, Updates as IdleUpdates};
 ghost use Rattle.mappings.specs.declared.map.Mapping.{Mapping};
@@ -31,7 +33,7 @@ ghost use Rattle.machine.specs.Outcomes.{Noted, NotedIfOk, Unnoted};
 use crate::ahead::{count_ending, count_mapped};
 use crate::fault::StepFault;
 use crate::notes::{MOST_OF_PACKET, Notes};
-use crate::noting::{adds_any, entry_for, flow_of, note, plan_makes_entry};
+use crate::noting::{adds_any, entry_for, flow_of, make_room_for_packet, note, plan_makes_entry};
 use durable::Entry;
 use hairpin::{Going, Plan, Translations};
 use packet::Bounds;
@@ -418,9 +420,82 @@ impl Flows {
         }
     }
 
+    /// Does what a packet does whose session goes on, at the moment `now`, and notes it; `ready` says that there is
+    /// room for its entry already.
+    ///
+    /// # Errors
+    ///
+    /// `Full` only where something is noted and 44 bytes of entries don't fit; `NoMemory` only where they do, there is
+    /// no room for them yet, and memory is refused. The sessions stay as they are, and what is noted too.
+    #[inline(always)]
+    pub fn carry_out_going<N: Notes>(
+        &mut self,
+        ready: bool,
+        going: &Going,
+        now: u64,
+        notes: &mut N,
+    ) -> Result<(), StepFault>
+        requires latest { IsNoneLater self.old.table.held now }
+        requires give { (ts : List Session) × PlanGives self.old now (plan_of going.now) ts }
+        requires told { IfSome (at self.old.table going.now.slot) (λ s. Tells s going.now) }
+        requires room { IsTrue ready → N.keeps notes.old → 44 ≤ N.room notes.old }
+        ensures ok { OnOk result ((ts : List Session)
+            → PlanGives self.old now (plan_of going.now) ts
+            → listing self.new.table.held ≡ put_all ts (listing self.old.table.held)) }
+        ensures err { OnErr result (self.new.table.held ≡ self.old.table.held) }
+        ensures external { self.new.translations.external ≡ self.old.translations.external }
+        ensures noted { (ts : List Session) → PlanGives self.old now (plan_of going.now) ts
+            → NotedIfOk N.keeps N.beside N.noted result notes.old notes.new
+            (entries_for_all ts (listing self.old.table.held)) }
+        ensures full { IsErrOf result StepFault.Full → N.too_many notes.old 44 }
+        ensures no_memory { IsErrOf result StepFault.NoMemory → ¬ N.too_many notes.old 44 }
+        ensures succeeds { IsTrue ready → IsOk result }
+        ensures grants { N.grants notes.old → IsOk result }
+        ensures quiet { (ts : List Session) → PlanGives self.old now (plan_of going.now) ts
+            → entries_for_all ts (listing self.old.table.held) ≡ [] → IsOk result }
+    {
+        self.table.facts();
+        if going.is_new {
+            return self.see_noted(ready, going.slot, going.bits, now, notes);
+        }
+        self.see_again(going, now);
+        Ok(())
+    }
+
+    /// A packet of the session of the slot showed these bits, at the moment `now`; that is noted, as `carry_out_going`
+    /// says. Not compiled into its caller: few packets show something new.
+    #[inline(never)]
+    fn see_noted<N: Notes>(
+        &mut self,
+        ready: bool,
+        slot: Slot,
+        bits: u8,
+        now: u64,
+        notes: &mut N,
+    ) -> Result<(), StepFault>
+        requires latest { IsNoneLater self.old.table.held now }
+        requires gives { (t : Session) × ChangeGives self.old now (Seen slot bits) t }
+        requires room { IsTrue ready → N.keeps notes.old → 44 ≤ N.room notes.old }
+        ensures ok { OnOk result ((t : Session) → ChangeGives self.old now (Seen slot bits) t
+            → listing self.new.table.held ≡ put t (listing self.old.table.held)) }
+        ensures err { OnErr result (self.new.table.held ≡ self.old.table.held) }
+        ensures external { self.new.translations.external ≡ self.old.translations.external }
+        ensures noted { (t : Session) → ChangeGives self.old now (Seen slot bits) t
+            → NotedIfOk N.keeps N.beside N.noted result notes.old notes.new
+            (entries_for (listing self.old.table.held) t) }
+        ensures full { IsErrOf result StepFault.Full → N.too_many notes.old 44 }
+        ensures no_memory { IsErrOf result StepFault.NoMemory → ¬ N.too_many notes.old 44 }
+        ensures succeeds { IsTrue ready → IsOk result }
+        ensures grants { N.grants notes.old → IsOk result }
+    {
+        make_room_for_packet(ready, notes)?;
+        self.apply_noted(&Change::Seen(slot, bits), now, notes);
+        Ok(())
+    }
+
     /// A packet passed whose session goes on, at the moment `now`, and that shows nothing new of it.
     #[inline(always)]
-    pub fn see_again(&mut self, going: &Going, now: u64)
+    fn see_again(&mut self, going: &Going, now: u64)
         requires latest { IsNoneLater self.old.table.held now }
         requires give { (ts : List Session) × PlanGives self.old now (plan_of going.now) ts }
         requires told { IfSome (at self.old.table going.now.slot) (λ s. Tells s going.now) }

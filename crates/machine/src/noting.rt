@@ -4,14 +4,15 @@
 //!   (`note`).
 //! - Of a plan: whether it makes one (`plan_makes_entry`), and whether it adds a session (`adds_any`), which it needs
 //!   room for beside.
-ghost use Rattle.std.specs.Prelude.{◌≡◌, ◌≢◌, ◌↔◌, ◌+◌, ◌<◌, ◌≤◌, [], ℕ, List, IsTrue};
+//! - Of a packet: room for all its entries (`make_room_for_packet`).
+ghost use Rattle.std.specs.Prelude.{◌≡◌, ◌≢◌, ◌↔◌, ◌+◌, ◌<◌, ◌≤◌, [], ℕ, List, IsErrOf, IsOk, IsTrue, OnOk};
 ghost use Rattle.packet.specs.Config.{Pool};
 ghost use Rattle.durable.specs.Coding.{AreEntries, IsFlow, IsSession};
 ghost use Rattle.durable.specs.Entering.{flow_of as flow_in};
 ghost use Rattle.hairpin.specs.Plans.{GiveAll, Gives};
 ghost use Rattle.machine.specs.Flows.{adds as adds_by, adds_second};
 ghost use Rattle.machine.specs.Noted.{between as entries_between, entries_for, entries_for_all};
-ghost use Rattle.machine.specs.Outcomes.{Noted};
+ghost use Rattle.machine.specs.Outcomes.{Noted, Unnoted};
 ghost use Rattle.machine.specs.Sizes.{bytes_of, listed};
 ghost use Rattle.sessions.specs.Life.{IsSeen};
 ghost use Rattle.sessions.specs.Listing.{listing};
@@ -19,7 +20,8 @@ ghost use Rattle.sessions.specs.declared.session.Session.{Session};
 ghost use Rattle.sessions.specs.Stilled.{stilled as without_moment};
 ghost use Rattle.sessions.specs.Table.{restarted, seen as seen_with};
 
-use crate::notes::Notes;
+use crate::fault::StepFault;
+use crate::notes::{MOST_OF_PACKET, Notes};
 use durable::{Entry, Flow, endpoint_fits};
 use hairpin::Plan;
 use sessions::{Change, Opener, Session, Table};
@@ -105,6 +107,27 @@ pub fn makes_entry(table: &Table, change: &Change) -> bool
             None => false,
         },
     }
+}
+
+/// Makes room for the entries of a packet, which are 44 bytes at most; `ready` says that there is room already.
+///
+/// # Errors
+///
+/// `Full` only where 44 bytes of entries don't fit; `NoMemory` only where they do, and memory is refused. What is noted
+/// stays.
+pub fn make_room_for_packet<N: Notes>(ready: bool, notes: &mut N) -> Result<(), StepFault>
+    requires room { IsTrue ready → N.keeps notes.old → 44 ≤ N.room notes.old }
+    ensures room { OnOk result (N.keeps notes.old → 44 ≤ N.room notes.new) }
+    ensures noted { Unnoted N.keeps N.beside N.noted notes.old notes.new }
+    ensures full { IsErrOf result StepFault.Full → N.too_many notes.old 44 }
+    ensures no_memory { IsErrOf result StepFault.NoMemory → ¬ N.too_many notes.old 44 }
+    ensures succeeds { IsTrue ready → IsOk result }
+    ensures grants { N.grants notes.old → IsOk result }
+{
+    if ready {
+        return Ok(());
+    }
+    notes.reserve(0, MOST_OF_PACKET)
 }
 
 /// The entry that a change of a session makes, if it makes one; the table is that before the change. Compiled into its

@@ -19,7 +19,7 @@ ghost use Rattle.machine.specs.Sizes.{most_bytes};
 ghost use Rattle.machine.specs.Sound.{IsSoundState};
 ghost use Rattle.sessions.specs.declared.session.Session.{Session};
 
-use crate::answering::{answer_planned, drop_for, quiet, send_on};
+use crate::answering::{answer_going, answer_planned, drop_for};
 use crate::bytes::Bytes;
 use crate::deed::Deed;
 use crate::event::{Answer, Fate, What};
@@ -27,7 +27,7 @@ use crate::fault::StepFault;
 use crate::flows::Flows;
 use crate::in_force::{InForce, note_load, put_in_force};
 use crate::notes::Notes;
-use hairpin::{Cause, Going, Plan, goes_on, hairpin_leg, in_leg, out_leg};
+use hairpin::{Cause, Plan, goes_on, hairpin_leg, in_leg, out_leg};
 use packet::{Bounds, Iface, Route, View};
 use std::alloc::Global;
 use std::marker::Model;
@@ -194,7 +194,7 @@ impl State {
 
     /// What a packet comes to, at the clock's moment; `ready` says that there is room for two sessions and their entries
     /// already. One that leaves is translated where it lies.
-    #[inline(always)]
+    #[inline(never)]
     pub(crate) fn answer_packet<N: Notes>(
         &mut self,
         ready: bool,
@@ -230,18 +230,15 @@ impl State {
                 Err(fault) => Ok(drop_for(Cause::Route(fault))),
                 Ok(route) => {
                     let rules = &self.in_force.rules;
-                    let told = goes_on(&self.bounds, rules, self.flows.table(), route, &view);
-                    match quiet(&told) {
+                    match goes_on(&self.bounds, rules, self.flows.table(), route, &view) {
                         // Nearly all packets are answered here.
                         Some(going) => {
-                            send_on(&mut self.flows, &going, packet, self.clock);
-                            Ok(Fate::Leaves(going.iface))
+                            answer_going(&mut self.flows, ready, &going, packet, self.clock, notes)
                         }
                         None => {
                             // Put down in memory on this way alone.
                             let view = view;
-                            let told = told;
-                            self.answer_by_plan(ready, route, &view, told, packet, notes)
+                            self.answer_by_plan(ready, route, &view, packet, notes)
                         }
                     }
                 }
@@ -258,15 +255,11 @@ impl State {
         ready: bool,
         route: Route,
         view: &View,
-        told: Option<Result<Going, Cause>>,
         packet: &mut [u8],
         notes: &mut N,
     ) -> Result<Fate, StepFault>
         requires read { fields packet.old ≡ Ok view.now }
         requires routed { (iface : Iface) × (route_for self.old.config iface view.now ≡ Ok route) }
-        requires told { IfSome told (λ going.
-            IsWay self.old.flows self.old.clock (planned going)
-            (leg self.old.config (state_in self.old) view.now route)) }
         requires ready { IsTrue ready → TakesMore 2 self.old.flows }
         requires room { IsTrue ready → N.keeps notes.old → 44 ≤ N.room notes.old }
         ensures ok { IfOk result (λ fate. sent (state_in self.old) packet.old
@@ -290,7 +283,7 @@ impl State {
         ensures quiet { of_way (state_in self.old).sessions
             (leg self.old.config (state_in self.old) view.now route) ≡ [] → IsOk result }
     {
-        let plan = self.plan_for(route, view, told);
+        let plan = self.plan_for(route, view);
         self.bounds.facts();
         answer_planned(&mut self.flows, ready, &plan, packet, self.clock, notes)
     }
@@ -298,24 +291,12 @@ impl State {
     // The plan of a packet with these fields, on its route: the one that was told, or what the leg says. Compiled into
     // its caller, it took fewer instructions.
     #[inline(always)]
-    fn plan_for(
-        &self,
-        route: Route,
-        view: &View,
-        told: Option<Result<Going, Cause>>,
-    ) -> Result<Plan, Cause>
+    fn plan_for(&self, route: Route, view: &View) -> Result<Plan, Cause>
         requires ports { (0 < view.now.src.port) × (0 < view.now.dst.port) }
         requires routed { (iface : Iface) × (route_for self.now.config iface view.now ≡ Ok route) }
-        requires told { IfSome told (λ going. IsWay self.now.flows self.now.clock (planned going)
-            (leg self.now.config (state_in self.now) view.now route)) }
         ensures { IsWay self.now.flows self.now.clock result
             (leg self.now.config (state_in self.now) view.now route) }
     {
-        match told {
-            Some(Ok(going)) => return Ok(going.plan()),
-            Some(Err(cause)) => return Err(cause),
-            None => {}
-        }
         self.flows.facts();
         let bounds = &self.bounds;
         let rules = &self.in_force.rules;
