@@ -6,13 +6,12 @@ ghost use Rattle.packet.specs.Config.{Pool};
 ghost use Rattle.sessions.specs.Listing.{has_inside, has_outside, listing};
 ghost use Rattle.sessions.specs.Table.{at};
 ghost use Rattle.sessions.specs.declared.session.Session.{Session};
-ghost use Rattle.hairpin.specs.Going.{Shows, Tells, plan_of, planned};
+ghost use Rattle.hairpin.specs.Going.{Shows, Tells, planned};
 ghost use Rattle.hairpin.specs.Legs.{in_by, leg, out_by};
 ghost use Rattle.hairpin.specs.Plans.{Plans};
 
 use crate::cause::Cause;
 use crate::held::{Held, connection_of, facts_of};
-use crate::plan::Plan;
 use packet::{Bounds, Endpoint, Iface, Route, View};
 use sessions::{Change, Opener, Slot, Table, is_syn_alone};
 use verdict::{Forwarding, Rules, forward, passes_all};
@@ -34,21 +33,6 @@ pub struct Going {
     pub src: Endpoint,
     /// The destination that it leaves with.
     pub dst: Endpoint,
-}
-
-impl Going {
-    /// The plan of a packet that leaves so.
-    pub fn plan(&self) -> Plan
-        ensures { result ≡ plan_of self.now }
-    {
-        Plan {
-            first: Change::Seen(self.slot, self.bits),
-            second: None,
-            iface: self.iface,
-            src: self.src,
-            dst: self.dst,
-        }
-    }
 }
 
 /// How a packet leaves on its route, as `out_leg` and `in_leg` say, if a guess tells its session, and that goes on.
