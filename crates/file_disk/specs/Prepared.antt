@@ -1,5 +1,6 @@
 -- What an opening makes of the bytes of a file.
-use Rattle.std.specs.Prelude.{◌≡◌, ◌⊎◌, ℕ, List, [], ◌∷◌, get_or, length, replicate}
+use Rattle.std.specs.Prelude.{◌≡◌, ◌<◌, ◌⊎◌, ℕ, List, [], ◌∷◌, get_or, length, replicate}
+use Rattle.file_disk.specs.OneFile.{NoMore}
 
 -- an empty file becomes so many zeros, and a file that has bytes keeps them all
 abbrev pub prepared : ℕ → List ℕ → List ℕ
@@ -31,8 +32,17 @@ module _ {F : Type 0} (honest : F → Type 0) (holds : F → List ℕ) (leaves :
   IsWholeOrShort lacks_space room old new = IsWhole room old new
       ⊎ ((length (holds old) ≡ 0) × lacks_space new)
 
+  -- A file as it was found, and as an opening left it that may have failed: no gate was opened. Of one that had bytes
+  -- a crash leaves only what it could before, and what a read gives is of that kind.
+  pub record IsLeft (old new : F) : Type 0 where
+    pub was_honest : honest new → honest old
+    pub closed : honest old → OpensNone old new
+    pub kept : honest old → 0 < length (holds old) → NoMore honest holds leaves old new
+    pub reads : honest old → 0 < length (holds old) → leaves old (holds new)
+
   -- a file as it was found, and prepared
   pub record IsPrepared (lacks_space : F → Type 0) (room : ℕ) (old new : F) : Type 0 where
     pub was_honest : honest new → honest old
+    pub stays_honest : honest old → honest new
     pub whole : honest old → IsWholeOrShort lacks_space room old new
     pub closed : honest old → OpensNone old new

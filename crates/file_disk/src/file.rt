@@ -1,7 +1,7 @@
 //! What a disk asks of one file.
 ghost use Rattle.std.specs.Prelude.{◌↔◌, List, ℕ, ◌-◌, length, replicate, IfErr, IfOk, IsTrue};
 ghost use Rattle.file_disk.specs.OneFile.{Measures, Fills, Puts, Syncs};
-ghost use Rattle.file_disk.specs.Space.{TellsOfSpace};
+ghost use Rattle.file_disk.specs.Space.{DoesNoHarm, TellsOfSpace};
 
 use std::io;
 
@@ -45,10 +45,11 @@ pub trait DiskFile {
     ///
     /// # Errors
     ///
-    /// Why the call fails. Some of the bytes may have been put.
+    /// Why the call fails. Some of the bytes may have been put. A want of space does a file no other harm.
     fn write_fully(&mut self, at: u64, bytes: &[u8]) -> io::Result<()>
         ensures puts { Puts honest holds leaves at bytes.now result self.old self.new }
-        ensures space { IfErr result (TellsOfSpace (lacks_space self.new)) };
+        ensures space { IfErr result (TellsOfSpace (lacks_space self.new)) }
+        ensures no_harm { IfErr result (DoesNoHarm honest self.old self.new) };
 
     /// Has the device keep the bytes and the length.
     ///
@@ -63,11 +64,12 @@ pub trait DiskFile {
     ///
     /// # Errors
     ///
-    /// Why the call fails.
+    /// Why the call fails. A want of space does a file no other harm.
     fn lengthen(&mut self, to: u64) -> io::Result<()>
         ensures puts { Puts honest holds leaves (length (holds self.old)) (replicate
             (to - length (holds self.old)) 0) result self.old self.new }
-        ensures space { IfErr result (TellsOfSpace (lacks_space self.new)) };
+        ensures space { IfErr result (TellsOfSpace (lacks_space self.new)) }
+        ensures no_harm { IfErr result (DoesNoHarm honest self.old self.new) };
 
     /// Has the device keep all of a file that was just opened, and lets go what the system has of it in memory: after a
     /// sync that failed, of an earlier run say, that may differ from what the device has.

@@ -26,7 +26,7 @@ mod opening;
 mod preparing;
 mod two_files;
 
-pub use directory::{Directory, open_in};
+pub use directory::{Directory, Left, Unopened, open_in};
 pub use disk::FileDisk;
 pub use file::DiskFile;
 pub use held_file::HeldFile;

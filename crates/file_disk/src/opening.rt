@@ -176,11 +176,11 @@ fn is_one(first: &Metadata, second: &Metadata) -> bool {
 impl Directory for SystemDirectory<'_> {
     type File = HeldFile;
 
-    ghost gives = { λ _ _ _. Unit {0} };
+    ghost gives = { λ _ _ _ _. Unit {0} };
 
     ghost keeps_name = { λ _ _ _. Unit {0} };
 
-    fn open_file(&self, id: FileId) -> Result<HeldFile, OpenError> {
+    fn open_file(&mut self, id: FileId) -> Result<HeldFile, OpenError> {
         match self.held(id) {
             Ok(file) => Ok(file),
             Err(error) => Err(of_file(id, error)),
@@ -238,12 +238,15 @@ impl FileDisk {
         ensures failures { IfOk result (λ disk. disk.failures ≡ 0) }
     {
         let folder = open_directory(rt, directory)?;
-        let directory = SystemDirectory {
+        let mut directory = SystemDirectory {
             rt,
             path: directory,
             folder,
         };
-        open_in(&directory, ROOM)
+        match open_in(&mut directory, ROOM) {
+            Ok(disk) => Ok(disk),
+            Err(failed) => Err(failed.why),
+        }
     }
 }
 

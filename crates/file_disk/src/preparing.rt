@@ -1,9 +1,9 @@
 //! A file that was opened is prepared.
-ghost use Rattle.std.specs.Prelude.{◌≡◌, ◌<◌, [], ◌∷◌, length, IfErr, IsTrue, OnOk};
+ghost use Rattle.std.specs.Prelude.{◌≡◌, ◌<◌, [], ◌∷◌, length, IfOk, IsFalse, IsTrue, OnOk};
 ghost use Rattle.std.specs.IoError.{error_kind};
 ghost use Rattle.file_disk.specs.OneFile.{NoMore};
 ghost use Rattle.file_disk.specs.Prepared.{prepared, OpensNone, IsSynced, IsWholeOrShort};
-ghost use Rattle.file_disk.specs.Space.{IsWantOfSpace, TellsOfSpace};
+ghost use Rattle.file_disk.specs.Space.{IsWantOfSpace};
 
 use crate::DiskFile;
 use std::io::{self, ErrorKind};
@@ -14,14 +14,18 @@ use std::io::{self, ErrorKind};
 ///
 /// # Errors
 ///
-/// Why a call fails, if not for want of space.
+/// Why a call fails, if not for want of space for the zeros. A sync that fails for want of space is an error: nothing
+/// is known of the file behind it.
 pub fn prepare<F: DiskFile>(file: &mut F, room: u64) -> io::Result<()>
     requires { 0 < room }
     ensures honest { F.honest file.new → F.honest file.old }
+    ensures stays_honest { OnOk result (F.honest file.old → F.honest file.new) }
     ensures whole { F.honest file.old → OnOk result (IsWholeOrShort F.honest F.holds F.leaves
         F.lacks_space room file.old file.new) }
     ensures kept { F.honest file.old → 0 < length (F.holds file.old)
         → NoMore F.honest F.holds F.leaves file.old file.new }
+    ensures reads { F.honest file.old → 0 < length (F.holds file.old)
+        → F.leaves file.old (F.holds file.new) }
     ensures closed { F.honest file.old
         → OpensNone F.honest F.holds F.leaves file.old file.new }
 {
@@ -29,14 +33,11 @@ pub fn prepare<F: DiskFile>(file: &mut F, room: u64) -> io::Result<()>
         file.sync_opened()?;
         return Ok(());
     }
-    match make_room(file, room) {
-        Ok(()) => {
-            file.sync_opened()?;
-            Ok(())
-        }
-        Err(error) if is_want_of_space(&error) => Ok(()),
-        Err(error) => Err(error),
+    if !make_room(file, room)? {
+        return Ok(());
     }
+    file.sync_opened()?;
+    Ok(())
 }
 
 fn is_want_of_space(error: &io::Error) -> bool
@@ -48,36 +49,45 @@ fn is_want_of_space(error: &io::Error) -> bool
     )
 }
 
-// Makes an empty file long.
-fn make_room<F: DiskFile>(file: &mut F, room: u64) -> io::Result<()>
+// Makes an empty file long. It answers false if there is no space for that.
+fn make_room<F: DiskFile>(file: &mut F, room: u64) -> io::Result<bool>
     requires room { 0 < room }
     requires empty { F.honest file.old → length (F.holds file.old) ≡ 0 }
     ensures honest { F.honest file.new → F.honest file.old }
     ensures stays_honest { OnOk result (F.honest file.old → F.honest file.new) }
-    ensures holds { F.honest file.old → OnOk result (F.holds file.new
+    ensures holds { F.honest file.old → IfOk result (λ is_long. IsTrue is_long → F.holds file.new
         ≡ prepared room (F.holds file.old)) }
     ensures closed { F.honest file.old
         → OpensNone F.honest F.holds F.leaves file.old file.new }
-    ensures space { IfErr result (TellsOfSpace (F.lacks_space file.new)) }
+    ensures space { IfOk result (λ is_long. IsFalse is_long → F.lacks_space file.new) }
 {
-    close(file)?;
-    file.lengthen(room)?;
-    Ok(())
+    if !close(file)? {
+        return Ok(false);
+    }
+    match file.lengthen(room) {
+        Ok(()) => Ok(true),
+        Err(error) if is_want_of_space(&error) => Ok(false),
+        Err(error) => Err(error),
+    }
 }
 
-// Writes the one byte 0, and has it kept.
-fn close<F: DiskFile>(file: &mut F) -> io::Result<()>
+// Writes the one byte 0, and has it kept. It answers false if there is no space for it.
+fn close<F: DiskFile>(file: &mut F) -> io::Result<bool>
     requires { F.honest file.old → length (F.holds file.old) ≡ 0 }
     ensures honest { F.honest file.new → F.honest file.old }
     ensures stays_honest { OnOk result (F.honest file.old → F.honest file.new) }
-    ensures holds { F.honest file.old → OnOk result (F.holds file.new ≡ 0 ∷ []) }
+    ensures holds { F.honest file.old → IfOk result (λ is_closed. IsTrue is_closed → F.holds file.new ≡ 0 ∷ []) }
     ensures synced { F.honest file.old
-        → OnOk result (IsSynced F.honest F.holds F.leaves file.new) }
+        → IfOk result (λ is_closed. IsTrue is_closed → IsSynced F.honest F.holds F.leaves file.new) }
     ensures closed { F.honest file.old
         → OpensNone F.honest F.holds F.leaves file.old file.new }
-    ensures space { IfErr result (TellsOfSpace (F.lacks_space file.new)) }
+    ensures space { IfOk result (λ is_closed. IsFalse is_closed → F.lacks_space file.new) }
 {
-    file.write_fully(0, &[0])?;
+    match file.write_fully(0, &[0]) {
+        Ok(()) => {}
+        Err(error) if is_want_of_space(&error) => return Ok(false),
+        Err(error) => return Err(error),
+    }
     file.sync_file()?;
-    Ok(())
+    Ok(true)
 }

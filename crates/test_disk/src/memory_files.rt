@@ -25,12 +25,12 @@ fn bytes_of(disk: &mut FileDisk<MemoryFile>, file: FileId) -> Result<[u8; 3], Di
 // A file that has bytes keeps them, and an empty one has zeros.
 #[test]
 fn opened(rt: HostRuntime) -> Result<(), Fail> {
-    let directory = MemoryDirectory {
+    let mut directory = MemoryDirectory {
         alloc: rt.alloc(),
         a: vec![in rt.alloc(); 1, 2, 3]?,
         b: Vec::new(rt.alloc()),
     };
-    let mut disk = opened_disk(&directory)?;
+    let mut disk = opened_disk(&mut directory)?;
     assert!(rt; disk.len(FileId::A)? == 3 && disk.len(FileId::B)? == 8);
     assert!(rt; bytes_of(&mut disk, FileId::A)? == [1, 2, 3]);
     assert!(rt; bytes_of(&mut disk, FileId::B)? == [0; 3]);

@@ -89,7 +89,7 @@ struct Row {
     calls: &'static [Call],
 }
 
-const ROWS: [Row; 7] = [
+const ROWS: [Row; 8] = [
     Row {
         length: 5,
         fails: None,
@@ -122,6 +122,12 @@ const ROWS: [Row; 7] = [
         calls: &[Call::Length, Call::Write, Call::Sync, Call::Lengthen],
     },
     // Any other cause, and any other call.
+    Row {
+        length: 0,
+        fails: Some((Call::Sync, ErrorKind::StorageFull)),
+        is_ok: false,
+        calls: &[Call::Length, Call::Write, Call::Sync],
+    },
     Row {
         length: 0,
         fails: Some((Call::Write, ErrorKind::PermissionDenied)),

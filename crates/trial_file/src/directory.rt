@@ -22,12 +22,12 @@ pub struct MemoryDirectory {
 impl Directory for MemoryDirectory {
     type File = MemoryFile;
 
-    ghost gives = { λ directory file opened.
-        opened.bytes ≡ pair directory.a.items directory.b.items file };
+    ghost gives = { λ directory file opened later. (opened.bytes
+        ≡ pair directory.a.items directory.b.items file) × (later ≡ directory) };
 
     ghost keeps_name = { λ _ _ _. Unit {0} };
 
-    fn open_file(&self, file: FileId) -> Result<MemoryFile, OpenError> {
+    fn open_file(&mut self, file: FileId) -> Result<MemoryFile, OpenError> {
         let bytes = match file {
             FileId::A => &self.a,
             FileId::B => &self.b,
@@ -46,11 +46,14 @@ impl Directory for MemoryDirectory {
 /// # Errors
 ///
 /// `NoMemory` if memory is refused.
-pub fn opened_disk(directory: &MemoryDirectory) -> Result<FileDisk<MemoryFile>, OpenError>
+pub fn opened_disk(directory: &mut MemoryDirectory) -> Result<FileDisk<MemoryFile>, OpenError>
     ensures a { IfOk result (λ disk. both_hold bytes_of disk FileId.A
-        ≡ prepared 8 directory.now.a.items) }
+        ≡ prepared 8 directory.old.a.items) }
     ensures b { IfOk result (λ disk. both_hold bytes_of disk FileId.B
-        ≡ prepared 8 directory.now.b.items) }
+        ≡ prepared 8 directory.old.b.items) }
 {
-    open_in(directory, 8)
+    match open_in(directory, 8) {
+        Ok(disk) => Ok(disk),
+        Err(failed) => Err(failed.why),
+    }
 }
